@@ -1,0 +1,5 @@
+-- What follows from the definitions, proved once for all later work.
+pub mod Chip
+pub mod Chunk
+pub mod Pages
+pub mod Bench

@@ -1,0 +1,14 @@
+-- Document 01, section by section.
+pub mod Lists
+pub mod Chip
+pub mod Header
+pub mod Slot
+pub mod State
+pub mod Steps
+pub mod Table
+pub mod Answers
+pub mod Histories
+pub mod Sequences
+pub mod Pages
+pub mod Bench
+pub mod Laws

@@ -1,0 +1,47 @@
+// The plain data that code and contracts share. What each means stands in specs/, beside the section of
+// document 01 that speaks of it. There is no code here.
+
+// Names a record, 1 to 65,534 (document 01: block number).
+pub struct BlockNumber(pub u16);
+
+// Counts the segments as they are taken into use; its remainder by N is the segment's index (document 01: segment number).
+pub struct SegmentNumber(pub u32);
+
+// The offset of a slot's page in the image (document 01: slot place).
+pub struct SlotPlace(pub usize);
+
+// What a slot page is, with the length and the block number of a live one.
+pub enum SlotKind {
+    Empty,
+    Torn,
+    Live { length: usize, block: BlockNumber },
+    Dead,
+    Wrong,
+}
+
+// What comes back, in the order of document 01's table of answers.
+pub enum Answer {
+    Done,
+    Size,
+    Number,
+    Length,
+    Damaged,
+    Unfinished,
+    Absent,
+    Full,
+    Worn,
+    Cut,
+}
+
+// A writing request's answer, and the flash steps that it took.
+pub struct Performed {
+    pub answer: Answer,
+    pub steps: u64,
+}
+
+// A read's answer, and the contents' offset in the image and their length.
+pub struct Located {
+    pub answer: Answer,
+    pub offset: usize,
+    pub length: usize,
+}
