@@ -6,7 +6,7 @@ use lib.ListN.{length, take, drop}
 use lib.Dec.{ltb, leb, eqb}
 use Rattle.model.specs.Chip.{Image, Step, rightSize, run}
 use Rattle.model.specs.Slot.{mostContents, numberOk}
-use Rattle.model.specs.State.{Segment, segmentsOf, View, viewOf, entriesIn, holds, capacity, Place, placeOf, Exception, State, clean, unfinished, damaged, stateOf}
+use Rattle.model.specs.State.{Segment, segmentsOf, View, viewOf, entriesIn, holds, capacity, Place, placeOf, State, clean, unfinished, damaged, stateOf, view}
 use Rattle.model.specs.Steps.{slotAt, putSteps, deleteSteps, formatSteps, recoverSteps, isWorn}
 use Rattle.model.specs.Table.{lookup, contentsFound}
 use Rattle.model.specs.declared.Answer.{Answer}
@@ -145,7 +145,7 @@ contentsAt N B p = slotAt N B (p .number) (p .slot) * 256 + 8
 unfoldable pub readOutcome : ℕ → ℕ → Image → ℕ → ReadOutcome
 readOutcome N B s b =
     let code = workOf N B s (read b) .code in
-    let v = viewOf N (segmentsOf N B s) in
+    let v = view N B s in
     cond (eqb code 0)
     (record { code = 0; offset = contentsAt N B (placeOf b v); length = length (contentsFound (lookup b (entriesIn v))) })
     (record { code = code; offset = 0; length = 0 })

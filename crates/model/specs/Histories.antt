@@ -5,7 +5,7 @@ use mathlib.Core.Bool.{Bool, cond}
 use mathlib.Core.List.{List, [], _∷_}
 use lib.Dec.{eqb}
 use Rattle.model.specs.Chip.{Image, Bytes, Cut, run}
-use Rattle.model.specs.State.{State, stateOf, segmentsOf, viewOf}
+use Rattle.model.specs.State.{view}
 use Rattle.model.specs.Steps.{isWorn}
 use Rattle.model.specs.Table.{Table, tableOf}
 use Rattle.model.specs.Answers.{Request, format, put, delete, read, readOr, recover, workOf, Outcome, outcomeOf, pieceRead, pieceOr}
@@ -50,7 +50,7 @@ Does N B r lost s u = Cut B (workOf N B s r .steps) s u
 
 -- a put on this image would wear the chip
 unfoldable pub wears : ℕ → ℕ → Image → Bool
-wears N B s = isWorn N (viewOf N (segmentsOf N B s))
+wears N B s = isWorn N (view N B s)
 
 -- ---- histories
 
@@ -67,9 +67,6 @@ History N B s (e ∷ es) u =
     Proper (e .request) × (e .worn ≡ wears N B s) × ((m : Image) × Does N B (e .request) (e .seen) s m × History N B m es u)
 
 -- ---- what an image shows
-
-unfoldable pub state : ℕ → ℕ → Image → State
-state N B s = stateOf N B (segmentsOf N B s)
 
 -- the image that a finished recovery leaves, and the table that it shows
 unfoldable pub recovered : ℕ → ℕ → Image → Image

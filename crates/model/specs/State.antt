@@ -272,3 +272,11 @@ stateOf N B l =
     (cond (isB N B l) (unfinished caseB)
     (cond (isC N B l) (unfinished caseC)
     (cond (isD N B l) (unfinished caseD) damaged))))
+
+-- ---- of an image
+
+unfoldable pub state : ℕ → ℕ → Image → State
+state N B s = stateOf N B (segmentsOf N B s)
+
+unfoldable pub view : ℕ → ℕ → Image → View
+view N B s = viewOf N (segmentsOf N B s)

@@ -6,7 +6,7 @@ use mathlib.Core.List.{List, [], _∷_}
 use lib.Dec.{eqb}
 use Rattle.model.specs.Chip.{Image}
 use Rattle.model.specs.Slot.{Entry}
-use Rattle.model.specs.State.{viewOf, entriesIn, segmentsOf}
+use Rattle.model.specs.State.{entriesIn, view}
 
 abbrev pub Table : Type 0
 Table = List Entry
@@ -38,4 +38,4 @@ contentsFound (present c) = c
 
 -- the table that a clean image holds
 unfoldable pub tableOf : ℕ → ℕ → Image → Table
-tableOf N B s = entriesIn (viewOf N (segmentsOf N B s))
+tableOf N B s = entriesIn (view N B s)

@@ -1,0 +1,2 @@
+-- From bytes to views.
+pub mod Predicted

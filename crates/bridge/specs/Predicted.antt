@@ -1,0 +1,56 @@
+-- The view after a request, predicted from the view before; and what a clean view is.
+use Prim.Native.Nat.{ℕ, zero, suc, _+_, _-_, _*_, _≤_, _<_}
+use mathlib.Core.Path.{_≡_}
+use mathlib.Core.Bool.{Bool, true, false, cond, _||_}
+use mathlib.Core.List.{List, [], _∷_, _++_}
+use lib.ListN.{length, getD, set, replicate}
+use lib.Dec.{ltb}
+use Rattle.model.specs.Chip.{Image, Bytes, rightSize, run, numberLimit}
+use Rattle.model.specs.Slot.{Slot, empty, dead, live}
+use Rattle.model.specs.State.{View, entriesIn, holds, capacity, Place, placeOf, noneWrongOrTorn, blocksDistinct, emptySlotsLast, withinCapacity, State, clean, state, view}
+use Rattle.model.specs.Steps.{topRow, topNumber, firstEmpty, hasRoom, roomFor, compactions, isWorn, formatSteps}
+use Rattle.model.specs.Answers.{Request, put, delete, workOf}
+
+-- ---- predictions
+
+-- slot j of the segment with number n changed
+unfoldable pub slotChanged : ℕ → ℕ → Slot → View → View
+slotChanged n j k v = record { first = v .first; slots = set (v .slots) (n - v .first) (set (getD (v .slots) (n - v .first) []) j k) }
+
+-- a slot written at the top's first empty place
+unfoldable pub written : ℕ → List ℕ → View → View
+written b c v = slotChanged (topNumber v) (firstEmpty (topRow (v .slots))) (live b c) v
+
+-- a slot marked dead
+unfoldable pub marked : Place → View → View
+marked p v = slotChanged (p .number) (p .slot) dead v
+
+unfoldable pub afterPut : ℕ → ℕ → ℕ → List ℕ → View → View
+afterPut N B b c v = let r = roomFor N B v .result in
+    cond (holds b (entriesIn r)) (marked (placeOf b r) (written b c r)) (written b c r)
+
+unfoldable pub afterDelete : ℕ → View → View
+afterDelete b v = marked (placeOf b v) v
+
+unfoldable pub fresh : ℕ → View
+fresh B = record { first = 0; slots = replicate B empty ∷ [] }
+
+-- ---- a clean view
+
+abbrev pub Rows : ℕ → List (List Slot) → Type 0
+Rows B [] = Unit {0}
+Rows B (s ∷ r) = (length s ≡ B) × Rows B r
+
+-- conditions 1 and 5 to 8 of Clean; each segment has B slots
+pub record CleanView (N B : ℕ) (v : View) : Type 0 where
+  pub some : 1 ≤ length (v .slots)
+  pub spare : length (v .slots) ≤ N - 1
+  pub rows : Rows B (v .slots)
+  pub sound : noneWrongOrTorn v ≡ true
+  pub once : blocksDistinct v ≡ true
+  pub last : emptySlotsLast v ≡ true
+  pub within : withinCapacity N B v ≡ true
+
+-- a put of this block is not refused as full
+abbrev pub Fits : ℕ → ℕ → ℕ → View → Type 0
+Fits N B b v = holds b (entriesIn v) || ltb (length (entriesIn v)) (capacity N B) ≡ true

@@ -1,0 +1,23 @@
+-- Demand 2, as one statement over histories of any length.
+use Prim.Native.Nat.{ℕ}
+use mathlib.Core.Path.{_≡_}
+use mathlib.Core.Logic.{_≢_}
+use mathlib.Core.Bool.{true}
+use mathlib.Core.List.{List}
+use Rattle.model.specs.Chip.{Image, rightSize}
+use Rattle.model.specs.State.{clean, damaged, capacity, state}
+use Rattle.model.specs.Table.{Agree, tableOf}
+use Rattle.model.specs.Histories.{Event, History, recovered, shown}
+use Rattle.crash.specs.Machine.{Promise, settled, interrupted, unknown, PlainRuns}
+
+-- the image keeps the promise: it is clean and holds the table; or it is not damaged, and a finished recovery leaves it clean with the table
+abbrev pub Keeps : ℕ → ℕ → Image → Promise → Type 0
+Keeps N B s (settled t) = (state N B s ≡ clean) × Agree (tableOf N B s) t
+Keeps N B s (interrupted t) = (state N B s ≢ damaged) × (state N B (recovered N B s) ≡ clean) × Agree (shown N B s) t
+Keeps N B s unknown = Unit {0}
+
+-- Every history of the store, from any image of a right size, is a history of the plain table, and its last image keeps the last promise.
+-- The promise is unknown until a format finishes, so a history from a finished format on is one whose first event is that format.
+abbrev pub Demand2 : Type 0
+Demand2 = (N B : ℕ) (s u : Image) (es : List Event) → rightSize N B s ≡ true → History N B s es u
+    → (x : Promise) × PlainRuns (capacity N B) unknown es x × Keeps N B u x

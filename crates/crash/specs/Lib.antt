@@ -1,0 +1,3 @@
+-- Demand 2.
+pub mod Machine
+pub mod Demand2
