@@ -1,2 +1,3 @@
 -- From bytes to views.
 pub mod Predicted
+pub mod Interface
