@@ -1,5 +1,8 @@
 -- What follows from the definitions, proved once for all later work.
 pub mod Chip
 pub mod Chunk
+pub mod Lists
 pub mod Pages
+pub mod Ring
+pub mod Clean
 pub mod Bench

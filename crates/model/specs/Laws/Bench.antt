@@ -14,7 +14,7 @@ use Rattle.model.specs.Slot.{mostContents, numberOk, slotPage, pageBlock
 use Rattle.model.specs.State.{segmentOf, segmentsFrom, segmentsOn, segmentsOf, isInUse, isInvalid, isOwing, numberAfter, slotsIn, nextNumber, topIndex, nextIndex, topSlots, usedCount, firstNumber, slotsFrom, viewOf, entries, entriesIn, someInUse, numbersFrom, consecutive, noneOwing, othersBlank, noneWrongOrTorn, holds, distinct, blocksDistinct, emptyLast, onlyTopEmpty, emptySlotsLast, capacity, withinCapacity, conditions, isClean, nextBlanked, isA, settled, topSettled, isB, withSlot, filled, lastSlot, lastKind, tornMarked, isC, slotFrom, placeFrom, placeOf, blockIn, lastBlock, copies, older, olderMarked, isD, stateOf}
 use Rattle.model.specs.Steps.{programs, programPart, onPage, headerAt, slotAt, writeSlot, markDead, markPlace, openSegment, copyEntries, copyOut, settle, compact, topRow, topNumber, hasRoom, firstEmpty, copied, openNext, compactOldest, compactUntilRoom, roomFor, markOld, writeAtTop, putSteps, deleteSteps, eraseFirst, formatSteps, eraseUnlessBlank, mendSteps, recoverSteps, compactions, newNumbers, isWorn}
 use Rattle.model.specs.Table.{lookup, contentsFound}
-use Rattle.model.specs.Answers.{Request, format, Work, firstOf, isDamaged, isUnfinished, isFull, absentRefusals, refusals, stepsFor, workOn, workOf, codeUnder, outcomeOf}
+use Rattle.model.specs.Answers.{Request, format, recover, Work, firstOf, isDamaged, isUnfinished, isFull, absentRefusals, refusals, stepsFor, workOn, workOf, codeUnder, outcomeOf}
 use Rattle.model.specs.Sequences.{Call, play, erasesIn, Observed, observe, observed, among, removed, inserted, storedAfter, replaces, start, tallied, tally, eraseCount}
 use Rattle.model.specs.Pages.{programPage, stepPages, runPages}
 use Rattle.model.specs.Bench.{Bench, Example, sizes, begins, answers, counts, cuts, call, whole, formatted, bench, contentsIn, isCleanIn, cutHolds, exampleHolds, failing, upFrom, putEach, examples}
@@ -54,3 +54,100 @@ benchPages = record
 computed : failing benchPages 0 examples ≡ []
 unfolding evaluate workPages playPages seenPages formattedPages benchPages
 computed = refl
+
+-- ---- the bench over pages is the bench over the image
+
+and-true : (t : Bool) → t && true ≡ t
+and-true true = refl
+and-true false = refl
+
+work-pages : (N B : ℕ) (s : Image) (r : Request) → length s ≡ imageLength N B → workOf N B s r ≡ workPages N B (pagesOf N B s) r
+unfolding workOf workPages rightSize segmentsOf
+work-pages N B s r h = rw (eq-eqb (length s) (imageLength N B) h, and-true (inRange N B))
+
+outcome-pages : (N B : ℕ) (s : Image) (x : Call) → length s ≡ imageLength N B
+    → pagesOf N B (outcomeOf N B s (x .allowance) (x .request) .image) ≡ runPages B (take (x .allowance) (workPages N B (pagesOf N B s) (x .request) .steps)) (pagesOf N B s)
+unfolding outcomeOf
+outcome-pages N B s x h = pages-run N B (take (x .allowance) (workOf N B s (x .request) .steps)) s h
+    ∙ ap (λ (w : Work). runPages B (take (x .allowance) (w .steps)) (pagesOf N B s)) (work-pages N B s (x .request) h)
+
+outcome-length : (N B : ℕ) (s : Image) (a : ℕ) (r : Request) → length s ≡ imageLength N B → length (outcomeOf N B s a r .image) ≡ imageLength N B
+unfolding outcomeOf
+outcome-length N B s a r h = run-length B (take a (workOf N B s r .steps)) s ∙ h
+
+play-length : (N B : ℕ) (xs : List Call) (s : Image) → length s ≡ imageLength N B → length (play N B s xs) ≡ imageLength N B
+unfolding play
+play-length N B [] s h = h
+play-length N B (x ∷ xs) s h = play-length N B xs (outcomeOf N B s (x .allowance) (x .request) .image) (outcome-length N B s (x .allowance) (x .request) h)
+
+play-pages : (N B : ℕ) (xs : List Call) (s : Image) → length s ≡ imageLength N B → pagesOf N B (play N B s xs) ≡ playPages N B (pagesOf N B s) xs
+unfolding play playPages
+play-pages N B [] s h = refl
+play-pages N B (x ∷ xs) s h = play-pages N B xs (outcomeOf N B s (x .allowance) (x .request) .image) (outcome-length N B s (x .allowance) (x .request) h)
+    ∙ ap (λ y. playPages N B y xs) (outcome-pages N B s x h)
+
+observe-pages : (N B : ℕ) (s : Image) (x : Call) → length s ≡ imageLength N B
+    → observe N B s x ≡ record { request = x .request; code = codeUnder (x .allowance) (workPages N B (pagesOf N B s) (x .request)); erases = erasesIn (workPages N B (pagesOf N B s) (x .request) .steps) }
+unfolding observe outcomeOf
+observe-pages N B s x h = ap (λ (w : Work). record { request = x .request; code = codeUnder (x .allowance) w; erases = erasesIn (w .steps) }) (work-pages N B s (x .request) h)
+
+seen-pages : (N B : ℕ) (xs : List Call) (s : Image) → length s ≡ imageLength N B → observed N B s xs ≡ seenPages N B (pagesOf N B s) xs
+unfolding observed seenPages
+seen-pages N B [] s h = refl
+seen-pages N B (x ∷ xs) s h =
+    ap₂ {C = List Observed} (λ y ys. y ∷ ys) (observe-pages N B s x h)
+    (seen-pages N B xs (outcomeOf N B s (x .allowance) (x .request) .image) (outcome-length N B s (x .allowance) (x .request) h)
+      ∙ ap (λ y. seenPages N B y xs) (outcome-pages N B s x h))
+
+zeros : ℕ → ℕ → Image
+zeros N B = replicate (imageLength N B) 0
+
+zeros-length : (N B : ℕ) → length (zeros N B) ≡ imageLength N B
+unfolding zeros
+zeros-length N B = length-replicate (imageLength N B) 0
+
+formatted-length : (N B : ℕ) → length (formatted N B) ≡ imageLength N B
+unfolding formatted zeros
+formatted-length N B = play-length N B (whole format ∷ []) (zeros N B) (zeros-length N B)
+
+formatted-pages : (N B : ℕ) → pagesOf N B (formatted N B) ≡ formattedPages N B
+unfolding formatted formattedPages zeros
+formatted-pages N B = play-pages N B (whole format ∷ []) (zeros N B) (zeros-length N B) ∙ ap (λ y. playPages N B y (whole format ∷ [])) blank-pages
+  where
+    blank-pages : pagesOf N B (zeros N B) ≡ replicate (N * (B + 1)) (replicate 256 0)
+    blank-pages = unfold pagesOf imageLength in chunk-replicate (N * (B + 1)) 256 0
+
+pages-same : (N B : ℕ) (xs : List Call) → bench .pages N B xs ≡ benchPages .pages N B xs
+unfolding bench benchPages
+pages-same N B xs = play-pages N B xs (formatted N B) (formatted-length N B) ∙ ap (λ y. playPages N B y xs) (formatted-pages N B)
+
+work-same : (N B : ℕ) (xs : List Call) (r : Request) → bench .work N B xs r ≡ benchPages .work N B xs r
+unfolding bench benchPages
+work-same N B xs r = work-pages N B (play N B (formatted N B) xs) r (play-length N B xs (formatted N B) (formatted-length N B)) ∙ ap (λ y. workPages N B y r) (pages-same N B xs)
+
+seen-same : (N B : ℕ) (xs : List Call) → bench .seen N B xs ≡ benchPages .seen N B xs
+unfolding bench benchPages
+seen-same N B xs = seen-pages N B xs (formatted N B) (formatted-length N B) ∙ ap (λ y. seenPages N B y xs) (formatted-pages N B)
+
+cut-same : (N B : ℕ) (xs : List Call) (r : Request) (n b : ℕ) (bytes ks : List ℕ) → cutHolds bench N B xs r n b bytes ks ≡ cutHolds benchPages N B xs r n b bytes ks
+unfolding cutHolds
+cut-same N B xs r n b bytes [] = refl
+cut-same N B xs r n b bytes (k ∷ ks) =
+    rw (work-same N B xs r, work-same N B (xs ++ (call r k ∷ [])) recover, pages-same N B (xs ++ (call r k ∷ []) ++ (whole recover ∷ [])), cut-same N B xs r n b bytes ks)
+
+example-same : (x : Example) → exampleHolds bench x ≡ exampleHolds benchPages x
+unfolding exampleHolds
+example-same (sizes N B l c) = refl
+example-same (begins N B xs p bytes) = rw (pages-same N B xs)
+example-same (answers N B xs r code n e) = rw (work-same N B xs r)
+example-same (counts N B xs e r l) = rw (seen-same N B xs)
+example-same (cuts N B xs r ks n b bytes) = cut-same N B xs r n b bytes ks
+
+failing-same : (i : ℕ) (xs : List Example) → failing bench i xs ≡ failing benchPages i xs
+unfolding failing
+failing-same i [] = refl
+failing-same i (x ∷ xs) = rw (example-same x, failing-same (suc i) xs)
+
+-- no example of the table fails
+pub examples-hold : failing bench 0 examples ≡ []
+examples-hold = failing-same 0 examples ∙ computed

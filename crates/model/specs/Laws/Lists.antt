@@ -1,0 +1,135 @@
+-- Laws of tests on lists.
+use Prim.Native.Nat.{ℕ, zero, suc, _+_, _-_, _*_, _/_, _%_, _≤_, _<_}
+use mathlib.Core.Path.{_≡_, refl, sym, ap, ap₂, _∙_}
+use mathlib.Core.Bool.{Bool, true, false, cond, _&&_}
+use mathlib.Core.List.{List, [], _∷_, _++_, map}
+use native.Mathlib.Omega.{arith}
+use native.Mathlib.Nat.{div-add-mod', mul-le-mul-right}
+use native.Mathlib.Decide.{decLt}
+use lib.ListN.{length, getD, take, drop, set}
+use lib.Dec.{eqb}
+use borrow.Author.Tests.{eqb-true, eq-eqb}
+use Rattle.model.specs.Lists.{same, all, count}
+
+-- ---- conjunction
+
+pub and-left : (a b : Bool) → a && b ≡ true → a ≡ true
+and-left true b h = refl
+and-left false b h = h
+
+pub and-right : (a b : Bool) → a && b ≡ true → b ≡ true
+and-right true b h = h
+and-right false b h = absurd (let y : _≡_ {A = ℕ} 0 1 = cc in omega arith)
+
+pub and-both : (a b : Bool) → a ≡ true → b ≡ true → a && b ≡ true
+and-both a b h k = rw (h, k)
+
+pub false-true : false ≡ true → ⊥
+false-true h = let y : _≡_ {A = ℕ} 0 1 = cc in omega arith
+
+-- ---- every element
+
+pub all-append : {A : Type 0} (f : A → Bool) (xs ys : List A) → all f (xs ++ ys) ≡ all f xs && all f ys
+unfolding all
+all-append f [] ys = refl
+all-append f (x ∷ xs) ys = ap (λ y. f x && y) (all-append f xs ys) ∙ assoc (f x) (all f xs) (all f ys)
+  where
+    assoc : (a b c : Bool) → a && (b && c) ≡ (a && b) && c
+    assoc true b c = refl
+    assoc false b c = refl
+
+pub all-get : {A : Type 0} (f : A → Bool) (xs : List A) (i : ℕ) (d : A) → all f xs ≡ true → i < length xs → f (getD xs i d) ≡ true
+unfolding all
+all-get f [] i d h l = absurd (omega arith)
+all-get f (x ∷ xs) zero d h l = and-left (f x) (all f xs) h
+all-get f (x ∷ xs) (suc i) d h l = all-get f xs i d (and-right (f x) (all f xs) h) (omega arith)
+
+pub all-set : {A : Type 0} (f : A → Bool) (xs : List A) (i : ℕ) (y : A) → all f xs ≡ true → f y ≡ true → all f (set xs i y) ≡ true
+unfolding all
+all-set f [] i y h k = refl
+all-set f (x ∷ xs) zero y h k = and-both (f y) (all f xs) k (and-right (f x) (all f xs) h)
+all-set f (x ∷ xs) (suc i) y h k = and-both (f x) (all f (set xs i y)) (and-left (f x) (all f xs) h) (all-set f xs i y (and-right (f x) (all f xs) h) k)
+
+-- a test that fails at one element fails of the list
+pub all-fails : {A : Type 0} (f : A → Bool) (xs : List A) (i : ℕ) (d : A) → i < length xs → f (getD xs i d) ≡ false → all f xs ≡ false
+unfolding all
+all-fails f [] i d l h = absurd (omega arith)
+all-fails f (x ∷ xs) zero d l h = rw h
+all-fails f (x ∷ xs) (suc i) d l h = go (f x) (all f xs) (all-fails f xs i d (omega arith) h)
+  where
+    go : (a b : Bool) → b ≡ false → a && b ≡ false
+    go true b q = q
+    go false b q = refl
+
+-- all but one pass
+pub all-set-back : {A : Type 0} (f : A → Bool) (xs : List A) (i : ℕ) (y d : A) → all f (set xs i y) ≡ true → f (getD xs i d) ≡ true → all f xs ≡ true
+unfolding all
+all-set-back f [] i y d h k = refl
+all-set-back f (x ∷ xs) zero y d h k = and-both (f x) (all f xs) k (and-right (f y) (all f xs) h)
+all-set-back f (x ∷ xs) (suc i) y d h k = and-both (f x) (all f xs) (and-left (f x) (all f (set xs i y)) h) (all-set-back f xs i y d (and-right (f x) (all f (set xs i y)) h) k)
+
+-- ---- counting
+
+unfoldable pub one : Bool → ℕ
+one true = 1
+one false = 0
+
+pub count-set : {A : Type 0} (f : A → Bool) (xs : List A) (i : ℕ) (y d : A) → i < length xs → count f (set xs i y) + one (f (getD xs i d)) ≡ count f xs + one (f y)
+unfolding count one
+count-set f [] i y d h = absurd (omega arith)
+count-set f (x ∷ xs) zero y d h = go (f x) (f y)
+  where
+    go : (a b : Bool) → cond b (suc (count f xs)) (count f xs) + one a ≡ cond a (suc (count f xs)) (count f xs) + one b
+    go true true = refl
+    go true false = omega arith
+    go false true = omega arith
+    go false false = refl
+count-set f (x ∷ xs) (suc i) y d h = go (f x) (count-set f xs i y d (omega arith))
+  where
+    go : (a : Bool) → count f (set xs i y) + one (f (getD xs i d)) ≡ count f xs + one (f y)
+        → cond a (suc (count f (set xs i y))) (count f (set xs i y)) + one (f (getD xs i d)) ≡ cond a (suc (count f xs)) (count f xs) + one (f y)
+    go true e = omega arith
+    go false e = e
+
+pub count-none : {A : Type 0} (f : A → Bool) (xs : List A) (i : ℕ) (d : A) → count f xs ≡ 0 → i < length xs → f (getD xs i d) ≡ false
+unfolding count
+count-none f [] i d h l = absurd (omega arith)
+count-none f (x ∷ xs) zero d h l = go (f x) h
+  where
+    go : (a : Bool) → cond a (suc (count f xs)) (count f xs) ≡ 0 → a ≡ false
+    go true e = absurd (omega arith)
+    go false e = refl
+count-none f (x ∷ xs) (suc i) d h l = count-none f xs i d (go (f x) h) (omega arith)
+  where
+    go : (a : Bool) → cond a (suc (count f xs)) (count f xs) ≡ 0 → count f xs ≡ 0
+    go true e = absurd (omega arith)
+    go false e = e
+
+-- ---- elements of a map, and of a set list
+
+pub map-set : {A B : Type 0} (f : A → B) (xs : List A) (i : ℕ) (y : A) → map f (set xs i y) ≡ set (map f xs) i (f y)
+map-set f [] i y = refl
+map-set f (x ∷ xs) zero y = refl
+map-set {B = B} f (x ∷ xs) (suc i) y = ap {B = List B} (λ z. f x ∷ z) (map-set f xs i y)
+
+pub map-length : {A B : Type 0} (f : A → B) (xs : List A) → length (map f xs) ≡ length xs
+map-length f [] = refl
+map-length f (x ∷ xs) = ap suc (map-length f xs)
+
+pub map-get : {A B : Type 0} (f : A → B) (xs : List A) (i : ℕ) (d : A) (e : B) → i < length xs → getD (map f xs) i e ≡ f (getD xs i d)
+map-get f [] i d e h = absurd (omega arith)
+map-get f (x ∷ xs) zero d e h = refl
+map-get f (x ∷ xs) (suc i) d e h = map-get f xs i d e (omega arith)
+
+-- ---- numbers modulo N
+
+-- two numbers less than N apart with one remainder are equal
+pub mod-inj : (N a b : ℕ) → a ≤ b → b < a + N → a % N ≡ b % N → a ≡ b
+mod-inj N a b h k e =
+    let da = div-add-mod' a N in
+    let db = div-add-mod' b N in
+    elim (decLt (a / N) (b / N)) [ yes l ↦ absurd (omega (arith, mul-le-mul-right N l))
+      | no l ↦ elim (decLt (b / N) (a / N)) [ yes r ↦ absurd (omega (arith, mul-le-mul-right N r)) | no r ↦ omega (arith, ap (λ (y : ℕ). y * N) (quotients (a / N) (b / N) l r)) ] ]
+  where
+    quotients : (x y : ℕ) → ¬ (x < y) → ¬ (y < x) → x ≡ y
+    quotients x y p q = omega arith
