@@ -5,4 +5,5 @@ pub mod Lists
 pub mod Pages
 pub mod Ring
 pub mod Clean
+pub mod View
 pub mod Bench
