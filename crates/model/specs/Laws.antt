@@ -3,6 +3,7 @@ pub mod Chip
 pub mod Chunk
 pub mod Lists
 pub mod Pages
+pub mod Segments
 pub mod Ring
 pub mod Clean
 pub mod View
