@@ -7,4 +7,5 @@ pub mod Segments
 pub mod Ring
 pub mod Clean
 pub mod View
+pub mod Exclusive
 pub mod Bench

@@ -2,7 +2,7 @@
 use Prim.Native.Nat.{ℕ, zero, suc, _+_, _-_, _*_, _/_, _%_, _≤_, _<_}
 use mathlib.Core.Path.{_≡_, refl, sym, ap, ap₂, _∙_}
 use mathlib.Core.Bool.{Bool, true, false, cond, _&&_}
-use mathlib.Core.List.{List, [], _∷_, _++_, map}
+use mathlib.Core.List.{List, [], _∷_, _++_, map, flatten}
 use native.Mathlib.Omega.{arith}
 use native.Mathlib.Nat.{div-add-mod', mul-le-mul-right}
 use native.Mathlib.Decide.{decLt}
@@ -37,6 +37,13 @@ all-append f (x ∷ xs) ys = ap (λ y. f x && y) (all-append f xs ys) ∙ assoc 
     assoc : (a b c : Bool) → a && (b && c) ≡ (a && b) && c
     assoc true b c = refl
     assoc false b c = refl
+
+-- of rows: of each row
+pub all-row : {A : Type 0} (f : A → Bool) (rows : List (List A)) (i : ℕ) → all f (flatten rows) ≡ true → all f (getD rows i []) ≡ true
+unfolding all flatten
+all-row f [] i q = refl
+all-row f (x ∷ rows) zero q = and-left (all f x) (all f (flatten rows)) (sym (all-append f x (flatten rows)) ∙ q)
+all-row f (x ∷ rows) (suc i) q = all-row f rows i (and-right (all f x) (all f (flatten rows)) (sym (all-append f x (flatten rows)) ∙ q))
 
 pub all-get : {A : Type 0} (f : A → Bool) (xs : List A) (i : ℕ) (d : A) → all f xs ≡ true → i < length xs → f (getD xs i d) ≡ true
 unfolding all

@@ -35,7 +35,7 @@ withSlot-use j k blank = refl
 withSlot-use j k invalid = refl
 withSlot-use j k (inUse st n ks) = refl
 
-withSlot-owing : (j : ℕ) (k : Slot) (x : Segment) → isOwing (withSlot j k x) ≡ isOwing x
+pub withSlot-owing : (j : ℕ) (k : Slot) (x : Segment) → isOwing (withSlot j k x) ≡ isOwing x
 unfolding withSlot isOwing
 withSlot-owing j k blank = refl
 withSlot-owing j k invalid = refl
