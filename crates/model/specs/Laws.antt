@@ -3,3 +3,4 @@ pub mod Chip
 pub mod Chunk
 pub mod Pages
 pub mod Bench
+pub mod Bytes
