@@ -4,3 +4,5 @@ pub mod Chunk
 pub mod Pages
 pub mod Bench
 pub mod Bytes
+pub mod Programs
+pub mod HeaderPage

@@ -1,5 +1,5 @@
 -- Laws of bytes: what clearing leaves; bytes one bit apart; a number in four bytes; equal lists; erased bytes.
-use Prim.Native.Nat.{ℕ, zero, suc, _+_, _-_, _*_, _/_, _%_, _^_, min, _≤_, _<_}
+use Prim.Native.Nat.{ℕ, zero, suc, _+_, _/_, _%_, _^_, min, _≤_, _<_}
 use mathlib.Core.Path.{_≡_, refl, sym, ap, ap₂, _∙_}
 use mathlib.Core.Logic.{_⊎_, inl, inr}
 use mathlib.Core.Bool.{Bool, true, false, _||_, _&&_, not}
@@ -7,13 +7,13 @@ use mathlib.Core.List.{List, [], _∷_, _++_}
 use native.Mathlib.Omega.{arith}
 use native.Mathlib.Nat.{min-le-right, mod-eq-of-lt}
 use native.Mathlib.Decide.{decLt}
-use lib.ListN.{length, getD, take, drop, replicate, length-replicate, getD-replicate, replicate-append-replicate}
-use lib.Bits.{and-comm, and-mask, and-le-l, and-le-r, and-self, and-shr, and-step}
-use lib.Dec.{T, eqb}
+use lib.ListN.{length, getD, take, drop, length-replicate, getD-replicate, replicate-append-replicate}
+use lib.Bits.{and-comm, and-mask, and-le-l, and-le-r, and-self, and-zero-l, and-shr, and-step}
+use lib.Dec.{eqb}
 use borrow.Author.Tests.{eq-eqb, eqb-true}
 use Rattle.model.specs.Lists.{same}
-use Rattle.model.specs.Chip.{Bytes, clear, erased, Between}
-use Rattle.model.specs.Header.{numberBytes, inverted, value, isBlank, openingBegun, opened, compactionBegun, erasePending, compacted}
+use Rattle.model.specs.Chip.{Bytes, clear, erased, Between, Raised}
+use Rattle.model.specs.Header.{numberBytes, inverted, value, isBlank, compactionBegun, erasePending, compacted}
 use Rattle.model.specs.Slot.{writeBegun, written}
 
 -- ---- tests joined
@@ -31,9 +31,12 @@ both a b h k = rw (h, k)
 
 -- ---- clearing
 
-pub clear-erased : (v : ℕ) → v < 256 → clear 255 v ≡ v
+pub clear-byte : (v : ℕ) → clear 255 v ≡ v % 256
 unfolding clear
-clear-erased v h = and-comm 255 v ∙ and-mask v 8 ∙ mod-eq-of-lt h
+clear-byte v = and-comm 255 v ∙ and-mask v 8
+
+pub clear-erased : (v : ℕ) → v < 256 → clear 255 v ≡ v
+clear-erased v h = clear-byte v ∙ mod-eq-of-lt h
 
 pub clear-self : (a : ℕ) → clear a a ≡ a
 unfolding clear
@@ -66,6 +69,16 @@ within-bit a b i e =
 -- bit 6 of a status: set until the segment is in use
 pub bit-6-kept : (a x : ℕ) → clear a x ≡ a → a / 64 % 2 ≡ 1 → x / 64 % 2 ≡ 1
 bit-6-kept a x e h = let q : a / 64 % 2 ≤ x / 64 % 2 = within-bit a x 6 e in omega arith
+
+pub raised-get : (s t : List ℕ) → Raised s t → (j : ℕ) → clear (getD s j 0) (getD t j 0) ≡ getD s j 0
+unfolding clear
+raised-get [] t r j = and-zero-l (getD t j 0)
+raised-get (a ∷ s) [] r j = absurd r
+raised-get (a ∷ s) (x ∷ t) r zero = r .0 .0
+raised-get (a ∷ s) (x ∷ t) r (suc j) = raised-get s t (r .1) j
+
+pub raised-le : (s t : List ℕ) → Raised s t → (j : ℕ) → getD s j 0 ≤ getD t j 0
+raised-le s t r j = within-le (getD s j 0) (getD t j 0) (raised-get s t r j)
 
 -- ---- bytes one bit apart have nothing between them
 
