@@ -6,3 +6,4 @@ pub mod Bench
 pub mod Bytes
 pub mod Programs
 pub mod HeaderPage
+pub mod SlotPage
