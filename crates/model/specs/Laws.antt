@@ -9,3 +9,7 @@ pub mod Clean
 pub mod View
 pub mod Exclusive
 pub mod Bench
+pub mod Bytes
+pub mod Programs
+pub mod HeaderPage
+pub mod SlotPage

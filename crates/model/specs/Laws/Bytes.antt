@@ -1,0 +1,233 @@
+-- Laws of bytes: what clearing leaves; bytes one bit apart; a number in four bytes; equal lists; erased bytes.
+use Prim.Native.Nat.{ℕ, zero, suc, _+_, _/_, _%_, _^_, min, _≤_, _<_}
+use mathlib.Core.Path.{_≡_, refl, sym, ap, ap₂, _∙_}
+use mathlib.Core.Logic.{_⊎_, inl, inr}
+use mathlib.Core.Bool.{Bool, true, false, _||_, _&&_, not}
+use mathlib.Core.List.{List, [], _∷_, _++_}
+use native.Mathlib.Omega.{arith}
+use native.Mathlib.Nat.{min-le-right, mod-eq-of-lt}
+use native.Mathlib.Decide.{decLt}
+use lib.ListN.{length, getD, take, drop, length-replicate, getD-replicate, replicate-append-replicate}
+use lib.Bits.{and-comm, and-mask, and-le-l, and-le-r, and-self, and-zero-l, and-shr, and-step}
+use lib.Dec.{eqb}
+use borrow.Author.Tests.{eq-eqb, eqb-true}
+use Rattle.model.specs.Lists.{same}
+use Rattle.model.specs.Chip.{Bytes, clear, erased, Between, Raised}
+use Rattle.model.specs.Header.{numberBytes, inverted, value, isBlank, compactionBegun, erasePending, compacted}
+use Rattle.model.specs.Slot.{writeBegun, written}
+
+-- ---- tests joined
+
+pub and-left : (a b : Bool) → a && b ≡ true → a ≡ true
+and-left true b h = refl
+and-left false b h = h
+
+pub and-right : (a b : Bool) → a && b ≡ true → b ≡ true
+and-right true b h = h
+and-right false b h = absurd (let y : _≡_ {A = ℕ} 0 1 = cc in omega arith)
+
+pub both : (a b : Bool) → a ≡ true → b ≡ true → a && b ≡ true
+both a b h k = rw (h, k)
+
+-- ---- clearing
+
+pub clear-byte : (v : ℕ) → clear 255 v ≡ v % 256
+unfolding clear
+clear-byte v = and-comm 255 v ∙ and-mask v 8
+
+pub clear-erased : (v : ℕ) → v < 256 → clear 255 v ≡ v
+clear-erased v h = clear-byte v ∙ mod-eq-of-lt h
+
+pub clear-self : (a : ℕ) → clear a a ≡ a
+unfolding clear
+clear-self a = and-self a
+
+pub clear-le : (a v : ℕ) → clear a v ≤ a
+unfolding clear
+clear-le a v = and-le-l a v
+
+pub clear-le-value : (a v : ℕ) → clear a v ≤ v
+unfolding clear
+clear-le-value a v = and-le-r a v
+
+-- the bits of a are bits of b
+pub within-le : (a b : ℕ) → clear a b ≡ a → a ≤ b
+within-le a b e = omega (arith, clear-le-value a b)
+
+abbrev pub bit : ℕ → ℕ → ℕ
+bit x i = x / 2 ^ i % 2
+
+pub clear-bit : (a b i : ℕ) → bit (clear a b) i ≡ min (bit a i) (bit b i)
+unfolding clear
+clear-bit a b i = rw (and-shr a b i, and-step (a / 2 ^ i) (b / 2 ^ i)) (omega (arith, min-le-right (a / 2 ^ i % 2) (b / 2 ^ i % 2)))
+
+pub within-bit : (a b i : ℕ) → clear a b ≡ a → bit a i ≤ bit b i
+within-bit a b i e =
+    let h : bit a i ≡ min (bit a i) (bit b i) = ap (λ y. bit y i) (sym e) ∙ clear-bit a b i in
+    omega arith
+
+-- bit 6 of a status: set until the segment is in use
+pub bit-6-kept : (a x : ℕ) → clear a x ≡ a → a / 64 % 2 ≡ 1 → x / 64 % 2 ≡ 1
+bit-6-kept a x e h = let q : a / 64 % 2 ≤ x / 64 % 2 = within-bit a x 6 e in omega arith
+
+pub raised-get : (s t : List ℕ) → Raised s t → (j : ℕ) → clear (getD s j 0) (getD t j 0) ≡ getD s j 0
+unfolding clear
+raised-get [] t r j = and-zero-l (getD t j 0)
+raised-get (a ∷ s) [] r j = absurd r
+raised-get (a ∷ s) (x ∷ t) r zero = r .0 .0
+raised-get (a ∷ s) (x ∷ t) r (suc j) = raised-get s t (r .1) j
+
+pub raised-le : (s t : List ℕ) → Raised s t → (j : ℕ) → getD s j 0 ≤ getD t j 0
+raised-le s t r j = within-le (getD s j 0) (getD t j 0) (raised-get s t r j)
+
+-- ---- bytes one bit apart have nothing between them
+
+abbrev pub OneBit : ℕ → ℕ → Type 0
+OneBit lo hi = (x : ℕ) → Between lo x hi → (x ≡ lo) ⊎ (x ≡ hi)
+
+unfoldable allBelow : (ℕ → Bool) → ℕ → Bool
+allBelow f zero = true
+allBelow f (suc n) = f n && allBelow f n
+
+below : (f : ℕ → Bool) (n : ℕ) → allBelow f n ≡ true → (x : ℕ) → x < n → f x ≡ true
+unfolding allBelow
+below f zero t x h = absurd (omega arith)
+below f (suc n) t x h = elim (decLt x n)
+  [ yes l ↦ below f n (and-right (f n) (allBelow f n) t) x l
+  | no g ↦ (let e : n ≡ x = omega arith in rw (← e) (and-left (f n) (allBelow f n) t)) ]
+
+endsOnly : ℕ → ℕ → ℕ → Bool
+endsOnly lo hi x = not (eqb (clear lo x) lo && eqb (clear x hi) x) || (eqb x lo || eqb x hi)
+
+-- a law of all bytes, computed
+one-bit : (lo hi : ℕ) → hi < 256 → allBelow (endsOnly lo hi) 256 ≡ true → OneBit lo hi
+unfolding endsOnly
+one-bit lo hi h law x c =
+    go (eqb x lo) refl (eqb x hi) refl (rw (eq-eqb (clear lo x) lo (c .0), eq-eqb (clear x hi) x (c .1)) at (below (endsOnly lo hi) 256 law x (omega (arith, clear-le-value x hi, c .1))))
+  where
+    go : (a : Bool) → eqb x lo ≡ a → (b : Bool) → eqb x hi ≡ b → (a || b) ≡ true → (x ≡ lo) ⊎ (x ≡ hi)
+    go true e b f t = inl (eqb-true x lo e)
+    go false e true f t = inr (eqb-true x hi f)
+    go false e false f t = absurd (let y : _≡_ {A = ℕ} 0 1 = cc in omega arith)
+
+-- FF to 7F, 7F to 3F: a slot written, a segment opened
+pub begun-bit : OneBit writeBegun 255
+unfolding endsOnly allBelow clear
+begun-bit = one-bit writeBegun 255 (omega arith) refl
+
+pub written-bit : OneBit written writeBegun
+unfolding endsOnly allBelow clear
+written-bit = one-bit written writeBegun (omega arith) refl
+
+-- 3F to 1F, 7F to 5F: a slot marked
+pub live-dead-bit : OneBit 0x1F written
+unfolding endsOnly allBelow clear
+live-dead-bit = one-bit 0x1F written (omega arith) refl
+
+pub torn-dead-bit : OneBit 0x5F writeBegun
+unfolding endsOnly allBelow clear
+torn-dead-bit = one-bit 0x5F writeBegun (omega arith) refl
+
+-- FF to DF, DF to 9F, 9F to 8F: a segment tidied
+pub compaction-begun-bit : OneBit compactionBegun 255
+unfolding endsOnly allBelow clear
+compaction-begun-bit = one-bit compactionBegun 255 (omega arith) refl
+
+pub erase-pending-bit : OneBit erasePending compactionBegun
+unfolding endsOnly allBelow clear
+erase-pending-bit = one-bit erasePending compactionBegun (omega arith) refl
+
+pub compacted-bit : OneBit compacted erasePending
+unfolding endsOnly allBelow clear
+compacted-bit = one-bit compacted erasePending (omega arith) refl
+
+-- ---- a number in four bytes
+
+pub number-value : (n : ℕ) → n < 4294967296 → value (numberBytes n) ≡ n
+unfolding value numberBytes
+number-value n h = omega arith
+
+pub number-length : (n : ℕ) → length (numberBytes n) ≡ 4
+unfolding numberBytes
+number-length n = refl
+
+pub number-bytes : (n : ℕ) → Bytes (numberBytes n)
+unfolding numberBytes
+number-bytes n = (omega arith, (omega arith, (omega arith, (omega arith, tt))))
+
+pub inverted-length : (s : List ℕ) → length (inverted s) ≡ length s
+unfolding inverted
+inverted-length [] = refl
+inverted-length (x ∷ s) = ap suc (inverted-length s)
+
+pub inverted-bytes : (s : List ℕ) → Bytes (inverted s)
+unfolding inverted
+inverted-bytes [] = tt
+inverted-bytes (x ∷ s) = (omega arith, inverted-bytes s)
+
+-- ---- lists of bytes
+
+pub bytes-append : (s t : List ℕ) → Bytes s → Bytes t → Bytes (s ++ t)
+bytes-append [] t p q = q
+bytes-append (x ∷ s) t p q = (p .0, bytes-append s t (p .1) q)
+
+pub bytes-take : (k : ℕ) (s : List ℕ) → Bytes s → Bytes (take k s)
+bytes-take zero s p = tt
+bytes-take (suc k) [] p = tt
+bytes-take (suc k) (x ∷ s) p = (p .0, bytes-take k s (p .1))
+
+pub bytes-drop : (k : ℕ) (s : List ℕ) → Bytes s → Bytes (drop k s)
+bytes-drop zero s p = p
+bytes-drop (suc k) [] p = tt
+bytes-drop (suc k) (x ∷ s) p = bytes-drop k s (p .1)
+
+pub same-eq : (a b : List ℕ) → same a b ≡ true → a ≡ b
+unfolding same
+same-eq [] [] h = refl
+same-eq [] (y ∷ b) h = absurd (let y : _≡_ {A = ℕ} 0 1 = cc in omega arith)
+same-eq (x ∷ a) [] h = absurd (let y : _≡_ {A = ℕ} 0 1 = cc in omega arith)
+same-eq (x ∷ a) (y ∷ b) h = ap₂ {C = List ℕ} (λ p q. p ∷ q) (eqb-true x y (and-left (eqb x y) (same a b) h)) (same-eq a b (and-right (eqb x y) (same a b) h))
+
+pub same-refl : (s : List ℕ) → same s s ≡ true
+unfolding same
+same-refl [] = refl
+same-refl (x ∷ s) = both (eqb x x) (same s s) (eq-eqb x x refl) (same-refl s)
+
+pub eq-same : (a b : List ℕ) → a ≡ b → same a b ≡ true
+eq-same a b e = ap (λ y. same a y) (sym e) ∙ same-refl a
+
+-- ---- erased bytes
+
+pub erased-suc : (n : ℕ) → erased (suc n) ≡ 255 ∷ erased n
+unfolding erased
+erased-suc n = refl
+
+pub erased-length : (n : ℕ) → length (erased n) ≡ n
+unfolding erased
+erased-length n = length-replicate n 255
+
+pub erased-get : (n i : ℕ) → i < n → getD (erased n) i 0 ≡ 255
+unfolding erased
+erased-get n i h = getD-replicate n i 255 0 h
+
+pub erased-add : (n m : ℕ) → erased n ++ erased m ≡ erased (n + m)
+unfolding erased
+erased-add n m = replicate-append-replicate n m 255
+
+pub erased-bytes : (n : ℕ) → Bytes (erased n)
+unfolding erased
+erased-bytes zero = tt
+erased-bytes (suc n) = (omega arith, erased-bytes n)
+
+pub erased-blank : (n : ℕ) → isBlank (erased n) ≡ true
+unfolding isBlank erased
+erased-blank zero = refl
+erased-blank (suc n) = erased-blank n
+
+pub blank-erased : (p : List ℕ) → isBlank p ≡ true → p ≡ erased (length p)
+unfolding isBlank erased
+blank-erased [] h = refl
+blank-erased (x ∷ p) h = ap₂ {C = List ℕ} (λ a b. a ∷ b) (eqb-true x 255 (and-left (eqb x 255) (isBlank p) h)) (blank-erased p (and-right (eqb x 255) (isBlank p) h))
+
+pub erased-is-blank : (p : List ℕ) → p ≡ erased (length p) → isBlank p ≡ true
+erased-is-blank p e = ap isBlank e ∙ erased-blank (length p)

@@ -1,0 +1,240 @@
+-- Laws of a header page: its fields are what it encodes, and the other way round; what keeps it from being in use; what its steps leave of an erased page.
+use Prim.Native.Nat.{ℕ, _+_, _-_, _/_, _%_, _≤_, _<_}
+use mathlib.Core.Path.{_≡_, refl, sym, ap, _∙_}
+use mathlib.Core.Bool.{true, false, _&&_}
+use mathlib.Core.List.{List, [], _∷_, _++_, append-assoc}
+use native.Mathlib.Omega.{arith}
+use native.Mathlib.Nat.{mod-eq-of-lt}
+use lib.ListN.{length, getD, drop, length-append, List·getD-append}
+use lib.Seq.{getD-drop}
+use lib.Dec.{ltb, eqb}
+use borrow.Author.Tests.{eq-eqb, ne-eqb, eqb-true, lt-ltb, ltb-true}
+use Rattle.model.specs.Lists.{same}
+use Rattle.model.specs.Chip.{Page, Bytes, Step, program, erased, clear, step, run, mostSegments, numberLimit}
+use Rattle.model.specs.Header.{numberBytes, inverted, value, openingBegun, opened, compactionBegun, erasePending, compacted, noOldSegment}
+use Rattle.model.specs.Header.{statusInUse, headerPage, headerStatus, headerNumber, oldIndex, headerInUse}
+use Rattle.model.specs.Slot.{Entry}
+use Rattle.model.specs.Steps.{programs, programPart, onPage, headerAt, openSegment, copyEntries, copyOut, settle}
+use Rattle.model.specs.Laws.Pages.{InPage, in-append, in-part}
+use Rattle.model.specs.Laws.Bytes.{and-left, and-right, clear-byte, number-value, number-length, number-bytes, inverted-length, inverted-bytes, bytes-append, same-eq, same-refl, erased-get, erased-bytes}
+
+-- ---- the fields of an encoded page
+
+pub header-status : (N B st n old : ℕ) → headerStatus (headerPage N B st n old) ≡ st
+unfolding headerStatus headerPage
+header-status N B st n old = refl
+
+pub header-number : (N B st n old : ℕ) → n < 4294967296 → headerNumber (headerPage N B st n old) ≡ n
+unfolding headerNumber headerPage numberBytes
+header-number N B st n old h = number-value n h
+
+pub header-length : (N B st n old : ℕ) → length (headerPage N B st n old) ≡ 256
+unfolding headerPage numberBytes inverted erased
+header-length N B st n old = refl
+
+pub header-bytes : (N B st n old : ℕ) → N < 256 → B < 256 → st < 256 → old < 256 → Bytes (headerPage N B st n old)
+unfolding headerPage
+header-bytes N B st n old hN hB hs ho =
+    (omega arith, (omega arith, (omega arith, (omega arith, (omega arith, (hs, (hB, (hN,
+    bytes-append (numberBytes n) _ (number-bytes n) (bytes-append (inverted (numberBytes n)) _ (inverted-bytes (numberBytes n)) (ho, erased-bytes 239))))))))))
+
+-- numbers below the limit fit in four bytes
+pub number-fits : (N n : ℕ) → N ≤ mostSegments → n < numberLimit N → n < 4294967296
+unfolding mostSegments numberLimit
+number-fits N n h k = omega arith
+
+-- ---- in use
+
+pub header-in-use : (N B st n : ℕ) → N ≤ mostSegments → statusInUse st ≡ true → n < numberLimit N
+    → headerInUse N B (n % N) (headerPage N B st n (oldIndex N (n % N) st)) ≡ true
+unfolding headerInUse
+header-in-use N B st n hN hs hn =
+    let h = headerPage N B st n (oldIndex N (n % N) st) in
+    rw (header-status N B st n (oldIndex N (n % N) st), header-number N B st n (oldIndex N (n % N) st) (number-fits N n hN hn), hs, lt-ltb n (numberLimit N) hn, eq-eqb (n % N) (n % N) refl) (same-refl h)
+
+pub record InUseFacts (N B i : ℕ) (h : Page) : Type 0 where
+  pub status : statusInUse (headerStatus h) ≡ true
+  pub below : headerNumber h < numberLimit N
+  pub place : headerNumber h % N ≡ i
+  pub page : h ≡ headerPage N B (headerStatus h) (headerNumber h) (oldIndex N i (headerStatus h))
+
+pub in-use-facts : (N B i : ℕ) (h : Page) → headerInUse N B i h ≡ true → InUseFacts N B i h
+unfolding headerInUse
+in-use-facts N B i h e =
+    let a = statusInUse (headerStatus h) in
+    let b = ltb (headerNumber h) (numberLimit N) in
+    let c = eqb (headerNumber h % N) i in
+    let p = headerPage N B (headerStatus h) (headerNumber h) (oldIndex N i (headerStatus h)) in
+    let e1 = and-right a (b && (c && same h p)) e in
+    let e2 = and-right b (c && same h p) e1 in
+    record
+      { status = and-left a (b && (c && same h p)) e
+      ; below = ltb-true (headerNumber h) (numberLimit N) (and-left b (c && same h p) e1)
+      ; place = eqb-true (headerNumber h % N) i (and-left c (same h p) e2)
+      ; page = same-eq h p (and-right c (same h p) e2) }
+
+pub in-use-length : (N B i : ℕ) (h : Page) → headerInUse N B i h ≡ true → length h ≡ 256
+in-use-length N B i h e = ap length (in-use-facts N B i h e .page) ∙ header-length N B (headerStatus h) (headerNumber h) (oldIndex N i (headerStatus h))
+
+-- ---- not in use
+
+bit-6-status : (st : ℕ) → st / 64 % 2 ≡ 1 → statusInUse st ≡ false
+unfolding statusInUse
+bit-6-status st e = rw (ne-eqb st opened (λ q. omega arith), ne-eqb st erasePending (λ q. omega arith), ne-eqb st compacted (λ q. omega arith))
+
+-- bit 6 of the status is set until the header is finished
+pub bit-6-unused : (N B i : ℕ) (h : Page) → getD h 5 0 / 64 % 2 ≡ 1 → headerInUse N B i h ≡ false
+unfolding headerInUse headerStatus
+bit-6-unused N B i h e = rw (bit-6-status (getD h 5 0) e)
+
+pub erased-bit-6 : getD (erased 256) 5 0 / 64 % 2 ≡ 1
+erased-bit-6 = rw (erased-get 256 5 (omega arith))
+
+pub erased-unused : (N B i : ℕ) → headerInUse N B i (erased 256) ≡ false
+erased-unused N B i = bit-6-unused N B i (erased 256) erased-bit-6
+
+-- ---- the inverted copy
+
+digit : (x y p q : ℕ) → x < 256 → y < 256 → p ≡ x → q ≡ 255 - x → y ≤ p → 255 - y ≤ q → x ≡ y
+digit x y p q hx hy c d a b = omega arith
+
+same-number : (x y : ℕ) → x < 4294967296 → y < 4294967296 → x % 256 ≡ y % 256 → x / 256 % 256 ≡ y / 256 % 256 → x / 256 / 256 % 256 ≡ y / 256 / 256 % 256
+    → x / 256 / 256 / 256 % 256 ≡ y / 256 / 256 / 256 % 256 → x ≡ y
+unfolding numberBytes
+same-number x y hx hy p q r t =
+    let e : numberBytes x ≡ numberBytes y = rw (p, q, r, t) in
+    sym (number-value x hx) ∙ (ap value e ∙ number-value y hy)
+
+-- if no bit of a number and its inverted copy was cleared, and the header is in use, it has that number
+pub number-raised : (N B i : ℕ) (h : Page) (n : ℕ) → N ≤ mostSegments → n < 4294967296 → headerInUse N B i h ≡ true
+    → ((k : ℕ) → k < 8 → getD (numberBytes n ++ inverted (numberBytes n)) k 0 ≤ getD h (8 + k) 0) → headerNumber h ≡ n
+unfolding headerPage numberBytes inverted
+number-raised N B i h n hN hn u low =
+    let f = in-use-facts N B i h u in
+    same-number (headerNumber h) n (number-fits N (headerNumber h) hN (f .below)) hn
+      (digit _ (n % 256) (getD h 8 0) (getD h 12 0) (omega arith) (omega arith) (get 8) (get 12) (low 0 (omega arith)) (low 4 (omega arith)))
+      (digit _ (n / 256 % 256) (getD h 9 0) (getD h 13 0) (omega arith) (omega arith) (get 9) (get 13) (low 1 (omega arith)) (low 5 (omega arith)))
+      (digit _ (n / 256 / 256 % 256) (getD h 10 0) (getD h 14 0) (omega arith) (omega arith) (get 10) (get 14) (low 2 (omega arith)) (low 6 (omega arith)))
+      (digit _ (n / 256 / 256 / 256 % 256) (getD h 11 0) (getD h 15 0) (omega arith) (omega arith) (get 11) (get 15) (low 3 (omega arith)) (low 7 (omega arith)))
+  where
+    get : (k : ℕ) → getD h k 0 ≡ getD (headerPage N B (headerStatus h) (headerNumber h) (oldIndex N i (headerStatus h))) k 0
+    get k = ap (λ y. getD y k 0) (in-use-facts N B i h u .page)
+
+-- a header in use, none of whose bytes is less than that of another in use, has the same number
+pub number-kept : (N B i j : ℕ) (s h : Page) → N ≤ mostSegments → headerInUse N B i s ≡ true → headerInUse N B j h ≡ true
+    → ((k : ℕ) → getD s k 0 ≤ getD h k 0) → headerNumber h ≡ headerNumber s
+unfolding headerPage
+number-kept N B i j s h hN us uh low =
+    let f = in-use-facts N B i s us in
+    number-raised N B j h (headerNumber s) hN (number-fits N (headerNumber s) hN (f .below)) uh (λ k l. omega (arith, low (8 + k), byte k l))
+  where
+    byte : (k : ℕ) → k < 8 → getD s (8 + k) 0 ≡ getD (numberBytes (headerNumber s) ++ inverted (numberBytes (headerNumber s))) k 0
+    byte k l = let v = numberBytes (headerNumber s) in
+        sym (getD-drop 8 s k 0) ∙ ap (λ y. getD (drop 8 y) k 0) (in-use-facts N B i s us .page)
+        ∙ ap (λ y. getD y k 0) (sym (append-assoc v (inverted v) (oldIndex N i (headerStatus s) ∷ erased 239)))
+        ∙ List·getD-append (v ++ inverted v) (oldIndex N i (headerStatus s) ∷ erased 239) 0 k (omega (arith, length-append v (inverted v), number-length (headerNumber s), inverted-length v))
+
+-- ---- the steps within a header page
+
+unfoldable pub openingHeader : ℕ → ℕ → ℕ → List Step
+openingHeader N B n = let h = headerPage N B opened n noOldSegment in
+    program 5 openingBegun ∷ (programPart h 0 5 ++ (programPart h 6 2 ++ (programPart h 8 8 ++ (program 5 opened ∷ []))))
+
+-- a compaction's header, before the slots are copied and after; old is the index of the old segment
+unfoldable pub compactionHeader : ℕ → ℕ → ℕ → ℕ → List Step
+compactionHeader N B n old = let h = headerPage N B erasePending n old in
+    program 5 compactionBegun ∷ (programPart h 0 5 ++ (programPart h 6 2 ++ programPart h 16 1))
+
+unfoldable pub pendingHeader : ℕ → ℕ → ℕ → ℕ → List Step
+pendingHeader N B n old = programPart (headerPage N B erasePending n old) 8 8 ++ (program 5 erasePending ∷ [])
+
+unfoldable pub settledHeader : List Step
+settledHeader = program 5 compacted ∷ []
+
+pub open-segment-page : (N B n : ℕ) → openSegment N B n ≡ onPage (headerAt N B n) (openingHeader N B n)
+unfolding openSegment openingHeader
+open-segment-page N B n = refl
+
+pub copy-out-pages : (N B o n : ℕ) (es : List Entry)
+    → copyOut N B o n es ≡ onPage (headerAt N B n) (compactionHeader N B n (o % N)) ++ (copyEntries N B n 0 es ++ onPage (headerAt N B n) (pendingHeader N B n (o % N)))
+unfolding copyOut compactionHeader pendingHeader
+copy-out-pages N B o n es = refl
+
+pub settle-page : (N B n : ℕ) → settle N B n ≡ onPage (headerAt N B n) settledHeader
+unfolding settle settledHeader
+settle-page N B n = refl
+
+pub opening-in-page : (N B n : ℕ) → InPage (openingHeader N B n)
+unfolding openingHeader
+opening-in-page N B n = let h = headerPage N B opened n noOldSegment in
+    (omega arith, in-append (programPart h 0 5) _ (in-part h 0 5 (omega arith)) (in-append (programPart h 6 2) _ (in-part h 6 2 (omega arith))
+    (in-append (programPart h 8 8) _ (in-part h 8 8 (omega arith)) (omega arith, tt))))
+
+pub compaction-in-page : (N B n old : ℕ) → InPage (compactionHeader N B n old)
+unfolding compactionHeader
+compaction-in-page N B n old = let h = headerPage N B erasePending n old in
+    (omega arith, in-append (programPart h 0 5) _ (in-part h 0 5 (omega arith)) (in-append (programPart h 6 2) _ (in-part h 6 2 (omega arith)) (in-part h 16 1 (omega arith))))
+
+pub pending-in-page : (N B n old : ℕ) → InPage (pendingHeader N B n old)
+unfolding pendingHeader
+pending-in-page N B n old = let h = headerPage N B erasePending n old in in-append (programPart h 8 8) _ (in-part h 8 8 (omega arith)) (omega arith, tt)
+
+pub settled-in-page : InPage settledHeader
+unfolding settledHeader
+settled-in-page = (omega arith, tt)
+
+-- ---- what they leave
+
+-- the page of a target while slots are copied
+unfoldable pub begunPage : ℕ → ℕ → ℕ → Page
+begunPage N B old = 0x53 ∷ 0x4C ∷ 0x54 ∷ 1 ∷ 0 ∷ compactionBegun ∷ B ∷ N ∷ 255 ∷ 255 ∷ 255 ∷ 255 ∷ 255 ∷ 255 ∷ 255 ∷ 255 ∷ old ∷ erased 239
+
+front : erased 256 ≡ 255 ∷ 255 ∷ 255 ∷ 255 ∷ 255 ∷ 255 ∷ 255 ∷ 255 ∷ 255 ∷ 255 ∷ 255 ∷ 255 ∷ 255 ∷ 255 ∷ 255 ∷ 255 ∷ 255 ∷ erased 239
+unfolding erased
+front = refl
+
+pub clear-begun : clear openingBegun opened ≡ opened
+unfolding clear
+clear-begun = refl
+
+pub clear-compaction : clear compactionBegun erasePending ≡ erasePending
+unfolding clear
+clear-compaction = refl
+
+pub clear-pending : clear erasePending compacted ≡ compacted
+unfolding clear
+clear-pending = refl
+
+digit-byte : (x : ℕ) → x % 256 % 256 ≡ x % 256
+digit-byte x = omega arith
+
+inverted-byte : (x : ℕ) → (255 - x) % 256 ≡ 255 - x
+inverted-byte x = omega arith
+
+module _ (N B n : ℕ) (hN : N < 256) (hB : B < 256) where
+  pub opening-run : run B (openingHeader N B n) (erased 256) ≡ headerPage N B opened n noOldSegment
+  unfolding openingHeader run step programPart programs headerPage numberBytes inverted
+  opening-run =
+      let eN : N % 256 ≡ N = mod-eq-of-lt hN in
+      let eB : B % 256 ≡ B = mod-eq-of-lt hB in
+      ap (λ y. run B (openingHeader N B n) y) front ∙ simp (clear-byte, digit-byte, inverted-byte, eN, eB, clear-begun)
+
+  module _ (old : ℕ) (ho : old < 256) where
+    pub compaction-run : run B (compactionHeader N B n old) (erased 256) ≡ begunPage N B old
+    unfolding compactionHeader begunPage run step programPart programs headerPage numberBytes inverted
+    compaction-run =
+        let eN : N % 256 ≡ N = mod-eq-of-lt hN in
+        let eB : B % 256 ≡ B = mod-eq-of-lt hB in
+        let eo : old % 256 ≡ old = mod-eq-of-lt ho in
+        ap (λ y. run B (compactionHeader N B n old) y) front ∙ simp (clear-byte, eN, eB, eo)
+
+    pub pending-run : run B (pendingHeader N B n old) (begunPage N B old) ≡ headerPage N B erasePending n old
+    unfolding pendingHeader begunPage run step programPart programs headerPage numberBytes inverted
+    pending-run = simp (clear-byte, digit-byte, inverted-byte, clear-compaction)
+
+    pub compaction-pending-run : run B (pendingHeader N B n old) (run B (compactionHeader N B n old) (erased 256)) ≡ headerPage N B erasePending n old
+    compaction-pending-run = ap (λ y. run B (pendingHeader N B n old) y) compaction-run ∙ pending-run
+
+pub settled-run : (N B n old : ℕ) → run B settledHeader (headerPage N B erasePending n old) ≡ headerPage N B compacted n old
+unfolding settledHeader run step headerPage
+settled-run N B n old = rw clear-pending
