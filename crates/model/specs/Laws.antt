@@ -13,3 +13,4 @@ pub mod Bytes
 pub mod Programs
 pub mod HeaderPage
 pub mod SlotPage
+pub mod Effects

@@ -2,13 +2,14 @@
 use Prim.Native.Nat.{ℕ, zero, suc, _+_, _-_, _*_, _≤_, _<_}
 use mathlib.Core.Path.{_≡_, refl, sym, ap, ap₂, _∙_}
 use mathlib.Core.Logic.{_⊎_, inl, inr, ⊎-elim}
-use mathlib.Core.Bool.{Bool, true, false, cond}
+use mathlib.Core.Bool.{Bool, true, false, cond, _&&_}
 use mathlib.Core.List.{List, [], _∷_, _++_}
 use native.Mathlib.Omega.{arith}
 use lib.ListN.{length, getD, take, drop, set, length-set, length-append, length-take, length-drop, length-replicate}
-use lib.Dec.{leb}
-use borrow.Author.Tests.{leb-true}
-use Rattle.model.specs.Chip.{Image, Step, program, erase, clear, erased, withSegment, segmentBytes, step, run, runFirst, Between, Raised, Inside, Cut, rightSize}
+use lib.Dec.{leb, eqb}
+use borrow.Author.Tests.{leb-true, eqb-true}
+use Rattle.model.specs.Chip.{Image, Step, program, erase, clear, erased, withSegment, segmentBytes, step, run, runFirst, Between, Raised, Inside, Cut, leastSegments, mostSegments, leastSlots, mostSlots, imageLength, inRange, rightSize}
+use Rattle.model.specs.Laws.Lists.{and-left, and-right}
 
 -- ---- lists of steps
 
@@ -98,3 +99,24 @@ cut-append B [] ys s t c = inr c
 cut-append B (x ∷ xs) ys s t (inl e) = inl (inl e)
 cut-append B (x ∷ xs) ys s t (inr (inl i)) = inl (inr (inl i))
 cut-append B (x ∷ xs) ys s t (inr (inr c)) = ⊎-elim (λ d. inl (inr (inr d))) (λ d. inr d) (cut-append B xs ys (step B x s) t c)
+
+-- ---- a right size, taken apart
+
+pub record SizeFacts (N B : ℕ) (s : Image) : Type 0 where
+  pub segments : leastSegments ≤ N
+  pub most : N ≤ mostSegments
+  pub slots : leastSlots ≤ B
+  pub mostB : B ≤ mostSlots
+  pub whole : length s ≡ imageLength N B
+
+pub size-facts : (N B : ℕ) (s : Image) → rightSize N B s ≡ true → SizeFacts N B s
+unfolding rightSize inRange
+size-facts N B s z =
+    let a = and-left (inRange N B) (eqb (length s) (imageLength N B)) z in
+    let b = and-right (leb leastSegments N) (leb N mostSegments && (leb leastSlots B && leb B mostSlots)) a in
+    let c = and-right (leb N mostSegments) (leb leastSlots B && leb B mostSlots) b in record
+    { segments = leb-true leastSegments N (and-left (leb leastSegments N) (leb N mostSegments && (leb leastSlots B && leb B mostSlots)) a)
+    ; most = leb-true N mostSegments (and-left (leb N mostSegments) (leb leastSlots B && leb B mostSlots) b)
+    ; slots = leb-true leastSlots B (and-left (leb leastSlots B) (leb B mostSlots) c)
+    ; mostB = leb-true B mostSlots (and-right (leb leastSlots B) (leb B mostSlots) c)
+    ; whole = eqb-true (length s) (imageLength N B) (and-right (inRange N B) (eqb (length s) (imageLength N B)) z) }
