@@ -14,3 +14,4 @@ pub mod Programs
 pub mod HeaderPage
 pub mod SlotPage
 pub mod Effects
+pub mod CopyOut

@@ -80,13 +80,13 @@ slot-part N B i j ps x h = rw (header ps, h, slots ps)
     slots (q ∷ qs) = map-set slotOf qs j x
 
 -- the header page replaced
-head-part : (N B i : ℕ) (ps : List Page) (h : Page) → 0 < length ps → headerInUse N B i h ≡ true
+pub head-part : (N B i : ℕ) (ps : List Page) (h : Page) → 0 < length ps → headerInUse N B i h ≡ true
     → segmentOf N B i (set ps 0 h) ≡ inUse (headerStatus h) (headerNumber h) (map slotOf (drop 1 ps))
 head-part N B i [] h l e = absurd (omega arith)
 head-part N B i (p ∷ ps) h l e = segment-in-use N B i (h ∷ ps) e
 
 module _ (N B : ℕ) (two : 2 ≤ N) (s : Image) (z : length s ≡ imageLength N B) where
-  index : (n : ℕ) → n % N < N
+  pub index : (n : ℕ) → n % N < N
   index n = let p : 0 < N = omega arith in mod-lt n p
 
   -- the pages of a blank segment are erased
@@ -97,7 +97,7 @@ module _ (N B : ℕ) (two : 2 ≤ N) (s : Image) (z : length s ≡ imageLength N
       let len = page-size N B i q s z h k in
       blank-erased (getD (partOf N B i s) q []) (all-get isBlank (partOf N B i s) q [] b (omega (arith, part-size N B i s h))) ∙ ap erased len
 
-  blank-slots : (i : ℕ) → i < N → getD (segmentsOf N B s) i blank ≡ blank → map slotOf (drop 1 (partOf N B i s)) ≡ replicate B empty
+  pub blank-slots : (i : ℕ) → i < N → getD (segmentsOf N B s) i blank ≡ blank → map slotOf (drop 1 (partOf N B i s)) ≡ replicate B empty
   blank-slots i h e = each (drop 1 (partOf N B i s)) B (length-drop 1 (partOf N B i s) ∙ omega (arith, part-size N B i s h))
       (λ q k. getD-drop 1 (partOf N B i s) q [] ∙ blank-page i (1 + q) h (omega arith) e)
     where
@@ -187,27 +187,27 @@ module _ (N B : ℕ) (two : 2 ≤ N) (s : Image) (z : length s ≡ imageLength N
 -- ---- header steps
 
 -- a header status in use
-open-status : statusInUse opened ≡ true
+pub open-status : statusInUse opened ≡ true
 unfolding statusInUse
 open-status = refl
 
-pending-status : statusInUse erasePending ≡ true
+pub pending-status : statusInUse erasePending ≡ true
 unfolding statusInUse
 pending-status = refl
 
-compacted-status : statusInUse compacted ≡ true
+pub compacted-status : statusInUse compacted ≡ true
 unfolding statusInUse
 compacted-status = refl
 
-open-old : (N i : ℕ) → oldIndex N i opened ≡ noOldSegment
+pub open-old : (N i : ℕ) → oldIndex N i opened ≡ noOldSegment
 unfolding oldIndex
 open-old N i = refl
 
-pending-old : (N i : ℕ) → oldIndex N i erasePending ≡ (i + 1) % N
+pub pending-old : (N i : ℕ) → oldIndex N i erasePending ≡ (i + 1) % N
 unfolding oldIndex
 pending-old N i = refl
 
-compacted-old : (N i : ℕ) → oldIndex N i compacted ≡ (i + 1) % N
+pub compacted-old : (N i : ℕ) → oldIndex N i compacted ≡ (i + 1) % N
 unfolding oldIndex
 compacted-old N i = refl
 
@@ -220,10 +220,10 @@ headed N B st n ps m e l p =
     ∙ ap₂ (λ a b. inUse a b (map slotOf (drop 1 ps))) (header-status N B st n old) (header-number N B st n old (number-fits N n m l))
 
 module _ (N B : ℕ) (two : 2 ≤ N) (most : N ≤ mostSegments) (mostB : B < 256) (s : Image) (z : length s ≡ imageLength N B) (n : ℕ) (below : n < numberLimit N) where
-  place : n % N < N
+  pub place : n % N < N
   place = index N B two s z n
 
-  few : N < 256
+  pub few : N < 256
   unfolding mostSegments
   few = let h : N ≤ 64 = most in omega arith
 
@@ -234,10 +234,10 @@ module _ (N B : ℕ) (two : 2 ≤ N) (most : N ≤ mostSegments) (mostB : B < 25
   unfolding headerAt
   at-header xs = let e : n % N * (B + 1) + 0 ≡ n % N * (B + 1) = omega arith in rw e
 
-  header-only : (xs : List Step) → InPage xs → (u : Image) → Cut B (onPage (headerAt N B n) xs) s u → Only N B (n % N) s u
+  pub header-only : (xs : List Step) → InPage xs → (u : Image) → Cut B (onPage (headerAt N B n) xs) s u → Only N B (n % N) s u
   header-only xs p u c = only-cut N B (n % N) (onPage header-at xs) s u place (page-in-segment B (n % N) 0 xs (omega arith) p) (rw (at-header xs) at c)
 
-  header-run : (xs : List Step) → InPage xs → Only N B (n % N) s (run B (onPage (headerAt N B n) xs) s)
+  pub header-run : (xs : List Step) → InPage xs → Only N B (n % N) s (run B (onPage (headerAt N B n) xs) s)
       × (partOf N B (n % N) (run B (onPage (headerAt N B n) xs) s) ≡ set (partOf N B (n % N) s) 0 (run B xs (getD (partOf N B (n % N) s) 0 [])))
   header-run xs p = rw (at-header xs)
       (only-run N B (n % N) (onPage header-at xs) s place (page-in-segment B (n % N) 0 xs (omega arith) p), part-run N B (n % N) 0 place (omega arith) xs p s z)
