@@ -7,3 +7,4 @@ pub mod Bytes
 pub mod Programs
 pub mod HeaderPage
 pub mod SlotPage
+pub mod PageCuts

@@ -211,6 +211,10 @@ digit-byte x = omega arith
 inverted-byte : (x : ℕ) → (255 - x) % 256 ≡ 255 - x
 inverted-byte x = omega arith
 
+pub pending-run : (N B n old : ℕ) → run B (pendingHeader N B n old) (begunPage N B old) ≡ headerPage N B erasePending n old
+unfolding pendingHeader begunPage run step programPart programs headerPage numberBytes inverted
+pending-run N B n old = simp (clear-byte, digit-byte, inverted-byte, clear-compaction)
+
 module _ (N B n : ℕ) (hN : N < 256) (hB : B < 256) where
   pub opening-run : run B (openingHeader N B n) (erased 256) ≡ headerPage N B opened n noOldSegment
   unfolding openingHeader run step programPart programs headerPage numberBytes inverted
@@ -228,12 +232,8 @@ module _ (N B n : ℕ) (hN : N < 256) (hB : B < 256) where
         let eo : old % 256 ≡ old = mod-eq-of-lt ho in
         ap (λ y. run B (compactionHeader N B n old) y) front ∙ simp (clear-byte, eN, eB, eo)
 
-    pub pending-run : run B (pendingHeader N B n old) (begunPage N B old) ≡ headerPage N B erasePending n old
-    unfolding pendingHeader begunPage run step programPart programs headerPage numberBytes inverted
-    pending-run = simp (clear-byte, digit-byte, inverted-byte, clear-compaction)
-
     pub compaction-pending-run : run B (pendingHeader N B n old) (run B (compactionHeader N B n old) (erased 256)) ≡ headerPage N B erasePending n old
-    compaction-pending-run = ap (λ y. run B (pendingHeader N B n old) y) compaction-run ∙ pending-run
+    compaction-pending-run = ap (λ y. run B (pendingHeader N B n old) y) compaction-run ∙ pending-run N B n old
 
 pub settled-run : (N B n old : ℕ) → run B settledHeader (headerPage N B erasePending n old) ≡ headerPage N B compacted n old
 unfolding settledHeader run step headerPage
