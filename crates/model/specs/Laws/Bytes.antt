@@ -85,7 +85,7 @@ raised-le s t r j = within-le (getD s j 0) (getD t j 0) (raised-get s t r j)
 abbrev pub OneBit : ℕ → ℕ → Type 0
 OneBit lo hi = (x : ℕ) → Between lo x hi → (x ≡ lo) ⊎ (x ≡ hi)
 
-unfoldable allBelow : (ℕ → Bool) → ℕ → Bool
+allBelow : (ℕ → Bool) → ℕ → Bool
 allBelow f zero = true
 allBelow f (suc n) = f n && allBelow f n
 
