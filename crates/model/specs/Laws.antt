@@ -1,17 +1,26 @@
 -- What follows from the definitions, proved once for all later work.
-pub mod Chip
-pub mod Chunk
+
+-- lists, bytes, steps and pages
 pub mod Lists
+pub mod Chunk
+pub mod Chip
+pub mod Bytes
 pub mod Pages
+pub mod Programs
+
+-- one page
+pub mod HeaderPage
+pub mod SlotPage
+pub mod PageCuts
+
+-- the segments, the view, and the state
 pub mod Segments
+pub mod Effects
+pub mod CopyOut
 pub mod Ring
 pub mod Clean
 pub mod View
 pub mod Exclusive
+
+-- the bench table
 pub mod Bench
-pub mod Bytes
-pub mod Programs
-pub mod HeaderPage
-pub mod SlotPage
-pub mod Effects
-pub mod CopyOut

@@ -1,33 +1,21 @@
 -- Laws of bytes: what clearing leaves; bytes one bit apart; a number in four bytes; equal lists; erased bytes.
-use Prim.Native.Nat.{ℕ, zero, suc, _+_, _/_, _%_, _^_, min, _≤_, _<_}
-use mathlib.Core.Path.{_≡_, refl, sym, ap, ap₂, _∙_}
+use Prim.Native.Nat.{ℕ, zero, suc, _+_, _*_, _/_, _%_, _^_, min, _≤_, _<_}
+use mathlib.Core.Path.{_≡_, refl, sym, ap, ap₂, _∙_, subst}
 use mathlib.Core.Logic.{_⊎_, inl, inr}
-use mathlib.Core.Bool.{Bool, true, false, _||_, _&&_, not}
+use mathlib.Core.Bool.{Bool, true, false, cond, _||_, _&&_, not}
 use mathlib.Core.List.{List, [], _∷_, _++_}
 use native.Mathlib.Omega.{arith}
 use native.Mathlib.Nat.{min-le-right, mod-eq-of-lt}
 use native.Mathlib.Decide.{decLt}
-use lib.ListN.{length, getD, take, drop, length-replicate, getD-replicate, replicate-append-replicate}
+use lib.ListN.{length, getD, take, drop, set, length-replicate, getD-replicate, replicate-append-replicate}
 use lib.Bits.{and-comm, and-mask, and-le-l, and-le-r, and-self, and-zero-l, and-shr, and-step}
-use lib.Dec.{eqb}
+use lib.Dec.{eqb, leb}
 use borrow.Author.Tests.{eq-eqb, eqb-true}
-use Rattle.model.specs.Lists.{same}
-use Rattle.model.specs.Chip.{Bytes, clear, erased, Between, Raised}
+use Rattle.model.specs.Lists.{same, chunk}
+use Rattle.model.specs.Chip.{Image, Bytes, Step, program, erase, clear, erased, withSegment, segmentBytes, step, run, Between, Raised, Inside, Cut}
 use Rattle.model.specs.Header.{numberBytes, inverted, value, isBlank, compactionBegun, erasePending, compacted}
 use Rattle.model.specs.Slot.{writeBegun, written}
-
--- ---- tests joined
-
-pub and-left : (a b : Bool) → a && b ≡ true → a ≡ true
-and-left true b h = refl
-and-left false b h = h
-
-pub and-right : (a b : Bool) → a && b ≡ true → b ≡ true
-and-right true b h = h
-and-right false b h = absurd (let y : _≡_ {A = ℕ} 0 1 = cc in omega arith)
-
-pub both : (a b : Bool) → a ≡ true → b ≡ true → a && b ≡ true
-both a b h k = rw (h, k)
+use Rattle.model.specs.Laws.Lists.{and-left, and-right, and-both}
 
 -- ---- clearing
 
@@ -85,7 +73,7 @@ raised-le s t r j = within-le (getD s j 0) (getD t j 0) (raised-get s t r j)
 abbrev pub OneBit : ℕ → ℕ → Type 0
 OneBit lo hi = (x : ℕ) → Between lo x hi → (x ≡ lo) ⊎ (x ≡ hi)
 
-unfoldable allBelow : (ℕ → Bool) → ℕ → Bool
+allBelow : (ℕ → Bool) → ℕ → Bool
 allBelow f zero = true
 allBelow f (suc n) = f n && allBelow f n
 
@@ -181,6 +169,16 @@ bytes-drop zero s p = p
 bytes-drop (suc k) [] p = tt
 bytes-drop (suc k) (x ∷ s) p = bytes-drop k s (p .1)
 
+pub bytes-get : (s : List ℕ) (i : ℕ) → Bytes s → getD s i 0 < 256
+bytes-get [] i p = omega arith
+bytes-get (x ∷ s) zero p = p .0
+bytes-get (x ∷ s) (suc i) p = bytes-get s i (p .1)
+
+pub bytes-set : (s : List ℕ) (i x : ℕ) → Bytes s → x < 256 → Bytes (set s i x)
+bytes-set [] i x p h = tt
+bytes-set (y ∷ s) zero x p h = (h, p .1)
+bytes-set (y ∷ s) (suc i) x p h = (p .0, bytes-set s i x (p .1) h)
+
 pub same-eq : (a b : List ℕ) → same a b ≡ true → a ≡ b
 unfolding same
 same-eq [] [] h = refl
@@ -191,7 +189,7 @@ same-eq (x ∷ a) (y ∷ b) h = ap₂ {C = List ℕ} (λ p q. p ∷ q) (eqb-true
 pub same-refl : (s : List ℕ) → same s s ≡ true
 unfolding same
 same-refl [] = refl
-same-refl (x ∷ s) = both (eqb x x) (same s s) (eq-eqb x x refl) (same-refl s)
+same-refl (x ∷ s) = and-both (eqb x x) (same s s) (eq-eqb x x refl) (same-refl s)
 
 pub eq-same : (a b : List ℕ) → a ≡ b → same a b ≡ true
 eq-same a b e = ap (λ y. same a y) (sym e) ∙ same-refl a
@@ -231,3 +229,48 @@ blank-erased (x ∷ p) h = ap₂ {C = List ℕ} (λ a b. a ∷ b) (eqb-true x 25
 
 pub erased-is-blank : (p : List ℕ) → p ≡ erased (length p) → isBlank p ≡ true
 erased-is-blank p e = ap isBlank e ∙ erased-blank (length p)
+
+-- ---- an image of bytes stays one, through steps and cuts
+
+segment-bytes : (B i : ℕ) (u s : List ℕ) → Bytes u → Bytes s → Bytes (withSegment B i u s)
+unfolding withSegment
+segment-bytes B i u s p q =
+    let a = i * (B + 1) * 256 in
+    let b = (i * (B + 1) + (B + 1)) * 256 in
+    bytes-append (take a s) (u ++ drop b s) (bytes-take a s q) (bytes-append u (drop b s) p (bytes-drop b s q))
+
+pub step-bytes : (B : ℕ) (x : Step) (s : Image) → Bytes s → Bytes (step B x s)
+unfolding step
+step-bytes B (program at v) s p = bytes-set s at (clear (getD s at 0) v) p (omega (arith, clear-le (getD s at 0) v, bytes-get s at p))
+step-bytes B (erase i) s p = go (leb ((i * (B + 1) + (B + 1)) * 256) (length s))
+  where
+    go : (t : Bool) → Bytes (cond t (withSegment B i (erased ((B + 1) * 256)) s) s)
+    go true = segment-bytes B i (erased ((B + 1) * 256)) s (erased-bytes ((B + 1) * 256)) p
+    go false = p
+
+pub run-bytes : (B : ℕ) (xs : List Step) (s : Image) → Bytes s → Bytes (run B xs s)
+unfolding run
+run-bytes B [] s p = p
+run-bytes B (x ∷ xs) s p = run-bytes B xs (step B x s) (step-bytes B x s p)
+
+raised-bytes : (s t : List ℕ) → Raised s t → Bytes t
+raised-bytes [] t r = rw r tt
+raised-bytes (a ∷ s) [] r = absurd r
+raised-bytes (a ∷ s) (x ∷ t) r = (omega (arith, within-le x 255 (r .0 .1)), raised-bytes s t (r .1))
+
+inside-bytes : (B : ℕ) (x : Step) (s t : Image) → Inside B x s t → Bytes s → Bytes t
+inside-bytes B (program at v) s t (x, b, e) p = subst Bytes (sym e) (bytes-set s at x p (omega (arith, within-le x (getD s at 0) (b .1), bytes-get s at p)))
+inside-bytes B (erase i) s t (u, r, e) p = subst Bytes (sym e) (segment-bytes B i u s (raised-bytes (segmentBytes B i s) u r) p)
+
+pub cut-bytes : (B : ℕ) (xs : List Step) (s t : Image) → Cut B xs s t → Bytes s → Bytes t
+cut-bytes B [] s t e p = subst Bytes (sym e) p
+cut-bytes B (x ∷ xs) s t (inl e) p = subst Bytes (sym e) p
+cut-bytes B (x ∷ xs) s t (inr (inl i)) p = inside-bytes B x s t i p
+cut-bytes B (x ∷ xs) s t (inr (inr c)) p = cut-bytes B xs (step B x s) t c (step-bytes B x s p)
+
+-- and its pages are of bytes
+pub chunk-bytes : (c z i : ℕ) (s : List ℕ) → Bytes s → Bytes (getD (chunk c z s) i [])
+unfolding chunk
+chunk-bytes zero z i s p = tt
+chunk-bytes (suc c) z zero s p = bytes-take z s p
+chunk-bytes (suc c) z (suc i) s p = chunk-bytes c z i (drop z s) (bytes-drop z s p)

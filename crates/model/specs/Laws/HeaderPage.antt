@@ -1,10 +1,10 @@
 -- Laws of a header page: its fields are what it encodes, and the other way round; what keeps it from being in use; what its steps leave of an erased page.
-use Prim.Native.Nat.{ℕ, _+_, _-_, _/_, _%_, _≤_, _<_}
+use Prim.Native.Nat.{ℕ, suc, _+_, _-_, _/_, _%_, _≤_, _<_}
 use mathlib.Core.Path.{_≡_, refl, sym, ap, _∙_}
 use mathlib.Core.Bool.{true, false, _&&_}
 use mathlib.Core.List.{List, [], _∷_, _++_, append-assoc}
 use native.Mathlib.Omega.{arith}
-use native.Mathlib.Nat.{mod-eq-of-lt}
+use native.Mathlib.Nat.{mod-eq-of-lt, mod-add-mod, add-mod-right}
 use lib.ListN.{length, getD, drop, length-append, List·getD-append}
 use lib.Seq.{getD-drop}
 use lib.Dec.{ltb, eqb}
@@ -16,7 +16,8 @@ use Rattle.model.specs.Header.{statusInUse, headerPage, headerStatus, he
 use Rattle.model.specs.Slot.{Entry}
 use Rattle.model.specs.Steps.{programs, programPart, onPage, headerAt, openSegment, copyEntries, copyOut, settle}
 use Rattle.model.specs.Laws.Pages.{InPage, in-append, in-part}
-use Rattle.model.specs.Laws.Bytes.{and-left, and-right, clear-byte, number-value, number-length, number-bytes, inverted-length, inverted-bytes, bytes-append, same-eq, same-refl, erased-get, erased-bytes}
+use Rattle.model.specs.Laws.Lists.{and-left, and-right}
+use Rattle.model.specs.Laws.Bytes.{clear-byte, number-value, number-length, number-bytes, inverted-length, inverted-bytes, bytes-append, same-eq, same-refl, erased-get, erased-bytes}
 
 -- ---- the fields of an encoded page
 
@@ -51,6 +52,22 @@ unfolding headerInUse
 header-in-use N B st n hN hs hn =
     let h = headerPage N B st n (oldIndex N (n % N) st) in
     rw (header-status N B st n (oldIndex N (n % N) st), header-number N B st n (oldIndex N (n % N) st) (number-fits N n hN hn), hs, lt-ltb n (numberLimit N) hn, eq-eqb (n % N) (n % N) refl) (same-refl h)
+
+pub opened-in-use : (N B n : ℕ) → N ≤ mostSegments → n < numberLimit N → headerInUse N B (n % N) (headerPage N B opened n noOldSegment) ≡ true
+unfolding statusInUse oldIndex
+opened-in-use N B n hN hn = header-in-use N B opened n hN refl hn
+
+-- the old segment of number o, when all but one are in use: its index comes after the target's
+old-index : (N o n : ℕ) → suc n ≡ o + N → (n % N + 1) % N ≡ o % N
+old-index N o n e = let q : n + 1 ≡ o + N = omega arith in mod-add-mod n N 1 ∙ (ap (λ (y : ℕ). y % N) q ∙ add-mod-right o N)
+
+pub pending-in-use : (N B o n : ℕ) → N ≤ mostSegments → n < numberLimit N → suc n ≡ o + N → headerInUse N B (n % N) (headerPage N B erasePending n (o % N)) ≡ true
+unfolding statusInUse oldIndex
+pending-in-use N B o n hN hn e = rw (old-index N o n e) at (header-in-use N B erasePending n hN refl hn)
+
+pub compacted-in-use : (N B o n : ℕ) → N ≤ mostSegments → n < numberLimit N → suc n ≡ o + N → headerInUse N B (n % N) (headerPage N B compacted n (o % N)) ≡ true
+unfolding statusInUse oldIndex
+compacted-in-use N B o n hN hn e = rw (old-index N o n e) at (header-in-use N B compacted n hN refl hn)
 
 pub record InUseFacts (N B i : ℕ) (h : Page) : Type 0 where
   pub status : statusInUse (headerStatus h) ≡ true
@@ -211,6 +228,10 @@ digit-byte x = omega arith
 inverted-byte : (x : ℕ) → (255 - x) % 256 ≡ 255 - x
 inverted-byte x = omega arith
 
+pub pending-run : (N B n old : ℕ) → run B (pendingHeader N B n old) (begunPage N B old) ≡ headerPage N B erasePending n old
+unfolding pendingHeader begunPage run step programPart programs headerPage numberBytes inverted
+pending-run N B n old = simp (clear-byte, digit-byte, inverted-byte, clear-compaction)
+
 module _ (N B n : ℕ) (hN : N < 256) (hB : B < 256) where
   pub opening-run : run B (openingHeader N B n) (erased 256) ≡ headerPage N B opened n noOldSegment
   unfolding openingHeader run step programPart programs headerPage numberBytes inverted
@@ -228,12 +249,8 @@ module _ (N B n : ℕ) (hN : N < 256) (hB : B < 256) where
         let eo : old % 256 ≡ old = mod-eq-of-lt ho in
         ap (λ y. run B (compactionHeader N B n old) y) front ∙ simp (clear-byte, eN, eB, eo)
 
-    pub pending-run : run B (pendingHeader N B n old) (begunPage N B old) ≡ headerPage N B erasePending n old
-    unfolding pendingHeader begunPage run step programPart programs headerPage numberBytes inverted
-    pending-run = simp (clear-byte, digit-byte, inverted-byte, clear-compaction)
-
     pub compaction-pending-run : run B (pendingHeader N B n old) (run B (compactionHeader N B n old) (erased 256)) ≡ headerPage N B erasePending n old
-    compaction-pending-run = ap (λ y. run B (pendingHeader N B n old) y) compaction-run ∙ pending-run
+    compaction-pending-run = ap (λ y. run B (pendingHeader N B n old) y) compaction-run ∙ pending-run N B n old
 
 pub settled-run : (N B n old : ℕ) → run B settledHeader (headerPage N B erasePending n old) ≡ headerPage N B compacted n old
 unfolding settledHeader run step headerPage

@@ -16,7 +16,8 @@ use Rattle.model.specs.Slot.{mostContents, numberOk, writeBegun, written
 use Rattle.model.specs.Steps.{programs, programPart, writeSlot, markDead}
 use Rattle.model.specs.Laws.Chip.{run-append}
 use Rattle.model.specs.Laws.Pages.{InPage, in-append, in-part}
-use Rattle.model.specs.Laws.Bytes.{and-left, and-right, clear-erased, bytes-append, bytes-take, bytes-drop, same-eq, same-refl, erased-suc, erased-length, erased-add, erased-bytes, blank-erased}
+use Rattle.model.specs.Laws.Lists.{and-left, and-right}
+use Rattle.model.specs.Laws.Bytes.{clear-erased, bytes-append, bytes-take, bytes-drop, same-eq, same-refl, erased-suc, erased-length, erased-add, erased-bytes, blank-erased}
 use Rattle.model.specs.Laws.Programs.{programs-between}
 
 -- a block number and contents that a slot can hold
