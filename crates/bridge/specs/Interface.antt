@@ -24,11 +24,13 @@ pub record ViewLaws (N B : ℕ) : Type 0 where
   pub delete-clean : (v : View) (b : ℕ) → CleanView N B v → holds b (entriesIn v) ≡ true → CleanView N B (afterDelete b v)
   pub delete-table : (v : View) (b : ℕ) → CleanView N B v → holds b (entriesIn v) ≡ true → Agree (entriesIn (afterDelete b v)) (without b (entriesIn v))
 
--- from bytes to views: an accepted request leaves a clean image with the predicted view
+-- from bytes to views: an accepted request leaves a clean image with the predicted view.
+-- A put wants an image of bytes: tidying copies stored contents, and what is no byte can't be programmed
 pub record Bridge (N B : ℕ) : Type 0 where
   pub clean-view : (s : Image) → rightSize N B s ≡ true → state N B s ≡ clean → CleanView N B (view N B s)
+  pub format-bytes : (s : Image) → rightSize N B s ≡ true → Bytes (run B (formatSteps N B) s)
   pub format-done : (s : Image) → rightSize N B s ≡ true → (state N B (run B (formatSteps N B) s) ≡ clean) × (view N B (run B (formatSteps N B) s) ≡ fresh B)
-  pub put-done : (s : Image) (b : ℕ) (c : List ℕ) → rightSize N B s ≡ true → state N B s ≡ clean → Bytes c → workOf N B s (put b c) .code ≡ 0
+  pub put-done : (s : Image) (b : ℕ) (c : List ℕ) → rightSize N B s ≡ true → Bytes s → state N B s ≡ clean → Bytes c → workOf N B s (put b c) .code ≡ 0
       → (state N B (run B (workOf N B s (put b c) .steps) s) ≡ clean) × (view N B (run B (workOf N B s (put b c) .steps) s) ≡ afterPut N B b c (view N B s))
   pub delete-done : (s : Image) (b : ℕ) → rightSize N B s ≡ true → state N B s ≡ clean → workOf N B s (delete b) .code ≡ 0
       → (state N B (run B (workOf N B s (delete b) .steps) s) ≡ clean) × (view N B (run B (workOf N B s (delete b) .steps) s) ≡ afterDelete b (view N B s))

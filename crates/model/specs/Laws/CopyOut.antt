@@ -150,7 +150,7 @@ module _ (N B : ℕ) (two : 2 ≤ N) (most : N ≤ mostSegments) (mostB : B < 25
   finished =
       let r = header-run N B two most mostB s2 z2 n below (pendingHeader N B n (o % N)) (pending-in-page N B n (o % N)) in
       (r .0, r .1 ∙ ap (λ (y : List Page). set y 0 (run B (pendingHeader N B n (o % N)) (getD y 0 []))) (copied-pages .1)
-        ∙ ap (λ (y : Page). set pages2 0 y) (ap (λ (y : Page). run B (pendingHeader N B n (o % N)) y) head2 ∙ (pending-run N B n (few N B two most mostB s z n below) mostB (o % N) old-byte
+        ∙ ap (λ (y : Page). set pages2 0 y) (ap (λ (y : Page). run B (pendingHeader N B n (o % N)) y) head2 ∙ (pending-run N B n (o % N)
           ∙ ap (λ (y : ℕ). headerPage N B erasePending n y) (ring ∙ sym (pending-old N i)))))
 
   the-run : run B (copyOut N B o n es) s ≡ s3
