@@ -1,2 +1,3 @@
 -- Demand 3.
 pub mod Demand3
+pub mod Counting
