@@ -2,7 +2,7 @@
 use Prim.Native.Nat.{ℕ, zero, suc, _+_, _-_, _*_, _≤_, _<_}
 use mathlib.Core.Path.{_≡_, refl, sym, ap, ap₂, _∙_}
 use mathlib.Core.Bool.{Bool, true, false, cond, _||_, _&&_, not}
-use mathlib.Core.List.{List, [], _∷_, _++_, append-assoc, flatMap, flatten, map}
+use mathlib.Core.List.{List, [], _∷_, _++_, append-nil, append-assoc, flatMap, flatten, map}
 use native.Mathlib.Omega.{arith}
 use lib.ListN.{length, getD, drop, set, replicate, length-append}
 use borrow.Author.Tests.{not-false}
@@ -90,7 +90,7 @@ unfolding lives flatten entries flatMap
 lives-entries [] = refl
 lives-entries (s ∷ r) = rw (entries-append s (flatten r), length-append) (omega (arith, lives-entries r))
 
-pub lives-append : (r t : List (List Slot)) → lives (r ++ t) ≡ lives r + lives t
+lives-append : (r t : List (List Slot)) → lives (r ++ t) ≡ lives r + lives t
 unfolding lives
 lives-append [] t = omega arith
 lives-append (s ∷ r) t = omega (arith, lives-append r t)
@@ -179,10 +179,6 @@ unfolding deadsIn isDead one holding
 holding-dead [] = refl
 holding-dead (e ∷ es) = omega (arith, holding-dead es)
 
-append-nil : {A : Type 0} (xs : List A) → xs ++ [] ≡ xs
-append-nil [] = refl
-append-nil {A} (x ∷ xs) = ap {B = List A} (λ y. x ∷ y) (append-nil xs)
-
 pub copied-entries : (B : ℕ) (es : List Entry) → entries (copied B es) ≡ es
 unfolding copied
 copied-entries B es = rw (entries-append (map holding es) (replicate (B - length es) empty), holding-entries es, empties-entries (B - length es)) (append-nil es)
@@ -190,6 +186,10 @@ copied-entries B es = rw (entries-append (map holding es) (replicate (B - length
 pub copied-dead : (B : ℕ) (es : List Entry) → deadsIn (copied B es) ≡ 0
 unfolding copied
 copied-dead B es = omega (arith, dead-append (map holding es) (replicate (B - length es) empty), holding-dead es, empties-dead (B - length es))
+
+pub lives-tidy : (B : ℕ) (s : List Slot) (r : List (List Slot)) → lives (r ++ (copied B (entries s) ∷ [])) ≡ lives (s ∷ r)
+unfolding lives
+lives-tidy B s r = lives-append r (copied B (entries s) ∷ []) ∙ rw (copied-entries B (entries s)) (omega arith)
 
 copied-whole : (B : ℕ) (es : List Entry) → noneEmpty (copied B es) ≡ true → B - length es ≡ 0
 unfolding copied

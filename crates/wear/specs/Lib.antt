@@ -1,3 +1,5 @@
 -- Demand 3.
 pub mod Demand3
 pub mod Counting
+pub mod Erases
+pub mod Room
