@@ -13,7 +13,6 @@ use Rattle.model.specs.Slot.{Slot, empty, isDead}
 use Rattle.model.specs.State.{View, entries}
 use Rattle.model.specs.Steps.{topNumber, hasRoom, copied, Room, openNext, compactOldest, compactUntilRoom, roomFor}
 use Rattle.model.specs.Sequences.{erasesIn}
-use Rattle.bridge.specs.Predicted.{slotChanged}
 use Rattle.wear.specs.Counting.{one, deads, drop-behind, set-slot, lives, lives-tidy, Full, Packed, packed-full, full-packed, full-count, empties-dead, copied-dead, copied-full}
 use Rattle.wear.specs.Erases.{erases-append, open-none, compact-one, turns}
 
