@@ -154,7 +154,7 @@ full-count B (s ∷ r) f = omega (arith, full-count B r (f .1), f .0)
 
 -- ---- the target of a tidying
 
-empties-entries : (m : ℕ) → entries (replicate m empty) ≡ []
+pub empties-entries : (m : ℕ) → entries (replicate m empty) ≡ []
 unfolding entries flatMap entryOf
 empties-entries zero = refl
 empties-entries (suc m) = empties-entries m

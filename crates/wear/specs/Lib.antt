@@ -4,3 +4,4 @@ pub mod Counting
 pub mod Erases
 pub mod Room
 pub mod Stored
+pub mod Requests

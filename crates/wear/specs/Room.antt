@@ -5,15 +5,15 @@ use mathlib.Core.Bool.{Bool, true, false, cond}
 use mathlib.Core.List.{List, [], _∷_, _++_, append-nil, append-assoc}
 use native.Mathlib.Omega.{arith}
 use native.Mathlib.Nat.{mul-le-mul-left}
-use lib.ListN.{length, getD, drop, set, replicate, length-append}
+use lib.ListN.{length, getD, drop, replicate, length-append}
 use lib.Seq.{drop-length}
 use lib.Dec.{ltb}
 use borrow.Author.Tests.{not-false, ltb-false}
-use Rattle.model.specs.Slot.{Slot, empty, isDead}
+use Rattle.model.specs.Slot.{Slot, empty}
 use Rattle.model.specs.State.{View, entries}
 use Rattle.model.specs.Steps.{topNumber, hasRoom, copied, Room, openNext, compactOldest, compactUntilRoom, roomFor}
 use Rattle.model.specs.Sequences.{erasesIn}
-use Rattle.wear.specs.Counting.{one, deads, drop-behind, set-slot, lives, lives-tidy, Full, Packed, packed-full, full-packed, full-count, empties-dead, copied-dead, copied-full}
+use Rattle.wear.specs.Counting.{deads, drop-behind, lives, lives-tidy, Full, Packed, packed-full, full-packed, full-count, empties-dead, copied-dead, copied-full}
 use Rattle.wear.specs.Erases.{erases-append, open-none, compact-one, turns}
 
 -- With n = N-1, X = nB - L and E erases, E is the smallest number in use, and k is E/n rounded up.
@@ -25,15 +25,11 @@ pub record Paid (n X E : ℕ) (rows : List (List Slot)) (R : ℕ) : Type 0 where
   pub part : p < n
   pub paid : k * X + deads (drop p rows) ≤ R
 
--- another L, other rows, another R
-pub paid-after : {n X E : ℕ} {rows : List (List Slot)} {R : ℕ} (Y : ℕ) (next : List (List Slot)) (m : ℕ) → Y ≤ X → ((p : ℕ) → deads (drop p next) ≤ m + deads (drop p rows)) → Paid n X E rows R → Paid n Y E next (R + m)
-paid-after {n} {X} {E} {rows} {R} Y next m h d v =
+-- a greater L, and rows with at most m dead slots more
+pub paid-after : {n X E : ℕ} {rows : List (List Slot)} {R : ℕ} (Y S m : ℕ) (next : List (List Slot)) → Y ≤ X → R + m ≤ S → ((p : ℕ) → deads (drop p next) ≤ m + deads (drop p rows))
+    → Paid n X E rows R → Paid n Y E next S
+paid-after Y S m next h r d v =
     record { k = v .k; p = v .p; boundary = v .boundary; part = v .part; paid = omega (arith, v .paid, mul-le-mul-left (v .k) h, d (v .p)) }
-
--- a slot changed
-pub paid-slot : {n X E : ℕ} {rows : List (List Slot)} {R : ℕ} (i j : ℕ) (k : Slot) → Paid n X E rows R
-    → Paid n X E (set rows i (set (getD rows i []) j k)) (R + one (isDead k))
-paid-slot {n} {X} {E} {rows} {R} i j k v = paid-after X _ (one (isDead k)) (omega arith) (λ p. set-slot p rows i j k) v
 
 module _ (n B L R : ℕ) where
   abbrev Good : ℕ → List (List Slot) → Type 0
