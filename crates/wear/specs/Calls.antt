@@ -1,19 +1,18 @@
 -- One call of a sequence: its answer and steps, from its refusals and its allowance.
-use Prim.Native.Nat.{ℕ, zero, suc, _≤_}
-use mathlib.Core.Path.{_≡_, refl, sym, ap, _∙_}
+use Prim.Native.Nat.{ℕ, suc, _≤_}
+use mathlib.Core.Path.{_≡_, refl, ap, _∙_}
 use mathlib.Core.Logic.{_≢_}
 use mathlib.Core.Bool.{Bool, true, false, cond, _||_, _&&_, not}
 use mathlib.Core.List.{List, [], _∷_}
 use native.Mathlib.Omega.{arith}
-use lib.ListN.{length, take}
+use lib.ListN.{length}
 use lib.Seq.{take-all}
 use lib.Dec.{ltb, leb, eqb}
 use borrow.Author.Tests.{leb-true, leb-false, lt-ltb, not-false, eqb-true, eqb-false}
 use Rattle.model.specs.Chip.{Image, Step, rightSize, inRange, leastSegments, leastSlots, mostSegments, mostSlots, imageLength, run}
-use Rattle.model.specs.Slot.{mostContents, numberOk}
-use Rattle.model.specs.State.{Segment, segmentsOf, View, viewOf, view, entriesIn, holds, capacity, State, stateOf, state, clean}
-use Rattle.model.specs.Steps.{formatSteps, recoverSteps, isWorn}
-use Rattle.model.specs.Answers.{Request, format, put, delete, read, readOr, recover, Refusal, firstOf, isDamaged, isUnfinished, isFull, absentRefusals, refusals, stepsFor, Work, workOn, workOf, codeUnder, Outcome, outcomeOf}
+use Rattle.model.specs.State.{segmentsOf, View, viewOf, view, entriesIn, holds, capacity, state, clean}
+use Rattle.model.specs.Steps.{recoverSteps}
+use Rattle.model.specs.Answers.{Request, format, put, delete, recover, Refusal, firstOf, isFull, absentRefusals, refusals, stepsFor, Work, workOn, workOf, codeUnder, outcomeOf}
 use Rattle.bridge.specs.Predicted.{Fits}
 use Rattle.wear.specs.Counting.{both-true}
 

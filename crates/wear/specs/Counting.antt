@@ -1,12 +1,11 @@
 -- Counts on rows of slots: the live and the dead ones, and how writing, marking, opening and tidying change them.
-use Prim.Native.Nat.{ℕ, zero, suc, _+_, _-_, _*_, _≤_, _<_}
-use mathlib.Core.Path.{_≡_, refl, sym, ap, ap₂, _∙_}
-use mathlib.Core.Bool.{Bool, true, false, cond, _||_, _&&_, not}
+use Prim.Native.Nat.{ℕ, zero, suc, _+_, _-_, _*_, _≤_}
+use mathlib.Core.Path.{_≡_, refl, ap, _∙_}
+use mathlib.Core.Bool.{Bool, true, false, _||_, _&&_, not}
 use mathlib.Core.List.{List, [], _∷_, _++_, append-nil, append-assoc, flatMap, flatten, map}
 use native.Mathlib.Omega.{arith}
 use lib.ListN.{length, getD, drop, set, replicate, length-append}
-use borrow.Author.Tests.{not-false}
-use Rattle.model.specs.Lists.{all, count}
+use Rattle.model.specs.Lists.{all}
 use Rattle.model.specs.Slot.{Slot, empty, torn, dead, wrong, live, isEmpty, isTorn, isDead, isWrong, Entry, entryOf, holding}
 use Rattle.model.specs.State.{entries, onlyTopEmpty}
 use Rattle.model.specs.Steps.{topRow, copied}

@@ -143,5 +143,6 @@ even N (suc e) h = go (even N e h)
 pub balanced : (N e i j : ℕ) → i < N → j < N → erasesAt N e i ≤ suc (erasesAt N e j)
 balanced N e i j hi hj =
     let v = even N e (omega arith) in
-    elim (decLt i (v .w)) [ yes a ↦ elim (decLt j (v .w)) [ yes b ↦ omega (arith, v .low i a, v .low j b) | no b ↦ omega (arith, v .low i a, v .high j (omega arith) hj) ]
-                          | no a ↦ elim (decLt j (v .w)) [ yes b ↦ omega (arith, v .high i (omega arith) hi, v .low j b) | no b ↦ omega (arith, v .high i (omega arith) hi, v .high j (omega arith) hj) ] ]
+    elim (decLt i (v .w))
+      [ yes a ↦ elim (decLt j (v .w)) [ yes b ↦ omega (arith, v .low i a, v .low j b) | no b ↦ omega (arith, v .low i a, v .high j (omega arith) hj) ]
+      | no a ↦ elim (decLt j (v .w)) [ yes b ↦ omega (arith, v .high i (omega arith) hi, v .low j b) | no b ↦ omega (arith, v .high i (omega arith) hi, v .high j (omega arith) hj) ] ]

@@ -1,21 +1,21 @@
 -- What is counted follows the view: through a put, a delete, and a request that writes nothing.
-use Prim.Native.Nat.{ℕ, zero, suc, _+_, _-_, _*_, _/_, max, _≤_, _<_}
-use mathlib.Core.Path.{_≡_, refl, sym, ap, _∙_}
+use Prim.Native.Nat.{ℕ, _+_, _-_, _*_, _/_, max, _≤_}
+use mathlib.Core.Path.{_≡_, refl, ap, _∙_}
 use mathlib.Core.Bool.{Bool, true, false, cond}
-use mathlib.Core.List.{List, [], _∷_, _++_, append-nil, flatten}
+use mathlib.Core.List.{List, [], _++_, append-nil, flatten}
 use native.Mathlib.Omega.{arith}
 use native.Mathlib.Nat.{mul-le-mul-right, div-le-of-le-mul}
-use lib.ListN.{length, getD, drop, replicate}
+use lib.ListN.{length, replicate}
 use lib.Dec.{eqb}
-use Rattle.model.specs.Slot.{Slot, empty, dead, live, isDead}
-use Rattle.model.specs.State.{View, entries, entriesIn, holds, noneWrongOrTorn, blocksDistinct, emptySlotsLast, Place, placeOf}
+use Rattle.model.specs.Slot.{empty, dead, live, isDead}
+use Rattle.model.specs.State.{View, entriesIn, holds, noneWrongOrTorn, blocksDistinct, emptySlotsLast, Place, placeOf}
 use Rattle.model.specs.Steps.{topRow, topNumber, firstEmpty, roomFor, putSteps, writeAtTop, markOld, deleteSteps}
 use Rattle.model.specs.Answers.{put, delete}
 use Rattle.model.specs.Sequences.{Observed, erasesIn, among, removed, inserted, storedAfter, replaces, Tally, start, tallied, eraseCount, erasesOf}
 use Rattle.bridge.specs.Predicted.{slotChanged, written, marked, afterPut, afterDelete, fresh, CleanView, Fits}
 use Rattle.bridge.specs.Interface.{ViewLaws}
 use Rattle.wear.specs.Demand3.{ErasesPaid, Balanced}
-use Rattle.wear.specs.Counting.{one, deads, deadsIn, set-slot, lives, lives-entries, Packed, clean-packed, empties-dead, empties-entries}
+use Rattle.wear.specs.Counting.{one, deads, set-slot, lives, lives-entries, Packed, clean-packed, empties-dead, empties-entries}
 use Rattle.wear.specs.Erases.{erases-append, written-none, delete-none, turns, turns-length, balanced}
 use Rattle.wear.specs.Room.{Paid, paid-after, Moved, room-moved}
 use Rattle.wear.specs.Stored.{agree-holds, Stored, stored-none, stored-length, stored-put, stored-delete}
@@ -39,7 +39,7 @@ tracks-paid N B v t h =
 
 pub tracks-balanced : (N B : ℕ) (v : View) (t : Tally) → Tracks N B v t → Balanced N t
 unfolding erasesOf
-tracks-balanced N B v t h = λ i j hi hj. rw (h .inTurn) (balanced N (v .first) i j hi hj)
+tracks-balanced N B v t h = λ i j hi hj. rw (h .inTurn) (omega (arith, balanced N (v .first) i j hi hj))
 
 -- ---- one request
 
@@ -120,7 +120,9 @@ module _ (N B : ℕ) where
 
     put-erases : (v : View) (b : ℕ) (c : List ℕ) → erasesIn (putSteps N B b c v) ≡ erasesIn (roomFor N B v .steps)
     unfolding putSteps
-    put-erases v b c = rw (erases-append (roomFor N B v .steps) (writeAtTop N B b c (roomFor N B v .result) ++ markOld N B b (roomFor N B v .result)), written-none N B b c (roomFor N B v .result)) (append-nil _)
+    put-erases v b c =
+        let r = roomFor N B v in
+        rw (erases-append (r .steps) (writeAtTop N B b c (r .result) ++ markOld N B b (r .result)), written-none N B b c (r .result)) (append-nil (erasesIn (r .steps)))
 
     pub put-few : (v : View) (t : Tally) (b : ℕ) (c : List ℕ) → CleanView N B v → Tracks N B v t → length (erasesIn (putSteps N B b c v)) ≤ N - 1
     put-few v t b c cv h = rw (put-erases v b c) (put-moved v t cv h .few)

@@ -1,5 +1,5 @@
 -- Demand 3 from the laws of views and of the image: by induction over the calls of a sequence.
-use Prim.Native.Nat.{ℕ, zero, suc, _+_, _-_, _≤_}
+use Prim.Native.Nat.{ℕ, zero, suc, _-_, _≤_}
 use mathlib.Core.Path.{_≡_, refl, sym, ap, _∙_}
 use mathlib.Core.Logic.{_≢_}
 use mathlib.Core.Bool.{Bool, true, false, cond}
@@ -10,13 +10,13 @@ use lib.Seq.{take-length}
 use lib.Dec.{eqb}
 use borrow.Author.Tests.{eqb-true}
 use Rattle.model.specs.Chip.{Image, Bytes, rightSize, run}
-use Rattle.model.specs.State.{segmentsOf, View, viewOf, view, clean, state}
+use Rattle.model.specs.State.{view, clean, state}
 use Rattle.model.specs.Steps.{formatSteps}
-use Rattle.model.specs.Answers.{Request, format, put, delete, read, readOr, recover, stepsFor, workOf, Outcome, outcomeOf}
-use Rattle.model.specs.Sequences.{Call, play, erasesIn, Observed, observe, observed, InSequence, Uncut, storedAfter, replaces, Tally, start, tallied, tally}
+use Rattle.model.specs.Answers.{Request, format, put, delete, read, readOr, recover, stepsFor, workOf, outcomeOf}
+use Rattle.model.specs.Sequences.{Call, play, erasesIn, observe, observed, InSequence, Uncut, storedAfter, replaces, Tally, start, tallied, tally}
 use Rattle.model.specs.Laws.Chip.{run-size}
 use Rattle.bridge.specs.Interface.{ViewLaws, Bridge}
-use Rattle.wear.specs.Demand3.{ErasesPaid, FewErases, Balanced, Bounded, Demand3}
+use Rattle.wear.specs.Demand3.{FewErases, Demand3}
 use Rattle.wear.specs.Erases.{delete-none}
 use Rattle.wear.specs.Requests.{Tracks, tracks-paid, tracks-balanced, tracks-start, tracks-still, put-few, tracks-put, tracks-delete}
 use Rattle.wear.specs.Calls.{Finished, finished, refused-none, accepted, quiet-none, recover-none, put-passed, delete-passed, format-passed, size-range}
@@ -123,7 +123,7 @@ module _ (N B : ℕ) (laws : ViewLaws N B) (bridge : Bridge N B) (range : 2 ≤ 
   sequence s t (x ∷ xs) g u =
       let c = call s t (x .request) (x .allowance) g (u .0) (u .1) in
       let m = sequence (outcomeOf N B s (x .allowance) (x .request) .image) (tallied (observe N B s x) t) xs (c .0) (u .2) in
-      ((c .1, m .0), some (m .1))
+      ((omega (arith, c .1), m .0), some (m .1))
     where
       after : Image
       after = outcomeOf N B s (x .allowance) (x .request) .image

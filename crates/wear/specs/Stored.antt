@@ -1,5 +1,5 @@
 -- The blocks stored, by the answers, are the blocks that the live slots hold; and so they are equally many.
-use Prim.Native.Nat.{ℕ, zero, suc, _≤_, _<_}
+use Prim.Native.Nat.{ℕ, suc, _≤_, _<_}
 use mathlib.Core.Path.{_≡_, refl, sym, ap, _∙_}
 use mathlib.Core.Bool.{Bool, true, false, cond, _||_, _&&_, not}
 use mathlib.Core.List.{List, [], _∷_}
@@ -7,7 +7,6 @@ use native.Mathlib.Omega.{arith}
 use lib.ListN.{length}
 use lib.Dec.{eqb}
 use borrow.Author.Tests.{eqb-true, eq-eqb, not-true}
-use Rattle.model.specs.Slot.{Entry}
 use Rattle.model.specs.State.{holds, distinct}
 use Rattle.model.specs.Table.{Table, Found, absent, present, lookup, without, store, Agree}
 use Rattle.model.specs.Sequences.{among, removed, inserted}
