@@ -106,27 +106,27 @@ module _ (N B : ℕ) where
       go true = paid-marked (R + 1) (placeOf b r) (written b c r) (omega arith) (paid-written R b c r (omega arith) h)
       go false = paid-written (R + 0) b c r (omega arith) h
 
-  module _ (laws : ViewLaws N B) (size : 2 ≤ N) where
-    packed : (v : View) → CleanView N B v → Packed B (v .slots)
-    unfolding noneWrongOrTorn emptySlotsLast
-    packed v c = clean-packed B (v .slots) (c .rows) (c .sound) (c .last)
+  packed : (v : View) → CleanView N B v → Packed B (v .slots)
+  unfolding noneWrongOrTorn emptySlotsLast
+  packed v c = clean-packed B (v .slots) (c .rows) (c .sound) (c .last)
 
-    few-live : (v : View) (t : Tally) → CleanView N B v → Tracks N B v t → lives (v .slots) ≤ t .largest
-    unfolding blocksDistinct entriesIn
-    few-live v t c h = omega (arith, lives-entries (v .slots), stored-length (t .stored) (entriesIn v) (h .stored) (c .once), h .most)
+  few-live : (v : View) (t : Tally) → CleanView N B v → Tracks N B v t → lives (v .slots) ≤ t .largest
+  unfolding blocksDistinct entriesIn
+  few-live v t c h = omega (arith, lives-entries (v .slots), stored-length (t .stored) (entriesIn v) (h .stored) (c .once), h .most)
 
-    pub put-moved : (v : View) (t : Tally) → CleanView N B v → Tracks N B v t → Moved N B (t .largest) (t .replaced) (N - 1) v (roomFor N B v)
-    put-moved v t c h = room-moved N B (t .largest) (t .replaced) v size (c .spare) (packed v c) (few-live v t c h) (h .paid)
+  put-moved : (v : View) (t : Tally) → CleanView N B v → Tracks N B v t → Moved N B (t .largest) (t .replaced) (N - 1) v (roomFor N B v)
+  put-moved v t c h = room-moved N B (t .largest) (t .replaced) v (c .spare) (packed v c) (few-live v t c h) (h .paid)
 
-    put-erases : (v : View) (b : ℕ) (c : List ℕ) → erasesIn (putSteps N B b c v) ≡ erasesIn (roomFor N B v .steps)
-    unfolding putSteps
-    put-erases v b c =
-        let r = roomFor N B v in
-        rw (erases-append (r .steps) (writeAtTop N B b c (r .result) ++ markOld N B b (r .result)), written-none N B b c (r .result)) (append-nil (erasesIn (r .steps)))
+  put-erases : (v : View) (b : ℕ) (c : List ℕ) → erasesIn (putSteps N B b c v) ≡ erasesIn (roomFor N B v .steps)
+  unfolding putSteps
+  put-erases v b c =
+      let r = roomFor N B v in
+      rw (erases-append (r .steps) (writeAtTop N B b c (r .result) ++ markOld N B b (r .result)), written-none N B b c (r .result)) (append-nil (erasesIn (r .steps)))
 
-    pub put-few : (v : View) (t : Tally) (b : ℕ) (c : List ℕ) → CleanView N B v → Tracks N B v t → length (erasesIn (putSteps N B b c v)) ≤ N - 1
-    put-few v t b c cv h = rw (put-erases v b c) (put-moved v t cv h .few)
+  pub put-few : (v : View) (t : Tally) (b : ℕ) (c : List ℕ) → CleanView N B v → Tracks N B v t → length (erasesIn (putSteps N B b c v)) ≤ N - 1
+  put-few v t b c cv h = rw (put-erases v b c) (put-moved v t cv h .few)
 
+  module _ (laws : ViewLaws N B) where
     pub tracks-put : (v : View) (t : Tally) (b : ℕ) (c : List ℕ) → CleanView N B v → Fits N B b v → Tracks N B v t
         → Tracks N B (afterPut N B b c v) (tallied (record { request = put b c; code = 0; erases = erasesIn (putSteps N B b c v) }) t)
     unfolding tallied storedAfter replaces counted

@@ -36,7 +36,7 @@ module _ (n B L R : ℕ) where
   Good E rows = Paid n (n * B - L) E rows R
 
   paid-open : (E : ℕ) (rows : List (List Slot)) → Good E rows → Good E (rows ++ (replicate B empty ∷ []))
-  paid-open E rows v = record { k = v .k; p = v .p; boundary = v .boundary; part = v .part; paid = omega (arith, v .paid, drop-behind (v .p) rows (replicate B empty) (empties-dead B)) }
+  paid-open E rows v = paid-after (n * B - L) R 0 _ (omega arith) (omega arith) (λ p. omega (arith, drop-behind p rows (replicate B empty) (empties-dead B))) v
 
   -- the oldest is tidied. At a boundary all segments are full and at most L slots are live, so that nB - L or more are dead
   paid-tidy : (E : ℕ) (s : List Slot) (r : List (List Slot)) → length (s ∷ r) ≡ n → Full B (s ∷ r) → lives (s ∷ r) ≤ L → Good E (s ∷ r) → Good (suc E) (r ++ (copied B (entries s) ∷ []))
@@ -115,9 +115,9 @@ module _ (N B L R : ℕ) where
       go false e ih = again most v more (ih (tidied v e h))
 
   -- making room takes at most N-1 erases, in turn, and keeps what is paid
-  pub room-moved : (v : View) → 2 ≤ N → length (v .slots) ≤ N - 1 → Packed B (v .slots) → lives (v .slots) ≤ L → PaidView v → Moved N B L R (N - 1) v (roomFor N B v)
+  pub room-moved : (v : View) → length (v .slots) ≤ N - 1 → Packed B (v .slots) → lives (v .slots) ≤ L → PaidView v → Moved N B L R (N - 1) v (roomFor N B v)
   unfolding roomFor openNext erasesIn
-  room-moved v h len packed few p = go (hasRoom v) (ltb (length (v .slots)) (N - 1)) refl
+  room-moved v len packed few p = go (hasRoom v) (ltb (length (v .slots)) (N - 1)) refl
     where
       go : (t u : Bool) → ltb (length (v .slots)) (N - 1) ≡ u
           → Moved N B L R (N - 1) v (cond t (record { steps = []; result = v }) (cond u (openNext N B v) (compactUntilRoom N B (N - 1) v)))

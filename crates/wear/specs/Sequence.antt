@@ -33,45 +33,49 @@ module _ (N B : ℕ) (laws : ViewLaws N B) (bridge : Bridge N B) (range : 2 ≤ 
   abbrev Kept : Image → Tally → Call → Type 0
   Kept s t x = Sequenced N B (outcomeOf N B s (x .allowance) (x .request) .image) (tallied (observe N B s x) t) × (length (observe N B s x .erases) ≤ N - 1)
 
-  -- a call that takes no step, and neither stores nor removes a block
+  -- a call by its work, all of it done
+  kept : (s : Image) (t : Tally) (x : Call) → Sequenced N B s t → Finished N B s (x .allowance) (x .request)
+      → let w = workOf N B s (x .request) in
+        state N B (run B (w .steps) s) ≡ clean
+      → Tracks N B (view N B (run B (w .steps) s)) (tallied (record { request = x .request; code = w .code; erases = erasesIn (w .steps) }) t)
+      → length (erasesIn (w .steps)) ≤ N - 1
+      → Kept s t x
+  unfolding observe
+  kept s t x g f c k few =
+      ( record { size = rw (f .image) (run-size N B (workOf N B s (x .request) .steps) s ∙ g .size); clean = rw (f .image) c; tracks = rw (f .image, f .code) k }
+      , few )
+
+  -- one that takes no step, and neither stores nor removes a block
   still : (s : Image) (t : Tally) (x : Call) → Sequenced N B s t → Finished N B s (x .allowance) (x .request) → workOf N B s (x .request) .steps ≡ []
       → cond (eqb (workOf N B s (x .request) .code) 0) (storedAfter (x .request) (t .stored)) (t .stored) ≡ t .stored
       → cond (eqb (workOf N B s (x .request) .code) 0) (replaces (x .request) (t .stored)) 0 ≡ 0
       → Kept s t x
-  unfolding observe run erasesIn
+  unfolding run erasesIn
   still s t x g f none stays free =
-      let same : outcomeOf N B s (x .allowance) (x .request) .image ≡ s = f .image ∙ ap (λ xs. run B xs s) none in
-      ( rw same (record
-          { size = g .size
-          ; clean = g .clean
-          ; tracks = tracks-still N B (view N B s) t (observe N B s x) (g .tracks) (rw none) (rw (f .code) stays) (rw (f .code) free) })
-      , rw none (omega arith) )
+      let same : run B (workOf N B s (x .request) .steps) s ≡ s = ap (λ xs. run B xs s) none in
+      kept s t x g f (rw same (g .clean)) (rw same (tracks-still N B (view N B s) t _ (g .tracks) (rw none) stays free)) (rw none (omega arith))
 
   done-put : (s : Image) (t : Tally) (b : ℕ) (c : List ℕ) (allowance : ℕ) → Sequenced N B s t → Finished N B s allowance (put b c) → Bytes c → workOf N B s (put b c) .code ≡ 0
       → Kept s t (record { request = put b c; allowance = allowance })
-  unfolding observe stepsFor view
+  unfolding stepsFor view
   done-put s t b c allowance g f bytes e =
       let a = accepted N B s (put b c) e in
       let d = bridge .put-done s b c (g .size) (g .clean) bytes e in
       let cv = bridge .clean-view s (g .size) (g .clean) in
-      let k = tracks-put N B laws range (view N B s) t b c cv (put-passed N B s b c (a .1)) (g .tracks) in
-      ( record { size = rw (f .image) (run-size N B (workOf N B s (put b c) .steps) s ∙ g .size)
-               ; clean = rw (f .image) (d .0)
-               ; tracks = rw (f .image, d .1, f .code, e, a .0) k }
-      , rw (a .0) (put-few N B laws range (view N B s) t b c cv (g .tracks)) )
+      kept s t (record { request = put b c; allowance = allowance }) g f (d .0)
+        (rw (d .1, e, a .0) (tracks-put N B laws (view N B s) t b c cv (put-passed N B s b c (a .1)) (g .tracks)))
+        (rw (a .0) (put-few N B (view N B s) t b c cv (g .tracks)))
 
   done-delete : (s : Image) (t : Tally) (b allowance : ℕ) → Sequenced N B s t → Finished N B s allowance (delete b) → workOf N B s (delete b) .code ≡ 0
       → Kept s t (record { request = delete b; allowance = allowance })
-  unfolding observe stepsFor view
+  unfolding stepsFor view
   done-delete s t b allowance g f e =
       let a = accepted N B s (delete b) e in
       let d = bridge .delete-done s b (g .size) (g .clean) e in
       let cv = bridge .clean-view s (g .size) (g .clean) in
-      let k = tracks-delete N B laws range (view N B s) t b cv (delete-passed N B s b (a .1)) (g .tracks) in
-      ( record { size = rw (f .image) (run-size N B (workOf N B s (delete b) .steps) s ∙ g .size)
-               ; clean = rw (f .image) (d .0)
-               ; tracks = rw (f .image, d .1, f .code, e, a .0) k }
-      , rw (a .0, delete-none N B b (view N B s)) (omega arith) )
+      kept s t (record { request = delete b; allowance = allowance }) g f (d .0)
+        (rw (d .1, e, a .0) (tracks-delete N B laws (view N B s) t b cv (delete-passed N B s b (a .1)) (g .tracks)))
+        (rw (a .0, delete-none N B b (view N B s)) (omega arith))
 
   -- refused, or done
   decided : (s : Image) (t : Tally) (x : Call) → Sequenced N B s t → Finished N B s (x .allowance) (x .request) → (workOf N B s (x .request) .code ≡ 0 → Kept s t x) → Kept s t x
