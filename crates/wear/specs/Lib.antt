@@ -1,2 +1,10 @@
--- Demand 3.
+-- Demand 3: the statement, and its proof from the laws of views and of the image.
 pub mod Demand3
+pub mod Counting
+pub mod Erases
+pub mod Room
+pub mod Stored
+pub mod Requests
+pub mod Calls
+pub mod Sequence
+pub mod Instances

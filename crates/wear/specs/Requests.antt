@@ -1,0 +1,144 @@
+-- What is counted follows the view: through a put, a delete, and a request that writes nothing.
+use Prim.Native.Nat.{ℕ, _+_, _-_, _*_, _/_, max, _≤_}
+use mathlib.Core.Path.{_≡_, refl, ap, _∙_}
+use mathlib.Core.Bool.{Bool, true, false, cond}
+use mathlib.Core.List.{List, [], _++_, append-nil, flatten}
+use native.Mathlib.Omega.{arith}
+use native.Mathlib.Nat.{mul-le-mul-right, div-le-of-le-mul}
+use lib.ListN.{length, replicate}
+use lib.Dec.{eqb}
+use Rattle.model.specs.Slot.{empty, dead, live, isDead}
+use Rattle.model.specs.State.{View, entriesIn, holds, noneWrongOrTorn, blocksDistinct, emptySlotsLast, Place, placeOf}
+use Rattle.model.specs.Steps.{topRow, topNumber, firstEmpty, roomFor, putSteps, writeAtTop, markOld, deleteSteps}
+use Rattle.model.specs.Answers.{put, delete}
+use Rattle.model.specs.Sequences.{Observed, erasesIn, among, removed, inserted, storedAfter, replaces, Tally, start, tallied, eraseCount, erasesOf}
+use Rattle.bridge.specs.Predicted.{slotChanged, written, marked, afterPut, afterDelete, fresh, CleanView, Fits}
+use Rattle.bridge.specs.Interface.{ViewLaws}
+use Rattle.wear.specs.Demand3.{ErasesPaid, Balanced}
+use Rattle.wear.specs.Counting.{one, deads, set-slot, lives, lives-entries, Packed, clean-packed, empties-dead, empties-entries}
+use Rattle.wear.specs.Erases.{erases-append, written-none, delete-none, turns, turns-length, balanced}
+use Rattle.wear.specs.Room.{Paid, paid-after, Moved, room-moved}
+use Rattle.wear.specs.Stored.{agree-holds, Stored, stored-none, stored-length, stored-put, stored-delete}
+
+-- the count belongs to the view
+pub record Tracks (N B : ℕ) (v : View) (t : Tally) : Type 0 where
+  pub inTurn : t .erased ≡ turns N (v .first)
+  pub stored : Stored (t .stored) (entriesIn v)
+  pub most : length (t .stored) ≤ t .largest
+  pub paid : Paid (N - 1) ((N - 1) * B - t .largest) (v .first) (v .slots) (t .replaced)
+
+-- ---- what demand 3 says follows
+
+pub tracks-paid : (N B : ℕ) (v : View) (t : Tally) → Tracks N B v t → ErasesPaid N B t
+unfolding eraseCount
+tracks-paid N B v t h =
+    let p = h .paid in
+    let d : v .first / (N - 1) ≤ p .k = div-le-of-le-mul (N - 1) (omega (arith, p .boundary)) in
+    let e : length (t .erased) ≡ v .first = ap length (h .inTurn) ∙ turns-length N (v .first) in
+    rw e (omega (arith, p .paid, mul-le-mul-right ((N - 1) * B - t .largest) d))
+
+pub tracks-balanced : (N B : ℕ) (v : View) (t : Tally) → Tracks N B v t → Balanced N t
+unfolding erasesOf
+tracks-balanced N B v t h = λ i j hi hj. rw (h .inTurn) (omega (arith, balanced N (v .first) i j hi hj))
+
+-- ---- one request
+
+module _ (N B : ℕ) where
+  pub tracks-start : 2 ≤ N → Tracks N B (fresh B) start
+  unfolding start fresh turns entriesIn flatten deads
+  tracks-start h = record
+    { inTurn = refl
+    ; stored = rw (append-nil (replicate B empty), empties-entries B) stored-none
+    ; most = omega arith
+    ; paid = record { k = 0; p = 0; boundary = omega arith; part = omega arith; paid = omega (arith, empties-dead B) } }
+
+  -- the blocks stored, m replaced more, these erases
+  counted : List ℕ → ℕ → List ℕ → Tally → Tally
+  counted xs m es t = record { stored = xs; largest = max (t .largest) (length xs); replaced = t .replaced + m; erased = t .erased ++ es }
+
+  tracks-counted : (v : View) (t : Tally) (xs : List ℕ) (m : ℕ) (es : List ℕ) → t .erased ++ es ≡ turns N (v .first) → Stored xs (entriesIn v)
+      → Paid (N - 1) ((N - 1) * B - t .largest) (v .first) (v .slots) (t .replaced + m) → Tracks N B v (counted xs m es t)
+  unfolding counted
+  tracks-counted v t xs m es e s p = record
+    { inTurn = e
+    ; stored = s
+    ; most = omega arith
+    ; paid = paid-after ((N - 1) * B - max (t .largest) (length xs)) (t .replaced + m) 0 (v .slots) (omega arith) (omega arith) (λ p. omega arith) p }
+
+  -- a request that erases nothing and neither stores nor removes a block
+  pub tracks-still : (v : View) (t : Tally) (o : Observed) → Tracks N B v t → o .erases ≡ []
+      → cond (eqb (o .code) 0) (storedAfter (o .request) (t .stored)) (t .stored) ≡ t .stored
+      → cond (eqb (o .code) 0) (replaces (o .request) (t .stored)) 0 ≡ 0
+      → Tracks N B v (tallied o t)
+  unfolding tallied counted
+  tracks-still v t o h e s r =
+      let p = h .paid in
+      rw (e, s, r) (tracks-counted v t (t .stored) 0 [] (append-nil (t .erased) ∙ h .inTurn) (h .stored)
+        (paid-after ((N - 1) * B - t .largest) (t .replaced + 0) 0 (v .slots) (omega arith) (omega arith) (λ q. omega arith) p))
+
+  -- a slot marked dead, and one written
+  paid-marked : {X E R : ℕ} (S : ℕ) (p : Place) (v : View) → R + 1 ≤ S → Paid (N - 1) X E (v .slots) R → Paid (N - 1) X E (marked p v .slots) S
+  unfolding marked slotChanged isDead one
+  paid-marked {X} S p v r h = paid-after X S 1 _ (omega arith) r (λ q. set-slot q (v .slots) (p .number - v .first) (p .slot) dead) h
+
+  paid-written : {X E R : ℕ} (S b : ℕ) (c : List ℕ) (v : View) → R ≤ S → Paid (N - 1) X E (v .slots) R → Paid (N - 1) X E (written b c v .slots) S
+  unfolding written slotChanged isDead one
+  paid-written {X} S b c v r h = paid-after X S 0 _ (omega arith) (omega arith) (λ q. set-slot q (v .slots) (topNumber v - v .first) (firstEmpty (topRow (v .slots))) (live b c)) h
+
+  -- the view after a put: no segment is erased once there is room
+  put-first : (v : View) (b : ℕ) (c : List ℕ) → afterPut N B b c v .first ≡ roomFor N B v .result .first
+  unfolding afterPut marked written slotChanged
+  put-first v b c = go (holds b (entriesIn (roomFor N B v .result)))
+    where
+      go : (u : Bool) → (cond u (marked (placeOf b (roomFor N B v .result)) (written b c (roomFor N B v .result))) (written b c (roomFor N B v .result))) .first ≡ roomFor N B v .result .first
+      go true = refl
+      go false = refl
+
+  put-paid : {X R : ℕ} (v : View) (b : ℕ) (c : List ℕ) → Paid (N - 1) X (roomFor N B v .result .first) (roomFor N B v .result .slots) R
+      → Paid (N - 1) X (afterPut N B b c v .first) (afterPut N B b c v .slots) (R + cond (holds b (entriesIn (roomFor N B v .result))) 1 0)
+  unfolding afterPut
+  put-paid {X} {R} v b c h = rw (put-first v b c) (go (holds b (entriesIn r)))
+    where
+      r : View
+      r = roomFor N B v .result
+
+      go : (u : Bool) → Paid (N - 1) X (r .first) ((cond u (marked (placeOf b r) (written b c r)) (written b c r)) .slots) (R + cond u 1 0)
+      go true = paid-marked (R + 1) (placeOf b r) (written b c r) (omega arith) (paid-written R b c r (omega arith) h)
+      go false = paid-written (R + 0) b c r (omega arith) h
+
+  packed : (v : View) → CleanView N B v → Packed B (v .slots)
+  unfolding noneWrongOrTorn emptySlotsLast
+  packed v c = clean-packed B (v .slots) (c .rows) (c .sound) (c .last)
+
+  few-live : (v : View) (t : Tally) → CleanView N B v → Tracks N B v t → lives (v .slots) ≤ t .largest
+  unfolding blocksDistinct entriesIn
+  few-live v t c h = omega (arith, lives-entries (v .slots), stored-length (t .stored) (entriesIn v) (h .stored) (c .once), h .most)
+
+  put-moved : (v : View) (t : Tally) → CleanView N B v → Tracks N B v t → Moved N B (t .largest) (t .replaced) (N - 1) v (roomFor N B v)
+  put-moved v t c h = room-moved N B (t .largest) (t .replaced) v (c .spare) (packed v c) (few-live v t c h) (h .paid)
+
+  put-erases : (v : View) (b : ℕ) (c : List ℕ) → erasesIn (putSteps N B b c v) ≡ erasesIn (roomFor N B v .steps)
+  unfolding putSteps
+  put-erases v b c =
+      let r = roomFor N B v in
+      rw (erases-append (r .steps) (writeAtTop N B b c (r .result) ++ markOld N B b (r .result)), written-none N B b c (r .result)) (append-nil (erasesIn (r .steps)))
+
+  pub put-few : (v : View) (t : Tally) (b : ℕ) (c : List ℕ) → CleanView N B v → Tracks N B v t → length (erasesIn (putSteps N B b c v)) ≤ N - 1
+  put-few v t b c cv h = rw (put-erases v b c) (put-moved v t cv h .few)
+
+  module _ (laws : ViewLaws N B) where
+    pub tracks-put : (v : View) (t : Tally) (b : ℕ) (c : List ℕ) → CleanView N B v → Fits N B b v → Tracks N B v t
+        → Tracks N B (afterPut N B b c v) (tallied (record { request = put b c; code = 0; erases = erasesIn (putSteps N B b c v) }) t)
+    unfolding tallied storedAfter replaces counted
+    tracks-put v t b c cv fits h = tracks-counted (afterPut N B b c v) t (inserted b (t .stored)) (cond (among b (t .stored)) 1 0) (erasesIn (putSteps N B b c v))
+        (rw (h .inTurn, put-erases v b c, put-first v b c) (put-moved v t cv h .inTurn))
+        (stored-put (t .stored) (entriesIn v) (entriesIn (afterPut N B b c v)) b c (h .stored) (laws .put-table v b c cv fits))
+        (rw (h .stored .same b, ← agree-holds _ _ (laws .room-table v b cv fits) b) (put-paid v b c (put-moved v t cv h .paid)))
+
+    pub tracks-delete : (v : View) (t : Tally) (b : ℕ) → CleanView N B v → holds b (entriesIn v) ≡ true → Tracks N B v t
+        → Tracks N B (afterDelete b v) (tallied (record { request = delete b; code = 0; erases = erasesIn (deleteSteps N B b v) }) t)
+    unfolding tallied storedAfter replaces counted afterDelete marked slotChanged
+    tracks-delete v t b cv held h = tracks-counted (afterDelete b v) t (removed b (t .stored)) 1 (erasesIn (deleteSteps N B b v))
+        (rw (delete-none N B b v) (append-nil (t .erased) ∙ h .inTurn))
+        (stored-delete (t .stored) (entriesIn v) (entriesIn (afterDelete b v)) b (h .stored) (laws .delete-table v b cv held))
+        (paid-marked (t .replaced + 1) (placeOf b v) v (omega arith) (h .paid))
