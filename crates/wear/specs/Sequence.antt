@@ -15,6 +15,7 @@ use Rattle.model.specs.Steps.{formatSteps}
 use Rattle.model.specs.Answers.{Request, format, put, delete, read, readOr, recover, stepsFor, workOf, outcomeOf}
 use Rattle.model.specs.Sequences.{Call, play, erasesIn, observe, observed, InSequence, Uncut, storedAfter, replaces, Tally, start, tallied, tally}
 use Rattle.model.specs.Laws.Chip.{run-size}
+use Rattle.model.specs.Laws.Bytes.{run-bytes}
 use Rattle.bridge.specs.Interface.{ViewLaws, Bridge}
 use Rattle.wear.specs.Demand3.{FewErases, Demand3}
 use Rattle.wear.specs.Erases.{delete-none}
@@ -24,6 +25,7 @@ use Rattle.wear.specs.Calls.{Finished, finished, refused-none, accepted,
 -- the image is clean, and the count belongs to its view
 pub record Sequenced (N B : ℕ) (s : Image) (t : Tally) : Type 0 where
   pub size : rightSize N B s ≡ true
+  pub bytes : Bytes s
   pub clean : state N B s ≡ clean
   pub tracks : Tracks N B (view N B s) t
 
@@ -42,7 +44,7 @@ module _ (N B : ℕ) (laws : ViewLaws N B) (bridge : Bridge N B) (range : 2 ≤ 
       → Kept s t x
   unfolding observe
   kept s t x g f c k few =
-      ( record { size = rw (f .image) (run-size N B (workOf N B s (x .request) .steps) s ∙ g .size); clean = rw (f .image) c; tracks = rw (f .image, f .code) k }
+      ( record { size = rw (f .image) (run-size N B (workOf N B s (x .request) .steps) s ∙ g .size); bytes = rw (f .image) (run-bytes B (workOf N B s (x .request) .steps) s (g .bytes)); clean = rw (f .image) c; tracks = rw (f .image, f .code) k }
       , few )
 
   -- one that takes no step, and neither stores nor removes a block
@@ -60,7 +62,7 @@ module _ (N B : ℕ) (laws : ViewLaws N B) (bridge : Bridge N B) (range : 2 ≤ 
   unfolding stepsFor view
   done-put s t b c allowance g f bytes e =
       let a = accepted N B s (put b c) e in
-      let d = bridge .put-done s b c (g .size) (g .clean) bytes e in
+      let d = bridge .put-done s b c (g .size) (g .bytes) (g .clean) bytes e in
       let cv = bridge .clean-view s (g .size) (g .clean) in
       kept s t (record { request = put b c; allowance = allowance }) g f (d .0)
         (rw (d .1, e, a .0) (tracks-put N B laws (view N B s) t b c cv (put-passed N B s b c (a .1)) (g .tracks)))
@@ -147,7 +149,7 @@ module _ (N B : ℕ) (laws : ViewLaws N B) (bridge : Bridge N B) (range : 2 ≤ 
       let size = format-passed N B s (a .1) in
       let d = bridge .format-done s size in
       let image : outcomeOf N B s allowance format .image ≡ run B (formatSteps N B) s = f .image ∙ ap (λ xs. run B xs s) (a .0) in
-      rw image (record { size = run-size N B (formatSteps N B) s ∙ size; clean = d .0; tracks = rw (d .1) (tracks-start N B range) })
+      rw image (record { size = run-size N B (formatSteps N B) s ∙ size; bytes = bridge .format-bytes s size; clean = d .0; tracks = rw (d .1) (tracks-start N B range) })
 
 -- N and B of a format that answered 0 are in range
 format-range : (N B : ℕ) (s : Image) (allowance : ℕ) → outcomeOf N B s allowance format .code ≡ 0 → (2 ≤ N) × (2 ≤ B)
