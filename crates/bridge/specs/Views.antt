@@ -1,0 +1,2 @@
+-- Laws of views.
+pub mod Tables
