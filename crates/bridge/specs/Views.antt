@@ -1,2 +1,3 @@
 -- Laws of views.
 pub mod Tables
+pub mod Slots
