@@ -2,7 +2,7 @@
 use Prim.Native.Nat.{ℕ, zero, suc, _+_, _-_, _≤_, _<_}
 use mathlib.Core.Path.{_≡_, refl, sym, ap, _∙_}
 use mathlib.Core.Bool.{Bool, true, false, cond, _||_, _&&_, not, true≢false, false≢true, and-eq-true-iff}
-use mathlib.Core.List.{List, [], _∷_, _++_, flatMap, flatten, append-assoc}
+use mathlib.Core.List.{List, [], _∷_, _++_, flatMap, flatten, append-assoc, append-nil}
 use native.Mathlib.Omega.{arith}
 use lib.ListN.{length, getD, set, length-append}
 use lib.Seq.{set-at, getD-at}
@@ -159,3 +159,99 @@ first-live b n (s ∷ l) h = go (holds b (entries s)) refl (sym (ap (holds b) (e
           ; split = ap {B = List (List Slot)} (λ x. s ∷ x) (r .split)
           ; place = rw (e, r .place, z)
           ; first = rw (append-assoc s (flatten (r .gap .rowsBefore)) (r .gap .before), entries-append s (flatten (r .gap .rowsBefore) ++ r .gap .before), holds-append b (entries s) (entries (flatten (r .gap .rowsBefore) ++ r .gap .before)), e, r .first) }
+
+-- what stands after a live slot of the block makes no difference
+pub place-earlier : (b n : ℕ) (g : Gap) (k m : Slot) → holds b (entries (earlier g)) ≡ true → placeFrom b n (fill g k) ≡ placeFrom b n (fill g m)
+unfolding placeFrom slotFrom earlier flatten flatMap entries holds
+place-earlier b n g k m h = rows n (g .rowsBefore) h
+  where
+    inRow : (j : ℕ) (x y z : List Slot) → holds b (entries x) ≡ true → slotFrom b j (x ++ y) ≡ slotFrom b j (x ++ z)
+    inRow j [] y z p = absurd (false≢true p)
+    inRow j (a ∷ x) y z p = go (holds b (entryOf a)) refl (sym (holds-append b (entryOf a) (entries x)) ∙ p)
+        (λ q. inRow (suc j) x y z q)
+      where
+        go : (t : Bool) → holds b (entryOf a) ≡ t → (holds b (entryOf a) || holds b (entries x)) ≡ true → (holds b (entries x) ≡ true → slotFrom b (suc j) (x ++ y) ≡ slotFrom b (suc j) (x ++ z))
+            → cond (holds b (entryOf a)) j (slotFrom b (suc j) (x ++ y)) ≡ cond (holds b (entryOf a)) j (slotFrom b (suc j) (x ++ z))
+        go true e q ih = rw e
+        go false e q ih = rw e (ih (rw e at q))
+    held : (x y : List Slot) → holds b (entries x) ≡ true → holds b (entries (x ++ y)) ≡ true
+    held x y p = ap (holds b) (entries-append x y) ∙ (holds-append b (entries x) (entries y) ∙ rw p)
+    rows : (n : ℕ) (l : List (List Slot)) → holds b (entries (flatten l ++ g .before)) ≡ true
+        → placeFrom b n (l ++ ((g .before ++ (k ∷ g .after)) ∷ g .rowsAfter)) ≡ placeFrom b n (l ++ ((g .before ++ (m ∷ g .after)) ∷ g .rowsAfter))
+    rows n [] p = rw (held (g .before) (k ∷ g .after) p, held (g .before) (m ∷ g .after) p, inRow 0 (g .before) (k ∷ g .after) (m ∷ g .after) p)
+    rows n (s ∷ l) p = go (holds b (entries s)) refl
+        (sym (ap (λ y. holds b (entries y)) (append-assoc s (flatten l) (g .before)) ∙ (ap (holds b) (entries-append s (flatten l ++ g .before)) ∙ holds-append b (entries s) (entries (flatten l ++ g .before)))) ∙ p)
+        (λ q. rows (suc n) l q)
+      where
+        go : (t : Bool) → holds b (entries s) ≡ t → (holds b (entries s) || holds b (entries (flatten l ++ g .before))) ≡ true
+            → (holds b (entries (flatten l ++ g .before)) ≡ true → placeFrom b (suc n) (l ++ ((g .before ++ (k ∷ g .after)) ∷ g .rowsAfter)) ≡ placeFrom b (suc n) (l ++ ((g .before ++ (m ∷ g .after)) ∷ g .rowsAfter)))
+            → placeFrom b n (s ∷ (l ++ ((g .before ++ (k ∷ g .after)) ∷ g .rowsAfter))) ≡ placeFrom b n (s ∷ (l ++ ((g .before ++ (m ∷ g .after)) ∷ g .rowsAfter)))
+        go true e q ih = rw e
+        go false e q ih = rw e (ih (rw e at q))
+
+-- marked dead, it is no longer among the entries
+pub marked-at : (b : ℕ) (v : View) (f : FirstLive b (v .first) (v .slots)) → marked (placeOf b v) v ≡ record { first = v .first; slots = fill (f .gap) dead }
+unfolding marked placeOf
+marked-at b v f = fill-changed v (f .gap) (live b (f .contents)) dead (placeFrom b (v .first) (v .slots) .number) (placeFrom b (v .first) (v .slots) .slot)
+    (f .split) (ap (λ p. p .number) (f .place)) (ap (λ p. p .slot) (f .place))
+
+pub marked-entries : (b : ℕ) (v : View) → FirstLive b (v .first) (v .slots) → entriesIn (marked (placeOf b v) v) ≡ withoutFirst b (entriesIn v)
+unfolding entriesIn entryOf
+marked-entries b v f = rw (marked-at b v f, f .split, fill-entries (f .gap) dead, fill-entries (f .gap) (live b (f .contents)))
+    (sym (without-first-at b (entries (earlier (f .gap))) (record { block = b; contents = f .contents }) (entries (later (f .gap))) (f .first) refl))
+
+-- ---- the top's first empty slot
+
+-- every other row is full, and so is the top up to it; all that follow are empty
+pub record TopGap (v : View) : Type 0 where
+  pub gap : Gap
+  pub split : v .slots ≡ fill gap empty
+  pub isTop : gap .rowsAfter ≡ []
+  pub number : topNumber v ≡ v .first + length (gap .rowsBefore)
+  pub slot : firstEmpty (topRow (v .slots)) ≡ length (gap .before)
+  pub fullRows : all (λ s. full s) (gap .rowsBefore) ≡ true
+  pub fullBefore : full (gap .before) ≡ true
+  pub emptyAfter : all isEmpty (gap .after) ≡ true
+
+pub top-gap : (v : View) → 1 ≤ length (v .slots) → onlyTopEmpty (v .slots) ≡ true → hasRoom v ≡ true → TopGap v
+unfolding hasRoom topNumber
+top-gap v s e h =
+    let t = find-top (v .slots) s in
+    let p = and-eq-true-iff (all (λ x. full x) (t .others)) (emptyLast (t .top)) .0 (sym (ap onlyTopEmpty (t .split) ∙ only-top-empty (t .others) (t .top)) ∙ e) in
+    let u : topRow (v .slots) ≡ t .top = ap topRow (t .split) ∙ top-row (t .others) (t .top) in
+    let q : full (t .top) ≡ false = ap (λ x. full x) (sym u) ∙ not-true (full (topRow (v .slots))) h in
+    let f = first-empty (t .top) (p .1) q in
+    let n : length (v .slots) ≡ length (t .others) + 1 = ap length (t .split) ∙ length-append (t .others) (t .top ∷ []) in
+    record { gap = record { rowsBefore = t .others; before = f .left; after = f .right; rowsAfter = [] }
+      ; split = t .split ∙ ap {B = List (List Slot)} (λ x. t .others ++ (x ∷ [])) (f .split)
+      ; isTop = refl
+      ; number = omega arith
+      ; slot = ap firstEmpty u ∙ f .place
+      ; fullRows = p .0
+      ; fullBefore = f .fullLeft
+      ; emptyAfter = f .emptyRight }
+
+pub none-after-top : {v : View} (g : TopGap v) → entries (later (g .gap)) ≡ []
+unfolding later flatten
+none-after-top g = rw (g .isTop, append-nil (g .gap .after)) (all-empty-entries (g .gap .after) (g .emptyAfter))
+
+pub all-before-top : {v : View} (g : TopGap v) → entriesIn v ≡ entries (earlier (g .gap))
+unfolding entriesIn entryOf
+all-before-top g = ap (λ y. entries (flatten y)) (g .split) ∙ (fill-entries (g .gap) empty ∙ rw (none-after-top g) (append-nil (entries (earlier (g .gap)))))
+
+-- a slot written there holds the last of the entries
+pub written-at : (b : ℕ) (c : List ℕ) (v : View) (g : TopGap v) → written b c v ≡ record { first = v .first; slots = fill (g .gap) (live b c) }
+unfolding written
+written-at b c v g = fill-changed v (g .gap) empty (live b c) (topNumber v) (firstEmpty (topRow (v .slots))) (g .split) (g .number) (g .slot)
+
+pub written-entries : (b : ℕ) (c : List ℕ) (v : View) → TopGap v → entriesIn (written b c v) ≡ entriesIn v ++ (record { block = b; contents = c } ∷ [])
+unfolding entryOf
+written-entries b c v g = rw (all-before-top g, written-at b c v g) (shown (g .gap) (none-after-top g))
+  where
+    shown : (p : Gap) → entries (later p) ≡ [] → entriesIn (record { first = v .first; slots = fill p (live b c) }) ≡ entries (earlier p) ++ (record { block = b; contents = c } ∷ [])
+    shown p z = unfold entriesIn in (fill-entries p (live b c) ∙ rw z)
+
+-- a block's older slot is still the first once a slot of it is written
+pub written-place : (a b : ℕ) (c : List ℕ) (v : View) → TopGap v → holds a (entriesIn v) ≡ true → placeOf a (written b c v) ≡ placeOf a v
+unfolding placeOf
+written-place a b c v g h = rw (written-at b c v g, g .split) (place-earlier a (v .first) (g .gap) (live b c) empty (ap (holds a) (sym (all-before-top g)) ∙ h))
