@@ -2,3 +2,5 @@
 pub mod Tables
 pub mod Slots
 pub mod Places
+pub mod Shape
+pub mod Room
