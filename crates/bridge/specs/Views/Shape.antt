@@ -2,11 +2,11 @@
 use Prim.Native.Nat.{ℕ, suc, _+_, _-_, _*_, _≤_, _<_}
 use mathlib.Core.Path.{_≡_, refl, sym, ap, _∙_}
 use mathlib.Core.Bool.{Bool, true, false, _||_, _&&_, not, and-eq-true-iff}
-use mathlib.Core.List.{List, [], _∷_, _++_, flatten}
+use mathlib.Core.List.{List, [], _∷_, _++_, flatten, append-nil}
 use native.Mathlib.Omega.{arith}
 use lib.ListN.{length, getD, drop, replicate, length-append}
 use lib.Dec.{ltb, leb}
-use borrow.Author.Tests.{leb-true, le-leb, not-false}
+use borrow.Author.Tests.{leb-true, le-leb, lt-ltb, not-false}
 use Rattle.model.specs.Lists.{all}
 use Rattle.model.specs.Slot.{Slot, empty, dead, live, isEmpty, isTorn, isWrong, Entry}
 use Rattle.model.specs.State.{View, entries, entriesIn, holds, distinct, noneWrongOrTorn, blocksDistinct, emptyLast, onlyTopEmpty, emptySlotsLast, capacity, withinCapacity, placeOf}
@@ -124,6 +124,17 @@ opened-view N B v = rw (copied-none B)
 pub opened-shape : {N B : ℕ} {v : View} → Shape N B v → hasRoom v ≡ false → length (v .slots) < N - 1 → Shape N B (openNext N B v .result)
 unfolding noneWrongOrTorn
 opened-shape {N} {B} {v} s h k = rw (opened-view N B v) (added-shape N B (v .first) (v .slots) [] k (s .rows) (s .sound) (all-full s h) (omega arith))
+
+pub opened-entries : (N B : ℕ) (v : View) → entriesIn (openNext N B v .result) ≡ entriesIn v
+unfolding entriesIn
+opened-entries N B v = ap entriesIn (opened-view N B v) ∙ (added-entries B (v .first) (v .slots) [] ∙ append-nil (entries (flatten (v .slots))))
+
+pub opened-room : (N B : ℕ) (v : View) → 1 ≤ B → hasRoom (openNext N B v .result) ≡ true
+opened-room N B v h = ap hasRoom (opened-view N B v) ∙ (added-room B (v .first) (v .slots) [] ∙ lt-ltb 0 B h)
+
+pub opened-top : (N B : ℕ) (v : View) → 1 ≤ length (v .slots) → topNumber (openNext N B v .result) ≡ suc (topNumber v)
+unfolding topNumber
+opened-top N B v h = ap topNumber (opened-view N B v) ∙ (added-top B (v .first) (v .slots) [] ∙ omega arith)
 
 -- ---- tidying: the oldest row, and the others
 
