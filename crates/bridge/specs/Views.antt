@@ -4,3 +4,4 @@ pub mod Slots
 pub mod Places
 pub mod Shape
 pub mod Room
+pub mod Requests
