@@ -1,20 +1,20 @@
 -- One slot of a view among the others: what changing it changes, and where the first live slot of a block and the top's first empty slot are.
-use Prim.Native.Nat.{ℕ, zero, suc, _+_, _-_, _≤_, _<_}
+use Prim.Native.Nat.{ℕ, suc, _+_, _-_, _≤_}
 use mathlib.Core.Path.{_≡_, refl, sym, ap, _∙_}
-use mathlib.Core.Bool.{Bool, true, false, cond, _||_, _&&_, not, true≢false, false≢true, and-eq-true-iff}
+use mathlib.Core.Bool.{Bool, true, false, cond, _||_, _&&_, false≢true, and-eq-true-iff}
 use mathlib.Core.List.{List, [], _∷_, _++_, flatMap, flatten, append-assoc, append-nil}
 use native.Mathlib.Omega.{arith}
-use lib.ListN.{length, getD, set, length-append}
+use lib.ListN.{length, length-append}
 use lib.Seq.{set-at, getD-at}
 use lib.Dec.{eqb}
 use borrow.Author.Tests.{eqb-true, not-true}
 use Rattle.model.specs.Lists.{all}
-use Rattle.model.specs.Slot.{Slot, empty, torn, dead, wrong, live, isEmpty, Entry, entryOf}
-use Rattle.model.specs.State.{View, entries, entriesIn, holds, emptyLast, onlyTopEmpty, Place, slotFrom, placeFrom, placeOf}
+use Rattle.model.specs.Slot.{Slot, empty, torn, dead, wrong, live, isEmpty, entryOf}
+use Rattle.model.specs.State.{View, entries, entriesIn, holds, emptyLast, onlyTopEmpty, slotFrom, placeFrom, placeOf}
 use Rattle.model.specs.Steps.{topRow, topNumber, hasRoom, firstEmpty}
 use Rattle.bridge.specs.Predicted.{slotChanged, written, marked, Rows}
 use Rattle.bridge.specs.Views.Tables.{holds-append, withoutFirst, without-first-at}
-use Rattle.bridge.specs.Views.Slots.{full, all-append, flatten-append, flatten-one, entries-append, entries-cons, all-empty-entries, FirstEmpty, first-empty, top-row, Top, find-top, only-top-empty}
+use Rattle.bridge.specs.Views.Slots.{full, all-append, flatten-append, entries-append, entries-cons, all-empty-entries, first-empty, top-row, find-top, only-top-empty}
 
 -- ---- rows with one slot left out
 
@@ -128,6 +128,10 @@ in-row b j (k ∷ s) h = go k h (λ p. in-row b (suc j) s p)
           ; place = rw e (omega arith); first = refl }
         one false e q = next (live a c) (rw e) (ih q)
 
+-- a block among slots of which the first come apart
+held-join : (b : ℕ) (s x y : List Slot) → holds b (entries (s ++ x ++ y)) ≡ (holds b (entries s) || holds b (entries (x ++ y)))
+held-join b s x y = rw (append-assoc s x y, entries-append s (x ++ y), holds-append b (entries s) (entries (x ++ y)))
+
 -- among the rows: the slot, what it holds, and that the block is nowhere earlier
 pub record FirstLive (b n : ℕ) (l : List (List Slot)) : Type 0 where
   pub gap : Gap
@@ -139,9 +143,11 @@ pub record FirstLive (b n : ℕ) (l : List (List Slot)) : Type 0 where
 pub first-live : (b n : ℕ) (l : List (List Slot)) → holds b (entries (flatten l)) ≡ true → FirstLive b n l
 unfolding holds flatten flatMap entries placeFrom earlier
 first-live b n [] h = absurd (false≢true h)
-first-live b n (s ∷ l) h = go (holds b (entries s)) refl (sym (ap (holds b) (entries-append s (flatten l)) ∙ holds-append b (entries s) (entries (flatten l))) ∙ h) (λ p. first-live b (suc n) l p)
+first-live b n (s ∷ l) h =
+    go (holds b (entries s)) refl (sym (ap (holds b) (entries-append s (flatten l)) ∙ holds-append b (entries s) (entries (flatten l))) ∙ h) (λ p. first-live b (suc n) l p)
   where
-    go : (t : Bool) → holds b (entries s) ≡ t → (holds b (entries s) || holds b (entries (flatten l))) ≡ true → (holds b (entries (flatten l)) ≡ true → FirstLive b (suc n) l) → FirstLive b n (s ∷ l)
+    go : (t : Bool) → holds b (entries s) ≡ t → (holds b (entries s) || holds b (entries (flatten l))) ≡ true
+        → (holds b (entries (flatten l)) ≡ true → FirstLive b (suc n) l) → FirstLive b n (s ∷ l)
     go true e p ih =
         let r = in-row b 0 s e in
         let z : n ≡ n + 0 = omega arith in
@@ -158,7 +164,7 @@ first-live b n (s ∷ l) h = go (holds b (entries s)) refl (sym (ap (holds b) (e
           ; contents = r .contents
           ; split = ap {B = List (List Slot)} (λ x. s ∷ x) (r .split)
           ; place = rw (e, r .place, z)
-          ; first = rw (append-assoc s (flatten (r .gap .rowsBefore)) (r .gap .before), entries-append s (flatten (r .gap .rowsBefore) ++ r .gap .before), holds-append b (entries s) (entries (flatten (r .gap .rowsBefore) ++ r .gap .before)), e, r .first) }
+          ; first = held-join b s (flatten (r .gap .rowsBefore)) (r .gap .before) ∙ rw (e, r .first) }
 
 -- what stands after a live slot of the block makes no difference
 pub place-earlier : (b n : ℕ) (g : Gap) (k m : Slot) → holds b (entries (earlier g)) ≡ true → placeFrom b n (fill g k) ≡ placeFrom b n (fill g m)
@@ -170,22 +176,22 @@ place-earlier b n g k m h = rows n (g .rowsBefore) h
     inRow j (a ∷ x) y z p = go (holds b (entryOf a)) refl (sym (holds-append b (entryOf a) (entries x)) ∙ p)
         (λ q. inRow (suc j) x y z q)
       where
-        go : (t : Bool) → holds b (entryOf a) ≡ t → (holds b (entryOf a) || holds b (entries x)) ≡ true → (holds b (entries x) ≡ true → slotFrom b (suc j) (x ++ y) ≡ slotFrom b (suc j) (x ++ z))
+        go : (t : Bool) → holds b (entryOf a) ≡ t → (holds b (entryOf a) || holds b (entries x)) ≡ true
+            → (holds b (entries x) ≡ true → slotFrom b (suc j) (x ++ y) ≡ slotFrom b (suc j) (x ++ z))
             → cond (holds b (entryOf a)) j (slotFrom b (suc j) (x ++ y)) ≡ cond (holds b (entryOf a)) j (slotFrom b (suc j) (x ++ z))
         go true e q ih = rw e
         go false e q ih = rw e (ih (rw e at q))
     held : (x y : List Slot) → holds b (entries x) ≡ true → holds b (entries (x ++ y)) ≡ true
     held x y p = ap (holds b) (entries-append x y) ∙ (holds-append b (entries x) (entries y) ∙ rw p)
-    rows : (n : ℕ) (l : List (List Slot)) → holds b (entries (flatten l ++ g .before)) ≡ true
-        → placeFrom b n (l ++ ((g .before ++ (k ∷ g .after)) ∷ g .rowsAfter)) ≡ placeFrom b n (l ++ ((g .before ++ (m ∷ g .after)) ∷ g .rowsAfter))
+    with-row : Slot → List (List Slot) → List (List Slot)
+    with-row x l = l ++ ((g .before ++ (x ∷ g .after)) ∷ g .rowsAfter)
+    rows : (n : ℕ) (l : List (List Slot)) → holds b (entries (flatten l ++ g .before)) ≡ true → placeFrom b n (with-row k l) ≡ placeFrom b n (with-row m l)
     rows n [] p = rw (held (g .before) (k ∷ g .after) p, held (g .before) (m ∷ g .after) p, inRow 0 (g .before) (k ∷ g .after) (m ∷ g .after) p)
-    rows n (s ∷ l) p = go (holds b (entries s)) refl
-        (sym (ap (λ y. holds b (entries y)) (append-assoc s (flatten l) (g .before)) ∙ (ap (holds b) (entries-append s (flatten l ++ g .before)) ∙ holds-append b (entries s) (entries (flatten l ++ g .before)))) ∙ p)
-        (λ q. rows (suc n) l q)
+    rows n (s ∷ l) p = go (holds b (entries s)) refl (sym (held-join b s (flatten l) (g .before)) ∙ p) (λ q. rows (suc n) l q)
       where
         go : (t : Bool) → holds b (entries s) ≡ t → (holds b (entries s) || holds b (entries (flatten l ++ g .before))) ≡ true
-            → (holds b (entries (flatten l ++ g .before)) ≡ true → placeFrom b (suc n) (l ++ ((g .before ++ (k ∷ g .after)) ∷ g .rowsAfter)) ≡ placeFrom b (suc n) (l ++ ((g .before ++ (m ∷ g .after)) ∷ g .rowsAfter)))
-            → placeFrom b n (s ∷ (l ++ ((g .before ++ (k ∷ g .after)) ∷ g .rowsAfter))) ≡ placeFrom b n (s ∷ (l ++ ((g .before ++ (m ∷ g .after)) ∷ g .rowsAfter)))
+            → (holds b (entries (flatten l ++ g .before)) ≡ true → placeFrom b (suc n) (with-row k l) ≡ placeFrom b (suc n) (with-row m l))
+            → placeFrom b n (with-row k (s ∷ l)) ≡ placeFrom b n (with-row m (s ∷ l))
         go true e q ih = rw e
         go false e q ih = rw e (ih (rw e at q))
 

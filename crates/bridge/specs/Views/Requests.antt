@@ -1,6 +1,6 @@
 -- A put and a delete keep a view clean and make the table that they should; with room for a put these are the laws of views.
 use Prim.Native.Nat.{ℕ, suc, _+_, _≤_, _<_}
-use mathlib.Core.Path.{_≡_, refl, sym, ap, _∙_}
+use mathlib.Core.Path.{_≡_, refl, ap, _∙_}
 use mathlib.Core.Bool.{Bool, true, false, cond, _||_, _&&_, not}
 use mathlib.Core.List.{List, [], _∷_, _++_}
 use native.Mathlib.Omega.{arith}
@@ -14,7 +14,7 @@ use Rattle.model.specs.Table.{lookup, without, store, Agree}
 use Rattle.bridge.specs.Predicted.{written, marked, afterPut, afterDelete, CleanView, Fits}
 use Rattle.bridge.specs.Interface.{ViewLaws}
 use Rattle.bridge.specs.Views.Tables.{holds-append, agree-holds, agree-store, without-absent, distinct-without, without-length, without-first, without-first-append, storedLast, stored-last-agree, stored-last-distinct, stored-last-length}
-use Rattle.bridge.specs.Views.Places.{FirstLive, marked-entries, written-entries, written-place}
+use Rattle.bridge.specs.Views.Places.{FirstLive, TopGap, marked-entries, written-entries, written-place}
 use Rattle.bridge.specs.Views.Shape.{Shape, clean-shape, shape-clean, clean-distinct, clean-within, written-shape, marked-shape, shape-gap, first-live-in}
 use Rattle.bridge.specs.Views.Room.{Made, room-made}
 
@@ -29,7 +29,7 @@ pub stored : (N B b : ℕ) (c : List ℕ) (r : View) → CleanView N B r → has
 unfolding storedLast
 stored N B b c r k h = go (holds b (entriesIn r)) refl
   where
-    g : Rattle.bridge.specs.Views.Places.TopGap r
+    g : TopGap r
     g = shape-gap (clean-shape k) h
     s : Shape N B (written b c r)
     s = written-shape b c (clean-shape k) g
@@ -37,10 +37,12 @@ stored N B b c r k h = go (holds b (entriesIn r)) refl
     e = written-entries b c r g
     go : (t : Bool) → holds b (entriesIn r) ≡ t → Stored N B b c r (cond t (marked (placeOf b r) (written b c r)) (written b c r))
     go true p =
-        let f : FirstLive b (written b c r .first) (written b c r .slots) = first-live-in b (written b c r) (ap (holds b) e ∙ (holds-append b (entriesIn r) (record { block = b; contents = c } ∷ []) ∙ rw p)) in
+        let q : holds b (entriesIn (written b c r)) ≡ true = ap (holds b) e ∙ (holds-append b (entriesIn r) (record { block = b; contents = c } ∷ []) ∙ rw p) in
+        let f : FirstLive b (written b c r .first) (written b c r .slots) = first-live-in b (written b c r) q in
         rw (← (written-place b b c r g p)) (record
           { shape = marked-shape b s f
-          ; entries = marked-entries b (written b c r) f ∙ rw (e, without-first-append b (entriesIn r) (record { block = b; contents = c } ∷ []) p, without-first b (entriesIn r) (clean-distinct k)) })
+          ; entries = marked-entries b (written b c r) f
+              ∙ rw (e, without-first-append b (entriesIn r) (record { block = b; contents = c } ∷ []) p, without-first b (entriesIn r) (clean-distinct k)) })
     go false p = record { shape = s; entries = e ∙ rw (without-absent b (entriesIn r) p) }
 
 -- ---- the requests

@@ -1,15 +1,15 @@
 -- Room for a put: a clean view with no room gets some by one opening or by as many tidyings as `compactions` says, and keeps its table.
-use Prim.Native.Nat.{ℕ, zero, suc, _+_, _-_, _*_, _≤_, _<_}
+use Prim.Native.Nat.{ℕ, zero, suc, _+_, _-_, _*_, _≤_}
 use mathlib.Core.Path.{_≡_, refl, sym, ap, _∙_}
-use mathlib.Core.Bool.{Bool, true, false, cond, _||_, _&&_, not, true≢false, false≢true, and-eq-true-iff}
-use mathlib.Core.List.{List, [], _∷_, _++_, flatten, append-nil}
+use mathlib.Core.Bool.{Bool, true, false, cond, _||_, _&&_, not, true≢false, and-eq-true-iff}
+use mathlib.Core.List.{List, [], _∷_, _++_, flatten}
 use native.Mathlib.Omega.{arith}
 use native.Mathlib.Nat.{mul-le-mul-right}
 use lib.ListN.{length, length-append}
-use lib.Dec.{ltb, leb}
+use lib.Dec.{ltb}
 use borrow.Author.Tests.{ltb-true, ltb-false, lt-ltb, le-ltb, not-true, not-false}
-use Rattle.model.specs.Lists.{all, count}
-use Rattle.model.specs.Slot.{Slot, isEmpty, isDead, isTorn, isWrong, Entry}
+use Rattle.model.specs.Lists.{all}
+use Rattle.model.specs.Slot.{Slot, isEmpty, isDead, isTorn, isWrong}
 use Rattle.model.specs.State.{View, entries, entriesIn, distinct, noneWrongOrTorn, capacity}
 use Rattle.model.specs.Steps.{topNumber, hasRoom, copied, openNext, compactOldest, compactUntilRoom, roomFor, compactions, newNumbers}
 use Rattle.model.specs.Table.{lookup, Agree}
@@ -44,7 +44,8 @@ unfolding compactions flatten all
 compactions-append [] r h = absurd (true≢false h)
 compactions-append (s ∷ l) r h = go (noneDead s) (sym (all-append (λ k. not (isDead k)) s (flatten l)) ∙ h) (λ p. compactions-append l r p)
   where
-    go : (t : Bool) → (t && noneDead (flatten l)) ≡ false → (noneDead (flatten l) ≡ false → compactions (l ++ r) ≡ compactions l) → cond t (suc (compactions (l ++ r))) 1 ≡ cond t (suc (compactions l)) 1
+    go : (t : Bool) → (t && noneDead (flatten l)) ≡ false → (noneDead (flatten l) ≡ false → compactions (l ++ r) ≡ compactions l)
+        → cond t (suc (compactions (l ++ r))) 1 ≡ cond t (suc (compactions l)) 1
     go true p ih = ap suc (ih p)
     go false p ih = refl
 
@@ -78,7 +79,7 @@ module _ (N B : ℕ) where
       go n (s ∷ l) c h = record
           { clean = shape-clean (tidied-shape (clean-shape c) h) (ap distinct now ∙ distinct-swap (entries s) (entries (flatten l)) was)
               (omega (arith, ap length now, length-append (entries (flatten l)) (entries s), counted, clean-within c))
-          ; table = λ b. ap (λ t. lookup b t) now ∙ (agree-swap (entries s) (entries (flatten l)) was b ∙ ap (λ t. lookup b t) (sym (entries-append s (flatten l))))
+          ; table = λ b. ap (lookup b) now ∙ (agree-swap (entries s) (entries (flatten l)) was b ∙ ap (lookup b) (sym (entries-append s (flatten l))))
           ; size = omega (arith, ap length now, length-append (entries (flatten l)) (entries s), counted)
           ; number = ap topNumber (tidied-view N B n s l) ∙ (added-top B (suc n) l (entries s) ∙ omega arith)
           ; done = λ p. rw (not-true (noneDead s) (sym room ∙ p))
@@ -92,7 +93,8 @@ module _ (N B : ℕ) where
           counted = ap length (entries-append s (flatten l)) ∙ length-append (entries s) (entries (flatten l))
           room : hasRoom (compactOldest N B (record { first = n; slots = s ∷ l }) .result) ≡ not (noneDead s)
           room = ap hasRoom (tidied-view N B n s l) ∙ (added-room B (suc n) l (entries s)
-              ∙ row-room B s (c .rows .0) (all-parts (λ k. not (isWrong k || isTorn k)) s (flatten l) (c .sound) .0) (and-eq-true-iff (full s) (all (λ x. full x) l) .0 (all-full (clean-shape c) h) .0))
+              ∙ row-room B s (c .rows .0) (all-parts (λ k. not (isWrong k || isTorn k)) s (flatten l) (c .sound) .0)
+                  (and-eq-true-iff (full s) (all (λ x. full x) l) .0 (all-full (clean-shape c) h) .0))
           later : noneDead s ≡ true → (noneDead s && noneDead (flatten l)) ≡ false
               → (noneDead (flatten (compactOldest N B (record { first = n; slots = s ∷ l }) .result .slots)) ≡ false)
               × (cond (noneDead s) (suc (compactions l)) 1 ≡ suc (compactions (compactOldest N B (record { first = n; slots = s ∷ l }) .result .slots)))
@@ -123,15 +125,14 @@ module _ (N B : ℕ) where
   unfolding compactUntilRoom
   room-after-tidying zero v c h d m = absurd (omega (arith, compactions-some (v .slots) (c .some)))
   room-after-tidying (suc k) v c h d m =
-      rw h (go (hasRoom (compactOldest N B v .result)) refl (tidied N B v c h) (λ p q r s. room-after-tidying k (compactOldest N B v .result) p q r s))
+      rw h (go (compactOldest N B v .result) (hasRoom (compactOldest N B v .result)) refl (tidied N B v c h) (λ p q r s. room-after-tidying k (compactOldest N B v .result) p q r s))
     where
-      go : (t : Bool) → hasRoom (compactOldest N B v .result) ≡ t → Tidied N B v (compactOldest N B v .result)
-          → (CleanView N B (compactOldest N B v .result) → hasRoom (compactOldest N B v .result) ≡ false → noneDead (flatten (compactOldest N B v .result .slots)) ≡ false → compactions (compactOldest N B v .result .slots) ≤ k
-            → Made N B (compactOldest N B v .result) (compactUntilRoom N B k (compactOldest N B v .result) .result) (compactions (compactOldest N B v .result .slots)))
-          → Made N B v (compactUntilRoom N B k (compactOldest N B v .result) .result) (compactions (v .slots))
-      go true e x ih = rw (room-stays N B k (compactOldest N B v .result) e)
+      go : (w : View) (t : Bool) → hasRoom w ≡ t → Tidied N B v w
+          → (CleanView N B w → hasRoom w ≡ false → noneDead (flatten (w .slots)) ≡ false → compactions (w .slots) ≤ k → Made N B w (compactUntilRoom N B k w .result) (compactions (w .slots)))
+          → Made N B v (compactUntilRoom N B k w .result) (compactions (v .slots))
+      go w true e x ih = rw (room-stays N B k w e)
           (record { clean = x .clean; room = e; table = x .table; size = x .size; number = omega (arith, x .number, x .done e) })
-      go false e x ih =
+      go w false e x ih =
           let f = x .further e d in
           let i = ih (x .clean) e (f .0) (omega arith) in
           record { clean = i .clean; room = i .room; table = λ b. i .table b ∙ x .table b; size = i .size ∙ x .size; number = omega (arith, i .number, x .number) }

@@ -1,18 +1,18 @@
 -- What is clean of a view whatever its block numbers: kept by a slot written or marked, and by a segment opened or tidied.
-use Prim.Native.Nat.{ℕ, suc, _+_, _-_, _*_, _≤_, _<_}
+use Prim.Native.Nat.{ℕ, suc, _+_, _-_, _≤_, _<_}
 use mathlib.Core.Path.{_≡_, refl, sym, ap, _∙_}
-use mathlib.Core.Bool.{Bool, true, false, _||_, _&&_, not, and-eq-true-iff}
+use mathlib.Core.Bool.{Bool, true, false, _||_, not, and-eq-true-iff}
 use mathlib.Core.List.{List, [], _∷_, _++_, flatten, append-nil}
 use native.Mathlib.Omega.{arith}
-use lib.ListN.{length, getD, drop, replicate, length-append}
-use lib.Dec.{ltb, leb}
+use lib.ListN.{length, length-append}
+use lib.Dec.{ltb}
 use borrow.Author.Tests.{leb-true, le-leb, lt-ltb, not-false}
 use Rattle.model.specs.Lists.{all}
 use Rattle.model.specs.Slot.{Slot, empty, dead, live, isEmpty, isTorn, isWrong, Entry}
 use Rattle.model.specs.State.{View, entries, entriesIn, holds, distinct, noneWrongOrTorn, blocksDistinct, emptyLast, onlyTopEmpty, emptySlotsLast, capacity, withinCapacity, placeOf}
 use Rattle.model.specs.Steps.{topRow, topNumber, hasRoom, copied, openNext, compactOldest}
 use Rattle.bridge.specs.Predicted.{Rows, CleanView, written, marked}
-use Rattle.bridge.specs.Views.Slots.{full, sound, all-append, all-join, all-parts, flatten-last, entries-append, entries-length, rows-append, full-then, all-empty-last, top-row, Top, find-top, only-top-empty, copied-entries, copied-length, copied-sound, copied-empty-last, copied-full, copied-none}
+use Rattle.bridge.specs.Views.Slots.{full, sound, all-append, all-join, all-parts, flatten-last, entries-append, entries-length, rows-append, full-then, all-empty-last, top-row, find-top, only-top-empty, copied-entries, copied-length, copied-sound, copied-empty-last, copied-full, copied-none}
 use Rattle.bridge.specs.Views.Places.{Gap, fill, fill-all, fill-length, fill-rows, fill-empty-last, FirstLive, first-live, marked-at, TopGap, top-gap, written-at}
 
 -- conditions 1, 5 and 7

@@ -1,5 +1,5 @@
 -- Laws of slots in rows: what an append holds, counts, where the empty ones are, and the row that entries were copied to.
-use Prim.Native.Nat.{ℕ, zero, suc, _+_, _-_, _*_, _≤_, _<_}
+use Prim.Native.Nat.{ℕ, zero, suc, _+_, _-_, _*_, _≤_}
 use mathlib.Core.Path.{_≡_, refl, sym, ap, _∙_}
 use mathlib.Core.Bool.{Bool, true, false, cond, _||_, _&&_, not, true≢false, false≢true, and-true, and-assoc, and-eq-true-iff}
 use mathlib.Core.List.{List, [], _∷_, _++_, map, flatMap, flatten, append-assoc, append-nil}
@@ -139,10 +139,6 @@ full-then (k ∷ x) y h = go (isEmpty k) h (λ p. full-then x y p)
     go : (t : Bool) → (not t && full x) ≡ true → (full x ≡ true → emptyLast (x ++ y) ≡ emptyLast y) → cond t (all isEmpty (x ++ y)) (emptyLast (x ++ y)) ≡ emptyLast y
     go true p ih = absurd (false≢true p)
     go false p ih = ih p
-
-pub full-last : (s : List Slot) → full s ≡ true → emptyLast s ≡ true
-unfolding emptyLast
-full-last s h = ap emptyLast (sym (append-nil s)) ∙ full-then s [] h
 
 -- a row with its first empty slot: none empty before it, all empty after it
 pub record FirstEmpty (s : List Slot) : Type 0 where
