@@ -5,3 +5,4 @@ pub mod Places
 pub mod Shape
 pub mod Room
 pub mod Requests
+pub mod Counts

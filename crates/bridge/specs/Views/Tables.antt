@@ -64,9 +64,6 @@ held-copies b t h = ltb-true 0 (copies b t) (sym (holds-copies b t) ∙ h)
 pub absent-copies : (b : ℕ) (t : Table) → holds b t ≡ false → copies b t ≡ 0
 absent-copies b t h = omega (arith, ltb-false 0 (copies b t) (sym (holds-copies b t) ∙ h))
 
-pub copies-held : (b : ℕ) (t : Table) → 1 ≤ copies b t → holds b t ≡ true
-copies-held b t h = holds-copies b t ∙ lt-ltb 0 (copies b t) h
-
 pub copies-absent : (b : ℕ) (t : Table) → copies b t ≡ 0 → holds b t ≡ false
 copies-absent b t h = holds-copies b t ∙ le-ltb 0 (copies b t) (omega arith)
 
@@ -193,6 +190,10 @@ pub distinct-without : (b : ℕ) (t : Table) → distinct t ≡ true → distinc
 distinct-without b t h = copies-distinct (without b t) (λ a. elim (ℕ-discrete a b)
     [ yes e ↦ rw e (omega (arith, copies-without-same b t))
     | no n ↦ omega (arith, copies-without-other a b t n, distinct-copies t h a) ])
+
+pub distinct-store : (b : ℕ) (c : List ℕ) (t : Table) → distinct t ≡ true → distinct (store b c t) ≡ true
+unfolding distinct store
+distinct-store b c t h = rw (copies-absent b (without b t) (copies-without-same b t)) (distinct-without b t h)
 
 -- ---- the first entry of a block taken out
 
