@@ -1,3 +1,4 @@
 -- From bytes to views.
 pub mod Predicted
 pub mod Interface
+pub mod Views

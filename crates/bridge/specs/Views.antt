@@ -1,0 +1,8 @@
+-- Laws of views.
+pub mod Tables
+pub mod Slots
+pub mod Places
+pub mod Shape
+pub mod Room
+pub mod Requests
+pub mod Counts
