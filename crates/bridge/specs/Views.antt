@@ -5,4 +5,3 @@ pub mod Places
 pub mod Shape
 pub mod Room
 pub mod Requests
-pub mod Counts
