@@ -1,3 +1,5 @@
 -- Demand 2.
 pub mod Machine
 pub mod Demand2
+pub mod Sound
+pub mod TableLaws
