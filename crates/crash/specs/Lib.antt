@@ -3,3 +3,4 @@ pub mod Machine
 pub mod Demand2
 pub mod Sound
 pub mod TableLaws
+pub mod ByteImage
