@@ -4,3 +4,4 @@ pub mod Demand2
 pub mod Sound
 pub mod TableLaws
 pub mod ByteImage
+pub mod Requests
