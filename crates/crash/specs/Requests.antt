@@ -9,16 +9,17 @@ use lib.ListN.{length, take}
 use lib.Seq.{take-all}
 use lib.Dec.{ltb, leb, eqb}
 use borrow.Author.Tests.{leb-true, leb-false, ltb-true, ltb-false, lt-leb, le-leb, lt-ltb, le-ltb, ne-eqb, eqb-true}
+use Rattle.model.specs.Lists.{all}
 use Rattle.model.specs.Chip.{Image, rightSize, Step, run, Cut}
 use Rattle.model.specs.Slot.{mostContents, numberOk}
-use Rattle.model.specs.State.{Segment, segmentsOf, View, viewOf, entriesIn, holds, distinct, capacity, isClean, isA, isB, isC, isD, placeOf, Exception, caseA, caseB, caseC, caseD, State, clean, unfinished, damaged, stateOf, state, view}
-use Rattle.model.specs.Steps.{isWorn, recoverSteps}
+use Rattle.model.specs.State.{Segment, segmentsOf, View, viewOf, entriesIn, holds, distinct, capacity, someInUse, consecutive, noneOwing, othersBlank, noneWrongOrTorn, blocksDistinct, emptySlotsLast, withinCapacity, conditions, isClean, isA, isB, isC, isD, placeOf, Exception, caseA, caseB, caseC, caseD, State, clean, unfinished, damaged, stateOf, state, view}
+use Rattle.model.specs.Steps.{isWorn, formatSteps, recoverSteps}
 use Rattle.model.specs.Table.{Table, lookup, Agree, contentsFound, tableOf}
 use Rattle.model.specs.Answers.{Request, format, put, delete, read, readOr, recover, _when_, firstOf, isDamaged, isUnfinished, isFull, absentRefusals, refusals, stepsFor, Work, workOn, workOf, codeUnder, outcomeOf, ReadOutcome, contentsAt, readOutcome, pieceRead, pieceOr}
 use Rattle.model.specs.Histories.{Reply, bytesRead, replyOf, wears, recovered, shown}
 use Rattle.model.specs.Laws.Chip.{prefix-cut}
-use Rattle.crash.specs.Machine.{malformed, codeOnTable, plainCode, OnTable, WantsRecovery}
-use Rattle.crash.specs.TableLaws.{agree-holds}
+use Rattle.crash.specs.Machine.{malformed, codeOnTable, plainCode, made, OnTable, WantsRecovery}
+use Rattle.crash.specs.TableLaws.{agree-of, agree-holds, agree-without, agree-store, distinct-without, distinct-store}
 use Rattle.crash.specs.Sound.{SoundAs, Sound, Clean, finished, CutOf}
 
 -- ---- the code is that of the first refusal, and a refused request has no steps
@@ -208,3 +209,152 @@ module _ (N B : ℕ) (s : Image) (z : rightSize N B s ≡ true) (h : Clean N B s
   code-clean (read b) o = code-of N B s (read b) ∙ absent-clean b
   code-clean (readOr b f) o = code-of N B s (readOr b f) ∙ absent-clean b
   code-clean recover o = code-of N B s recover ∙ rw (z, h)
+
+-- ---- codes on an unfinished image: put, delete and read ask for a recovery
+
+abbrev pub Unfinished : State → Type 0
+Unfinished clean = ⊥
+Unfinished (unfinished x) = Unit {0}
+Unfinished damaged = ⊥
+
+put-unfinished : (number short full worn : Bool)
+    → firstOf ((1 when false) ∷ (2 when not number) ∷ (3 when not short) ∷ (4 when false) ∷ (5 when true) ∷ (7 when full) ∷ (8 when worn) ∷ [])
+      ≡ cond (eqb (cond number (cond short 0 3) 2) 0) 5 (cond number (cond short 0 3) 2)
+unfolding firstOf
+put-unfinished false short full worn = refl
+put-unfinished true false full worn = refl
+put-unfinished true true full worn = refl
+
+absent-unfinished : (number stored : Bool)
+    → firstOf ((1 when false) ∷ (2 when not number) ∷ (4 when false) ∷ (5 when true) ∷ (6 when not stored) ∷ []) ≡ cond (eqb (cond number 0 2) 0) 5 (cond number 0 2)
+unfolding firstOf
+absent-unfinished false stored = refl
+absent-unfinished true stored = refl
+
+module _ (N B : ℕ) (s : Image) (z : rightSize N B s ≡ true) (h : Unfinished (state N B s)) where
+  not-damaged : isDamaged (stateOf N B (segmentsOf N B s)) ≡ false
+  unfolding isDamaged state
+  not-damaged = go (stateOf N B (segmentsOf N B s)) h
+    where
+      go : (x : State) → Unfinished x → isDamaged x ≡ false
+      go clean k = absurd k
+      go (unfinished x) k = refl
+      go damaged k = absurd k
+
+  is-unfinished : isUnfinished (stateOf N B (segmentsOf N B s)) ≡ true
+  unfolding isUnfinished state
+  is-unfinished = go (stateOf N B (segmentsOf N B s)) h
+    where
+      go : (x : State) → Unfinished x → isUnfinished x ≡ true
+      go clean k = absurd k
+      go (unfinished x) k = refl
+      go damaged k = absurd k
+
+  absent-wants : (b : ℕ) → firstOf (absentRefusals N B (rightSize N B s) (segmentsOf N B s) b) ≡ cond (eqb (cond (numberOk b) 0 2) 0) 5 (cond (numberOk b) 0 2)
+  unfolding absentRefusals
+  absent-wants b = rw (z, not-damaged, is-unfinished) (absent-unfinished (numberOk b) (holds b (entriesIn (viewOf N (segmentsOf N B s)))))
+
+  pub code-unfinished : (r : Request) → WantsRecovery r → workOf N B s r .code ≡ cond (eqb (malformed r) 0) 5 (malformed r)
+  unfolding malformed refusals
+  code-unfinished format o = absurd o
+  code-unfinished (put b c) o = code-of N B s (put b c)
+      ∙ rw (z, not-damaged, is-unfinished, not-leb mostContents (length c))
+        (put-unfinished (numberOk b) (leb (length c) mostContents) (isFull N B b (viewOf N (segmentsOf N B s))) (isWorn N (viewOf N (segmentsOf N B s))))
+  code-unfinished (delete b) o = code-of N B s (delete b) ∙ absent-wants b
+  code-unfinished (read b) o = code-of N B s (read b) ∙ absent-wants b
+  code-unfinished (readOr b f) o = code-of N B s (readOr b f) ∙ absent-wants b
+  code-unfinished recover o = absurd o
+
+  pub code-recover : workOf N B s recover .code ≡ 0
+  unfolding refusals firstOf
+  code-recover = code-of N B s recover ∙ rw (z, not-damaged)
+
+pub code-format : (N B : ℕ) (s : Image) → rightSize N B s ≡ true → workOf N B s format .code ≡ 0
+unfolding refusals firstOf
+code-format N B s z = code-of N B s format ∙ rw z
+
+pub steps-format : (N B : ℕ) (s : Image) → rightSize N B s ≡ true → workOf N B s format .steps ≡ formatSteps N B
+unfolding workOf workOn refusals firstOf stepsFor
+steps-format N B s z = rw z
+
+-- ---- the plain table's answers
+
+number-small : (t : Bool) → cond t 0 2 ≤ 3
+number-small true = omega arith
+number-small false = omega arith
+
+pub malformed-small : (r : Request) → malformed r ≤ 3
+unfolding malformed
+malformed-small format = omega arith
+malformed-small (put b c) = go (numberOk b) (leb (length c) mostContents)
+  where
+    go : (t u : Bool) → cond t (cond u 0 3) 2 ≤ 3
+    go true true = omega arith
+    go true false = omega arith
+    go false u = omega arith
+malformed-small (delete b) = number-small (numberOk b)
+malformed-small (read b) = number-small (numberOk b)
+malformed-small (readOr b f) = number-small (numberOk b)
+malformed-small recover = omega arith
+
+-- tables that agree answer alike
+pub code-agree : (C : ℕ) (worn : Bool) (t u : Table) → Agree t u → length t ≡ length u → (r : Request) → plainCode C worn t r ≡ plainCode C worn u r
+unfolding plainCode codeOnTable
+code-agree C worn t u g e r = ap (λ y. cond (eqb (malformed r) 0) y (malformed r)) (on-table r)
+  where
+    on-table : (a : Request) → codeOnTable C worn t a ≡ codeOnTable C worn u a
+    on-table format = refl
+    on-table (put b c) = ap₂ (λ x y. cond (x || ltb y C) (cond worn 8 0) 7) (agree-holds t u g b) e
+    on-table (delete b) = ap (λ x. cond x 0 6) (agree-holds t u g b)
+    on-table (read b) = ap (λ x. cond x 0 6) (agree-holds t u g b)
+    on-table (readOr b f) = ap (λ x. cond x 0 6) (agree-holds t u g b)
+    on-table recover = refl
+
+pub agree-made : (t u : Table) (r : Request) → Agree t u → Agree (made t r) (made u r)
+unfolding made
+agree-made t u format g = agree-of [] [] refl
+agree-made t u (put b c) g = agree-store b c t u g
+agree-made t u (delete b) g = agree-without b t u g
+agree-made t u (read b) g = g
+agree-made t u (readOr b f) g = g
+agree-made t u recover g = g
+
+pub distinct-made : (t : Table) (r : Request) → distinct t ≡ true → distinct (made t r) ≡ true
+unfolding made distinct
+distinct-made t format q = refl
+distinct-made t (put b c) q = distinct-store b c t q
+distinct-made t (delete b) q = distinct-without b t q
+distinct-made t (read b) q = q
+distinct-made t (readOr b f) q = q
+distinct-made t recover q = q
+
+-- ---- the table of a clean image has each block once
+
+clean-test : (N B : ℕ) (l : List Segment) → stateOf N B l ≡ clean → isClean N B l ≡ true
+unfolding stateOf
+clean-test N B l h = go (isClean N B l) (isA N B l) (isB N B l) (isC N B l) (isD N B l) h
+  where
+    go : (t a b c d : Bool) → cond t clean (cond a (unfinished caseA) (cond b (unfinished caseB) (cond c (unfinished caseC) (cond d (unfinished caseD) damaged)))) ≡ clean → t ≡ true
+    go true a b c d e = refl
+    go false true b c d e = cc
+    go false false true c d e = cc
+    go false false false true d e = cc
+    go false false false false true e = cc
+    go false false false false false e = cc
+
+pub clean-distinct : (N B : ℕ) (s : Image) → Clean N B s → distinct (tableOf N B s) ≡ true
+unfolding state view tableOf isClean conditions all blocksDistinct
+clean-distinct N B s h = sixth (someInUse N l) (consecutive N l) (noneOwing l) (othersBlank l) (noneWrongOrTorn v) (distinct (entriesIn v)) (emptySlotsLast v && (withinCapacity N B v && true)) (clean-test N B l h)
+  where
+    l : List Segment
+    l = segmentsOf N B s
+    v : View
+    v = viewOf N (segmentsOf N B s)
+    sixth : (c1 c2 c3 c4 c5 c6 rest : Bool) → c1 && (c2 && (c3 && (c4 && (c5 && (c6 && rest))))) ≡ true → c6 ≡ true
+    sixth true true true true true true rest e = refl
+    sixth true true true true true false rest e = e
+    sixth true true true true false c6 rest e = absurd (false≢true e)
+    sixth true true true false c5 c6 rest e = absurd (false≢true e)
+    sixth true true false c4 c5 c6 rest e = absurd (false≢true e)
+    sixth true false c3 c4 c5 c6 rest e = absurd (false≢true e)
+    sixth false c2 c3 c4 c5 c6 rest e = absurd (false≢true e)
