@@ -5,3 +5,4 @@ pub mod Sound
 pub mod TableLaws
 pub mod ByteImage
 pub mod Requests
+pub mod Skeleton

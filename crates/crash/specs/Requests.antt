@@ -106,12 +106,12 @@ read-code N B s b = go (workOf N B s (read b) .code) (contentsAt N B (placeOf b 
     go n at k = by-test n at k (eqb n 0) refl
 
 -- a refused read hands back an empty piece
-read-refused : (N B : ℕ) (s : Image) (b n : ℕ) → workOf N B s (read b) .code ≡ suc n → pieceRead N B s b ≡ []
+pub read-refused : (N B : ℕ) (s : Image) (b n : ℕ) → workOf N B s (read b) .code ≡ suc n → pieceRead N B s b ≡ []
 unfolding pieceRead readOutcome
 read-refused N B s b n e = rw (e, ne-eqb (suc n) 0 (λ z. omega arith))
 
 -- the second form: the factory record for answer 6, else as the first
-readOr-bytes : (N B : ℕ) (s : Image) (b : ℕ) (f : List ℕ) → pieceOr N B s b f ≡ cond (eqb (workOf N B s (read b) .code) 6) f (pieceRead N B s b)
+pub readOr-bytes : (N B : ℕ) (s : Image) (b : ℕ) (f : List ℕ) → pieceOr N B s b f ≡ cond (eqb (workOf N B s (read b) .code) 6) f (pieceRead N B s b)
 unfolding pieceOr
 readOr-bytes N B s b f = rw (read-code N B s b)
 
