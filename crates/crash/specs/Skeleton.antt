@@ -124,3 +124,218 @@ module _ (N B : ℕ) (laws : RequestLaws N B) where
       let n = workOf N B s (read b) .code in
       rw (readOr-work N B s b f) (readOr-bytes N B s b f ∙ (ap (λ y. cond (eqb n 6) f y) (read-bytes s t b z h g n refl) ∙ swap n (contentsFound (lookup b t)) f))
   bytes-clean s t recover z h g = refl
+
+  -- ---- an event on a clean image that stores t
+
+  module _ (s m : Image) (t : Table) (r : Request) (o : OnTable r) (p : Proper r) (z : rightSize N B s ≡ true) (k : Stores N B s t) where
+    plain-code : workOf N B s r .code ≡ plainCode (capacity N B) (wears N B s) t r
+    plain-code = code-clean N B s z (k .clean) r o
+        ∙ code-agree (capacity N B) (wears N B s) (tableOf N B s) t (k .table) (agree-size (tableOf N B s) t (clean-distinct N B s (k .clean)) (k .once) (k .table)) r
+
+    plain-reply : ended N B s r ≡ plain (capacity N B) (wears N B s) t r
+    unfolding ended plain
+    plain-reply = ap₂ (λ (n : ℕ) (y : List ℕ). reply n y) plain-code (bytes-clean s t r z (k .clean) (k .table) ∙ ap (λ (n : ℕ). plainBytes t n r) plain-code)
+      where
+        reply : ℕ → List ℕ → Reply
+        reply n y = record { code = n; bytes = y }
+
+    plain-next : after t (workOf N B s r .code) r ≡ next (capacity N B) (wears N B s) t r
+    unfolding next
+    plain-next = ap (λ (n : ℕ). after t n r) plain-code
+
+    stored-next : m ≡ finished N B s r → Stores N B m (next (capacity N B) (wears N B s) t r)
+    stored-next e =
+        let n = workOf N B s r .code in
+        let d = clean-done s r o p z (k .bytes) (k .clean) n refl in
+        rw (e, ← plain-next) (record
+          { clean = d .0
+          ; table = agree-trans (tableOf N B (finished N B s r)) (after (tableOf N B s) n r) (after t n r) (d .1) (agree-after (tableOf N B s) t n r (k .table))
+          ; once = distinct-after t n r (k .once)
+          ; bytes = bytes-run B (workOf N B s r .steps) s (k .bytes) })
+
+    clean-interrupted : (x : Promise) → Holds x t → (u : Seen) → IsCut u → CutOf N B s r m → Follows N B (wears N B s) r u x m
+    clean-interrupted x held u i c =
+        let n = workOf N B s r .code in
+        let d = clean-cut s m r o p z (k .bytes) (k .clean) c n refl in
+        let zm = cut-size N B (workOf N B s r .steps) s m c ∙ z in
+        let ym = bytes-cut B (workOf N B s r .steps) s m c (k .bytes) in
+        ⊎-elim
+          (λ old. (interrupted t, not-begun t held o i,
+            (zm, record { sound = d .0; table = agree-trans (shown N B m) (tableOf N B s) t old (k .table); once = k .once; bytes = ym })))
+          (λ new. (interrupted (next (capacity N B) (wears N B s) t r), wholly-done t held o i,
+            (zm, rw (← plain-next) (record
+              { sound = d .0
+              ; table = agree-trans (shown N B m) (after (tableOf N B s) n r) (after t n r) new (agree-after (tableOf N B s) t n r (k .table))
+              ; once = distinct-after t n r (k .once)
+              ; bytes = ym }))))
+          (d .1)
+
+  -- ---- an event on an image that will show t
+
+  -- clean, or unfinished
+  clean-or-unfinished : (s : Image) → Sound N B s → Clean N B s ⊎ Unfinished (state N B s)
+  clean-or-unfinished s h = go (state N B s) refl h
+    where
+      go : (y : State) → state N B s ≡ y → SoundAs N B s (segmentsOf N B s) y → Clean N B s ⊎ Unfinished (state N B s)
+      go clean e k = inl e
+      go (unfinished x) e k = inr (rw e tt)
+      go damaged e k = absurd k
+
+  stores-clean : (s : Image) (t : Table) → Clean N B s → WillShow N B s t → Stores N B s t
+  stores-clean s t h k = record
+    { clean = h
+    ; table = agree-trans (tableOf N B s) (shown N B s) t (agree-of (tableOf N B s) (shown N B s) (sym (shown-clean N B s h))) (k .table)
+    ; once = k .once
+    ; bytes = k .bytes }
+
+  -- refused as malformed, on any image: nothing changes
+  refuses : (s m : Image) (t : Table) (r : Request) (n : ℕ) → rightSize N B s ≡ true → WillShow N B s t → malformed r ≡ suc n → workOf N B s r .code ≡ suc n
+      → (w : Bool) (u : Seen) → u ≡ answered (ended N B s r) → m ≡ finished N B s r → Follows N B w r u (interrupted t) m
+  unfolding ended
+  refuses s m t r n z k f e w u i d =
+      (interrupted t,
+       refuses-malformed n f (i ∙ rw (e, bytes-refused N B s r n e (λ six. omega (arith, malformed-small r)))),
+       rw (d, idle-finished N B s r (refused-idle N B s r n e)) (z, k))
+
+  module _ (s m : Image) (t : Table) (z : rightSize N B s ≡ true) (k : WillShow N B s t) (h : Unfinished (state N B s)) where
+    wants-code : (r : Request) → WantsRecovery r → (n : ℕ) → malformed r ≡ n → workOf N B s r .code ≡ cond (eqb n 0) 5 n
+    wants-code r q n e = code-unfinished N B s z h r q ∙ ap (λ (y : ℕ). cond (eqb y 0) 5 y) e
+
+    -- put, delete and read take no step
+    wants-idle : (r : Request) → WantsRecovery r → workOf N B s r .steps ≡ []
+    wants-idle r q = go (malformed r) (wants-code r q (malformed r) refl)
+      where
+        go : (n : ℕ) → workOf N B s r .code ≡ cond (eqb n 0) 5 n → workOf N B s r .steps ≡ []
+        go zero e = refused-idle N B s r 4 e
+        go (suc n) e = refused-idle N B s r n (e ∙ rw (ne-eqb (suc n) 0 (λ y. omega arith)))
+
+    wants-interrupted : (r : Request) → WantsRecovery r → OnTable r → (w : Bool) (u : Seen) → IsCut u → CutOf N B s r m → Follows N B w r u (interrupted t) m
+    wants-interrupted r q o w u i c = (interrupted t, not-begun t refl o i, rw (idle-cut N B s m r (wants-idle r q) c) (z, k))
+
+    wants-ends : (r : Request) → WantsRecovery r → (w : Bool) (u : Seen) → u ≡ answered (ended N B s r) → m ≡ finished N B s r → Follows N B w r u (interrupted t) m
+    unfolding ended
+    wants-ends r q w u i d = go (malformed r) refl
+      where
+        go : (n : ℕ) → malformed r ≡ n → Follows N B w r u (interrupted t) m
+        go zero e =
+            let five : workOf N B s r .code ≡ 5 = wants-code r q 0 e in
+            (interrupted t, asks-recovery q e (i ∙ rw (five, bytes-refused N B s r 4 five (λ six. omega (arith, six)))), rw (d, idle-finished N B s r (wants-idle r q)) (z, k))
+        go (suc n) e = refuses s m t r n z k e (wants-code r q (suc n) e ∙ rw (ne-eqb (suc n) 0 (λ y. omega arith))) w u i d
+
+    recover-interrupted : (w : Bool) (u : Seen) → IsCut u → CutOf N B s recover m → Follows N B w recover u (interrupted t) m
+    recover-interrupted w u i c =
+        let d = laws .recover-cut s m z (k .sound) c in
+        (interrupted t, not-begun t refl tt i,
+          (cut-size N B (workOf N B s recover .steps) s m c ∙ z, record
+            { sound = d .0
+            ; table = agree-trans (shown N B m) (shown N B s) t (d .1) (k .table)
+            ; once = k .once
+            ; bytes = bytes-cut B (workOf N B s recover .steps) s m c (k .bytes) }))
+
+    recover-ends : (w : Bool) (u : Seen) → u ≡ answered (ended N B s recover) → m ≡ finished N B s recover → Follows N B w recover u (interrupted t) m
+    unfolding malformed recovered shown ended plain plainCode codeOnTable plainBytes bytesRead next made
+    recover-ends w u i e =
+        (settled t, answers-again {t = t} tt refl (i ∙ rw (code-recover N B s z h)),
+          (size-finished N B s m recover z e, rw e (record
+            { clean = laws .recover-done s z (k .sound); table = k .table; once = k .once; bytes = bytes-run B (workOf N B s recover .steps) s (k .bytes) })))
+
+  -- ---- one event, whatever the promise
+
+  request-cut : (s m : Image) (x : Promise) (r : Request) → OnTable r → Proper r → Invariant N B s x → (u : Seen) → IsCut u → CutOf N B s r m → Follows N B (wears N B s) r u x m
+  request-cut s m unknown r o p (z, k) u i c = (unknown, no-promise o, (cut-size N B (workOf N B s r .steps) s m c ∙ z, tt))
+  request-cut s m (settled t) r o p (z, k) u i c = clean-interrupted s m t r o p z k (settled t) refl u i c
+  request-cut s m (interrupted t) r o p (z, k) u i c =
+      ⊎-elim (λ h. clean-interrupted s m t r o p z (stores-clean s t h k) (interrupted t) refl u i c) (λ h. by-request r o h c) (clean-or-unfinished s (k .sound))
+    where
+      by-request : (a : Request) → OnTable a → Unfinished (state N B s) → CutOf N B s a m → Follows N B (wears N B s) a u (interrupted t) m
+      by-request format oa h d = absurd oa
+      by-request (put b v) oa h d = wants-interrupted s m t z k h (put b v) tt tt (wears N B s) u i d
+      by-request (delete b) oa h d = wants-interrupted s m t z k h (delete b) tt tt (wears N B s) u i d
+      by-request (read b) oa h d = wants-interrupted s m t z k h (read b) tt tt (wears N B s) u i d
+      by-request (readOr b f) oa h d = wants-interrupted s m t z k h (readOr b f) tt tt (wears N B s) u i d
+      by-request recover oa h d = recover-interrupted s m t z k h (wears N B s) u i d
+
+  request-ends : (s m : Image) (x : Promise) (r : Request) → OnTable r → Proper r → Invariant N B s x → (u : Seen) → u ≡ answered (ended N B s r) → m ≡ finished N B s r
+      → Follows N B (wears N B s) r u x m
+  unfolding plainCode
+  request-ends s m unknown r o p (z, k) u i e = (unknown, no-promise o, (size-finished N B s m r z e, tt))
+  request-ends s m (settled t) r o p (z, k) u i e =
+      (settled (next (capacity N B) (wears N B s) t r), answers o (i ∙ ap answered (plain-reply s m t r o p z k)), (size-finished N B s m r z e, stored-next s m t r o p z k e))
+  request-ends s m (interrupted t) r o p (z, k) u i e =
+      ⊎-elim (λ h. still-clean (malformed r) refl (stores-clean s t h k)) (λ h. by-request r o h i e) (clean-or-unfinished s (k .sound))
+    where
+      still-clean : (n : ℕ) → malformed r ≡ n → Stores N B s t → Follows N B (wears N B s) r u (interrupted t) m
+      still-clean zero f q =
+          (settled (next (capacity N B) (wears N B s) t r), answers-again o f (i ∙ ap answered (plain-reply s m t r o p z q)), (size-finished N B s m r z e, stored-next s m t r o p z q e))
+      still-clean (suc n) f q = refuses s m t r n z k f (plain-code s m t r o p z q ∙ rw (f, ne-eqb (suc n) 0 (λ y. omega arith))) (wears N B s) u i e
+      by-request : (a : Request) → OnTable a → Unfinished (state N B s) → u ≡ answered (ended N B s a) → m ≡ finished N B s a → Follows N B (wears N B s) a u (interrupted t) m
+      by-request format oa h ia d = absurd oa
+      by-request (put b v) oa h ia d = wants-ends s m t z k h (put b v) tt (wears N B s) u ia d
+      by-request (delete b) oa h ia d = wants-ends s m t z k h (delete b) tt (wears N B s) u ia d
+      by-request (read b) oa h ia d = wants-ends s m t z k h (read b) tt (wears N B s) u ia d
+      by-request (readOr b f) oa h ia d = wants-ends s m t z k h (readOr b f) tt (wears N B s) u ia d
+      by-request recover oa h ia d = recover-ends s m t z k h (wears N B s) u ia d
+
+  -- a format, from any image
+  format-interrupted : (s m : Image) (x : Promise) → rightSize N B s ≡ true → (w : Bool) (u : Seen) → IsCut u → CutOf N B s format m → Follows N B w format u x m
+  format-interrupted s m x z w u i c = (unknown, format-cut refl i, (cut-size N B (workOf N B s format .steps) s m c ∙ z, tt))
+
+  format-ends : (s m : Image) (x : Promise) → rightSize N B s ≡ true → (w : Bool) (u : Seen) → u ≡ answered (ended N B s format) → m ≡ finished N B s format → Follows N B w format u x m
+  unfolding ended bytesRead distinct
+  format-ends s m x z w u i e =
+      let d = laws .format-done s z in
+      let v : m ≡ run B (formatSteps N B) s = e ∙ ap (λ y. run B y s) (steps-format N B s z) in
+      (settled [], formats refl (i ∙ rw (code-format N B s z)),
+        (size-finished N B s m format z e, rw v (record
+          { clean = d .0; table = agree-of (tableOf N B (run B (formatSteps N B) s)) [] (d .1); once = refl; bytes = bytes-format N B s z })))
+
+  -- ended, stopped at the allowance, or lost
+  on-table : (s m : Image) (x : Promise) (r : Request) → OnTable r → Proper r → Invariant N B s x → (u : Seen) → Does N B r u s m → Follows N B (wears N B s) r u x m
+  on-table s m x r o p k lost c = request-cut s m x r o p k lost (inl refl) c
+  on-table s m x r o p k (answered y) (allowance, e, f) = ⊎-elim
+      (λ ends. request-ends s m x r o p k (answered y) (ap answered (e ∙ ends .reply)) (f ∙ ends .image))
+      (λ stops. request-cut s m x r o p k (answered y) (inr (ap answered (e ∙ stops .reply))) (rw f (stops .image)))
+      (ends-or-stops N B s allowance r)
+
+  on-format : (s m : Image) (x : Promise) → rightSize N B s ≡ true → (u : Seen) → Does N B format u s m → Follows N B (wears N B s) format u x m
+  on-format s m x z lost c = format-interrupted s m x z (wears N B s) lost (inl refl) c
+  on-format s m x z (answered y) (allowance, e, f) = ⊎-elim
+      (λ ends. format-ends s m x z (wears N B s) (answered y) (ap answered (e ∙ ends .reply)) (f ∙ ends .image))
+      (λ stops. format-interrupted s m x z (wears N B s) (answered y) (inr (ap answered (e ∙ stops .reply))) (rw f (stops .image)))
+      (ends-or-stops N B s allowance format)
+
+  one-event : (s m : Image) (x : Promise) (r : Request) → Proper r → Invariant N B s x → (u : Seen) → Does N B r u s m → Follows N B (wears N B s) r u x m
+  one-event s m x format p k u d = on-format s m x (k .0) u d
+  one-event s m x (put b c) p k u d = on-table s m x (put b c) tt p k u d
+  one-event s m x (delete b) p k u d = on-table s m x (delete b) tt p k u d
+  one-event s m x (read b) p k u d = on-table s m x (read b) tt p k u d
+  one-event s m x (readOr b f) p k u d = on-table s m x (readOr b f) tt p k u d
+  one-event s m x recover p k u d = on-table s m x recover tt p k u d
+
+  -- ---- the history
+
+  history : (es : List Event) (s u : Image) (x : Promise) → Invariant N B s x → History N B s es u → (y : Promise) × PlainRuns (capacity N B) x es y × Invariant N B u y
+  history [] s u x k e = (x, refl, rw e k)
+  history (v ∷ es) s u x k (p, w, (m, d, rest)) =
+      let a = one-event s m x (v .request) p k (v .seen) d in
+      let b = history es m u (a .0) (a .2) rest in
+      (b .0, (a .0, rw w (a .1), b .1), b .2)
+
+  keeps : (s : Image) (x : Promise) → Invariant N B s x → Keeps N B s x
+  keeps s (settled t) (z, k) = (k .clean, k .table)
+  keeps s (interrupted t) (z, k) = ((λ e. subst (λ y. SoundAs N B s (segmentsOf N B s) y) e (k .sound)), laws .recover-done s z (k .sound), k .table)
+  keeps s unknown k = tt
+
+range-of : (N B : ℕ) (s : Image) → rightSize N B s ≡ true → inRange N B ≡ true
+unfolding rightSize
+range-of N B s z = go (inRange N B) z
+  where
+    go : (t : Bool) → t && eqb (length s) (imageLength N B) ≡ true → t ≡ true
+    go true e = refl
+    go false e = e
+
+pub demand2-from : ((N B : ℕ) → inRange N B ≡ true → RequestLaws N B) → Demand2
+demand2-from laws N B s u es z runs =
+    let l = laws N B (range-of N B s z) in
+    let a = history N B l es s u unknown (z, tt) runs in
+    (a .0, a .1, keeps N B l u (a .0) (a .2))
