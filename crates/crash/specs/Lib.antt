@@ -6,3 +6,4 @@ pub mod TableLaws
 pub mod ByteImage
 pub mod Requests
 pub mod Skeleton
+pub mod Reading
