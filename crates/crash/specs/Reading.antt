@@ -155,3 +155,49 @@ cut-old-or-new {C} {w} {r} {x = x} (wholly-done u k i e) t s j n = inr (ap (λ (
 cut-old-or-new {r = r} (formats i e) t s j n = absurd (not-format r j i)
 cut-old-or-new {r = r} (format-cut i e) t s j n = absurd (not-format r j i)
 cut-old-or-new (no-promise k) t s j n = absurd s
+
+abbrev pub IsInterrupted : Promise → Table → Type 0
+IsInterrupted (settled u) t = ⊥
+IsInterrupted (interrupted u) t = u ≡ t
+IsInterrupted unknown t = ⊥
+
+-- the first recovery that finishes keeps the promised table
+pub recovery-keeps : {C : ℕ} {w : Bool} {r : Request} {o : Seen} {x y : Promise} → Moves C w r o x y → (t : Table) → IsInterrupted x t → r ≡ recover → codeSeen o ≢ 9
+    → (o ≡ refused 0) × (y ≡ settled t)
+unfolding plain plainCode plainBytes codeOnTable malformed next made
+recovery-keeps (answers k e) t s f n = absurd s
+recovery-keeps {C} {w} (answers-again {t = u} k i e) t s f n =
+    (e ∙ ap (λ (v : Request). answered (plain C w u v)) f, ap (λ (v : Request). settled (next C w u v)) f ∙ ap settled s)
+recovery-keeps (asks-recovery k i e) t s f n = absurd (subst WantsRecovery f k)
+recovery-keeps (refuses-malformed m i e) t s f n = absurd (let h : suc m ≡ 0 = sym i ∙ ap malformed f in omega arith)
+recovery-keeps {o = o} (not-begun u k i e) t s f n = absurd (n (cut-code o e))
+recovery-keeps {o = o} (wholly-done u k i e) t s f n = absurd (n (cut-code o e))
+recovery-keeps {r = r} (formats i e) t s f n = absurd (not-format r (subst OnTable (sym f) tt) i)
+recovery-keeps {o = o} (format-cut i e) t s f n = absurd (n (cut-code o e))
+recovery-keeps (no-promise k) t s f n = absurd s
+
+-- and one that is cut keeps it too, as often as it may be cut
+pub recovery-cut-keeps : {C : ℕ} {w : Bool} {r : Request} {o : Seen} {x y : Promise} → Moves C w r o x y → (t : Table) → IsInterrupted x t → r ≡ recover → codeSeen o ≡ 9
+    → y ≡ interrupted t
+unfolding plainCode codeOnTable malformed next made
+recovery-cut-keeps {C} {w} {x = x} m t s f n =
+    ⊎-elim (λ old. old) (λ new. new ∙ ap (λ (v : Request). interrupted (next C w t v)) f) (cut-old-or-new m t (held x s) (subst OnTable (sym f) tt) n)
+  where
+    held : (v : Promise) → IsInterrupted v t → Holds v t
+    held (settled u) h = absurd h
+    held (interrupted u) h = h
+    held unknown h = absurd h
+
+-- until then a request is refused and nothing changes, or it answers as the table that the recovery would have shown
+pub interrupted-exact : {C : ℕ} {w : Bool} {r : Request} {o : Seen} {x y : Promise} → Moves C w r o x y → (t : Table) → IsInterrupted x t → OnTable r → codeSeen o ≢ 9
+    → ((o ≡ answered (plain C w t r)) × (y ≡ settled (next C w t r))) ⊎ ((y ≡ interrupted t) × ((o ≡ refused 5) ⊎ ((n : ℕ) × (malformed r ≡ suc n) × (o ≡ refused (suc n)))))
+interrupted-exact (answers k e) t s i n = absurd s
+interrupted-exact {C} {w} {r} {o} (answers-again {t = u} k i e) t s j n =
+    inl (subst (λ (v : Table). (o ≡ answered (plain C w v r)) × (settled (next C w u r) ≡ settled (next C w v r))) s (e, refl))
+interrupted-exact (asks-recovery k i e) t s j n = inr (ap interrupted s, inl e)
+interrupted-exact (refuses-malformed m i e) t s j n = inr (ap interrupted s, inr (m, i, e))
+interrupted-exact {o = o} (not-begun u k i e) t s j n = absurd (n (cut-code o e))
+interrupted-exact {o = o} (wholly-done u k i e) t s j n = absurd (n (cut-code o e))
+interrupted-exact {r = r} (formats i e) t s j n = absurd (not-format r j i)
+interrupted-exact {o = o} (format-cut i e) t s j n = absurd (n (cut-code o e))
+interrupted-exact (no-promise k) t s j n = absurd s
