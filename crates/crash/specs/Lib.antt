@@ -7,3 +7,4 @@ pub mod ByteImage
 pub mod Requests
 pub mod Skeleton
 pub mod Reading
+pub mod ReadingRuns

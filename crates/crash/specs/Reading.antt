@@ -74,11 +74,11 @@ abbrev pub codeSeen : Seen → ℕ
 codeSeen (answered a) = a .code
 codeSeen lost = 9
 
-cut-code : (o : Seen) → IsCut o → codeSeen o ≡ 9
+pub cut-code : (o : Seen) → IsCut o → codeSeen o ≡ 9
 cut-code o (inl e) = ap codeSeen e
 cut-code o (inr e) = ap codeSeen e
 
-not-format : (r : Request) → OnTable r → r ≡ format → ⊥
+pub not-format : (r : Request) → OnTable r → r ≡ format → ⊥
 not-format r o e = subst OnTable e o
 
 -- no table answers 9

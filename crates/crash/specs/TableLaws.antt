@@ -10,7 +10,7 @@ use lib.ListN.{length}
 use lib.Dec.{eqb}
 use borrow.Author.Tests.{eq-eqb, ne-eqb, eqb-true}
 use Rattle.model.specs.State.{holds, distinct}
-use Rattle.model.specs.Table.{Table, Found, absent, present, lookup, without, store, Agree}
+use Rattle.model.specs.Table.{Table, Found, absent, present, lookup, without, store, Agree, contentsFound}
 
 -- ---- tables that agree
 
@@ -44,6 +44,19 @@ not-found b t e = go (lookup b t) (sym (holds-lookup b t) ∙ e)
     go : (f : Found) → isPresent f ≡ false → f ≡ absent
     go absent h = refl
     go (present c) h = absurd (true≢false h)
+
+-- and one that is held is
+pub found : (b : ℕ) (t : Table) → holds b t ≡ true → lookup b t ≡ present (contentsFound (lookup b t))
+unfolding isPresent contentsFound
+found b t e = go (lookup b t) (sym (holds-lookup b t) ∙ e)
+  where
+    go : (f : Found) → isPresent f ≡ true → f ≡ present (contentsFound f)
+    go absent h = absurd (false≢true h)
+    go (present c) h = refl
+
+pub found-held : (b : ℕ) (t : Table) (c : List ℕ) → lookup b t ≡ present c → holds b t ≡ true
+unfolding isPresent
+found-held b t c e = holds-lookup b t ∙ ap isPresent e
 
 -- ---- without and store
 
