@@ -11,7 +11,7 @@ use lib.Dec.{eqb}
 use borrow.Author.Tests.{eqb-true, eqb-false}
 use Rattle.model.specs.Chip.{Image, rightSize}
 use Rattle.model.specs.Slot.{numberOk}
-use Rattle.model.specs.State.{holds}
+use Rattle.model.specs.State.{holds, capacity}
 use Rattle.model.specs.Table.{Table, Found, absent, present, lookup, without, store, contentsFound}
 use Rattle.model.specs.Answers.{Request, format, put, delete, read, readOr, recover}
 use Rattle.model.specs.Histories.{Reply, Seen, answered, lost, Event, History}
@@ -160,3 +160,78 @@ plain-gives C w t (readOr a f) b c q h =
     let bytes = ap (λ (v : Reply). v .bytes) h in
     rw (← q) (found a t (stored-if-done (cond (numberOk a) 0 2) (holds a t) code) ∙ ap present (rw code at bytes))
 plain-gives C w t recover b c q h = absurd q
+
+-- what a read gives is what the promise shows
+pub read-shows : {C : ℕ} {w : Bool} {r : Request} {o : Seen} {x y : Promise} → Moves C w r o x y → (b : ℕ) (c : List ℕ) → Known x → Reads b r → o ≡ answered (gives c) → Shows x b c
+read-shows {C} {w} {r} (answers {t = t} k e) b c h q g = plain-gives C w t r b c q (cc)
+read-shows {C} {w} {r} (answers-again {t = t} k i e) b c h q g = plain-gives C w t r b c q (cc)
+read-shows (asks-recovery k i e) b c h q g = absurd (let f : 5 ≡ 0 = sym (ap codeSeen e) ∙ ap codeSeen g in omega arith)
+read-shows (refuses-malformed n i e) b c h q g = absurd (let f : suc n ≡ 0 = sym (ap codeSeen e) ∙ ap codeSeen g in omega arith)
+read-shows {o = o} (not-begun t k i e) b c h q g = absurd (let f : 9 ≡ 0 = sym (cut-code o e) ∙ ap codeSeen g in omega arith)
+read-shows {o = o} (wholly-done t k i e) b c h q g = absurd (let f : 9 ≡ 0 = sym (cut-code o e) ∙ ap codeSeen g in omega arith)
+read-shows {r = r} (formats i e) b c h q g = absurd (subst (λ (v : Request). Reads b v) i q)
+read-shows {r = r} (format-cut i e) b c h q g = absurd (subst (λ (v : Request). Reads b v) i q)
+read-shows (no-promise k) b c h q g = absurd h
+
+-- A block never shows contents that were not put under its number since the last format.
+pub shows-only-what-was-put : (C : ℕ) (x y : Promise) (past es : List Event) (f e : Event) (b : ℕ) (c : List ℕ) → PlainRuns C x (past ++ (f ∷ (es ++ (e ∷ [])))) y
+    → FinishedFormat f → NoFormat es → Reads b (e .request) → e .seen ≡ answered (gives c) → PutAmong b c es
+unfolding lookup
+shows-only-what-was-put C x y past es f e b c runs done none q g =
+    let (start, before, (fresh, formatting, rest)) = runs-append C past (f ∷ (es ++ (e ∷ []))) x y runs in
+    let (last, since, (end, reading, nothing)) = runs-append C es (e ∷ []) fresh y rest in
+    let empty : fresh ≡ settled [] = format-starts formatting (done .request) (done .seen) in
+    let known : Known last = runs-known C es fresh last since none (subst Known (sym empty) tt) in
+    ⊎-elim (λ old. absurd (never c (subst (λ (v : Promise). Shows v b c) empty old))) (λ new. new) (runs-from C es fresh last since b c (read-shows reading b c known q g))
+
+-- and so of every history of the store
+pub store-shows-only-what-was-put : Demand2 → (N B : ℕ) (s u : Image) (past es : List Event) (f e : Event) (b : ℕ) (c : List ℕ) → rightSize N B s ≡ true
+    → History N B s (past ++ (f ∷ (es ++ (e ∷ [])))) u → FinishedFormat f → NoFormat es → Reads b (e .request) → e .seen ≡ answered (gives c) → PutAmong b c es
+store-shows-only-what-was-put demand2 N B s u past es f e b c z h done none q g =
+    let (x, runs, keeps) = demand2 N B s u (past ++ (f ∷ (es ++ (e ∷ [])))) z h in
+    shows-only-what-was-put (capacity N B) unknown x past es f e b c runs done none q g
+
+-- ---- acknowledged contents stay
+
+-- a request that leaves this block alone
+abbrev pub Spares : ℕ → Request → Type 0
+Spares b format = ⊥
+Spares b (put a c) = b ≢ a
+Spares b (delete a) = b ≢ a
+Spares b (read a) = Unit {0}
+Spares b (readOr a f) = Unit {0}
+Spares b recover = Unit {0}
+
+abbrev pub AllSpare : ℕ → List Event → Type 0
+AllSpare b [] = Unit {0}
+AllSpare b (e ∷ es) = Spares b (e .request) × AllSpare b es
+
+next-keeps : (C : ℕ) (w : Bool) (t : Table) (r : Request) (b : ℕ) → Spares b r → lookup b (next C w t r) ≡ lookup b t
+unfolding next made
+next-keeps C w t r b q = go (eqb (plainCode C w t r) 0) (made-keeps r q)
+  where
+    made-keeps : (a : Request) → Spares b a → lookup b (made t a) ≡ lookup b t
+    made-keeps format h = absurd h
+    made-keeps (put a c) h = lookup-store-other b a c t h
+    made-keeps (delete a) h = lookup-without-other b a t h
+    made-keeps (read a) h = refl
+    made-keeps (readOr a f) h = refl
+    made-keeps recover h = refl
+    go : (x : Bool) → lookup b (made t r) ≡ lookup b t → lookup b (cond x (made t r) t) ≡ lookup b t
+    go true h = h
+    go false h = refl
+
+move-keeps : {C : ℕ} {w : Bool} {r : Request} {o : Seen} {x y : Promise} → Moves C w r o x y → (b : ℕ) (c : List ℕ) → Spares b r → Shows x b c → Shows y b c
+move-keeps {C} {w} {r} (answers {t = t} k e) b c q h = next-keeps C w t r b q ∙ h
+move-keeps {C} {w} {r} (answers-again {t = t} k i e) b c q h = next-keeps C w t r b q ∙ h
+move-keeps (asks-recovery k i e) b c q h = h
+move-keeps (refuses-malformed n i e) b c q h = h
+move-keeps {x = x} (not-begun t k i e) b c q h = shows-held x t b c k h
+move-keeps {C} {w} {r} {x = x} (wholly-done t k i e) b c q h = next-keeps C w t r b q ∙ shows-held x t b c k h
+move-keeps (formats i e) b c q h = absurd (subst (λ (v : Request). Spares b v) i q)
+move-keeps (format-cut i e) b c q h = absurd (subst (λ (v : Request). Spares b v) i q)
+move-keeps (no-promise k) b c q h = absurd h
+
+pub runs-keep : (C : ℕ) (es : List Event) (x y : Promise) → PlainRuns C x es y → (b : ℕ) (c : List ℕ) → AllSpare b es → Shows x b c → Shows y b c
+runs-keep C [] x y e b c q h = subst (λ (v : Promise). Shows v b c) (sym e) h
+runs-keep C (e ∷ es) x y (z, m, rest) b c q h = runs-keep C es z y rest b c (q .1) (move-keeps m b c (q .0) h)
