@@ -1,3 +1,10 @@
 -- Demand 2.
 pub mod Machine
 pub mod Demand2
+pub mod Sound
+pub mod TableLaws
+pub mod ByteImage
+pub mod Requests
+pub mod Skeleton
+pub mod Reading
+pub mod ReadingRuns

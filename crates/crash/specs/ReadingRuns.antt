@@ -1,0 +1,237 @@
+-- The customer's sentences over whole histories: a block never shows contents that were not put under its number since the last format,
+-- and acknowledged contents are read back until the block is written or deleted, through every power cut.
+use Prim.Native.Nat.{ℕ, zero, suc}
+use mathlib.Core.Path.{_≡_, refl, sym, ap, ap₂, _∙_, subst}
+use mathlib.Core.Logic.{_⊎_, inl, inr, ⊎-elim, _≢_}
+use mathlib.Core.Bool.{Bool, true, false, cond}
+use mathlib.Core.List.{List, [], _∷_, _++_}
+use native.Mathlib.Omega.{arith}
+use native.Mathlib.Decide.{ℕ-discrete}
+use lib.Dec.{eqb}
+use borrow.Author.Tests.{eqb-true, eqb-false}
+use Rattle.model.specs.Chip.{Image, rightSize}
+use Rattle.model.specs.Slot.{numberOk}
+use Rattle.model.specs.State.{holds, capacity}
+use Rattle.model.specs.Table.{Table, Found, absent, present, lookup, without, store, contentsFound}
+use Rattle.model.specs.Answers.{Request, format, put, delete, read, readOr, recover}
+use Rattle.model.specs.Histories.{Reply, Seen, answered, lost, Event, History}
+use Rattle.crash.specs.Machine.{malformed, codeOnTable, plainCode, plainBytes, plain, made, next, Promise, settled, interrupted, unknown, refused, IsCut, OnTable, WantsRecovery, Holds, Moves, answers, answers-again, asks-recovery, refuses-malformed, not-begun, wholly-done, formats, format-cut, no-promise, PlainRuns}
+use Rattle.crash.specs.Demand2.{Demand2}
+use Rattle.crash.specs.TableLaws.{found, found-held, lookup-without-same, lookup-without-other, lookup-store-same, lookup-store-other}
+use Rattle.crash.specs.Reading.{codeSeen, cut-code, not-format, format-starts}
+
+-- the contents of a block, by a promise
+abbrev pub Shows : Promise → ℕ → List ℕ → Type 0
+Shows (settled t) b c = lookup b t ≡ present c
+Shows (interrupted t) b c = lookup b t ≡ present c
+Shows unknown b c = ⊥
+
+-- a put of these contents under this number, acknowledged or cut; and one among some events
+abbrev pub Puts : ℕ → List ℕ → Request → Seen → Type 0
+Puts b c r o = (r ≡ put b c) × ((codeSeen o ≡ 0) ⊎ (codeSeen o ≡ 9))
+
+abbrev pub PutAmong : ℕ → List ℕ → List Event → Type 0
+PutAmong b c [] = ⊥
+PutAmong b c (e ∷ es) = Puts b c (e .request) (e .seen) ⊎ PutAmong b c es
+
+-- ---- where shown contents come from
+
+never : (c : List ℕ) → absent ≡ present c → ⊥
+never c e = let y : _≡_ {A = ℕ} 0 1 = cc in omega arith
+
+made-from : (r : Request) (t : Table) (b : ℕ) (c : List ℕ) → lookup b (made t r) ≡ present c → (lookup b t ≡ present c) ⊎ (r ≡ put b c)
+unfolding made lookup
+made-from format t b c h = absurd (never c h)
+made-from (put a d) t b c h =
+    elim (ℕ-discrete b a) [ yes e ↦ inr (ap₂ put (sym e) (cc (lookup-store-same b d t, h, e)))
+      | no n ↦ inl (sym (lookup-store-other b a d t n) ∙ h) ]
+made-from (delete a) t b c h =
+    elim (ℕ-discrete b a) [ yes e ↦ absurd (never c (sym (lookup-without-same b t) ∙ rw (← e) at h))
+      | no n ↦ inl (sym (lookup-without-other b a t n) ∙ h) ]
+made-from (read a) t b c h = inl h
+made-from (readOr a f) t b c h = inl h
+made-from recover t b c h = inl h
+
+next-from : (C : ℕ) (w : Bool) (t : Table) (r : Request) (b : ℕ) (c : List ℕ) → lookup b (next C w t r) ≡ present c → (lookup b t ≡ present c) ⊎ ((r ≡ put b c) × (plainCode C w t r ≡ 0))
+unfolding next
+next-from C w t r b c h = go (eqb (plainCode C w t r) 0) refl h
+  where
+    go : (x : Bool) → eqb (plainCode C w t r) 0 ≡ x → lookup b (cond x (made t r) t) ≡ present c → (lookup b t ≡ present c) ⊎ ((r ≡ put b c) × (plainCode C w t r ≡ 0))
+    go true e k = ⊎-elim (λ old. inl old) (λ new. inr (new, eqb-true (plainCode C w t r) 0 e)) (made-from r t b c k)
+    go false e k = inl k
+
+held-shows : (x : Promise) (t : Table) (b : ℕ) (c : List ℕ) → Holds x t → lookup b t ≡ present c → Shows x b c
+held-shows (settled u) t b c k h = ap (λ (v : Table). lookup b v) k ∙ h
+held-shows (interrupted u) t b c k h = ap (λ (v : Table). lookup b v) k ∙ h
+held-shows unknown t b c k h = absurd k
+
+shows-held : (x : Promise) (t : Table) (b : ℕ) (c : List ℕ) → Holds x t → Shows x b c → lookup b t ≡ present c
+shows-held (settled u) t b c k h = ap (λ (v : Table). lookup b v) (sym k) ∙ h
+shows-held (interrupted u) t b c k h = ap (λ (v : Table). lookup b v) (sym k) ∙ h
+shows-held unknown t b c k h = absurd k
+
+-- in one event: they were shown before, or this event put them
+pub move-from : {C : ℕ} {w : Bool} {r : Request} {o : Seen} {x y : Promise} → Moves C w r o x y → (b : ℕ) (c : List ℕ) → Shows y b c → Shows x b c ⊎ Puts b c r o
+unfolding plain lookup
+move-from {C} {w} {r} (answers {t = t} k e) b c h = ⊎-elim (λ old. inl old) (λ new. inr (new .0, inl (ap codeSeen e ∙ new .1))) (next-from C w t r b c h)
+move-from {C} {w} {r} (answers-again {t = t} k i e) b c h = ⊎-elim (λ old. inl old) (λ new. inr (new .0, inl (ap codeSeen e ∙ new .1))) (next-from C w t r b c h)
+move-from (asks-recovery k i e) b c h = inl h
+move-from (refuses-malformed n i e) b c h = inl h
+move-from {x = x} (not-begun t k i e) b c h = inl (held-shows x t b c k h)
+move-from {C} {w} {r} {o} {x = x} (wholly-done t k i e) b c h = ⊎-elim (λ old. inl (held-shows x t b c k old)) (λ new. inr (new .0, inr (cut-code o e))) (next-from C w t r b c h)
+move-from (formats i e) b c h = absurd (never c h)
+move-from (format-cut i e) b c h = absurd h
+move-from (no-promise k) b c h = absurd h
+
+-- over a history
+pub runs-from : (C : ℕ) (es : List Event) (x y : Promise) → PlainRuns C x es y → (b : ℕ) (c : List ℕ) → Shows y b c → Shows x b c ⊎ PutAmong b c es
+runs-from C [] x y e b c h = inl (subst (λ (v : Promise). Shows v b c) e h)
+runs-from C (e ∷ es) x y (z, m, rest) b c h =
+    ⊎-elim (λ k. ⊎-elim (λ old. inl old) (λ now. inr (inl now)) (move-from m b c k)) (λ later. inr (inr later)) (runs-from C es z y rest b c h)
+
+-- ---- a promise is known from a finished format on
+
+abbrev pub Known : Promise → Type 0
+Known (settled t) = Unit {0}
+Known (interrupted t) = Unit {0}
+Known unknown = ⊥
+
+abbrev pub NoFormat : List Event → Type 0
+NoFormat [] = Unit {0}
+NoFormat (e ∷ es) = OnTable (e .request) × NoFormat es
+
+pub record FinishedFormat (e : Event) : Type 0 where
+  pub request : e .request ≡ format
+  pub seen : e .seen ≡ refused 0
+
+move-known : {C : ℕ} {w : Bool} {r : Request} {o : Seen} {x y : Promise} → Moves C w r o x y → OnTable r → Known x → Known y
+move-known (answers k e) f h = tt
+move-known (answers-again k i e) f h = tt
+move-known (asks-recovery k i e) f h = tt
+move-known (refuses-malformed n i e) f h = tt
+move-known (not-begun t k i e) f h = tt
+move-known (wholly-done t k i e) f h = tt
+move-known (formats i e) f h = tt
+move-known {r = r} (format-cut i e) f h = absurd (not-format r f i)
+move-known (no-promise k) f h = h
+
+pub runs-known : (C : ℕ) (es : List Event) (x y : Promise) → PlainRuns C x es y → NoFormat es → Known x → Known y
+runs-known C [] x y e f h = subst Known (sym e) h
+runs-known C (e ∷ es) x y (z, m, rest) f h = runs-known C es z y rest (f .1) (move-known m (f .0) h)
+
+runs-append : (C : ℕ) (es ds : List Event) (x y : Promise) → PlainRuns C x (es ++ ds) y → (z : Promise) × PlainRuns C x es z × PlainRuns C z ds y
+runs-append C [] ds x y r = (x, refl, r)
+runs-append C (e ∷ es) ds x y (z, m, rest) = let a = runs-append C es ds z y rest in (a .0, (z, m, a .1), a .2)
+
+-- ---- reads
+
+-- a read of this block, in either form
+abbrev pub Reads : ℕ → Request → Type 0
+Reads b format = ⊥
+Reads b (put a c) = ⊥
+Reads b (delete a) = ⊥
+Reads b (read a) = a ≡ b
+Reads b (readOr a f) = a ≡ b
+Reads b recover = ⊥
+
+-- done, with these bytes
+abbrev pub gives : List ℕ → Reply
+gives c = record { code = 0; bytes = c }
+
+stored-if-done : (m : ℕ) (x : Bool) → cond (eqb m 0) (cond x 0 6) m ≡ 0 → x ≡ true
+stored-if-done m x h = go (eqb m 0) refl x h
+  where
+    go : (u : Bool) → eqb m 0 ≡ u → (v : Bool) → cond u (cond v 0 6) m ≡ 0 → v ≡ true
+    go true e true k = refl
+    go true e false k = absurd (omega (arith, k))
+    go false e v k = absurd (eqb-false m 0 e k)
+
+plain-gives : (C : ℕ) (w : Bool) (t : Table) (r : Request) (b : ℕ) (c : List ℕ) → Reads b r → plain C w t r ≡ gives c → lookup b t ≡ present c
+unfolding plain plainCode codeOnTable plainBytes malformed
+plain-gives C w t format b c q h = absurd q
+plain-gives C w t (put a d) b c q h = absurd q
+plain-gives C w t (delete a) b c q h = absurd q
+plain-gives C w t (read a) b c q h =
+    let code = ap (λ (v : Reply). v .code) h in
+    let bytes = ap (λ (v : Reply). v .bytes) h in
+    rw (← q) (found a t (stored-if-done (cond (numberOk a) 0 2) (holds a t) code) ∙ ap present (rw code at bytes))
+plain-gives C w t (readOr a f) b c q h =
+    let code = ap (λ (v : Reply). v .code) h in
+    let bytes = ap (λ (v : Reply). v .bytes) h in
+    rw (← q) (found a t (stored-if-done (cond (numberOk a) 0 2) (holds a t) code) ∙ ap present (rw code at bytes))
+plain-gives C w t recover b c q h = absurd q
+
+-- what a read gives is what the promise shows
+pub read-shows : {C : ℕ} {w : Bool} {r : Request} {o : Seen} {x y : Promise} → Moves C w r o x y → (b : ℕ) (c : List ℕ) → Known x → Reads b r → o ≡ answered (gives c) → Shows x b c
+read-shows {C} {w} {r} (answers {t = t} k e) b c h q g = plain-gives C w t r b c q (cc)
+read-shows {C} {w} {r} (answers-again {t = t} k i e) b c h q g = plain-gives C w t r b c q (cc)
+read-shows (asks-recovery k i e) b c h q g = absurd (let f : 5 ≡ 0 = sym (ap codeSeen e) ∙ ap codeSeen g in omega arith)
+read-shows (refuses-malformed n i e) b c h q g = absurd (let f : suc n ≡ 0 = sym (ap codeSeen e) ∙ ap codeSeen g in omega arith)
+read-shows {o = o} (not-begun t k i e) b c h q g = absurd (let f : 9 ≡ 0 = sym (cut-code o e) ∙ ap codeSeen g in omega arith)
+read-shows {o = o} (wholly-done t k i e) b c h q g = absurd (let f : 9 ≡ 0 = sym (cut-code o e) ∙ ap codeSeen g in omega arith)
+read-shows {r = r} (formats i e) b c h q g = absurd (subst (λ (v : Request). Reads b v) i q)
+read-shows {r = r} (format-cut i e) b c h q g = absurd (subst (λ (v : Request). Reads b v) i q)
+read-shows (no-promise k) b c h q g = absurd h
+
+-- A block never shows contents that were not put under its number since the last format.
+pub shows-only-what-was-put : (C : ℕ) (x y : Promise) (past es : List Event) (f e : Event) (b : ℕ) (c : List ℕ) → PlainRuns C x (past ++ (f ∷ (es ++ (e ∷ [])))) y
+    → FinishedFormat f → NoFormat es → Reads b (e .request) → e .seen ≡ answered (gives c) → PutAmong b c es
+unfolding lookup
+shows-only-what-was-put C x y past es f e b c runs done none q g =
+    let (start, before, (fresh, formatting, rest)) = runs-append C past (f ∷ (es ++ (e ∷ []))) x y runs in
+    let (last, since, (end, reading, nothing)) = runs-append C es (e ∷ []) fresh y rest in
+    let empty : fresh ≡ settled [] = format-starts formatting (done .request) (done .seen) in
+    let known : Known last = runs-known C es fresh last since none (subst Known (sym empty) tt) in
+    ⊎-elim (λ old. absurd (never c (subst (λ (v : Promise). Shows v b c) empty old))) (λ new. new) (runs-from C es fresh last since b c (read-shows reading b c known q g))
+
+-- and so of every history of the store
+pub store-shows-only-what-was-put : Demand2 → (N B : ℕ) (s u : Image) (past es : List Event) (f e : Event) (b : ℕ) (c : List ℕ) → rightSize N B s ≡ true
+    → History N B s (past ++ (f ∷ (es ++ (e ∷ [])))) u → FinishedFormat f → NoFormat es → Reads b (e .request) → e .seen ≡ answered (gives c) → PutAmong b c es
+store-shows-only-what-was-put demand2 N B s u past es f e b c z h done none q g =
+    let (x, runs, keeps) = demand2 N B s u (past ++ (f ∷ (es ++ (e ∷ [])))) z h in
+    shows-only-what-was-put (capacity N B) unknown x past es f e b c runs done none q g
+
+-- ---- acknowledged contents stay
+
+-- a request that leaves this block alone
+abbrev pub Spares : ℕ → Request → Type 0
+Spares b format = ⊥
+Spares b (put a c) = b ≢ a
+Spares b (delete a) = b ≢ a
+Spares b (read a) = Unit {0}
+Spares b (readOr a f) = Unit {0}
+Spares b recover = Unit {0}
+
+abbrev pub AllSpare : ℕ → List Event → Type 0
+AllSpare b [] = Unit {0}
+AllSpare b (e ∷ es) = Spares b (e .request) × AllSpare b es
+
+next-keeps : (C : ℕ) (w : Bool) (t : Table) (r : Request) (b : ℕ) → Spares b r → lookup b (next C w t r) ≡ lookup b t
+unfolding next made
+next-keeps C w t r b q = go (eqb (plainCode C w t r) 0) (made-keeps r q)
+  where
+    made-keeps : (a : Request) → Spares b a → lookup b (made t a) ≡ lookup b t
+    made-keeps format h = absurd h
+    made-keeps (put a c) h = lookup-store-other b a c t h
+    made-keeps (delete a) h = lookup-without-other b a t h
+    made-keeps (read a) h = refl
+    made-keeps (readOr a f) h = refl
+    made-keeps recover h = refl
+    go : (x : Bool) → lookup b (made t r) ≡ lookup b t → lookup b (cond x (made t r) t) ≡ lookup b t
+    go true h = h
+    go false h = refl
+
+move-keeps : {C : ℕ} {w : Bool} {r : Request} {o : Seen} {x y : Promise} → Moves C w r o x y → (b : ℕ) (c : List ℕ) → Spares b r → Shows x b c → Shows y b c
+move-keeps {C} {w} {r} (answers {t = t} k e) b c q h = next-keeps C w t r b q ∙ h
+move-keeps {C} {w} {r} (answers-again {t = t} k i e) b c q h = next-keeps C w t r b q ∙ h
+move-keeps (asks-recovery k i e) b c q h = h
+move-keeps (refuses-malformed n i e) b c q h = h
+move-keeps {x = x} (not-begun t k i e) b c q h = shows-held x t b c k h
+move-keeps {C} {w} {r} {x = x} (wholly-done t k i e) b c q h = next-keeps C w t r b q ∙ shows-held x t b c k h
+move-keeps (formats i e) b c q h = absurd (subst (λ (v : Request). Spares b v) i q)
+move-keeps (format-cut i e) b c q h = absurd (subst (λ (v : Request). Spares b v) i q)
+move-keeps (no-promise k) b c q h = absurd h
+
+pub runs-keep : (C : ℕ) (es : List Event) (x y : Promise) → PlainRuns C x es y → (b : ℕ) (c : List ℕ) → AllSpare b es → Shows x b c → Shows y b c
+runs-keep C [] x y e b c q h = subst (λ (v : Promise). Shows v b c) (sym e) h
+runs-keep C (e ∷ es) x y (z, m, rest) b c q h = runs-keep C es z y rest b c (q .1) (move-keeps m b c (q .0) h)
