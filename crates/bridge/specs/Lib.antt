@@ -2,3 +2,5 @@
 pub mod Predicted
 pub mod Interface
 pub mod Views
+pub mod Held
+pub mod Done

@@ -3,19 +3,14 @@ use Prim.Native.Nat.{ℕ, zero, suc, _+_, _-_, _*_, _≤_, _<_}
 use mathlib.Core.Path.{_≡_}
 use mathlib.Core.Bool.{Bool, true, false, cond, _||_}
 use mathlib.Core.List.{List, [], _∷_, _++_}
-use lib.ListN.{length, getD, set, replicate}
+use lib.ListN.{length, replicate}
 use lib.Dec.{ltb}
-use Rattle.model.specs.Chip.{Image, Bytes, rightSize, run, numberLimit}
 use Rattle.model.specs.Slot.{Slot, empty, dead, live}
-use Rattle.model.specs.State.{View, entriesIn, holds, capacity, Place, placeOf, noneWrongOrTorn, blocksDistinct, emptySlotsLast, withinCapacity, State, clean, state, view}
-use Rattle.model.specs.Steps.{topRow, topNumber, firstEmpty, hasRoom, roomFor, compactions, isWorn, formatSteps}
-use Rattle.model.specs.Answers.{Request, put, delete, workOf}
+use Rattle.model.specs.State.{View, entriesIn, holds, capacity, Place, placeOf, noneWrongOrTorn, blocksDistinct, emptySlotsLast, withinCapacity}
+use Rattle.model.specs.Steps.{topRow, topNumber, firstEmpty, roomFor}
+unfoldable pub use Rattle.model.specs.Laws.View.{slotChanged}
 
 -- ---- predictions
-
--- slot j of the segment with number n changed
-unfoldable pub slotChanged : ℕ → ℕ → Slot → View → View
-slotChanged n j k v = record { first = v .first; slots = set (v .slots) (n - v .first) (set (getD (v .slots) (n - v .first) []) j k) }
 
 -- a slot written at the top's first empty place
 unfoldable pub written : ℕ → List ℕ → View → View

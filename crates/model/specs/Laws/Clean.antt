@@ -10,7 +10,7 @@ use lib.ListN.{length, getD, set, length-set}
 use lib.Dec.{leb}
 use borrow.Author.Tests.{leb-true, le-leb, not-true}
 use Rattle.model.specs.Lists.{all}
-use Rattle.model.specs.State.{Segment, blank, invalid, inUse, isInUse, isInvalid, isOwing, numberAfter, slotsIn, nextNumber, topIndex, nextIndex, usedCount, firstNumber, slotsFrom, View, viewOf, someInUse, numbersFrom, consecutive, noneOwing, othersBlank, noneWrongOrTorn, blocksDistinct, emptySlotsLast, withinCapacity, conditions, isClean}
+use Rattle.model.specs.State.{Segment, blank, invalid, inUse, isInUse, isInvalid, isOwing, numberAfter, slotsIn, nextNumber, topIndex, nextIndex, usedCount, firstNumber, slotsFrom, View, viewOf, someInUse, numbersFrom, consecutive, noneOwing, othersBlank, noneWrongOrTorn, blocksDistinct, emptySlotsLast, withinCapacity, conditions, isClean, isA, isB, isC, isD, caseA, caseB, caseC, caseD, State, clean, unfinished, damaged, stateOf}
 use Rattle.model.specs.Laws.Lists.{and-left, and-right, and-both, all-get, mod-inj}
 use Rattle.model.specs.Laws.Ring.{next-ge, numbers-get, number-in-use, only-numbered, Apart, apart-before, slots-length}
 
@@ -57,6 +57,23 @@ clean-slots N B l h = record
 pub ring-clean : (N B : ℕ) (l : List Segment) → RingFacts N l → SlotFacts N B (viewOf N l) → isClean N B l ≡ true
 unfolding isClean conditions all someInUse consecutive
 ring-clean N B l r s = rw (le-leb 1 (usedCount l) (r .some), le-leb (usedCount l) (N - 1) (r .spare), r .chain, r .paid, r .others, s .sound, s .once, s .last, s .within)
+
+-- the state is clean exactly if Clean holds
+pub state-clean : (N B : ℕ) (l : List Segment) → stateOf N B l ≡ clean → isClean N B l ≡ true
+unfolding stateOf
+state-clean N B l h = go (isClean N B l) (isA N B l) (isB N B l) (isC N B l) (isD N B l) h
+  where
+    go : (p a b c d : Bool) → cond p clean (cond a (unfinished caseA) (cond b (unfinished caseB) (cond c (unfinished caseC) (cond d (unfinished caseD) damaged)))) ≡ clean → p ≡ true
+    go true a b c d q = refl
+    go false true b c d q = absurd (let y : _≡_ {A = ℕ} 0 1 = cc in omega arith)
+    go false false true c d q = absurd (let y : _≡_ {A = ℕ} 0 1 = cc in omega arith)
+    go false false false true d q = absurd (let y : _≡_ {A = ℕ} 0 1 = cc in omega arith)
+    go false false false false true q = absurd (let y : _≡_ {A = ℕ} 0 1 = cc in omega arith)
+    go false false false false false q = absurd (let y : _≡_ {A = ℕ} 0 1 = cc in omega arith)
+
+pub clean-state : (N B : ℕ) (l : List Segment) → isClean N B l ≡ true → stateOf N B l ≡ clean
+unfolding stateOf
+clean-state N B l h = rw h
 
 module _ (N : ℕ) (l : List Segment) (r : RingFacts N l) where
   -- the numbers in use run from the first to the one before the next
@@ -108,3 +125,10 @@ module _ (N : ℕ) (l : List Segment) (r : RingFacts N l) where
   pub view-length : length (viewOf N l .slots) ≡ usedCount l
   unfolding viewOf
   view-length = slots-length N l (usedCount l) (firstNumber l)
+
+-- a segment by its number
+pub in-use-numbered : (x : Segment) (n : ℕ) → numberAfter x ≡ suc n → (st : ℕ) × (x ≡ inUse st n (slotsIn x))
+unfolding numberAfter slotsIn
+in-use-numbered blank n e = absurd (omega arith)
+in-use-numbered invalid n e = absurd (omega arith)
+in-use-numbered (inUse st m ks) n e = (st, ap (λ (y : ℕ). inUse st y ks) (omega arith))

@@ -18,8 +18,8 @@ use Rattle.model.specs.Laws.Ring.{Apart, apart-after, apart-before, apar
 use Rattle.model.specs.Laws.Clean.{RingFacts, used-next, two-segments, index-inside, numbered, next-unused, next-apart}
 
 -- slot j of the segment with number n changed
-unfoldable pub slotSet : ℕ → ℕ → Slot → View → View
-slotSet n j k v = record { first = v .first; slots = set (v .slots) (n - v .first) (set (getD (v .slots) (n - v .first) []) j k) }
+unfoldable pub slotChanged : ℕ → ℕ → Slot → View → View
+slotChanged n j k v = record { first = v .first; slots = set (v .slots) (n - v .first) (set (getD (v .slots) (n - v .first) []) j k) }
 
 -- ---- a segment replaced by one that counts alike
 
@@ -103,8 +103,8 @@ module _ (N : ℕ) (l : List Segment) (r : RingFacts N l) (k j : ℕ) (x : Slot)
     ; paid = all-kept (λ y. not (isOwing y)) l (k % N) changed blank (ap not (withSlot-owing j x (getD l (k % N) blank))) (r .paid)
     ; others = all-kept (λ y. not (isInvalid y)) l (k % N) changed blank (ap not (withSlot-invalid j x (getD l (k % N) blank))) (r .others) }
 
-  pub slot-view : viewOf N (set l (k % N) (withSlot j x (getD l (k % N) blank))) ≡ slotSet k j x (viewOf N l)
-  unfolding changed firstNumber viewOf slotSet
+  pub slot-view : viewOf N (set l (k % N) (withSlot j x (getD l (k % N) blank))) ≡ slotChanged k j x (viewOf N l)
+  unfolding changed firstNumber viewOf slotChanged
   slot-view =
       let n = used-next N l r in
       let row : slotsIn changed ≡ set (getD (slotsFrom N l (usedCount l) (nextNumber l - usedCount l)) (k - (nextNumber l - usedCount l)) []) j x =

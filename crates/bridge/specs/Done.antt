@@ -1,0 +1,164 @@
+-- Each list of steps of a put or a delete, done whole, leaves the ring and the predicted view.
+use Prim.Native.Nat.{ℕ, zero, suc, _+_, _-_, _*_, _/_, _%_, _≤_, _<_}
+use mathlib.Core.Path.{_≡_, refl, sym, ap, ap₂, _∙_, subst}
+use mathlib.Core.Logic.{_≢_}
+use mathlib.Core.Bool.{Bool, true, false, cond}
+use mathlib.Core.List.{List, [], _∷_, _++_}
+use native.Mathlib.Omega.{arith}
+use native.Mathlib.Nat.{mod-lt, mod-add-mod, add-mod-right}
+use lib.ListN.{length, getD, drop, set, replicate, length-set}
+use lib.Seq.{set-set, set-comm, getD-set-same, getD-set-other}
+use Rattle.model.specs.Chip.{Image, Bytes, numberLimit, rightSize, step, run, Step, erase}
+use Rattle.model.specs.Header.{opened, erasePending, compacted}
+use Rattle.model.specs.Slot.{Slot, empty, dead, live, Entry}
+use Rattle.model.specs.State.{Segment, blank, inUse, segmentsOf, nextNumber, nextIndex, usedCount, firstNumber, View, viewOf, view, entries, withSlot, Place}
+use Rattle.model.specs.Steps.{onPage, slotAt, writeSlot, markDead, markPlace, openSegment, copyOut, settle, compact, topRow, topNumber, firstEmpty, copied, openNext, compactOldest, writeAtTop}
+use Rattle.model.specs.Laws.Chip.{SizeFacts, size-facts, run-size, run-append, run-length, step-length}
+use Rattle.model.specs.Laws.SlotPage.{Valid, Markable, live-markable}
+use Rattle.model.specs.Laws.Effects.{mark-effect, write-effect, slot-kind, slotPageAt, erase-effect, open-effect, settle-effect}
+use Rattle.model.specs.Laws.CopyOut.{Valids, copy-out-effect}
+use Rattle.model.specs.Laws.Clean.{RingFacts, used-next, index-inside, next-blank, next-apart}
+use Rattle.model.specs.Laws.View.{slotChanged, slot-ring, slot-view, taken-ring, taken-view, moved-ring, moved-view}
+use Rattle.bridge.specs.Predicted.{written, marked}
+use Rattle.bridge.specs.Held.{Held, two-segments, slots-byte, held-first, held-rows, held-count, held-next, held-top, held-row, row-valid}
+
+module _ (N B : ℕ) (s : Image) (v : View) (h : Held N B s v) where
+  abbrev l : List Segment
+  l = segmentsOf N B s
+
+  abbrev size : SizeFacts N B s
+  size = size-facts N B s (h .size)
+
+  two : 2 ≤ N
+  two = two-segments N B s (h .size)
+
+  -- ---- one slot changed
+
+  -- what a change of one slot in the segments is in the view
+  slot-held : (n j : ℕ) (x : Slot) (xs : List Step) → v .first ≤ n → n < nextNumber l
+      → segmentsOf N B (run B xs s) ≡ set l (n % N) (withSlot j x (getD l (n % N) blank)) → Held N B (run B xs s) (slotChanged n j x v)
+  unfolding view
+  slot-held n j x xs lo hi e =
+      let f = held-first N B s v h in
+      let low : firstNumber l ≤ n = omega arith in record
+      { size = run-size N B xs s ∙ h .size
+      ; ring = rw e (slot-ring N l (h .ring) n j x low hi)
+      ; view = rw e (slot-view N l (h .ring) n j x low hi ∙ ap (λ y. slotChanged n j x y) (h .view)) }
+
+  module _ (k j : ℕ) (inRow : k < length (v .slots)) (inSlot : j < B) where
+    abbrev n : ℕ
+    n = v .first + k
+
+    low : v .first ≤ n
+    low = omega arith
+
+    high : n < nextNumber l
+    high = omega (arith, held-next N B s v h)
+
+    -- a live slot marked
+    pub mark-held : (b : ℕ) (c : List ℕ) → getD (getD (v .slots) k []) j empty ≡ live b c → Held N B (run B (onPage (slotAt N B (v .first + k) j) markDead) s) (slotChanged (v .first + k) j dead v)
+    mark-held b c e =
+        let r = held-row N B s v h k inRow in
+        let kind = slot-kind N B two s (size .whole) n j (r .0) n (getD (v .slots) k []) inSlot (r .1) in
+        slot-held n j dead (onPage (slotAt N B n j) markDead) low high
+          (mark-effect N B two s (size .whole) n j (r .0) n (getD (v .slots) k []) inSlot (r .1) (live-markable (slotPageAt N B two s (size .whole) n j (r .0) n (getD (v .slots) k []) inSlot (r .1)) b c (kind ∙ e)))
+
+    -- an empty slot written
+    pub write-held : (b : ℕ) (c : List ℕ) → Valid b c → getD (getD (v .slots) k []) j empty ≡ empty → Held N B (run B (onPage (slotAt N B (v .first + k) j) (writeSlot b c)) s) (slotChanged (v .first + k) j (live b c) v)
+    write-held b c w e =
+        let r = held-row N B s v h k inRow in
+        slot-held n j (live b c) (onPage (slotAt N B n j) (writeSlot b c)) low high
+          (write-effect N B two s (size .whole) n j (r .0) n (getD (v .slots) k []) inSlot (r .1) b c w e)
+
+  -- ---- one more segment
+
+  -- the number after the top's, whose segment is blank
+  abbrev pub next : ℕ
+  next = suc (topNumber v)
+
+  next-is : next ≡ nextNumber l
+  next-is = held-top N B s v h
+
+  free : getD l (next % N) blank ≡ blank
+  free = ap (λ (y : ℕ). getD l (y % N) blank) next-is ∙ (unfold nextIndex in next-blank N l (h .ring))
+
+  module _ (below : suc (topNumber v) < numberLimit N) where
+    pub open-held : length (v .slots) < N - 1 → Held N B (run B (openNext N B v .steps) s) (openNext N B v .result)
+    unfolding openNext view nextIndex
+    open-held few =
+        let e : segmentsOf N B (run B (openSegment N B next) s) ≡ set l (nextNumber l % N) (inUse opened (nextNumber l) (replicate B empty)) =
+              open-effect N B two (size .most) (slots-byte N B s (h .size)) s (size .whole) next below free
+              ∙ ap (λ (y : ℕ). set l (y % N) (inUse opened y (replicate B empty))) next-is in record
+        { size = run-size N B (openSegment N B next) s ∙ h .size
+        ; ring = rw e (taken-ring N l (h .ring) opened (replicate B empty) (omega (arith, held-count N B s v h)) refl)
+        ; view = rw e (taken-view N l (h .ring) opened (replicate B empty) ∙ ap (λ (y : View). record { first = y .first; slots = y .slots ++ (replicate B empty ∷ []) }) (h .view)) }
+
+    -- ---- a compaction
+
+    module _ (bytes : Bytes s) (full : length (v .slots) ≡ N - 1) (es : List Entry) (valid : Valids es) (fit : length es ≤ B) where
+      abbrev o : ℕ
+      o = v .first
+
+      pub ring-closed : o + N ≡ next + 1
+      unfolding topNumber
+      ring-closed = omega (arith, full, two)
+
+      old-after : o % N ≡ (next % N + 1) % N
+      old-after = sym (add-mod-right o N) ∙ (ap (λ (y : ℕ). y % N) ring-closed ∙ sym (mod-add-mod next N 1))
+
+      abbrev pub copiedTo : Image
+      copiedTo = run B (copyOut N B (v .first) (suc (topNumber v)) es) s
+
+      pub copied-segments : segmentsOf N B copiedTo ≡ set l (nextIndex N l) (inUse erasePending (nextNumber l) (copied B es))
+      unfolding nextIndex
+      copied-segments = copy-out-effect N B two (size .most) (slots-byte N B s (h .size)) s (size .whole) o next below old-after es valid fit free
+          ∙ ap (λ (y : ℕ). set l (y % N) (inUse erasePending y (copied B es))) next-is
+
+      copied-length : length copiedTo ≡ length s
+      copied-length = run-length B (copyOut N B o next es) s
+
+      abbrev erasedOld : Image
+      erasedOld = step B (erase (o % N)) copiedTo
+
+      abbrev owing : List Segment
+      owing = set l (nextIndex N l) (inUse erasePending (nextNumber l) (copied B es))
+
+      erased-segments : segmentsOf N B erasedOld ≡ set owing (firstNumber l % N) blank
+      erased-segments =
+          let p : 0 < N = omega (arith, two) in
+          erase-effect N B two copiedTo (copied-length ∙ size .whole) (o % N) (mod-lt o p)
+          ∙ ap₂ (λ (x : List Segment) (y : ℕ). set x (y % N) blank) copied-segments (held-first N B s v h)
+
+      apart : nextIndex N l ≢ firstNumber l % N
+      apart e = next-apart N l (h .ring) (firstNumber l) (omega arith) (omega (arith, h .ring .some)) (sym e)
+
+      settled-segments : segmentsOf N B (run B (settle N B next) erasedOld) ≡ set (set l (nextIndex N l) (inUse compacted (nextNumber l) (copied B es))) (firstNumber l % N) blank
+      unfolding nextIndex
+      settled-segments =
+          let i = nextNumber l % N in
+          let j = firstNumber l % N in
+          let pending = inUse erasePending (nextNumber l) (copied B es) in
+          let there : getD (segmentsOf N B erasedOld) (next % N) blank ≡ inUse erasePending next (copied B es) =
+                ap₂ (λ (x : List Segment) (y : ℕ). getD x (y % N) blank) erased-segments next-is
+                ∙ (getD-set-other owing j i blank blank apart
+                ∙ (getD-set-same l i pending blank (index-inside N l (h .ring) (nextNumber l)) ∙ ap (λ (y : ℕ). inUse erasePending y (copied B es)) (sym next-is))) in
+          settle-effect N B two (size .most) (slots-byte N B s (h .size)) erasedOld (step-length B (erase (o % N)) copiedTo ∙ (copied-length ∙ size .whole)) next below (copied B es) there
+          ∙ (ap₂ (λ (x : List Segment) (y : ℕ). set x (y % N) (inUse compacted y (copied B es))) erased-segments next-is
+          ∙ (set-comm owing j i blank (inUse compacted (nextNumber l) (copied B es)) (λ e. apart (sym e))
+          ∙ ap (λ (x : List Segment). set x j blank) (set-set l i pending (inUse compacted (nextNumber l) (copied B es)))))
+
+      abbrev whole : List Step
+      whole = compact N B (v .first) (suc (topNumber v)) es
+
+      whole-run : run B whole s ≡ run B (settle N B next) erasedOld
+      unfolding compact run
+      whole-run = run-append B (copyOut N B o next es) (erase (o % N) ∷ settle N B next) s
+
+      pub compact-held : Held N B (run B (compact N B (v .first) (suc (topNumber v)) es) s) (record { first = suc (v .first); slots = drop 1 (v .slots) ++ (copied B es ∷ []) })
+      unfolding view
+      compact-held =
+          let e : segmentsOf N B (run B whole s) ≡ set (set l (nextIndex N l) (inUse compacted (nextNumber l) (copied B es))) (firstNumber l % N) blank = ap (λ y. segmentsOf N B y) whole-run ∙ settled-segments in
+          let used : usedCount l ≡ N - 1 = sym (held-count N B s v h) ∙ full in record
+          { size = run-size N B whole s ∙ h .size
+          ; ring = rw e (moved-ring N l (h .ring) compacted (copied B es) used refl)
+          ; view = rw e (moved-view N l (h .ring) compacted (copied B es) used ∙ ap (λ (y : View). record { first = suc (y .first); slots = drop 1 (y .slots) ++ (copied B es ∷ []) }) (h .view)) }
