@@ -4,3 +4,5 @@ pub mod Interface
 pub mod Views
 pub mod Held
 pub mod Done
+pub mod Accepted
+pub mod Requests

@@ -1,0 +1,113 @@
+-- One request by its refusals: what an accepted one passed, and that a refused one takes no step.
+use Prim.Native.Nat.{ℕ, suc, _≤_}
+use mathlib.Core.Path.{_≡_, refl, ap, _∙_}
+use mathlib.Core.Bool.{Bool, true, false, cond, _||_, _&&_, not}
+use mathlib.Core.List.{List, [], _∷_}
+use native.Mathlib.Omega.{arith}
+use lib.ListN.{length}
+use lib.Dec.{ltb, leb, eqb}
+use borrow.Author.Tests.{leb-false, ltb-false, lt-ltb, not-false, eqb-true, eqb-false}
+use Rattle.model.specs.Chip.{Image, Bytes, Step, rightSize}
+use Rattle.model.specs.Slot.{mostContents, numberOk}
+use Rattle.model.specs.State.{segmentsOf, View, viewOf, view, entriesIn, holds, capacity, state, clean}
+use Rattle.model.specs.Steps.{recoverSteps, isWorn}
+use Rattle.model.specs.Answers.{Request, format, put, delete, read, recover, Refusal, firstOf, isFull, absentRefusals, refusals, stepsFor, Work, workOn, workOf}
+use Rattle.bridge.specs.Predicted.{Fits}
+
+-- ---- the list of an answer
+
+abbrev answered : Bool → ℕ → List Step → Work
+answered t c xs = cond t (record { code = 0; steps = xs }) (record { code = c; steps = [] })
+
+refused-steps : (t : Bool) (c : ℕ) (xs : List Step) → eqb (answered t c xs .code) 0 ≡ false → answered t c xs .steps ≡ []
+refused-steps true c xs h = cc
+refused-steps false c xs h = refl
+
+accepted-steps : (t : Bool) (c : ℕ) (xs : List Step) → eqb c 0 ≡ t → answered t c xs .code ≡ 0 → (answered t c xs .steps ≡ xs) × (c ≡ 0)
+accepted-steps true c xs e h = (refl, eqb-true c 0 e)
+accepted-steps false c xs e h = absurd (eqb-false c 0 e h)
+
+module _ (N B : ℕ) (s : Image) where
+  -- the smallest number that applies to a request
+  abbrev pub refusal : Request → ℕ
+  refusal r = firstOf (refusals N B (rightSize N B s) (segmentsOf N B s) r)
+
+  pub refused-none : (r : Request) → eqb (workOf N B s r .code) 0 ≡ false → workOf N B s r .steps ≡ []
+  unfolding workOf workOn
+  refused-none r h = refused-steps (eqb (refusal r) 0) (refusal r) (stepsFor N B (segmentsOf N B s) r) h
+
+  pub accepted : (r : Request) → workOf N B s r .code ≡ 0 → (workOf N B s r .steps ≡ stepsFor N B (segmentsOf N B s) r) × (refusal r ≡ 0)
+  unfolding workOf workOn
+  accepted r h = accepted-steps (eqb (refusal r) 0) (refusal r) (stepsFor N B (segmentsOf N B s) r) refl h
+
+  -- a request whose list is empty once it is accepted takes no step
+  pub quiet-none : (r : Request) → stepsFor N B (segmentsOf N B s) r ≡ [] → workOf N B s r .steps ≡ []
+  quiet-none r h = go (eqb (workOf N B s r .code) 0) refl
+    where
+      go : (t : Bool) → eqb (workOf N B s r .code) 0 ≡ t → workOf N B s r .steps ≡ []
+      go true e = accepted r (eqb-true (workOf N B s r .code) 0 e) .0 ∙ h
+      go false e = refused-none r e
+
+  -- recover takes no step on a clean image
+  pub recover-none : state N B s ≡ clean → workOf N B s recover .steps ≡ []
+  unfolding state stepsFor recoverSteps
+  recover-none h = quiet-none recover (rw h)
+
+-- ---- what an accepted request passed
+
+passed : (n : ℕ) (t : Bool) (r : List Refusal) → firstOf (record { number = suc n; applies = t } ∷ r) ≡ 0 → (t ≡ false) × (firstOf r ≡ 0)
+unfolding firstOf
+passed n true r h = absurd (omega arith)
+passed n false r h = (refl, h)
+
+not-full : (N B b : ℕ) (v : View) → isFull N B b v ≡ false → Fits N B b v
+unfolding isFull
+not-full N B b v h = go (holds b (entriesIn v)) (leb (capacity N B) (length (entriesIn v))) refl h
+  where
+    go : (u w : Bool) → leb (capacity N B) (length (entriesIn v)) ≡ w → (not u && w) ≡ false → (u || ltb (length (entriesIn v)) (capacity N B)) ≡ true
+    go true w e m = refl
+    go false true e m = cc
+    go false false e m = lt-ltb _ _ (leb-false (capacity N B) (length (entriesIn v)) e)
+
+pub record PutPassed (N B b : ℕ) (c : List ℕ) (v : View) : Type 0 where
+  pub number : numberOk b ≡ true
+  pub short : length c ≤ mostContents
+  pub fit : Fits N B b v
+  pub fresh : isWorn N v ≡ false
+
+pub put-passed : (N B : ℕ) (s : Image) (b : ℕ) (c : List ℕ) → refusal N B s (put b c) ≡ 0 → PutPassed N B b c (view N B s)
+unfolding refusals view
+put-passed N B s b c h =
+    let v = viewOf N (segmentsOf N B s) in
+    let size = passed 0 _ _ h .1 in
+    let number = passed 1 (not (numberOk b)) _ size in
+    let contents = passed 2 (ltb mostContents (length c)) _ (number .1) in
+    let damage = passed 3 _ _ (contents .1) .1 in
+    let whole = passed 4 _ _ damage .1 in
+    let full = passed 6 (isFull N B b v) _ whole in record
+    { number = not-false (numberOk b) (number .0)
+    ; short = ltb-false mostContents (length c) (contents .0)
+    ; fit = not-full N B b v (full .0)
+    ; fresh = passed 7 (isWorn N v) _ (full .1) .0 }
+
+-- a delete or a read
+absent-passed : (N B : ℕ) (s : Image) (b : ℕ) → firstOf (absentRefusals N B (rightSize N B s) (segmentsOf N B s) b) ≡ 0 → holds b (entriesIn (view N B s)) ≡ true
+unfolding absentRefusals view
+absent-passed N B s b h =
+    let size = passed 0 _ _ h .1 in
+    let number = passed 1 _ _ size .1 in
+    let damage = passed 3 _ _ number .1 in
+    let whole = passed 4 _ _ damage .1 in
+    not-false _ (passed 5 (not (holds b (entriesIn (viewOf N (segmentsOf N B s))))) _ whole .0)
+
+pub delete-passed : (N B : ℕ) (s : Image) (b : ℕ) → refusal N B s (delete b) ≡ 0 → holds b (entriesIn (view N B s)) ≡ true
+unfolding refusals
+delete-passed N B s b h = absent-passed N B s b h
+
+pub read-passed : (N B : ℕ) (s : Image) (b : ℕ) → refusal N B s (read b) ≡ 0 → holds b (entriesIn (view N B s)) ≡ true
+unfolding refusals
+read-passed N B s b h = absent-passed N B s b h
+
+pub format-passed : (N B : ℕ) (s : Image) → refusal N B s format ≡ 0 → rightSize N B s ≡ true
+unfolding refusals
+format-passed N B s h = not-false (rightSize N B s) (passed 0 (not (rightSize N B s)) [] h .0)
