@@ -6,3 +6,5 @@ pub mod Held
 pub mod Done
 pub mod Accepted
 pub mod Requests
+pub mod Format
+pub mod Bridge
