@@ -58,6 +58,10 @@ pub found-held : (b : ℕ) (t : Table) (c : List ℕ) → lookup b t ≡ present
 unfolding isPresent
 found-held b t c e = holds-lookup b t ∙ ap isPresent e
 
+pub absent-free : (b : ℕ) (t : Table) → lookup b t ≡ absent → holds b t ≡ false
+unfolding isPresent
+absent-free b t e = holds-lookup b t ∙ ap isPresent e
+
 -- ---- without and store
 
 holds-without-same : (b : ℕ) (t : Table) → holds b (without b t) ≡ false
