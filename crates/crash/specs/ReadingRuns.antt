@@ -1,6 +1,6 @@
 -- The customer's sentences over whole histories: a block never shows contents that were not put under its number since the last format,
 -- and acknowledged contents are read back until the block is written or deleted, through every power cut.
-use Prim.Native.Nat.{ℕ, zero, suc}
+use Prim.Native.Nat.{ℕ, suc}
 use mathlib.Core.Path.{_≡_, refl, sym, ap, ap₂, _∙_, subst}
 use mathlib.Core.Logic.{_⊎_, inl, inr, ⊎-elim, _≢_}
 use mathlib.Core.Bool.{Bool, true, false, cond}
@@ -12,10 +12,10 @@ use borrow.Author.Tests.{eqb-true, eqb-false}
 use Rattle.model.specs.Chip.{Image, rightSize}
 use Rattle.model.specs.Slot.{numberOk}
 use Rattle.model.specs.State.{holds, capacity}
-use Rattle.model.specs.Table.{Table, Found, absent, present, lookup, without, store, contentsFound}
+use Rattle.model.specs.Table.{Table, Found, absent, present, lookup, contentsFound}
 use Rattle.model.specs.Answers.{Request, format, put, delete, read, readOr, recover}
-use Rattle.model.specs.Histories.{Reply, Seen, answered, lost, Event, History}
-use Rattle.crash.specs.Machine.{malformed, codeOnTable, plainCode, plainBytes, plain, made, next, Promise, settled, interrupted, unknown, refused, IsCut, OnTable, WantsRecovery, Holds, Moves, answers, answers-again, asks-recovery, refuses-malformed, not-begun, wholly-done, formats, format-cut, no-promise, PlainRuns}
+use Rattle.model.specs.Histories.{Reply, Seen, answered, Event, History}
+use Rattle.crash.specs.Machine.{malformed, codeOnTable, plainCode, plainBytes, plain, made, next, Promise, settled, interrupted, unknown, refused, OnTable, Holds, Moves, answers, answers-again, asks-recovery, refuses-malformed, not-begun, wholly-done, formats, format-cut, no-promise, PlainRuns}
 use Rattle.crash.specs.Demand2.{Demand2}
 use Rattle.crash.specs.TableLaws.{found, found-held, absent-free, lookup-without-same, lookup-without-other, lookup-store-same, lookup-store-other}
 use Rattle.crash.specs.Reading.{codeSeen, cut-code, not-format, format-starts, read-exact, readOr-exact}
