@@ -1,21 +1,20 @@
 -- The machine read back in the customer's sentences, so that the statement is seen not to be empty.
-use Prim.Native.Nat.{ℕ, zero, suc, _≤_, _<_}
+use Prim.Native.Nat.{ℕ, suc, _≤_, _<_}
 use mathlib.Core.Path.{_≡_, refl, sym, ap, _∙_, subst}
 use mathlib.Core.Logic.{_⊎_, inl, inr, ⊎-elim, _≢_}
 use mathlib.Core.Bool.{Bool, true, false, cond, _||_, or-true}
-use mathlib.Core.List.{List, [], _∷_, _++_}
+use mathlib.Core.List.{List, []}
 use native.Mathlib.Omega.{arith}
-use native.Mathlib.Decide.{ℕ-discrete}
 use lib.ListN.{length}
 use lib.Dec.{ltb, eqb}
-use borrow.Author.Tests.{lt-ltb, le-ltb, eqb-true, eqb-false, ne-eqb}
+use borrow.Author.Tests.{lt-ltb, le-ltb}
 use Rattle.model.specs.Slot.{numberOk}
 use Rattle.model.specs.State.{holds}
-use Rattle.model.specs.Table.{Table, Found, absent, present, lookup, without, store, contentsFound}
+use Rattle.model.specs.Table.{Table, present, lookup, contentsFound}
 use Rattle.model.specs.Answers.{Request, format, put, delete, read, readOr, recover}
-use Rattle.model.specs.Histories.{Reply, Seen, answered, lost, Event}
-use Rattle.crash.specs.Machine.{malformed, codeOnTable, plainCode, plainBytes, plain, made, next, Promise, settled, interrupted, unknown, refused, IsCut, OnTable, WantsRecovery, Holds, Moves, answers, answers-again, asks-recovery, refuses-malformed, not-begun, wholly-done, formats, format-cut, no-promise, PlainRuns}
-use Rattle.crash.specs.TableLaws.{not-found, lookup-without-same, lookup-without-other, lookup-store-same, lookup-store-other}
+use Rattle.model.specs.Histories.{Reply, Seen, answered, lost}
+use Rattle.crash.specs.Machine.{malformed, codeOnTable, plainCode, plainBytes, plain, made, next, Promise, settled, interrupted, unknown, refused, IsCut, OnTable, WantsRecovery, Holds, Moves, answers, answers-again, asks-recovery, refuses-malformed, not-begun, wholly-done, formats, format-cut, no-promise}
+use Rattle.crash.specs.TableLaws.{lookup-store-same}
 use Rattle.crash.specs.Requests.{malformed-small}
 
 -- ---- what the table answers
@@ -138,12 +137,19 @@ settled-exact {r = r} (formats i e) t s j n = absurd (not-format r j i)
 settled-exact {o = o} (format-cut i e) t s j n = absurd (n (cut-code o e))
 settled-exact (no-promise k) t s j n = absurd s
 
+-- a cut may leave a request not begun, and may leave it wholly done: the store can promise neither alone
+pub cut-may-leave-old : (C : ℕ) (w : Bool) (t : Table) (r : Request) → OnTable r → Moves C w r lost (settled t) (interrupted t)
+cut-may-leave-old C w t r k = not-begun t refl k (inl refl)
+
+pub cut-may-leave-new : (C : ℕ) (w : Bool) (t : Table) (r : Request) → OnTable r → Moves C w r lost (settled t) (interrupted (next C w t r))
+cut-may-leave-new C w t r k = wholly-done t refl k (inl refl)
+
 same-table : (x : Promise) (t u : Table) → Holds x t → Holds x u → t ≡ u
 same-table (settled v) t u p q = sym p ∙ q
 same-table (interrupted v) t u p q = sym p ∙ q
 same-table unknown t u p q = absurd p
 
--- a cut leaves the old table or the new one, whole
+-- and it leaves nothing else: the old table or the new one, whole
 pub cut-old-or-new : {C : ℕ} {w : Bool} {r : Request} {o : Seen} {x y : Promise} → Moves C w r o x y → (t : Table) → Holds x t → OnTable r → codeSeen o ≡ 9
     → (y ≡ interrupted t) ⊎ (y ≡ interrupted (next C w t r))
 cut-old-or-new {C} {w} {r} {o} (answers {t = u} k e) t s i n = absurd (plain-no-cut C w u r o e n)

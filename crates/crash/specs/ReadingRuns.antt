@@ -1,6 +1,6 @@
 -- The customer's sentences over whole histories: a block never shows contents that were not put under its number since the last format,
 -- and acknowledged contents are read back until the block is written or deleted, through every power cut.
-use Prim.Native.Nat.{ℕ, zero, suc}
+use Prim.Native.Nat.{ℕ, suc}
 use mathlib.Core.Path.{_≡_, refl, sym, ap, ap₂, _∙_, subst}
 use mathlib.Core.Logic.{_⊎_, inl, inr, ⊎-elim, _≢_}
 use mathlib.Core.Bool.{Bool, true, false, cond}
@@ -12,19 +12,19 @@ use borrow.Author.Tests.{eqb-true, eqb-false}
 use Rattle.model.specs.Chip.{Image, rightSize}
 use Rattle.model.specs.Slot.{numberOk}
 use Rattle.model.specs.State.{holds, capacity}
-use Rattle.model.specs.Table.{Table, Found, absent, present, lookup, without, store, contentsFound}
+use Rattle.model.specs.Table.{Table, Found, absent, present, lookup, contentsFound}
 use Rattle.model.specs.Answers.{Request, format, put, delete, read, readOr, recover}
-use Rattle.model.specs.Histories.{Reply, Seen, answered, lost, Event, History}
-use Rattle.crash.specs.Machine.{malformed, codeOnTable, plainCode, plainBytes, plain, made, next, Promise, settled, interrupted, unknown, refused, IsCut, OnTable, WantsRecovery, Holds, Moves, answers, answers-again, asks-recovery, refuses-malformed, not-begun, wholly-done, formats, format-cut, no-promise, PlainRuns}
+use Rattle.model.specs.Histories.{Reply, Seen, answered, Event, History}
+use Rattle.crash.specs.Machine.{malformed, codeOnTable, plainCode, plainBytes, plain, made, next, Promise, settled, interrupted, unknown, refused, OnTable, Holds, Moves, answers, answers-again, asks-recovery, refuses-malformed, not-begun, wholly-done, formats, format-cut, no-promise, PlainRuns}
 use Rattle.crash.specs.Demand2.{Demand2}
-use Rattle.crash.specs.TableLaws.{found, found-held, lookup-without-same, lookup-without-other, lookup-store-same, lookup-store-other}
-use Rattle.crash.specs.Reading.{codeSeen, cut-code, not-format, format-starts}
+use Rattle.crash.specs.TableLaws.{found, found-held, absent-free, lookup-without-same, lookup-without-other, lookup-store-same, lookup-store-other}
+use Rattle.crash.specs.Reading.{codeSeen, cut-code, not-format, format-starts, read-exact, readOr-exact}
 
--- the contents of a block, by a promise
-abbrev pub Shows : Promise → ℕ → List ℕ → Type 0
-Shows (settled t) b c = lookup b t ≡ present c
-Shows (interrupted t) b c = lookup b t ≡ present c
-Shows unknown b c = ⊥
+-- what is found of a block, by a promise
+abbrev pub Shows : Promise → ℕ → Found → Type 0
+Shows (settled t) b z = lookup b t ≡ z
+Shows (interrupted t) b z = lookup b t ≡ z
+Shows unknown b z = ⊥
 
 -- a put of these contents under this number, acknowledged or cut; and one among some events
 abbrev pub Puts : ℕ → List ℕ → Request → Seen → Type 0
@@ -60,32 +60,32 @@ next-from C w t r b c h = go (eqb (plainCode C w t r) 0) refl h
     go true e k = ⊎-elim (λ old. inl old) (λ new. inr (new, eqb-true (plainCode C w t r) 0 e)) (made-from r t b c k)
     go false e k = inl k
 
-held-shows : (x : Promise) (t : Table) (b : ℕ) (c : List ℕ) → Holds x t → lookup b t ≡ present c → Shows x b c
-held-shows (settled u) t b c k h = ap (λ (v : Table). lookup b v) k ∙ h
-held-shows (interrupted u) t b c k h = ap (λ (v : Table). lookup b v) k ∙ h
-held-shows unknown t b c k h = absurd k
+held-shows : (x : Promise) (t : Table) (b : ℕ) (z : Found) → Holds x t → lookup b t ≡ z → Shows x b z
+held-shows (settled u) t b z k h = ap (λ (v : Table). lookup b v) k ∙ h
+held-shows (interrupted u) t b z k h = ap (λ (v : Table). lookup b v) k ∙ h
+held-shows unknown t b z k h = absurd k
 
-shows-held : (x : Promise) (t : Table) (b : ℕ) (c : List ℕ) → Holds x t → Shows x b c → lookup b t ≡ present c
-shows-held (settled u) t b c k h = ap (λ (v : Table). lookup b v) (sym k) ∙ h
-shows-held (interrupted u) t b c k h = ap (λ (v : Table). lookup b v) (sym k) ∙ h
-shows-held unknown t b c k h = absurd k
+shows-held : (x : Promise) (t : Table) (b : ℕ) (z : Found) → Holds x t → Shows x b z → lookup b t ≡ z
+shows-held (settled u) t b z k h = ap (λ (v : Table). lookup b v) (sym k) ∙ h
+shows-held (interrupted u) t b z k h = ap (λ (v : Table). lookup b v) (sym k) ∙ h
+shows-held unknown t b z k h = absurd k
 
 -- in one event: they were shown before, or this event put them
-pub move-from : {C : ℕ} {w : Bool} {r : Request} {o : Seen} {x y : Promise} → Moves C w r o x y → (b : ℕ) (c : List ℕ) → Shows y b c → Shows x b c ⊎ Puts b c r o
+pub move-from : {C : ℕ} {w : Bool} {r : Request} {o : Seen} {x y : Promise} → Moves C w r o x y → (b : ℕ) (c : List ℕ) → Shows y b (present c) → Shows x b (present c) ⊎ Puts b c r o
 unfolding plain lookup
 move-from {C} {w} {r} (answers {t = t} k e) b c h = ⊎-elim (λ old. inl old) (λ new. inr (new .0, inl (ap codeSeen e ∙ new .1))) (next-from C w t r b c h)
 move-from {C} {w} {r} (answers-again {t = t} k i e) b c h = ⊎-elim (λ old. inl old) (λ new. inr (new .0, inl (ap codeSeen e ∙ new .1))) (next-from C w t r b c h)
 move-from (asks-recovery k i e) b c h = inl h
 move-from (refuses-malformed n i e) b c h = inl h
-move-from {x = x} (not-begun t k i e) b c h = inl (held-shows x t b c k h)
-move-from {C} {w} {r} {o} {x = x} (wholly-done t k i e) b c h = ⊎-elim (λ old. inl (held-shows x t b c k old)) (λ new. inr (new .0, inr (cut-code o e))) (next-from C w t r b c h)
+move-from {x = x} (not-begun t k i e) b c h = inl (held-shows x t b (present c) k h)
+move-from {C} {w} {r} {o} {x = x} (wholly-done t k i e) b c h = ⊎-elim (λ old. inl (held-shows x t b (present c) k old)) (λ new. inr (new .0, inr (cut-code o e))) (next-from C w t r b c h)
 move-from (formats i e) b c h = absurd (never c h)
 move-from (format-cut i e) b c h = absurd h
 move-from (no-promise k) b c h = absurd h
 
 -- over a history
-pub runs-from : (C : ℕ) (es : List Event) (x y : Promise) → PlainRuns C x es y → (b : ℕ) (c : List ℕ) → Shows y b c → Shows x b c ⊎ PutAmong b c es
-runs-from C [] x y e b c h = inl (subst (λ (v : Promise). Shows v b c) e h)
+pub runs-from : (C : ℕ) (es : List Event) (x y : Promise) → PlainRuns C x es y → (b : ℕ) (c : List ℕ) → Shows y b (present c) → Shows x b (present c) ⊎ PutAmong b c es
+runs-from C [] x y e b c h = inl (subst (λ (v : Promise). Shows v b (present c)) e h)
 runs-from C (e ∷ es) x y (z, m, rest) b c h =
     ⊎-elim (λ k. ⊎-elim (λ old. inl old) (λ now. inr (inl now)) (move-from m b c k)) (λ later. inr (inr later)) (runs-from C es z y rest b c h)
 
@@ -134,6 +134,15 @@ Reads b (read a) = a ≡ b
 Reads b (readOr a f) = a ≡ b
 Reads b recover = ⊥
 
+-- the factory record of the second form
+abbrev pub factoryOf : Request → List ℕ
+factoryOf format = []
+factoryOf (put a c) = []
+factoryOf (delete a) = []
+factoryOf (read a) = []
+factoryOf (readOr a f) = f
+factoryOf recover = []
+
 -- done, with these bytes
 abbrev pub gives : List ℕ → Reply
 gives c = record { code = 0; bytes = c }
@@ -162,7 +171,7 @@ plain-gives C w t (readOr a f) b c q h =
 plain-gives C w t recover b c q h = absurd q
 
 -- what a read gives is what the promise shows
-pub read-shows : {C : ℕ} {w : Bool} {r : Request} {o : Seen} {x y : Promise} → Moves C w r o x y → (b : ℕ) (c : List ℕ) → Known x → Reads b r → o ≡ answered (gives c) → Shows x b c
+pub read-shows : {C : ℕ} {w : Bool} {r : Request} {o : Seen} {x y : Promise} → Moves C w r o x y → (b : ℕ) (c : List ℕ) → Known x → Reads b r → o ≡ answered (gives c) → Shows x b (present c)
 read-shows {C} {w} {r} (answers {t = t} k e) b c h q g = plain-gives C w t r b c q (cc)
 read-shows {C} {w} {r} (answers-again {t = t} k i e) b c h q g = plain-gives C w t r b c q (cc)
 read-shows (asks-recovery k i e) b c h q g = absurd (let f : 5 ≡ 0 = sym (ap codeSeen e) ∙ ap codeSeen g in omega arith)
@@ -182,7 +191,7 @@ shows-only-what-was-put C x y past es f e b c runs done none q g =
     let (last, since, (end, reading, nothing)) = runs-append C es (e ∷ []) fresh y rest in
     let empty : fresh ≡ settled [] = format-starts formatting (done .request) (done .seen) in
     let known : Known last = runs-known C es fresh last since none (subst Known (sym empty) tt) in
-    ⊎-elim (λ old. absurd (never c (subst (λ (v : Promise). Shows v b c) empty old))) (λ new. new) (runs-from C es fresh last since b c (read-shows reading b c known q g))
+    ⊎-elim (λ old. absurd (never c (subst (λ (v : Promise). Shows v b (present c)) empty old))) (λ new. new) (runs-from C es fresh last since b c (read-shows reading b c known q g))
 
 -- and so of every history of the store
 pub store-shows-only-what-was-put : Demand2 → (N B : ℕ) (s u : Image) (past es : List Event) (f e : Event) (b : ℕ) (c : List ℕ) → rightSize N B s ≡ true
@@ -221,17 +230,107 @@ next-keeps C w t r b q = go (eqb (plainCode C w t r) 0) (made-keeps r q)
     go true h = h
     go false h = refl
 
-move-keeps : {C : ℕ} {w : Bool} {r : Request} {o : Seen} {x y : Promise} → Moves C w r o x y → (b : ℕ) (c : List ℕ) → Spares b r → Shows x b c → Shows y b c
-move-keeps {C} {w} {r} (answers {t = t} k e) b c q h = next-keeps C w t r b q ∙ h
-move-keeps {C} {w} {r} (answers-again {t = t} k i e) b c q h = next-keeps C w t r b q ∙ h
-move-keeps (asks-recovery k i e) b c q h = h
-move-keeps (refuses-malformed n i e) b c q h = h
-move-keeps {x = x} (not-begun t k i e) b c q h = shows-held x t b c k h
-move-keeps {C} {w} {r} {x = x} (wholly-done t k i e) b c q h = next-keeps C w t r b q ∙ shows-held x t b c k h
-move-keeps (formats i e) b c q h = absurd (subst (λ (v : Request). Spares b v) i q)
-move-keeps (format-cut i e) b c q h = absurd (subst (λ (v : Request). Spares b v) i q)
-move-keeps (no-promise k) b c q h = absurd h
+move-keeps : {C : ℕ} {w : Bool} {r : Request} {o : Seen} {x y : Promise} → Moves C w r o x y → (b : ℕ) (z : Found) → Spares b r → Shows x b z → Shows y b z
+move-keeps {C} {w} {r} (answers {t = t} k e) b z q h = next-keeps C w t r b q ∙ h
+move-keeps {C} {w} {r} (answers-again {t = t} k i e) b z q h = next-keeps C w t r b q ∙ h
+move-keeps (asks-recovery k i e) b z q h = h
+move-keeps (refuses-malformed n i e) b z q h = h
+move-keeps {x = x} (not-begun t k i e) b z q h = shows-held x t b z k h
+move-keeps {C} {w} {r} {x = x} (wholly-done t k i e) b z q h = next-keeps C w t r b q ∙ shows-held x t b z k h
+move-keeps (formats i e) b z q h = absurd (subst (λ (v : Request). Spares b v) i q)
+move-keeps (format-cut i e) b z q h = absurd (subst (λ (v : Request). Spares b v) i q)
+move-keeps (no-promise k) b z q h = absurd h
 
-pub runs-keep : (C : ℕ) (es : List Event) (x y : Promise) → PlainRuns C x es y → (b : ℕ) (c : List ℕ) → AllSpare b es → Shows x b c → Shows y b c
-runs-keep C [] x y e b c q h = subst (λ (v : Promise). Shows v b c) (sym e) h
-runs-keep C (e ∷ es) x y (z, m, rest) b c q h = runs-keep C es z y rest b c (q .1) (move-keeps m b c (q .0) h)
+pub runs-keep : (C : ℕ) (es : List Event) (x y : Promise) → PlainRuns C x es y → (b : ℕ) (z : Found) → AllSpare b es → Shows x b z → Shows y b z
+runs-keep C [] x y e b z q h = subst (λ (v : Promise). Shows v b z) (sym e) h
+runs-keep C (e ∷ es) x y (v, m, rest) b z q h = runs-keep C es v y rest b z (q .1) (move-keeps m b z (q .0) h)
+
+plain-done : (C : ℕ) (w : Bool) (t : Table) (r : Request) → plainCode C w t r ≡ 0 → next C w t r ≡ made t r
+unfolding next
+plain-done C w t r e = rw e
+
+-- an acknowledged request has made its table
+move-done : {C : ℕ} {w : Bool} {r : Request} {o : Seen} {x y : Promise} → Moves C w r o x y → (b : ℕ) (z : Found) → OnTable r → Known x → codeSeen o ≡ 0
+    → ((t : Table) → lookup b (made t r) ≡ z) → Shows y b z
+unfolding plain
+move-done {C} {w} {r} (answers {t = t} k e) b z i h n makes = ap (λ (v : Table). lookup b v) (plain-done C w t r (sym (ap codeSeen e) ∙ n)) ∙ makes t
+move-done {C} {w} {r} (answers-again {t = t} k f e) b z i h n makes = ap (λ (v : Table). lookup b v) (plain-done C w t r (sym (ap codeSeen e) ∙ n)) ∙ makes t
+move-done (asks-recovery k f e) b z i h n makes = absurd (let g : 5 ≡ 0 = sym (ap codeSeen e) ∙ n in omega arith)
+move-done (refuses-malformed m f e) b z i h n makes = absurd (let g : suc m ≡ 0 = sym (ap codeSeen e) ∙ n in omega arith)
+move-done {o = o} (not-begun t k f e) b z i h n makes = absurd (let g : 9 ≡ 0 = sym (cut-code o e) ∙ n in omega arith)
+move-done {o = o} (wholly-done t k f e) b z i h n makes = absurd (let g : 9 ≡ 0 = sym (cut-code o e) ∙ n in omega arith)
+move-done {r = r} (formats f e) b z i h n makes = absurd (not-format r i f)
+move-done {r = r} (format-cut f e) b z i h n makes = absurd (not-format r i f)
+move-done (no-promise k) b z i h n makes = absurd h
+
+-- what a read replies when this is found, with the factory record or none
+abbrev pub replied : List ℕ → Found → Reply
+replied f absent = record { code = 6; bytes = f }
+replied f (present c) = gives c
+
+held-reply : (f : List ℕ) (t : Table) (b : ℕ) (z : Found) → lookup b t ≡ z → cond (holds b t) (gives (contentsFound (lookup b t))) (replied f absent) ≡ replied f z
+unfolding contentsFound
+held-reply f t b absent h = rw (absent-free b t h)
+held-reply f t b (present c) h = rw (found-held b t c h, h)
+
+plain-read : (C : ℕ) (w : Bool) (t : Table) (r : Request) (b : ℕ) (z : Found) → Reads b r → numberOk b ≡ true → lookup b t ≡ z → plain C w t r ≡ replied (factoryOf r) z
+plain-read C w t format b z q n h = absurd q
+plain-read C w t (put a d) b z q n h = absurd q
+plain-read C w t (delete a) b z q n h = absurd q
+plain-read C w t (read a) b z q n h = rw q (read-exact C w t b n ∙ held-reply [] t b z h)
+plain-read C w t (readOr a f) b z q n h = rw q (readOr-exact C w t b f n ∙ held-reply f t b z h)
+plain-read C w t recover b z q n h = absurd q
+
+reads-proper : (r : Request) (b : ℕ) → Reads b r → numberOk b ≡ true → malformed r ≡ 0
+unfolding malformed
+reads-proper format b q n = absurd q
+reads-proper (put a d) b q n = absurd q
+reads-proper (delete a) b q n = absurd q
+reads-proper (read a) b q n = rw (q, n)
+reads-proper (readOr a f) b q n = rw (q, n)
+reads-proper recover b q n = absurd q
+
+-- a read that is neither cut nor asks for a recovery gives what the promise shows
+pub read-back : {C : ℕ} {w : Bool} {r : Request} {o : Seen} {x y : Promise} → Moves C w r o x y → (b : ℕ) (z : Found) → Shows x b z → Reads b r → numberOk b ≡ true
+    → codeSeen o ≢ 9 → codeSeen o ≢ 5 → o ≡ answered (replied (factoryOf r) z)
+read-back {C} {w} {r} (answers {t = t} k e) b z h q n cut asks = e ∙ ap answered (plain-read C w t r b z q n h)
+read-back {C} {w} {r} (answers-again {t = t} k i e) b z h q n cut asks = e ∙ ap answered (plain-read C w t r b z q n h)
+read-back (asks-recovery k i e) b z h q n cut asks = absurd (asks (ap codeSeen e))
+read-back {r = r} (refuses-malformed m i e) b z h q n cut asks = absurd (let g : suc m ≡ 0 = sym i ∙ reads-proper r b q n in omega arith)
+read-back {o = o} (not-begun t k i e) b z h q n cut asks = absurd (cut (cut-code o e))
+read-back {o = o} (wholly-done t k i e) b z h q n cut asks = absurd (cut (cut-code o e))
+read-back (formats i e) b z h q n cut asks = absurd (subst (λ (v : Request). Reads b v) i q)
+read-back (format-cut i e) b z h q n cut asks = absurd (subst (λ (v : Request). Reads b v) i q)
+read-back (no-promise k) b z h q n cut asks = absurd h
+
+-- what an acknowledged put or delete leaves to be found
+abbrev pub Leaves : ℕ → Found → Request → Type 0
+Leaves b absent r = r ≡ delete b
+Leaves b (present c) r = r ≡ put b c
+
+leaves-made : (b : ℕ) (z : Found) (r : Request) → Leaves b z r → OnTable r × ((t : Table) → lookup b (made t r) ≡ z)
+unfolding made
+leaves-made b absent r e = rw e (tt, λ t. lookup-without-same b t)
+leaves-made b (present c) r e = rw e (tt, λ t. lookup-store-same b c t)
+
+-- Once acknowledged, a put or a delete is what every read of that block shows until the block is put or deleted again, through every power cut and recovery.
+pub acknowledged-stays : (C : ℕ) (x y : Promise) (es : List Event) (d e : Event) (b : ℕ) (z : Found) → PlainRuns C x (d ∷ (es ++ (e ∷ []))) y → Known x
+    → Leaves b z (d .request) → codeSeen (d .seen) ≡ 0 → AllSpare b es → Reads b (e .request) → numberOk b ≡ true
+    → codeSeen (e .seen) ≢ 9 → codeSeen (e .seen) ≢ 5 → e .seen ≡ answered (replied (factoryOf (e .request)) z)
+acknowledged-stays C x y es d e b z (v, doing, rest) known leaves done spare q n cut asks =
+    let (made-by, makes) = leaves-made b z (d .request) leaves in
+    let (last, since, (end, reading, nothing)) = runs-append C es (e ∷ []) v y rest in
+    read-back reading b z (runs-keep C es v last since b z spare (move-done doing b z made-by known done makes)) q n cut asks
+
+-- and so in every history of the store with a finished format and no other since
+pub store-acknowledged-stays : Demand2 → (N B : ℕ) (s u : Image) (past before es : List Event) (f d e : Event) (b : ℕ) (z : Found) → rightSize N B s ≡ true
+    → History N B s (past ++ (f ∷ (before ++ (d ∷ (es ++ (e ∷ [])))))) u → FinishedFormat f → NoFormat before
+    → Leaves b z (d .request) → codeSeen (d .seen) ≡ 0 → AllSpare b es → Reads b (e .request) → numberOk b ≡ true
+    → codeSeen (e .seen) ≢ 9 → codeSeen (e .seen) ≢ 5 → e .seen ≡ answered (replied (factoryOf (e .request)) z)
+store-acknowledged-stays demand2 N B s u past before es f d e b z size h done none leaves acknowledged spare q n cut asks =
+    let C = capacity N B in
+    let (y, runs, keeps) = demand2 N B s u (past ++ (f ∷ (before ++ (d ∷ (es ++ (e ∷ [])))))) size h in
+    let (start, formatted, (fresh, formatting, rest)) = runs-append C past (f ∷ (before ++ (d ∷ (es ++ (e ∷ []))))) unknown y runs in
+    let (x, since, doing) = runs-append C before (d ∷ (es ++ (e ∷ []))) fresh y rest in
+    let known : Known x = runs-known C before fresh x since none (subst Known (sym (format-starts formatting (done .request) (done .seen))) tt) in
+    acknowledged-stays C x y es d e b z doing known leaves acknowledged spare q n cut asks

@@ -1,18 +1,18 @@
 -- What the definitions say of one request: refused it takes no step; it ends, or stops at its allowance; its code and bytes on a clean image and on an unfinished one.
-use Prim.Native.Nat.{ℕ, zero, suc, _≤_, _<_}
+use Prim.Native.Nat.{ℕ, suc, _≤_, _<_}
 use mathlib.Core.Path.{_≡_, refl, sym, ap, ap₂, _∙_, subst}
-use mathlib.Core.Logic.{_⊎_, inl, inr, ⊎-elim, _≢_}
+use mathlib.Core.Logic.{_⊎_, inl, inr, _≢_}
 use mathlib.Core.Bool.{Bool, true, false, cond, _||_, _&&_, not, false≢true}
 use mathlib.Core.List.{List, [], _∷_}
 use native.Mathlib.Omega.{arith}
-use lib.ListN.{length, take}
+use lib.ListN.{length}
 use lib.Seq.{take-all}
 use lib.Dec.{ltb, leb, eqb}
 use borrow.Author.Tests.{leb-true, leb-false, ltb-true, ltb-false, lt-leb, le-leb, lt-ltb, le-ltb, ne-eqb, eqb-true}
 use Rattle.model.specs.Lists.{all}
-use Rattle.model.specs.Chip.{Image, rightSize, Step, run, Cut}
+use Rattle.model.specs.Chip.{Image, rightSize, Step, run}
 use Rattle.model.specs.Slot.{mostContents, numberOk}
-use Rattle.model.specs.State.{Segment, segmentsOf, View, viewOf, entriesIn, holds, distinct, capacity, someInUse, consecutive, noneOwing, othersBlank, noneWrongOrTorn, blocksDistinct, emptySlotsLast, withinCapacity, conditions, isClean, isA, isB, isC, isD, placeOf, Exception, caseA, caseB, caseC, caseD, State, clean, unfinished, damaged, stateOf, state, view}
+use Rattle.model.specs.State.{Segment, segmentsOf, View, viewOf, entriesIn, holds, distinct, capacity, someInUse, consecutive, noneOwing, othersBlank, noneWrongOrTorn, blocksDistinct, emptySlotsLast, withinCapacity, conditions, isClean, isA, isB, isC, isD, placeOf, caseA, caseB, caseC, caseD, State, clean, unfinished, damaged, stateOf, state, view}
 use Rattle.model.specs.Steps.{isWorn, formatSteps, recoverSteps}
 use Rattle.model.specs.Table.{Table, lookup, Agree, contentsFound, tableOf}
 use Rattle.model.specs.Answers.{Request, format, put, delete, read, readOr, recover, _when_, firstOf, isDamaged, isUnfinished, isFull, absentRefusals, refusals, stepsFor, Work, workOn, workOf, codeUnder, outcomeOf, ReadOutcome, contentsAt, readOutcome, pieceRead, pieceOr}

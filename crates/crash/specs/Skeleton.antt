@@ -1,26 +1,26 @@
 -- Demand 2 from the laws of the single requests: one lemma for each kind of event, and the induction over the history.
 use Prim.Native.Nat.{ℕ, zero, suc}
 use mathlib.Core.Path.{_≡_, refl, sym, ap, ap₂, _∙_, subst}
-use mathlib.Core.Logic.{_⊎_, inl, inr, ⊎-elim, _≢_}
-use mathlib.Core.Bool.{Bool, true, false, cond, _&&_, false≢true}
+use mathlib.Core.Logic.{_⊎_, inl, inr, ⊎-elim}
+use mathlib.Core.Bool.{Bool, true, false, cond, _&&_}
 use mathlib.Core.List.{List, [], _∷_}
 use native.Mathlib.Omega.{arith}
 use lib.ListN.{length}
 use lib.Dec.{eqb}
 use borrow.Author.Tests.{ne-eqb}
 use Rattle.model.specs.Chip.{Image, Bytes, imageLength, inRange, rightSize, run}
-use Rattle.model.specs.State.{segmentsOf, distinct, capacity, State, clean, unfinished, damaged, caseA, caseB, caseC, caseD, state}
+use Rattle.model.specs.State.{segmentsOf, distinct, capacity, State, clean, unfinished, damaged, state}
 use Rattle.model.specs.Steps.{formatSteps}
 use Rattle.model.specs.Table.{Table, lookup, Agree, contentsFound, tableOf}
-use Rattle.model.specs.Answers.{Request, format, put, delete, read, readOr, recover, Work, workOf, pieceRead}
+use Rattle.model.specs.Answers.{Request, format, put, delete, read, readOr, recover, workOf, pieceRead}
 use Rattle.model.specs.Histories.{Reply, bytesRead, Seen, answered, lost, Proper, Does, wears, Event, History, recovered, shown}
 use Rattle.model.specs.Laws.Chip.{cut-size, run-size}
-use Rattle.crash.specs.Machine.{malformed, plainCode, plainBytes, plain, made, next, codeOnTable, Promise, settled, interrupted, unknown, refused, IsCut, OnTable, WantsRecovery, Holds, Moves, answers, answers-again, asks-recovery, refuses-malformed, not-begun, wholly-done, formats, format-cut, no-promise, PlainRuns}
+use Rattle.crash.specs.Machine.{malformed, plainCode, plainBytes, plain, made, next, codeOnTable, Promise, settled, interrupted, unknown, IsCut, OnTable, WantsRecovery, Holds, Moves, answers, answers-again, asks-recovery, refuses-malformed, not-begun, wholly-done, formats, format-cut, no-promise, PlainRuns}
 use Rattle.crash.specs.Demand2.{Keeps, Demand2}
 use Rattle.crash.specs.TableLaws.{agree-of, agree-trans, agree-size}
 use Rattle.crash.specs.Sound.{SoundAs, Sound, Clean, finished, CutOf, DoneWith, LeftWith, RequestLaws}
 use Rattle.crash.specs.ByteImage.{bytes-cut, bytes-run, bytes-format}
-use Rattle.crash.specs.Requests.{refused-idle, idle-finished, idle-cut, read-idle, readOr-idle, readOr-work, recover-idle, shown-clean, sound-clean, read-refused, readOr-bytes, bytes-refused, ended, Ends, Stops, ends-or-stops, code-clean, Unfinished, code-unfinished, code-recover, code-format, steps-format, malformed-small, code-agree, agree-made, distinct-made, clean-distinct}
+use Rattle.crash.specs.Requests.{refused-idle, idle-finished, idle-cut, read-idle, readOr-idle, readOr-work, recover-idle, shown-clean, sound-clean, read-refused, readOr-bytes, bytes-refused, ended, ends-or-stops, code-clean, Unfinished, code-unfinished, code-recover, code-format, steps-format, malformed-small, code-agree, agree-made, distinct-made, clean-distinct}
 
 -- ---- the table after a request with this code
 

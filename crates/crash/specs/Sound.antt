@@ -10,7 +10,7 @@ use Rattle.model.specs.Header.{numberBytes, inverted}
 use Rattle.model.specs.State.{Segment, segmentsOf, nextNumber, caseA, caseB, caseC, caseD, State, clean, unfinished, damaged, state}
 use Rattle.model.specs.Steps.{headerAt, formatSteps}
 use Rattle.model.specs.Table.{Table, lookup, without, store, Agree, contentsFound, tableOf}
-use Rattle.model.specs.Answers.{Request, put, delete, read, recover, Work, workOf, pieceRead}
+use Rattle.model.specs.Answers.{Request, put, delete, read, recover, workOf, pieceRead}
 use Rattle.model.specs.Histories.{recovered, shown}
 
 -- ---- clean or unfinished, and such that a cut erase can make nothing of the torn segment

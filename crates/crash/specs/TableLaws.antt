@@ -4,7 +4,6 @@ use mathlib.Core.Path.{_≡_, refl, sym, ap, _∙_}
 use mathlib.Core.Logic.{_≢_}
 use mathlib.Core.Bool.{Bool, true, false, cond, _||_, _&&_, not, true≢false, false≢true}
 use mathlib.Core.List.{List, [], _∷_}
-use native.Mathlib.Omega.{arith}
 use native.Mathlib.Decide.{ℕ-discrete}
 use lib.ListN.{length}
 use lib.Dec.{eqb}
@@ -57,6 +56,10 @@ found b t e = go (lookup b t) (sym (holds-lookup b t) ∙ e)
 pub found-held : (b : ℕ) (t : Table) (c : List ℕ) → lookup b t ≡ present c → holds b t ≡ true
 unfolding isPresent
 found-held b t c e = holds-lookup b t ∙ ap isPresent e
+
+pub absent-free : (b : ℕ) (t : Table) → lookup b t ≡ absent → holds b t ≡ false
+unfolding isPresent
+absent-free b t e = holds-lookup b t ∙ ap isPresent e
 
 -- ---- without and store
 
