@@ -1,4 +1,4 @@
--- Demand 3 from the laws of views and of the image: by induction over the calls of a sequence.
+-- Demand 3, by induction over the calls of a sequence.
 use Prim.Native.Nat.{ℕ, zero, suc, _-_, _≤_}
 use mathlib.Core.Path.{_≡_, refl, sym, ap, _∙_}
 use mathlib.Core.Logic.{_≢_}
@@ -16,11 +16,15 @@ use Rattle.model.specs.Answers.{Request, format, put, delete, read, readOr, rec
 use Rattle.model.specs.Sequences.{Call, play, erasesIn, observe, observed, InSequence, Uncut, storedAfter, replaces, Tally, start, tallied, tally}
 use Rattle.model.specs.Laws.Chip.{run-size}
 use Rattle.model.specs.Laws.Bytes.{run-bytes}
-use Rattle.bridge.specs.Interface.{ViewLaws, Bridge}
+use Rattle.bridge.specs.Views.Requests.{view-laws}
+use Rattle.bridge.specs.Held.{two-segments, two-slots, clean-view}
+use Rattle.bridge.specs.Accepted.{refused-none, accepted, quiet-none, recover-none, put-passed, delete-passed, format-passed}
+use Rattle.bridge.specs.Format.{format-bytes, format-done}
+use Rattle.bridge.specs.Requests.{put-done, delete-done}
 use Rattle.wear.specs.Demand3.{FewErases, Demand3}
 use Rattle.wear.specs.Erases.{delete-none}
 use Rattle.wear.specs.Requests.{Tracks, tracks-paid, tracks-balanced, tracks-start, tracks-still, put-few, tracks-put, tracks-delete}
-use Rattle.wear.specs.Calls.{Finished, finished, refused-none, accepted, quiet-none, recover-none, put-passed, delete-passed, format-passed, size-range}
+use Rattle.wear.specs.Calls.{Finished, finished}
 
 -- the image is clean, and the count belongs to its view
 pub record Sequenced (N B : ℕ) (s : Image) (t : Tally) : Type 0 where
@@ -29,7 +33,7 @@ pub record Sequenced (N B : ℕ) (s : Image) (t : Tally) : Type 0 where
   pub clean : state N B s ≡ clean
   pub tracks : Tracks N B (view N B s) t
 
-module _ (N B : ℕ) (laws : ViewLaws N B) (bridge : Bridge N B) (range : 2 ≤ N) where
+module _ (N B : ℕ) where
 
   -- a call kept the image clean and the count with it, and did not erase too often
   abbrev Kept : Image → Tally → Call → Type 0
@@ -62,10 +66,11 @@ module _ (N B : ℕ) (laws : ViewLaws N B) (bridge : Bridge N B) (range : 2 ≤ 
   unfolding stepsFor view
   done-put s t b c allowance g f bytes e =
       let a = accepted N B s (put b c) e in
-      let d = bridge .put-done s b c (g .size) (g .bytes) (g .clean) bytes e in
-      let cv = bridge .clean-view s (g .size) (g .clean) in
+      let d = put-done N B s (g .size) (g .clean) b c (g .bytes) bytes e in
+      let cv = clean-view N B s (g .size) (g .clean) in
+      let laws = view-laws N B (two-segments N B s (g .size)) (two-slots N B s (g .size)) in
       kept s t (record { request = put b c; allowance = allowance }) g f (d .0)
-        (rw (d .1, e, a .0) (tracks-put N B laws (view N B s) t b c cv (put-passed N B s b c (a .1)) (g .tracks)))
+        (rw (d .1, e, a .0) (tracks-put N B laws (view N B s) t b c cv (put-passed N B s b c (a .1) .fit) (g .tracks)))
         (rw (a .0) (put-few N B (view N B s) t b c cv (g .tracks)))
 
   done-delete : (s : Image) (t : Tally) (b allowance : ℕ) → Sequenced N B s t → Finished N B s allowance (delete b) → workOf N B s (delete b) .code ≡ 0
@@ -73,8 +78,9 @@ module _ (N B : ℕ) (laws : ViewLaws N B) (bridge : Bridge N B) (range : 2 ≤ 
   unfolding stepsFor view
   done-delete s t b allowance g f e =
       let a = accepted N B s (delete b) e in
-      let d = bridge .delete-done s b (g .size) (g .clean) e in
-      let cv = bridge .clean-view s (g .size) (g .clean) in
+      let d = delete-done N B s (g .size) (g .clean) b e in
+      let cv = clean-view N B s (g .size) (g .clean) in
+      let laws = view-laws N B (two-segments N B s (g .size)) (two-slots N B s (g .size)) in
       kept s t (record { request = delete b; allowance = allowance }) g f (d .0)
         (rw (d .1, e, a .0) (tracks-delete N B laws (view N B s) t b cv (delete-passed N B s b (a .1)) (g .tracks)))
         (rw (a .0, delete-none N B b (view N B s)) (omega arith))
@@ -147,42 +153,33 @@ module _ (N B : ℕ) (laws : ViewLaws N B) (bridge : Bridge N B) (range : 2 ≤ 
       let f = finished N B s allowance format (λ p. omega arith) in
       let a = accepted N B s format (sym (f .code) ∙ e) in
       let size = format-passed N B s (a .1) in
-      let d = bridge .format-done s size in
+      let d = format-done N B s size in
       let image : outcomeOf N B s allowance format .image ≡ run B (formatSteps N B) s = f .image ∙ ap (λ xs. run B xs s) (a .0) in
-      rw image (record { size = run-size N B (formatSteps N B) s ∙ size; bytes = bridge .format-bytes s size; clean = d .0; tracks = rw (d .1) (tracks-start N B range) })
+      rw image (record { size = run-size N B (formatSteps N B) s ∙ size; bytes = format-bytes N B s size; clean = d .0; tracks = rw (d .1) (tracks-start N B (two-segments N B s size)) })
 
--- N and B of a format that answered 0 are in range
-format-range : (N B : ℕ) (s : Image) (allowance : ℕ) → outcomeOf N B s allowance format .code ≡ 0 → (2 ≤ N) × (2 ≤ B)
-format-range N B s allowance e =
-    let f = finished N B s allowance format (λ p. omega arith) in
-    size-range N B s (format-passed N B s (accepted N B s format (sym (f .code) ∙ e) .1))
+-- after each call of a sequence
+pub all-kept : (N B : ℕ) (s : Image) (allowance : ℕ) (xs : List Call) → outcomeOf N B s allowance format .code ≡ 0
+    → Uncut (observed N B (outcomeOf N B s allowance format .image) xs)
+    → FewErases N (observed N B (outcomeOf N B s allowance format .image) xs)
+      × ((k : ℕ) → Sequenced N B (play N B (outcomeOf N B s allowance format .image) (take k xs)) (tally (take k (observed N B (outcomeOf N B s allowance format .image) xs)) start))
+all-kept N B s allowance xs e u =
+    sequence N B (outcomeOf N B s allowance format .image) start xs (formatted N B s allowance e) u
 
-module _ (laws : (N B : ℕ) → 2 ≤ N → 2 ≤ B → ViewLaws N B) (bridge : (N B : ℕ) → Bridge N B) where
-  -- after each call of a sequence
-  pub all-kept : (N B : ℕ) (s : Image) (allowance : ℕ) (xs : List Call) → outcomeOf N B s allowance format .code ≡ 0
-      → Uncut (observed N B (outcomeOf N B s allowance format .image) xs)
-      → FewErases N (observed N B (outcomeOf N B s allowance format .image) xs)
-        × ((k : ℕ) → Sequenced N B (play N B (outcomeOf N B s allowance format .image) (take k xs)) (tally (take k (observed N B (outcomeOf N B s allowance format .image) xs)) start))
-  all-kept N B s allowance xs e u =
-      let r = format-range N B s allowance e in
-      let l = laws N B (r .0) (r .1) in
-      sequence N B l (bridge N B) (r .0) (outcomeOf N B s allowance format .image) start xs (formatted N B l (bridge N B) (r .0) s allowance e) u
+-- the image is clean after each call
+pub stays-clean : (N B : ℕ) (s : Image) (allowance : ℕ) (xs : List Call) → outcomeOf N B s allowance format .code ≡ 0
+    → Uncut (observed N B (outcomeOf N B s allowance format .image) xs)
+    → (k : ℕ) → state N B (play N B (outcomeOf N B s allowance format .image) (take k xs)) ≡ clean
+stays-clean N B s allowance xs e u k = all-kept N B s allowance xs e u .1 k .clean
 
-  -- the image is clean after each call
-  pub stays-clean : (N B : ℕ) (s : Image) (allowance : ℕ) (xs : List Call) → outcomeOf N B s allowance format .code ≡ 0
-      → Uncut (observed N B (outcomeOf N B s allowance format .image) xs)
-      → (k : ℕ) → state N B (play N B (outcomeOf N B s allowance format .image) (take k xs)) ≡ clean
-  stays-clean N B s allowance xs e u k = all-kept N B s allowance xs e u .1 k .clean
+-- so that recover takes no step there
+pub recover-idle : (N B : ℕ) (s : Image) (allowance : ℕ) (xs : List Call) → outcomeOf N B s allowance format .code ≡ 0
+    → Uncut (observed N B (outcomeOf N B s allowance format .image) xs)
+    → (k : ℕ) → workOf N B (play N B (outcomeOf N B s allowance format .image) (take k xs)) recover .steps ≡ []
+recover-idle N B s allowance xs e u k = recover-none N B (play N B (outcomeOf N B s allowance format .image) (take k xs)) (stays-clean N B s allowance xs e u k)
 
-  -- so that recover takes no step there
-  pub recover-idle : (N B : ℕ) (s : Image) (allowance : ℕ) (xs : List Call) → outcomeOf N B s allowance format .code ≡ 0
-      → Uncut (observed N B (outcomeOf N B s allowance format .image) xs)
-      → (k : ℕ) → workOf N B (play N B (outcomeOf N B s allowance format .image) (take k xs)) recover .steps ≡ []
-  recover-idle N B s allowance xs e u k = recover-none N B (play N B (outcomeOf N B s allowance format .image) (take k xs)) (stays-clean N B s allowance xs e u k)
-
-  pub demand3-from : Demand3
-  demand3-from = λ N B s allowance xs e u.
-      let os = observed N B (outcomeOf N B s allowance format .image) xs in
-      let a = all-kept N B s allowance xs e u in
-      let whole = rw (take-length os) at (a .1 (length os) .tracks) in
-      (tracks-paid N B _ (tally os start) whole, a .0, λ k. tracks-balanced N B _ (tally (take k os) start) (a .1 k .tracks))
+pub demand3 : Demand3
+demand3 = λ N B s allowance xs e u.
+    let os = observed N B (outcomeOf N B s allowance format .image) xs in
+    let a = all-kept N B s allowance xs e u in
+    let whole = rw (take-length os) at (a .1 (length os) .tracks) in
+    (tracks-paid N B _ (tally os start) whole, a .0, λ k. tracks-balanced N B _ (tally (take k os) start) (a .1 k .tracks))
