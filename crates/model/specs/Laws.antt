@@ -9,6 +9,7 @@ pub mod Pages
 pub mod Programs
 
 -- one page
+pub mod AnyByte
 pub mod HeaderPage
 pub mod SlotPage
 pub mod PageCuts
@@ -21,6 +22,7 @@ pub mod Ring
 pub mod Clean
 pub mod View
 pub mod Exclusive
+pub mod Requests
 
 -- the bench table
 pub mod Bench
