@@ -9,3 +9,4 @@ pub mod Skeleton
 pub mod Reading
 pub mod ReadingRuns
 pub mod RecoverCases
+pub mod RecoverMarks
