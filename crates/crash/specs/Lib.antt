@@ -10,3 +10,4 @@ pub mod Reading
 pub mod ReadingRuns
 pub mod RecoverCases
 pub mod RecoverMarks
+pub mod RecoverErase
