@@ -11,3 +11,4 @@ pub mod ReadingRuns
 pub mod RecoverCases
 pub mod RecoverMarks
 pub mod RecoverErase
+pub mod RecoverOwing

@@ -1,0 +1,176 @@
+-- The recovery of (b), whole and cut. Whatever a cut erase leaves of the old segment, the top stays the top: if that segment looks in use, then with the number that it had.
+use Prim.Native.Nat.{ℕ, suc, _+_, _-_, _*_, _%_, max, _≤_, _<_}
+use mathlib.Core.Path.{_≡_, refl, sym, ap, ap₂, _∙_, subst}
+use mathlib.Core.Logic.{_⊎_, inl, inr, ⊎-elim, _≢_}
+use mathlib.Core.Bool.{Bool, true, false, cond, _||_, _&&_}
+use mathlib.Core.List.{List, [], _∷_, _++_}
+use native.Mathlib.Omega.{arith}
+use native.Mathlib.Decide.{decLt}
+use lib.ListN.{length, getD, set, length-set}
+use lib.Seq.{set-getD, set-set, getD-set-other}
+use lib.Dec.{eqb}
+use borrow.Author.Tests.{eqb-true}
+use Rattle.model.specs.Chip.{Image, Page, Step, program, erase, clear, erased, withSegment, segmentBytes, step, run, mostSegments, numberLimit, imageLength, rightSize, Raised, Cut}
+use Rattle.model.specs.Header.{numberBytes, inverted, erasePending, compacted, headerStatus, headerNumber, headerInUse, allBlank}
+use Rattle.model.specs.Slot.{Slot}
+use Rattle.model.specs.State.{Segment, blank, invalid, inUse, segmentOf, segmentsOf, isInUse, isInvalid, isOwing, numberAfter, nextNumber, topIndex, nextIndex, usedCount, isClean, nextBlanked, settled, topSettled, isB, caseB, unfinished, stateOf, state}
+use Rattle.model.specs.Steps.{onPage, headerAt, settle, eraseUnlessBlank, mendSteps}
+use Rattle.model.specs.Answers.{recover, workOf}
+use Rattle.model.specs.Histories.{recovered}
+use Rattle.model.specs.Laws.Lists.{and-left, false-true, mod-inj}
+use Rattle.model.specs.Laws.Bytes.{OneBit, compacted-bit, within-le}
+use Rattle.model.specs.Laws.Chip.{SizeFacts, size-facts, run-append, run-length, cut-append, cut-size}
+use Rattle.model.specs.Laws.Ring.{next-ge, next-same}
+use Rattle.model.specs.Laws.Segments.{partOf, segment-at, segments-length, erased-image}
+use Rattle.model.specs.Laws.HeaderPage.{InUseFacts, in-use-facts, number-fits, number-raised, clear-pending}
+use Rattle.model.specs.Laws.Effects.{index, InUseParts, in-use-parts, erase-effect, settle-effect}
+use Rattle.model.specs.Laws.PageCuts.{one-bit-cut}
+use Rattle.crash.specs.Sound.{AtLeast, headerByte, SoundAs, Sound, CutOf}
+use Rattle.crash.specs.RecoverCases.{two-segments, few-slots, isCase, mended, case-of, state-case, recover-steps, recovered-run, Kept, kept-same, Mended, kept-clean, kept-case}
+use Rattle.crash.specs.RecoverErase.{raised-segments, raised-byte, header-byte}
+
+-- ---- the top of an image's segments
+
+-- a segment in use has a number below the limit, and the index of that number
+pub numbered-at : (N B : ℕ) (s : Image) (i n : ℕ) → i < N → numberAfter (getD (segmentsOf N B s) i blank) ≡ suc n → (n % N ≡ i) × (n < numberLimit N)
+unfolding numberAfter
+numbered-at N B s i n h e = go (getD (segmentsOf N B s) i blank) refl e
+  where
+    go : (x : Segment) → getD (segmentsOf N B s) i blank ≡ x → numberAfter x ≡ suc n → (n % N ≡ i) × (n < numberLimit N)
+    go blank q d = absurd (omega arith)
+    go invalid q d = absurd (omega arith)
+    go (inUse st m ks) q d =
+        let u = in-use-parts N B i (partOf N B i s) st m ks (sym (segment-at N B i s h) ∙ q) in
+        let f = in-use-facts N B i (getD (partOf N B i s) 0 []) (u .header) in
+        let w : headerNumber (getD (partOf N B i s) 0 []) ≡ n = u .number ∙ omega arith in
+        (rw w at (f .place), rw w at (f .below))
+
+next-at : (l : List Segment) → 0 < nextNumber l → (i : ℕ) × (i < length l) × (numberAfter (getD l i blank) ≡ nextNumber l)
+unfolding nextNumber
+next-at [] h = absurd (omega arith)
+next-at (x ∷ l) h = elim (decLt (numberAfter x) (nextNumber l)) [ yes p ↦ let r = next-at l (omega arith) in (suc (r .0), omega (arith, r .1), r .2 ∙ omega arith) | no p ↦ (0, omega arith, omega arith) ]
+
+-- the top has the largest number
+pub top-at : (N B : ℕ) (s : Image) → 0 < nextNumber (segmentsOf N B s) → numberAfter (getD (segmentsOf N B s) ((nextNumber (segmentsOf N B s) - 1) % N) blank) ≡ nextNumber (segmentsOf N B s)
+top-at N B s h =
+    let l = segmentsOf N B s in
+    let r = next-at l h in
+    let q = numbered-at N B s (r .0) (nextNumber l - 1) (omega (arith, r .1, segments-length N B s)) (r .2 ∙ omega arith) in
+    ap (λ (y : ℕ). numberAfter (getD l y blank)) (q .0) ∙ r .2
+
+owing-number : (x : Segment) → isOwing x ≡ true → 0 < numberAfter x
+unfolding isOwing numberAfter
+owing-number blank h = absurd (false-true h)
+owing-number invalid h = absurd (false-true h)
+owing-number (inUse st n ks) h = omega arith
+
+record Owing (n : ℕ) (x : Segment) : Type 0 where
+  slots : List Slot
+  same : x ≡ inUse erasePending n slots
+
+owing-top : (x : Segment) (n : ℕ) → isOwing x ≡ true → numberAfter x ≡ suc n → Owing n x
+unfolding isOwing numberAfter
+owing-top blank n h e = absurd (false-true h)
+owing-top invalid n h e = absurd (false-true h)
+owing-top (inUse st m ks) n h e = let q : m ≡ n = omega arith in record { slots = ks; same = ap₂ (λ a b. inUse a b ks) (eqb-true st erasePending h) q }
+
+index-apart : (N n : ℕ) → 2 ≤ N → 0 < n → (n - 1) % N ≢ n % N
+index-apart N n h k e = let q : n - 1 ≡ n = mod-inj N (n - 1) n (omega arith) (omega arith) e in omega arith
+
+-- ---- (b)
+
+module _ (N B : ℕ) (s : Image) (z : rightSize N B s ≡ true) (e : state N B s ≡ unfinished caseB) where
+  abbrev l : List Segment
+  l = segmentsOf N B s
+
+  -- the top's number, and the index of the segment after it
+  abbrev n : ℕ
+  n = nextNumber l - 1
+
+  abbrev i : ℕ
+  i = nextNumber l % N
+
+  two : 2 ≤ N
+  two = two-segments N B s z
+
+  most : N ≤ mostSegments
+  most = size-facts N B s z .most
+
+  size : length s ≡ imageLength N B
+  size = size-facts N B s z .whole
+
+  inside : i < N
+  inside = index N B two s size (nextNumber l)
+
+  is-b : isB N B l ≡ true
+  unfolding state isCase
+  is-b = case-of N B l caseB e
+
+  owing : isOwing (getD l (n % N) blank) ≡ true
+  unfolding isB topIndex
+  owing = and-left (isOwing (getD l (n % N) blank)) (eqb (usedCount (topSettled N l)) (N - 1) && isClean N B (topSettled N l)) is-b
+
+  some : 0 < nextNumber l
+  some = omega (arith, owing-number (getD l (n % N) blank) owing, next-ge l (n % N))
+
+  apart : n % N ≢ i
+  apart = index-apart N (nextNumber l) two some
+
+  top-number : numberAfter (getD l (n % N) blank) ≡ suc n
+  top-number = top-at N B s some ∙ omega (arith, some)
+
+  top : Owing n (getD l (n % N) blank)
+  top = owing-top (getD l (n % N) blank) n owing top-number
+
+  below : n < numberLimit N
+  below = numbered-at N B s (n % N) n (index N B two s size n) top-number .1
+
+  -- the steps: an erase unless it is blank, then the mark
+  abbrev wipe : List Step
+  wipe = eraseUnlessBlank i (getD l i blank)
+
+  abbrev wiped : Image
+  wiped = run B wipe s
+
+  steps-b : mendSteps N B l caseB ≡ wipe ++ settle N B n
+  unfolding mendSteps nextIndex
+  steps-b = refl
+
+  wiped-segments : segmentsOf N B wiped ≡ set l i blank
+  unfolding eraseUnlessBlank
+  wiped-segments = go (getD l i blank) refl
+    where
+      erased-one : segmentsOf N B (run B (erase i ∷ []) s) ≡ set l i blank
+      erased-one = unfold run in erase-effect N B two s size i inside
+      go : (x : Segment) → getD l i blank ≡ x → segmentsOf N B (run B (cond (isInUse x || isInvalid x) (erase i ∷ []) []) s) ≡ set l i blank
+      go blank q = unfold run isInUse isInvalid in sym (ap (λ (y : Segment). set l i y) (sym q) ∙ set-getD l i blank)
+      go invalid q = unfold isInUse isInvalid in erased-one
+      go (inUse st m ks) q = unfold isInUse in erased-one
+
+  wiped-size : length wiped ≡ imageLength N B
+  wiped-size = run-length B wipe s ∙ size
+
+  wiped-top : getD (segmentsOf N B wiped) (n % N) blank ≡ inUse erasePending n (top .slots)
+  wiped-top = ap (λ (y : List Segment). getD y (n % N) blank) wiped-segments ∙ (getD-set-other l i (n % N) blank blank apart ∙ top .same)
+
+  recovered-b : recovered N B s ≡ run B (settle N B n) wiped
+  recovered-b = recovered-run N B s caseB z e ∙ (ap (λ y. run B y s) steps-b ∙ run-append B wipe (settle N B n) s)
+
+  mended-is : mended N l caseB ≡ set (set l i blank) (n % N) (inUse compacted n (top .slots))
+  unfolding mended topSettled nextBlanked nextIndex topIndex settled
+  mended-is = rw (top .same)
+
+  pub mended-b : Mended N B s caseB
+  mended-b = ap (λ y. segmentsOf N B y) recovered-b ∙ (settle-effect N B two most (few-slots N B s z) wiped wiped-size n below (top .slots) wiped-top
+      ∙ (ap (λ (y : List Segment). set y (n % N) (inUse compacted n (top .slots))) wiped-segments ∙ sym mended-is))
+
+  -- the mark is set or not
+  settle-whole : (u : Image) → Cut B (settle N B n) wiped u → (u ≡ wiped) ⊎ (u ≡ run B (settle N B n) wiped)
+  unfolding settle onPage headerAt
+  settle-whole u c = one-bit-cut B (n % N * (B + 1) * 256 + 5) compacted wiped u (rw (byte, clear-pending) compacted-bit) c
+    where
+      here : n % N < N
+      here = index N B two s size n
+      byte : getD wiped (n % N * (B + 1) * 256 + 5) 0 ≡ erasePending
+      byte = sym (header-byte N B (n % N) 5 wiped here (omega arith)) ∙ (unfold headerStatus in
+          in-use-parts N B (n % N) (partOf N B (n % N) wiped) erasePending n (top .slots) (sym (segment-at N B (n % N) wiped here) ∙ wiped-top) .status)
