@@ -174,3 +174,30 @@ module _ (N B : ℕ) (s : Image) (z : rightSize N B s ≡ true) (e : state N B s
       byte : getD wiped (n % N * (B + 1) * 256 + 5) 0 ≡ erasePending
       byte = sym (header-byte N B (n % N) 5 wiped here (omega arith)) ∙ (unfold headerStatus in
           in-use-parts N B (n % N) (partOf N B (n % N) wiped) erasePending n (top .slots) (sym (segment-at N B (n % N) wiped here) ∙ wiped-top) .status)
+
+  -- the segment after the top has a smaller number, if any
+  old-number : numberAfter (getD l i blank) < nextNumber l
+  old-number = elim (decLt (numberAfter (getD l i blank)) (nextNumber l)) [ yes p ↦ p
+      | no p ↦ absurd (apart (numbered-at N B s i n inside (omega (arith, next-ge l i, some)) .0)) ]
+
+  -- that segment replaced by one that is not the top: (b) again, and mended to the same
+  module _ (y : Segment) (small : numberAfter y ≤ nextNumber l) where
+    replaced-next : nextNumber (set l i y) ≡ nextNumber l
+    replaced-next = next-same l i y old-number small
+
+    replaced-mended : topSettled N (set l i y) ≡ topSettled N l
+    unfolding topSettled nextBlanked topIndex nextIndex
+    replaced-mended =
+        let g : getD (set l i y) (n % N) blank ≡ getD l (n % N) blank = getD-set-other l i (n % N) y blank apart in
+        rw (replaced-next, set-set l i y blank, g)
+
+    replaced-top : getD (set l i y) (topIndex N (set l i y)) blank ≡ getD l (topIndex N l) blank
+    unfolding topIndex
+    replaced-top = rw replaced-next (getD-set-other l i (n % N) y blank apart)
+
+    replaced-case : isB N B (set l i y) ≡ true
+    unfolding isB
+    replaced-case = rw (replaced-mended, replaced-top) is-b
+
+    replaced-state : stateOf N B (set l i y) ≡ unfinished caseB
+    replaced-state = state-case N B (set l i y) caseB (length-set l i y ∙ segments-length N B s) (unfold isCase in replaced-case)
