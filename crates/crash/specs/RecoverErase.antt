@@ -24,25 +24,30 @@ use Rattle.model.specs.Laws.Effects.{index, erase-effect}
 use Rattle.crash.specs.Sound.{headerByte, SoundAs, Sound, CutOf}
 use Rattle.crash.specs.RecoverCases.{two-segments, isCase, mended, case-of, recover-steps, recovered-run, Kept, kept-same, Mended, kept-clean, kept-case}
 
--- ---- an erase cut inside
+-- ---- a segment's bytes replaced, and an erase cut inside
 
-module _ (N B i : ℕ) (h : i < N) (s : Image) (z : length s ≡ imageLength N B) (v : List ℕ) (r : Raised (segmentBytes B i s) v) where
-  raised-size : length v ≡ (B + 1) * 256
-  raised-size = raised-length (segmentBytes B i s) v r ∙ segment-bytes-length N B i h s z
+module _ (N B i : ℕ) (h : i < N) (s : Image) (z : length s ≡ imageLength N B) (v : List ℕ) where
+  pub replaced-byte : length v ≡ (B + 1) * 256 → (k : ℕ) → k < 256 → getD (withSegment B i v s) (i * (B + 1) * 256 + k) 0 ≡ getD v k 0
+  unfolding withSegment
+  replaced-byte e k l =
+      let front = take (i * (B + 1) * 256) s in
+      let rest = drop ((i * (B + 1) + (B + 1)) * 256) s in
+      ap (λ (y : ℕ). getD (front ++ (v ++ rest)) (y + k) 0) (sym (length-take-le (i * (B + 1) * 256) s (omega (arith, segment-fits N B i h s z))))
+      ∙ (getD-append-add front (v ++ rest) k 0 ∙ List·getD-append v rest 0 k (omega arith))
 
-  pub raised-segments : segmentsOf N B (withSegment B i v s) ≡ set (segmentsOf N B s) i (segmentOf N B i (partOf N B i (withSegment B i v s)))
-  raised-segments = only-segments N B i s (withSegment B i v s) (only-part N B i s (withSegment B i v s) (chunk (B + 1) 256 v) h (replaced-parts N B i h s z v raised-size) .0)
+  module _ (r : Raised (segmentBytes B i s) v) where
+    raised-size : length v ≡ (B + 1) * 256
+    raised-size = raised-length (segmentBytes B i s) v r ∙ segment-bytes-length N B i h s z
 
-  -- byte k of the header has every bit that it had
-  pub raised-byte : (k : ℕ) → k < 256 → clear (getD s (i * (B + 1) * 256 + k) 0) (getD (withSegment B i v s) (i * (B + 1) * 256 + k) 0) ≡ getD s (i * (B + 1) * 256 + k) 0
-  raised-byte k l = rw (← old, new) (raised-get (segmentBytes B i s) v r k)
-    where
-      old : getD (segmentBytes B i s) k 0 ≡ getD s (i * (B + 1) * 256 + k) 0
-      old = unfold segmentBytes in (getD-take ((B + 1) * 256) (drop (i * (B + 1) * 256) s) k 0 (omega arith) ∙ getD-drop (i * (B + 1) * 256) s k 0)
-      new : getD (withSegment B i v s) (i * (B + 1) * 256 + k) 0 ≡ getD v k 0
-      new = unfold withSegment in (ap (λ (y : ℕ). getD (take (i * (B + 1) * 256) s ++ (v ++ drop ((i * (B + 1) + (B + 1)) * 256) s)) (y + k) 0) (sym (length-take-le (i * (B + 1) * 256) s (omega (arith, segment-fits N B i h s z))))
-          ∙ (getD-append-add (take (i * (B + 1) * 256) s) (v ++ drop ((i * (B + 1) + (B + 1)) * 256) s) k 0
-          ∙ List·getD-append v (drop ((i * (B + 1) + (B + 1)) * 256) s) 0 k (omega (arith, raised-size))))
+    pub raised-segments : segmentsOf N B (withSegment B i v s) ≡ set (segmentsOf N B s) i (segmentOf N B i (partOf N B i (withSegment B i v s)))
+    raised-segments = only-segments N B i s (withSegment B i v s) (only-part N B i s (withSegment B i v s) (chunk (B + 1) 256 v) h (replaced-parts N B i h s z v raised-size) .0)
+
+    -- byte k of the header has every bit that it had
+    pub raised-byte : (k : ℕ) → k < 256 → clear (getD s (i * (B + 1) * 256 + k) 0) (getD (withSegment B i v s) (i * (B + 1) * 256 + k) 0) ≡ getD s (i * (B + 1) * 256 + k) 0
+    raised-byte k l = rw (← old, replaced-byte raised-size k l) (raised-get (segmentBytes B i s) v r k)
+      where
+        old : getD (segmentBytes B i s) k 0 ≡ getD s (i * (B + 1) * 256 + k) 0
+        old = unfold segmentBytes in (getD-take ((B + 1) * 256) (drop (i * (B + 1) * 256) s) k 0 (omega arith) ∙ getD-drop (i * (B + 1) * 256) s k 0)
 
 -- byte k of the header page of segment i
 pub header-byte : (N B i k : ℕ) (s : Image) → i < N → k < 256 → getD (getD (partOf N B i s) 0 []) k 0 ≡ getD s (i * (B + 1) * 256 + k) 0

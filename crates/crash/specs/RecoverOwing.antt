@@ -1,12 +1,12 @@
 -- The recovery of (b), whole and cut. Whatever a cut erase leaves of the old segment, the top stays the top: if that segment looks in use, then with the number that it had.
-use Prim.Native.Nat.{ℕ, suc, _+_, _-_, _*_, _%_, max, _≤_, _<_}
+use Prim.Native.Nat.{ℕ, zero, suc, _+_, _-_, _*_, _%_, max, _≤_, _<_}
 use mathlib.Core.Path.{_≡_, refl, sym, ap, ap₂, _∙_, subst}
 use mathlib.Core.Logic.{_⊎_, inl, inr, ⊎-elim, _≢_}
 use mathlib.Core.Bool.{Bool, true, false, cond, _||_, _&&_}
 use mathlib.Core.List.{List, [], _∷_, _++_}
 use native.Mathlib.Omega.{arith}
 use native.Mathlib.Decide.{decLt}
-use lib.ListN.{length, getD, set, length-set}
+use lib.ListN.{length, getD, set, length-set, length-append}
 use lib.Seq.{set-getD, set-set, getD-set-other}
 use lib.Dec.{eqb}
 use borrow.Author.Tests.{eqb-true}
@@ -18,8 +18,8 @@ use Rattle.model.specs.Steps.{onPage, headerAt, settle, eraseUnlessBlank, mendS
 use Rattle.model.specs.Answers.{recover, workOf}
 use Rattle.model.specs.Histories.{recovered}
 use Rattle.model.specs.Laws.Lists.{and-left, false-true, mod-inj}
-use Rattle.model.specs.Laws.Bytes.{OneBit, compacted-bit, within-le}
-use Rattle.model.specs.Laws.Chip.{SizeFacts, size-facts, run-append, run-length, cut-append, cut-size}
+use Rattle.model.specs.Laws.Bytes.{OneBit, compacted-bit, within-le, number-bytes, inverted-bytes, number-length, inverted-length, bytes-append, bytes-get, erased-get, erased-length}
+use Rattle.model.specs.Laws.Chip.{SizeFacts, size-facts, run-append, run-length, whole-cut, cut-append, cut-size}
 use Rattle.model.specs.Laws.Ring.{next-ge, next-same}
 use Rattle.model.specs.Laws.Segments.{partOf, segment-at, segments-length, erased-image}
 use Rattle.model.specs.Laws.HeaderPage.{InUseFacts, in-use-facts, number-fits, number-raised, clear-pending}
@@ -27,7 +27,7 @@ use Rattle.model.specs.Laws.Effects.{index, InUseParts, in-use-parts, erase-eff
 use Rattle.model.specs.Laws.PageCuts.{one-bit-cut}
 use Rattle.crash.specs.Sound.{AtLeast, headerByte, SoundAs, Sound, CutOf}
 use Rattle.crash.specs.RecoverCases.{two-segments, few-slots, isCase, mended, case-of, state-case, recover-steps, recovered-run, Kept, kept-same, Mended, kept-clean, kept-case}
-use Rattle.crash.specs.RecoverErase.{raised-segments, raised-byte, header-byte}
+use Rattle.crash.specs.RecoverErase.{replaced-byte, raised-segments, raised-byte, header-byte}
 
 -- ---- the top of an image's segments
 
@@ -201,3 +201,51 @@ module _ (N B : ℕ) (s : Image) (z : rightSize N B s ≡ true) (e : state N B s
 
     replaced-state : stateOf N B (set l i y) ≡ unfinished caseB
     replaced-state = state-case N B (set l i y) caseB (length-set l i y ∙ segments-length N B s) (unfold isCase in replaced-case)
+
+-- ---- bytes that are at least given ones
+
+at-least-get : (at : ℕ) (xs : List ℕ) (s : Image) → AtLeast at xs s → (k : ℕ) → k < length xs → getD xs k 0 ≤ getD s (at + k) 0
+at-least-get at [] s h k b = absurd (omega arith)
+at-least-get at (x ∷ xs) s h zero b = let e : at + 0 ≡ at = omega arith in rw e (h .0)
+at-least-get at (x ∷ xs) s h (suc k) b = let e : at + suc k ≡ suc at + k = omega arith in rw e (at-least-get (suc at) xs s (h .1) k (omega arith))
+
+at-least-of : (at : ℕ) (xs : List ℕ) (s : Image) → ((k : ℕ) → k < length xs → getD xs k 0 ≤ getD s (at + k) 0) → AtLeast at xs s
+at-least-of at [] s f = tt
+at-least-of at (x ∷ xs) s f =
+    let e : at + 0 ≡ at = omega arith in
+    (rw e at (f 0 (omega arith)), at-least-of (suc at) xs s (λ k b. let d : at + suc k ≡ suc at + k = omega arith in rw d at (f (suc k) (omega arith))))
+
+-- a number's bytes and their inverse, as the header has them
+abbrev both : ℕ → List ℕ
+both n = numberBytes n ++ inverted (numberBytes n)
+
+both-length : (n : ℕ) → length (both n) ≡ 8
+both-length n = omega (arith, length-append (numberBytes n) (inverted (numberBytes n)), number-length n, inverted-length (numberBytes n))
+
+both-bytes : (n k : ℕ) → getD (both n) k 0 < 256
+both-bytes n k = bytes-get (both n) k (bytes-append (numberBytes n) (inverted (numberBytes n)) (number-bytes n) (inverted-bytes (numberBytes n)))
+
+-- bytes 8 to 15 of the header of segment i are at least those of number n
+abbrev Keeps : ℕ → ℕ → ℕ → Image → Type 0
+Keeps B i n u = (k : ℕ) → k < 8 → getD (both n) k 0 ≤ getD u (i * (B + 1) * 256 + (8 + k)) 0
+
+keeps-get : (B i n : ℕ) (u : Image) → AtLeast (i * (B + 1) * 256 + 8) (both n) u → Keeps B i n u
+keeps-get B i n u h = λ k b. let e : i * (B + 1) * 256 + 8 + k ≡ i * (B + 1) * 256 + (8 + k) = omega arith in rw e at (at-least-get (i * (B + 1) * 256 + 8) (both n) u h k (omega (arith, both-length n)))
+
+keeps-of : (B i n : ℕ) (u : Image) → Keeps B i n u → AtLeast (i * (B + 1) * 256 + 8) (both n) u
+keeps-of B i n u f = at-least-of (i * (B + 1) * 256 + 8) (both n) u (λ k b. let e : i * (B + 1) * 256 + 8 + k ≡ i * (B + 1) * 256 + (8 + k) = omega arith in rw e (f k (omega (arith, both-length n))))
+
+-- ---- cuts
+
+-- an image with another segment after the top, of which the same can be said, is (b) too and shows the same
+keep : (N B : ℕ) (s u : Image) (y : Segment) → rightSize N B s ≡ true → state N B s ≡ unfinished caseB → rightSize N B u ≡ true
+    → segmentsOf N B u ≡ set (segmentsOf N B s) (nextNumber (segmentsOf N B s) % N) y → numberAfter y ≤ nextNumber (segmentsOf N B s)
+    → N ≤ nextNumber (segmentsOf N B s) → Keeps B (nextNumber (segmentsOf N B s) % N) (nextNumber (segmentsOf N B s) - N) u → Kept N B s u
+unfolding state
+keep N B s u y z e zu q g hn b =
+    let m = nextNumber (segmentsOf N B s) in
+    let f : state N B u ≡ unfinished caseB = ap (λ (v : List Segment). stateOf N B v) q ∙ replaced-state N B s z e y g in
+    let nn : nextNumber (segmentsOf N B u) ≡ m = ap nextNumber q ∙ replaced-next N B s z e y g in
+    let so : SoundAs N B u (segmentsOf N B u) (unfinished caseB) =
+          subst (λ (v : ℕ). (N ≤ v) × AtLeast (headerByte N B v 8) (both (v - N)) u) (sym nn) (hn, (unfold headerAt in keeps-of B (m % N) (m - N) u b)) in
+    kept-case N B s u caseB e (mended-b N B s z e) f (mended-b N B u zu f) (unfold mended in (ap (λ (v : List Segment). topSettled N v) q ∙ replaced-mended N B s z e y g)) so
