@@ -12,3 +12,4 @@ pub mod RecoverCases
 pub mod RecoverMarks
 pub mod RecoverErase
 pub mod RecoverOwing
+pub mod Recover

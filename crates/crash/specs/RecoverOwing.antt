@@ -249,3 +249,68 @@ keep N B s u y z e zu q g hn b =
     let so : SoundAs N B u (segmentsOf N B u) (unfinished caseB) =
           subst (λ (v : ℕ). (N ≤ v) × AtLeast (headerByte N B v 8) (both (v - N)) u) (sym nn) (hn, (unfold headerAt in keeps-of B (m % N) (m - N) u b)) in
     kept-case N B s u caseB e (mended-b N B s z e) f (mended-b N B u zu f) (unfold mended in (ap (λ (v : List Segment). topSettled N v) q ∙ replaced-mended N B s z e y g)) so
+
+module _ (N B : ℕ) (s : Image) (z : rightSize N B s ≡ true) (e : state N B s ≡ unfinished caseB) (h : Sound N B s) where
+  abbrev m : ℕ
+  m = nextNumber (segmentsOf N B s)
+
+  abbrev j : ℕ
+  j = nextNumber (segmentsOf N B s) % N
+
+  enough : N ≤ m
+  enough = subst (λ y. SoundAs N B s (segmentsOf N B s) y) e h .0
+
+  keeps : Keeps B j (m - N) s
+  unfolding headerAt
+  keeps = keeps-get B j (m - N) s (subst (λ y. SoundAs N B s (segmentsOf N B s) y) e h .1)
+
+  -- a segment in use whose header keeps those bytes has the old segment's number
+  kept-number : (u : Image) → Keeps B j (m - N) u → numberAfter (segmentOf N B j (partOf N B j u)) ≤ m
+  unfolding numberAfter
+  kept-number u b = go (segmentOf N B j (partOf N B j u)) refl
+    where
+      page : Page
+      page = getD (partOf N B j u) 0 []
+      go : (x : Segment) → segmentOf N B j (partOf N B j u) ≡ x → numberAfter x ≤ m
+      go blank q = omega arith
+      go invalid q = omega arith
+      go (inUse st a ks) q =
+          let p = in-use-parts N B j (partOf N B j u) st a ks q in
+          let small = number-fits N (m - 1) (most N B s z e) (below N B s z e) in
+          let r : headerNumber page ≡ m - N = number-raised N B j page (m - N) (most N B s z e) (omega (arith, two N B s z e)) (p .header)
+                (λ k l. rw (header-byte N B j (8 + k) u (inside N B s z e) (omega arith)) (b k l)) in
+          omega (arith, p .number, r, enough, two N B s z e)
+
+  erasing : (u : Image) → rightSize N B u ≡ true → Cut B (erase j ∷ []) s u → Kept N B s u
+  erasing u zu (inl q) = kept-same N B s u h q
+  erasing u zu (inr (inl (v, r, q))) = keep N B s u (segmentOf N B j (partOf N B j u)) z e zu new (kept-number u raised) enough raised
+    where
+      new : segmentsOf N B u ≡ set (segmentsOf N B s) j (segmentOf N B j (partOf N B j u))
+      new = subst (λ (y : Image). segmentsOf N B y ≡ set (segmentsOf N B s) j (segmentOf N B j (partOf N B j y))) (sym q) (raised-segments N B j (inside N B s z e) s (size N B s z e) v r)
+      raised : Keeps B j (m - N) u
+      raised = subst (λ (y : Image). Keeps B j (m - N) y) (sym q) (λ k l.
+          let at = j * (B + 1) * 256 + (8 + k) in
+          let up = within-le (getD s at 0) (getD (withSegment B j v s) at 0) (raised-byte N B j (inside N B s z e) s (size N B s z e) v r (8 + k) (omega arith)) in
+          omega (arith, keeps k l))
+  erasing u zu (inr (inr q)) = keep N B s u blank z e zu (ap (λ y. segmentsOf N B y) q ∙ erase-effect N B (two N B s z e) s (size N B s z e) j (inside N B s z e))
+      (unfold numberAfter in omega arith) enough (subst (λ (y : Image). Keeps B j (m - N) y) (sym (q ∙ erased-image N B j (inside N B s z e) s (size N B s z e))) (λ k l.
+        let byte = replaced-byte N B j (inside N B s z e) s (size N B s z e) (erased ((B + 1) * 256)) (erased-length ((B + 1) * 256)) (8 + k) (omega arith) in
+        omega (arith, byte, erased-get ((B + 1) * 256) (8 + k) (omega arith), both-bytes (m - N) k)))
+
+  wiping : (u : Image) → Cut B (wipe N B s z e) s u → Kept N B s u
+  unfolding eraseUnlessBlank isInUse isInvalid
+  wiping u c = go (getD (segmentsOf N B s) j blank) c
+    where
+      zu : rightSize N B u ≡ true
+      zu = cut-size N B (eraseUnlessBlank j (getD (segmentsOf N B s) j blank)) s u c ∙ z
+      go : (x : Segment) → Cut B (cond (isInUse x || isInvalid x) (erase j ∷ []) []) s u → Kept N B s u
+      go blank d = kept-same N B s u h d
+      go invalid d = erasing u zu d
+      go (inUse st a ks) d = erasing u zu d
+
+  pub cut-b : (u : Image) → CutOf N B s recover u → Kept N B s u
+  cut-b u c = ⊎-elim (λ d. wiping u d)
+      (λ d. ⊎-elim (λ q. subst (λ (y : Image). Kept N B s y) (sym q) (wiping (wiped N B s z e) (whole-cut B (wipe N B s z e) s)))
+        (λ q. kept-clean N B s caseB e (mended-b N B s z e) u (ap (λ y. segmentsOf N B y) (q ∙ sym (recovered-b N B s z e)) ∙ mended-b N B s z e))
+        (settle-whole N B s z e u d))
+      (cut-append B (wipe N B s z e) (settle N B (m - 1)) s u (rw (recover-steps N B s caseB z e ∙ steps-b N B s z e) at c))
