@@ -13,3 +13,5 @@ pub mod RecoverMarks
 pub mod RecoverErase
 pub mod RecoverOwing
 pub mod Recover
+pub mod Read
+pub mod Delete

@@ -88,24 +88,27 @@ module _ (N B : ℕ) (s : Image) (z : rightSize N B s ≡ true) (k j : ℕ) (m :
   unfolding leastSlots
   some-slots = let h : 2 ≤ B = size-facts N B s z .slots in omega arith
 
-  inside : j < B
-  inside = let b = some-slots in let c = slot-count N B two s size k 0 (used .status) (used .number) (used .slots) some-slots (used .same) in omega (arith, marks-inside (used .slots) j marks)
+  pub slot-inside : j < B
+  slot-inside = let b = some-slots in let c = slot-count N B two s size k 0 (used .status) (used .number) (used .slots) some-slots (used .same) in omega (arith, marks-inside (used .slots) j marks)
 
-  markable : Markable (getD (slotPageAt N B two s size k j (used .status) (used .number) (used .slots) inside (used .same)) 0 0)
-  markable =
-      let p = slotPageAt N B two s size k j (used .status) (used .number) (used .slots) inside (used .same) in
-      marks-page p (subst Marks (sym (slot-kind N B two s size k j (used .status) (used .number) (used .slots) inside (used .same))) marks)
+  -- its page has that kind
+  pub page-kind : slotOf (getD (partOf N B (k % N) s) (suc j) []) ≡ getD (slotsIn (getD (segmentsOf N B s) (k % N) blank)) j empty
+  unfolding slotsIn
+  page-kind = slot-kind N B two s size k j (used .status) (used .number) (used .slots) slot-inside (used .same) ∙ ap (λ y. getD (slotsIn y) j empty) (sym (used .same))
+
+  markable : Markable (getD (getD (partOf N B (k % N) s) (suc j) []) 0 0)
+  markable = marks-page (getD (partOf N B (k % N) s) (suc j) []) (subst Marks (sym page-kind) m)
 
   pub mark-segments : segmentsOf N B (run B (markPlace N B (record { number = k; slot = j })) s) ≡ set (segmentsOf N B s) (k % N) (withSlot j dead (getD (segmentsOf N B s) (k % N) blank))
   unfolding markPlace
-  mark-segments = mark-effect N B two s size k j (used .status) (used .number) (used .slots) inside (used .same) markable
+  mark-segments = mark-effect N B two s size k j (used .status) (used .number) (used .slots) slot-inside (used .same) markable
 
   pub mark-whole : (u : Image) → Cut B (markPlace N B (record { number = k; slot = j })) s u → (u ≡ s) ⊎ (u ≡ run B (markPlace N B (record { number = k; slot = j })) s)
   unfolding markPlace onPage markDead slotAt
   mark-whole u c = one-bit-cut B ((k % N * (B + 1) + suc j) * 256 + 0) 0xDF s u one-bit c
     where
       byte : getD (getD (partOf N B (k % N) s) (suc j) []) 0 0 ≡ getD s ((k % N * (B + 1) + suc j) * 256 + 0) 0
-      byte = page-byte N B (k % N) (suc j) 0 s (index N B two s size k) (omega (arith, inside)) (omega arith)
+      byte = page-byte N B (k % N) (suc j) 0 s (index N B two s size k) (omega (arith, slot-inside)) (omega arith)
       one-bit : OneBit (clear (getD s ((k % N * (B + 1) + suc j) * 256 + 0) 0) 0xDF) (getD s ((k % N * (B + 1) + suc j) * 256 + 0) 0)
       one-bit = mark-bit (getD s ((k % N * (B + 1) + suc j) * 256 + 0) 0) (subst Markable byte markable)
 
