@@ -1,11 +1,11 @@
 -- A delete cut short has done nothing, or all: it is one step with no inside.
 use Prim.Native.Nat.{ℕ, _%_}
 use mathlib.Core.Path.{_≡_, refl, sym, ap, _∙_, subst}
-use mathlib.Core.Logic.{_⊎_, inl, inr, ⊎-elim}
-use mathlib.Core.Bool.{Bool, true, false, cond}
-use mathlib.Core.List.{List, []}
+use mathlib.Core.Logic.{inl, inr, ⊎-elim}
+use mathlib.Core.Bool.{true}
+use mathlib.Core.List.{List}
 use lib.ListN.{getD}
-use Rattle.model.specs.Chip.{Image, Step, rightSize, run, Cut}
+use Rattle.model.specs.Chip.{Image, Step, rightSize, run}
 use Rattle.model.specs.Slot.{empty}
 use Rattle.model.specs.State.{blank, segmentsOf, slotsIn, viewOf, placeOf, view}
 use Rattle.model.specs.Steps.{markPlace, deleteSteps}

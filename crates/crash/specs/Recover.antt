@@ -1,6 +1,6 @@
 -- A finished recovery leaves a clean image. A cut one leaves an image that a recovery can be run on again, and that shows the same table.
 use Prim.Native.Nat.{ℕ}
-use mathlib.Core.Path.{_≡_, refl, sym, _∙_, subst}
+use mathlib.Core.Path.{_≡_, refl, sym, subst}
 use mathlib.Core.Bool.{true}
 use Rattle.model.specs.Chip.{Image, rightSize}
 use Rattle.model.specs.State.{segmentsOf, Exception, caseA, caseB, caseC, caseD, State, clean, unfinished, damaged, state}

@@ -7,7 +7,7 @@ use native.Mathlib.Omega.{arith}
 use lib.ListN.{length, getD}
 use lib.Dec.{ltb, eqb}
 use Rattle.model.specs.Lists.{count}
-use Rattle.model.specs.Chip.{Image, Step, leastSegments, mostSlots, rightSize, run}
+use Rattle.model.specs.Chip.{Image, leastSegments, mostSlots, rightSize, run}
 use Rattle.model.specs.Slot.{isTorn, Entry}
 use Rattle.model.specs.State.{Segment, blank, isInvalid, isOwing, segmentsOf, nextIndex, topIndex, usedCount, viewOf, entriesIn, isClean, nextBlanked, isA, topSettled, isB, lastKind, tornMarked, isC, lastBlock, copies, olderMarked, isD, Exception, caseA, caseB, caseC, caseD, State, clean, unfinished, damaged, stateOf, state, view}
 use Rattle.model.specs.Steps.{mendSteps, recoverSteps}
@@ -15,8 +15,7 @@ use Rattle.model.specs.Table.{Agree, tableOf}
 use Rattle.model.specs.Answers.{recover, isDamaged, firstOf, refusals, stepsFor, workOn, workOf}
 use Rattle.model.specs.Histories.{recovered, shown}
 use Rattle.model.specs.Laws.Lists.{and-right}
-use Rattle.model.specs.Laws.Chip.{SizeFacts, size-facts}
-use Rattle.model.specs.Laws.Segments.{segments-length}
+use Rattle.model.specs.Laws.Chip.{size-facts}
 use Rattle.model.specs.Laws.Exclusive.{exclusive}
 use Rattle.crash.specs.TableLaws.{agree-of}
 use Rattle.crash.specs.Sound.{SoundAs, Sound, Clean}

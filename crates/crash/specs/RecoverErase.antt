@@ -1,27 +1,25 @@
 -- An erase that is cut inside: it changes one segment only, and bits of that only rise. With it the recovery of (a), whole and cut.
-use Prim.Native.Nat.{ℕ, suc, _+_, _-_, _*_, _/_, _%_, _≤_, _<_}
+use Prim.Native.Nat.{ℕ, _+_, _*_, _/_, _%_, _<_}
 use mathlib.Core.Path.{_≡_, refl, sym, ap, _∙_, subst}
 use mathlib.Core.Logic.{_⊎_, inl, inr, ⊎-elim}
-use mathlib.Core.Bool.{Bool, true, false, cond, _&&_}
+use mathlib.Core.Bool.{Bool, true, false, cond}
 use mathlib.Core.List.{List, [], _∷_, _++_}
 use native.Mathlib.Omega.{arith}
-use native.Mathlib.Nat.{mod-lt, mul-assoc}
 use lib.ListN.{length, getD, take, drop, set, List·getD-append}
 use lib.Seq.{set-getD, getD-take, getD-drop, getD-append-add, length-take-le}
 use Rattle.model.specs.Lists.{chunk}
-use Rattle.model.specs.Chip.{Image, Page, Step, erase, clear, withSegment, segmentBytes, step, run, imageLength, rightSize, Raised, Cut}
-use Rattle.model.specs.Header.{headerInUse, allBlank}
+use Rattle.model.specs.Chip.{Image, Page, erase, clear, withSegment, segmentBytes, run, imageLength, rightSize, Raised, Cut}
+use Rattle.model.specs.Header.{allBlank}
 use Rattle.model.specs.State.{Segment, blank, invalid, inUse, segmentOf, segmentsOf, isInvalid, nextNumber, nextIndex, isClean, nextBlanked, isA, caseA, unfinished, stateOf, state}
 use Rattle.model.specs.Steps.{headerAt, mendSteps}
 use Rattle.model.specs.Answers.{recover, workOf}
-use Rattle.model.specs.Histories.{recovered}
 use Rattle.model.specs.Laws.Lists.{and-left, false-true}
 use Rattle.model.specs.Laws.Bytes.{raised-get, bit-6-kept}
-use Rattle.model.specs.Laws.Chip.{SizeFacts, size-facts, raised-length, cut-size}
-use Rattle.model.specs.Laws.Segments.{partOf, Only, only-part, only-segments, replaced-parts, page-byte, segment-fits, segment-bytes-length}
+use Rattle.model.specs.Laws.Chip.{size-facts, raised-length, cut-size}
+use Rattle.model.specs.Laws.Segments.{partOf, only-part, only-segments, replaced-parts, page-byte, segment-fits, segment-bytes-length}
 use Rattle.model.specs.Laws.HeaderPage.{bit-6-unused}
 use Rattle.model.specs.Laws.Effects.{index, erase-effect}
-use Rattle.crash.specs.Sound.{headerByte, SoundAs, Sound, CutOf}
+use Rattle.crash.specs.Sound.{SoundAs, Sound, CutOf}
 use Rattle.crash.specs.RecoverCases.{two-segments, isCase, mended, case-of, recover-steps, recovered-run, Kept, kept-same, Mended, kept-clean, kept-case}
 
 -- ---- a segment's bytes replaced, and an erase cut inside

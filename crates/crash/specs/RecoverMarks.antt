@@ -2,32 +2,31 @@
 use Prim.Native.Nat.{ℕ, suc, _+_, _-_, _*_, _%_, _≤_, _<_}
 use mathlib.Core.Path.{_≡_, refl, sym, ap, _∙_, subst}
 use mathlib.Core.Logic.{_⊎_, inl, inr, ⊎-elim}
-use mathlib.Core.Bool.{Bool, true, false, cond, _||_, _&&_}
+use mathlib.Core.Bool.{true, _&&_}
 use mathlib.Core.List.{List, [], _∷_, _++_, flatten}
 use native.Mathlib.Omega.{arith}
-use native.Mathlib.Nat.{mod-lt}
 use native.Mathlib.Decide.{decLt}
 use lib.ListN.{length, getD, set, List·getD-eq-default}
 use lib.Seq.{getD-at}
 use lib.Dec.{ltb, eqb}
 use borrow.Author.Tests.{eqb-true, eq-eqb, lt-ltb}
-use Rattle.model.specs.Chip.{Image, Page, Step, program, clear, leastSlots, imageLength, run, rightSize, Cut}
-use Rattle.model.specs.Slot.{Slot, empty, torn, dead, wrong, live, slotOf, isTorn, Entry, entryOf, written, writeBegun}
-use Rattle.model.specs.State.{Segment, blank, invalid, inUse, segmentsOf, slotsIn, nextNumber, topIndex, topSlots, usedCount, firstNumber, slotsFrom, View, viewOf, entries, entriesIn, holds, isClean, withSlot, lastSlot, lastKind, tornMarked, isC, Place, placeOf, lastBlock, copies, older, olderMarked, isD, Exception, caseC, caseD, State, unfinished, state}
+use Rattle.model.specs.Chip.{Image, Page, clear, leastSlots, imageLength, run, rightSize, Cut}
+use Rattle.model.specs.Slot.{Slot, empty, torn, dead, wrong, live, slotOf, isTorn, entryOf}
+use Rattle.model.specs.State.{Segment, blank, invalid, inUse, segmentsOf, slotsIn, nextNumber, topIndex, topSlots, usedCount, firstNumber, slotsFrom, viewOf, entries, entriesIn, holds, isClean, withSlot, lastSlot, lastKind, tornMarked, isC, Place, placeOf, lastBlock, copies, older, olderMarked, isD, Exception, caseC, caseD, unfinished, state}
 use Rattle.model.specs.Steps.{onPage, slotAt, markDead, markPlace, mendSteps}
 use Rattle.model.specs.Table.{present, lookup}
-use Rattle.model.specs.Answers.{recover, workOf}
+use Rattle.model.specs.Answers.{recover}
 use Rattle.model.specs.Histories.{recovered}
 use Rattle.model.specs.Laws.Lists.{and-left, and-right, false-true}
 use Rattle.model.specs.Laws.Bytes.{OneBit, live-dead-bit, torn-dead-bit}
-use Rattle.model.specs.Laws.Chip.{SizeFacts, size-facts}
+use Rattle.model.specs.Laws.Chip.{size-facts}
 use Rattle.model.specs.Laws.Segments.{partOf, page-byte}
 use Rattle.model.specs.Laws.SlotPage.{Markable, live-markable, torn-markable, clear-live, clear-torn}
-use Rattle.model.specs.Laws.Effects.{index, slotPageAt, slot-kind, slot-count, mark-effect}
+use Rattle.model.specs.Laws.Effects.{index, slot-kind, slot-count, mark-effect}
 use Rattle.model.specs.Laws.PageCuts.{one-bit-cut}
 use Rattle.model.specs.Laws.Ring.{slots-get, slots-length}
 use Rattle.bridge.specs.Views.Tables.{holds-copies, lookup-append}
-use Rattle.bridge.specs.Views.Places.{Gap, fill, earlier, later, fill-entries, fill-length, FirstLive, first-live}
+use Rattle.bridge.specs.Views.Places.{Gap, earlier, later, fill-entries, fill-length, FirstLive, first-live}
 use Rattle.crash.specs.Sound.{Sound, CutOf}
 use Rattle.crash.specs.RecoverCases.{two-segments, isCase, mended, case-of, recover-steps, recovered-run, Kept, kept-same, Mended, kept-clean}
 

@@ -1,8 +1,8 @@
 -- The recovery of (b), whole and cut. Whatever a cut erase leaves of the old segment, the top stays the top: if that segment looks in use, then with the number that it had.
-use Prim.Native.Nat.{ℕ, zero, suc, _+_, _-_, _*_, _%_, max, _≤_, _<_}
+use Prim.Native.Nat.{ℕ, zero, suc, _+_, _-_, _*_, _%_, _≤_, _<_}
 use mathlib.Core.Path.{_≡_, refl, sym, ap, ap₂, _∙_, subst}
 use mathlib.Core.Logic.{_⊎_, inl, inr, ⊎-elim, _≢_}
-use mathlib.Core.Bool.{Bool, true, false, cond, _||_, _&&_}
+use mathlib.Core.Bool.{true, cond, _||_, _&&_}
 use mathlib.Core.List.{List, [], _∷_, _++_}
 use native.Mathlib.Omega.{arith}
 use native.Mathlib.Decide.{decLt}
@@ -10,20 +10,20 @@ use lib.ListN.{length, getD, set, length-set, length-append}
 use lib.Seq.{set-getD, set-set, getD-set-other}
 use lib.Dec.{eqb}
 use borrow.Author.Tests.{eqb-true}
-use Rattle.model.specs.Chip.{Image, Page, Step, program, erase, clear, erased, withSegment, segmentBytes, step, run, mostSegments, numberLimit, imageLength, rightSize, Raised, Cut}
-use Rattle.model.specs.Header.{numberBytes, inverted, erasePending, compacted, headerStatus, headerNumber, headerInUse, allBlank}
+use Rattle.model.specs.Chip.{Image, Page, Step, erase, erased, withSegment, run, mostSegments, numberLimit, imageLength, rightSize, Cut}
+use Rattle.model.specs.Header.{numberBytes, inverted, erasePending, compacted, headerStatus, headerNumber}
 use Rattle.model.specs.Slot.{Slot}
 use Rattle.model.specs.State.{Segment, blank, invalid, inUse, segmentOf, segmentsOf, isInUse, isInvalid, isOwing, numberAfter, nextNumber, topIndex, nextIndex, usedCount, isClean, nextBlanked, settled, topSettled, isB, caseB, unfinished, stateOf, state}
 use Rattle.model.specs.Steps.{onPage, headerAt, settle, eraseUnlessBlank, mendSteps}
-use Rattle.model.specs.Answers.{recover, workOf}
+use Rattle.model.specs.Answers.{recover}
 use Rattle.model.specs.Histories.{recovered}
 use Rattle.model.specs.Laws.Lists.{and-left, false-true, mod-inj}
-use Rattle.model.specs.Laws.Bytes.{OneBit, compacted-bit, within-le, number-bytes, inverted-bytes, number-length, inverted-length, bytes-append, bytes-get, erased-get, erased-length}
-use Rattle.model.specs.Laws.Chip.{SizeFacts, size-facts, run-append, run-length, whole-cut, cut-append, cut-size}
+use Rattle.model.specs.Laws.Bytes.{compacted-bit, within-le, number-bytes, inverted-bytes, number-length, inverted-length, bytes-append, bytes-get, erased-get, erased-length}
+use Rattle.model.specs.Laws.Chip.{size-facts, run-append, run-length, whole-cut, cut-append, cut-size}
 use Rattle.model.specs.Laws.Ring.{next-ge, next-same}
 use Rattle.model.specs.Laws.Segments.{partOf, segment-at, segments-length, erased-image}
-use Rattle.model.specs.Laws.HeaderPage.{InUseFacts, in-use-facts, number-fits, number-raised, clear-pending}
-use Rattle.model.specs.Laws.Effects.{index, InUseParts, in-use-parts, erase-effect, settle-effect}
+use Rattle.model.specs.Laws.HeaderPage.{in-use-facts, number-fits, number-raised, clear-pending}
+use Rattle.model.specs.Laws.Effects.{index, in-use-parts, erase-effect, settle-effect}
 use Rattle.model.specs.Laws.PageCuts.{one-bit-cut}
 use Rattle.crash.specs.Sound.{AtLeast, headerByte, SoundAs, Sound, CutOf}
 use Rattle.crash.specs.RecoverCases.{two-segments, few-slots, isCase, mended, case-of, state-case, recover-steps, recovered-run, Kept, kept-same, Mended, kept-clean, kept-case}
