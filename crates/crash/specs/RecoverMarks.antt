@@ -79,6 +79,7 @@ module _ (N B : ℕ) (s : Image) (z : rightSize N B s ≡ true) (k j : ℕ) (m :
   used : InUse (getD (segmentsOf N B s) (k % N) blank)
   used = marks-in-use (getD (segmentsOf N B s) (k % N) blank) j m
 
+  -- a segment in use has B slots, and this is one of them
   marks : Marks (getD (used .slots) j empty)
   unfolding slotsIn
   marks = subst (λ y. Marks (getD (slotsIn y) j empty)) (used .same) m
@@ -88,7 +89,7 @@ module _ (N B : ℕ) (s : Image) (z : rightSize N B s ≡ true) (k j : ℕ) (m :
   some-slots = let h : 2 ≤ B = size-facts N B s z .slots in omega arith
 
   pub slot-inside : j < B
-  slot-inside = let b = some-slots in let c = slot-count N B two s size k 0 (used .status) (used .number) (used .slots) some-slots (used .same) in omega (arith, marks-inside (used .slots) j marks)
+  slot-inside = omega (arith, marks-inside (used .slots) j marks, slot-count N B two s size k 0 (used .status) (used .number) (used .slots) some-slots (used .same))
 
   -- its page has that kind
   pub page-kind : slotOf (getD (partOf N B (k % N) s) (suc j) []) ≡ getD (slotsIn (getD (segmentsOf N B s) (k % N) blank)) j empty
