@@ -8,3 +8,10 @@ pub mod Requests
 pub mod Skeleton
 pub mod Reading
 pub mod ReadingRuns
+pub mod RecoverCases
+pub mod RecoverMarks
+pub mod RecoverErase
+pub mod RecoverOwing
+pub mod Recover
+pub mod Read
+pub mod Delete
