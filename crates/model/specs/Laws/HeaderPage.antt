@@ -15,6 +15,7 @@ use Rattle.model.specs.Header.{numberBytes, inverted, value, openingBegu
 use Rattle.model.specs.Header.{statusInUse, headerPage, headerStatus, headerNumber, oldIndex, headerInUse}
 use Rattle.model.specs.Slot.{Entry}
 use Rattle.model.specs.Steps.{programs, programPart, onPage, headerAt, openSegment, copyEntries, copyOut, settle}
+use Rattle.model.specs.Laws.AnyByte
 use Rattle.model.specs.Laws.Pages.{InPage, in-append, in-part}
 use Rattle.model.specs.Laws.Lists.{and-left, and-right}
 use Rattle.model.specs.Laws.Bytes.{clear-byte, number-value, number-length, number-bytes, inverted-length, inverted-bytes, bytes-append, same-eq, same-refl, erased-get, erased-bytes}
