@@ -5,6 +5,7 @@ use mathlib.Core.Bool.{cond}
 use mathlib.Core.List.{List, [], _∷_, _++_}
 use Rattle.model.specs.Chip.{Image, Page, Step, program}
 use Rattle.model.specs.Header.{compactionBegun, erasePending, headerPage, headerStatus, headerNumber, headerInUse}
+use Rattle.model.specs.Slot.{writeBegun, written}
 use Rattle.model.specs.Steps.{programPart, onPage, headerAt}
 use Rattle.flash.specs.Ran.{Programmed}
 use Rattle.page.specs.declared.HeaderSeen.{HeaderSeen}
@@ -13,6 +14,10 @@ use Rattle.page.specs.declared.HeaderSeen.the-variants.{InUse, NotInUse}
 -- steps that were done in the page at an offset
 abbrev pub OnPageAt : ℕ → List Step → ℕ → ℕ → Image → Image → Type 0
 OnPageAt at steps budget left from to = (p : ℕ) → at ≡ p * 256 → Programmed (onPage p steps) budget left from to
+
+-- the steps that write a slot of contents of length n, with the bytes of a page that was made up
+unfoldable pub slotParts : Page → ℕ → List Step
+slotParts p n = program 0 writeBegun ∷ (programPart p 1 3 ++ (programPart p 8 n ++ (program 0 written ∷ [])))
 
 -- N and B fit a byte each, and the image has N segments
 pub record Sized (N B bytes : ℕ) : Type 0 where

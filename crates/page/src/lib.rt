@@ -13,15 +13,13 @@ ghost use Rattle.model.specs.Header.{headerPage, headerNumber, headerInUse, old
 ghost use Rattle.model.specs.Slot.{slotPage, slotFits, slotOf, kindOf};
 ghost use Rattle.model.specs.Steps.{programPart, writeSlot, markDead, headerAt, openSegment, settle};
 ghost use Rattle.flash.specs.Ran.{Programmed};
-ghost use Rattle.page.specs.Pages.{OnPageAt, Sized, headerSeen, beginCompaction, finishCopy};
+ghost use Rattle.page.specs.Pages.{OnPageAt, Sized, slotParts, headerSeen, beginCompaction, finishCopy};
 
 // A header page: the status and number of a segment in use.
 pub enum HeaderSeen {
     InUse { status: u8, number: SegmentNumber },
     NotInUse,
 }
-
-const PAGE: usize = 256;
 
 // ---- bytes
 
@@ -88,4 +86,63 @@ pub fn slot_kind(page: &[u8]) -> SlotKind
         return SlotKind::Dead;
     }
     if flash::is_blank(page) { SlotKind::Empty } else { SlotKind::Wrong }
+}
+
+// ---- slots made up and programmed
+
+// Programs some bytes of a page that was made up, where they belong.
+fn program_part(page: &mut [u8], made: &[u8], at: usize, count: usize, budget: u64) -> u64
+    requires { ⌜ (at + count ≤ length (now made)) × (length (now made) ≡ length (now page)) ⌝ }
+    ensures { λ r. ⌜ Programmed (programPart (now (made .entry)) at count) budget r (now (page .entry)) (now (page .exit)) ⌝ }
+{
+    let end = at + count;
+    flash::program_run(page, at, &made[at..end], budget)
+}
+
+// The page of a live slot, made up among erased bytes.
+fn slot_page(block: BlockNumber, contents: &[u8]) -> [u8; 256]
+    requires { ⌜ length (now contents) ≤ 248 ⌝ }
+    ensures { λ r. ⌜ r ≡ slotPage (block .0) (now (contents .entry)) ⌝ }
+{
+    let mut page = [255u8; 256];
+    page[0] = 0x3F;
+    page[1] = contents.len() as u8;
+    page[2] = (block.0 % 256) as u8;
+    page[3] = (block.0 / 256) as u8;
+    let mut i = 0;
+    while i < contents.len() {
+        page[8 + i] = contents[i];
+        i += 1;
+    }
+    page
+}
+
+// Programs a slot's page with one that was made up, of contents of some length.
+fn program_slot(slot: &mut [u8], made: &[u8], count: usize, budget: u64) -> u64
+    requires { ⌜ (length (now slot) ≡ 256) × (length (now made) ≡ 256) × (count ≤ 248) ⌝ }
+    ensures { λ r. ⌜ Programmed (slotParts (now (made .entry)) count) budget r (now (slot .entry)) (now (slot .exit)) ⌝ }
+{
+    let begun = flash::program_byte(slot, 0, 0x7F, budget);
+    let headed = program_part(slot, made, 1, 3, begun);
+    let filled = program_part(slot, made, 8, count, headed);
+    flash::program_byte(slot, 0, 0x3F, filled)
+}
+
+// Writes a slot.
+pub fn write_slot(image: &mut [u8], place: SlotPlace, block: BlockNumber, contents: &[u8], budget: u64) -> u64
+    requires { ⌜ (place .0 + 256 ≤ length (now image)) × (length (now contents) ≤ 248) ⌝ }
+    ensures { λ r. ⌜ OnPageAt (place .0) (writeSlot (block .0) (now (contents .entry))) budget r (now (image .entry)) (now (image .exit)) ⌝ }
+{
+    let made = slot_page(block, contents);
+    let at = place.0;
+    let end = at + 256;
+    program_slot(&mut image[at..end], &made, contents.len(), budget)
+}
+
+// Clears bit 5 of a slot's status: live or torn becomes dead.
+pub fn mark_dead(image: &mut [u8], place: SlotPlace, budget: u64) -> u64
+    requires { ⌜ place .0 < length (now image) ⌝ }
+    ensures { λ r. ⌜ OnPageAt (place .0) markDead budget r (now (image .entry)) (now (image .exit)) ⌝ }
+{
+    flash::program_byte(image, place.0, 0xDF, budget)
 }
