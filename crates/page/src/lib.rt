@@ -36,6 +36,12 @@ fn word(low: u8, high: u8) -> u16
     low as u16 + 256 * (high as u16)
 }
 
+fn low_byte(x: u32) -> u8
+    ensures { λ r. ⌜ r ≡ x % 256 ⌝ }
+{
+    (x % 256) as u8
+}
+
 // ---- slots taken apart
 
 // Whether the bytes of a written slot fit, beside its status.
@@ -145,4 +151,121 @@ pub fn mark_dead(image: &mut [u8], place: SlotPlace, budget: u64) -> u64
     ensures { λ r. ⌜ OnPageAt (place .0) markDead budget r (now (image .entry)) (now (image .exit)) ⌝ }
 {
     flash::program_byte(image, place.0, 0xDF, budget)
+}
+
+// ---- headers
+
+// Four bytes as a number, low byte first.
+fn long(a: u8, b: u8, c: u8, d: u8) -> u32
+    ensures { λ r. ⌜ r ≡ a + 256 * (b + 256 * (c + 256 * d)) ⌝ }
+{
+    a as u32 + 256 * (b as u32 + 256 * (c as u32 + 256 * (d as u32)))
+}
+
+// The number in a header page, in use or not.
+fn header_number(page: &[u8]) -> SegmentNumber
+    requires { ⌜ length (now page) ≡ 256 ⌝ }
+    ensures { λ r. ⌜ r .0 ≡ headerNumber (now (page .entry)) ⌝ }
+{
+    SegmentNumber(long(page[8], page[9], page[10], page[11]))
+}
+
+// A header page, made up among erased bytes.
+fn header_page(segments: usize, slots: usize, status: u8, number: SegmentNumber, old: u8) -> [u8; 256]
+    requires { ⌜ (segments ≤ 255) × (slots ≤ 255) ⌝ }
+    ensures { λ r. ⌜ r ≡ headerPage segments slots status (number .0) old ⌝ }
+{
+    let n = number.0;
+    let mut page = [255u8; 256];
+    page[0] = 0x53;
+    page[1] = 0x4C;
+    page[2] = 0x54;
+    page[3] = 1;
+    page[4] = 0;
+    page[5] = status;
+    page[6] = slots as u8;
+    page[7] = segments as u8;
+    page[8] = low_byte(n);
+    page[9] = low_byte(n / 256);
+    page[10] = low_byte(n / 256 / 256);
+    page[11] = low_byte(n / 256 / 256 / 256);
+    page[12] = 255 - page[8];
+    page[13] = 255 - page[9];
+    page[14] = 255 - page[10];
+    page[15] = 255 - page[11];
+    page[16] = old;
+    page
+}
+
+// Whether two pages are the same.
+fn same_bytes(a: &[u8], b: &[u8]) -> bool
+    requires { ⌜ length (now a) ≡ length (now b) ⌝ }
+    ensures { λ r. ⌜ r ≡ same (now (a .entry)) (now (b .entry)) ⌝ }
+{
+    let mut i = 0;
+    while i < a.len() {
+        if a[i] != b[i] {
+            return false;
+        }
+        i += 1;
+    }
+    true
+}
+
+// The index of the old segment in a header in use: the one after its own, or none.
+fn old_index(segments: usize, index: usize, status: u8) -> u8
+    requires { ⌜ (index < segments) × (segments ≤ 255) ⌝ }
+    ensures { λ r. ⌜ r ≡ oldIndex segments index status ⌝ }
+{
+    if status == 0x3F {
+        return 255;
+    }
+    ((index + 1) % segments) as u8
+}
+
+fn status_in_use(status: u8) -> bool
+    ensures { λ r. ⌜ r ≡ statusInUse status ⌝ }
+{
+    if status == 0x3F {
+        return true;
+    }
+    if status == 0x9F {
+        return true;
+    }
+    status == 0x8F
+}
+
+// Whether a header is that of a segment in use at an index.
+pub fn header_in_use(page: &[u8], segments: usize, slots: usize, index: usize) -> bool
+    requires { ⌜ (length (now page) ≡ 256) × (0 < segments) × (segments ≤ 255) × (slots ≤ 255) ⌝ }
+    ensures { λ r. ⌜ r ≡ headerInUse segments slots index (now (page .entry)) ⌝ }
+{
+    let status = page[5];
+    if !status_in_use(status) {
+        return false;
+    }
+    let number = header_number(page);
+    let n = number.0 as usize;
+    if n >= 100000 * segments {
+        return false;
+    }
+    if n % segments != index {
+        return false;
+    }
+    let fitting = header_page(segments, slots, status, number, old_index(segments, index, status));
+    same_bytes(page, &fitting)
+}
+
+// The status and the number of a segment in use.
+pub fn see_header(page: &[u8], segments: usize, slots: usize, index: usize) -> HeaderSeen
+    requires { ⌜ (length (now page) ≡ 256) × (0 < segments) × (segments ≤ 255) × (slots ≤ 255) ⌝ }
+    ensures { λ r. ⌜ r ≡ headerSeen segments slots index (now (page .entry)) ⌝ }
+{
+    if header_in_use(page, segments, slots, index) {
+        return HeaderSeen::InUse {
+            status: page[5],
+            number: header_number(page),
+        };
+    }
+    HeaderSeen::NotInUse
 }
