@@ -30,6 +30,13 @@ pub record Sized (N B bytes : ℕ) : Type 0 where
 unfoldable pub headerSeen : ℕ → ℕ → ℕ → Page → HeaderSeen
 headerSeen N B i h = cond (headerInUse N B i h) (InUse (headerStatus h) (record { 0 = headerNumber h })) NotInUse
 
+-- the first steps in a header, and the last, with the bytes of a page that was made up
+unfoldable pub headerBegun : Page → ℕ → List Step
+headerBegun h st = program 5 st ∷ (programPart h 0 5 ++ programPart h 6 2)
+
+unfoldable pub headerFinished : Page → ℕ → List Step
+headerFinished h st = programPart h 8 8 ++ (program 5 st ∷ [])
+
 -- the steps of a compaction in the target's header, before the slots are copied and after
 unfoldable pub beginCompaction : ℕ → ℕ → ℕ → ℕ → List Step
 beginCompaction N B o n = let h = headerPage N B erasePending n (o % N) in

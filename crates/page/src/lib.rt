@@ -13,7 +13,7 @@ ghost use Rattle.model.specs.Header.{headerPage, headerNumber, headerInUse, old
 ghost use Rattle.model.specs.Slot.{slotPage, slotFits, slotOf, kindOf};
 ghost use Rattle.model.specs.Steps.{programPart, writeSlot, markDead, headerAt, openSegment, settle};
 ghost use Rattle.flash.specs.Ran.{Programmed};
-ghost use Rattle.page.specs.Pages.{OnPageAt, Sized, slotParts, headerSeen, beginCompaction, finishCopy};
+ghost use Rattle.page.specs.Pages.{OnPageAt, Sized, slotParts, headerBegun, headerFinished, headerSeen, beginCompaction, finishCopy};
 
 // A header page: the status and number of a segment in use.
 pub enum HeaderSeen {
@@ -268,4 +268,88 @@ pub fn see_header(page: &[u8], segments: usize, slots: usize, index: usize) -> H
         };
     }
     HeaderSeen::NotInUse
+}
+
+// ---- headers made up and programmed
+
+// The offset of the header page of the segment with a number.
+fn header_place(segments: usize, slots: usize, number: SegmentNumber) -> usize
+    requires { ⌜ (0 < segments) × (segments ≤ 255) × (slots ≤ 255) ⌝ }
+    ensures { λ r. ⌜ r ≡ headerAt segments slots (number .0) * 256 ⌝ }
+{
+    number.0 as usize % segments * (slots + 1) * 256
+}
+
+// The header page of a compaction's target.
+fn compaction_page(segments: usize, slots: usize, old: SegmentNumber, number: SegmentNumber) -> [u8; 256]
+    requires { ⌜ (0 < segments) × (segments ≤ 255) × (slots ≤ 255) ⌝ }
+    ensures { λ r. ⌜ r ≡ headerPage segments slots 0x9F (number .0) (old .0 % segments) ⌝ }
+{
+    let index = old.0 as usize % segments;
+    header_page(segments, slots, 0x9F, number, index as u8)
+}
+
+// The first steps in a header: a status, then what every segment's header has.
+fn begin_header(header: &mut [u8], made: &[u8], status: u8, budget: u64) -> u64
+    requires { ⌜ (length (now header) ≡ 256) × (length (now made) ≡ 256) ⌝ }
+    ensures { λ r. ⌜ Programmed (headerBegun (now (made .entry)) status) budget r (now (header .entry)) (now (header .exit)) ⌝ }
+{
+    let begun = flash::program_byte(header, 5, status, budget);
+    let marked = program_part(header, made, 0, 5, begun);
+    program_part(header, made, 6, 2, marked)
+}
+
+// The last steps in a header: the number, then a status.
+fn finish_header(header: &mut [u8], made: &[u8], status: u8, budget: u64) -> u64
+    requires { ⌜ (length (now header) ≡ 256) × (length (now made) ≡ 256) ⌝ }
+    ensures { λ r. ⌜ Programmed (headerFinished (now (made .entry)) status) budget r (now (header .entry)) (now (header .exit)) ⌝ }
+{
+    let numbered = program_part(header, made, 8, 8, budget);
+    flash::program_byte(header, 5, status, numbered)
+}
+
+// Opens the segment that a number belongs to.
+pub fn open_header(image: &mut [u8], segments: usize, slots: usize, number: SegmentNumber, budget: u64) -> u64
+    requires { ⌜ Sized segments slots (length (now image)) ⌝ }
+    ensures { λ r. ⌜ Programmed (openSegment segments slots (number .0)) budget r (now (image .entry)) (now (image .exit)) ⌝ }
+{
+    let made = header_page(segments, slots, 0x3F, number, 255);
+    let at = header_place(segments, slots, number);
+    let end = at + 256;
+    let header = &mut image[at..end];
+    let begun = begin_header(header, &made, 0x7F, budget);
+    finish_header(header, &made, 0x3F, begun)
+}
+
+// Begins to compact an old segment into the one that a number belongs to: the steps in the header before the slots are copied.
+pub fn begin_compaction(image: &mut [u8], segments: usize, slots: usize, old: SegmentNumber, number: SegmentNumber, budget: u64) -> u64
+    requires { ⌜ Sized segments slots (length (now image)) ⌝ }
+    ensures { λ r. ⌜ Programmed (beginCompaction segments slots (old .0) (number .0)) budget r (now (image .entry)) (now (image .exit)) ⌝ }
+{
+    let made = compaction_page(segments, slots, old, number);
+    let at = header_place(segments, slots, number);
+    let end = at + 256;
+    let header = &mut image[at..end];
+    let begun = begin_header(header, &made, 0xDF, budget);
+    program_part(header, &made, 16, 1, begun)
+}
+
+// The steps in the header once the slots are copied: the segment is in use, and the old one is still to be erased.
+pub fn finish_copy(image: &mut [u8], segments: usize, slots: usize, old: SegmentNumber, number: SegmentNumber, budget: u64) -> u64
+    requires { ⌜ Sized segments slots (length (now image)) ⌝ }
+    ensures { λ r. ⌜ Programmed (finishCopy segments slots (old .0) (number .0)) budget r (now (image .entry)) (now (image .exit)) ⌝ }
+{
+    let made = compaction_page(segments, slots, old, number);
+    let at = header_place(segments, slots, number);
+    let end = at + 256;
+    finish_header(&mut image[at..end], &made, 0x9F, budget)
+}
+
+// The last step of a compaction: the old segment is erased.
+pub fn settle(image: &mut [u8], segments: usize, slots: usize, number: SegmentNumber, budget: u64) -> u64
+    requires { ⌜ Sized segments slots (length (now image)) ⌝ }
+    ensures { λ r. ⌜ Programmed (settle segments slots (number .0)) budget r (now (image .entry)) (now (image .exit)) ⌝ }
+{
+    let at = header_place(segments, slots, number);
+    flash::program_byte(image, at + 5, 0x8F, budget)
 }
