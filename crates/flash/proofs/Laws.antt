@@ -161,6 +161,17 @@ unfolding programs
 within-programs c at [] h = tt
 within-programs c at (b ∷ bs) h = (omega arith, within-programs c (suc at) bs (omega arith))
 
+within-page : (c p : ℕ) (xs : List Step) → p * 256 + 256 ≤ c → Within 256 xs → Within c (onPage p xs)
+unfolding onPage
+within-page c p [] h w = tt
+within-page c p (program at v ∷ xs) h w = (omega (arith, w .0), within-page c p xs h (w .1))
+within-page c p (erase i ∷ xs) h w = absurd w
+
+-- what a callee did in page p of the part of c bytes that begins with page q
+pub ran-lent : (q c p : ℕ) (s : Image) (xs : List Step) {B n n₁ : ℕ} {t : List ℕ} → q * 256 + c ≤ length s → p * 256 + 256 ≤ c → Within 256 xs
+    → Ran (onPage p xs) B n n₁ (take c (drop (q * 256) s)) t → Ran (onPage (q + p) xs) B n n₁ s (take (q * 256) s ++ (t ++ drop c (drop (q * 256) s)))
+ran-lent q c p s xs h k w d = rw (← (page-shifted q p xs)) (ran-part (q * 256) c s (onPage p xs) h (within-page c p xs k w) d)
+
 -- ---- the blank test
 
 pub blank-stop : (s : List ℕ) (i : ℕ) → i < length s → (getD s i 0 ≡ 255 → ⊥) → isBlank (drop i s) ≡ false

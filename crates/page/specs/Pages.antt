@@ -1,12 +1,12 @@
 -- What the contracts of this crate say beside the definitions of the model.
 use Prim.Native.Nat.{ℕ, _+_, _*_, _%_, _≤_, _<_}
-use mathlib.Core.Path.{_≡_}
+use mathlib.Core.Path.{_≡_, refl}
 use mathlib.Core.Bool.{cond}
 use mathlib.Core.List.{List, [], _∷_, _++_}
 use Rattle.model.specs.Chip.{Image, Page, Step, program}
 use Rattle.model.specs.Header.{compactionBegun, erasePending, headerPage, headerStatus, headerNumber, headerInUse}
-use Rattle.model.specs.Slot.{writeBegun, written}
-use Rattle.model.specs.Steps.{programPart, onPage, headerAt}
+use Rattle.model.specs.Slot.{writeBegun, written, Entry}
+use Rattle.model.specs.Steps.{programPart, onPage, headerAt, copyEntries, copyOut}
 use Rattle.flash.specs.Ran.{Programmed}
 use Rattle.page.specs.declared.HeaderSeen.{HeaderSeen}
 use Rattle.page.specs.declared.HeaderSeen.the-variants.{InUse, NotInUse}
@@ -45,3 +45,8 @@ beginCompaction N B o n = let h = headerPage N B erasePending n (o % N) in
 unfoldable pub finishCopy : ℕ → ℕ → ℕ → ℕ → List Step
 finishCopy N B o n = let h = headerPage N B erasePending n (o % N) in
     onPage (headerAt N B n) (programPart h 8 8 ++ (program 5 erasePending ∷ []))
+
+-- they are what the definition of the copying has around the copied slots
+pub copy-out-parts : (N B o n : ℕ) (es : List Entry) → copyOut N B o n es ≡ beginCompaction N B o n ++ (copyEntries N B n 0 es ++ finishCopy N B o n)
+unfolding copyOut beginCompaction finishCopy
+copy-out-parts N B o n es = refl

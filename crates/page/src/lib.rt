@@ -4,13 +4,11 @@ use model::SlotKind;
 use model::SlotPlace;
 use model::SegmentNumber;
 ghost use mathlib.Core.Path.{_≡_};
-ghost use mathlib.Core.List.{[], _∷_, _++_};
 ghost use Prim.Native.Nat.{_+_, _*_, _%_, _<_, _≤_};
 ghost use lib.ListN.{length, getD};
 ghost use Rattle.model.specs.Lists.{same};
-ghost use Rattle.model.specs.Chip.{program};
-ghost use Rattle.model.specs.Header.{headerPage, headerNumber, headerInUse, oldIndex, statusInUse};
-ghost use Rattle.model.specs.Slot.{slotPage, slotFits, slotOf, kindOf};
+ghost use Rattle.model.specs.Header.{erasePending, headerPage, headerNumber, headerInUse, oldIndex, statusInUse};
+ghost use Rattle.model.specs.Slot.{written, slotPage, slotFits, slotOf, kindOf};
 ghost use Rattle.model.specs.Steps.{programPart, writeSlot, markDead, headerAt, openSegment, settle};
 ghost use Rattle.flash.specs.Ran.{Programmed};
 ghost use Rattle.page.specs.Pages.{OnPageAt, Sized, slotParts, headerBegun, headerFinished, headerSeen, beginCompaction, finishCopy};
@@ -20,6 +18,30 @@ pub enum HeaderSeen {
     InUse { status: u8, number: SegmentNumber },
     NotInUse,
 }
+
+// Status bytes of a slot. The names are those of the model's definitions.
+const WRITE_BEGUN: u8 = 0x7F;
+const WRITTEN: u8 = 0x3F;
+const DEAD: u8 = 0x1F;
+const DEAD_TORN: u8 = 0x5F;
+// Programmed over a status, this clears bit 5.
+const MARK_DEAD: u8 = 0xDF;
+
+// Status bytes of a header.
+const OPENING_BEGUN: u8 = 0x7F;
+const OPENED: u8 = 0x3F;
+const COMPACTION_BEGUN: u8 = 0xDF;
+const ERASE_PENDING: u8 = 0x9F;
+const COMPACTED: u8 = 0x8F;
+
+// The index of the old segment where there is none.
+const NO_OLD_SEGMENT: u8 = 255;
+
+// The most bytes of contents in a slot.
+const MOST_CONTENTS: usize = 248;
+
+// Segment numbers stay below this times the count of segments.
+const NUMBERS_EACH: usize = 100000;
 
 // ---- bytes
 
@@ -46,11 +68,11 @@ fn low_byte(x: u32) -> u8
 
 // Whether the bytes of a written slot fit, beside its status.
 fn slot_fits(page: &[u8]) -> bool
-    requires { ⌜ (length (now page) ≡ 256) × (getD (now page) 0 0 ≡ 0x3F) ⌝ }
+    requires { ⌜ (length (now page) ≡ 256) × (getD (now page) 0 0 ≡ written) ⌝ }
     ensures { λ r. ⌜ r ≡ slotFits (now (page .entry)) ⌝ }
 {
     let length = wide(page[1]);
-    if length > 248 {
+    if length > MOST_CONTENTS {
         return false;
     }
     let block = word(page[2], page[3]);
@@ -73,7 +95,7 @@ pub fn slot_kind(page: &[u8]) -> SlotKind
     ensures { λ r. ⌜ r ≡ kindOf (slotOf (now (page .entry))) ⌝ }
 {
     let status = page[0];
-    if status == 0x3F {
+    if status == WRITTEN {
         if slot_fits(page) {
             return SlotKind::Live {
                 length: wide(page[1]),
@@ -82,13 +104,13 @@ pub fn slot_kind(page: &[u8]) -> SlotKind
         }
         return SlotKind::Wrong;
     }
-    if status == 0x7F {
+    if status == WRITE_BEGUN {
         return SlotKind::Torn;
     }
-    if status == 0x1F {
+    if status == DEAD {
         return SlotKind::Dead;
     }
-    if status == 0x5F {
+    if status == DEAD_TORN {
         return SlotKind::Dead;
     }
     if flash::is_blank(page) { SlotKind::Empty } else { SlotKind::Wrong }
@@ -111,7 +133,7 @@ fn slot_page(block: BlockNumber, contents: &[u8]) -> [u8; 256]
     ensures { λ r. ⌜ r ≡ slotPage (block .0) (now (contents .entry)) ⌝ }
 {
     let mut page = [255u8; 256];
-    page[0] = 0x3F;
+    page[0] = WRITTEN;
     page[1] = contents.len() as u8;
     page[2] = (block.0 % 256) as u8;
     page[3] = (block.0 / 256) as u8;
@@ -128,10 +150,10 @@ fn program_slot(slot: &mut [u8], made: &[u8], count: usize, budget: u64) -> u64
     requires { ⌜ (length (now slot) ≡ 256) × (length (now made) ≡ 256) × (count ≤ 248) ⌝ }
     ensures { λ r. ⌜ Programmed (slotParts (now (made .entry)) count) budget r (now (slot .entry)) (now (slot .exit)) ⌝ }
 {
-    let begun = flash::program_byte(slot, 0, 0x7F, budget);
+    let begun = flash::program_byte(slot, 0, WRITE_BEGUN, budget);
     let headed = program_part(slot, made, 1, 3, begun);
     let filled = program_part(slot, made, 8, count, headed);
-    flash::program_byte(slot, 0, 0x3F, filled)
+    flash::program_byte(slot, 0, WRITTEN, filled)
 }
 
 // Writes a slot.
@@ -150,7 +172,7 @@ pub fn mark_dead(image: &mut [u8], place: SlotPlace, budget: u64) -> u64
     requires { ⌜ place .0 < length (now image) ⌝ }
     ensures { λ r. ⌜ OnPageAt (place .0) markDead budget r (now (image .entry)) (now (image .exit)) ⌝ }
 {
-    flash::program_byte(image, place.0, 0xDF, budget)
+    flash::program_byte(image, place.0, MARK_DEAD, budget)
 }
 
 // ---- headers
@@ -177,9 +199,9 @@ fn header_page(segments: usize, slots: usize, status: u8, number: SegmentNumber,
 {
     let n = number.0;
     let mut page = [255u8; 256];
-    page[0] = 0x53;
-    page[1] = 0x4C;
-    page[2] = 0x54;
+    page[0] = b'S';
+    page[1] = b'L';
+    page[2] = b'T';
     page[3] = 1;
     page[4] = 0;
     page[5] = status;
@@ -217,8 +239,8 @@ fn old_index(segments: usize, index: usize, status: u8) -> u8
     requires { ⌜ (index < segments) × (segments ≤ 255) ⌝ }
     ensures { λ r. ⌜ r ≡ oldIndex segments index status ⌝ }
 {
-    if status == 0x3F {
-        return 255;
+    if status == OPENED {
+        return NO_OLD_SEGMENT;
     }
     ((index + 1) % segments) as u8
 }
@@ -226,13 +248,13 @@ fn old_index(segments: usize, index: usize, status: u8) -> u8
 fn status_in_use(status: u8) -> bool
     ensures { λ r. ⌜ r ≡ statusInUse status ⌝ }
 {
-    if status == 0x3F {
+    if status == OPENED {
         return true;
     }
-    if status == 0x9F {
+    if status == ERASE_PENDING {
         return true;
     }
-    status == 0x8F
+    status == COMPACTED
 }
 
 // Whether a header is that of a segment in use at an index.
@@ -246,7 +268,7 @@ pub fn header_in_use(page: &[u8], segments: usize, slots: usize, index: usize) -
     }
     let number = header_number(page);
     let n = number.0 as usize;
-    if n >= 100000 * segments {
+    if n >= NUMBERS_EACH * segments {
         return false;
     }
     if n % segments != index {
@@ -283,10 +305,10 @@ fn header_place(segments: usize, slots: usize, number: SegmentNumber) -> usize
 // The header page of a compaction's target.
 fn compaction_page(segments: usize, slots: usize, old: SegmentNumber, number: SegmentNumber) -> [u8; 256]
     requires { ⌜ (0 < segments) × (segments ≤ 255) × (slots ≤ 255) ⌝ }
-    ensures { λ r. ⌜ r ≡ headerPage segments slots 0x9F (number .0) (old .0 % segments) ⌝ }
+    ensures { λ r. ⌜ r ≡ headerPage segments slots erasePending (number .0) (old .0 % segments) ⌝ }
 {
     let index = old.0 as usize % segments;
-    header_page(segments, slots, 0x9F, number, index as u8)
+    header_page(segments, slots, ERASE_PENDING, number, index as u8)
 }
 
 // The first steps in a header: a status, then what every segment's header has.
@@ -313,12 +335,12 @@ pub fn open_header(image: &mut [u8], segments: usize, slots: usize, number: Segm
     requires { ⌜ Sized segments slots (length (now image)) ⌝ }
     ensures { λ r. ⌜ Programmed (openSegment segments slots (number .0)) budget r (now (image .entry)) (now (image .exit)) ⌝ }
 {
-    let made = header_page(segments, slots, 0x3F, number, 255);
+    let made = header_page(segments, slots, OPENED, number, NO_OLD_SEGMENT);
     let at = header_place(segments, slots, number);
     let end = at + 256;
     let header = &mut image[at..end];
-    let begun = begin_header(header, &made, 0x7F, budget);
-    finish_header(header, &made, 0x3F, begun)
+    let begun = begin_header(header, &made, OPENING_BEGUN, budget);
+    finish_header(header, &made, OPENED, begun)
 }
 
 // Begins to compact an old segment into the one that a number belongs to: the steps in the header before the slots are copied.
@@ -330,7 +352,7 @@ pub fn begin_compaction(image: &mut [u8], segments: usize, slots: usize, old: Se
     let at = header_place(segments, slots, number);
     let end = at + 256;
     let header = &mut image[at..end];
-    let begun = begin_header(header, &made, 0xDF, budget);
+    let begun = begin_header(header, &made, COMPACTION_BEGUN, budget);
     program_part(header, &made, 16, 1, begun)
 }
 
@@ -342,7 +364,7 @@ pub fn finish_copy(image: &mut [u8], segments: usize, slots: usize, old: Segment
     let made = compaction_page(segments, slots, old, number);
     let at = header_place(segments, slots, number);
     let end = at + 256;
-    finish_header(&mut image[at..end], &made, 0x9F, budget)
+    finish_header(&mut image[at..end], &made, ERASE_PENDING, budget)
 }
 
 // The last step of a compaction: the old segment is erased.
@@ -351,5 +373,5 @@ pub fn settle(image: &mut [u8], segments: usize, slots: usize, number: SegmentNu
     ensures { λ r. ⌜ Programmed (settle segments slots (number .0)) budget r (now (image .entry)) (now (image .exit)) ⌝ }
 {
     let at = header_place(segments, slots, number);
-    flash::program_byte(image, at + 5, 0x8F, budget)
+    flash::program_byte(image, at + 5, COMPACTED, budget)
 }

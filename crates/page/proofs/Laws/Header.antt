@@ -15,6 +15,7 @@ use Rattle.model.specs.Chip.{Page, erased, numberLimit}
 use Rattle.model.specs.Header.{numberBytes, inverted, value, opened, erasePending, compacted, statusInUse, headerPage, headerStatus, headerNumber, oldIndex, headerInUse}
 use Rattle.page.specs.Pages.{headerSeen}
 use Rattle.page.specs.declared.HeaderSeen.the-variants.{InUse, NotInUse}
+use Rattle.page.proofs.Laws.Bool.{and-false}
 
 -- ---- the number
 
@@ -67,10 +68,6 @@ unfolding oldIndex
 old-next N i st n = rw (ne-eqb st opened n)
 
 -- ---- in use
-
-and-false : (t : Bool) → (t && false) ≡ false
-and-false true = refl
-and-false false = refl
 
 module _ (N B i : ℕ) (h : Page) where
   pub unused-status : statusInUse (getD h 5 0) ≡ false → headerInUse N B i h ≡ false

@@ -14,6 +14,7 @@ use Rattle.model.specs.Chip.{Page, erased}
 use Rattle.model.specs.Header.{isBlank}
 use Rattle.model.specs.Slot.{mostContents, writeBegun, written, numberOk, slotPage, pageBlock, pageContents, slotFits, empty, wrong, slotOf, kindOf}
 use Rattle.model.specs.declared.SlotKind.the-variants.{Empty, Torn, Live, Dead, Wrong}
+use Rattle.page.proofs.Laws.Bool.{and-false, and-first}
 
 same-erased : (q : List ℕ) → same q (erased (length q)) ≡ isBlank q
 unfolding same erased isBlank
@@ -60,14 +61,6 @@ same-slot (x₀ ∷ x₁ ∷ x₂ ∷ x₃ ∷ x₄ ∷ []) l e b h = absurd (om
 same-slot (x₀ ∷ x₁ ∷ x₂ ∷ x₃ ∷ x₄ ∷ x₅ ∷ []) l e b h = absurd (omega arith)
 same-slot (x₀ ∷ x₁ ∷ x₂ ∷ x₃ ∷ x₄ ∷ x₅ ∷ x₆ ∷ []) l e b h = absurd (omega arith)
 same-slot (x₀ ∷ x₁ ∷ x₂ ∷ x₃ ∷ x₄ ∷ x₅ ∷ x₆ ∷ x₇ ∷ q) l e b h = page-fits x₀ x₁ x₂ x₃ x₄ x₅ x₆ x₇ q (omega arith) e b h
-
-and-false : (t : Bool) → (t && false) ≡ false
-and-false true = refl
-and-false false = refl
-
-and-first : (s t : Bool) → (s && t) ≡ true → s ≡ true
-and-first true t e = refl
-and-first false t e = e
 
 -- ---- the ways out of the test of a written slot
 

@@ -1,18 +1,22 @@
 -- Laws of pages that are made up and then programmed, where they belong in the image.
 use Prim.Native.Nat.{ℕ, zero, suc, _+_, _-_, _*_, _/_, _%_, _≤_, _<_}
 use mathlib.Core.Path.{_≡_, refl, sym, ap, ap₂, _∙_, subst}
+use mathlib.Core.Bool.{Bool, true, false, _&&_}
 use mathlib.Core.List.{List, [], _∷_, _++_, append-assoc}
 use native.Mathlib.Nat.{sub-zero, zero-sub, suc-sub-suc, suc-mul, mul-le-mul-right, mod-lt}
 use native.Mathlib.Numerals.{add-one}
 use native.Mathlib.Omega.{arith}
 use lib.ListN.{length, getD, take, drop, set, replicate, length-take}
 use lib.Seq.{paste, paste-suc, take-length, drop-drop}
-use Rattle.model.specs.Chip.{Image, Page, Step, program, erased}
+use lib.Dec.{leb, eqb}
+use borrow.Author.Tests.{leb-true, eqb-true}
+use Rattle.model.specs.Chip.{Image, Page, Step, program, erased, leastSegments, mostSegments, leastSlots, mostSlots, inRange, imageLength, rightSize}
 use Rattle.model.specs.Slot.{mostContents, slotPage}
 use Rattle.model.specs.Header.{openingBegun, opened, compactionBegun, erasePending, compacted, noOldSegment, headerPage}
 use Rattle.model.specs.Steps.{programs, programPart, onPage, headerAt, writeSlot, markDead, openSegment, settle}
 use Rattle.flash.specs.Ran.{Programmed, shifted, Within}
 use Rattle.flash.proofs.Laws.{_then_, ran-part, shifted-page, within-append, within-programs}
+use Rattle.page.proofs.Laws.Bool.{and-first, and-second}
 use Rattle.page.specs.Pages.{OnPageAt, Sized, slotParts, headerBegun, headerFinished, beginCompaction, finishCopy}
 
 -- ---- bytes of a page
@@ -50,6 +54,9 @@ slot-parts : (b : ℕ) (c : List ℕ) → slotParts (slotPage b c) (length c) �
 unfolding slotParts writeSlot
 slot-parts b c = refl
 
+pub write-within : (b : ℕ) (c : List ℕ) → length c ≤ 248 → Within 256 (writeSlot b c)
+write-within b c h = rw (← (slot-parts b c)) (slot-within (slotPage b c) (length c) h)
+
 pub slot-written : (at b : ℕ) (c : List ℕ) (s : Image) (made : Page) {n r : ℕ} {q : Page} → at + 256 ≤ length s → length c ≤ 248 → made ≡ slotPage b c
     → Programmed (slotParts made (length c)) n r (take (at + 256 - at) (drop at s)) q → OnPageAt at (writeSlot b c) n r s (take at s ++ (q ++ drop (at + 256 - at) (drop at s)))
 slot-written at b c s made h l e d = rw (← (slot-parts b c), ← e) (on-page at s (slotParts made (length c)) h (slot-within made (length c) l) d)
@@ -77,6 +84,19 @@ slot-made b c i e =
       (sym (drop-drop (length c) 8 (slotHead (length c) b)) ∙ drop-replicate (length c) 248 255)
 
 -- ---- headers
+
+-- an image of a right size
+pub sized : (N B : ℕ) (s : Image) → rightSize N B s ≡ true → Sized N B (length s)
+unfolding rightSize inRange imageLength leastSegments mostSegments leastSlots mostSlots
+sized N B s e =
+    let range = and-first _ (eqb (length s) (N * (B + 1) * 256)) e in
+    let more = and-second (leb 2 N) _ range in
+    let most = and-second (leb N 64) _ more in
+    record
+      { some = omega (arith, leb-true 2 N (and-first (leb 2 N) _ range))
+      ; segments = omega (arith, leb-true N 64 (and-first (leb N 64) _ more))
+      ; slots = leb-true B 255 (and-second (leb 2 B) (leb B 255) most)
+      ; whole = eqb-true (length s) (N * (B + 1) * 256) (and-second (inRange N B) _ e) }
 
 pub index-small : (n N : ℕ) → 0 < N → N ≤ 255 → n % N < 255
 index-small n N z h = omega (arith, mod-lt n {m = N} z)
