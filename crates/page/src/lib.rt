@@ -1,8 +1,8 @@
 // One page: a slot or a header taken apart, or made up and programmed under a budget.
 use model::BlockNumber;
+use model::SegmentNumber;
 use model::SlotKind;
 use model::SlotPlace;
-use model::SegmentNumber;
 ghost use mathlib.Core.Path.{_≡_};
 ghost use Prim.Native.Nat.{_+_, _*_, _%_, _<_, _≤_};
 ghost use lib.ListN.{length, getD};
@@ -21,17 +21,24 @@ pub enum HeaderSeen {
 
 // Status bytes of a slot. The names are those of the model's definitions.
 const WRITE_BEGUN: u8 = 0x7F;
+
 const WRITTEN: u8 = 0x3F;
+
 const DEAD: u8 = 0x1F;
+
 const DEAD_TORN: u8 = 0x5F;
 // Programmed over a status, this clears bit 5.
 const MARK_DEAD: u8 = 0xDF;
 
 // Status bytes of a header.
 const OPENING_BEGUN: u8 = 0x7F;
+
 const OPENED: u8 = 0x3F;
+
 const COMPACTION_BEGUN: u8 = 0xDF;
+
 const ERASE_PENDING: u8 = 0x9F;
+
 const COMPACTED: u8 = 0x8F;
 
 // The index of the old segment where there is none.
@@ -113,7 +120,11 @@ pub fn slot_kind(page: &[u8]) -> SlotKind
     if status == DEAD_TORN {
         return SlotKind::Dead;
     }
-    if flash::is_blank(page) { SlotKind::Empty } else { SlotKind::Wrong }
+    if flash::is_blank(page) {
+        SlotKind::Empty
+    } else {
+        SlotKind::Wrong
+    }
 }
 
 // ---- slots made up and programmed
@@ -157,7 +168,13 @@ fn program_slot(slot: &mut [u8], made: &[u8], count: usize, budget: u64) -> u64
 }
 
 // Writes a slot.
-pub fn write_slot(image: &mut [u8], place: SlotPlace, block: BlockNumber, contents: &[u8], budget: u64) -> u64
+pub fn write_slot(
+    image: &mut [u8],
+    place: SlotPlace,
+    block: BlockNumber,
+    contents: &[u8],
+    budget: u64,
+) -> u64
     requires { ⌜ (place .0 + 256 ≤ length (now image)) × (length (now contents) ≤ 248) ⌝ }
     ensures { λ r. ⌜ OnPageAt (place .0) (writeSlot (block .0) (now (contents .entry))) budget r (now (image .entry)) (now (image .exit)) ⌝ }
 {
@@ -193,7 +210,13 @@ fn header_number(page: &[u8]) -> SegmentNumber
 }
 
 // A header page, made up among erased bytes.
-fn header_page(segments: usize, slots: usize, status: u8, number: SegmentNumber, old: u8) -> [u8; 256]
+fn header_page(
+    segments: usize,
+    slots: usize,
+    status: u8,
+    number: SegmentNumber,
+    old: u8,
+) -> [u8; 256]
     requires { ⌜ (segments ≤ 255) × (slots ≤ 255) ⌝ }
     ensures { λ r. ⌜ r ≡ headerPage segments slots status (number .0) old ⌝ }
 {
@@ -274,7 +297,13 @@ pub fn header_in_use(page: &[u8], segments: usize, slots: usize, index: usize) -
     if n % segments != index {
         return false;
     }
-    let fitting = header_page(segments, slots, status, number, old_index(segments, index, status));
+    let fitting = header_page(
+        segments,
+        slots,
+        status,
+        number,
+        old_index(segments, index, status),
+    );
     same_bytes(page, &fitting)
 }
 
@@ -303,7 +332,12 @@ fn header_place(segments: usize, slots: usize, number: SegmentNumber) -> usize
 }
 
 // The header page of a compaction's target.
-fn compaction_page(segments: usize, slots: usize, old: SegmentNumber, number: SegmentNumber) -> [u8; 256]
+fn compaction_page(
+    segments: usize,
+    slots: usize,
+    old: SegmentNumber,
+    number: SegmentNumber,
+) -> [u8; 256]
     requires { ⌜ (0 < segments) × (segments ≤ 255) × (slots ≤ 255) ⌝ }
     ensures { λ r. ⌜ r ≡ headerPage segments slots erasePending (number .0) (old .0 % segments) ⌝ }
 {
@@ -331,7 +365,13 @@ fn finish_header(header: &mut [u8], made: &[u8], status: u8, budget: u64) -> u64
 }
 
 // Opens the segment that a number belongs to.
-pub fn open_header(image: &mut [u8], segments: usize, slots: usize, number: SegmentNumber, budget: u64) -> u64
+pub fn open_header(
+    image: &mut [u8],
+    segments: usize,
+    slots: usize,
+    number: SegmentNumber,
+    budget: u64,
+) -> u64
     requires { ⌜ Sized segments slots (length (now image)) ⌝ }
     ensures { λ r. ⌜ Programmed (openSegment segments slots (number .0)) budget r (now (image .entry)) (now (image .exit)) ⌝ }
 {
@@ -344,7 +384,14 @@ pub fn open_header(image: &mut [u8], segments: usize, slots: usize, number: Segm
 }
 
 // Begins to compact an old segment into the one that a number belongs to: the steps in the header before the slots are copied.
-pub fn begin_compaction(image: &mut [u8], segments: usize, slots: usize, old: SegmentNumber, number: SegmentNumber, budget: u64) -> u64
+pub fn begin_compaction(
+    image: &mut [u8],
+    segments: usize,
+    slots: usize,
+    old: SegmentNumber,
+    number: SegmentNumber,
+    budget: u64,
+) -> u64
     requires { ⌜ Sized segments slots (length (now image)) ⌝ }
     ensures { λ r. ⌜ Programmed (beginCompaction segments slots (old .0) (number .0)) budget r (now (image .entry)) (now (image .exit)) ⌝ }
 {
@@ -357,7 +404,14 @@ pub fn begin_compaction(image: &mut [u8], segments: usize, slots: usize, old: Se
 }
 
 // The steps in the header once the slots are copied: the segment is in use, and the old one is still to be erased.
-pub fn finish_copy(image: &mut [u8], segments: usize, slots: usize, old: SegmentNumber, number: SegmentNumber, budget: u64) -> u64
+pub fn finish_copy(
+    image: &mut [u8],
+    segments: usize,
+    slots: usize,
+    old: SegmentNumber,
+    number: SegmentNumber,
+    budget: u64,
+) -> u64
     requires { ⌜ Sized segments slots (length (now image)) ⌝ }
     ensures { λ r. ⌜ Programmed (finishCopy segments slots (old .0) (number .0)) budget r (now (image .entry)) (now (image .exit)) ⌝ }
 {
@@ -368,7 +422,13 @@ pub fn finish_copy(image: &mut [u8], segments: usize, slots: usize, old: Segment
 }
 
 // The last step of a compaction: the old segment is erased.
-pub fn settle(image: &mut [u8], segments: usize, slots: usize, number: SegmentNumber, budget: u64) -> u64
+pub fn settle(
+    image: &mut [u8],
+    segments: usize,
+    slots: usize,
+    number: SegmentNumber,
+    budget: u64,
+) -> u64
     requires { ⌜ Sized segments slots (length (now image)) ⌝ }
     ensures { λ r. ⌜ Programmed (settle segments slots (number .0)) budget r (now (image .entry)) (now (image .exit)) ⌝ }
 {

@@ -47,7 +47,7 @@ returns : tie.Need-returns
 returns c =
     let a = c .before .before .before .before .before .before .before .before .before .before .before .before .before in
     compaction-begun (a .args .segments) (a .args .slots) _ (now (a .args .image)) _ (a .pre) (a .args .old .0) (a .args .number .0)
-      (c .before .before .before .before .before .before .before .before .before .before .header-place .ensures) (c .before .before .before .before .before .before .before .before .before .before .before .compaction-page .ensures) (c .before .before .before .before .before .before .begin-header .ensures) (c .before .before .program-part .ensures)
+    (c .before .before .before .before .before .before .before .before .before .before .header-place .ensures) (c .before .before .before .before .before .before .before .before .before .before .before .compaction-page .ensures) (c .before .before .before .before .before .before .begin-header .ensures) (c .before .before .program-part .ensures)
 
 pub begin-compaction-spec : {M : Type 1} → statement M
 begin-compaction-spec =

@@ -41,7 +41,7 @@ returns : tie.Need-returns
 returns c =
     let a = c .before .before .before .before .before .before .before .before in
     copy-finished (a .args .segments) (a .args .slots) _ (now (a .args .image)) _ (a .pre) (a .args .old .0) (a .args .number .0)
-      (c .before .before .before .before .before .header-place .ensures) (c .before .before .before .before .before .before .compaction-page .ensures) (c .before .before .finish-header .ensures)
+    (c .before .before .before .before .before .header-place .ensures) (c .before .before .before .before .before .before .compaction-page .ensures) (c .before .before .finish-header .ensures)
 
 pub finish-copy-spec : {M : Type 1} → statement M
 finish-copy-spec =

@@ -101,7 +101,7 @@ returns : tie.Need-returns
 returns c =
     let a = c .before .before .before .before .args in
     header-made (a .segments) (a .slots) (a .status) (a .number .0) (a .old) _ _ _ _
-      (c .before .before .before .low-byte .ensures) (c .before .before .low-byte2 .ensures) (c .before .low-byte3 .ensures) (c .low-byte4 .ensures)
+    (c .before .before .before .low-byte .ensures) (c .before .before .low-byte2 .ensures) (c .before .low-byte3 .ensures) (c .low-byte4 .ensures)
 
 pub header-page-spec : {M : Type 1} → statement M
 header-page-spec =

@@ -47,7 +47,7 @@ returns : tie.Need-returns
 returns c =
     let a = c .before .before .before .before .before .before .before .before .before .before .before .before .before in
     header-opened (a .args .segments) (a .args .slots) _ (now (a .args .image)) _ (a .pre) (a .args .number .0)
-      (c .before .before .before .before .before .before .before .before .before .before .header-place .ensures) (c .before .before .before .before .before .before .before .before .before .before .before .header-page .ensures) (c .before .before .before .before .before .before .begin-header .ensures) (c .before .before .finish-header .ensures)
+    (c .before .before .before .before .before .before .before .before .before .before .header-place .ensures) (c .before .before .before .before .before .before .before .before .before .before .before .header-page .ensures) (c .before .before .before .before .before .before .begin-header .ensures) (c .before .before .finish-header .ensures)
 
 pub open-header-spec : {M : Type 1} → statement M
 open-header-spec =

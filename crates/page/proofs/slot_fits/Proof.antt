@@ -48,7 +48,7 @@ returns-4 : tie.Need-returns-4
 returns-4 c =
     let known = c .before .before .before .before .before .before .before .before .before .before .before .shared-slice-known .given in
     let h : Numbered (now (c .before .before .before .before .before .before .before .before .before .before .before .before .args .page)) =
-          record { whole = omega arith; status = omega arith; short = omega arith; low = omega (arith, known 2); high = omega (arith, known 3); some = λ e. omega arith; most = λ e. omega arith } in
+    record { whole = omega arith; status = omega arith; short = omega arith; low = omega (arith, known 2); high = omega (arith, known 3); some = λ e. omega arith; most = λ e. omega arith } in
     sym (fits-gap _ h (sym (c .before .is-blank .ensures) ∙ not-true _ (c .if4 .taken)))
 
 add-end : tie.Need-add-end
@@ -70,7 +70,7 @@ returns-5 : tie.Need-returns-5
 returns-5 c =
     let known = c .before .before .before .before .before .before .before .before .before .before .before .before .before .shared-slice-known .given in
     let h : Numbered (now (c .before .before .before .before .before .before .before .before .before .before .before .before .before .before .args .page)) =
-          record { whole = omega arith; status = omega arith; short = omega arith; low = omega (arith, known 2); high = omega (arith, known 3); some = λ e. omega arith; most = λ e. omega arith } in
+    record { whole = omega arith; status = omega arith; short = omega arith; low = omega (arith, known 2); high = omega (arith, known 3); some = λ e. omega arith; most = λ e. omega arith } in
     let e = sym (c .before .before .before .is-blank .ensures) ∙ not-false _ (c .before .before .if4 .left) in
     c .is-blank2 .ensures ∙ sym (fits-tail _ _ h e (omega arith))
 

@@ -61,10 +61,13 @@ loop-again : tie.Need-loop-again Inv-loop μ-loop
 loop-again c =
     let k = c .before .before in
     let a = k .before .before .before .args in
-    let h = slotHead (length (now (a .contents))) (a .block .0) in
-    (ap (λ (l : List ℕ). set l (8 + k .loop .i) (getD (now (a .contents)) (k .loop .i) 0)) (k .loop .inv .0)
-      ∙ paste-suc h 8 (now (a .contents)) (k .loop .i) 0 (omega arith) (c .before .loop-test .taken)
-      ∙ ap (paste h 8 (now (a .contents))) (sym (add-one (k .loop .i))), omega arith, simp length-set (k .loop .inv .2))
+    let h = slotHead (length (now (a .contents))) (a .block .0) in (
+      ap (λ (l : List ℕ). set l (8 + k .loop .i) (getD (now (a .contents)) (k .loop .i) 0)) (k .loop .inv .0)
+          ∙ paste-suc h 8 (now (a .contents)) (k .loop .i) 0 (omega arith) (c .before .loop-test .taken)
+          ∙ ap (paste h 8 (now (a .contents))) (sym (add-one (k .loop .i))),
+      omega arith,
+      simp length-set (k .loop .inv .2),
+    )
 
 returns : tie.Need-returns Inv-loop μ-loop
 returns c =

@@ -1,7 +1,6 @@
 -- `page::status_in_use` is the test of the definition. Assumes nothing.
 use mathlib.Core.Path.{sym}
 use Rattle.page.proofs.Laws.Header.{use-opened, use-pending, use-compacted}
-use borrow.Author.Needs.{needs}
 use Rattle.page.proofs.status_in_use.Statement.{statement}
 use Rattle.page.proofs.status_in_use.Tie as tie
 

@@ -34,7 +34,7 @@ returns : tie.Need-returns
 returns c =
     let a = c .before .before .before .before .before .before .before .before in
     slot-written (a .args .place .0) (a .args .block .0) (now (a .args .contents)) (now (a .args .image)) _ (omega arith) (omega arith)
-      (c .before .before .before .before .before .slot-page .ensures) (c .before .before .program-slot .ensures)
+    (c .before .before .before .before .before .slot-page .ensures) (c .before .before .program-slot .ensures)
 
 pub write-slot-spec : {M : Type 1} → statement M
 write-slot-spec =
