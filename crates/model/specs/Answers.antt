@@ -10,6 +10,8 @@ use Rattle.model.specs.State.{Segment, segmentsOf, View, viewOf, entries
 use Rattle.model.specs.Steps.{slotAt, putSteps, deleteSteps, formatSteps, recoverSteps, isWorn}
 use Rattle.model.specs.Table.{lookup, contentsFound}
 use Rattle.model.specs.declared.Answer.{Answer}
+use Rattle.model.specs.declared.Performed.{Performed}
+use Rattle.model.specs.declared.Located.{Located}
 use Rattle.model.specs.declared.Answer.the-variants.{Done, Size, Number, Length, Damaged, Unfinished, Absent, Full, Worn, Cut}
 
 -- the paper's number of an answer
@@ -127,6 +129,10 @@ pub record Outcome : Type 0 where
   pub count : ℕ
   pub image : Image
 
+-- what the code's answer says, with the image that it left
+unfoldable pub performed : Performed → Image → Outcome
+performed p s = record { code = codeOf (p .answer); count = p .steps; image = s }
+
 unfoldable pub outcomeOf : ℕ → ℕ → Image → ℕ → Request → Outcome
 outcomeOf N B s allowance r = let w = workOf N B s r in let done = take allowance (w .steps) in
     record { code = codeUnder allowance w; count = length done; image = run B done s }
@@ -138,6 +144,10 @@ pub record ReadOutcome : Type 0 where
   pub code : ℕ
   pub offset : ℕ
   pub length : ℕ
+
+-- what the code's answer says
+unfoldable pub located : Located → ReadOutcome
+located p = record { code = codeOf (p .answer); offset = p .offset; length = p .length }
 
 unfoldable pub contentsAt : ℕ → ℕ → Place → ℕ
 contentsAt N B p = slotAt N B (p .number) (p .slot) * 256 + 8

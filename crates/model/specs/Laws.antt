@@ -21,6 +21,7 @@ pub mod CopyOut
 pub mod Ring
 pub mod Clean
 pub mod View
+pub mod ImageView
 pub mod Exclusive
 pub mod Requests
 
