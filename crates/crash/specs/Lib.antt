@@ -8,3 +8,4 @@ pub mod Requests
 pub mod Skeleton
 pub mod Reading
 pub mod ReadingRuns
+pub mod PutStates
