@@ -9,3 +9,5 @@ pub mod Skeleton
 pub mod Reading
 pub mod ReadingRuns
 pub mod PutStates
+pub mod PutClean
+pub mod WriteTop
