@@ -6,7 +6,7 @@ use mathlib.Core.List.{List, [], _∷_}
 use native.Mathlib.Omega.{arith}
 use lib.ListN.{length}
 use Rattle.model.specs.Lists.{count}
-use Rattle.model.specs.Chip.{Image, rightSize, run}
+use Rattle.model.specs.Chip.{Image, Step, rightSize, run}
 use Rattle.model.specs.State.{Segment, segmentsOf, viewOf, entriesIn, isClean, isA, isB, isC, isD, Exception, caseA, caseB, caseC, caseD, State, clean, unfinished, damaged, stateOf, state, view}
 use Rattle.model.specs.Steps.{mendSteps, recoverSteps}
 use Rattle.model.specs.Table.{tableOf}
@@ -130,6 +130,10 @@ module _ (N B : ℕ) (u : Image) where
     unfolding workOf workOn refusals firstOf stepsFor isDamaged state recoverSteps
     recover-steps = rw (z, e)
 
-    pub shown-mended : shown N B u ≡ entriesIn (viewOf N (segmentsOf N B (run B (mendSteps N B (segmentsOf N B u) x) u)))
+    shown-mended : shown N B u ≡ entriesIn (viewOf N (segmentsOf N B (run B (mendSteps N B (segmentsOf N B u) x) u)))
     unfolding shown recovered tableOf view
     shown-mended = ap (λ y. entriesIn (viewOf N (segmentsOf N B (run B y u)))) recover-steps
+
+    -- by the steps, and the segments that they leave
+    pub shown-as : (xs : List Step) (m : List Segment) → mendSteps N B (segmentsOf N B u) x ≡ xs → segmentsOf N B (run B xs u) ≡ m → shown N B u ≡ entriesIn (viewOf N m)
+    shown-as xs m p q = shown-mended ∙ (ap (λ y. entriesIn (viewOf N (segmentsOf N B (run B y u)))) p ∙ ap (λ y. entriesIn (viewOf N y)) q)
