@@ -33,7 +33,7 @@ use Rattle.bridge.specs.Views.Requests.{put-keeps-clean, put-stores}
 use Rattle.crash.specs.Sound.{SoundAs, Sound, Clean, LeftWith}
 use Rattle.crash.specs.TableLaws.{agree-of, agree-trans}
 use Rattle.crash.specs.Requests.{shown-clean, sound-clean}
-use Rattle.crash.specs.PutStates.{state-c, state-d, image-clean, table-of, recover-steps, shown-as}
+use Rattle.crash.specs.PutStates.{state-c, state-d, image-clean, clean-image, table-of, recover-steps, shown-as}
 use Rattle.crash.specs.PutClean.{Sized, sized, row-segment, CleanFacts, clean-facts, segments-clean, top-next}
 
 -- ---- the last slot that is not empty
@@ -344,3 +344,58 @@ module _ (N B : ℕ) (s : Image) (z : rightSize N B s ≡ true) (h : Clean N B s
       both-steps : mendSteps N B both caseD ≡ markPlace N B (placeOf b seen)
       unfolding mendSteps
       both-steps = ap (λ y. markPlace N B y) older-place
+
+      pub record Twice (u : Image) : Type 0 where
+        pub state : state N B u ≡ unfinished caseD
+        pub steps : workOf N B u recover .steps ≡ markPlace N B (placeOf b seen)
+        pub table : Agree (shown N B u) (store b c (tableOf N B s))
+
+      pub stored-left : (u : Image) → rightSize N B u ≡ true → segmentsOf N B u ≡ both → Twice u
+      stored-left u zu e =
+          let d = sized N B u zu in
+          let p = placeOf b seen in
+          let st : state N B u ≡ unfinished caseD = (unfold state in (ap (λ y. stateOf N B y) e ∙ state-d N B both (ap length (sym e) ∙ segments-length N B u) both-test)) in
+          let steps : mendSteps N B (segmentsOf N B u) caseD ≡ markPlace N B p = ap (λ y. mendSteps N B y caseD) e ∙ both-steps in
+          let used : getD (segmentsOf N B u) (p .number % N) blank ≡ inUse (old-slot .status) (p .number) (old-slot .slots) = ap (λ (y : List Segment). getD y (p .number % N) blank) e ∙ old-slot .used in
+          let count = slot-count N B (d .two) u (d .whole) (p .number) 0 (old-slot .status) (p .number) (old-slot .slots) (omega (arith, d .slots)) used in
+          let marks : segmentsOf N B (run B (markPlace N B p) u) ≡ onlyNew =
+                mark-segments N B u d (p .number) (p .slot) (old-slot .status) (p .number) (old-slot .slots) (omega (arith, old-slot .inside)) used (inr (b, old-slot .contents, old-slot .holds))
+                ∙ ap (λ (y : List Segment). set y (p .number % N) (withSlot (p .slot) dead (getD y (p .number % N) blank))) e in
+          record
+          { state = st
+          ; steps = recover-steps N B u zu caseD st ∙ steps
+          ; table = agree-trans (shown N B u) (entriesIn (afterPut N B b c seen)) (store b c (tableOf N B s))
+              (agree-of (shown N B u) (entriesIn (afterPut N B b c seen)) (shown-as N B u zu caseD st (markPlace N B p) onlyNew steps marks ∙ ap entriesIn new-view)) put-table }
+
+    -- ---- live, stored or not
+
+    live-left : (u : Image) → rightSize N B u ≡ true → segmentsOf N B u ≡ changed (live b c) → Sound N B u × Agree (shown N B u) (store b c (tableOf N B s))
+    live-left u zu e = go (holds b (entriesIn seen)) refl
+      where
+        go : (t : Bool) → holds b (entriesIn seen) ≡ t → Sound N B u × Agree (shown N B u) (store b c (tableOf N B s))
+        go true k = let r = stored-left k u zu e in (subst (λ y. SoundAs N B u (segmentsOf N B u) y) (sym (r .state)) tt, r .table)
+        go false k = let r = new-left k u e in
+            (sound-clean N B u (r .0), agree-trans (shown N B u) (tableOf N B u) (store b c (tableOf N B s)) (agree-of (shown N B u) (tableOf N B u) (shown-clean N B u (r .0))) (r .1))
+
+    -- ---- the write, cut and whole
+
+    pub write-cut : (u : Image) → Cut B (writeAtTop N B b c seen) s u → LeftWith N B u (tableOf N B s) (store b c (tableOf N B s))
+    unfolding writeAtTop
+    write-cut u k =
+        let zu = cut-size N B (onPage (slotAt N B n j) (writeSlot b c)) s u k ∙ z in
+        let d = facts .size in
+        let x = slot-cut N B (d .two) s (d .whole) n j (top-segment .0) n (row empty) inside (top-segment .1) (writeSlot b c) (write-in-page b c (valid .short)) u k in
+        let p = rw (empty-page N B (d .two) s (d .whole) n j (top-segment .0) n (row empty) inside (top-segment .1) (row-at empty)) at (x .1) in
+        ⊎-elim
+          (λ e. let same : segmentsOf N B u ≡ segments = (rw e at (x .2)) ∙ changed-same in
+            let cu : Clean N B u = image-clean N B u (rw same (clean-image N B s h)) in
+            (sound-clean N B u cu, inl (agree-of (shown N B u) (tableOf N B s) (shown-clean N B u cu ∙ (table-of N B u ∙ (ap (λ y. entriesIn (viewOf N y)) same ∙ sym (table-of N B s)))))))
+          (λ q. ⊎-elim
+            (λ e. let r = torn-left u zu (rw e at (x .2)) in (r .0, inl (r .1)))
+            (λ e. let r = live-left u zu (rw e at (x .2)) in (r .0, inr (r .1)))
+            q)
+          (write-cut-kind B b c (x .0) valid p)
+
+    pub write-segments : segmentsOf N B (run B (writeAtTop N B b c seen) s) ≡ changed (live b c)
+    unfolding writeAtTop
+    write-segments = write-effect N B (facts .size .two) s (facts .size .whole) n j (top-segment .0) n (row empty) inside (top-segment .1) b c valid (row-at empty)
