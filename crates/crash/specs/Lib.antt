@@ -11,3 +11,4 @@ pub mod ReadingRuns
 pub mod PutStates
 pub mod PutClean
 pub mod WriteTop
+pub mod RoomTorn
