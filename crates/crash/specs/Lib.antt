@@ -12,3 +12,4 @@ pub mod PutStates
 pub mod PutClean
 pub mod WriteTop
 pub mod RoomTorn
+pub mod RoomDone
