@@ -13,3 +13,4 @@ pub mod PutClean
 pub mod WriteTop
 pub mod RoomTorn
 pub mod RoomDone
+pub mod RoomOwing

@@ -16,7 +16,7 @@ use Rattle.model.specs.Slot.{Slot, empty, torn, dead, wrong, live, slotOf, Entr
 use Rattle.model.specs.State.{Segment, blank, inUse, segmentsOf, nextNumber, nextIndex, usedCount, firstNumber, View, viewOf, entries, isClean}
 use Rattle.model.specs.Steps.{topNumber, hasRoom, openSegment, copyOut, settle, compact, copied, Room, openNext, compactOldest, compactUntilRoom, roomFor}
 use Rattle.model.specs.Laws.Bytes.{chunk-bytes}
-use Rattle.model.specs.Laws.Chip.{run-append, run-length, step-length}
+use Rattle.model.specs.Laws.Chip.{run-append, run-size, step-length}
 use Rattle.model.specs.Laws.Segments.{partOf, part-size, part-page, segment-at}
 use Rattle.model.specs.Laws.Clean.{RingFacts, used-next, index-inside, next-blank, next-apart, view-length}
 use Rattle.model.specs.Laws.View.{taken-view, taken-ring, moved-view, moved-ring}
@@ -69,6 +69,16 @@ room-compacted N B v e f = rw (e, f)
 -- the index of the old segment comes after the target's
 pub old-index : (N o n : ℕ) → suc n ≡ o + N → o % N ≡ (n % N + 1) % N
 old-index N o n e = let q : n + 1 ≡ o + N = omega arith in sym (mod-add-mod n N 1 ∙ (ap (λ (y : ℕ). y % N) q ∙ add-mod-right o N))
+
+-- what the oldest segment in use holds; the segments once that is copied to the one after the top, and once the oldest is erased
+abbrev pub oldEntries : ℕ → List Segment → List Entry
+oldEntries N l = entries (getD (viewOf N l .slots) 0 [])
+
+abbrev pub taken : ℕ → ℕ → List Segment → ℕ → List Segment
+taken N B l st = set l (nextNumber l % N) (inUse st (nextNumber l) (copied B (oldEntries N l)))
+
+abbrev pub moved : ℕ → ℕ → List Segment → List Segment
+moved N B l = set (taken N B l compacted) (firstNumber l % N) blank
 
 module _ (N B : ℕ) (s : Image) (z : rightSize N B s ≡ true) (h : Clean N B s) (full : hasRoom (viewOf N (segmentsOf N B s)) ≡ false) where
   facts : CleanFacts N B s
@@ -124,7 +134,7 @@ module _ (N B : ℕ) (s : Image) (z : rightSize N B s ≡ true) (h : Clean N B s
     o = firstNumber segments
 
     abbrev es : List Entry
-    es = entries (getD (seen .slots) 0 [])
+    es = oldEntries N segments
 
     used-all : usedCount segments ≡ N - 1
     used-all = sym (view-length N segments ring) ∙ all
@@ -148,37 +158,46 @@ module _ (N B : ℕ) (s : Image) (z : rightSize N B s ≡ true) (h : Clean N B s
         first [] k m = absurd (omega arith)
         first (x ∷ r) k m = k .0
 
-    -- copied to, in a state; and then the old one erased
-    abbrev pub taken : ℕ → List Segment
-    taken st = set segments i (inUse st n (copied B es))
-
-    abbrev pub moved : List Segment
-    moved = set (taken compacted) (o % N) blank
-
-    pub moved-result : viewOf N moved ≡ compactOldest N B seen .result
+    pub moved-result : viewOf N (moved N B segments) ≡ compactOldest N B seen .result
     unfolding compactOldest nextIndex
     moved-result = moved-view N segments ring compacted (copied B es) used-all ∙ (unfold viewOf in refl)
 
-    pub moved-segments : isClean N B moved ≡ true
-    moved-segments = segments-clean N B moved (unfold nextIndex in (moved-ring N segments ring compacted (copied B es) used-all refl)) (rw moved-result (tidied N B seen (facts .seen) full .clean))
+    pub moved-segments : isClean N B (moved N B segments) ≡ true
+    moved-segments = segments-clean N B (moved N B segments) (unfold nextIndex in (moved-ring N segments ring compacted (copied B es) used-all refl)) (rw moved-result (tidied N B seen (facts .seen) full .clean))
 
-    pub copy-segments : Bytes s → n < numberLimit N → segmentsOf N B (run B (copyOut N B o n es) s) ≡ taken erasePending
+    pub copy-segments : Bytes s → n < numberLimit N → segmentsOf N B (run B (copyOut N B o n es) s) ≡ taken N B segments erasePending
     copy-segments y below = let d = facts .size in
         copy-out-effect N B (d .two) (d .most) (d .mostB) s (d .whole) o n below (old-index N o n turn) es
           (stored-valid N B s y (o % N) (old-segment .0) o (getD (seen .slots) 0 []) old-inside (old-segment .1)) fit next-free
 
     -- the old one erased, and the status after it
-    pub settle-segments : (u : Image) → rightSize N B u ≡ true → n < numberLimit N → segmentsOf N B u ≡ taken erasePending → segmentsOf N B (run B (erase (o % N) ∷ settle N B n) u) ≡ moved
+    pub settle-segments : (u : Image) → rightSize N B u ≡ true → n < numberLimit N → segmentsOf N B u ≡ taken N B segments erasePending → segmentsOf N B (run B (erase (o % N) ∷ settle N B n) u) ≡ moved N B segments
     unfolding run
     settle-segments u zu below e =
         let d = sized N B u zu in
         let t = step B (erase (o % N)) u in
         let zt : length t ≡ imageLength N B = step-length B (erase (o % N)) u ∙ d .whole in
-        let et : segmentsOf N B t ≡ set (taken erasePending) (o % N) blank = erase-effect N B (d .two) u (d .whole) (o % N) old-inside ∙ ap (λ (y : List Segment). set y (o % N) blank) e in
+        let et : segmentsOf N B t ≡ set (taken N B segments erasePending) (o % N) blank = erase-effect N B (d .two) u (d .whole) (o % N) old-inside ∙ ap (λ (y : List Segment). set y (o % N) blank) e in
         let here : getD (segmentsOf N B t) i blank ≡ inUse erasePending n (copied B es) =
-              ap (λ (y : List Segment). getD y i blank) et ∙ (getD-set-other (taken erasePending) (o % N) i blank blank (λ q. old-apart (sym q))
+              ap (λ (y : List Segment). getD y i blank) et ∙ (getD-set-other (taken N B segments erasePending) (o % N) i blank blank (λ q. old-apart (sym q))
               ∙ getD-set-same segments i (inUse erasePending n (copied B es)) blank (index-inside N segments ring n)) in
         settle-effect N B (d .two) (d .most) (d .mostB) t zt n below (copied B es) here
         ∙ (ap (λ (y : List Segment). set y i (inUse compacted n (copied B es))) et
-        ∙ (set-comm (taken erasePending) (o % N) i blank (inUse compacted n (copied B es)) old-apart
+        ∙ (set-comm (taken N B segments erasePending) (o % N) i blank (inUse compacted n (copied B es)) old-apart
         ∙ ap (λ (y : List Segment). set y (o % N) blank) (set-set segments i (inUse erasePending n (copied B es)) (inUse compacted n (copied B es)))))
+
+    pub compact-steps : compactOldest N B seen .steps ≡ copyOut N B o n es ++ (erase (o % N) ∷ settle N B n)
+    unfolding compactOldest compact
+    compact-steps = rw (next-number, first-number)
+      where
+        first-number : seen .first ≡ firstNumber segments
+        first-number = unfold viewOf in refl
+
+    pub compact-done : Bytes s → n < numberLimit N
+        → Clean N B (run B (compactOldest N B seen .steps) s) × (viewOf N (segmentsOf N B (run B (compactOldest N B seen .steps) s)) ≡ compactOldest N B seen .result)
+    compact-done y below =
+        let t = run B (copyOut N B o n es) s in
+        let e : segmentsOf N B (run B (compactOldest N B seen .steps) s) ≡ moved N B segments =
+              ap (λ xs. segmentsOf N B (run B xs s)) compact-steps ∙ (ap (λ w. segmentsOf N B w) (run-append B (copyOut N B o n es) (erase (o % N) ∷ settle N B n) s)
+              ∙ settle-segments t (run-size N B (copyOut N B o n es) s ∙ z) below (copy-segments y below)) in
+        (image-clean N B (run B (compactOldest N B seen .steps) s) (rw e moved-segments), ap (λ w. viewOf N w) e ∙ moved-result)
