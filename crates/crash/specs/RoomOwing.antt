@@ -10,11 +10,11 @@ use lib.ListN.{length, getD, drop, set, length-set, length-append, length-drop, 
 use lib.Seq.{getD-drop, set-set, set-comm, getD-set-same, getD-set-other}
 use lib.Dec.{eqb}
 use borrow.Author.Tests.{eq-eqb}
-use Rattle.model.specs.Chip.{Image, erase, erased, rightSize, run, numberLimit}
+use Rattle.model.specs.Chip.{Image, Page, erase, erased, rightSize, run, numberLimit}
 use Rattle.model.specs.Header.{erasePending, compacted, numberBytes, inverted, headerPage, headerStatus, oldIndex}
 use Rattle.model.specs.State.{Segment, blank, inUse, segmentsOf, isInUse, isInvalid, isOwing, numberAfter, nextNumber, topIndex, nextIndex, usedCount, firstNumber, View, viewOf, entriesIn, isClean, nextBlanked, settled, topSettled, isB, caseB, unfinished, stateOf, state}
 use Rattle.model.specs.Steps.{hasRoom, headerAt, settle, copied, compactOldest, eraseUnlessBlank, mendSteps}
-use Rattle.model.specs.Table.{Agree, tableOf}
+use Rattle.model.specs.Table.{lookup, Agree, tableOf}
 use Rattle.model.specs.Answers.{recover, workOf}
 use Rattle.model.specs.Histories.{shown}
 use Rattle.model.specs.Laws.Lists.{and-both}
@@ -120,3 +120,56 @@ module _ (N B : ℕ) (s : Image) (z : rightSize N B s ≡ true) (h : Clean N B s
   owing-steps : mendSteps N B owing caseB ≡ erase (o % N) ∷ settle N B n
   unfolding mendSteps eraseUnlessBlank isInUse
   owing-steps = let e : suc n - 1 ≡ n = omega arith in rw (owing-after, owing-old, old-segment N B s z h full all .1, owing-next, e)
+
+  -- ---- the image
+
+  pub record Owing (u : Image) : Type 0 where
+    pub sound : Sound N B u
+    pub steps : workOf N B u recover .steps ≡ erase (o % N) ∷ settle N B n
+    pub table : Agree (shown N B u) (tableOf N B s)
+
+  module _ (u : Image) (zu : rightSize N B u ≡ true) (below : n < numberLimit N) (only : Only N B i s u) (e : segmentsOf N B u ≡ owing) where
+    old-part : partOf N B (o % N) u ≡ partOf N B (o % N) s
+    old-part = ap (λ (y : List (List Page)). getD y (o % N) []) only ∙ getD-set-other (parts N B s) i (o % N) (partOf N B i u) [] (old-apart N B s z h full all)
+
+    old-page : (st : ℕ) × (old : ℕ) × (getD (partOf N B (o % N) u) 0 [] ≡ headerPage N B st o old)
+    old-page =
+        let ps = partOf N B (o % N) s in
+        let x = old-segment N B s z h full all in
+        let p = in-use-parts N B (o % N) ps (x .0) o (getD (viewOf N segments .slots) 0 []) (sym (segment-at N B (o % N) s (old-inside N B s z h full all)) ∙ x .1) in
+        let f = in-use-facts N B (o % N) (getD ps 0 []) (p .header) in
+        let st = headerStatus (getD ps 0 []) in
+        (st, oldIndex N (o % N) st, ap (λ (y : List Page). getD y 0 []) old-part ∙ (f .page ∙ ap (λ (y : ℕ). headerPage N B st y (oldIndex N (o % N) st)) (p .number)))
+
+    digit-at : (k : ℕ) → headerByte N B (suc n) 8 + k ≡ (o % N * (B + 1) + 0) * 256 + (8 + k)
+    unfolding headerAt
+    digit-at k =
+        let m : suc n % N ≡ o % N = ap (λ (y : ℕ). y % N) (turn N B s z h full all) ∙ add-mod-right o N in
+        rw m (omega arith)
+
+    digits : (k : ℕ) → k < 8 → getD u (headerByte N B (suc n) 8 + k) 0 ≡ getD (numberBytes o ++ inverted (numberBytes o)) k 0
+    digits k l =
+        rw (digit-at k) (sym (page-byte N B (o % N) 0 (8 + k) u (old-inside N B s z h full all) (omega arith) (omega arith))
+          ∙ (ap (λ (y : Page). getD y (8 + k) 0) (old-page .2) ∙ header-digits N B (old-page .0) o (old-page .1) k l))
+
+    owing-state : state N B u ≡ unfinished caseB
+    unfolding state
+    owing-state = ap (λ y. stateOf N B y) e ∙ state-b N B owing (ap length (sym e) ∙ segments-length N B u) owing-test
+
+    owing-sound : SoundAs N B u (segmentsOf N B u) (unfinished caseB)
+    owing-sound =
+        let d : suc n - N ≡ o = omega (arith, turn N B s z h full all) in
+        let a = numberBytes o in
+        rw (e, owing-next, d) (omega (arith, turn N B s z h full all),
+          at-least (a ++ inverted a) (headerByte N B (suc n) 8) u (λ k l. digits k (omega (arith, length-append a (inverted a), number-length o, inverted-length a))))
+
+    pub owing-left : Owing u
+    owing-left =
+        let steps : mendSteps N B (segmentsOf N B u) caseB ≡ erase (o % N) ∷ settle N B n = ap (λ y. mendSteps N B y caseB) e ∙ owing-steps in
+        let t = tidied N B (viewOf N segments) (facts .seen) full in
+        let shows : shown N B u ≡ entriesIn (compactOldest N B (viewOf N segments) .result) =
+              shown-as N B u zu caseB owing-state (erase (o % N) ∷ settle N B n) (moved N B segments) steps (settle-segments N B s z h full all u zu below e) ∙ ap entriesIn (moved-result N B s z h full all) in
+        record
+        { sound = subst (λ y. SoundAs N B u (segmentsOf N B u) y) (sym owing-state) owing-sound
+        ; steps = recover-steps N B u zu caseB owing-state ∙ steps
+        ; table = λ b. ap (λ y. lookup b y) shows ∙ (t .table b ∙ ap (λ y. lookup b y) (sym (table-of N B s))) }
