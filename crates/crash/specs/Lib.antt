@@ -14,3 +14,4 @@ pub mod WriteTop
 pub mod RoomTorn
 pub mod RoomDone
 pub mod RoomOwing
+pub mod RoomCuts

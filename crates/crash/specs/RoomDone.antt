@@ -151,8 +151,8 @@ module _ (N B : ℕ) (s : Image) (z : rightSize N B s ≡ true) (h : Clean N B s
     pub old-apart : o % N ≢ i
     old-apart = unfold nextIndex in (next-apart N segments ring o (omega arith) (omega (arith, ring .some)))
 
-    fit : length es ≤ B
-    fit = omega (arith, entries-length (getD (seen .slots) 0 []), first (seen .slots) (facts .seen .rows) (facts .seen .some))
+    pub copy-fits : length es ≤ B
+    copy-fits = omega (arith, entries-length (getD (seen .slots) 0 []), first (seen .slots) (facts .seen .rows) (facts .seen .some))
       where
         first : (r : List (List Slot)) → Rows B r → 1 ≤ length r → length (getD r 0 []) ≡ B
         first [] k m = absurd (omega arith)
@@ -165,10 +165,12 @@ module _ (N B : ℕ) (s : Image) (z : rightSize N B s ≡ true) (h : Clean N B s
     pub moved-segments : isClean N B (moved N B segments) ≡ true
     moved-segments = segments-clean N B (moved N B segments) (unfold nextIndex in (moved-ring N segments ring compacted (copied B es) used-all refl)) (rw moved-result (tidied N B seen (facts .seen) full .clean))
 
+    pub copy-valid : Bytes s → Valids es
+    copy-valid y = stored-valid N B s y (o % N) (old-segment .0) o (getD (seen .slots) 0 []) old-inside (old-segment .1)
+
     pub copy-segments : Bytes s → n < numberLimit N → segmentsOf N B (run B (copyOut N B o n es) s) ≡ taken N B segments erasePending
     copy-segments y below = let d = facts .size in
-        copy-out-effect N B (d .two) (d .most) (d .mostB) s (d .whole) o n below (old-index N o n turn) es
-          (stored-valid N B s y (o % N) (old-segment .0) o (getD (seen .slots) 0 []) old-inside (old-segment .1)) fit next-free
+        copy-out-effect N B (d .two) (d .most) (d .mostB) s (d .whole) o n below (old-index N o n turn) es (copy-valid y) copy-fits next-free
 
     -- the old one erased, and the status after it
     pub settle-segments : (u : Image) → rightSize N B u ≡ true → n < numberLimit N → segmentsOf N B u ≡ taken N B segments erasePending → segmentsOf N B (run B (erase (o % N) ∷ settle N B n) u) ≡ moved N B segments
