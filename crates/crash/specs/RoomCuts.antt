@@ -89,3 +89,153 @@ copy-header N B two n (e ∷ es) j s u z v h c =
     t = run B xs s
     p : InPage (writeSlot (e .block) (e .contents))
     p = write-in-page (e .block) (e .contents) (v .0 .short)
+
+module _ (N B : ℕ) (s : Image) (z : rightSize N B s ≡ true) (h : Clean N B s) (full : hasRoom (viewOf N (segmentsOf N B s)) ≡ false) where
+  size : Sized N B s
+  size = sized N B s z
+
+  abbrev segments : List Segment
+  segments = segmentsOf N B s
+
+  abbrev seen : View
+  seen = viewOf N (segmentsOf N B s)
+
+  abbrev n : ℕ
+  n = nextNumber segments
+
+  abbrev i : ℕ
+  i = nextNumber segments % N
+
+  -- sound, with the old table
+  abbrev Kept : Image → Type 0
+  Kept u = Sound N B u × Agree (shown N B u) (tableOf N B s)
+
+  free-page : getD (partOf N B i s) 0 [] ≡ erased 256
+  free-page = blank-page N B (size .two) s (size .whole) i 0 (index N B (size .two) s (size .whole) n) (omega arith) (next-free N B s z h full)
+
+  -- ---- opening
+
+  open-steps : openNext N B seen .steps ≡ onPage (headerAt N B n) (openingHeader N B n)
+  unfolding openNext
+  open-steps = rw (next-number N B s z h full) (open-segment-page N B n)
+
+  pub open-cut : length (seen .slots) < N - 1 → n < numberLimit N → (u : Image) → Cut B (openNext N B seen .steps) s u → Kept u
+  open-cut few-used below u c =
+      let xs = openingHeader N B n in
+      let p = opening-in-page N B n in
+      let k = rw open-steps at c in
+      let small : N < 256 = few N B (size .two) (size .most) (size .mostB) s (size .whole) n below in
+      ⊎-elim
+        (λ six. next-torn N B s z h u (cut-size N B (openNext N B seen .steps) s u c ∙ z) (header-touched N B s size n below xs p u k) six)
+        (λ e. let whole = header-whole N B s size n below xs p u k (e ∙ sym (ap (λ (y : Page). run B xs y) free-page ∙ opening-run N B n small (size .mostB))) in
+          let r = opened-image N B s z h full few-used u (whole ∙ (ap (λ y. segmentsOf N B (run B y s)) (sym open-steps) ∙ open-segments N B s z h full below)) in
+          (sound-clean N B u (r .0), agree-of (shown N B u) (tableOf N B s) (shown-clean N B u (r .0) ∙ (table-of N B u ∙ (ap entriesIn (r .1) ∙ (opened-entries N B seen ∙ sym (table-of N B s)))))))
+        (opening-cut N B n (getD (partOf N B i u) 0 []) small (size .mostB) (header-cut N B s size n below xs p u k (erased 256) free-page))
+
+  -- ---- compaction
+
+  module _ (all : length (seen .slots) ≡ N - 1) (y : Bytes s) (below : n < numberLimit N) where
+    abbrev o : ℕ
+    o = firstNumber segments
+
+    abbrev es : List Entry
+    es = oldEntries N segments
+
+    small : N < 256
+    small = few N B (size .two) (size .most) (size .mostB) s (size .whole) n below
+
+    old-byte : o % N < 256
+    old-byte = omega (arith, old-inside N B s z h full all, small)
+
+    -- the header begun
+    abbrev begin : List Step
+    begin = onPage (headerAt N B n) (compactionHeader N B n (o % N))
+
+    abbrev s1 : Image
+    s1 = run B begin s
+
+    size1 : Sized N B s1
+    size1 = sized N B s1 (run-size N B begin s ∙ z)
+
+    touched1 : Only N B i s s1
+    touched1 = header-touched N B s size n below (compactionHeader N B n (o % N)) (compaction-in-page N B n (o % N)) s1 (whole-cut B begin s)
+
+    page1 : getD (partOf N B i s1) 0 [] ≡ begunPage N B (o % N)
+    page1 =
+        let r = header-run N B (size .two) (size .most) (size .mostB) s (size .whole) n below (compactionHeader N B n (o % N)) (compaction-in-page N B n (o % N)) in
+        let w = run B (compactionHeader N B n (o % N)) (getD (partOf N B i s) 0 []) in
+        ap (λ (x : List Page). getD x 0 []) (r .1) ∙ (getD-set-same (partOf N B i s) 0 w [] (omega (arith, part-size N B i s (index N B (size .two) s (size .whole) n)))
+        ∙ (ap (λ (x : Page). run B (compactionHeader N B n (o % N)) x) free-page ∙ compaction-run N B n small (size .mostB) (o % N) old-byte))
+
+    begin-cut : (u : Image) → rightSize N B u ≡ true → Cut B begin s u → Kept u
+    begin-cut u zu c = let xs = compactionHeader N B n (o % N) in let p = compaction-in-page N B n (o % N) in
+        next-torn N B s z h u zu (header-touched N B s size n below xs p u c)
+          (compaction-cut N B n (o % N) (getD (partOf N B i u) 0 []) (header-cut N B s size n below xs p u c (erased 256) free-page))
+
+    -- the slots copied
+    abbrev copying : List Step
+    copying = copyEntries N B n 0 es
+
+    copied-fit : 0 + length es ≤ B
+    copied-fit = omega (arith, copy-fits N B s z h full all)
+
+    copy-page : (u : Image) → Cut B copying s1 u → getD (partOf N B i u) 0 [] ≡ begunPage N B (o % N)
+    copy-page u c = copy-header N B (size .two) n es 0 s1 u (size1 .whole) (copy-valid N B s z h full all y) copied-fit c ∙ page1
+
+    copy-touched : (u : Image) → Cut B copying s1 u → Only N B i s u
+    copy-touched u c = only-trans N B i s s1 u touched1
+        (only-cut N B i copying s1 u (index N B (size .two) s (size .whole) n) (copy-in-segment N B (size .two) n es 0 (copy-valid N B s z h full all y) copied-fit) c)
+
+    copy-cut : (u : Image) → rightSize N B u ≡ true → Cut B copying s1 u → Kept u
+    copy-cut u zu c = next-torn N B s z h u zu (copy-touched u c) (rw (copy-page u c) (begun-bit-6 N B (o % N)))
+
+    -- the number and the owing mark
+    abbrev s2 : Image
+    s2 = run B copying s1
+
+    size2 : Sized N B s2
+    size2 = sized N B s2 (run-size N B copying s1 ∙ (run-size N B begin s ∙ z))
+
+    abbrev finish : List Step
+    finish = onPage (headerAt N B n) (pendingHeader N B n (o % N))
+
+    the-run : run B (copyOut N B o n es) s ≡ run B finish s2
+    the-run = ap (λ (x : List Step). run B x s) (copy-out-pages N B o n es) ∙ (run-append B begin (copying ++ finish) s ∙ run-append B copying finish s1)
+
+    finish-cut : (u : Image) → rightSize N B u ≡ true → Cut B finish s2 u → Kept u
+    finish-cut u zu c =
+        let xs = pendingHeader N B n (o % N) in
+        let p = pending-in-page N B n (o % N) in
+        let page2 = copy-page s2 (whole-cut B copying s1) in
+        let touched : Only N B i s u = only-trans N B i s s2 u (copy-touched s2 (whole-cut B copying s1)) (header-touched N B s2 size2 n below xs p u c) in
+        ⊎-elim
+          (λ six. next-torn N B s z h u zu touched six)
+          (λ e. let whole = header-whole N B s2 size2 n below xs p u c (e ∙ sym (ap (λ (x : Page). run B xs x) page2 ∙ pending-run N B n (o % N))) in
+            let r = owing-left N B s z h full all u zu below touched (whole ∙ (ap (λ x. segmentsOf N B x) (sym the-run) ∙ copy-segments N B s z h full all y below)) in
+            (r .sound, r .table))
+          (pending-cut N B n (o % N) (getD (partOf N B i u) 0 []) (header-cut N B s2 size2 n below xs p u c (begunPage N B (o % N)) page2))
+
+    pub copy-out-cut : (u : Image) → Cut B (copyOut N B o n es) s u → Kept u
+    copy-out-cut u c =
+        let zu = cut-size N B (copyOut N B o n es) s u c ∙ z in
+        ⊎-elim (λ d. begin-cut u zu d) (λ d. ⊎-elim (λ k. copy-cut u zu k) (λ k. finish-cut u zu k) (cut-append B copying finish s1 u d))
+          (cut-append B begin (copying ++ finish) s u (rw (copy-out-pages N B o n es) at c))
+
+    -- the whole of it, then the old segment erased: the recovery of state (b)
+    pub copy-out-owing : Owing N B s z h full all (run B (copyOut N B o n es) s)
+    copy-out-owing =
+        let t = run B (copyOut N B o n es) s in
+        let touched : Only N B i s t = rw the-run (only-trans N B i s s2 (run B finish s2) (copy-touched s2 (whole-cut B copying s1))
+              (header-touched N B s2 size2 n below (pendingHeader N B n (o % N)) (pending-in-page N B n (o % N)) (run B finish s2) (whole-cut B finish s2))) in
+        owing-left N B s z h full all t (run-size N B (copyOut N B o n es) s ∙ z) below touched (copy-segments N B s z h full all y below)
+
+    pub compact-cut : ((a u : Image) → rightSize N B a ≡ true → Sound N B a → CutOf N B a recover u → Sound N B u × Agree (shown N B u) (shown N B a))
+        → (u : Image) → Cut B (compactOldest N B seen .steps) s u → Kept u
+    compact-cut recover-cut u c =
+        let t = run B (copyOut N B o n es) s in
+        let w = copy-out-owing in
+        ⊎-elim
+          (λ d. copy-out-cut u d)
+          (λ d. let r = recover-cut t u (run-size N B (copyOut N B o n es) s ∙ z) (w .sound) (rw (w .steps) d) in
+            (r .0, agree-trans (shown N B u) (shown N B t) (tableOf N B s) (r .1) (w .table)))
+          (cut-append B (copyOut N B o n es) (erase (o % N) ∷ settle N B n) s u (rw (compact-steps N B s z h full all) at c))
