@@ -15,3 +15,4 @@ pub mod RoomTorn
 pub mod RoomDone
 pub mod RoomOwing
 pub mod RoomCuts
+pub mod RoomMade

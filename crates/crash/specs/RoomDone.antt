@@ -6,7 +6,7 @@ use mathlib.Core.Bool.{Bool, true, false, cond}
 use mathlib.Core.List.{List, [], _∷_, _++_, map, flatMap}
 use native.Mathlib.Omega.{arith}
 use native.Mathlib.Nat.{mod-lt, mod-add-mod, add-mod-right}
-use lib.ListN.{length, getD, drop, set, replicate, length-drop}
+use lib.ListN.{length, getD, drop, set, replicate, length-append, length-drop}
 use lib.Seq.{set-set, set-comm, getD-drop, getD-set-same, getD-set-other}
 use lib.Dec.{ltb, eqb}
 use borrow.Author.Tests.{lt-ltb, ne-eqb}
@@ -65,6 +65,11 @@ room-opened N B v e f = rw (e, f)
 pub room-compacted : (N B : ℕ) (v : View) → hasRoom v ≡ false → ltb (length (v .slots)) (N - 1) ≡ false → roomFor N B v ≡ compactUntilRoom N B (N - 1) v
 unfolding roomFor
 room-compacted N B v e f = rw (e, f)
+
+-- a compaction keeps the count of segments in use
+pub compact-rows : (N B : ℕ) (v : View) → 1 ≤ length (v .slots) → length (compactOldest N B v .result .slots) ≡ length (v .slots)
+unfolding compactOldest
+compact-rows N B v h = omega (arith, length-append (drop 1 (v .slots)) (copied B (entries (getD (v .slots) 0 [])) ∷ []), length-drop 1 (v .slots))
 
 -- the index of the old segment comes after the target's
 pub old-index : (N o n : ℕ) → suc n ≡ o + N → o % N ≡ (n % N + 1) % N

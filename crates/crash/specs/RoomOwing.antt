@@ -6,7 +6,7 @@ use mathlib.Core.Bool.{Bool, true, false, cond, _||_, _&&_}
 use mathlib.Core.List.{List, [], _∷_, _++_, append-assoc}
 use native.Mathlib.Omega.{arith}
 use native.Mathlib.Nat.{add-mod-right}
-use lib.ListN.{length, getD, drop, set, length-set, length-append, length-drop, List·getD-append}
+use lib.ListN.{length, getD, set, length-set, length-append, List·getD-append}
 use lib.Seq.{getD-drop, set-set, set-comm, getD-set-same, getD-set-other}
 use lib.Dec.{eqb}
 use borrow.Author.Tests.{eq-eqb}
@@ -29,7 +29,7 @@ use Rattle.crash.specs.Sound.{AtLeast, headerByte, SoundAs, Sound, Clean
 use Rattle.crash.specs.TableLaws.{agree-of, agree-trans}
 use Rattle.crash.specs.PutStates.{state-b, table-of, recover-steps, shown-as}
 use Rattle.crash.specs.PutClean.{Sized, sized, CleanFacts, clean-facts}
-use Rattle.crash.specs.RoomDone.{turn, old-segment, old-inside, old-apart, oldEntries, taken, moved, moved-result, moved-segments, settle-segments}
+use Rattle.crash.specs.RoomDone.{compact-rows, turn, old-segment, old-inside, old-apart, oldEntries, taken, moved, moved-result, moved-segments, settle-segments}
 
 -- bytes that are there are at least themselves
 at-least : (xs : List ℕ) (at : ℕ) (s : Image) → ((k : ℕ) → k < length xs → getD s (at + k) 0 ≡ getD xs k 0) → AtLeast at xs s
@@ -107,10 +107,7 @@ module _ (N B : ℕ) (s : Image) (z : rightSize N B s ≡ true) (h : Clean N B s
       let m = moved N B segments in
       let size : length (moved N B segments) ≡ N = length-set (taken N B segments compacted) (o % N) blank ∙ (length-set segments i (target compacted) ∙ ring .size) in
       let v : length (viewOf N m .slots) ≡ usedCount m = view-length N m (clean-ring N B m size (moved-segments N B s z h full all)) in
-      sym v ∙ (ap (λ (y : View). length (y .slots)) (moved-result N B s z h full all) ∙ rows)
-    where
-      rows : length (compactOldest N B (viewOf N segments) .result .slots) ≡ N - 1
-      rows = unfold compactOldest in (omega (arith, length-append (drop 1 (viewOf N segments .slots)) (copied B (oldEntries N segments) ∷ []), length-drop 1 (viewOf N segments .slots), facts .seen .some))
+      sym v ∙ (ap (λ (y : View). length (y .slots)) (moved-result N B s z h full all) ∙ (compact-rows N B (viewOf N segments) (facts .seen .some) ∙ all))
 
   owing-test : isB N B owing ≡ true
   unfolding isB isOwing
