@@ -16,3 +16,4 @@ pub mod RoomDone
 pub mod RoomOwing
 pub mod RoomCuts
 pub mod RoomMade
+pub mod PutCut

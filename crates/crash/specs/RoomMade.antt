@@ -21,6 +21,7 @@ use Rattle.model.specs.Laws.Clean.{RingFacts, used-next, index-inside, view-len
 use Rattle.model.specs.Laws.HeaderPage.{InUseFacts, in-use-facts}
 use Rattle.model.specs.Laws.Effects.{InUseParts, in-use-parts}
 use Rattle.bridge.specs.Predicted.{CleanView}
+use Rattle.bridge.specs.Views.Shape.{opened-top}
 use Rattle.bridge.specs.Views.Room.{Tidied, tidied}
 use Rattle.bridge.specs.Views.Requests.{room-numbered}
 use Rattle.crash.specs.Sound.{Sound, Clean, CutOf}
@@ -102,3 +103,38 @@ module _ (N B : ℕ) (recover-cut : (a u : Image) → rightSize N B a ≡ true �
           rw m (then-makes N B s one (compactUntilRoom N B k (one .result))
             (record { clean = d .0; view = d .1; cut = λ u c. compact-cut N B s z h e all y n recover-cut u c })
             (λ a. ap (λ w. lookup a w) (table-of N B s1 ∙ ap entriesIn (d .1)) ∙ (t .table a ∙ ap (λ w. lookup a w) (sym (table-of N B s)))) rest)
+
+  -- the numbers in use are below the limit
+  number-below : (s : Image) → CleanFacts N B s → topNumber (viewOf N (segmentsOf N B s)) < numberLimit N
+  number-below s f =
+      let l = segmentsOf N B s in
+      let q = usedCount l - 1 in
+      let k = firstNumber l + q in
+      let low : k % N < N = omega (arith, index-inside N l (f .ring) k, f .ring .size) in
+      let x = row-segment N l (f .ring) q (omega (arith, f .ring .some)) in
+      let p = in-use-parts N B (k % N) (partOf N B (k % N) s) (x .0) k (getD (viewOf N l .slots) q []) (sym (segment-at N B (k % N) s low) ∙ x .1) in
+      omega (arith, in-use-facts N B (k % N) (getD (partOf N B (k % N) s) 0 []) (p .header) .below, p .number, top-next N l (f .ring), used-next N l (f .ring), f .ring .some)
+
+  pub room-makes : (s : Image) → rightSize N B s ≡ true → Bytes s → Clean N B s → isWorn N (viewOf N (segmentsOf N B s)) ≡ false → Makes N B s (roomFor N B (viewOf N (segmentsOf N B s)))
+  room-makes s z y h unworn = go (hasRoom v) (ltb (length (v .slots)) (N - 1)) refl refl
+    where
+      v : View
+      v = viewOf N (segmentsOf N B s)
+      f : CleanFacts N B s
+      f = clean-facts N B s z h
+      below : topNumber (roomFor N B (viewOf N (segmentsOf N B s)) .result) < numberLimit N
+      below = room-numbered N B (f .size .two) (f .size .slots) (viewOf N (segmentsOf N B s)) (f .seen) unworn (number-below s f)
+      go : (t w : Bool) → hasRoom (viewOf N (segmentsOf N B s)) ≡ t → ltb (length (viewOf N (segmentsOf N B s) .slots)) (N - 1) ≡ w → Makes N B s (roomFor N B (viewOf N (segmentsOf N B s)))
+      go true w e k = rw (room-there N B (viewOf N (segmentsOf N B s)) e) (none-makes N B s h)
+      go false true e k =
+          let x = viewOf N (segmentsOf N B s) in
+          let few = ltb-true (length (x .slots)) (N - 1) k in
+          let r = room-opened N B x e k in
+          let n : nextNumber (segmentsOf N B s) < numberLimit N = omega (arith, next-number N B s z h e, opened-top N B x (f .seen .some), rw r at below) in
+          let d = open-done N B s z h e few n in
+          rw r (record { clean = d .0; view = d .1; cut = λ u c. open-cut N B s z h e few n u c })
+      go false false e k =
+          let x = viewOf N (segmentsOf N B s) in
+          let r = room-compacted N B x e k in
+          let all : length (viewOf N (segmentsOf N B s) .slots) ≡ N - 1 = omega (arith, ltb-false (length (x .slots)) (N - 1) k, f .seen .spare) in
+          rw r (compactions-make (N - 1) s z y h all (rw r at below))

@@ -369,7 +369,7 @@ module _ (N B : ℕ) (s : Image) (z : rightSize N B s ≡ true) (h : Clean N B s
 
     -- ---- live, stored or not
 
-    live-left : (u : Image) → rightSize N B u ≡ true → segmentsOf N B u ≡ changed (live b c) → Sound N B u × Agree (shown N B u) (store b c (tableOf N B s))
+    pub live-left : (u : Image) → rightSize N B u ≡ true → segmentsOf N B u ≡ changed (live b c) → Sound N B u × Agree (shown N B u) (store b c (tableOf N B s))
     live-left u zu e = go (holds b (entriesIn seen)) refl
       where
         go : (t : Bool) → holds b (entriesIn seen) ≡ t → Sound N B u × Agree (shown N B u) (store b c (tableOf N B s))
