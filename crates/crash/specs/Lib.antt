@@ -10,6 +10,7 @@ pub mod Reading
 pub mod ReadingRuns
 pub mod PutStates
 pub mod PutClean
+pub mod WriteSlots
 pub mod WriteTop
 pub mod RoomTorn
 pub mod RoomDone

@@ -1,12 +1,11 @@
 -- A put cut anywhere: in making room, in writing the slot, or in marking the old one, which is the recovery of state (d).
 use Prim.Native.Nat.{ℕ}
 use mathlib.Core.Path.{_≡_, refl, sym, ap, ap₂, _∙_, subst}
-use mathlib.Core.Logic.{_⊎_, inl, inr, ⊎-elim}
+use mathlib.Core.Logic.{inl, inr, ⊎-elim}
 use mathlib.Core.Bool.{Bool, true, false, cond, _||_}
-use mathlib.Core.List.{List, [], _∷_, _++_}
-use lib.ListN.{length}
+use mathlib.Core.List.{List, [], _++_}
 use lib.Dec.{ltb}
-use Rattle.model.specs.Chip.{Image, Bytes, Step, rightSize, run, Cut}
+use Rattle.model.specs.Chip.{Image, Bytes, rightSize, run, Cut}
 use Rattle.model.specs.State.{segmentsOf, View, viewOf, entriesIn, holds, capacity, placeOf}
 use Rattle.model.specs.Steps.{hasRoom, roomFor, markPlace, markOld, writeAtTop, putSteps}
 use Rattle.model.specs.Table.{lookup, Agree, store, tableOf}
@@ -15,13 +14,13 @@ use Rattle.model.specs.Histories.{shown}
 use Rattle.model.specs.Laws.Chip.{run-size, cut-append}
 use Rattle.model.specs.Laws.SlotPage.{Valid}
 use Rattle.bridge.specs.Predicted.{Fits}
-use Rattle.bridge.specs.Views.Room.{Made, room-made}
+use Rattle.bridge.specs.Views.Room.{room-made}
 use Rattle.crash.specs.Sound.{SoundAs, Sound, Clean, Accepted, CutOf, LeftWith}
 use Rattle.crash.specs.TableLaws.{agree-holds, agree-store, agree-trans}
 use Rattle.crash.specs.PutStates.{table-of}
-use Rattle.crash.specs.PutClean.{Sized, CleanFacts, clean-facts, PutFacts, put-facts}
-use Rattle.crash.specs.WriteTop.{Twice, stored-left, live-left, write-cut, write-segments}
-use Rattle.crash.specs.RoomMade.{Makes, room-makes}
+use Rattle.crash.specs.PutClean.{clean-facts, put-facts}
+use Rattle.crash.specs.WriteTop.{stored-left, live-left, write-cut, write-segments}
+use Rattle.crash.specs.RoomMade.{room-makes}
 
 -- the three parts
 put-parts : (N B b : ℕ) (c : List ℕ) (v : View) → putSteps N B b c v ≡ roomFor N B v .steps ++ (writeAtTop N B b c (roomFor N B v .result) ++ markOld N B b (roomFor N B v .result))

@@ -1,6 +1,6 @@
 -- The state from its test, the steps of its recovery, and what a finished recovery shows, by the segments that it leaves.
-use Prim.Native.Nat.{ℕ, zero, suc, _≤_}
-use mathlib.Core.Path.{_≡_, refl, sym, ap, _∙_, subst}
+use Prim.Native.Nat.{ℕ, suc, _≤_}
+use mathlib.Core.Path.{_≡_, refl, ap, _∙_}
 use mathlib.Core.Bool.{Bool, true, false, cond}
 use mathlib.Core.List.{List, [], _∷_}
 use native.Mathlib.Omega.{arith}
@@ -12,10 +12,8 @@ use Rattle.model.specs.Steps.{mendSteps, recoverSteps}
 use Rattle.model.specs.Table.{tableOf}
 use Rattle.model.specs.Answers.{recover, firstOf, isDamaged, refusals, stepsFor, workOn, workOf}
 use Rattle.model.specs.Histories.{recovered, shown}
-use Rattle.model.specs.Laws.Lists.{false-true}
-use Rattle.model.specs.Laws.Segments.{segments-length}
 use Rattle.model.specs.Laws.Exclusive.{exclusive}
-use Rattle.crash.specs.Sound.{SoundAs, Sound, Clean}
+use Rattle.crash.specs.Sound.{Clean}
 
 -- ---- at most one test passes, so that the order in which they are asked does not matter
 

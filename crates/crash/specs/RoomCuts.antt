@@ -1,17 +1,16 @@
 -- Cuts of an opening, and of a compaction up to the owing mark and beyond: the image is sound, with the old table.
-use Prim.Native.Nat.{ℕ, zero, suc, _+_, _-_, _*_, _%_, _≤_, _<_}
-use mathlib.Core.Path.{_≡_, refl, sym, ap, ap₂, _∙_, subst}
-use mathlib.Core.Logic.{_⊎_, inl, inr, ⊎-elim}
-use mathlib.Core.Bool.{Bool, true, false}
+use Prim.Native.Nat.{ℕ, suc, _+_, _-_, _*_, _%_, _≤_, _<_}
+use mathlib.Core.Path.{_≡_, sym, ap, _∙_}
+use mathlib.Core.Logic.{⊎-elim}
+use mathlib.Core.Bool.{true, false}
 use mathlib.Core.List.{List, [], _∷_, _++_}
 use native.Mathlib.Omega.{arith}
-use lib.ListN.{length, getD, set, replicate}
+use lib.ListN.{length, getD, set}
 use lib.Seq.{getD-set-same, getD-set-other}
 use Rattle.model.specs.Chip.{Image, Page, Bytes, Step, erase, rightSize, run, numberLimit, imageLength, erased, Cut}
-use Rattle.model.specs.Header.{opened, erasePending, noOldSegment, headerPage}
 use Rattle.model.specs.Slot.{Entry}
-use Rattle.model.specs.State.{Segment, blank, inUse, segmentOf, segmentsOf, nextNumber, firstNumber, View, viewOf, entriesIn}
-use Rattle.model.specs.Steps.{hasRoom, onPage, headerAt, slotAt, writeSlot, openSegment, copyEntries, copyOut, settle, openNext, compactOldest}
+use Rattle.model.specs.State.{Segment, segmentOf, segmentsOf, nextNumber, firstNumber, View, viewOf, entriesIn}
+use Rattle.model.specs.Steps.{hasRoom, onPage, headerAt, slotAt, writeSlot, copyEntries, copyOut, settle, openNext, compactOldest}
 use Rattle.model.specs.Table.{Agree, tableOf}
 use Rattle.model.specs.Answers.{recover}
 use Rattle.model.specs.Histories.{shown}
@@ -19,7 +18,7 @@ use Rattle.model.specs.Laws.Chip.{run-append, run-length, run-size, cut-append,
 use Rattle.model.specs.Laws.Pages.{InPage}
 use Rattle.model.specs.Laws.Segments.{partOf, part-size, Only, only-segments, only-trans, only-cut, part-run, part-cut}
 use Rattle.model.specs.Laws.HeaderPage.{openingHeader, compactionHeader, pendingHeader, open-segment-page, copy-out-pages, opening-in-page, compaction-in-page, pending-in-page, begunPage, opening-run, compaction-run, pending-run}
-use Rattle.model.specs.Laws.SlotPage.{Valid, write-in-page}
+use Rattle.model.specs.Laws.SlotPage.{write-in-page}
 use Rattle.model.specs.Laws.PageCuts.{opening-cut, compaction-cut, begun-bit-6, pending-cut}
 use Rattle.model.specs.Laws.Effects.{index, blank-page, header-only, header-run, few}
 use Rattle.model.specs.Laws.CopyOut.{Valids, copy-in-segment}
@@ -28,9 +27,9 @@ use Rattle.crash.specs.Sound.{Sound, Clean, CutOf}
 use Rattle.crash.specs.TableLaws.{agree-of, agree-trans}
 use Rattle.crash.specs.Requests.{shown-clean, sound-clean}
 use Rattle.crash.specs.PutStates.{table-of}
-use Rattle.crash.specs.PutClean.{Sized, sized, CleanFacts, clean-facts}
-use Rattle.crash.specs.RoomTorn.{BitSix, next-torn}
-use Rattle.crash.specs.RoomDone.{oldEntries, next-number, next-free, opened-image, open-segments, turn, old-segment, old-inside, stored-valid, copy-valid, copy-fits, copy-segments, compact-steps}
+use Rattle.crash.specs.PutClean.{Sized, sized}
+use Rattle.crash.specs.RoomTorn.{next-torn}
+use Rattle.crash.specs.RoomDone.{oldEntries, next-number, next-free, opened-image, open-segments, old-inside, copy-valid, copy-fits, copy-segments, compact-steps}
 use Rattle.crash.specs.RoomOwing.{Owing, owing-left}
 
 -- ---- steps in a header page

@@ -1,20 +1,20 @@
 -- One opening and one compaction, finished: the image is clean and has the predicted view.
-use Prim.Native.Nat.{ℕ, zero, suc, _+_, _-_, _*_, _%_, _≤_, _<_}
-use mathlib.Core.Path.{_≡_, refl, sym, ap, ap₂, _∙_, subst}
+use Prim.Native.Nat.{ℕ, suc, _+_, _-_, _*_, _%_, _≤_, _<_}
+use mathlib.Core.Path.{_≡_, refl, sym, ap, _∙_}
 use mathlib.Core.Logic.{_≢_}
-use mathlib.Core.Bool.{Bool, true, false, cond}
+use mathlib.Core.Bool.{true, false}
 use mathlib.Core.List.{List, [], _∷_, _++_, map, flatMap}
 use native.Mathlib.Omega.{arith}
-use native.Mathlib.Nat.{mod-lt, mod-add-mod, add-mod-right}
+use native.Mathlib.Nat.{mod-add-mod, add-mod-right}
 use lib.ListN.{length, getD, drop, set, replicate, length-append, length-drop}
 use lib.Seq.{set-set, set-comm, getD-drop, getD-set-same, getD-set-other}
-use lib.Dec.{ltb, eqb}
-use borrow.Author.Tests.{lt-ltb, ne-eqb}
-use Rattle.model.specs.Chip.{Image, Page, Bytes, Step, erase, rightSize, step, run, numberLimit, pagesOf, imageLength}
+use lib.Dec.{ltb}
+use borrow.Author.Tests.{lt-ltb}
+use Rattle.model.specs.Chip.{Image, Page, Bytes, erase, rightSize, step, run, numberLimit, pagesOf, imageLength}
 use Rattle.model.specs.Header.{opened, erasePending, compacted}
 use Rattle.model.specs.Slot.{Slot, empty, torn, dead, wrong, live, slotOf, Entry, entryOf}
 use Rattle.model.specs.State.{Segment, blank, inUse, segmentsOf, nextNumber, nextIndex, usedCount, firstNumber, View, viewOf, entries, isClean}
-use Rattle.model.specs.Steps.{topNumber, hasRoom, openSegment, copyOut, settle, compact, copied, Room, openNext, compactOldest, compactUntilRoom, roomFor}
+use Rattle.model.specs.Steps.{topNumber, hasRoom, copyOut, settle, compact, copied, openNext, compactOldest, compactUntilRoom, roomFor}
 use Rattle.model.specs.Laws.Bytes.{chunk-bytes}
 use Rattle.model.specs.Laws.Chip.{run-append, run-size, step-length}
 use Rattle.model.specs.Laws.Segments.{partOf, part-size, part-page, segment-at}
@@ -25,10 +25,10 @@ use Rattle.model.specs.Laws.Effects.{in-use-parts, open-effect, erase-effect, s
 use Rattle.model.specs.Laws.CopyOut.{Valids, copy-out-effect}
 use Rattle.bridge.specs.Predicted.{Rows, CleanView}
 use Rattle.bridge.specs.Views.Slots.{entries-length}
-use Rattle.bridge.specs.Views.Room.{Tidied, tidied, Made, room-made}
+use Rattle.bridge.specs.Views.Room.{tidied, room-made}
 use Rattle.crash.specs.Sound.{Clean}
 use Rattle.crash.specs.PutStates.{image-clean}
-use Rattle.crash.specs.PutClean.{Sized, sized, row-segment, CleanFacts, clean-facts, segments-clean, top-next}
+use Rattle.crash.specs.PutClean.{sized, row-segment, CleanFacts, clean-facts, segments-clean, top-next}
 
 -- ---- what is stored in an image of bytes can be copied
 

@@ -1,33 +1,33 @@
 -- Making room for a put, whole and cut: nothing, an opening, or compactions until the top has an empty slot.
 use Prim.Native.Nat.{ℕ, zero, suc, _+_, _-_, _%_, _≤_, _<_}
-use mathlib.Core.Path.{_≡_, refl, sym, ap, _∙_, subst}
+use mathlib.Core.Path.{_≡_, refl, sym, ap, _∙_}
 use mathlib.Core.Logic.{⊎-elim}
-use mathlib.Core.Bool.{Bool, true, false, cond}
-use mathlib.Core.List.{List, [], _∷_, _++_}
+use mathlib.Core.Bool.{Bool, true, false}
+use mathlib.Core.List.{[], _++_}
 use native.Mathlib.Omega.{arith}
 use lib.ListN.{length, getD}
 use lib.Dec.{ltb}
 use borrow.Author.Tests.{ltb-true, ltb-false}
 use Rattle.model.specs.Chip.{Image, Bytes, rightSize, run, numberLimit, Cut}
-use Rattle.model.specs.State.{Segment, blank, segmentsOf, nextNumber, usedCount, firstNumber, View, viewOf, entriesIn}
-use Rattle.model.specs.Steps.{topNumber, hasRoom, Room, openNext, compactOldest, compactUntilRoom, roomFor, isWorn}
+use Rattle.model.specs.State.{segmentsOf, nextNumber, usedCount, firstNumber, View, viewOf, entriesIn}
+use Rattle.model.specs.Steps.{topNumber, hasRoom, Room, compactOldest, compactUntilRoom, roomFor, isWorn}
 use Rattle.model.specs.Table.{lookup, Agree, tableOf}
 use Rattle.model.specs.Answers.{recover}
 use Rattle.model.specs.Histories.{shown}
 use Rattle.model.specs.Laws.Bytes.{run-bytes}
 use Rattle.model.specs.Laws.Chip.{run-append, run-size, cut-append}
 use Rattle.model.specs.Laws.Segments.{partOf, segment-at}
-use Rattle.model.specs.Laws.Clean.{RingFacts, used-next, index-inside, view-length}
-use Rattle.model.specs.Laws.HeaderPage.{InUseFacts, in-use-facts}
-use Rattle.model.specs.Laws.Effects.{InUseParts, in-use-parts}
+use Rattle.model.specs.Laws.Clean.{used-next, index-inside}
+use Rattle.model.specs.Laws.HeaderPage.{in-use-facts}
+use Rattle.model.specs.Laws.Effects.{in-use-parts}
 use Rattle.bridge.specs.Predicted.{CleanView}
 use Rattle.bridge.specs.Views.Shape.{opened-top}
-use Rattle.bridge.specs.Views.Room.{Tidied, tidied}
+use Rattle.bridge.specs.Views.Room.{tidied}
 use Rattle.bridge.specs.Views.Requests.{room-numbered}
 use Rattle.crash.specs.Sound.{Sound, Clean, CutOf}
 use Rattle.crash.specs.TableLaws.{agree-trans}
 use Rattle.crash.specs.PutStates.{table-of}
-use Rattle.crash.specs.PutClean.{Sized, row-segment, CleanFacts, clean-facts, top-next}
+use Rattle.crash.specs.PutClean.{row-segment, CleanFacts, clean-facts, top-next}
 use Rattle.crash.specs.RoomTorn.{same-segments}
 use Rattle.crash.specs.RoomDone.{compact-rows, room-there, room-opened, room-compacted, next-number, open-done, compact-done}
 use Rattle.crash.specs.RoomCuts.{open-cut, compact-cut}

@@ -1,34 +1,30 @@
 -- A compaction up to and with the owing mark leaves state (b): sound, with the old table, and its recovery is the rest of the compaction.
-use Prim.Native.Nat.{ℕ, zero, suc, _+_, _-_, _*_, _%_, _≤_, _<_}
-use mathlib.Core.Path.{_≡_, refl, sym, ap, ap₂, _∙_, subst}
-use mathlib.Core.Logic.{_≢_}
-use mathlib.Core.Bool.{Bool, true, false, cond, _||_, _&&_}
+use Prim.Native.Nat.{ℕ, suc, _+_, _-_, _*_, _%_, _<_}
+use mathlib.Core.Path.{_≡_, refl, sym, ap, _∙_, subst}
+use mathlib.Core.Bool.{true, false}
 use mathlib.Core.List.{List, [], _∷_, _++_, append-assoc}
 use native.Mathlib.Omega.{arith}
 use native.Mathlib.Nat.{add-mod-right}
 use lib.ListN.{length, getD, set, length-set, length-append, List·getD-append}
 use lib.Seq.{getD-drop, set-set, set-comm, getD-set-same, getD-set-other}
-use lib.Dec.{eqb}
 use borrow.Author.Tests.{eq-eqb}
-use Rattle.model.specs.Chip.{Image, Page, erase, erased, rightSize, run, numberLimit}
+use Rattle.model.specs.Chip.{Image, Page, erase, erased, rightSize, numberLimit}
 use Rattle.model.specs.Header.{erasePending, compacted, numberBytes, inverted, headerPage, headerStatus, oldIndex}
-use Rattle.model.specs.State.{Segment, blank, inUse, segmentsOf, isInUse, isInvalid, isOwing, numberAfter, nextNumber, topIndex, nextIndex, usedCount, firstNumber, View, viewOf, entriesIn, isClean, nextBlanked, settled, topSettled, isB, caseB, unfinished, stateOf, state}
+use Rattle.model.specs.State.{Segment, blank, inUse, segmentsOf, isInUse, isOwing, numberAfter, nextNumber, topIndex, nextIndex, usedCount, firstNumber, View, viewOf, entriesIn, nextBlanked, settled, topSettled, isB, caseB, unfinished, stateOf, state}
 use Rattle.model.specs.Steps.{hasRoom, headerAt, settle, copied, compactOldest, eraseUnlessBlank, mendSteps}
 use Rattle.model.specs.Table.{lookup, Agree, tableOf}
 use Rattle.model.specs.Answers.{recover, workOf}
 use Rattle.model.specs.Histories.{shown}
-use Rattle.model.specs.Laws.Lists.{and-both}
 use Rattle.model.specs.Laws.Bytes.{number-length, inverted-length}
 use Rattle.model.specs.Laws.Segments.{parts, partOf, Only, page-byte, segment-at, segments-length}
 use Rattle.model.specs.Laws.Ring.{next-raised}
 use Rattle.model.specs.Laws.Clean.{RingFacts, clean-ring, index-inside, view-length}
-use Rattle.model.specs.Laws.HeaderPage.{InUseFacts, in-use-facts}
-use Rattle.model.specs.Laws.Effects.{InUseParts, in-use-parts}
-use Rattle.bridge.specs.Views.Room.{Tidied, tidied}
+use Rattle.model.specs.Laws.HeaderPage.{in-use-facts}
+use Rattle.model.specs.Laws.Effects.{in-use-parts}
+use Rattle.bridge.specs.Views.Room.{tidied}
 use Rattle.crash.specs.Sound.{AtLeast, headerByte, SoundAs, Sound, Clean}
-use Rattle.crash.specs.TableLaws.{agree-of, agree-trans}
 use Rattle.crash.specs.PutStates.{state-b, table-of, recover-steps, shown-as}
-use Rattle.crash.specs.PutClean.{Sized, sized, CleanFacts, clean-facts}
+use Rattle.crash.specs.PutClean.{CleanFacts, clean-facts}
 use Rattle.crash.specs.RoomDone.{compact-rows, turn, old-segment, old-inside, old-apart, oldEntries, taken, moved, moved-result, moved-segments, settle-segments}
 
 -- bytes that are there are at least themselves

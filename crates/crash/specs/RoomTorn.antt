@@ -1,13 +1,13 @@
 -- Steps that touch only the segment after the top and leave bit 6 of its status set: the image is clean still, or in state (a), with the old table.
-use Prim.Native.Nat.{ℕ, suc, _+_, _*_, _/_, _%_, _<_}
-use mathlib.Core.Path.{_≡_, refl, sym, ap, ap₂, _∙_, subst}
-use mathlib.Core.Bool.{Bool, true, false, cond, _&&_}
+use Prim.Native.Nat.{ℕ, _+_, _*_, _/_, _%_, _<_}
+use mathlib.Core.Path.{_≡_, refl, sym, ap, _∙_, subst}
+use mathlib.Core.Bool.{Bool, true, false, cond}
 use mathlib.Core.List.{List, [], _∷_}
 use native.Mathlib.Omega.{arith}
 use lib.ListN.{length, getD, set}
 use lib.Seq.{set-set, set-getD, getD-set-same}
-use Rattle.model.specs.Chip.{Image, Step, erase, rightSize, step, run}
-use Rattle.model.specs.Header.{headerInUse, allBlank}
+use Rattle.model.specs.Chip.{Image, erase, rightSize, run}
+use Rattle.model.specs.Header.{allBlank}
 use Rattle.model.specs.State.{Segment, blank, invalid, segmentOf, segmentsOf, isInvalid, numberAfter, nextNumber, nextIndex, viewOf, entriesIn, isClean, nextBlanked, isA, caseA, unfinished, stateOf, state}
 use Rattle.model.specs.Steps.{headerAt, mendSteps}
 use Rattle.model.specs.Table.{Agree, tableOf}
@@ -22,7 +22,7 @@ use Rattle.crash.specs.Sound.{headerByte, SoundAs, Sound, Clean}
 use Rattle.crash.specs.TableLaws.{agree-of}
 use Rattle.crash.specs.Requests.{shown-clean, sound-clean}
 use Rattle.crash.specs.PutStates.{state-a, image-clean, clean-image, table-of, shown-as}
-use Rattle.crash.specs.PutClean.{Sized, sized, CleanFacts, clean-facts}
+use Rattle.crash.specs.PutClean.{sized, clean-facts}
 
 -- bit 6 of a status byte
 abbrev pub BitSix : ℕ → Type 0
