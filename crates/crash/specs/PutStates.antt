@@ -1,6 +1,6 @@
 -- The state from its test, the steps of its recovery, and what a finished recovery shows, by the segments that it leaves.
 use Prim.Native.Nat.{ℕ, suc, _≤_}
-use mathlib.Core.Path.{_≡_, refl, ap, _∙_}
+use mathlib.Core.Path.{_≡_, refl, sym, ap, _∙_}
 use mathlib.Core.Bool.{Bool, true, false, cond}
 use mathlib.Core.List.{List, [], _∷_}
 use native.Mathlib.Omega.{arith}
@@ -9,11 +9,13 @@ use Rattle.model.specs.Lists.{count}
 use Rattle.model.specs.Chip.{Image, Step, rightSize, run}
 use Rattle.model.specs.State.{Segment, segmentsOf, viewOf, entriesIn, isClean, isA, isB, isC, isD, Exception, caseA, caseB, caseC, caseD, State, clean, unfinished, damaged, stateOf, state, view}
 use Rattle.model.specs.Steps.{mendSteps, recoverSteps}
-use Rattle.model.specs.Table.{tableOf}
+use Rattle.model.specs.Table.{Agree, tableOf}
 use Rattle.model.specs.Answers.{recover, firstOf, isDamaged, refusals, stepsFor, workOn, workOf}
 use Rattle.model.specs.Histories.{recovered, shown}
 use Rattle.model.specs.Laws.Exclusive.{exclusive}
-use Rattle.crash.specs.Sound.{Clean}
+use Rattle.crash.specs.Sound.{Sound, Clean}
+use Rattle.crash.specs.TableLaws.{agree-of}
+use Rattle.crash.specs.Requests.{shown-clean, sound-clean}
 
 -- ---- at most one test passes, so that the order in which they are asked does not matter
 
@@ -135,3 +137,9 @@ module _ (N B : ℕ) (u : Image) where
     -- by the steps, and the segments that they leave
     pub shown-as : (xs : List Step) (m : List Segment) → mendSteps N B (segmentsOf N B u) x ≡ xs → segmentsOf N B (run B xs u) ≡ m → shown N B u ≡ entriesIn (viewOf N m)
     shown-as xs m p q = shown-mended ∙ (ap (λ y. entriesIn (viewOf N (segmentsOf N B (run B y u)))) p ∙ ap (λ y. entriesIn (viewOf N y)) q)
+
+-- an image with the segments of a clean one: clean, with its table
+pub same-segments : (N B : ℕ) (s u : Image) → Clean N B s → segmentsOf N B u ≡ segmentsOf N B s → Sound N B u × Agree (shown N B u) (tableOf N B s)
+same-segments N B s u h e =
+    let k : Clean N B u = image-clean N B u (rw e (clean-image N B s h)) in
+    (sound-clean N B u k, agree-of (shown N B u) (tableOf N B s) (shown-clean N B u k ∙ (table-of N B u ∙ (ap (λ y. entriesIn (viewOf N y)) e ∙ sym (table-of N B s)))))

@@ -46,22 +46,19 @@ module _ (N B : ℕ) (s : Image) (d : Sized N B s) (n : ℕ) (below : n < number
       let e : headerAt N B n ≡ n % N * (B + 1) + 0 = (unfold headerAt in (omega arith)) in
       part-cut N B (n % N) 0 (index N B (d .two) s (d .whole) n) (omega arith) xs p s (d .whole) u (rw e at c)
 
+  header-page : getD (partOf N B (n % N) u) 0 [] ≡ header-part .0
+  header-page = ap (λ (y : List Page). getD y 0 []) (header-part .2)
+      ∙ getD-set-same (partOf N B (n % N) s) 0 (header-part .0) [] (omega (arith, part-size N B (n % N) s (index N B (d .two) s (d .whole) n)))
+
   -- the page that the cut leaves
   pub header-cut : (page : Page) → getD (partOf N B (n % N) s) 0 [] ≡ page → Cut B xs page (getD (partOf N B (n % N) u) 0 [])
-  header-cut page e =
-      let x = header-part in
-      let here : getD (partOf N B (n % N) u) 0 [] ≡ x .0 =
-            ap (λ (y : List Page). getD y 0 []) (x .2) ∙ getD-set-same (partOf N B (n % N) s) 0 (x .0) [] (omega (arith, part-size N B (n % N) s (index N B (d .two) s (d .whole) n))) in
-      rw (here, ← e) (x .1)
+  header-cut page e = rw (header-page, ← e) (header-part .1)
 
   -- the whole page written: the segments are those of the whole list
   pub header-whole : getD (partOf N B (n % N) u) 0 [] ≡ run B xs (getD (partOf N B (n % N) s) 0 []) → segmentsOf N B u ≡ segmentsOf N B (run B (onPage (headerAt N B n) xs) s)
   header-whole e =
-      let x = header-part in
       let r = header-run N B (d .two) (d .most) (d .mostB) s (d .whole) n below xs p in
-      let here : getD (partOf N B (n % N) u) 0 [] ≡ x .0 =
-            ap (λ (y : List Page). getD y 0 []) (x .2) ∙ getD-set-same (partOf N B (n % N) s) 0 (x .0) [] (omega (arith, part-size N B (n % N) s (index N B (d .two) s (d .whole) n))) in
-      same-part N B (n % N) s u (run B (onPage (headerAt N B n) xs) s) header-touched (r .0) (x .2 ∙ (ap (λ (y : Page). set (partOf N B (n % N) s) 0 y) (sym here ∙ e) ∙ sym (r .1)))
+      same-part N B (n % N) s u (run B (onPage (headerAt N B n) xs) s) header-touched (r .0) (header-part .2 ∙ (ap (λ (y : Page). set (partOf N B (n % N) s) 0 y) (sym header-page ∙ e) ∙ sym (r .1)))
 
 -- ---- copied slots leave the header
 

@@ -26,9 +26,8 @@ use Rattle.bridge.specs.Views.Room.{tidied}
 use Rattle.bridge.specs.Views.Requests.{room-numbered}
 use Rattle.crash.specs.Sound.{Sound, Clean, CutOf}
 use Rattle.crash.specs.TableLaws.{agree-trans}
-use Rattle.crash.specs.PutStates.{table-of}
+use Rattle.crash.specs.PutStates.{table-of, same-segments}
 use Rattle.crash.specs.PutClean.{row-segment, CleanFacts, clean-facts, top-next}
-use Rattle.crash.specs.RoomTorn.{same-segments}
 use Rattle.crash.specs.RoomDone.{compact-rows, room-there, room-opened, room-compacted, next-number, open-done, compact-done}
 use Rattle.crash.specs.RoomCuts.{open-cut, compact-cut}
 

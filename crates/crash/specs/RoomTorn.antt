@@ -8,7 +8,7 @@ use lib.ListN.{length, getD, set}
 use lib.Seq.{set-set, set-getD, getD-set-same}
 use Rattle.model.specs.Chip.{Image, erase, rightSize, run}
 use Rattle.model.specs.Header.{allBlank}
-use Rattle.model.specs.State.{Segment, blank, invalid, segmentOf, segmentsOf, isInvalid, numberAfter, nextNumber, nextIndex, viewOf, entriesIn, isClean, nextBlanked, isA, caseA, unfinished, stateOf, state}
+use Rattle.model.specs.State.{Segment, blank, invalid, segmentOf, segmentsOf, isInvalid, numberAfter, nextNumber, nextIndex, isClean, nextBlanked, isA, caseA, unfinished, stateOf, state}
 use Rattle.model.specs.Steps.{headerAt, mendSteps}
 use Rattle.model.specs.Table.{Agree, tableOf}
 use Rattle.model.specs.Histories.{shown}
@@ -20,19 +20,12 @@ use Rattle.model.specs.Laws.HeaderPage.{bit-6-unused}
 use Rattle.model.specs.Laws.Effects.{erase-effect}
 use Rattle.crash.specs.Sound.{headerByte, SoundAs, Sound, Clean}
 use Rattle.crash.specs.TableLaws.{agree-of}
-use Rattle.crash.specs.Requests.{shown-clean, sound-clean}
-use Rattle.crash.specs.PutStates.{state-a, image-clean, clean-image, table-of, shown-as}
+use Rattle.crash.specs.PutStates.{state-a, clean-image, table-of, shown-as, same-segments}
 use Rattle.crash.specs.PutClean.{sized, clean-facts}
 
 -- bit 6 of a status byte
 abbrev pub BitSix : ℕ → Type 0
 BitSix x = x / 64 % 2 ≡ 1
-
--- the segments of an image with a clean one's segments: clean, with its table
-pub same-segments : (N B : ℕ) (s u : Image) → Clean N B s → segmentsOf N B u ≡ segmentsOf N B s → Sound N B u × Agree (shown N B u) (tableOf N B s)
-same-segments N B s u h e =
-    let k : Clean N B u = image-clean N B u (rw e (clean-image N B s h)) in
-    (sound-clean N B u k, agree-of (shown N B u) (tableOf N B s) (shown-clean N B u k ∙ (table-of N B u ∙ (ap (λ y. entriesIn (viewOf N y)) e ∙ sym (table-of N B s)))))
 
 module _ (N B : ℕ) (s : Image) (z : rightSize N B s ≡ true) (h : Clean N B s) where
   ring : RingFacts N (segmentsOf N B s)

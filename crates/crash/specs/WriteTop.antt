@@ -31,7 +31,7 @@ use Rattle.bridge.specs.Views.Requests.{put-keeps-clean, put-stores}
 use Rattle.crash.specs.Sound.{SoundAs, Sound, Clean, LeftWith}
 use Rattle.crash.specs.TableLaws.{agree-of, agree-trans}
 use Rattle.crash.specs.Requests.{shown-clean, sound-clean}
-use Rattle.crash.specs.PutStates.{state-c, state-d, image-clean, clean-image, table-of, recover-steps, shown-as}
+use Rattle.crash.specs.PutStates.{state-c, state-d, image-clean, table-of, recover-steps, shown-as, same-segments}
 use Rattle.crash.specs.PutClean.{sized, row-segment, CleanFacts, clean-facts, segments-clean, top-next}
 use Rattle.crash.specs.WriteSlots.{filled-at, slot-set, mark-segments, Placed, placed}
 
@@ -318,9 +318,7 @@ module _ (N B : ℕ) (s : Image) (z : rightSize N B s ≡ true) (h : Clean N B s
         let x = slot-cut N B (d .two) s (d .whole) n j (top-segment .0) n (row empty) inside (top-segment .1) (writeSlot b c) (write-in-page b c (valid .short)) u k in
         let p = rw (empty-page N B (d .two) s (d .whole) n j (top-segment .0) n (row empty) inside (top-segment .1) (row-at empty)) at (x .1) in
         ⊎-elim
-          (λ e. let same : segmentsOf N B u ≡ segments = (rw e at (x .2)) ∙ changed-same in
-            let cu : Clean N B u = image-clean N B u (rw same (clean-image N B s h)) in
-            (sound-clean N B u cu, inl (agree-of (shown N B u) (tableOf N B s) (shown-clean N B u cu ∙ (table-of N B u ∙ (ap (λ y. entriesIn (viewOf N y)) same ∙ sym (table-of N B s)))))))
+          (λ e. let r = same-segments N B s u h ((rw e at (x .2)) ∙ changed-same) in (r .0, inl (r .1)))
           (λ q. ⊎-elim
             (λ e. let r = torn-left u zu (rw e at (x .2)) in (r .0, inl (r .1)))
             (λ e. let r = live-left u zu (rw e at (x .2)) in (r .0, inr (r .1)))
