@@ -13,7 +13,7 @@ use Rattle.model.specs.Lists.{all, count}
 use Rattle.model.specs.Chip.{Image, Bytes, numberLimit, imageLength, rightSize, Step, erase, erased, withSegment, step, run}
 use Rattle.model.specs.Header.{opened}
 use Rattle.model.specs.Slot.{Slot, empty, isEmpty, isWrong, isTorn}
-use Rattle.model.specs.State.{Segment, blank, inUse, isInUse, isInvalid, isOwing, numberAfter, slotsIn, segmentsOf, nextNumber, usedCount, firstNumber, slotsFrom, numbersFrom, View, viewOf, view, entries, distinct, capacity, noneOwing, othersBlank, state, clean}
+use Rattle.model.specs.State.{Segment, blank, inUse, isInUse, isInvalid, isOwing, numberAfter, slotsIn, segmentsOf, nextNumber, usedCount, firstNumber, slotsFrom, numbersFrom, View, viewOf, view, entries, entriesIn, distinct, capacity, noneOwing, othersBlank, state, clean}
 use Rattle.model.specs.Steps.{openSegment, eraseFirst, formatSteps}
 use Rattle.model.specs.Laws.Lists.{all-set}
 use Rattle.model.specs.Laws.Chip.{run-append, run-length, size-facts, run-size}
@@ -159,6 +159,10 @@ unfolding fresh rowAdded all flatten flatMap entries distinct capacity
 fresh-clean N B n b =
     let e : fresh B ≡ rowAdded B 0 [] [] = ap (λ (y : List Slot). record { first = 0; slots = y ∷ [] }) (copied-none B) in
     rw e (shape-clean (added-shape N B 0 [] [] (omega arith) tt refl refl (omega arith)) (rw (added-entries B 0 [] []) refl) (rw (added-entries B 0 [] []) (omega arith)))
+
+pub fresh-table : (B : ℕ) → entriesIn (fresh B) ≡ []
+unfolding fresh rowAdded flatten flatMap entries
+fresh-table B = ap (λ (y : List Slot). entriesIn (record { first = 0; slots = y ∷ [] })) (copied-none B) ∙ added-entries B 0 [] []
 
 pub format-held : (N B : ℕ) (s : Image) → rightSize N B s ≡ true → Held N B (run B (formatSteps N B) s) (fresh B)
 unfolding view

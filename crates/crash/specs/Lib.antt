@@ -1,13 +1,17 @@
--- Demand 2.
+-- Demand 2: the machine and the statement; the sentences of the demand read back from them.
 pub mod Machine
 pub mod Demand2
+pub mod Reading
+pub mod ReadingRuns
+
+-- the invariant that is closed under power cuts, and the induction over histories
 pub mod Sound
 pub mod TableLaws
 pub mod ByteImage
 pub mod Requests
 pub mod Skeleton
-pub mod Reading
-pub mod ReadingRuns
+
+-- recovery, delete and read
 pub mod RecoverCases
 pub mod RecoverMarks
 pub mod RecoverErase
@@ -15,3 +19,18 @@ pub mod RecoverOwing
 pub mod Recover
 pub mod Read
 pub mod Delete
+
+-- put: making room, the slot written, the old one marked
+pub mod PutStates
+pub mod PutClean
+pub mod WriteSlots
+pub mod WriteTop
+pub mod RoomTorn
+pub mod RoomDone
+pub mod RoomOwing
+pub mod RoomCuts
+pub mod RoomMade
+pub mod PutCut
+
+-- the theorem
+pub mod Theorem
