@@ -27,3 +27,4 @@ pub mod Requests
 
 -- the bench table
 pub mod Bench
+pub mod Counts
