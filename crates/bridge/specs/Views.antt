@@ -4,4 +4,5 @@ pub mod Slots
 pub mod Places
 pub mod Shape
 pub mod Room
+pub mod Times
 pub mod Requests
