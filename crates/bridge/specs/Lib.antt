@@ -6,5 +6,6 @@ pub mod Held
 pub mod Done
 pub mod Accepted
 pub mod Requests
+pub mod TimesDone
 pub mod Format
 pub mod Bridge

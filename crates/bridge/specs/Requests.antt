@@ -123,7 +123,7 @@ row-fits B v r w h = go (v .slots) r h (all-row _ (v .slots) 0 w)
     go [] q k p = absurd (omega arith)
     go (x ∷ l) q k p = omega (arith, slots-counted x p, q .0)
 
-one-compaction : (N B : ℕ) (s : Image) (v : View) → Held N B s v → Bytes s → CleanView N B v → length (v .slots) ≡ N - 1 → suc (topNumber v) < numberLimit N
+pub one-compaction : (N B : ℕ) (s : Image) (v : View) → Held N B s v → Bytes s → CleanView N B v → length (v .slots) ≡ N - 1 → suc (topNumber v) < numberLimit N
     → Held N B (run B (compactOldest N B v .steps) s) (compactOldest N B v .result)
 unfolding compactOldest
 one-compaction N B s v h bs c full below =
