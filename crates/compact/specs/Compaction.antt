@@ -1,5 +1,5 @@
 -- What the contracts of this crate say beside the definitions of the model.
-use Prim.Native.Nat.{ℕ, _%_}
+use Prim.Native.Nat.{ℕ, _+_, _*_, _%_}
 use mathlib.Core.Path.{_≡_}
 use mathlib.Core.List.{List, map}
 use lib.ListN.{length, drop}
@@ -13,6 +13,10 @@ use Rattle.flash.specs.Ran.{Ran, Programmed}
 -- what the live slots of the segment with number o hold
 unfoldable pub liveEntries : ℕ → ℕ → ℕ → Image → List Entry
 liveEntries N B o s = entries (map slotOf (drop 1 (partOf N B (o % N) s)))
+
+-- the page of the first slot of the segment at an index
+abbrev pub firstSlot : ℕ → ℕ → ℕ
+firstSlot B i = i * (B + 1) + 1
 
 -- two numbers belong to different segments
 abbrev pub Apart : ℕ → ℕ → ℕ → Type 0

@@ -3,11 +3,10 @@ use model::SegmentNumber;
 use model::SlotKind;
 use model::SlotPlace;
 ghost use mathlib.Core.Path.{_≡_};
-ghost use Prim.Native.Nat.{_+_, _*_, _<_, _≤_};
-ghost use lib.ListN.{length, take, drop};
-ghost use Rattle.model.specs.Steps.{slotAt};
+ghost use Prim.Native.Nat.{_*_, _%_, _<_, _≤_};
+ghost use lib.ListN.{length};
 ghost use Rattle.page.specs.Pages.{Sized};
-ghost use Rattle.compact.specs.Compaction.{Apart, Copied, Compaction};
+ghost use Rattle.compact.specs.Compaction.{firstSlot, Apart, Copied, Compaction};
 
 // What is left of the budget, and how many slots the old segment had to be copied.
 pub struct Compacted {
@@ -29,12 +28,20 @@ fn page_of(bytes: &[u8]) -> [u8; 256]
     page
 }
 
-// The offset of the first slot of the segment with a number.
-fn slots_place(segments: usize, slots: usize, number: SegmentNumber) -> usize
-    requires { ⌜ (0 < segments) × (segments ≤ 255) × (slots ≤ 255) ⌝ }
-    ensures { λ r. ⌜ r ≡ slotAt segments slots (number .0) 0 * 256 ⌝ }
+// The index of the segment that a number belongs to.
+fn index_of(segments: usize, number: SegmentNumber) -> usize
+    requires { ⌜ 0 < segments ⌝ }
+    ensures { λ r. ⌜ (r ≡ number .0 % segments) × (r < segments) ⌝ }
 {
-    number.0 as usize % segments * (slots + 1) * 256 + 256
+    number.0 as usize % segments
+}
+
+// The offset of the first slot of the segment at an index.
+fn slots_place(index: usize, slots: usize) -> usize
+    requires { ⌜ (index ≤ 255) × (slots ≤ 255) ⌝ }
+    ensures { λ r. ⌜ r ≡ firstSlot slots index * 256 ⌝ }
+{
+    (index * (slots + 1) + 1) * 256
 }
 
 // Writes each live slot of an old segment, in slot order, to the next slot of the one that a number belongs to.
@@ -49,9 +56,11 @@ fn copy_live(
     requires { ⌜ Sized segments slots (length (now image)) × Apart segments (old .0) (number .0) ⌝ }
     ensures { λ r. ⌜ Copied segments slots (old .0) (number .0) budget (r .left) (r .copied) (now (image .entry)) (now (image .exit)) ⌝ }
 {
-    let from = slots_place(segments, slots, old);
-    let target = slots_place(segments, slots, number);
-    let end = target + slots * 256;
+    let source = index_of(segments, old);
+    let target = index_of(segments, number);
+    let from = slots_place(source, slots);
+    let start = slots_place(target, slots);
+    let end = start + slots * 256;
     let mut left = budget;
     let mut copied = 0;
     let mut slot = 0;
@@ -66,8 +75,32 @@ fn copy_live(
         };
         let stop = 8 + length;
         let place = SlotPlace(copied * 256);
-        left = page::slot::write_slot(&mut image[target..end], place, block, &page[8..stop], left);
+        left = page::slot::write_slot(&mut image[start..end], place, block, &page[8..stop], left);
         copied += 1;
     }
     Compacted { left, copied }
+}
+
+// Compacts an old segment into the one that a number belongs to: the target is begun, the live slots are copied, the
+// target is in use, and only then is the old segment erased.
+pub fn compact_segment(
+    image: &mut [u8],
+    segments: usize,
+    slots: usize,
+    old: SegmentNumber,
+    number: SegmentNumber,
+    budget: u64,
+) -> Compacted
+    requires { ⌜ Sized segments slots (length (now image)) × Apart segments (old .0) (number .0) ⌝ }
+    ensures { λ r. ⌜ Compaction segments slots (old .0) (number .0) budget (r .left) (r .copied) (now (image .entry)) (now (image .exit)) ⌝ }
+{
+    let begun = page::header::begin_compaction(image, segments, slots, old, number, budget);
+    let copy = copy_live(image, segments, slots, old, number, begun);
+    let pending = page::header::finish_copy(image, segments, slots, old, number, copy.left);
+    let erased = flash::erase_segment(image, index_of(segments, old), slots, pending);
+    let left = page::header::settle(image, segments, slots, number, erased);
+    Compacted {
+        left,
+        copied: copy.copied,
+    }
 }
