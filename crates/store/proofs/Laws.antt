@@ -1,0 +1,5 @@
+pub mod Size
+pub mod Lengths
+pub mod Erasing
+pub mod Answered
+pub mod Requests
