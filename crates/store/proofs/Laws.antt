@@ -3,3 +3,4 @@ pub mod Lengths
 pub mod Erasing
 pub mod Answered
 pub mod Requests
+pub mod Room

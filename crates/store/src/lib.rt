@@ -2,6 +2,7 @@
 mod check;
 mod erasing;
 mod finish;
+mod room;
 
 use model::Answer;
 use model::Performed;
