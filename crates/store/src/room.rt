@@ -3,21 +3,23 @@ use model::SegmentNumber;
 ghost use mathlib.Core.Path.{_≡_};
 ghost use mathlib.Core.Bool.{false};
 ghost use Prim.Native.Nat.{_+_, _-_, _≤_, _<_};
-ghost use Rattle.store.specs.Room.{Planned, Full, Roomed};
+ghost use Rattle.store.specs.Room.{Writable, Full, Roomed};
 
 // The segments in use of a clean image: the smallest number, their count, the first empty slot of the top (or the count of
-// slots, if there is none), and how many compactions would make room.
+// slots, if there is none), how many slots are live, and how many compactions would make room.
 pub struct Plan {
     pub first: SegmentNumber,
     pub used: usize,
     pub slot: usize,
+    pub live: usize,
     pub compactions: usize,
 }
 
-// What is left of the budget once room was made; and where the next slot is to be written, if anything is left.
+// What is left of the budget once room was made; and, if anything is left, the segments in use and the first empty slot of the top.
 pub struct Room {
     pub left: u64,
-    pub top: SegmentNumber,
+    pub first: SegmentNumber,
+    pub used: usize,
     pub slot: usize,
 }
 
@@ -37,7 +39,7 @@ fn compact_oldest(
     plan: Plan,
     budget: u64,
 ) -> Room
-    requires { ⌜ Planned segments slots plan (now image) × Full segments slots plan ⌝ }
+    requires { ⌜ Writable segments slots plan (now image) × Full segments slots plan ⌝ }
     ensures { λ r. ⌜ Roomed segments slots budget r (now (image .entry)) (now (image .exit)) ⌝ }
 {
     let mut left = budget;
@@ -51,8 +53,14 @@ fn compact_oldest(
         slot = done.copied;
         i += 1;
     }
-    let top = after(plan.first, plan.used - 1 + i);
-    Room { left, top, slot }
+    let first = after(plan.first, i);
+    let used = plan.used;
+    Room {
+        left,
+        first,
+        used,
+        slot,
+    }
 }
 
 // Makes room: nothing, if the top has an empty slot; else one more segment is opened, if two are left; else the oldest are compacted.
@@ -63,21 +71,27 @@ pub fn make_room(
     plan: Plan,
     budget: u64,
 ) -> Room
-    requires { ⌜ Planned segments slots plan (now image) ⌝ }
+    requires { ⌜ Writable segments slots plan (now image) ⌝ }
     ensures { λ r. ⌜ Roomed segments slots budget r (now (image .entry)) (now (image .exit)) ⌝ }
 {
+    let first = plan.first;
+    let used = plan.used;
     if plan.slot < slots {
-        let top = after(plan.first, plan.used - 1);
         return Room {
             left: budget,
-            top,
+            first,
+            used,
             slot: plan.slot,
         };
     }
-    if plan.used + 1 < segments {
-        let top = after(plan.first, plan.used);
-        let left = page::header::open_header(image, segments, slots, top, budget);
-        return Room { left, top, slot: 0 };
+    if used + 1 < segments {
+        let left = page::header::open_header(image, segments, slots, after(first, used), budget);
+        return Room {
+            left,
+            first,
+            used: used + 1,
+            slot: 0,
+        };
     }
     compact_oldest(image, segments, slots, plan, budget)
 }

@@ -6,7 +6,7 @@ use mathlib.Core.List.{List, [], _∷_, _++_, map}
 use native.Mathlib.Nat.{mod-lt}
 use native.Mathlib.Numerals.{add-one}
 use native.Mathlib.Omega.{arith}
-use lib.ListN.{length, getD, take, drop, replicate}
+use lib.ListN.{length, getD, take, drop, replicate, length-append}
 use lib.Seq.{take-all}
 use lib.Dec.{ltb, leb}
 use borrow.Author.Tests.{lt-ltb, le-ltb, ltb-true, ltb-false, leb-false, not-true, not-false}
@@ -25,7 +25,6 @@ use Rattle.bridge.specs.Requests.{held-below}
 use Rattle.bridge.specs.TimesDone.{times-number, times-held}
 use Rattle.bridge.specs.Views.Slots.{full, top-row, copied-full}
 use Rattle.bridge.specs.Views.Room.{compactions-some, compactions-length, room-made, some-dead}
-use Rattle.bridge.specs.Views.Shape.{opened-top}
 use Rattle.bridge.specs.Views.Times.{compactTimes, Needs, after-times, room-times, copied-empty, times-top}
 use Rattle.flash.specs.Ran.{Ran, Programmed}
 use Rattle.flash.proofs.Laws.{ran-none}
@@ -35,7 +34,7 @@ use Rattle.compact.specs.Compaction.{liveEntries, Apart, Compaction}
 use Rattle.compact.specs.Composed.{then-list-if-whole}
 use Rattle.store.specs.declared.room.Plan.{Plan}
 use Rattle.store.specs.declared.room.Room.{Room}
-use Rattle.store.specs.Room.{Planned, Full, Roomed}
+use Rattle.store.specs.Room.{Planned, Writable, Full, Roomed}
 
 -- ---- a row
 
@@ -86,9 +85,12 @@ pub record Compacting (N B : ℕ) (p : Plan) (s : Image) (budget i left slot : �
   pub ran : Ran (compactTimes N B i (view N B s) .steps) B budget left s t
   pub last : 0 < left → (j : ℕ) → suc j ≡ i → slot ≡ length (entries (getD (view N B s .slots) j []))
 
-module _ (N B : ℕ) (p : Plan) (s : Image) (k : Planned N B p s) where
+module _ (N B : ℕ) (p : Plan) (s : Image) (writable : Writable N B p s) where
   abbrev v : View
   v = view N B s
+
+  abbrev k : Planned N B p s
+  k = writable .plan
 
   abbrev pub plan-held : Held N B s (view N B s)
   plan-held = held-of-clean N B s (k .size) (k .state)
@@ -139,24 +141,26 @@ module _ (N B : ℕ) (p : Plan) (s : Image) (k : Planned N B p s) where
 
   -- ---- nothing to do, and opening
 
-  pub room-there : (budget : ℕ) (r : Room) → p .slot < B → r .left ≡ budget → r .top .0 ≡ p .first .0 + (p .used - 1) → r .slot ≡ p .slot → Roomed N B budget r s s
+  pub room-there : (budget : ℕ) (r : Room) → p .slot < B → r .left ≡ budget → r .first .0 ≡ p .first .0 → r .used ≡ p .used → r .slot ≡ p .slot → Roomed N B budget r s s
   unfolding roomFor
-  room-there budget r h l t j = record
+  room-there budget r h l f u j = record
     { ran = rw (has-room h, l) (ran-none B budget s)
-    ; top = rw (has-room h) (omega (arith, t, top-is, small .some))
+    ; first = rw (has-room h) (f ∙ k .first)
+    ; used = rw (has-room h) (u ∙ k .used)
     ; slot = λ e. rw (has-room h) (j ∙ k .slot) }
 
   few-used : p .used + 1 < N → ltb (length (v .slots)) (N - 1) ≡ true
   few-used h = lt-ltb (length (v .slots)) (N - 1) (omega (arith, k .used))
 
-  pub room-opened : (budget : ℕ) (r : Room) {t : Image} → B ≤ p .slot → p .used + 1 < N → r .top .0 ≡ p .first .0 + p .used → r .slot ≡ 0
-      → Programmed (openSegment N B (r .top .0)) budget (r .left) s t → Roomed N B budget r s t
+  pub room-opened : (budget n : ℕ) (r : Room) {t : Image} → B ≤ p .slot → p .used + 1 < N → n ≡ p .first .0 + p .used → r .first .0 ≡ p .first .0 → r .used ≡ p .used + 1 → r .slot ≡ 0
+      → Programmed (openSegment N B n) budget (r .left) s t → Roomed N B budget r s t
   unfolding roomFor openNext
-  room-opened budget r {t} h u n j d =
-      let top : r .top .0 ≡ suc (topNumber v) = n ∙ top-is in record
+  room-opened budget n r {t} h u e f g j d =
+      let top : n ≡ suc (topNumber v) = e ∙ top-is in record
       { ran = rw (no-room h, few-used u) (rw top at (d B))
-      ; top = rw (no-room h, few-used u) (top ∙ sym (opened-top N B v (plan-clean .some)))
-      ; slot = λ e. rw (no-room h, few-used u) (j ∙ sym (ap firstEmpty (top-row (v .slots) (replicate B empty)) ∙ empty-first B)) }
+      ; first = rw (no-room h, few-used u) (f ∙ k .first)
+      ; used = rw (no-room h, few-used u) (omega (arith, g, k .used, length-append (v .slots) (replicate B empty ∷ [])))
+      ; slot = λ z. rw (no-room h, few-used u) (j ∙ sym (ap firstEmpty (top-row (v .slots) (replicate B empty)) ∙ empty-first B)) }
 
   -- ---- compactions
 
@@ -175,7 +179,7 @@ module _ (N B : ℕ) (p : Plan) (s : Image) (k : Planned N B p s) where
 
     pub below : topNumber v + compactions (v .slots) < numberLimit N
     unfolding isWorn newNumbers
-    below = leb-false (numberLimit N) (topNumber v + compactions (v .slots)) (rw (none-left, not-few) at (k .fresh))
+    below = leb-false (numberLimit N) (topNumber v + compactions (v .slots)) (rw (none-left, not-few) at (writable .fresh))
 
     -- the top was full of a row's entries but for one slot or more
     last-short : (j : ℕ) → suc j ≡ compactions (v .slots) → length (entries (getD (v .slots) j [])) < B
@@ -213,7 +217,7 @@ module _ (N B : ℕ) (p : Plan) (s : Image) (k : Planned N B p s) where
       found : (o : ℕ) → o ≡ p .first .0 + i → length xs ≤ budget → liveEntries N B o t ≡ entries (getD (w .slots) 0 [])
       found o e h =
           let a = after-times N B v needs i (omega (arith, within)) in
-          let held = times-held N B s v plan-held (k .bytes) needs rows-full below i (omega (arith, within)) in
+          let held = times-held N B s v plan-held (writable .bytes) needs rows-full below i (omega (arith, within)) in
           let first : o ≡ w .first = omega (arith, a .first, k .first) in
           let done : t ≡ run B xs s = d .ran .image ∙ ap (λ (y : List Step). run B y s) (take-all budget xs h) in
           rw (first, done) (live-row N B (run B xs s) w held (omega (arith, a .rows, plan-clean .some)))
@@ -230,7 +234,7 @@ module _ (N B : ℕ) (p : Plan) (s : Image) (k : Planned N B p s) where
       compacting-next o n left₁ count {u} eo en c =
           let a = after-times N B v needs i (omega (arith, within)) in
           let first : o ≡ w .first = omega (arith, a .first, k .first) in
-          let next : n ≡ suc (topNumber w) = omega (arith, times-number N B s v plan-held (k .bytes) needs rows-full below i (omega (arith, within)), top-is) in
+          let next : n ≡ suc (topNumber w) = omega (arith, times-number N B s v plan-held (writable .bytes) needs rows-full below i (omega (arith, within)), top-is) in
           let same : length xs ≤ budget → compact N B o n (liveEntries N B o t) ≡ compact N B (w .first) (suc (topNumber w)) (entries (getD (w .slots) 0 [])) =
                 (λ h. rw (found o eo h, first, next)) in record
           { bound = omega arith
@@ -244,11 +248,13 @@ module _ (N B : ℕ) (p : Plan) (s : Image) (k : Planned N B p s) where
         let next : n ≡ o + p .used = omega arith in
         apart-before N (p .used) o (omega (arith, small .spare)) o (omega arith) (omega (arith, small .some)) (rw next at e)
 
-    pub compacting-end : (budget i left slot : ℕ) (r : Room) {t : Image} → Compacting N B p s budget i left slot t → p .compactions ≤ i → r .left ≡ left → r .slot ≡ slot → r .top .0 ≡ p .first .0 + (p .used - 1 + i)
-        → Roomed N B budget r s t
-    compacting-end budget i left slot r {t} d h el es et =
+    pub compacting-end : (budget i left slot : ℕ) (r : Room) {t : Image} → Compacting N B p s budget i left slot t → p .compactions ≤ i → r .left ≡ left → r .slot ≡ slot → r .first .0 ≡ p .first .0 + i
+        → r .used ≡ p .used → Roomed N B budget r s t
+    compacting-end budget i left slot r {t} d h el es ef eu =
         let n : i ≡ compactions (v .slots) = omega (arith, d .bound, k .compactions) in
+        let a = after-times N B v needs i (omega arith) in
         let room = room-times N B two slots-two v plan-clean none-left not-few in record
         { ran = rw (room, ← n, el) (d .ran)
-        ; top = rw (room, ← n) (omega (arith, et, top-is, small .some, times-number N B s v plan-held (k .bytes) needs rows-full below i (omega arith)))
+        ; first = rw (room, ← n) (omega (arith, ef, k .first, a .first))
+        ; used = rw (room, ← n) (omega (arith, eu, k .used, a .rows))
         ; slot = λ z. rw (room, ← n) (es ∙ last-empty i slot n (d .last (omega (arith, el)))) }

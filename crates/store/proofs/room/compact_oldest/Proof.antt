@@ -61,34 +61,21 @@ loop-again c =
     compacting-next (a .args .segments) (a .args .slots) (a .args .plan) (now (a .args .image)) (a .pre .0) (a .pre .1) (a .args .budget) (l .i) (l .left) (l .slot) _ (l .inv) (c .before .before .before .before .before .before .before .if1 .taken)
     _ _ _ _ (c .before .before .before .before .before .before .after .ensures) (c .before .before .before .before .after2 .ensures) (c .before .before .compact-segment .ensures)
 
-sub-after : tie.Need-sub-after Inv-loop μ-loop
-sub-after c =
-    let a = c .before .before .before .before .before in
-    let h = small (a .args .segments) (a .args .slots) (a .args .plan) (now (a .args .image)) (a .pre .0) in
-    omega arith
-
-add-after-2 : tie.Need-add-after-2 Inv-loop μ-loop
-add-after-2 c =
-    let a = c .before .before .before .before .before in
-    let h = small (a .args .segments) (a .args .slots) (a .args .plan) (now (a .args .image)) (a .pre .0) in
-    let b = c .before .before .before .loop .inv .bound in
-    omega arith
-
 after-requires-3 : tie.Need-after-requires-3 Inv-loop μ-loop
 after-requires-3 c κs =
-    let a = c .before .before .before .before .before in
+    let a = c .before .before .before .before in
     let h = small (a .args .segments) (a .args .slots) (a .args .plan) (now (a .args .image)) (a .pre .0) in
-    let b = c .before .before .before .loop .inv .bound in
+    let b = c .before .before .loop .inv .bound in
     omega arith
 
 same-length : tie.Need-same-length Inv-loop μ-loop
-same-length c = ran-length (c .before .before .before .before .loop .inv .ran)
+same-length c = ran-length (c .before .before .before .loop .inv .ran)
 
 returns : tie.Need-returns Inv-loop μ-loop
 returns c =
-    let a = c .before .before .before .before .before .before in
-    let l = c .before .before .before .before .loop in
-    compacting-end (a .args .segments) (a .args .slots) (a .args .plan) (now (a .args .image)) (a .pre .0) (a .pre .1) (a .args .budget) (l .i) (l .left) (l .slot) _ (l .inv) (c .before .before .if1 .left) refl refl (c .after3 .ensures)
+    let a = c .before .before .before .before .before in
+    let l = c .before .before .before .loop in
+    compacting-end (a .args .segments) (a .args .slots) (a .args .plan) (now (a .args .image)) (a .pre .0) (a .pre .1) (a .args .budget) (l .i) (l .left) (l .slot) _ (l .inv) (c .before .if1 .left) refl refl (c .after3 .ensures) refl
 
 pub compact-oldest-spec : {M : Type 1} → statement M
 compact-oldest-spec =
@@ -104,8 +91,6 @@ compact-oldest-spec =
     add-i
     loop-less
     loop-again
-    sub-after
-    add-after-2
     after-requires-3
     same-length
     returns)

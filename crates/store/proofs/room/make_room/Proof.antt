@@ -7,22 +7,10 @@ use borrow.Author.Needs.{needs}
 use Rattle.store.proofs.room.make_room.Statement.{statement}
 use Rattle.store.proofs.room.make_room.Tie as tie
 
-sub-after : tie.Need-sub-after
-sub-after c =
-    let a = c .before .before .before .before in
-    let h = small (a .args .segments) (a .args .slots) (a .args .plan) (now (a .args .image)) (a .pre) in
-    omega arith
-
-after-requires : tie.Need-after-requires
-after-requires c κs =
-    let a = c .before .before .before .before in
-    let h = small (a .args .segments) (a .args .slots) (a .args .plan) (now (a .args .image)) (a .pre) in
-    omega arith
-
 returns : tie.Need-returns
 returns c =
-    let a = c .before .before .before .before .before in
-    room-there (a .args .segments) (a .args .slots) (a .args .plan) (now (a .args .image)) (a .pre) (a .args .budget) _ (c .before .before .if1 .taken) refl (c .after .ensures) refl
+    let a = c .before .before .before .before in
+    room-there (a .args .segments) (a .args .slots) (a .args .plan) (now (a .args .image)) (a .pre) (a .args .budget) _ (c .if1 .taken) refl refl refl refl
 
 add-if2 : tie.Need-add-if2
 add-if2 c =
@@ -30,9 +18,9 @@ add-if2 c =
     let h = small (a .args .segments) (a .args .slots) (a .args .plan) (now (a .args .image)) (a .pre) in
     omega arith
 
-after-requires-2 : tie.Need-after-requires-2
-after-requires-2 c κs =
-    let a = c .before .before .before .before .before in
+after-requires : tie.Need-after-requires
+after-requires c κs =
+    let a = c .before .before .before .before .before .before in
     let h = small (a .args .segments) (a .args .slots) (a .args .plan) (now (a .args .image)) (a .pre) in
     omega arith
 
@@ -41,13 +29,16 @@ open-header-requires c κs =
     let a = c .before .before .before .before .before .before .before in
     plan-sized (a .args .segments) (a .args .slots) (a .args .plan) (now (a .args .image)) (a .pre)
 
+add-t14 : tie.Need-add-t14
+add-t14 c = search needs
+
 same-length : tie.Need-same-length
 same-length c = search needs
 
 returns-2 : tie.Need-returns-2
 returns-2 c =
     let a = c .before .before .before .before .before .before .before .before .before .before in
-    room-opened (a .args .segments) (a .args .slots) (a .args .plan) (now (a .args .image)) (a .pre) (a .args .budget) _ (c .before .before .before .before .before .before .before .if1 .left) (c .before .before .before .before .before .if2 .taken) (c .before .before .before .before .after2 .ensures) refl (c .before .before .open-header .ensures)
+    room-opened (a .args .segments) (a .args .slots) (a .args .plan) (now (a .args .image)) (a .pre) (a .args .budget) _ _ (c .before .before .before .before .before .before .if1 .left) (c .before .before .before .before .before .if2 .taken) (c .before .before .before .after .ensures) refl refl refl (c .before .before .open-header .ensures)
 
 compact-oldest-requires : tie.Need-compact-oldest-requires
 compact-oldest-requires c κs = search needs
@@ -62,12 +53,11 @@ pub make-room-spec : {M : Type 1} → statement M
 make-room-spec =
     tie.close
     (tie.spec
-    sub-after
-    after-requires
     returns
     add-if2
-    after-requires-2
+    after-requires
     open-header-requires
+    add-t14
     same-length
     returns-2
     compact-oldest-requires
