@@ -1,8 +1,8 @@
 -- Laws of the search: what is still to be looked at gives the whole answer; the slot that is read; what its kind says of the block.
-use Prim.Native.Nat.{ℕ, zero, suc, _+_, _-_, _*_, _%_, _≤_, _<_}
+use Prim.Native.Nat.{ℕ, zero, suc, _+_, _-_, _*_, _/_, _%_, _≤_, _<_}
 use mathlib.Core.Path.{_≡_, refl, sym, ap, _∙_, subst}
 use mathlib.Core.Logic.{⊎-elim}
-use mathlib.Core.Bool.{Bool, true, false, cond, or-false}
+use mathlib.Core.Bool.{Bool, true, false, cond, or-false, true≢false}
 use mathlib.Core.List.{List, [], _∷_, _++_, map, flatMap, flatten}
 use native.Mathlib.Nat.{mod-lt, mul-le-mul-right, suc-mul}
 use native.Mathlib.Numerals.{add-one}
@@ -18,18 +18,19 @@ use Rattle.model.specs.declared.SlotKind.{SlotKind}
 use Rattle.model.specs.declared.SlotKind.the-variants.{Live}
 use Rattle.model.proofs.SlotKind.{the-type}
 use Rattle.model.specs.Chip.{Image, Page, pagesOf}
-use Rattle.model.specs.Slot.{Slot, empty, torn, dead, wrong, live, slotOf, kindOf, entryOf}
+use Rattle.model.specs.Slot.{written, slotPage, Slot, empty, torn, dead, wrong, live, slotOf, kindOf, entryOf}
 use Rattle.model.specs.State.{entries, holds, slotFrom, placeFrom}
 use Rattle.model.specs.Steps.{slotAt}
 use Rattle.model.specs.Table.{lookup, contentsFound}
 use Rattle.model.specs.Laws.Chunk.{chunk-part}
 use Rattle.model.specs.Laws.Segments.{partOf, part-page, part-size, page-in}
+use Rattle.model.specs.Laws.SlotPage.{live-facts}
 use Rattle.bridge.specs.Views.Tables.{holds-append, lookup-append}
 use Rattle.bridge.specs.Views.Slots.{entries-append, entries-cons}
 use Rattle.page.specs.Pages.{Sized}
 use Rattle.find.specs.declared.Found.{Found}
 use Rattle.find.specs.declared.Found.the-variants.{At, Nothing}
-use Rattle.find.specs.Search.{rowsAt, foundIn}
+use Rattle.find.specs.Search.{mayHold, rowsAt, foundIn}
 
 -- ---- the kinds that `let SlotKind::Live .. else` tells apart
 
@@ -61,6 +62,27 @@ live-holds b (live m c) l n e =
     let g : m ≡ n .0 = ap (λ (x : BlockNumber). x .0) f in
     let h : length c ≡ l = cc in
     (or-false (eqb b m) ∙ ap (eqb b) g, λ t. let u : eqb b m ≡ true = ap (eqb b) g ∙ t in rw u h)
+
+-- ---- the quick test
+
+-- its last comparison decides
+pub last-byte : (p : Page) (b : ℕ) → getD p 0 0 ≡ written → getD p 2 0 ≡ b % 256 → eqb (getD p 3 0) (b / 256) ≡ mayHold p b
+unfolding mayHold
+last-byte p b s e = rw (eq-eqb (getD p 0 0) written s, eq-eqb (getD p 2 0) (b % 256) e)
+
+-- a slot whose status or number is another holds no such block
+passed-over : (p : Page) (b : ℕ) {t : Bool} → t ≡ mayHold p b → t ≡ false → holds b (entryOf (slotOf p)) ≡ false
+unfolding entryOf holds
+passed-over p b d f = go (slotOf p) refl
+  where
+    same : (c : List ℕ) → slotOf p ≡ live b c → mayHold p b ≡ true
+    same c e = rw (live-facts p b c e .page) (unfold mayHold slotPage in simp (eq-eqb (b % 256) (b % 256) refl, eq-eqb (b / 256) (b / 256) refl))
+    go : (k : Slot) → slotOf p ≡ k → holds b (entryOf k) ≡ false
+    go empty e = refl
+    go torn e = refl
+    go dead e = refl
+    go wrong e = refl
+    go (live n c) e = or-false (eqb b n) ∙ ne-eqb b n (λ q. true≢false (sym (same c (e ∙ ap (λ (m : ℕ). live m c) (sym q))) ∙ sym d ∙ f))
 
 -- ---- slots and rows still to be looked at
 
@@ -171,8 +193,8 @@ module _ (N B b : ℕ) (s : Image) (first used turn from slot : ℕ) (w : Walkin
         sym (row-end N B b (first + turn) slot rows) ∙ rw (left-end N B s (first + turn) slot (w .index) h) at (w .rest) in
       record { within = omega (arith, w .more); rest = rw e at f }
 
-  -- a slot read: of another kind, of another block, or the one
-  module _ (h : slot < B) (k : SlotKind) (d : k ≡ kindOf (slotOf (pageRead s (from + slot * 256)))) where
+  -- a slot read: passed over, of another kind, of another block, or the one
+  module _ (h : slot < B) where
     abbrev kind : Slot
     kind = slotOf (pageRead s (from + slot * 256))
 
@@ -183,18 +205,22 @@ module _ (N B b : ℕ) (s : Image) (first used turn from slot : ℕ) (w : Walkin
     passed e = record { more = w .more; within = omega arith; index = w .index; here = w .here; reads = w .reads
         ; rest = sym (slot-next N B b (first + turn) slot kind (slotsLeft N B s (first + turn) (slot + 1)) rows e) ∙ unread }
 
-    pub walking-other : Other k → Walking N B b s first used turn from (slot + 1)
-    walking-other o = passed (other-holds b kind (subst Other d o))
+    pub walking-over : {t : Bool} → t ≡ mayHold (pageRead s (from + slot * 256)) b → t ≡ false → Walking N B b s first used turn from (slot + 1)
+    walking-over d f = passed (passed-over (pageRead s (from + slot * 256)) b d f)
 
-    module _ (l : ℕ) (n : BlockNumber) (e : k ≡ Live l n) where
-      pub walking-next : (n .0 ≡ b → ⊥) → Walking N B b s first used turn from (slot + 1)
-      walking-next o = passed (live-holds b kind l n (sym d ∙ e) .0 ∙ ne-eqb b (n .0) (λ q. o (sym q)))
+    module _ (k : SlotKind) (d : k ≡ kindOf kind) where
+      pub walking-other : Other k → Walking N B b s first used turn from (slot + 1)
+      walking-other o = passed (other-holds b kind (subst Other d o))
 
-      pub walking-stop : n .0 ≡ b → At (record { 0 = from + slot * 256 }) l ≡ foundIn N B first (rowsAt N B s used first) b
-      unfolding slotAt
-      walking-stop q =
-          let r = live-holds b kind l n (sym d ∙ e) in
-          let t : eqb b (n .0) ≡ true = eq-eqb b (n .0) (sym q) in
-          let a : slotAt N B (first + turn) slot * 256 ≡ from + slot * 256 = omega (arith, w .here) in
-          let f = slot-stop N B b (first + turn) slot kind (slotsLeft N B s (first + turn) (slot + 1)) rows (r .0 ∙ t) in
-          rw (a, r .1 t) at (sym f ∙ unread)
+      module _ (l : ℕ) (n : BlockNumber) (e : k ≡ Live l n) where
+        pub walking-next : (n .0 ≡ b → ⊥) → Walking N B b s first used turn from (slot + 1)
+        walking-next o = passed (live-holds b kind l n (sym d ∙ e) .0 ∙ ne-eqb b (n .0) (λ q. o (sym q)))
+
+        pub walking-stop : n .0 ≡ b → At (record { 0 = from + slot * 256 }) l ≡ foundIn N B first (rowsAt N B s used first) b
+        unfolding slotAt
+        walking-stop q =
+            let r = live-holds b kind l n (sym d ∙ e) in
+            let t : eqb b (n .0) ≡ true = eq-eqb b (n .0) (sym q) in
+            let a : slotAt N B (first + turn) slot * 256 ≡ from + slot * 256 = omega (arith, w .here) in
+            let f = slot-stop N B b (first + turn) slot kind (slotsLeft N B s (first + turn) (slot + 1)) rows (r .0 ∙ t) in
+            rw (a, r .1 t) at (sym f ∙ unread)

@@ -1,14 +1,15 @@
 -- What a search for a block finds: in rows of slots, and in the segments of an image with given numbers, whatever their headers say. For an image with a view
 -- the rows are the view's.
-use Prim.Native.Nat.{ℕ, zero, suc, _+_, _*_, _%_, _<_}
+use Prim.Native.Nat.{ℕ, zero, suc, _+_, _*_, _/_, _%_, _<_}
 use mathlib.Core.Path.{_≡_, refl, sym, ap, ap₂, _∙_}
-use mathlib.Core.Bool.{cond}
+use mathlib.Core.Bool.{Bool, cond, _&&_}
 use mathlib.Core.List.{List, [], _∷_, map, flatten}
 use native.Mathlib.Nat.{mod-lt}
 use native.Mathlib.Omega.{arith}
 use lib.ListN.{length, getD, drop}
-use Rattle.model.specs.Chip.{Image}
-use Rattle.model.specs.Slot.{Slot, slotOf}
+use lib.Dec.{eqb}
+use Rattle.model.specs.Chip.{Image, Page}
+use Rattle.model.specs.Slot.{Slot, slotOf, written}
 use Rattle.model.specs.State.{View, entries, entriesIn, holds, placeFrom, placeOf}
 use Rattle.model.specs.Steps.{slotAt}
 use Rattle.model.specs.Table.{lookup, contentsFound}
@@ -17,6 +18,10 @@ use Rattle.model.specs.Laws.Effects.{in-use-parts}
 use Rattle.bridge.specs.Held.{Held, held-row, two-segments}
 use Rattle.find.specs.declared.Found.{Found}
 use Rattle.find.specs.declared.Found.the-variants.{At, Nothing}
+
+-- the status and the number in a slot are those of a live slot of block b
+unfoldable pub mayHold : Page → ℕ → Bool
+mayHold p b = eqb (getD p 0 0) written && (eqb (getD p 2 0) (b % 256) && eqb (getD p 3 0) (b / 256))
 
 -- the slots of the segments with the u numbers from n on, as they stand
 unfoldable pub rowsAt : ℕ → ℕ → Image → ℕ → ℕ → List (List Slot)

@@ -8,7 +8,10 @@ ghost use Prim.Native.Nat.{_+_, _*_, _<_, _≤_};
 ghost use lib.ListN.{length};
 ghost use Rattle.model.specs.Steps.{slotAt};
 ghost use Rattle.page.specs.Pages.{Sized};
-ghost use Rattle.find.specs.Search.{rowsAt, foundIn};
+ghost use Rattle.find.specs.Search.{mayHold, rowsAt, foundIn};
+
+// The status of a live slot.
+const WRITTEN: u8 = 0x3F;
 
 // Where a block's slot is, and the length of its contents.
 pub enum Found {
@@ -24,6 +27,21 @@ fn first_slot(segments: usize, slots: usize, number: SegmentNumber) -> SlotPlace
     let index = number.0 as usize % segments;
     let at = (index * (slots + 1) + 1) * 256;
     SlotPlace(at)
+}
+
+// Whether the status and the number in a slot are those of a live slot of a block. Three bytes pass over most slots; the
+// others of a slot that passes may still not fit.
+fn may_hold(page: &[u8], block: BlockNumber) -> bool
+    requires { ⌜ length (now page) ≡ 256 ⌝ }
+    ensures { λ r. ⌜ r ≡ mayHold (now (page .entry)) (block .0) ⌝ }
+{
+    if page[0] != WRITTEN {
+        return false;
+    }
+    if page[2] != (block.0 % 256) as u8 {
+        return false;
+    }
+    page[3] == (block.0 / 256) as u8
 }
 
 // The first live slot of a block in the segments with some numbers, from the first of them on. It goes by the slots as
@@ -48,8 +66,12 @@ pub fn find(
         while slot < slots {
             let at = from.0 + slot * 256;
             let next = at + 256;
-            let kind = page::slot::slot_kind(&image[at..next]);
+            let page = &image[at..next];
             slot += 1;
+            if !may_hold(page, block) {
+                continue;
+            }
+            let kind = page::slot::slot_kind(page);
             let SlotKind::Live { length, block: held } = kind else {
                 continue;
             };

@@ -1,9 +1,10 @@
 -- `find::find` finds the first live slot of the block. The invariants: what is still to be looked at gives the whole answer, and nothing is found yet. Assumes nothing.
 use Prim.Native.Nat.{_-_}
 use mathlib.Core.Path.{_≡_, refl, _∙_}
+use borrow.Author.Tests.{not-true}
 use denote.Ref.{now}
 use Rattle.find.specs.declared.Found.the-variants.{Nothing}
-use Rattle.find.proofs.Laws.{Searching, Walking, searching-start, searching-end, walking-start, walking-end, walking-other, walking-next, walking-stop}
+use Rattle.find.proofs.Laws.{Searching, Walking, searching-start, searching-end, walking-start, walking-end, walking-over, walking-other, walking-next, walking-stop}
 use borrow.Author.Needs.{needs}
 use Rattle.find.proofs.find.Statement.{statement}
 use Rattle.find.proofs.find.Tie as tie
@@ -50,23 +51,20 @@ add-at c = search needs
 add-next : tie.Need-add-next Inv-loop μ-loop Inv-segments μ-segments
 add-next c = search needs
 
-sub-slot-kind : tie.Need-sub-slot-kind Inv-loop μ-loop Inv-segments μ-segments
-sub-slot-kind c = search needs
+sub-page : tie.Need-sub-page Inv-loop μ-loop Inv-segments μ-segments
+sub-page c = search needs
 
-part-slot-kind-start : tie.Need-part-slot-kind-start Inv-loop μ-loop Inv-segments μ-segments
-part-slot-kind-start c = search needs
+part-page-start : tie.Need-part-page-start Inv-loop μ-loop Inv-segments μ-segments
+part-page-start c = search needs
 
-part-slot-kind-end : tie.Need-part-slot-kind-end Inv-loop μ-loop Inv-segments μ-segments
-part-slot-kind-end c = search needs
-
-slot-kind-requires : tie.Need-slot-kind-requires Inv-loop μ-loop Inv-segments μ-segments
-slot-kind-requires c κs = search needs
+part-page-end : tie.Need-part-page-end Inv-loop μ-loop Inv-segments μ-segments
+part-page-end c = search needs
 
 add-slot : tie.Need-add-slot Inv-loop μ-loop Inv-segments μ-segments
 add-slot c = search needs
 
-enum-known-kind : tie.Need-enum-known-kind Inv-loop μ-loop Inv-segments μ-segments
-enum-known-kind c = search needs
+may-hold-requires : tie.Need-may-hold-requires Inv-loop μ-loop Inv-segments μ-segments
+may-hold-requires c κs = search needs
 
 loop-less : tie.Need-loop-less Inv-loop μ-loop Inv-segments μ-segments
 loop-less c = search needs
@@ -76,19 +74,35 @@ loop-again c =
     let seen = c .before in
     let test = seen .before .before .before in
     let k = test .before in
-    (walking-other _ _ _ _ _ _ _ _ _ (k .loop .inv .0) (test .loop-test .taken) (seen .slot-kind .result) (seen .slot-kind .ensures) (c .match .keys2), k .loop .inv .1)
+    (walking-over _ _ _ _ _ _ _ _ _ (k .loop .inv .0) (test .loop-test .taken) (seen .may-hold .ensures) (not-true _ (c .if1 .taken)), k .loop .inv .1)
+
+slot-kind-requires : tie.Need-slot-kind-requires Inv-loop μ-loop Inv-segments μ-segments
+slot-kind-requires c κs = search needs
+
+enum-known-kind : tie.Need-enum-known-kind Inv-loop μ-loop Inv-segments μ-segments
+enum-known-kind c = search needs
 
 loop-less-2 : tie.Need-loop-less-2 Inv-loop μ-loop Inv-segments μ-segments
 loop-less-2 c = search needs
 
 loop-again-2 : tie.Need-loop-again-2 Inv-loop μ-loop Inv-segments μ-segments
 loop-again-2 c =
+    let seen = c .before in
+    let test = seen .before .before .before .before .before in
+    let k = test .before in
+    (walking-other _ _ _ _ _ _ _ _ _ (k .loop .inv .0) (test .loop-test .taken) (seen .slot-kind .result) (seen .slot-kind .ensures) (c .match .keys2), k .loop .inv .1)
+
+loop-less-3 : tie.Need-loop-less-3 Inv-loop μ-loop Inv-segments μ-segments
+loop-less-3 c = search needs
+
+loop-again-3 : tie.Need-loop-again-3 Inv-loop μ-loop Inv-segments μ-segments
+loop-again-3 c =
     let told = c .before .before .before .before in
     let seen = told .before .before in
-    let test = seen .before .before .before in
+    let test = seen .before .before .before .before .before in
     let k = test .before in
     (walking-next _ _ _ _ _ _ _ _ _ (k .loop .inv .0) (test .loop-test .taken) (seen .slot-kind .result) (seen .slot-kind .ensures) (told .kind .given .0 .0) (told .kind .given .0 .1 .0)
-    (told .kind .given .1) (c .if1 .left), k .loop .inv .1)
+    (told .kind .given .1) (c .if2 .left), k .loop .inv .1)
 
 add-turn : tie.Need-add-turn Inv-loop μ-loop Inv-segments μ-segments
 add-turn c = search needs
@@ -110,10 +124,10 @@ returns-2 : tie.Need-returns-2 Inv-loop μ-loop Inv-segments μ-segments
 returns-2 c =
     let told = c .before .before .before .before in
     let seen = told .before .before in
-    let test = seen .before .before .before in
+    let test = seen .before .before .before .before .before in
     let k = test .before in
     walking-stop _ _ _ _ _ _ _ _ _ (k .loop .inv .0) (test .loop-test .taken) (seen .slot-kind .result) (seen .slot-kind .ensures) (told .kind .given .0 .0) (told .kind .given .0 .1 .0)
-    (told .kind .given .1) (c .if1 .taken)
+    (told .kind .given .1) (c .if2 .taken)
 
 pub find-spec : {M : Type 1} → statement M
 find-spec =
@@ -131,16 +145,19 @@ find-spec =
     mul-at
     add-at
     add-next
-    sub-slot-kind
-    part-slot-kind-start
-    part-slot-kind-end
-    slot-kind-requires
+    sub-page
+    part-page-start
+    part-page-end
     add-slot
-    enum-known-kind
+    may-hold-requires
     loop-less
     loop-again
+    slot-kind-requires
+    enum-known-kind
     loop-less-2
     loop-again-2
+    loop-less-3
+    loop-again-3
     add-turn
     segments-less
     segments-again
