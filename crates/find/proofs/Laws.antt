@@ -88,7 +88,7 @@ passed-over p b d f = go (slotOf p) refl
 
 module _ (N B b n : ℕ) where
   -- what is found among the slots from slot j of the segment with number n on, and in the rows after them
-  pub foundFrom : ℕ → List Slot → List (List Slot) → Found
+  unfoldable pub foundFrom : ℕ → List Slot → List (List Slot) → Found
   foundFrom j ks rows =
       cond (holds b (entries ks)) (At (record { 0 = slotAt N B n (slotFrom b j ks) * 256 }) (length (contentsFound (lookup b (entries ks))))) (foundIn N B (suc n) rows b)
 
@@ -123,7 +123,7 @@ slotsLeft N B s n j = map slotOf (drop (suc j) (partOf N B (n % N) s))
 abbrev pub pageRead : Image → ℕ → Page
 pageRead s at = take (at + 256 - at) (drop at s)
 
-left-next : (N B : ℕ) (s : Image) (n j at : ℕ) → n % N < N → j < B → at ≡ slotAt N B n 0 * 256 + j * 256
+pub left-next : (N B : ℕ) (s : Image) (n j at : ℕ) → n % N < N → j < B → at ≡ slotAt N B n 0 * 256 + j * 256
     → slotsLeft N B s n j ≡ slotOf (pageRead s at) ∷ slotsLeft N B s n (j + 1)
 unfolding pagesOf slotAt
 left-next N B s n j at i h e =
@@ -133,7 +133,7 @@ left-next N B s n j at i h e =
       part-page N B (n % N) (suc j) s i (omega arith) ∙ chunk-part 256 (N * (B + 1)) (n % N * (B + 1) + suc j) s (page-in N B (n % N) (suc j) i (omega arith)) in
     rw (f, g, ← p, add-one j, drop-cons (partOf N B (n % N) s) (suc j) [] (omega (arith, part-size N B (n % N) s i)))
 
-left-end : (N B : ℕ) (s : Image) (n j : ℕ) → n % N < N → B ≤ j → slotsLeft N B s n j ≡ []
+pub left-end : (N B : ℕ) (s : Image) (n j : ℕ) → n % N < N → B ≤ j → slotsLeft N B s n j ≡ []
 left-end N B s n j i h =
     let e : drop (suc j) (partOf N B (n % N) s) ≡ [] = drop-of-length-le (partOf N B (n % N) s) {i = suc j} (omega (arith, part-size N B (n % N) s i)) in
     rw e
