@@ -7,5 +7,6 @@ pub mod Done
 pub mod Accepted
 pub mod Requests
 pub mod TimesDone
+pub mod Lengths
 pub mod Format
 pub mod Bridge

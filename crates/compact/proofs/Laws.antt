@@ -3,21 +3,21 @@ use Prim.Native.Nat.{ℕ, zero, suc, _+_, _-_, _*_, _%_, _≤_, _<_}
 use mathlib.Core.Path.{_≡_, refl, sym, ap, _∙_, subst}
 use mathlib.Core.Logic.{⊎-elim}
 use mathlib.Core.List.{List, [], _∷_, _++_, append-nil, map, flatMap}
-use native.Mathlib.Nat.{zero-add, add-zero, mul-le-mul-right, suc-mul, mod-lt, mod-mod, mod-eq-of-lt}
+use native.Mathlib.Nat.{zero-add, mul-le-mul-right, suc-mul, mod-lt, mod-mod, mod-eq-of-lt}
 use native.Mathlib.Numerals.{add-one}
 use native.Mathlib.Omega.{arith}
-use lib.ListN.{length, getD, take, drop, set, replicate, length-take, drop-of-length-le}
+use lib.ListN.{length, getD, take, drop, set, replicate, drop-of-length-le}
 use lib.Seq.{paste, paste-suc, take-all, drop-cons, take-append-seam, getD-set-other}
 use denote.Enum.Declared.{tagOf}
 use types.Run.{OneOf}
 use Rattle.model.specs.declared.BlockNumber.{BlockNumber}
 use Rattle.model.specs.declared.SlotKind.{SlotKind}
-use Rattle.model.specs.declared.SlotKind.the-variants.{Empty, Torn, Live, Dead, Wrong}
+use Rattle.model.specs.declared.SlotKind.the-variants.{Live}
 use Rattle.model.proofs.SlotKind.{the-type}
-use Rattle.model.specs.Chip.{Image, Page, Step, program, erase, erased, run, imageLength, pagesOf}
+use Rattle.model.specs.Chip.{Image, Page, Step, program, erase, erased, run, pagesOf}
 use Rattle.model.specs.Slot.{mostContents, slotPage, Slot, empty, torn, dead, wrong, live, slotOf, kindOf, Entry, entryOf}
 use Rattle.model.specs.State.{entries}
-use Rattle.model.specs.Steps.{onPage, headerAt, slotAt, writeSlot, copyEntries, compact, settle}
+use Rattle.model.specs.Steps.{onPage, headerAt, slotAt, writeSlot, copyEntries, settle}
 use Rattle.model.specs.Laws.Chunk.{chunk-part}
 use Rattle.model.specs.Laws.Chip.{run-length}
 use Rattle.model.specs.Laws.Pages.{InPage}
@@ -26,9 +26,9 @@ use Rattle.model.specs.Laws.HeaderPage.{compactionHeader, compaction-in-page}
 use Rattle.model.specs.Laws.SlotPage.{live-facts, write-in-page}
 use Rattle.flash.specs.Ran.{Ran, Programmed}
 use Rattle.flash.proofs.Laws.{_then_, ran-none, ran-lent}
-use Rattle.page.specs.Pages.{OnPageAt, Sized, beginCompaction, finishCopy, copy-out-parts}
+use Rattle.page.specs.Pages.{OnPageAt, Sized, beginCompaction, finishCopy}
 use Rattle.page.proofs.Laws.Writes.{write-within}
-use Rattle.compact.specs.Compaction.{liveEntries, firstSlot, Apart, Copied, Compaction}
+use Rattle.compact.specs.Compaction.{liveEntries, firstSlot, Apart, Copied, Compaction, compact-parts}
 
 -- ---- a page by value
 
@@ -179,7 +179,7 @@ module _ (N B i t budget : ℕ) (from s : Image) (left copied slot at : ℕ) (c 
   pub copying-skip : (k : SlotKind) → k ≡ kindOf (slotOf page) → Other k → Copying N B i t budget from s left copied (slot + 1)
   copying-skip k e o =
       let a : entriesFrom N B i from slot ≡ entriesFrom N B i from (slot + 1) =
-            slot-adds ∙ ap (λ (y : List Entry). y ++ entriesFrom N B i from (slot + 1)) (other-holds (slotOf page) (subst Other e o)) in
+      slot-adds ∙ ap (λ (y : List Entry). y ++ entriesFrom N B i from (slot + 1)) (other-holds (slotOf page) (subst Other e o)) in
       record {
         finish = λ r u d. c .finish r u (rw (← a) at d);
         counted = omega (arith, ap length a, c .counted);
@@ -211,7 +211,7 @@ module _ (N B i t budget : ℕ) (from s : Image) (left copied slot at : ℕ) (c 
       let w = d copied refl C in
       rw (m, ← h, f, e)
       (ran-lent (firstSlot B t) (B * 256) copied s (writeSlot b (take l (drop 8 page))) (c .writes) (omega (arith, c .behind)) (write-within b (take l (drop 8 page)) (omega (arith, v .short, v .long)))
-        (rw (f, e, g) at w))
+      (rw (f, e, g) at w))
 
   slot-in-target : (xs : List Step) → InPage xs → InSegment B t (onPage (slotAt N B t copied) xs)
   unfolding slotAt
@@ -227,7 +227,7 @@ module _ (N B i t budget : ℕ) (from s : Image) (left copied slot at : ℕ) (c 
       let v = live-page page l b e f in
       let x : List ℕ = take l (drop 8 page) in
       let a : entriesFrom N B i from slot ≡ record { block = b .0; contents = x } ∷ entriesFrom N B i from (slot + 1) =
-            slot-adds ∙ ap (λ (y : Slot). entryOf y ++ entriesFrom N B i from (slot + 1)) (v .holds) in
+      slot-adds ∙ ap (λ (y : Slot). entryOf y ++ entriesFrom N B i from (slot + 1)) (v .holds) in
       let w : Programmed (onPage (slotAt N B t copied) (writeSlot (b .0) x)) left r s (Back start q) = slot-written l (b .0) start r q v g d in
       let y : length x ≤ mostContents = omega (arith, v .short, v .long) in
       let z : length (Back start q) ≡ length s = ran-length (w B) in
@@ -258,7 +258,7 @@ copying-end N B i t o n budget {from} {s} {left} {copied} {slot} c h e f =
     let z : entriesFrom N B i from slot ≡ [] = entries-end N B i slot from (c .source) h in
     let a : entriesFrom N B i from 0 ≡ liveEntries N B o from = ap (λ (k : ℕ). entriesFrom N B k from 0) e in
     let g : copyEntries N B t 0 (entriesFrom N B i from 0) ≡ copyEntries N B n 0 (liveEntries N B o from) =
-          ap (λ (k : ℕ). copyEntries N B k 0 (entriesFrom N B i from 0)) f ∙ same-segment N B n 0 (entriesFrom N B i from 0) ∙ ap (λ (es : List Entry). copyEntries N B n 0 es) a in
+    ap (λ (k : ℕ). copyEntries N B k 0 (entriesFrom N B i from 0)) f ∙ same-segment N B n 0 (entriesFrom N B i from 0) ∙ ap (λ (es : List Entry). copyEntries N B n 0 es) a in
     record {
       ran = subst (λ (xs : List Step). Programmed xs budget left from s) g (c .finish left s (λ C. rw z (ran-none C left s)));
       counted = omega (arith, c .counted, ap length z, ap length a);
@@ -281,11 +281,10 @@ same-entries N B o n p a d =
 pub compaction-done : (N B o n i budget : ℕ) {b₁ b₂ b₃ b₄ left count : ℕ} {s s₁ s₂ s₃ s₄ u : Image} → Sized N B (length s) → Apart N o n → i ≡ o % N
     → Programmed (beginCompaction N B o n) budget b₁ s s₁ → Copied N B o n b₁ b₂ count s₁ s₂ → Programmed (finishCopy N B o n) b₂ b₃ s₂ s₃
     → Ran (erase i ∷ []) B b₃ b₄ s₃ s₄ → Programmed (settle N B n) b₄ left s₄ u → Compaction N B o n budget left count s u
-unfolding compact
 compaction-done N B o n i budget {s = s} {s₁ = s₁} z a h begun copy pending clears settled =
     let es = liveEntries N B o s in
     let e : liveEntries N B o s₁ ≡ es = same-entries N B o n (z .some) a begun in
     record {
-      ran = rw (copy-out-parts N B o n es) (_then_ (_then_ (begun B) (_then_ (rw e at (copy .ran B)) (pending B))) (_then_ (rw h at clears) (settled B)));
+      ran = rw (compact-parts N B o n es) (_then_ (begun B) (_then_ (rw e at (copy .ran B)) (_then_ (pending B) (_then_ (rw h at clears) (settled B)))));
       counted = rw e at (copy .counted);
     }

@@ -8,7 +8,7 @@ ghost use lib.ListN.{length};
 ghost use Rattle.page.specs.Pages.{Sized};
 ghost use Rattle.compact.specs.Compaction.{firstSlot, Apart, Copied, Compaction};
 
-// What is left of the budget, and how many slots the old segment had to be copied.
+// What is left of the budget, and how many live slots the old segment has, copied or not for want of budget.
 pub struct Compacted {
     pub left: u64,
     pub copied: usize,

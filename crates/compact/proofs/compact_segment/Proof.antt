@@ -31,10 +31,14 @@ same-length c = search needs
 
 returns : tie.Need-returns
 returns c =
-    let k = c .before .before .before .before .before .before .before in
-    let a = c .before .before .before .before .before .before .before .before .before .before .before .before .before .before .before .before .before .before .before .before .before .before in
-    compaction-done (a .args .segments) (a .args .slots) (a .args .old .0) (a .args .number .0) (k .index-of .result) (a .args .budget) (a .pre .0) (a .pre .1) (k .index-of .ensures .0)
-    (c .before .before .before .before .before .before .before .before .before .before .before .before .before .before .before .before .before .before .before .begin-compaction .ensures) (c .before .before .before .before .before .before .before .before .before .before .before .before .before .before .before .copy-live .ensures) (c .before .before .before .before .before .before .before .before .before .before .before .finish-copy .ensures) (c .before .before .before .before .before .before .erase-segment .ensures) (c .before .before .settle .ensures)
+    let last = c .before .before in
+    let clears = last .before .before .before .before in
+    let pending = clears .before .before .before .before .before in
+    let copied = pending .before .before .before .before in
+    let begun = copied .before .before .before .before in
+    let a = begun .before .before .before in
+    compaction-done (a .args .segments) (a .args .slots) (a .args .old .0) (a .args .number .0) (clears .before .index-of .result) (a .args .budget) (a .pre .0) (a .pre .1)
+    (clears .before .index-of .ensures .0) (begun .begin-compaction .ensures) (copied .copy-live .ensures) (pending .finish-copy .ensures) (clears .erase-segment .ensures) (last .settle .ensures)
 
 pub compact-segment-spec : {M : Type 1} → statement M
 compact-segment-spec =

@@ -1,10 +1,9 @@
 -- `compact::copy_live` writes the live slots of the old segment to the new one. The invariant: whatever finishes the rest of the copying finishes the whole, and
 -- the old segment's pages are as they were. Assumes nothing.
 use Prim.Native.Nat.{_+_, _-_, _*_}
-use mathlib.Core.Path.{_≡_, sym, refl, _∙_}
 use native.Mathlib.Omega.{arith}
 use denote.Ref.{now}
-use lib.ListN.{length, length-take}
+use lib.ListN.{length-take}
 use Rattle.compact.proofs.Laws.{Copying, copying-start, copying-skip, copying-turn, copying-end, live-page, slots-inside}
 use borrow.Author.Needs.{needs}
 use Rattle.compact.proofs.copy_live.Statement.{statement}
@@ -33,14 +32,17 @@ mul-end c = search needs
 
 add-end : tie.Need-add-end Inv-loop μ-loop
 add-end c =
-    let a = c .before .before .before .before .before in
-    record { fits = omega (arith, slots-inside (a .args .segments) (a .args .slots) (c .before .before .index-of2 .result) (c .before .before .index-of2 .ensures .1)) }
+    let target = c .before .before in
+    let a = target .before .before .before .args in
+    record { fits = omega (arith, slots-inside (a .segments) (a .slots) (target .index-of2 .result) (target .index-of2 .ensures .1)) }
 
 loop-holds : tie.Need-loop-holds Inv-loop μ-loop
 loop-holds c =
-    let a = c .before .before .before .before .before in
+    let target = c .before .before in
+    let source = target .before in
+    let a = source .before .before in
     copying-start (a .args .segments) (a .args .slots) _ _ (a .args .old .0) (a .args .number .0) (a .args .budget) (now (a .args .image)) (a .pre .0)
-    (c .before .before .before .index-of .ensures .0) (c .before .before .index-of2 .ensures .0) (a .pre .1)
+    (source .index-of .ensures .0) (target .index-of2 .ensures .0) (a .pre .1)
 
 mul-at : tie.Need-mul-at Inv-loop μ-loop
 mul-at c = search needs
@@ -80,14 +82,19 @@ loop-less c = search needs
 
 loop-again : tie.Need-loop-again Inv-loop μ-loop
 loop-again c =
-    let k = c .before .before .before .before .before .before .before in
-    copying-skip _ _ _ _ _ _ _ _ _ _ (k .before .before .slots-place .result + k .loop .slot * 256) (k .loop .inv) (c .before .before .before .before .before .before .loop-test .taken)
-    (c .before .before .before .page-of .result) (omega (arith, k .before .before .slots-place .ensures)) (c .before .before .before .page-of .ensures)
-    (c .before .slot-kind .result) (c .before .slot-kind .ensures) (c .match .keys2)
+    let seen = c .before in
+    let read = seen .before .before in
+    let test = read .before .before .before in
+    let k = test .before in
+    let from = k .before .before in
+    copying-skip _ _ _ _ _ _ _ _ _ _ (from .slots-place .result + k .loop .slot * 256) (k .loop .inv) (test .loop-test .taken)
+    (read .page-of .result) (omega (arith, from .slots-place .ensures)) (read .page-of .ensures) (seen .slot-kind .result) (seen .slot-kind .ensures) (c .match .keys2)
 
 add-stop : tie.Need-add-stop Inv-loop μ-loop
 add-stop c =
-    let v = live-page (c .before .before .before .before .before .page-of .result) (c .before .kind .given .0 .0) (c .before .kind .given .0 .1 .0) (c .before .before .before .slot-kind .ensures) (c .before .kind .given .1) in
+    let told = c .before in
+    let seen = told .before .before in
+    let v = live-page (seen .before .before .page-of .result) (told .kind .given .0 .0) (told .kind .given .0 .1 .0) (seen .slot-kind .ensures) (told .kind .given .1) in
     record { fits = omega (arith, v .short) }
 
 mul-write-slot : tie.Need-mul-write-slot Inv-loop μ-loop
@@ -110,12 +117,16 @@ part-write-slot-start-2 c = search needs
 
 part-write-slot-end-2 : tie.Need-part-write-slot-end-2 Inv-loop μ-loop
 part-write-slot-end-2 c =
-    let v = live-page (c .before .before .before .before .before .before .before .page-of .result) (c .before .before .before .kind .given .0 .0) (c .before .before .before .kind .given .0 .1 .0) (c .before .before .before .before .before .slot-kind .ensures) (c .before .before .before .kind .given .1) in
+    let told = c .before .before .before in
+    let seen = told .before .before in
+    let v = live-page (seen .before .before .page-of .result) (told .kind .given .0 .0) (told .kind .given .0 .1 .0) (seen .slot-kind .ensures) (told .kind .given .1) in
     omega (arith, v .short)
 
 write-slot-requires : tie.Need-write-slot-requires Inv-loop μ-loop
 write-slot-requires c κs =
-    let v = live-page (c .before .before .before .before .before .before .before .before .page-of .result) (c .before .before .before .before .kind .given .0 .0) (c .before .before .before .before .kind .given .0 .1 .0) (c .before .before .before .before .before .before .slot-kind .ensures) (c .before .before .before .before .kind .given .1) in
+    let told = c .before .before .before .before in
+    let seen = told .before .before in
+    let v = live-page (seen .before .before .page-of .result) (told .kind .given .0 .0) (told .kind .given .0 .1 .0) (seen .slot-kind .ensures) (told .kind .given .1) in
     (search needs, simp length-take (omega (arith, v .short)))
 
 add-copied : tie.Need-add-copied Inv-loop μ-loop
@@ -126,19 +137,27 @@ loop-less-2 c = search needs
 
 loop-again-2 : tie.Need-loop-again-2 Inv-loop μ-loop
 loop-again-2 c =
-    let k = c .before .before .before .before .before .before .before .before .before .before .before .before .before .before .before in
-    copying-turn _ _ _ _ _ _ _ _ _ _ (k .before .before .slots-place .result + k .loop .slot * 256) (k .loop .inv) (c .before .before .before .before .before .before .before .before .before .before .before .before .before .before .loop-test .taken)
-    (c .before .before .before .before .before .before .before .before .before .before .before .page-of .result) (omega (arith, k .before .before .slots-place .ensures)) (c .before .before .before .before .before .before .before .before .before .before .before .page-of .ensures)
-    (c .before .before .before .before .before .before .before .before .before .slot-kind .result) (c .before .before .before .before .before .before .before .kind .given .0 .0) (c .before .before .before .before .before .before .before .kind .given .0 .1 .0) _ _ _
-    (c .before .before .before .before .before .before .before .before .before .slot-kind .ensures) (c .before .before .before .before .before .before .before .kind .given .1) (k .before .slots-place2 .ensures) (c .before .before .write-slot .ensures)
+    let wrote = c .before .before in
+    let told = wrote .before .before .before .before .before in
+    let seen = told .before .before in
+    let read = seen .before .before in
+    let test = read .before .before .before in
+    let k = test .before in
+    let from = k .before .before in
+    copying-turn _ _ _ _ _ _ _ _ _ _ (from .slots-place .result + k .loop .slot * 256) (k .loop .inv) (test .loop-test .taken)
+    (read .page-of .result) (omega (arith, from .slots-place .ensures)) (read .page-of .ensures) (seen .slot-kind .result) (told .kind .given .0 .0) (told .kind .given .0 .1 .0) _ _ _
+    (seen .slot-kind .ensures) (told .kind .given .1) (k .before .slots-place2 .ensures) (wrote .write-slot .ensures)
 
 same-length : tie.Need-same-length Inv-loop μ-loop
 same-length c = search needs
 
 returns : tie.Need-returns Inv-loop μ-loop
 returns c =
-    let a = c .before .before .before .before .before .before .before .args in
-    copying-end (a .segments) (a .slots) _ _ (a .old .0) (a .number .0) (a .budget) (c .before .loop .inv) (c .loop-test .left) (c .before .before .before .before .before .index-of .ensures .0) (c .before .before .before .before .index-of2 .ensures .0)
+    let k = c .before in
+    let target = k .before .before .before in
+    let source = target .before in
+    let a = source .before .before .args in
+    copying-end (a .segments) (a .slots) _ _ (a .old .0) (a .number .0) (a .budget) (k .loop .inv) (c .loop-test .left) (source .index-of .ensures .0) (target .index-of2 .ensures .0)
 
 pub copy-live-spec : {M : Type 1} → statement M
 copy-live-spec =

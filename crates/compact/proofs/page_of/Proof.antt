@@ -36,7 +36,8 @@ loop-again : tie.Need-loop-again Inv-loop μ-loop
 loop-again c =
     let k = c .before .before .loop in
     let a = c .before .before .before in
-    (ap (λ (l : List ℕ). set l (k .i) (getD (now (a .args .bytes)) (k .i) 0)) (k .inv .0) ∙ page-turn (replicate 256 255) (now (a .args .bytes)) (k .i) refl (a .pre) (c .before .loop-test .taken), omega arith, simp length-set (k .inv .2))
+    let s = now (a .args .bytes) in
+    (ap (λ (l : List ℕ). set l (k .i) (getD s (k .i) 0)) (k .inv .0) ∙ page-turn (replicate 256 255) s (k .i) refl (a .pre) (c .before .loop-test .taken), omega arith, simp length-set (k .inv .2))
 
 returns : tie.Need-returns Inv-loop μ-loop
 returns c =

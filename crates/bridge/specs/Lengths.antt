@@ -1,0 +1,265 @@
+-- How long a step list can be: so short that a count of steps fits the packed answers of the library's exports with room to spare.
+use Prim.Native.Nat.{ℕ, zero, suc, _+_, _-_, _*_, _%_, _≤_, _<_}
+use mathlib.Core.Path.{_≡_, refl, sym, ap, ap₂, _∙_, subst}
+use mathlib.Core.Bool.{Bool, true, false, cond, _||_}
+use mathlib.Core.List.{List, [], _∷_, _++_, map, flatMap}
+use native.Mathlib.Omega.{arith}
+use native.Mathlib.Nat.{mul-le-mul-right, mul-le-mul-left, mul-le-mul, mod-lt}
+use native.Mathlib.Decide.{decLt}
+use lib.ListN.{length, getD, take, drop, replicate, length-append, length-take, length-drop, length-replicate, List·getD-eq-default}
+use lib.Dec.{ltb, eqb}
+use borrow.Author.Tests.{eqb-true}
+use Rattle.model.specs.Chip.{Image, Page, Step, program, erase, mostSegments, mostSlots, rightSize}
+use Rattle.model.specs.Header.{headerPage, headerStatus, headerNumber, headerInUse, allBlank}
+use Rattle.model.specs.Slot.{Slot, empty, torn, dead, wrong, live, slotPage, slotOf, mostContents, Entry, entryOf, holding}
+use Rattle.model.specs.State.{Segment, blank, invalid, inUse, isInUse, isInvalid, slotsIn, segmentOf, segmentsOf, nextNumber, nextIndex, usedCount, firstNumber, slotsFrom, View, viewOf, entries, entriesIn, holds, lastSlot, Place, placeOf, older, Exception, caseA, caseB, caseC, caseD, State, clean, unfinished, damaged, stateOf}
+use Rattle.model.specs.Steps.{topRow, topNumber, firstEmpty, programs, programPart, onPage, headerAt, slotAt, writeSlot, markDead, markPlace, openSegment, copyEntries, copyOut, settle, compact, copied, Room, hasRoom, openNext, compactOldest, compactUntilRoom, roomFor, markOld, writeAtTop, putSteps, deleteSteps, eraseFirst, formatSteps, eraseUnlessBlank, mendSteps, recoverSteps}
+use Rattle.model.specs.Answers.{Request, format, put, delete, read, readOr, recover, stepsFor, workOf}
+use Rattle.model.specs.Laws.Lists.{map-length}
+use Rattle.model.specs.Laws.Chip.{size-facts}
+use Rattle.model.specs.Laws.SlotPage.{live-facts}
+use Rattle.model.specs.Laws.Segments.{partOf, part-size, segment-at, segments-length}
+use Rattle.bridge.specs.Accepted.{refused-none, accepted, put-passed}
+use Rattle.bridge.specs.Views.Slots.{copied-entries}
+
+-- ---- steps within a page
+
+page-length : (p : ℕ) (xs : List Step) → length (onPage p xs) ≡ length xs
+unfolding onPage
+page-length p [] = refl
+page-length p (program at v ∷ xs) = ap suc (page-length p xs)
+page-length p (erase i ∷ xs) = ap suc (page-length p xs)
+
+programs-length : (at : ℕ) (vs : List ℕ) → length (programs at vs) ≡ length vs
+unfolding programs
+programs-length at [] = refl
+programs-length at (v ∷ vs) = ap suc (programs-length (suc at) vs)
+
+part-length : (p : Page) (at k : ℕ) → length (programPart p at k) ≤ k
+unfolding programPart
+part-length p at k = omega (arith, programs-length at (take k (drop at p)), length-take k (drop at p))
+
+write-length : (b : ℕ) (c : List ℕ) → length (writeSlot b c) ≤ 5 + length c
+unfolding writeSlot
+write-length b c = let p = slotPage b c in
+    omega (arith, length-append (programPart p 1 3) (programPart p 8 (length c) ++ (program 0 0x3F ∷ [])), length-append (programPart p 8 (length c)) (program 0 0x3F ∷ []), part-length p 1 3, part-length p 8 (length c))
+
+-- ---- rows of at most B slots, with short contents
+
+abbrev Short : List Entry → Type 0
+Short [] = Unit {0}
+Short (e ∷ es) = (length (e .contents) ≤ 248) × Short es
+
+abbrev RowsOk : ℕ → List (List Slot) → Type 0
+RowsOk B [] = Unit {0}
+RowsOk B (s ∷ r) = Short (entries s) × (length s ≤ B) × RowsOk B r
+
+copy-length : (N B n j : ℕ) (es : List Entry) → Short es → length (copyEntries N B n j es) ≤ 253 * length es
+unfolding copyEntries
+copy-length N B n j [] s = omega arith
+copy-length N B n j (e ∷ es) s =
+    let xs = onPage (slotAt N B n j) (writeSlot (e .block) (e .contents)) in
+    omega (arith, length-append xs (copyEntries N B n (suc j) es), page-length (slotAt N B n j) (writeSlot (e .block) (e .contents)), write-length (e .block) (e .contents), s .0, copy-length N B n (suc j) es (s .1))
+
+open-length : (N B n : ℕ) → length (openSegment N B n) ≤ 17
+unfolding openSegment
+open-length N B n = let h = headerPage N B 0x3F n 255 in
+    omega (arith, page-length (headerAt N B n) (program 5 0x7F ∷ (programPart h 0 5 ++ (programPart h 6 2 ++ (programPart h 8 8 ++ (program 5 0x3F ∷ []))))),
+      length-append (programPart h 0 5) (programPart h 6 2 ++ (programPart h 8 8 ++ (program 5 0x3F ∷ []))), length-append (programPart h 6 2) (programPart h 8 8 ++ (program 5 0x3F ∷ [])),
+      length-append (programPart h 8 8) (program 5 0x3F ∷ []), part-length h 0 5, part-length h 6 2, part-length h 8 8)
+
+compact-length : (N B o n : ℕ) (es : List Entry) → Short es → length (compact N B o n es) ≤ 20 + 253 * length es
+unfolding compact copyOut settle
+compact-length N B o n es s =
+    let h = headerPage N B 0x9F n (o % N) in
+    let first = program 5 0xDF ∷ (programPart h 0 5 ++ (programPart h 6 2 ++ programPart h 16 1)) in
+    let last = programPart h 8 8 ++ (program 5 0x9F ∷ []) in
+    let a = onPage (headerAt N B n) first in
+    let b = copyEntries N B n 0 es in
+    let c = onPage (headerAt N B n) last in
+    let d = erase (o % N) ∷ onPage (headerAt N B n) (program 5 0x8F ∷ []) in
+    omega (arith, length-append (a ++ (b ++ c)) d, length-append a (b ++ c), length-append b c, page-length (headerAt N B n) first, page-length (headerAt N B n) last, page-length (headerAt N B n) (program 5 0x8F ∷ []),
+      length-append (programPart h 0 5) (programPart h 6 2 ++ programPart h 16 1), length-append (programPart h 6 2) (programPart h 16 1), length-append (programPart h 8 8) (program 5 0x9F ∷ []),
+      part-length h 0 5, part-length h 6 2, part-length h 16 1, part-length h 8 8, copy-length N B n 0 es s)
+
+entries-length : (ks : List Slot) → length (entries ks) ≤ length ks
+unfolding entries flatMap
+entries-length [] = omega arith
+entries-length (k ∷ ks) = let h = entries-length ks in omega (arith, length-append (entryOf k) (flatMap entryOf ks), one k)
+  where
+    one : (x : Slot) → length (entryOf x) ≤ 1
+    one empty = unfold entryOf in omega arith
+    one torn = unfold entryOf in omega arith
+    one dead = unfold entryOf in omega arith
+    one wrong = unfold entryOf in omega arith
+    one (live b c) = unfold entryOf in omega arith
+
+copied-length : (B : ℕ) (es : List Entry) → length es ≤ B → length (copied B es) ≤ B
+unfolding copied
+copied-length B es h = omega (arith, length-append (map holding es) (replicate (B - length es) empty), map-length holding es, length-replicate (B - length es) empty)
+
+-- ---- the rows of an image
+
+short-pages : (ps : List Page) → Short (entries (map slotOf ps))
+unfolding entries flatMap mostContents
+short-pages [] = tt
+short-pages (p ∷ ps) = go (slotOf p) refl (short-pages ps)
+  where
+    go : (k : Slot) → slotOf p ≡ k → Short (flatMap entryOf (map slotOf ps)) → Short (entryOf k ++ flatMap entryOf (map slotOf ps))
+    go empty e r = unfold entryOf in r
+    go torn e r = unfold entryOf in r
+    go dead e r = unfold entryOf in r
+    go wrong e r = unfold entryOf in r
+    go (live b c) e r = unfold entryOf in (live-facts p b c e .short, r)
+
+segment-row : (N B i : ℕ) (ps : List Page) → length ps ≡ B + 1 → Short (entries (slotsIn (segmentOf N B i ps))) × (length (slotsIn (segmentOf N B i ps)) ≤ B)
+unfolding segmentOf
+segment-row N B i ps h = go (headerInUse N B i (getD ps 0 [])) (allBlank ps)
+  where
+    used : Segment
+    used = inUse (headerStatus (getD ps 0 [])) (headerNumber (getD ps 0 [])) (map slotOf (drop 1 ps))
+    go : (t u : Bool) → Short (entries (slotsIn (cond t used (cond u blank invalid)))) × (length (slotsIn (cond t used (cond u blank invalid))) ≤ B)
+    go true u = unfold slotsIn in (short-pages (drop 1 ps), omega (arith, map-length slotOf (drop 1 ps), length-drop 1 ps))
+    go false true = unfold slotsIn entries flatMap in (tt, omega arith)
+    go false false = unfold slotsIn entries flatMap in (tt, omega arith)
+
+image-row : (N B i : ℕ) (s : Image) → Short (entries (slotsIn (getD (segmentsOf N B s) i blank))) × (length (slotsIn (getD (segmentsOf N B s) i blank)) ≤ B)
+unfolding slotsIn entries flatMap
+image-row N B i s = elim (decLt i N)
+  [ yes h ↦ rw (segment-at N B i s h) (segment-row N B i (partOf N B i s) (part-size N B i s h))
+  | no h ↦ rw (List·getD-eq-default (segmentsOf N B s) blank (beyond h)) (tt, omega arith) ]
+  where
+    beyond : ¬ (i < N) → length (segmentsOf N B s) ≤ i
+    beyond h = omega (arith, segments-length N B s)
+
+image-rows : (N B : ℕ) (s : Image) (u n : ℕ) → RowsOk B (slotsFrom N (segmentsOf N B s) u n)
+unfolding slotsFrom
+image-rows N B s zero n = tt
+image-rows N B s (suc u) n = let r = image-row N B (n % N) s in (r .0, r .1, image-rows N B s u (suc n))
+
+-- ---- making room
+
+rows-added : (B : ℕ) (l : List (List Slot)) (x : List Slot) → RowsOk B l → Short (entries x) → length x ≤ B → RowsOk B (l ++ (x ∷ []))
+rows-added B [] x r s h = (s, h, tt)
+rows-added B (y ∷ l) x r s h = (r .0, r .1, rows-added B l x (r .2) s h)
+
+rows-rest : (B : ℕ) (l : List (List Slot)) → RowsOk B l → RowsOk B (drop 1 l)
+rows-rest B [] r = tt
+rows-rest B (y ∷ l) r = r .2
+
+oldest-row : (B : ℕ) (l : List (List Slot)) → RowsOk B l → Short (entries (getD l 0 [])) × (length (getD l 0 []) ≤ B)
+oldest-row B [] r = unfold entries flatMap in (tt, omega arith)
+oldest-row B (y ∷ l) r = (r .0, r .1)
+
+-- one compaction
+abbrev most : ℕ → ℕ
+most B = 20 + 253 * B
+
+one-length : (N B : ℕ) (v : View) → RowsOk B (v .slots) → (length (compactOldest N B v .steps) ≤ most B) × RowsOk B (compactOldest N B v .result .slots)
+unfolding compactOldest
+one-length N B v r =
+    let o = oldest-row B (v .slots) r in
+    let es = entries (getD (v .slots) 0 []) in
+    let e = entries-length (getD (v .slots) 0 []) in
+    let o1 = o .1 in
+    (omega (arith, compact-length N B (v .first) (suc (topNumber v)) es (o .0)), rows-added B (drop 1 (v .slots)) (copied B es) (rows-rest B (v .slots) r) (rw (copied-entries B es) (o .0)) (copied-length B es (omega arith)))
+
+until-length : (N B k : ℕ) (v : View) → RowsOk B (v .slots) → length (compactUntilRoom N B k v .steps) ≤ k * most B
+unfolding compactUntilRoom
+until-length N B zero v r = omega arith
+until-length N B (suc k) v r = go (hasRoom v) (until-length N B k (compactOldest N B v .result) (one-length N B v r .1))
+  where
+    w : View
+    w = compactOldest N B v .result
+    steps : Bool → List Step
+    steps t = (cond {A = Room} t (record { steps = []; result = v }) (record { steps = compactOldest N B v .steps ++ compactUntilRoom N B k w .steps; result = compactUntilRoom N B k w .result })) .steps
+    go : (t : Bool) → length (compactUntilRoom N B k w .steps) ≤ k * most B → length (steps t) ≤ suc k * most B
+    go true h = omega arith
+    go false h = omega (arith, length-append (compactOldest N B v .steps) (compactUntilRoom N B k w .steps), one-length N B v r .0)
+
+room-length : (N B : ℕ) (v : View) → RowsOk B (v .slots) → length (roomFor N B v .steps) ≤ 17 + (N - 1) * most B
+unfolding roomFor openNext
+room-length N B v r = go (hasRoom v) (ltb (length (v .slots)) (N - 1))
+  where
+    steps : Bool → Bool → List Step
+    steps t u = (cond {A = Room} t (record { steps = []; result = v }) (cond u (openNext N B v) (compactUntilRoom N B (N - 1) v))) .steps
+    go : (t u : Bool) → length (steps t u) ≤ 17 + (N - 1) * most B
+    go true u = omega arith
+    go false true = omega (arith, open-length N B (suc (topNumber v)))
+    go false false = omega (arith, until-length N B (N - 1) v r)
+
+-- ---- the requests
+
+mark-length : (N B : ℕ) (p : Place) → length (markPlace N B p) ≡ 1
+unfolding markPlace markDead
+mark-length N B p = page-length (slotAt N B (p .number) (p .slot)) (program 0 0xDF ∷ [])
+
+put-length : (N B b : ℕ) (c : List ℕ) (v : View) → RowsOk B (v .slots) → length c ≤ 248 → length (putSteps N B b c v) ≤ 271 + (N - 1) * most B
+unfolding putSteps writeAtTop markOld
+put-length N B b c v r h =
+    let w = roomFor N B v .result in
+    let place = slotAt N B (topNumber w) (firstEmpty (topRow (w .slots))) in
+    let write = onPage place (writeSlot b c) in
+    let old = cond (holds b (entriesIn w)) (markPlace N B (placeOf b w)) [] in
+    omega (arith, length-append (roomFor N B v .steps) (write ++ old), length-append write old, page-length place (writeSlot b c), write-length b c, room-length N B v r, last (holds b (entriesIn w)) (placeOf b w))
+  where
+    last : (t : Bool) (p : Place) → length (cond t (markPlace N B p) []) ≤ 1
+    last true p = omega (arith, mark-length N B p)
+    last false p = omega arith
+
+erase-length : (k : ℕ) → length (eraseFirst k) ≡ k
+unfolding eraseFirst
+erase-length zero = refl
+erase-length (suc k) = length-append (eraseFirst k) (erase k ∷ []) ∙ omega (arith, erase-length k)
+
+mend-length : (N B : ℕ) (l : List Segment) (x : Exception) → length (mendSteps N B l x) ≤ 2
+unfolding mendSteps settle eraseUnlessBlank
+mend-length N B l caseA = omega arith
+mend-length N B l caseB =
+    let i = nextIndex N l in
+    let x = getD l i blank in
+    omega (arith, length-append (cond (isInUse x || isInvalid x) (erase i ∷ []) []) (onPage (headerAt N B (nextNumber l - 1)) (program 5 0x8F ∷ [])), page-length (headerAt N B (nextNumber l - 1)) (program 5 0x8F ∷ []),
+      first (isInUse x || isInvalid x) i)
+  where
+    first : (t : Bool) (i : ℕ) → length (cond t (erase i ∷ []) []) ≤ 1
+    first true i = omega arith
+    first false i = omega arith
+mend-length N B l caseC = omega (arith, mark-length N B (record { number = nextNumber l - 1; slot = lastSlot N l }))
+mend-length N B l caseD = omega (arith, mark-length N B (older N l))
+
+recover-length : (N B : ℕ) (l : List Segment) (st : State) → length (recoverSteps N B l st) ≤ 2
+unfolding recoverSteps
+recover-length N B l clean = omega arith
+recover-length N B l (unfinished x) = mend-length N B l x
+recover-length N B l damaged = omega arith
+
+-- every list of an accepted request on an image of a right size
+module _ (N B : ℕ) (s : Image) (z : rightSize N B s ≡ true) where
+  room-bound : (N - 1) * most B ≤ 63 * 64535
+  unfolding mostSegments mostSlots
+  room-bound =
+      let f = size-facts N B s z in
+      let n : N ≤ 64 = f .most in
+      let b : B ≤ 255 = f .mostB in
+      let x : N - 1 ≤ 63 = omega arith in
+      let y : most B ≤ 64535 = omega arith in
+      mul-le-mul x y
+
+  accepted-length : (r : Request) → workOf N B s r .code ≡ 0 → length (stepsFor N B (segmentsOf N B s) r) ≤ 4194304
+  unfolding stepsFor formatSteps deleteSteps mostSegments mostContents viewOf
+  accepted-length format e = let n : N ≤ 64 = size-facts N B s z .most in omega (arith, length-append (eraseFirst N) (openSegment N B 0), erase-length N, open-length N B 0)
+  accepted-length (put b c) e =
+      let l = segmentsOf N B s in
+      omega (arith, room-bound, put-length N B b c (viewOf N l) (image-rows N B s (usedCount l) (firstNumber l)) (put-passed N B s b c (accepted N B s (put b c) e .1) .short))
+  accepted-length (delete b) e = omega (arith, mark-length N B (placeOf b (viewOf N (segmentsOf N B s))))
+  accepted-length (read b) e = omega arith
+  accepted-length (readOr b f) e = omega arith
+  accepted-length recover e = omega (arith, recover-length N B (segmentsOf N B s) (stateOf N B (segmentsOf N B s)))
+
+-- every request's list has at most 4,194,304 steps
+pub few-steps : (N B : ℕ) (s : Image) (r : Request) → rightSize N B s ≡ true → length (workOf N B s r .steps) ≤ 4194304
+few-steps N B s r z = go (eqb (workOf N B s r .code) 0) refl
+  where
+    go : (t : Bool) → eqb (workOf N B s r .code) 0 ≡ t → length (workOf N B s r .steps) ≤ 4194304
+    go true e = let c = eqb-true (workOf N B s r .code) 0 e in rw (accepted N B s r c .0) (accepted-length N B s z r c)
+    go false e = rw (refused-none N B s r e) (omega arith)

@@ -1,0 +1,70 @@
+/* Qanbillox: a proved record store on NOR flash.
+ *
+ * Every function takes the whole image, the number of segments n (2 to 64) and of slots in each b (2 to 255).
+ * Any arguments get an answer from the table below; a refused request (1 to 8) changes no byte of the image.
+ * budget is the most flash steps to take: when it is spent the request stops as if the power had gone, and
+ * answers QBX_CUT. Recover before the next request then, as after any loss of power.
+ *
+ * No function allocates, keeps a pointer or has state of its own. Link with libqanbillox.a. */
+#ifndef QANBILLOX_H
+#define QANBILLOX_H
+
+#include <stddef.h>
+#include <stdint.h>
+
+#ifdef __cplusplus
+extern "C" {
+#endif
+
+/* The smallest number that applies is given. */
+enum qbx_answer {
+    QBX_DONE = 0,       /* none below */
+    QBX_SIZE = 1,       /* n, b or the image's length is wrong */
+    QBX_NUMBER = 2,     /* block number 0 or 65,535 */
+    QBX_LENGTH = 3,     /* contents over 248 bytes */
+    QBX_DAMAGED = 4,    /* the image is neither clean nor unfinished; only format helps */
+    QBX_UNFINISHED = 5, /* put, delete, read: recover first */
+    QBX_ABSENT = 6,     /* read or delete of a block that is not stored */
+    QBX_FULL = 7,       /* put of a new block while (n-1)*b-1 are stored */
+    QBX_WORN = 8,       /* put would give a segment a number of 100,000*n or more */
+    QBX_CUT = 9         /* the budget ended before the steps did */
+};
+
+#define QBX_PAGE 256u         /* bytes in a page */
+#define QBX_MOST_CONTENTS 248u /* bytes in a record at most */
+
+/* The bytes of an image of this geometry. */
+static inline size_t qbx_image_length(size_t n, size_t b) { return n * (b + 1) * QBX_PAGE; }
+
+/* The most records that it holds. */
+static inline size_t qbx_capacity(size_t n, size_t b) { return (n - 1) * b - 1; }
+
+/* Erase everything and begin anew. Answers QBX_DONE, QBX_SIZE or QBX_CUT; after QBX_CUT run it again. */
+uint64_t qbx_format(uint8_t *image, size_t image_length, size_t n, size_t b, uint64_t budget);
+
+/* Store contents under a block number (1 to 65,534), new or again. */
+uint64_t qbx_put(uint8_t *image, size_t image_length, size_t n, size_t b, uint16_t block,
+                 const uint8_t *contents, size_t contents_length, uint64_t budget);
+
+/* Forget a block. */
+uint64_t qbx_delete(uint8_t *image, size_t image_length, size_t n, size_t b, uint16_t block, uint64_t budget);
+
+/* Finish or undo what a loss of power interrupted. A clean image takes no step. */
+uint64_t qbx_recover(uint8_t *image, size_t image_length, size_t n, size_t b, uint64_t budget);
+
+/* Find a block's contents in the image. */
+uint64_t qbx_read(const uint8_t *image, size_t image_length, size_t n, size_t b, uint16_t block);
+
+/* What format, put, delete and recover give: the answer, and the flash steps done. */
+static inline enum qbx_answer qbx_answer_of(uint64_t result) { return (enum qbx_answer)(result & 0xFF); }
+static inline uint64_t qbx_steps_of(uint64_t result) { return result >> 8; }
+
+/* What read gives beside the answer: the contents' length and their offset in the image, both 0 if refused. */
+static inline size_t qbx_length_of(uint64_t result) { return (size_t)((result >> 8) & 0xFF); }
+static inline size_t qbx_offset_of(uint64_t result) { return (size_t)(result >> 16); }
+
+#ifdef __cplusplus
+}
+#endif
+
+#endif
