@@ -1,0 +1,4 @@
+#[test]
+fn x() {
+    assert!(qanbillox::Answer::Done.number() == 0);
+}
