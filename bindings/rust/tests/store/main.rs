@@ -1,4 +1,13 @@
-#[test]
-fn x() {
-    assert!(qanbillox::Answer::Done.number() == 0);
-}
+//! Document 01 tried on the reference implementation and, if it is linked, on the library.
+#![cfg_attr(not(qbx_lib), allow(dead_code))]
+
+mod cuts;
+mod damage;
+mod examples;
+mod harness;
+mod images;
+mod power_cuts;
+mod prng;
+mod reference;
+mod sequences;
+mod step_lists;
