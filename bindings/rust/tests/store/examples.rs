@@ -107,21 +107,20 @@ fn examples_5_and_6_three_puts_and_full() {
 #[test]
 fn examples_7_and_8_cuts() {
     let store = Store::new("examples 7 and 8");
-    // puts that are done, then the steps of the one that is cut, those of recovery, what stands
-    let cases: [(&[&[u8]], u64, u64, &[u8]); 5] = [
-        (&[b"a", b"b"], 5, 1, b"a"),
-        (&[b"a", b"b"], 6, 1, b"b"),
-        (&[b"a", b"b", b"c"], 23, 1, b"b"),
-        (&[b"a", b"b", b"c"], 24, 2, b"b"),
-        (&[b"a", b"b", b"c"], 25, 1, b"b"),
-    ];
-    for (puts, allowance, recovery, stands) in cases {
+    let puts = [b"a", b"b", b"c"];
+    // which put is cut, its steps, those of recovery, whose contents stand
+    for (last, allowance, recovery, stands) in [
+        (1, 5, 1, b"a"),
+        (1, 6, 1, b"b"),
+        (2, 23, 1, b"b"),
+        (2, 24, 2, b"b"),
+        (2, 25, 1, b"b"),
+    ] {
         let mut image = formatted(SMALLEST);
-        let (last, first) = puts.split_last().unwrap();
-        for contents in first {
-            store.done(&mut image, SMALLEST, &put_of(7, contents));
+        for contents in &puts[..last] {
+            store.done(&mut image, SMALLEST, &put_of(7, *contents));
         }
-        let cut = store.perform(&mut image, SMALLEST, &put_of(7, last), allowance);
+        let cut = store.perform(&mut image, SMALLEST, &put_of(7, puts[last]), allowance);
         assert_eq!(cut.code, CUT);
         assert_eq!(
             store.done(&mut image, SMALLEST, &Request::Recover),

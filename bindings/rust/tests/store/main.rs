@@ -6,6 +6,7 @@ mod damage;
 mod examples;
 mod harness;
 mod images;
+mod pages;
 mod power_cuts;
 mod prng;
 mod reference;

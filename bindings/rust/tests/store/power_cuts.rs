@@ -134,7 +134,7 @@ fn every_cut_on_the_smallest_chips() {
                 for request in &requests {
                     cut_everywhere(&store, &mut rng, g, &image, request, 256, 1);
                     let mut after = image.clone();
-                    reference_perform(&mut after, g, request);
+                    perform(&mut after, g, request, UNLIMITED);
                     if seen.insert(after.clone()) {
                         next.push(after);
                     }
@@ -143,10 +143,6 @@ fn every_cut_on_the_smallest_chips() {
             level = next;
         }
     }
-}
-
-fn reference_perform(image: &mut [u8], g: Geometry, request: &Request) {
-    perform(image, g, request, UNLIMITED);
 }
 
 /// Recovery cut three deep.
@@ -162,7 +158,7 @@ fn cuts_of_recoveries_of_recoveries() {
             contents: contents.to_vec(),
         };
         cut_everywhere(&store, &mut rng, g, &image, &request, 2, 3);
-        reference_perform(&mut image, g, &request);
+        perform(&mut image, g, &request, UNLIMITED);
     }
 }
 

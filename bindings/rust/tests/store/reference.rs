@@ -260,11 +260,11 @@ pub enum State {
 /// The state of an image of a right size, in one pass over its bytes.
 pub fn state_of(image: &[u8], g: Geometry) -> State {
     let mut headers = [None; 64];
-    let mut top = None;
-    for index in 0..g.n {
-        headers[index] = header(image, g, index);
-        if let Some(found) = headers[index] {
-            if top.is_none_or(|top: InUse| top.number < found.number) {
+    let mut top: Option<InUse> = None;
+    for (index, entry) in headers.iter_mut().enumerate().take(g.n) {
+        *entry = header(image, g, index);
+        if let Some(found) = *entry {
+            if top.is_none_or(|top| top.number < found.number) {
                 top = Some(found);
             }
         }

@@ -168,7 +168,7 @@ fn recovery_takes_what_each_cut_left() {
 }
 
 /// Each allowance leaves exactly the first steps of the list done.
-pub fn every_allowance(store: &Store, image: &[u8], g: Geometry, request: &Request) {
+fn every_allowance(store: &Store, image: &[u8], g: Geometry, request: &Request) {
     let (code, list) = steps_of(image, g, request);
     let mut expected = image.to_vec();
     for allowance in 0..=list.len() + 1 {
