@@ -7,9 +7,10 @@ use crate::reference::*;
 use std::io::Write;
 
 /// Every request on an image, each with some allowances.
-fn try_all(store: &Store, rng: &mut Rng, image: &[u8], g: Geometry) {
+pub fn try_all(store: &Store, rng: &mut Rng, image: &[u8], g: Geometry) {
+    let found = images::some_block(rng, g, image);
     let small = rng.between(1, 24) as u16;
-    let block = rng.pick(&[small, small, 1, 65_534, 0, 65_535]);
+    let block = rng.pick(&[found, found, found, small, small, 65_534, 0, 65_535]);
     let mut contents = images::contents(rng);
     if rng.once_in(20) {
         contents = rng.bytes(249);
@@ -29,7 +30,7 @@ fn try_all(store: &Store, rng: &mut Rng, image: &[u8], g: Geometry) {
         store.perform(&mut image.to_vec(), g, &request, allowance);
     }
     store.read(image, g, block);
-    store.read(image, g, small);
+    store.read(image, g, found);
 }
 
 /// How often each state came up.
@@ -264,12 +265,12 @@ fn the_end_of_a_chip() {
                 let State::Clean(view) = state_of(&image, g) else {
                     panic!("clean");
                 };
+                let found = images::some_block(&mut rng, g, &image);
+                let block = rng.pick(&[found, found, 30_000]);
                 let request = match rng.below(6) {
-                    0 => Request::Delete {
-                        block: rng.between(1, n * b) as u16,
-                    },
+                    0 => Request::Delete { block },
                     _ => Request::Put {
-                        block: rng.between(1, n * b) as u16,
+                        block,
                         contents: rng.bytes(1),
                     },
                 };

@@ -44,15 +44,19 @@ pub struct Shape {
     pub dead: usize,
 }
 
-/// A clean image of this shape. The blocks are 1 and up, in any order.
+/// A clean image of this shape, its blocks in any order.
 pub fn clean(rng: &mut Rng, g: Geometry, shape: Shape) -> Vec<u8> {
     let mut image = blank(g);
     let slots = (shape.used - 1) * g.b + shape.filled;
-    let mut blocks: Vec<u16> = (1..=slots as u16).collect();
-    if rng.once_in(4) {
-        // The largest numbers.
-        blocks = (1..=slots as u16).map(|i| 0xFFFF - i).collect();
-    }
+    let mut blocks: Vec<u16> = match rng.below(4) {
+        // the largest numbers
+        0 => (1..=slots as u16).map(|i| 0xFFFF - i).collect(),
+        // spread over all 65,534; the stride has no divisor in common with that
+        1 => (0..slots)
+            .map(|i| (1 + i * 40_503 % 65_534) as u16)
+            .collect(),
+        _ => (1..=slots as u16).collect(),
+    };
     rng.shuffle(&mut blocks);
     let must_die = if slots == (g.n - 1) * g.b {
         rng.below(slots)
@@ -125,6 +129,19 @@ pub fn shape(rng: &mut Rng, g: Geometry) -> Shape {
         filled,
         dead: rng.pick(&[0, 0, 1, 4, 8, 15, 16]),
     }
+}
+
+/// A block that the image seems to have, or a small number.
+pub fn some_block(rng: &mut Rng, g: Geometry, image: &[u8]) -> u16 {
+    if g.fits(image.len()) {
+        for _ in 0..8 {
+            let at = g.page(rng.below(g.n), rng.between(1, g.b));
+            if image[at] == LIVE {
+                return u16::from_le_bytes([image[at + 2], image[at + 3]]);
+            }
+        }
+    }
+    rng.between(1, 24) as u16
 }
 
 /// The header pages' statuses and their neighbours by one bit.

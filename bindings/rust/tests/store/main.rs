@@ -4,6 +4,7 @@
 mod cuts;
 mod damage;
 mod examples;
+mod geometries;
 mod harness;
 mod images;
 mod pages;

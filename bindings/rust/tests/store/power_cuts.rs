@@ -51,9 +51,12 @@ fn check_cut(
     // Until recovery the other requests are refused, unless nothing is left to recover.
     let block = rng.pick(&[1, 2, 3]);
     let code = store.read(image, g, block).code;
+    let contents = vec![0x42];
+    let request = rng.pick(&[Request::Delete { block }, Request::Put { block, contents }]);
+    let reply = store.perform(&mut image.to_vec(), g, &request, UNLIMITED);
     match table_of(image, g) {
         Some(table) => assert_eq!(code == DONE, table.contains_key(&block)),
-        None => assert_eq!(code, UNFINISHED),
+        None => assert_eq!((code, reply.code), (UNFINISHED, UNFINISHED)),
     }
 }
 
@@ -185,7 +188,7 @@ fn cuts_on_many_chips() {
             shape.dead = rng.pick(&[0, 1, 8]);
             let image = images::clean(&mut rng, g, shape);
             let request = Request::Put {
-                block: rng.between(1, n * b) as u16,
+                block: images::some_block(&mut rng, g, &image),
                 contents: rng.bytes(2),
             };
             cut_everywhere(&store, &mut rng, g, &image, &request, 2, 1);

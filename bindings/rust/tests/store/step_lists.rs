@@ -205,7 +205,7 @@ fn every_allowance_of_every_request() {
             if round % 2 == 1 {
                 images::disturb(&mut rng, g, &mut image);
             }
-            let stored = rng.between(1, n * b) as u16;
+            let stored = images::some_block(&mut rng, g, &image);
             let requests = [
                 Request::Format,
                 Request::Put {
