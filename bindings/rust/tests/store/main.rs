@@ -1,6 +1,7 @@
 //! Document 01 tried on the reference implementation and, if it is linked, on the library.
 #![cfg_attr(not(qbx_lib), allow(dead_code))]
 
+mod conditions;
 mod cuts;
 mod damage;
 mod examples;
