@@ -155,6 +155,23 @@ fn change_slot(page: &mut [u8], change: usize, stored: u16) {
 }
 const SLOT_CHANGES: usize = 6;
 
+/// Every change of one slot, and of two.
+fn with_slots_changed(base: &[u8], slots: &[usize], stored: u16) -> Vec<Vec<u8>> {
+    let mut images = Vec::new();
+    for (i, &first) in slots.iter().enumerate() {
+        for &second in &slots[i..] {
+            for pair in 0..SLOT_CHANGES * SLOT_CHANGES {
+                let (one, two) = (pair / SLOT_CHANGES, pair % SLOT_CHANGES);
+                let mut image = base.to_vec();
+                change_slot(&mut image[first..first + PAGE], one, stored);
+                change_slot(&mut image[second..second + PAGE], two, stored);
+                images.push(image);
+            }
+        }
+    }
+    images
+}
+
 /// Changes of headers and whole segments.
 fn change_segments(image: &mut [u8], g: Geometry, top: u32, change: usize) {
     let after = g.page(g.index(top + 1), 0);
@@ -175,7 +192,7 @@ fn change_segments(image: &mut [u8], g: Geometry, top: u32, change: usize) {
 }
 const SEGMENT_CHANGES: usize = 9;
 
-/// Every change of one slot, or of two, with every change of the segments.
+/// Every change of slots with every change of segments.
 #[test]
 fn one_condition_after_the_other() {
     let store = Store::new("one condition after the other");
@@ -183,35 +200,28 @@ fn one_condition_after_the_other() {
     let mut seen = BTreeMap::new();
     for (n, b) in [(2, 2), (2, 3), (3, 2), (4, 2)] {
         let g = Geometry { n, b };
-        for (used, filled) in (1..n).flat_map(|used| (0..=b).map(move |filled| (used, filled))) {
+        for fill in 0..(n - 1) * (b + 1) {
             let shape = Shape {
                 oldest: rng.below(3 * n) as u32,
-                used,
-                filled,
+                used: 1 + fill / (b + 1),
+                filled: fill % (b + 1),
                 dead: 0,
             };
-            let top = shape.oldest + used as u32 - 1;
             let base = images::clean(&mut rng, g, shape);
-            let slots: Vec<usize> = (shape.oldest..=top)
-                .flat_map(|number| (1..=b).map(move |slot| g.page(g.index(number), slot)))
-                .collect();
             let stored = images::some_block(&mut rng, g, &base);
-            for segments in 0..SEGMENT_CHANGES {
-                for (i, &first) in slots.iter().enumerate() {
-                    for (second, one, two) in slots[i..]
-                        .iter()
-                        .flat_map(|&s| (0..SLOT_CHANGES).map(move |one| (s, one)))
-                        .flat_map(|(s, one)| (0..SLOT_CHANGES).map(move |two| (s, one, two)))
-                    {
-                        let mut image = base.clone();
-                        change_slot(&mut image[first..first + PAGE], one, stored);
-                        change_slot(&mut image[second..second + PAGE], two, stored);
-                        change_segments(&mut image, g, top, segments);
-                        let state = by_the_letter(&image, g);
-                        assert_eq!(by_the_reference(&image, g), state);
-                        *seen.entry(state).or_insert(0) += 1;
-                        try_all(&store, &mut rng, &image, g);
-                    }
+            let top = shape.oldest + shape.used as u32 - 1;
+            let mut slots = Vec::new();
+            for number in shape.oldest..=top {
+                slots.extend((1..=b).map(|slot| g.page(g.index(number), slot)));
+            }
+            for changed in with_slots_changed(&base, &slots, stored) {
+                for change in 0..SEGMENT_CHANGES {
+                    let mut image = changed.clone();
+                    change_segments(&mut image, g, top, change);
+                    let state = by_the_letter(&image, g);
+                    assert_eq!(by_the_reference(&image, g), state);
+                    *seen.entry(state).or_insert(0) += 1;
+                    try_all(&store, &mut rng, &image, g);
                 }
             }
         }

@@ -236,8 +236,7 @@ fn a_long_life_with_cuts() {
                 }
             };
             let (code, list) = steps_of(&image, g, &request);
-            let cut = list.is_empty() || rng.once_in(3);
-            let allowance = if cut && !list.is_empty() {
+            let allowance = if !list.is_empty() && rng.once_in(3) {
                 rng.below(list.len())
             } else {
                 list.len()

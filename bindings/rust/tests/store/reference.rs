@@ -346,10 +346,9 @@ pub fn state_of(image: &[u8], g: Geometry) -> State {
                     if seen[word] & bit == 0 {
                         seen[word] |= bit;
                         view.live += 1;
-                    } else if let (true, Some(older)) =
-                        (is_top, find(image, g, oldest, used, block))
-                    {
-                        last = Some(Unfinished::D { older });
+                    } else if is_top {
+                        let older = find(image, g, oldest, used, block);
+                        last = older.map(|older| Unfinished::D { older });
                     } else {
                         return State::Damaged;
                     }
