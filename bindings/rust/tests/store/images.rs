@@ -51,10 +51,8 @@ pub fn clean(rng: &mut Rng, g: Geometry, shape: Shape) -> Vec<u8> {
     let mut blocks: Vec<u16> = match rng.below(4) {
         // the largest numbers
         0 => (1..=slots as u16).map(|i| 0xFFFF - i).collect(),
-        // spread over all 65,534; the stride has no divisor in common with that
-        1 => (0..slots)
-            .map(|i| (1 + i * 40_503 % 65_534) as u16)
-            .collect(),
+        // numbers that differ in their highest bits
+        1 => (1..=slots as u16).map(u16::reverse_bits).collect(),
         _ => (1..=slots as u16).collect(),
     };
     rng.shuffle(&mut blocks);
