@@ -1,7 +1,7 @@
 -- What a search for a block finds: in rows of slots, and in the segments of an image with given numbers, whatever their headers say. For an image with a view
 -- the rows are the view's.
 use Prim.Native.Nat.{ℕ, zero, suc, _+_, _*_, _/_, _%_, _<_}
-use mathlib.Core.Path.{_≡_, refl, sym, ap, ap₂, _∙_}
+use mathlib.Core.Path.{_≡_, refl, sym, ap₂, _∙_}
 use mathlib.Core.Bool.{Bool, cond, _&&_}
 use mathlib.Core.List.{List, [], _∷_, map, flatten}
 use native.Mathlib.Nat.{mod-lt}

@@ -72,7 +72,11 @@ pub fn find(
                 continue;
             }
             let kind = page::slot::slot_kind(page);
-            let SlotKind::Live { length, block: held } = kind else {
+            let SlotKind::Live {
+                length,
+                block: held,
+            } = kind
+            else {
                 continue;
             };
             if held.0 == block.0 {
