@@ -21,9 +21,9 @@ use Rattle.model.specs.Laws.SlotPage.{Valid}
 use Rattle.model.specs.Laws.HeaderPage.{in-use-facts}
 use Rattle.model.specs.Laws.Segments.{partOf, segment-at}
 use Rattle.model.specs.Laws.Effects.{in-use-parts}
+use Rattle.model.specs.Laws.Tables.{holds-append}
 use Rattle.bridge.specs.Predicted.{written, marked, afterPut, afterDelete, CleanView, Fits, Rows}
 use Rattle.bridge.specs.Interface.{ViewLaws}
-use Rattle.bridge.specs.Views.Tables.{holds-append}
 use Rattle.bridge.specs.Views.Slots.{slots-counted, sound}
 use Rattle.bridge.specs.Views.Places.{Gap, fill, fill-length, FirstLive, TopGap, written-place, written-entries}
 use Rattle.bridge.specs.Views.Shape.{clean-shape, shape-gap, first-live-in, opened-top}

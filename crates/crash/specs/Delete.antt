@@ -12,7 +12,7 @@ use Rattle.model.specs.Steps.{markPlace, deleteSteps}
 use Rattle.model.specs.Table.{Table, without, Agree, tableOf}
 use Rattle.model.specs.Answers.{Request, delete, firstOf, refusals, stepsFor, workOn, workOf}
 use Rattle.model.specs.Histories.{shown}
-use Rattle.crash.specs.TableLaws.{agree-of, agree-trans}
+use Rattle.model.specs.Laws.Tables.{agree-of, agree-trans}
 use Rattle.crash.specs.Sound.{Sound, Clean, finished, Accepted, CutOf, DoneWith, LeftWith}
 use Rattle.crash.specs.Requests.{code-of, shown-clean, sound-clean}
 use Rattle.crash.specs.RecoverMarks.{Marks, live-place, live-marks, mark-whole}

@@ -6,8 +6,6 @@ pub mod ReadingRuns
 
 -- the invariant that is closed under power cuts, and the induction over histories
 pub mod Sound
-pub mod TableLaws
-pub mod ByteImage
 pub mod Requests
 pub mod Skeleton
 

@@ -13,10 +13,10 @@ use Rattle.model.specs.Answers.{put, recover, workOf}
 use Rattle.model.specs.Histories.{shown}
 use Rattle.model.specs.Laws.Chip.{run-size, cut-append}
 use Rattle.model.specs.Laws.SlotPage.{Valid}
+use Rattle.model.specs.Laws.Tables.{agree-holds, agree-store, agree-trans}
 use Rattle.bridge.specs.Predicted.{Fits}
 use Rattle.bridge.specs.Views.Room.{room-made}
 use Rattle.crash.specs.Sound.{SoundAs, Sound, Clean, Accepted, CutOf, LeftWith}
-use Rattle.crash.specs.TableLaws.{agree-holds, agree-store, agree-trans}
 use Rattle.crash.specs.PutStates.{table-of}
 use Rattle.crash.specs.PutClean.{clean-facts, put-facts}
 use Rattle.crash.specs.WriteTop.{stored-left, live-left, write-cut, write-segments}

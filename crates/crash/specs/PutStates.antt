@@ -13,8 +13,8 @@ use Rattle.model.specs.Table.{Agree, tableOf}
 use Rattle.model.specs.Answers.{recover, firstOf, isDamaged, refusals, stepsFor, workOn, workOf}
 use Rattle.model.specs.Histories.{recovered, shown}
 use Rattle.model.specs.Laws.Exclusive.{exclusive}
+use Rattle.model.specs.Laws.Tables.{agree-of}
 use Rattle.crash.specs.Sound.{Sound, Clean}
-use Rattle.crash.specs.TableLaws.{agree-of}
 use Rattle.crash.specs.Requests.{shown-clean, sound-clean}
 
 -- ---- at most one test passes, so that the order in which they are asked does not matter

@@ -17,10 +17,10 @@ use Rattle.model.specs.Answers.{Request, format, put, delete, read, readOr, rec
 use Rattle.model.specs.Histories.{Reply, Seen, answered, Event, History}
 use Rattle.crash.specs.Machine.{malformed, codeOnTable, plainCode, plainBytes, plain, made, next, Promise, settled, interrupted, unknown, refused, OnTable, Holds, Moves, answers, answers-again, asks-recovery, refuses-malformed, not-begun, wholly-done, formats, format-cut, no-promise, PlainRuns}
 use Rattle.crash.specs.Demand2.{Demand2}
-use Rattle.crash.specs.TableLaws.{found, found-held, absent-free, lookup-without-same, lookup-without-other, lookup-store-same, lookup-store-other}
+use Rattle.model.specs.Laws.Tables.{lookup-held, found-held, absent-free, lookup-without-same, lookup-without-other, lookup-store-same, lookup-store-other}
 use Rattle.crash.specs.Reading.{codeSeen, cut-code, not-format, format-starts, read-exact, readOr-exact}
 
--- what is found of a block, by a promise
+-- what is lookup-held of a block, by a promise
 abbrev pub Shows : Promise → ℕ → Found → Type 0
 Shows (settled t) b z = lookup b t ≡ z
 Shows (interrupted t) b z = lookup b t ≡ z
@@ -163,11 +163,11 @@ plain-gives C w t (delete a) b c q h = absurd q
 plain-gives C w t (read a) b c q h =
     let code = ap (λ (v : Reply). v .code) h in
     let bytes = ap (λ (v : Reply). v .bytes) h in
-    rw (← q) (found a t (stored-if-done (cond (numberOk a) 0 2) (holds a t) code) ∙ ap present (rw code at bytes))
+    rw (← q) (lookup-held a t (stored-if-done (cond (numberOk a) 0 2) (holds a t) code) ∙ ap present (rw code at bytes))
 plain-gives C w t (readOr a f) b c q h =
     let code = ap (λ (v : Reply). v .code) h in
     let bytes = ap (λ (v : Reply). v .bytes) h in
-    rw (← q) (found a t (stored-if-done (cond (numberOk a) 0 2) (holds a t) code) ∙ ap present (rw code at bytes))
+    rw (← q) (lookup-held a t (stored-if-done (cond (numberOk a) 0 2) (holds a t) code) ∙ ap present (rw code at bytes))
 plain-gives C w t recover b c q h = absurd q
 
 -- what a read gives is what the promise shows
@@ -263,7 +263,7 @@ move-done {r = r} (formats f e) b z i h n makes = absurd (not-format r i f)
 move-done {r = r} (format-cut f e) b z i h n makes = absurd (not-format r i f)
 move-done (no-promise k) b z i h n makes = absurd h
 
--- what a read replies when this is found, with the factory record or none
+-- what a read replies when this is lookup-held, with the factory record or none
 abbrev pub replied : List ℕ → Found → Reply
 replied f absent = record { code = 6; bytes = f }
 replied f (present c) = gives c
@@ -303,7 +303,7 @@ read-back (formats i e) b z h q n cut asks = absurd (subst (λ (v : Request). Re
 read-back (format-cut i e) b z h q n cut asks = absurd (subst (λ (v : Request). Reads b v) i q)
 read-back (no-promise k) b z h q n cut asks = absurd h
 
--- what an acknowledged put or delete leaves to be found
+-- what an acknowledged put or delete leaves to be lookup-held
 abbrev pub Leaves : ℕ → Found → Request → Type 0
 Leaves b absent r = r ≡ delete b
 Leaves b (present c) r = r ≡ put b c

@@ -17,7 +17,7 @@ use Rattle.model.specs.Histories.{recovered, shown}
 use Rattle.model.specs.Laws.Lists.{and-right}
 use Rattle.model.specs.Laws.Chip.{size-facts}
 use Rattle.model.specs.Laws.Exclusive.{exclusive}
-use Rattle.crash.specs.TableLaws.{agree-of}
+use Rattle.model.specs.Laws.Tables.{agree-of}
 use Rattle.crash.specs.Sound.{SoundAs, Sound, Clean}
 use Rattle.crash.specs.Requests.{shown-clean, sound-clean}
 

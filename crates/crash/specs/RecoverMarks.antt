@@ -25,7 +25,7 @@ use Rattle.model.specs.Laws.SlotPage.{Markable, live-markable, torn-markable, c
 use Rattle.model.specs.Laws.Effects.{index, slot-kind, slot-count, mark-effect}
 use Rattle.model.specs.Laws.PageCuts.{one-bit-cut}
 use Rattle.model.specs.Laws.Ring.{slots-get, slots-length}
-use Rattle.bridge.specs.Views.Tables.{holds-copies, lookup-append}
+use Rattle.model.specs.Laws.Tables.{holds-copies, lookup-append}
 use Rattle.bridge.specs.Views.Places.{Gap, earlier, later, fill-entries, fill-length, FirstLive, first-live}
 use Rattle.crash.specs.Sound.{Sound, CutOf}
 use Rattle.crash.specs.RecoverCases.{two-segments, isCase, mended, case-of, recover-steps, recovered-run, Kept, kept-same, Mended, kept-clean}

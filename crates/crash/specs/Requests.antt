@@ -18,8 +18,8 @@ use Rattle.model.specs.Table.{Table, lookup, Agree, contentsFound, tableOf}
 use Rattle.model.specs.Answers.{Request, format, put, delete, read, readOr, recover, _when_, firstOf, isDamaged, isUnfinished, isFull, absentRefusals, refusals, stepsFor, Work, workOn, workOf, codeUnder, outcomeOf, ReadOutcome, contentsAt, readOutcome, pieceRead, pieceOr}
 use Rattle.model.specs.Histories.{Reply, bytesRead, replyOf, wears, recovered, shown}
 use Rattle.model.specs.Laws.Chip.{prefix-cut}
+use Rattle.model.specs.Laws.Tables.{agree-of, agree-holds, agree-without, agree-store, distinct-without, distinct-store}
 use Rattle.crash.specs.Machine.{malformed, codeOnTable, plainCode, made, OnTable, WantsRecovery}
-use Rattle.crash.specs.TableLaws.{agree-of, agree-holds, agree-without, agree-store, distinct-without, distinct-store}
 use Rattle.crash.specs.Sound.{SoundAs, Sound, Clean, finished, CutOf}
 
 -- ---- the code is that of the first refusal, and a refused request has no steps

@@ -22,9 +22,9 @@ use Rattle.model.specs.Laws.SlotPage.{write-in-page}
 use Rattle.model.specs.Laws.PageCuts.{opening-cut, compaction-cut, begun-bit-6, pending-cut}
 use Rattle.model.specs.Laws.Effects.{index, blank-page, header-only, header-run, few}
 use Rattle.model.specs.Laws.CopyOut.{Valids, copy-in-segment}
+use Rattle.model.specs.Laws.Tables.{agree-of, agree-trans}
 use Rattle.bridge.specs.Views.Shape.{opened-entries}
 use Rattle.crash.specs.Sound.{Sound, Clean, CutOf}
-use Rattle.crash.specs.TableLaws.{agree-of, agree-trans}
 use Rattle.crash.specs.Requests.{shown-clean, sound-clean}
 use Rattle.crash.specs.PutStates.{table-of}
 use Rattle.crash.specs.PutClean.{Sized, sized}

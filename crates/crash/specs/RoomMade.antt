@@ -20,12 +20,12 @@ use Rattle.model.specs.Laws.Segments.{partOf, segment-at}
 use Rattle.model.specs.Laws.Clean.{used-next, index-inside}
 use Rattle.model.specs.Laws.HeaderPage.{in-use-facts}
 use Rattle.model.specs.Laws.Effects.{in-use-parts}
+use Rattle.model.specs.Laws.Tables.{agree-trans}
 use Rattle.bridge.specs.Predicted.{CleanView}
 use Rattle.bridge.specs.Views.Shape.{opened-top}
 use Rattle.bridge.specs.Views.Room.{tidied}
 use Rattle.bridge.specs.Views.Requests.{room-numbered}
 use Rattle.crash.specs.Sound.{Sound, Clean, CutOf}
-use Rattle.crash.specs.TableLaws.{agree-trans}
 use Rattle.crash.specs.PutStates.{table-of, same-segments}
 use Rattle.crash.specs.PutClean.{row-segment, CleanFacts, clean-facts, top-next}
 use Rattle.crash.specs.RoomDone.{compact-rows, room-there, room-opened, room-compacted, next-number, open-done, compact-done}

@@ -18,8 +18,8 @@ use Rattle.model.specs.Laws.Ring.{next-kept}
 use Rattle.model.specs.Laws.Clean.{RingFacts, index-inside, next-blank}
 use Rattle.model.specs.Laws.HeaderPage.{bit-6-unused}
 use Rattle.model.specs.Laws.Effects.{erase-effect}
+use Rattle.model.specs.Laws.Tables.{agree-of}
 use Rattle.crash.specs.Sound.{headerByte, SoundAs, Sound, Clean}
-use Rattle.crash.specs.TableLaws.{agree-of}
 use Rattle.crash.specs.PutStates.{state-a, clean-image, table-of, shown-as, same-segments}
 use Rattle.crash.specs.PutClean.{sized, clean-facts}
 

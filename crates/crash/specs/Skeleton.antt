@@ -15,11 +15,12 @@ use Rattle.model.specs.Table.{Table, lookup, Agree, contentsFound, tableOf}
 use Rattle.model.specs.Answers.{Request, format, put, delete, read, readOr, recover, workOf, pieceRead}
 use Rattle.model.specs.Histories.{Reply, bytesRead, Seen, answered, lost, Proper, Does, wears, Event, History, recovered, shown}
 use Rattle.model.specs.Laws.Chip.{cut-size, run-size}
+use Rattle.model.specs.Laws.Tables.{agree-of, agree-trans, agree-size}
+use Rattle.model.specs.Laws.Bytes.{cut-bytes, run-bytes}
 use Rattle.crash.specs.Machine.{malformed, plainCode, plainBytes, plain, made, next, codeOnTable, Promise, settled, interrupted, unknown, IsCut, OnTable, WantsRecovery, Holds, Moves, answers, answers-again, asks-recovery, refuses-malformed, not-begun, wholly-done, formats, format-cut, no-promise, PlainRuns}
 use Rattle.crash.specs.Demand2.{Keeps, Demand2}
-use Rattle.crash.specs.TableLaws.{agree-of, agree-trans, agree-size}
 use Rattle.crash.specs.Sound.{SoundAs, Sound, Clean, finished, CutOf, DoneWith, LeftWith, RequestLaws}
-use Rattle.crash.specs.ByteImage.{bytes-cut, bytes-run, bytes-format}
+use Rattle.bridge.specs.Format.{format-bytes}
 use Rattle.crash.specs.Requests.{refused-idle, idle-finished, idle-cut, read-idle, readOr-idle, readOr-work, recover-idle, shown-clean, sound-clean, read-refused, readOr-bytes, bytes-refused, ended, ends-or-stops, code-clean, Unfinished, code-unfinished, code-recover, code-format, steps-format, malformed-small, code-agree, agree-made, distinct-made, clean-distinct}
 
 -- ---- the table after a request with this code
@@ -151,14 +152,14 @@ module _ (N B : ℕ) (laws : RequestLaws N B) where
           { clean = d .0
           ; table = agree-trans (tableOf N B (finished N B s r)) (after (tableOf N B s) n r) (after t n r) (d .1) (agree-after (tableOf N B s) t n r (k .table))
           ; once = distinct-after t n r (k .once)
-          ; bytes = bytes-run B (workOf N B s r .steps) s (k .bytes) })
+          ; bytes = run-bytes B (workOf N B s r .steps) s (k .bytes) })
 
     clean-interrupted : (x : Promise) → Holds x t → (u : Seen) → IsCut u → CutOf N B s r m → Follows N B (wears N B s) r u x m
     clean-interrupted x held u i c =
         let n = workOf N B s r .code in
         let d = clean-cut s m r o p z (k .bytes) (k .clean) c n refl in
         let zm = cut-size N B (workOf N B s r .steps) s m c ∙ z in
-        let ym = bytes-cut B (workOf N B s r .steps) s m c (k .bytes) in
+        let ym = cut-bytes B (workOf N B s r .steps) s m c (k .bytes) in
         ⊎-elim
           (λ old. (interrupted t, not-begun t held o i,
             (zm, record { sound = d .0; table = agree-trans (shown N B m) (tableOf N B s) t old (k .table); once = k .once; bytes = ym })))
@@ -230,14 +231,14 @@ module _ (N B : ℕ) (laws : RequestLaws N B) where
             { sound = d .0
             ; table = agree-trans (shown N B m) (shown N B s) t (d .1) (k .table)
             ; once = k .once
-            ; bytes = bytes-cut B (workOf N B s recover .steps) s m c (k .bytes) }))
+            ; bytes = cut-bytes B (workOf N B s recover .steps) s m c (k .bytes) }))
 
     recover-ends : (w : Bool) (u : Seen) → u ≡ answered (ended N B s recover) → m ≡ finished N B s recover → Follows N B w recover u (interrupted t) m
     unfolding malformed recovered shown ended plain plainCode codeOnTable plainBytes bytesRead next made
     recover-ends w u i e =
         (settled t, answers-again {t = t} tt refl (i ∙ rw (code-recover N B s z h)),
           (size-finished N B s m recover z e, rw e (record
-            { clean = laws .recover-done s z (k .sound); table = k .table; once = k .once; bytes = bytes-run B (workOf N B s recover .steps) s (k .bytes) })))
+            { clean = laws .recover-done s z (k .sound); table = k .table; once = k .once; bytes = run-bytes B (workOf N B s recover .steps) s (k .bytes) })))
 
   -- ---- one event, whatever the promise
 
@@ -287,7 +288,7 @@ module _ (N B : ℕ) (laws : RequestLaws N B) where
       let v : m ≡ run B (formatSteps N B) s = e ∙ ap (λ y. run B y s) (steps-format N B s z) in
       (settled [], formats refl (i ∙ rw (code-format N B s z)),
         (size-finished N B s m format z e, rw v (record
-          { clean = d .0; table = agree-of (tableOf N B (run B (formatSteps N B) s)) [] (d .1); once = refl; bytes = bytes-format N B s z })))
+          { clean = d .0; table = agree-of (tableOf N B (run B (formatSteps N B) s)) [] (d .1); once = refl; bytes = format-bytes N B s z })))
 
   -- ended, stopped at the allowance, or lost
   on-table : (s m : Image) (x : Promise) (r : Request) → OnTable r → Proper r → Invariant N B s x → (u : Seen) → Does N B r u s m → Follows N B (wears N B s) r u x m

@@ -23,13 +23,12 @@ use Rattle.model.specs.Laws.View.{slot-ring, slot-view}
 use Rattle.model.specs.Laws.SlotPage.{Valid, write-in-page}
 use Rattle.model.specs.Laws.PageCuts.{write-cut-kind}
 use Rattle.model.specs.Laws.Effects.{slot-count, slot-cut, empty-page, write-effect}
+use Rattle.model.specs.Laws.Tables.{holds-append, copies-append, copies-cons-same, copies-none, held-copies, distinct-copies, agree-of, agree-trans}
 use Rattle.bridge.specs.Predicted.{slotChanged, written, marked, afterPut, CleanView, Fits}
-use Rattle.bridge.specs.Views.Tables.{holds-append, copies-append, copies-cons-same, copies-none, held-copies, distinct-copies}
 use Rattle.bridge.specs.Views.Places.{fill, fill-entries, fill-all, fill-length, fill-rows, fill-empty-last, fill-changed, TopGap, written-at, written-entries, written-place}
 use Rattle.bridge.specs.Views.Shape.{Shape, clean-shape, shape-clean, clean-distinct, clean-within, written-shape, shape-gap}
 use Rattle.bridge.specs.Views.Requests.{put-keeps-clean, put-stores}
 use Rattle.crash.specs.Sound.{SoundAs, Sound, Clean, LeftWith}
-use Rattle.crash.specs.TableLaws.{agree-of, agree-trans}
 use Rattle.crash.specs.Requests.{shown-clean, sound-clean}
 use Rattle.crash.specs.PutStates.{state-c, state-d, image-clean, table-of, recover-steps, shown-as, same-segments}
 use Rattle.crash.specs.PutClean.{sized, row-segment, CleanFacts, clean-facts, segments-clean, top-next}

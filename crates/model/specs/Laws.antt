@@ -23,6 +23,9 @@ pub mod Clean
 pub mod View
 pub mod ImageView
 pub mod Exclusive
+
+-- tables
+pub mod Tables
 pub mod Requests
 
 -- the bench table

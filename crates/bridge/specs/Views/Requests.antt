@@ -13,7 +13,7 @@ use Rattle.model.specs.Steps.{topNumber, hasRoom, roomFor, newNumbers, isWorn}
 use Rattle.model.specs.Table.{lookup, without, store, Agree}
 use Rattle.bridge.specs.Predicted.{written, marked, afterPut, afterDelete, CleanView, Fits}
 use Rattle.bridge.specs.Interface.{ViewLaws}
-use Rattle.bridge.specs.Views.Tables.{holds-append, agree-holds, agree-store, without-absent, distinct-without, without-length, without-first, without-first-append, storedLast, stored-last-agree, stored-last-distinct, stored-last-length}
+use Rattle.model.specs.Laws.Tables.{holds-append, agree-holds, agree-store, without-absent, distinct-without, without-length, without-first, without-first-append, storedLast, stored-last-agree, stored-last-distinct, stored-last-length}
 use Rattle.bridge.specs.Views.Places.{FirstLive, TopGap, marked-entries, written-entries, written-place}
 use Rattle.bridge.specs.Views.Shape.{Shape, clean-shape, shape-clean, clean-distinct, clean-within, written-shape, marked-shape, shape-gap, first-live-in}
 use Rattle.bridge.specs.Views.Room.{Made, room-made}
