@@ -20,7 +20,7 @@ use Rattle.model.specs.Laws.CopyOut.{Valids, copy-out-effect}
 use Rattle.model.specs.Laws.Clean.{RingFacts, used-next, index-inside, next-blank, next-apart}
 use Rattle.model.specs.Laws.View.{slotChanged, slot-ring, slot-view, taken-ring, taken-view, moved-ring, moved-view}
 use Rattle.bridge.specs.Predicted.{written, marked}
-use Rattle.bridge.specs.Held.{Held, two-segments, slots-byte, held-first, held-rows, held-count, held-next, held-top, held-row, row-valid}
+use Rattle.bridge.specs.Held.{Held, held-first, held-rows, held-count, held-next, held-top, held-row, row-valid}
 
 module _ (N B : ℕ) (s : Image) (v : View) (h : Held N B s v) where
   abbrev l : List Segment
@@ -30,7 +30,7 @@ module _ (N B : ℕ) (s : Image) (v : View) (h : Held N B s v) where
   size = size-facts N B s (h .size)
 
   two : 2 ≤ N
-  two = two-segments N B s (h .size)
+  two = size-facts N B s (h .size) .two
 
   -- ---- one slot changed
 
@@ -87,7 +87,7 @@ module _ (N B : ℕ) (s : Image) (v : View) (h : Held N B s v) where
     unfolding openNext view nextIndex
     open-held few =
         let e : segmentsOf N B (run B (openSegment N B next) s) ≡ set l (nextNumber l % N) (inUse opened (nextNumber l) (replicate B empty)) =
-              open-effect N B two (size .most) (slots-byte N B s (h .size)) s (size .whole) next below free
+              open-effect N B two (size .most) (size-facts N B s (h .size) .mostB) s (size .whole) next below free
               ∙ ap (λ (y : ℕ). set l (y % N) (inUse opened y (replicate B empty))) next-is in record
         { size = run-size N B (openSegment N B next) s ∙ h .size
         ; ring = rw e (taken-ring N l (h .ring) opened (replicate B empty) (omega (arith, held-count N B s v h)) refl)
@@ -111,7 +111,7 @@ module _ (N B : ℕ) (s : Image) (v : View) (h : Held N B s v) where
 
       pub copied-segments : segmentsOf N B copiedTo ≡ set l (nextIndex N l) (inUse erasePending (nextNumber l) (copied B es))
       unfolding nextIndex
-      copied-segments = copy-out-effect N B two (size .most) (slots-byte N B s (h .size)) s (size .whole) o next below old-after es valid fit free
+      copied-segments = copy-out-effect N B two (size .most) (size-facts N B s (h .size) .mostB) s (size .whole) o next below old-after es valid fit free
           ∙ ap (λ (y : ℕ). set l (y % N) (inUse erasePending y (copied B es))) next-is
 
       copied-length : length copiedTo ≡ length s
@@ -142,7 +142,7 @@ module _ (N B : ℕ) (s : Image) (v : View) (h : Held N B s v) where
                 ap₂ (λ (x : List Segment) (y : ℕ). getD x (y % N) blank) erased-segments next-is
                 ∙ (getD-set-other owing j i blank blank apart
                 ∙ (getD-set-same l i pending blank (index-inside N l (h .ring) (nextNumber l)) ∙ ap (λ (y : ℕ). inUse erasePending y (copied B es)) (sym next-is))) in
-          settle-effect N B two (size .most) (slots-byte N B s (h .size)) erasedOld (step-length B (erase (o % N)) copiedTo ∙ (copied-length ∙ size .whole)) next below (copied B es) there
+          settle-effect N B two (size .most) (size-facts N B s (h .size) .mostB) erasedOld (step-length B (erase (o % N)) copiedTo ∙ (copied-length ∙ size .whole)) next below (copied B es) there
           ∙ (ap₂ (λ (x : List Segment) (y : ℕ). set x (y % N) (inUse compacted y (copied B es))) erased-segments next-is
           ∙ (set-comm owing j i blank (inUse compacted (nextNumber l) (copied B es)) (λ e. apart (sym e))
           ∙ ap (λ (x : List Segment). set x j blank) (set-set l i pending (inUse compacted (nextNumber l) (copied B es)))))

@@ -25,7 +25,7 @@ use Rattle.model.specs.Laws.Clean.{RingFacts}
 use Rattle.bridge.specs.Predicted.{fresh, CleanView}
 use Rattle.bridge.specs.Views.Shape.{shape-clean, added-shape, added-entries, rowAdded}
 use Rattle.bridge.specs.Views.Slots.{copied-none}
-use Rattle.bridge.specs.Held.{Held, two-segments, two-slots, slots-byte, clean-of-held}
+use Rattle.bridge.specs.Held.{Held, clean-of-held}
 
 -- ---- bytes
 
@@ -68,7 +68,7 @@ erased-first N B (suc k) s z h =
     let l = segmentsOf N B s in
     let len = segments-length N B s in
     ap (λ y. segmentsOf N B y) (run-append B (eraseFirst k) (erase k ∷ []) s)
-    ∙ (erase-effect N B (two-segments N B s z) u (run-length B (eraseFirst k) s ∙ size-facts N B s z .whole) k (omega arith)
+    ∙ (erase-effect N B (size-facts N B s z .two) u (run-length B (eraseFirst k) s ∙ size-facts N B s z .whole) k (omega arith)
     ∙ (ap (λ (y : List Segment). set y k blank) (erased-first N B k s z (omega arith) ∙ ap (λ (y : List Segment). replicate k blank ++ y) (drop-cons l k blank (omega arith)))
     ∙ (ap (λ (y : ℕ). set (replicate k blank ++ (getD l k blank ∷ drop (suc k) l)) y blank) (sym (length-replicate k blank))
     ∙ (set-append-seam (replicate k blank) (getD l k blank) (drop (suc k) l) blank ∙ one-more k (drop (suc k) l)))))
@@ -87,13 +87,13 @@ opened-segments : (N B : ℕ) (s : Image) → rightSize N B s ≡ true → segme
 unfolding formatSteps numberLimit
 opened-segments N B s z =
     let u = run B (eraseFirst N) s in
-    let two = two-segments N B s z in
+    let two = size-facts N B s z .two in
     let p : 0 < N = omega arith in
     let zero-index : 0 % N ≡ 0 = mod-eq-of-lt p in
     let size = size-facts N B s z in
     let l = all-erased N B s z in
     ap (λ y. segmentsOf N B y) (run-append B (eraseFirst N) (openSegment N B 0) s)
-    ∙ (open-effect N B two (size .most) (slots-byte N B s z) u (run-length B (eraseFirst N) s ∙ size .whole) 0 (omega arith)
+    ∙ (open-effect N B two (size .most) (size-facts N B s z .mostB) u (run-length B (eraseFirst N) s ∙ size .whole) 0 (omega arith)
         (ap₂ (λ (x : List Segment) (y : ℕ). getD x y blank) l zero-index ∙ getD-replicate N 0 blank blank p)
     ∙ ap₂ (λ (x : List Segment) (y : ℕ). set x y (inUse opened 0 (replicate B empty))) l zero-index)
 
@@ -168,9 +168,9 @@ pub format-held : (N B : ℕ) (s : Image) → rightSize N B s ≡ true → Held 
 unfolding view
 format-held N B s z = record
   { size = run-size N B (formatSteps N B) s ∙ z
-  ; ring = rw (opened-segments N B s z) (fresh-ring N B (two-segments N B s z))
-  ; view = rw (opened-segments N B s z) (fresh-view N B (two-segments N B s z)) }
+  ; ring = rw (opened-segments N B s z) (fresh-ring N B (size-facts N B s z .two))
+  ; view = rw (opened-segments N B s z) (fresh-view N B (size-facts N B s z .two)) }
 
 pub format-done : (N B : ℕ) (s : Image) → rightSize N B s ≡ true → (state N B (run B (formatSteps N B) s) ≡ clean) × (view N B (run B (formatSteps N B) s) ≡ fresh B)
 format-done N B s z = let h = format-held N B s z in
-    (clean-of-held N B _ (fresh B) h (fresh-clean N B (two-segments N B s z) (two-slots N B s z)), h .view)
+    (clean-of-held N B _ (fresh B) h (fresh-clean N B (size-facts N B s z .two) (size-facts N B s z .slots)), h .view)

@@ -26,17 +26,6 @@ pub record Held (N B : ℕ) (s : Image) (v : View) : Type 0 where
   pub ring : RingFacts N (segmentsOf N B s)
   pub view : view N B s ≡ v
 
--- ---- from a right size
-
-pub two-segments : (N B : ℕ) (s : Image) → rightSize N B s ≡ true → 2 ≤ N
-two-segments N B s z = unfold leastSegments in size-facts N B s z .segments
-
-pub two-slots : (N B : ℕ) (s : Image) → rightSize N B s ≡ true → 2 ≤ B
-two-slots N B s z = unfold leastSlots in size-facts N B s z .slots
-
-pub slots-byte : (N B : ℕ) (s : Image) → rightSize N B s ≡ true → B < 256
-slots-byte N B s z = let h : B ≤ 255 = (unfold mostSlots in size-facts N B s z .mostB) in omega arith
-
 -- ---- the view's rows
 
 module _ (N B : ℕ) (s : Image) (v : View) (h : Held N B s v) where
@@ -73,7 +62,7 @@ module _ (N B : ℕ) (s : Image) (v : View) (h : Held N B s v) where
 
   row-length : (k : ℕ) → k < length (v .slots) → length (getD (v .slots) k []) ≡ B
   row-length k b = let r = held-row k b in
-      slot-count N B (two-segments N B s (h .size)) s (size-facts N B s (h .size) .whole) (v .first + k) 0 (r .0) (v .first + k) (getD (v .slots) k []) (omega (arith, two-slots N B s (h .size))) (r .1)
+      slot-count N B (size-facts N B s (h .size) .two) s (size-facts N B s (h .size) .whole) (v .first + k) 0 (r .0) (v .first + k) (getD (v .slots) k []) (omega (arith, size-facts N B s (h .size) .slots)) (r .1)
 
   pub held-lengths : Rows B (v .slots)
   held-lengths = rows (v .slots) (λ k b. row-length k b)
@@ -121,7 +110,7 @@ pub row-valid : (N B : ℕ) (s : Image) (v : View) → Held N B s v → Bytes s 
 unfolding pagesOf
 row-valid N B s v h bs k b =
     let r = held-row N B s v h k b in
-    let two = two-segments N B s (h .size) in
+    let two = size-facts N B s (h .size) .two in
     let p : 0 < N = omega arith in
     let n = v .first + k in
     let ps = partOf N B (n % N) s in

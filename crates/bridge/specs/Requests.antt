@@ -29,7 +29,7 @@ use Rattle.bridge.specs.Views.Places.{Gap, fill, fill-length, FirstLive,
 use Rattle.bridge.specs.Views.Shape.{clean-shape, shape-gap, first-live-in, opened-top}
 use Rattle.bridge.specs.Views.Room.{Tidied, tidied}
 use Rattle.bridge.specs.Views.Requests.{view-laws}
-use Rattle.bridge.specs.Held.{Held, two-segments, two-slots, held-of-clean, clean-view, clean-of-held, held-row, held-lengths, row-valid, held-next}
+use Rattle.bridge.specs.Held.{Held, held-of-clean, clean-view, clean-of-held, held-row, held-lengths, row-valid, held-next}
 use Rattle.bridge.specs.Done.{mark-held, write-held, open-held, compact-held}
 use Rattle.bridge.specs.Accepted.{PutPassed, put-passed, delete-passed, accepted}
 
@@ -86,7 +86,7 @@ module _ (N B : ℕ) (s : Image) (v : View) (h : Held N B s v) where
       let k = length (v .slots) - 1 in
       let some = c .some in
       let r = held-row N B s v h k (omega arith) in
-      let p : 0 < N = omega (arith, two-segments N B s (h .size)) in
+      let p : 0 < N = omega (arith, size-facts N B s (h .size) .two) in
       let n = v .first + k in
       let i = native.Mathlib.Nat.mod-lt n p in
       let u = in-use-parts N B (n % N) (partOf N B (n % N) s) (r .0) n (getD (v .slots) k []) (sym (segment-at N B (n % N) s i) ∙ r .1) in
@@ -184,7 +184,7 @@ module _ (N B : ℕ) (s : Image) (z : rightSize N B s ≡ true) (cl : state N B 
   cv = clean-view N B s z cl
 
   laws : ViewLaws N B
-  laws = view-laws N B (two-segments N B s z) (two-slots N B s z)
+  laws = view-laws N B (size-facts N B s z .two) (size-facts N B s z .slots)
 
   pub delete-done : (b : ℕ) → workOf N B s (delete b) .code ≡ 0
       → (state N B (run B (workOf N B s (delete b) .steps) s) ≡ clean) × (view N B (run B (workOf N B s (delete b) .steps) s) ≡ afterDelete b v)

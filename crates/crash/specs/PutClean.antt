@@ -12,7 +12,7 @@ use Rattle.model.specs.Slot.{Slot, mostContents, numberOk}
 use Rattle.model.specs.State.{Segment, blank, invalid, inUse, segmentsOf, numberAfter, slotsIn, nextNumber, usedCount, firstNumber, slotsFrom, View, viewOf, entriesIn, holds, capacity, isClean}
 use Rattle.model.specs.Steps.{topNumber, putSteps, isWorn}
 use Rattle.model.specs.Answers.{put, Refusal, firstOf, isFull, refusals, stepsFor, Work, workOn, workOf}
-use Rattle.model.specs.Laws.Chip.{size-facts}
+use Rattle.model.specs.Laws.Chip.{SizeFacts, size-facts}
 use Rattle.model.specs.Laws.Segments.{segments-length}
 use Rattle.model.specs.Laws.Ring.{slots-get}
 use Rattle.model.specs.Laws.Clean.{RingFacts, clean-ring, clean-slots, ring-clean, used-next, numbered, view-length}
@@ -20,20 +20,6 @@ use Rattle.model.specs.Laws.Effects.{slot-count}
 use Rattle.bridge.specs.Predicted.{Rows, CleanView, Fits}
 use Rattle.crash.specs.Sound.{Clean, Accepted}
 use Rattle.crash.specs.PutStates.{clean-image}
-
--- ---- size
-
-pub record Sized (N B : ℕ) (s : Image) : Type 0 where
-  pub whole : length s ≡ imageLength N B
-  pub two : 2 ≤ N
-  pub most : N ≤ mostSegments
-  pub slots : 2 ≤ B
-  pub mostB : B < 256
-
-pub sized : (N B : ℕ) (s : Image) → rightSize N B s ≡ true → Sized N B s
-unfolding leastSegments leastSlots mostSlots
-sized N B s z = let f = size-facts N B s z in let b : B ≤ 255 = f .mostB in
-    record { whole = f .whole; two = f .segments; most = f .most; slots = f .slots; mostB = omega arith }
 
 -- ---- segments by number
 
@@ -57,14 +43,14 @@ rows-from B (s ∷ r) f = (f 0 (omega arith), rows-from B r (λ q h. f (suc q) (
 -- ---- clean, taken apart and put together
 
 pub record CleanFacts (N B : ℕ) (s : Image) : Type 0 where
-  pub size : Sized N B s
+  pub size : SizeFacts N B s
   pub ring : RingFacts N (segmentsOf N B s)
   pub seen : CleanView N B (viewOf N (segmentsOf N B s))
 
 pub clean-facts : (N B : ℕ) (s : Image) → rightSize N B s ≡ true → Clean N B s → CleanFacts N B s
 clean-facts N B s z h =
     let l = segmentsOf N B s in
-    let d = sized N B s z in
+    let d = size-facts N B s z in
     let r : RingFacts N (segmentsOf N B s) = clean-ring N B l (segments-length N B s) (clean-image N B s h) in
     let f = clean-slots N B l (clean-image N B s h) in
     let n : length (viewOf N (segmentsOf N B s) .slots) ≡ usedCount (segmentsOf N B s) = view-length N l r in

@@ -21,7 +21,6 @@ use Rattle.model.specs.Laws.Chip.{size-facts}
 use Rattle.crash.specs.Machine.{malformed, codeOnTable, plainCode}
 use Rattle.crash.specs.Sound.{Clean, Accepted}
 use Rattle.crash.specs.Requests.{code-clean}
-use Rattle.crash.specs.RecoverCases.{two-segments}
 use Rattle.crash.specs.RecoverMarks.{LivePlace, live-place, live-marks, slot-inside, page-kind}
 
 -- ---- a read or a delete is accepted only of a stored block
@@ -68,7 +67,7 @@ read-done N B s b z h a = rw (a, found) bytes
     p : ℕ
     p = n % N * (B + 1) + suc j
     here : n % N < N
-    here = index N B (two-segments N B s z) s (size-facts N B s z .whole) n
+    here = index N B (size-facts N B s z .two) s (size-facts N B s z .whole) n
     inside : j < B
     inside = slot-inside N B s z n j (live-marks l)
     facts : LiveFacts (getD (partOf N B (n % N) s) (suc j) []) b c

@@ -21,16 +21,6 @@ use Rattle.model.specs.Laws.Tables.{agree-of}
 use Rattle.crash.specs.Sound.{SoundAs, Sound, Clean}
 use Rattle.crash.specs.Requests.{shown-clean, sound-clean}
 
--- ---- size
-
-pub two-segments : (N B : ℕ) (s : Image) → rightSize N B s ≡ true → 2 ≤ N
-unfolding leastSegments
-two-segments N B s z = size-facts N B s z .segments
-
-pub few-slots : (N B : ℕ) (s : Image) → rightSize N B s ≡ true → B < 256
-unfolding mostSlots
-few-slots N B s z = let h : B ≤ 255 = size-facts N B s z .mostB in omega arith
-
 -- ---- the cases
 
 -- the test of a case, and the segments that its recovery leaves

@@ -28,7 +28,7 @@ use Rattle.model.specs.Laws.Ring.{slots-get, slots-length}
 use Rattle.model.specs.Laws.Tables.{holds-copies, lookup-append}
 use Rattle.bridge.specs.Views.Places.{Gap, earlier, later, fill-entries, fill-length, FirstLive, first-live}
 use Rattle.crash.specs.Sound.{Sound, CutOf}
-use Rattle.crash.specs.RecoverCases.{two-segments, isCase, mended, case-of, recover-steps, recovered-run, Kept, kept-same, Mended, kept-clean}
+use Rattle.crash.specs.RecoverCases.{isCase, mended, case-of, recover-steps, recovered-run, Kept, kept-same, Mended, kept-clean}
 
 -- ---- slots that can be marked
 
@@ -71,7 +71,7 @@ marks-inside ks j m = elim (decLt j (length ks)) [ yes p ↦ p | no p ↦ absurd
 
 module _ (N B : ℕ) (s : Image) (z : rightSize N B s ≡ true) (k j : ℕ) (m : Marks (getD (slotsIn (getD (segmentsOf N B s) (k % N) blank)) j empty)) where
   two : 2 ≤ N
-  two = two-segments N B s z
+  two = size-facts N B s z .two
 
   size : length s ≡ imageLength N B
   size = size-facts N B s z .whole

@@ -26,7 +26,7 @@ use Rattle.model.specs.Laws.HeaderPage.{in-use-facts, number-fits, number-raise
 use Rattle.model.specs.Laws.Effects.{index, in-use-parts, erase-effect, settle-effect}
 use Rattle.model.specs.Laws.PageCuts.{one-bit-cut}
 use Rattle.crash.specs.Sound.{AtLeast, headerByte, SoundAs, Sound, CutOf}
-use Rattle.crash.specs.RecoverCases.{two-segments, few-slots, isCase, mended, case-of, state-case, recover-steps, recovered-run, Kept, kept-same, Mended, kept-clean, kept-case}
+use Rattle.crash.specs.RecoverCases.{isCase, mended, case-of, state-case, recover-steps, recovered-run, Kept, kept-same, Mended, kept-clean, kept-case}
 use Rattle.crash.specs.RecoverErase.{replaced-byte, raised-segments, raised-byte, header-byte}
 
 -- ---- the top of an image's segments
@@ -91,7 +91,7 @@ module _ (N B : ℕ) (s : Image) (z : rightSize N B s ≡ true) (e : state N B s
   i = nextNumber l % N
 
   two : 2 ≤ N
-  two = two-segments N B s z
+  two = size-facts N B s z .two
 
   most : N ≤ mostSegments
   most = size-facts N B s z .most
@@ -161,7 +161,7 @@ module _ (N B : ℕ) (s : Image) (z : rightSize N B s ≡ true) (e : state N B s
   mended-is = rw (top .same)
 
   pub mended-b : Mended N B s caseB
-  mended-b = ap (λ y. segmentsOf N B y) recovered-b ∙ (settle-effect N B two most (few-slots N B s z) wiped wiped-size n below (top .slots) wiped-top
+  mended-b = ap (λ y. segmentsOf N B y) recovered-b ∙ (settle-effect N B two most (size-facts N B s z .mostB) wiped wiped-size n below (top .slots) wiped-top
       ∙ (ap (λ (y : List Segment). set y (n % N) (inUse compacted n (top .slots))) wiped-segments ∙ sym mended-is))
 
   -- the mark is set or not

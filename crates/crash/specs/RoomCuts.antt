@@ -14,7 +14,7 @@ use Rattle.model.specs.Steps.{hasRoom, onPage, headerAt, slotAt, writeSlot, cop
 use Rattle.model.specs.Table.{Agree, tableOf}
 use Rattle.model.specs.Answers.{recover}
 use Rattle.model.specs.Histories.{shown}
-use Rattle.model.specs.Laws.Chip.{run-append, run-length, run-size, cut-append, cut-size, whole-cut}
+use Rattle.model.specs.Laws.Chip.{run-append, run-length, run-size, cut-append, cut-size, whole-cut, SizeFacts, size-facts}
 use Rattle.model.specs.Laws.Pages.{InPage}
 use Rattle.model.specs.Laws.Segments.{partOf, part-size, Only, only-segments, only-trans, only-cut, part-run, part-cut}
 use Rattle.model.specs.Laws.HeaderPage.{openingHeader, compactionHeader, pendingHeader, open-segment-page, copy-out-pages, opening-in-page, compaction-in-page, pending-in-page, begunPage, opening-run, compaction-run, pending-run}
@@ -27,7 +27,6 @@ use Rattle.bridge.specs.Views.Shape.{opened-entries}
 use Rattle.crash.specs.Sound.{Sound, Clean, CutOf}
 use Rattle.crash.specs.Requests.{shown-clean, sound-clean}
 use Rattle.crash.specs.PutStates.{table-of}
-use Rattle.crash.specs.PutClean.{Sized, sized}
 use Rattle.crash.specs.RoomTorn.{next-torn}
 use Rattle.crash.specs.RoomDone.{oldEntries, next-number, next-free, opened-image, open-segments, old-inside, copy-valid, copy-fits, copy-segments, compact-steps}
 use Rattle.crash.specs.RoomOwing.{Owing, owing-left}
@@ -37,7 +36,7 @@ use Rattle.crash.specs.RoomOwing.{Owing, owing-left}
 same-part : (N B i : ℕ) (s u w : Image) → Only N B i s u → Only N B i s w → partOf N B i u ≡ partOf N B i w → segmentsOf N B u ≡ segmentsOf N B w
 same-part N B i s u w o p e = only-segments N B i s u o ∙ (ap (λ y. set (segmentsOf N B s) i (segmentOf N B i y)) e ∙ sym (only-segments N B i s w p))
 
-module _ (N B : ℕ) (s : Image) (d : Sized N B s) (n : ℕ) (below : n < numberLimit N) (xs : List Step) (p : InPage xs) (u : Image) (c : Cut B (onPage (headerAt N B n) xs) s u) where
+module _ (N B : ℕ) (s : Image) (d : SizeFacts N B s) (n : ℕ) (below : n < numberLimit N) (xs : List Step) (p : InPage xs) (u : Image) (c : Cut B (onPage (headerAt N B n) xs) s u) where
   pub header-touched : Only N B (n % N) s u
   header-touched = header-only N B (d .two) (d .most) (d .mostB) s (d .whole) n below xs p u c
 
@@ -87,8 +86,8 @@ copy-header N B two n (e ∷ es) j s u z v h c =
     p = write-in-page (e .block) (e .contents) (v .0 .short)
 
 module _ (N B : ℕ) (s : Image) (z : rightSize N B s ≡ true) (h : Clean N B s) (full : hasRoom (viewOf N (segmentsOf N B s)) ≡ false) where
-  size : Sized N B s
-  size = sized N B s z
+  size : SizeFacts N B s
+  size = size-facts N B s z
 
   abbrev segments : List Segment
   segments = segmentsOf N B s
@@ -150,8 +149,8 @@ module _ (N B : ℕ) (s : Image) (z : rightSize N B s ≡ true) (h : Clean N B s
     abbrev s1 : Image
     s1 = run B begin s
 
-    size1 : Sized N B s1
-    size1 = sized N B s1 (run-size N B begin s ∙ z)
+    size1 : SizeFacts N B s1
+    size1 = size-facts N B s1 (run-size N B begin s ∙ z)
 
     touched1 : Only N B i s s1
     touched1 = header-touched N B s size n below (compactionHeader N B n (o % N)) (compaction-in-page N B n (o % N)) s1 (whole-cut B begin s)
@@ -189,8 +188,8 @@ module _ (N B : ℕ) (s : Image) (z : rightSize N B s ≡ true) (h : Clean N B s
     abbrev s2 : Image
     s2 = run B copying s1
 
-    size2 : Sized N B s2
-    size2 = sized N B s2 (run-size N B copying s1 ∙ (run-size N B begin s ∙ z))
+    size2 : SizeFacts N B s2
+    size2 = size-facts N B s2 (run-size N B copying s1 ∙ (run-size N B begin s ∙ z))
 
     abbrev finish : List Step
     finish = onPage (headerAt N B n) (pendingHeader N B n (o % N))

@@ -16,7 +16,7 @@ use Rattle.model.specs.Slot.{Slot, empty, torn, dead, wrong, live, slotOf, Entr
 use Rattle.model.specs.State.{Segment, blank, inUse, segmentsOf, nextNumber, nextIndex, usedCount, firstNumber, View, viewOf, entries, isClean}
 use Rattle.model.specs.Steps.{topNumber, hasRoom, copyOut, settle, compact, copied, openNext, compactOldest, compactUntilRoom, roomFor}
 use Rattle.model.specs.Laws.Bytes.{chunk-bytes}
-use Rattle.model.specs.Laws.Chip.{run-append, run-size, step-length}
+use Rattle.model.specs.Laws.Chip.{run-append, run-size, step-length, size-facts}
 use Rattle.model.specs.Laws.Segments.{partOf, part-size, part-page, segment-at}
 use Rattle.model.specs.Laws.Clean.{RingFacts, used-next, index-inside, next-blank, next-apart, view-length}
 use Rattle.model.specs.Laws.View.{taken-view, taken-ring, moved-view, moved-ring}
@@ -28,7 +28,7 @@ use Rattle.bridge.specs.Views.Slots.{entries-length}
 use Rattle.bridge.specs.Views.Room.{tidied, room-made}
 use Rattle.crash.specs.Sound.{Clean}
 use Rattle.crash.specs.PutStates.{image-clean}
-use Rattle.crash.specs.PutClean.{sized, row-segment, CleanFacts, clean-facts, segments-clean, top-next}
+use Rattle.crash.specs.PutClean.{row-segment, CleanFacts, clean-facts, segments-clean, top-next}
 
 -- ---- what is stored in an image of bytes can be copied
 
@@ -181,7 +181,7 @@ module _ (N B : ℕ) (s : Image) (z : rightSize N B s ≡ true) (h : Clean N B s
     pub settle-segments : (u : Image) → rightSize N B u ≡ true → n < numberLimit N → segmentsOf N B u ≡ taken N B segments erasePending → segmentsOf N B (run B (erase (o % N) ∷ settle N B n) u) ≡ moved N B segments
     unfolding run
     settle-segments u zu below e =
-        let d = sized N B u zu in
+        let d = size-facts N B u zu in
         let t = step B (erase (o % N)) u in
         let zt : length t ≡ imageLength N B = step-length B (erase (o % N)) u ∙ d .whole in
         let et : segmentsOf N B t ≡ set (taken N B segments erasePending) (o % N) blank = erase-effect N B (d .two) u (d .whole) (o % N) old-inside ∙ ap (λ (y : List Segment). set y (o % N) blank) e in

@@ -19,9 +19,10 @@ use Rattle.model.specs.Laws.Clean.{RingFacts, index-inside, next-blank}
 use Rattle.model.specs.Laws.HeaderPage.{bit-6-unused}
 use Rattle.model.specs.Laws.Effects.{erase-effect}
 use Rattle.model.specs.Laws.Tables.{agree-of}
+use Rattle.model.specs.Laws.Chip.{size-facts}
 use Rattle.crash.specs.Sound.{headerByte, SoundAs, Sound, Clean}
 use Rattle.crash.specs.PutStates.{state-a, clean-image, table-of, shown-as, same-segments}
-use Rattle.crash.specs.PutClean.{sized, clean-facts}
+use Rattle.crash.specs.PutClean.{clean-facts}
 
 -- bit 6 of a status byte
 abbrev pub BitSix : ℕ → Type 0
@@ -65,7 +66,7 @@ module _ (N B : ℕ) (s : Image) (z : rightSize N B s ≡ true) (h : Clean N B s
   spoilt-left : (u : Image) → rightSize N B u ≡ true → segmentsOf N B u ≡ spoilt → BitSix (getD (getD (partOf N B i u) 0 []) 5 0) → Sound N B u × Agree (shown N B u) (tableOf N B s)
   unfolding run
   spoilt-left u zu e six =
-      let d = sized N B u zu in
+      let d = size-facts N B u zu in
       let st : state N B u ≡ unfinished caseA = (unfold state in (ap (λ y. stateOf N B y) e ∙ state-a N B spoilt (ap length (sym e) ∙ segments-length N B u) spoilt-test)) in
       let low : i < N = omega (arith, inside, ring .size) in
       let at : getD u (headerByte N B (nextNumber segments) 5) 0 ≡ getD (getD (partOf N B i u) 0 []) 5 0 =

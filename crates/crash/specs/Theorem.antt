@@ -13,7 +13,8 @@ use Rattle.bridge.specs.Accepted.{accepted, put-passed, delete-passed}
 use Rattle.bridge.specs.Format.{format-done, fresh-table}
 use Rattle.bridge.specs.Requests.{put-done, delete-done}
 use Rattle.bridge.specs.Views.Requests.{view-laws}
-use Rattle.bridge.specs.Held.{two-segments, two-slots, clean-view}
+use Rattle.model.specs.Laws.Chip.{size-facts}
+use Rattle.bridge.specs.Held.{clean-view}
 use Rattle.crash.specs.Demand2.{Demand2}
 use Rattle.crash.specs.Sound.{Clean, finished, Accepted, DoneWith, RequestLaws}
 use Rattle.crash.specs.Skeleton.{demand2-from}
@@ -32,14 +33,14 @@ module _ (N B : ℕ) where
   unfolding tableOf
   finished-put s b c z y h yc e =
       let d = put-done N B s z h b c y yc e in
-      let laws = view-laws N B (two-segments N B s z) (two-slots N B s z) in
+      let laws = view-laws N B (size-facts N B s z .two) (size-facts N B s z .slots) in
       (d .0, rw (d .1) (laws .put-table (view N B s) b c (clean-view N B s z h) (put-passed N B s b c (accepted N B s (put b c) e .1) .fit)))
 
   finished-delete : (s : Image) (b : ℕ) → rightSize N B s ≡ true → Clean N B s → Accepted N B s (delete b) → DoneWith N B (finished N B s (delete b)) (without b (tableOf N B s))
   unfolding tableOf
   finished-delete s b z h e =
       let d = delete-done N B s z h b e in
-      let laws = view-laws N B (two-segments N B s z) (two-slots N B s z) in
+      let laws = view-laws N B (size-facts N B s z .two) (size-facts N B s z .slots) in
       (d .0, rw (d .1) (laws .delete-table (view N B s) b (clean-view N B s z h) (delete-passed N B s b (accepted N B s (delete b) e .1))))
 
   pub request-laws : RequestLaws N B

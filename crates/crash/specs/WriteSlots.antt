@@ -15,10 +15,11 @@ use Rattle.model.specs.Steps.{markPlace}
 use Rattle.model.specs.Laws.Clean.{RingFacts, used-next, view-length}
 use Rattle.model.specs.Laws.SlotPage.{live-markable, torn-markable}
 use Rattle.model.specs.Laws.Effects.{slot-kind, mark-effect}
+use Rattle.model.specs.Laws.Chip.{SizeFacts}
 use Rattle.bridge.specs.Predicted.{slotChanged}
 use Rattle.bridge.specs.Views.Places.{fill-length, FirstLive}
 use Rattle.bridge.specs.Views.Shape.{first-live-in}
-use Rattle.crash.specs.PutClean.{Sized, row-segment}
+use Rattle.crash.specs.PutClean.{row-segment}
 
 -- ---- the last slot that is not empty
 
@@ -40,7 +41,7 @@ filled-at (a ∷ x) k y e h = rw (some x, no (isEmpty a), filled-at x k y e h)
     some (m ∷ w) = ap (λ t. isEmpty m && t) (some w) ∙ no (isEmpty m)
 
 -- a torn or live slot marked dead
-pub mark-segments : (N B : ℕ) (u : Image) → Sized N B u → (k j st n : ℕ) (ks : List Slot) → j < B → getD (segmentsOf N B u) (k % N) blank ≡ inUse st n ks
+pub mark-segments : (N B : ℕ) (u : Image) → SizeFacts N B u → (k j st n : ℕ) (ks : List Slot) → j < B → getD (segmentsOf N B u) (k % N) blank ≡ inUse st n ks
     → (getD ks j empty ≡ torn) ⊎ ((b : ℕ) × (c : List ℕ) × (getD ks j empty ≡ live b c))
     → segmentsOf N B (run B (markPlace N B (record { number = k; slot = j })) u) ≡ set (segmentsOf N B u) (k % N) (withSlot j dead (getD (segmentsOf N B u) (k % N) blank))
 unfolding markPlace

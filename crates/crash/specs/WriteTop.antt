@@ -16,7 +16,7 @@ use Rattle.model.specs.Table.{Agree, store, tableOf}
 use Rattle.model.specs.Answers.{recover, workOf}
 use Rattle.model.specs.Histories.{shown}
 use Rattle.model.specs.Laws.Lists.{and-left, and-both}
-use Rattle.model.specs.Laws.Chip.{cut-size}
+use Rattle.model.specs.Laws.Chip.{cut-size, size-facts}
 use Rattle.model.specs.Laws.Segments.{segments-length}
 use Rattle.model.specs.Laws.Clean.{RingFacts, index-inside, view-length}
 use Rattle.model.specs.Laws.View.{slot-ring, slot-view}
@@ -31,7 +31,7 @@ use Rattle.bridge.specs.Views.Requests.{put-keeps-clean, put-stores}
 use Rattle.crash.specs.Sound.{SoundAs, Sound, Clean, LeftWith}
 use Rattle.crash.specs.Requests.{shown-clean, sound-clean}
 use Rattle.crash.specs.PutStates.{state-c, state-d, image-clean, table-of, recover-steps, shown-as, same-segments}
-use Rattle.crash.specs.PutClean.{sized, row-segment, CleanFacts, clean-facts, segments-clean, top-next}
+use Rattle.crash.specs.PutClean.{row-segment, CleanFacts, clean-facts, segments-clean, top-next}
 use Rattle.crash.specs.WriteSlots.{filled-at, mark-segments, Placed, placed}
 
 module _ (N B : ℕ) (s : Image) (z : rightSize N B s ≡ true) (h : Clean N B s) (room : hasRoom (viewOf N (segmentsOf N B s)) ≡ true) where
@@ -186,7 +186,7 @@ module _ (N B : ℕ) (s : Image) (z : rightSize N B s ≡ true) (h : Clean N B s
   torn-left u zu e =
       let st : state N B u ≡ unfinished caseC = (unfold state in (ap (λ y. stateOf N B y) e ∙ state-c N B (changed torn) (ap length (sym e) ∙ segments-length N B u) torn-test)) in
       let marks : segmentsOf N B (run B (markPlace N B (record { number = n; slot = j })) u) ≡ changed dead =
-            mark-segments N B u (sized N B u zu) n j (top-segment .0) n (row torn) inside (ap (λ (y : List Segment). getD y (n % N) blank) e ∙ changed-top torn) (inl (row-at torn))
+            mark-segments N B u (size-facts N B u zu) n j (top-segment .0) n (row torn) inside (ap (λ (y : List Segment). getD y (n % N) blank) e ∙ changed-top torn) (inl (row-at torn))
             ∙ (ap (λ (y : List Segment). set y (n % N) (withSlot j dead (getD y (n % N) blank))) e ∙ changed-twice torn dead) in
       ( subst (λ y. SoundAs N B u (segmentsOf N B u) y) (sym st) tt
       , agree-of (shown N B u) (tableOf N B s) (shown-as N B u zu caseC st (markPlace N B (record { number = n; slot = j })) (changed dead) (ap (λ y. mendSteps N B y caseC) e ∙ torn-steps) marks
@@ -282,7 +282,7 @@ module _ (N B : ℕ) (s : Image) (z : rightSize N B s ≡ true) (h : Clean N B s
 
       pub stored-left : (u : Image) → rightSize N B u ≡ true → segmentsOf N B u ≡ both → Twice u
       stored-left u zu e =
-          let d = sized N B u zu in
+          let d = size-facts N B u zu in
           let p = placeOf b seen in
           let st : state N B u ≡ unfinished caseD = (unfold state in (ap (λ y. stateOf N B y) e ∙ state-d N B both (ap length (sym e) ∙ segments-length N B u) both-test)) in
           let steps : mendSteps N B (segmentsOf N B u) caseD ≡ markPlace N B p = ap (λ y. mendSteps N B y caseD) e ∙ both-steps in

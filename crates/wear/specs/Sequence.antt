@@ -14,10 +14,10 @@ use Rattle.model.specs.State.{view, clean, state}
 use Rattle.model.specs.Steps.{formatSteps}
 use Rattle.model.specs.Answers.{Request, format, put, delete, read, readOr, recover, stepsFor, workOf, outcomeOf}
 use Rattle.model.specs.Sequences.{Call, play, erasesIn, observe, observed, InSequence, Uncut, storedAfter, replaces, Tally, start, tallied, tally}
-use Rattle.model.specs.Laws.Chip.{run-size}
+use Rattle.model.specs.Laws.Chip.{size-facts, run-size}
 use Rattle.model.specs.Laws.Bytes.{run-bytes}
 use Rattle.bridge.specs.Views.Requests.{view-laws}
-use Rattle.bridge.specs.Held.{two-segments, two-slots, clean-view}
+use Rattle.bridge.specs.Held.{clean-view}
 use Rattle.bridge.specs.Accepted.{refused-none, accepted, quiet-none, recover-none, put-passed, delete-passed, format-passed}
 use Rattle.bridge.specs.Format.{format-bytes, format-done}
 use Rattle.bridge.specs.Requests.{put-done, delete-done}
@@ -68,7 +68,7 @@ module _ (N B : ℕ) where
       let a = accepted N B s (put b c) e in
       let d = put-done N B s (g .size) (g .clean) b c (g .bytes) bytes e in
       let cv = clean-view N B s (g .size) (g .clean) in
-      let laws = view-laws N B (two-segments N B s (g .size)) (two-slots N B s (g .size)) in
+      let laws = view-laws N B (size-facts N B s (g .size) .two) (size-facts N B s (g .size) .slots) in
       kept s t (record { request = put b c; allowance = allowance }) g f (d .0)
         (rw (d .1, e, a .0) (tracks-put N B laws (view N B s) t b c cv (put-passed N B s b c (a .1) .fit) (g .tracks)))
         (rw (a .0) (put-few N B (view N B s) t b c cv (g .tracks)))
@@ -80,7 +80,7 @@ module _ (N B : ℕ) where
       let a = accepted N B s (delete b) e in
       let d = delete-done N B s (g .size) (g .clean) b e in
       let cv = clean-view N B s (g .size) (g .clean) in
-      let laws = view-laws N B (two-segments N B s (g .size)) (two-slots N B s (g .size)) in
+      let laws = view-laws N B (size-facts N B s (g .size) .two) (size-facts N B s (g .size) .slots) in
       kept s t (record { request = delete b; allowance = allowance }) g f (d .0)
         (rw (d .1, e, a .0) (tracks-delete N B laws (view N B s) t b cv (delete-passed N B s b (a .1)) (g .tracks)))
         (rw (a .0, delete-none N B b (view N B s)) (omega arith))
@@ -155,7 +155,7 @@ module _ (N B : ℕ) where
       let size = format-passed N B s (a .1) in
       let d = format-done N B s size in
       let image : outcomeOf N B s allowance format .image ≡ run B (formatSteps N B) s = f .image ∙ ap (λ xs. run B xs s) (a .0) in
-      rw image (record { size = run-size N B (formatSteps N B) s ∙ size; bytes = format-bytes N B s size; clean = d .0; tracks = rw (d .1) (tracks-start N B (two-segments N B s size)) })
+      rw image (record { size = run-size N B (formatSteps N B) s ∙ size; bytes = format-bytes N B s size; clean = d .0; tracks = rw (d .1) (tracks-start N B (size-facts N B s size .two)) })
 
 -- after each call of a sequence
 pub all-kept : (N B : ℕ) (s : Image) (allowance : ℕ) (xs : List Call) → outcomeOf N B s allowance format .code ≡ 0
