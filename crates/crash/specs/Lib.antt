@@ -10,7 +10,7 @@ pub mod Requests
 pub mod Skeleton
 
 -- recovery, delete and read
-pub mod RecoverCases
+pub mod States
 pub mod RecoverMarks
 pub mod RecoverErase
 pub mod RecoverOwing

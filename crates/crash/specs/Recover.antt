@@ -9,10 +9,10 @@ use Rattle.model.specs.Answers.{recover}
 use Rattle.model.specs.Histories.{recovered, shown}
 use Rattle.crash.specs.Sound.{SoundAs, Sound, Clean, CutOf}
 use Rattle.crash.specs.Requests.{recovered-clean, recover-idle, idle-cut}
-use Rattle.crash.specs.RecoverCases.{Kept, kept-same, Mended, done}
 use Rattle.crash.specs.RecoverMarks.{mended-c, mended-d, cut-c, cut-d}
 use Rattle.crash.specs.RecoverErase.{mended-a, cut-a}
 use Rattle.crash.specs.RecoverOwing.{mended-b, cut-b}
+use Rattle.crash.specs.States.{Kept, kept-same, Mended, done}
 
 -- the steps of a recovery mend the segments
 pub recovery-mends : (N B : ℕ) (s : Image) → rightSize N B s ≡ true → (x : Exception) → state N B s ≡ unfinished x → Mended N B s x

@@ -20,7 +20,7 @@ use Rattle.model.specs.Laws.Segments.{partOf, only-part, only-segments, replace
 use Rattle.model.specs.Laws.HeaderPage.{bit-6-unused}
 use Rattle.model.specs.Laws.Effects.{index, erase-effect}
 use Rattle.crash.specs.Sound.{SoundAs, Sound, CutOf}
-use Rattle.crash.specs.RecoverCases.{isCase, mended, case-of, recover-steps, recovered-run, Kept, kept-same, Mended, kept-clean, kept-case}
+use Rattle.crash.specs.States.{isCase, mended, case-of, recover-steps, recovered-run, Kept, kept-same, Mended, kept-clean, kept-case}
 
 -- ---- a segment's bytes replaced, and an erase cut inside
 

@@ -28,7 +28,7 @@ use Rattle.model.specs.Laws.Ring.{slots-get, slots-length}
 use Rattle.model.specs.Laws.Tables.{holds-copies, lookup-append}
 use Rattle.bridge.specs.Views.Places.{Gap, earlier, later, fill-entries, fill-length, FirstLive, first-live}
 use Rattle.crash.specs.Sound.{Sound, CutOf}
-use Rattle.crash.specs.RecoverCases.{isCase, mended, case-of, recover-steps, recovered-run, Kept, kept-same, Mended, kept-clean}
+use Rattle.crash.specs.States.{isCase, mended, case-of, recover-steps, recovered-run, Kept, kept-same, Mended, kept-clean}
 
 -- ---- slots that can be marked
 

@@ -26,8 +26,8 @@ use Rattle.model.specs.Laws.HeaderPage.{in-use-facts, number-fits, number-raise
 use Rattle.model.specs.Laws.Effects.{index, in-use-parts, erase-effect, settle-effect}
 use Rattle.model.specs.Laws.PageCuts.{one-bit-cut}
 use Rattle.crash.specs.Sound.{AtLeast, headerByte, SoundAs, Sound, CutOf}
-use Rattle.crash.specs.RecoverCases.{isCase, mended, case-of, state-case, recover-steps, recovered-run, Kept, kept-same, Mended, kept-clean, kept-case}
 use Rattle.crash.specs.RecoverErase.{replaced-byte, raised-segments, raised-byte, header-byte}
+use Rattle.crash.specs.States.{isCase, mended, case-of, state-case, recover-steps, recovered-run, Kept, kept-same, Mended, kept-clean, kept-case}
 
 -- ---- the top of an image's segments
 
