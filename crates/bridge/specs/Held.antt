@@ -9,8 +9,9 @@ use lib.ListN.{length, getD, drop, length-drop}
 use lib.Seq.{getD-drop}
 use Rattle.model.specs.Chip.{Image, Page, Bytes, pagesOf, leastSegments, leastSlots, mostSlots, rightSize, run, Step}
 use Rattle.model.specs.Slot.{Slot, empty, torn, dead, wrong, live, slotOf, Entry, entryOf}
-use Rattle.model.specs.State.{Segment, blank, inUse, segmentOf, segmentsOf, numberAfter, slotsIn, nextNumber, usedCount, firstNumber, slotsFrom, View, viewOf, entries, isClean, State, clean, state, view}
+use Rattle.model.specs.State.{Segment, blank, inUse, segmentOf, segmentsOf, numberAfter, slotsIn, nextNumber, usedCount, firstNumber, slotsFrom, View, viewOf, entries, entriesIn, isClean, clean, state, view}
 use Rattle.model.specs.Steps.{topNumber}
+use Rattle.model.specs.Table.{tableOf}
 use Rattle.model.specs.Laws.Chip.{SizeFacts, size-facts, run-size}
 use Rattle.model.specs.Laws.Bytes.{chunk-bytes}
 use Rattle.model.specs.Laws.SlotPage.{Valid, live-valid}
@@ -18,7 +19,7 @@ use Rattle.model.specs.Laws.Segments.{partOf, part-page, part-size, segment-at,
 use Rattle.model.specs.Laws.Effects.{InUseParts, in-use-parts, slot-count}
 use Rattle.model.specs.Laws.CopyOut.{Valids}
 use Rattle.model.specs.Laws.Ring.{slots-get, slots-length, numbers-get}
-use Rattle.model.specs.Laws.Clean.{RingFacts, SlotFacts, clean-ring, clean-slots, ring-clean, state-clean, clean-state, used-next, numbered, in-use-numbered}
+use Rattle.model.specs.Laws.Clean.{RingFacts, clean-ring, clean-slots, ring-clean, state-clean, clean-state, used-next, numbered, in-use-numbered}
 use Rattle.bridge.specs.Predicted.{Rows, CleanView}
 
 pub record Held (N B : ℕ) (s : Image) (v : View) : Type 0 where
@@ -87,10 +88,20 @@ clean-view N B s z c =
            ; rows = held-lengths N B s (view N B s) h; sound = f .sound; once = f .once; last = f .last; within = f .within }
 
 -- and back
+pub segments-clean : (N B : ℕ) (l : List Segment) → RingFacts N l → CleanView N B (viewOf N l) → isClean N B l ≡ true
+segments-clean N B l r c = ring-clean N B l r (record { sound = c .sound; once = c .once; last = c .last; within = c .within })
+
+pub held-clean : (N B : ℕ) (s : Image) (v : View) → Held N B s v → CleanView N B v → isClean N B (segmentsOf N B s) ≡ true
+unfolding view
+held-clean N B s v h c = segments-clean N B (segmentsOf N B s) (h .ring) (subst (λ (y : View). CleanView N B y) (sym (h .view)) c)
+
 pub clean-of-held : (N B : ℕ) (s : Image) (v : View) → Held N B s v → CleanView N B v → state N B s ≡ clean
-unfolding state view
-clean-of-held N B s v h c = clean-state N B (segmentsOf N B s) (ring-clean N B (segmentsOf N B s) (h .ring)
-    (subst (λ (y : View). SlotFacts N B y) (sym (h .view)) (record { sound = c .sound; once = c .once; last = c .last; within = c .within })))
+unfolding state
+clean-of-held N B s v h c = clean-state N B (segmentsOf N B s) (held-clean N B s v h c)
+
+pub held-table : (N B : ℕ) (s : Image) (v : View) → Held N B s v → tableOf N B s ≡ entriesIn v
+unfolding tableOf
+held-table N B s v h = ap entriesIn (h .view)
 
 -- ---- the entries of an image of bytes can be written
 

@@ -13,6 +13,7 @@ use Rattle.model.specs.Header.{headerNumber}
 use Rattle.model.specs.Slot.{Slot, empty, dead, live, Entry}
 use Rattle.model.specs.State.{blank, segmentsOf, nextNumber, View, view, entries, entriesIn, holds, Place, placeOf, noneWrongOrTorn, state, clean}
 use Rattle.model.specs.Steps.{onPage, slotAt, writeSlot, markDead, markPlace, topRow, topNumber, firstEmpty, hasRoom, Room, openNext, compactOldest, compactUntilRoom, roomFor, writeAtTop, markOld, putSteps, deleteSteps}
+use Rattle.model.specs.Table.{Agree, store}
 use Rattle.model.specs.Answers.{put, delete, stepsFor, workOf}
 use Rattle.model.specs.Laws.Lists.{all-row}
 use Rattle.model.specs.Laws.Chip.{run-append, size-facts}
@@ -21,11 +22,10 @@ use Rattle.model.specs.Laws.SlotPage.{Valid}
 use Rattle.model.specs.Laws.HeaderPage.{in-use-facts}
 use Rattle.model.specs.Laws.Segments.{partOf, segment-at}
 use Rattle.model.specs.Laws.Effects.{in-use-parts}
-use Rattle.model.specs.Laws.Tables.{holds-append}
-use Rattle.bridge.specs.Predicted.{written, marked, afterPut, afterDelete, CleanView, Fits, Rows}
+use Rattle.bridge.specs.Predicted.{written, marked, putInto, afterPut, afterDelete, CleanView, Fits, Rows}
 use Rattle.bridge.specs.Interface.{ViewLaws}
 use Rattle.bridge.specs.Views.Slots.{slots-counted, sound}
-use Rattle.bridge.specs.Views.Places.{Gap, fill, fill-length, FirstLive, TopGap, written-place, written-entries}
+use Rattle.bridge.specs.Views.Places.{Gap, fill, fill-length, FirstLive, TopGap, written-place, written-holds}
 use Rattle.bridge.specs.Views.Shape.{clean-shape, shape-gap, first-live-in, opened-top}
 use Rattle.bridge.specs.Views.Room.{Tidied, tidied}
 use Rattle.bridge.specs.Views.Requests.{view-laws}
@@ -36,13 +36,13 @@ use Rattle.bridge.specs.Accepted.{PutPassed, put-passed, delete-passed, 
 -- ---- a slot among the rows
 
 module _ (B : ℕ) (g : Gap) (k : Slot) where
-  gap-row : getD (fill g k) (length (g .rowsBefore)) [] ≡ g .before ++ (k ∷ g .after)
+  pub gap-row : getD (fill g k) (length (g .rowsBefore)) [] ≡ g .before ++ (k ∷ g .after)
   gap-row = getD-append-seam (g .rowsBefore) (g .before ++ (k ∷ g .after)) (g .rowsAfter) []
 
   gap-inside : length (g .rowsBefore) < length (fill g k)
   gap-inside = omega (arith, fill-length g k)
 
-  gap-slot : getD (getD (fill g k) (length (g .rowsBefore)) []) (length (g .before)) empty ≡ k
+  pub gap-slot : getD (getD (fill g k) (length (g .rowsBefore)) []) (length (g .before)) empty ≡ k
   gap-slot = ap (λ (y : List Slot). getD y (length (g .before)) empty) gap-row ∙ getD-append-seam (g .before) k (g .after) empty
 
   gap-short : Rows B (fill g k) → length (g .before) < B
@@ -93,19 +93,35 @@ module _ (N B : ℕ) (s : Image) (v : View) (h : Held N B s v) where
       let f = in-use-facts N B (n % N) (getD (partOf N B (n % N) s) 0 []) (u .header) in
       omega (arith, f .below, u .number)
 
+-- a slot written, and then the old one marked, where it was
+module _ (N B : ℕ) (s : Image) (v : View) (h : Held N B s v) (b : ℕ) (c : List ℕ) (valid : Valid b c) (gap : TopGap v) where
+  abbrev wrote : Image
+  wrote = run B (writeAtTop N B b c v) s
+
+  pub put-held : Held N B (run B (markOld N B b v) (run B (writeAtTop N B b c v) s)) (putInto b c v)
+  unfolding markOld
+  put-held = go (holds b (entriesIn v)) refl
+    where
+      written-held : Held N B wrote (written b c v)
+      written-held = write-top-held N B s v h b c valid gap
+      go : (t : Bool) → holds b (entriesIn v) ≡ t → Held N B (run B (cond t (markPlace N B (placeOf b v)) []) wrote) (cond t (marked (placeOf b v) (written b c v)) (written b c v))
+      go false q = unfold run in written-held
+      go true q = subst (λ (p : Place). Held N B (run B (markPlace N B p) wrote) (marked p (written b c v))) (written-place b b c v gap q)
+          (mark-place-held N B wrote (written b c v) written-held b (written-holds b c v gap q))
+
 -- ---- making room
 
 -- one step of the loop: nothing where there is room, else a compaction and the rest
-until-room : (N B k : ℕ) (v : View) → hasRoom v ≡ true → compactUntilRoom N B (suc k) v ≡ record { steps = []; result = v }
+pub until-room : (N B k : ℕ) (v : View) → hasRoom v ≡ true → compactUntilRoom N B (suc k) v ≡ record { steps = []; result = v }
 unfolding compactUntilRoom
 until-room N B k v e = rw e
 
-until-more : (N B k : ℕ) (v : View) → hasRoom v ≡ false → compactUntilRoom N B (suc k) v
+pub until-more : (N B k : ℕ) (v : View) → hasRoom v ≡ false → compactUntilRoom N B (suc k) v
     ≡ record { steps = compactOldest N B v .steps ++ compactUntilRoom N B k (compactOldest N B v .result) .steps; result = compactUntilRoom N B k (compactOldest N B v .result) .result }
 unfolding compactUntilRoom
 until-more N B k v e = rw e
 
-top-rises : (N B k : ℕ) (v : View) → CleanView N B v → topNumber v ≤ topNumber (compactUntilRoom N B k v .result)
+pub top-rises : (N B k : ℕ) (v : View) → CleanView N B v → topNumber v ≤ topNumber (compactUntilRoom N B k v .result)
 top-rises N B zero v c = unfold compactUntilRoom in omega arith
 top-rises N B (suc k) v c = go (hasRoom v) refl (λ d. top-rises N B k (compactOldest N B v .result) d)
   where
@@ -115,7 +131,7 @@ top-rises N B (suc k) v c = go (hasRoom v) refl (λ d. top-rises N B k (compactO
     go false e ih = let t = tidied N B v c e in rw (until-more N B k v e) (omega (arith, ih (t .clean), t .number))
 
 -- the entries of a row fit in a row
-row-fits : (B : ℕ) (v : View) → Rows B (v .slots) → noneWrongOrTorn v ≡ true → 1 ≤ length (v .slots) → length (entries (getD (v .slots) 0 [])) ≤ B
+pub row-fits : (B : ℕ) (v : View) → Rows B (v .slots) → noneWrongOrTorn v ≡ true → 1 ≤ length (v .slots) → length (entries (getD (v .slots) 0 [])) ≤ B
 unfolding noneWrongOrTorn
 row-fits B v r w h = go (v .slots) r h (all-row _ (v .slots) 0 w)
   where
@@ -123,11 +139,11 @@ row-fits B v r w h = go (v .slots) r h (all-row _ (v .slots) 0 w)
     go [] q k p = absurd (omega arith)
     go (x ∷ l) q k p = omega (arith, slots-counted x p, q .0)
 
-one-compaction : (N B : ℕ) (s : Image) (v : View) → Held N B s v → Bytes s → CleanView N B v → length (v .slots) ≡ N - 1 → suc (topNumber v) < numberLimit N
+pub one-compaction : (N B : ℕ) (s : Image) (v : View) → Held N B s v → Bytes s → CleanView N B v → length (v .slots) ≡ N - 1 → suc (topNumber v) < numberLimit N
     → Held N B (run B (compactOldest N B v .steps) s) (compactOldest N B v .result)
 unfolding compactOldest
 one-compaction N B s v h bs c full below =
-    compact-held N B s v h below bs full (entries (getD (v .slots) 0 [])) (row-valid N B s v h bs 0 (c .some)) (row-fits B v (held-lengths N B s v h) (c .sound) (c .some))
+    compact-held N B s v h below full (entries (getD (v .slots) 0 [])) (row-valid N B s v h bs 0 (c .some)) (row-fits B v (held-lengths N B s v h) (c .sound) (c .some))
 
 pub compacted-rows : (N B : ℕ) (v : View) → 1 ≤ length (v .slots) → length (compactOldest N B v .result .slots) ≡ length (v .slots)
 unfolding compactOldest
@@ -143,8 +159,6 @@ compactions-held N B zero s v h bs c full below = unfold compactUntilRoom run in
 compactions-held N B (suc k) s v h bs c full below =
     go (hasRoom v) refl below (λ t ht bt ct ft bl. compactions-held N B k t (compactOldest N B v .result) ht bt ct ft bl)
   where
-    w : View
-    w = compactOldest N B v .result
     go : (t : Bool) → hasRoom v ≡ t → topNumber (compactUntilRoom N B (suc k) v .result) < numberLimit N
         → ((t : Image) → Held N B t (compactOldest N B v .result) → Bytes t → CleanView N B (compactOldest N B v .result) → length (compactOldest N B v .result .slots) ≡ N - 1
             → topNumber (compactUntilRoom N B k (compactOldest N B v .result) .result) < numberLimit N
@@ -209,8 +223,11 @@ module _ (N B : ℕ) (s : Image) (z : rightSize N B s ≡ true) (cl : state N B 
     abbrev pub roomed : Image
     roomed = run B (roomFor N B v .steps) s
 
+    pub roomed-below : topNumber (roomFor N B (view N B s) .result) < numberLimit N
+    roomed-below = laws .room-number v b cv (passes .fit) (passes .fresh) (held-below N B s v h cv)
+
     pub roomed-held : Held N B roomed r
-    roomed-held = room-held N B s v h bs cv (laws .room-number v b cv (passes .fit) (passes .fresh) (held-below N B s v h cv))
+    roomed-held = room-held N B s v h bs cv roomed-below
 
     pub roomed-clean : CleanView N B r
     roomed-clean = laws .room-clean v b cv (passes .fit)
@@ -218,34 +235,23 @@ module _ (N B : ℕ) (s : Image) (z : rightSize N B s ≡ true) (cl : state N B 
     pub roomed-gap : TopGap r
     roomed-gap = shape-gap (clean-shape roomed-clean) (laws .room-found v b cv (passes .fit))
 
-    -- the slot written
-    abbrev pub wrote : Image
-    wrote = run B (writeAtTop N B b c r) roomed
+    pub roomed-table : Agree (entriesIn (roomFor N B (view N B s) .result)) (entriesIn (view N B s))
+    roomed-table = laws .room-table v b cv (passes .fit)
 
-    pub wrote-held : Held N B wrote (written b c r)
-    wrote-held = write-top-held N B roomed r roomed-held b c put-valid roomed-gap
+    pub after-clean : CleanView N B (afterPut N B b c (view N B s))
+    after-clean = laws .put-clean v b c cv (passes .fit)
 
-    -- the old one marked, where it was
-    marked-held : Held N B (run B (markOld N B b r) wrote) (afterPut N B b c v)
-    unfolding markOld afterPut
-    marked-held = go (holds b (entriesIn r)) refl
-      where
-        go : (t : Bool) → holds b (entriesIn r) ≡ t → Held N B (run B (cond t (markPlace N B (placeOf b r)) []) wrote) (cond t (marked (placeOf b r) (written b c r)) (written b c r))
-        go false q = unfold run in wrote-held
-        go true q =
-            let stays = written-place b b c r roomed-gap q in
-            let there : holds b (entriesIn (written b c r)) ≡ true = still (entriesIn r) q in
-            subst (λ (p : Place). Held N B (run B (markPlace N B p) wrote) (marked p (written b c r))) stays (mark-place-held N B wrote (written b c r) wrote-held b there)
-          where
-            still : (t : List Entry) → holds b t ≡ true → holds b (entriesIn (written b c r)) ≡ true
-            still t p = ap (λ (y : List Entry). holds b y) (written-entries b c r roomed-gap) ∙ (holds-append b (entriesIn r) (record { block = b; contents = c } ∷ []) ∙ rw q)
+    pub after-table : Agree (entriesIn (afterPut N B b c (view N B s))) (store b c (entriesIn (view N B s)))
+    after-table = laws .put-table v b c cv (passes .fit)
 
     pub put-steps : workOf N B s (put b c) .steps ≡ roomFor N B v .steps ++ (writeAtTop N B b c r ++ markOld N B b r)
     unfolding stepsFor putSteps view
     put-steps = accepted N B s (put b c) e .0
 
-    pub put-run : run B (workOf N B s (put b c) .steps) s ≡ run B (markOld N B b r) wrote
-    put-run = ap (λ (y : List Step). run B y s) put-steps ∙ (run-append B (roomFor N B v .steps) (writeAtTop N B b c r ++ markOld N B b r) s ∙ run-append B (writeAtTop N B b c r) (markOld N B b r) roomed)
+    after-held : Held N B (run B (workOf N B s (put b c) .steps) s) (afterPut N B b c v)
+    unfolding afterPut
+    after-held = rw (put-steps, run-append B (roomFor N B v .steps) (writeAtTop N B b c r ++ markOld N B b r) s, run-append B (writeAtTop N B b c r) (markOld N B b r) roomed)
+        (put-held N B roomed r roomed-held b c put-valid roomed-gap)
 
     pub put-done : (state N B (run B (workOf N B s (put b c) .steps) s) ≡ clean) × (view N B (run B (workOf N B s (put b c) .steps) s) ≡ afterPut N B b c v)
-    put-done = rw put-run (clean-of-held N B _ (afterPut N B b c v) marked-held (laws .put-clean v b c cv (passes .fit)), marked-held .view)
+    put-done = (clean-of-held N B _ (afterPut N B b c v) after-held after-clean, after-held .view)

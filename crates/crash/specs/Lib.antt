@@ -19,12 +19,8 @@ pub mod Read
 pub mod Delete
 
 -- put: making room, the slot written, the old one marked
-pub mod PutStates
-pub mod PutClean
-pub mod WriteSlots
 pub mod WriteTop
 pub mod RoomTorn
-pub mod RoomDone
 pub mod RoomOwing
 pub mod RoomCuts
 pub mod RoomMade

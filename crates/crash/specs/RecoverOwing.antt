@@ -216,23 +216,23 @@ at-least-of at (x ∷ xs) s f =
     (rw e at (f 0 (omega arith)), at-least-of (suc at) xs s (λ k b. let d : at + suc k ≡ suc at + k = omega arith in rw d at (f (suc k) (omega arith))))
 
 -- a number's bytes and their inverse, as the header has them
-abbrev both : ℕ → List ℕ
+abbrev pub both : ℕ → List ℕ
 both n = numberBytes n ++ inverted (numberBytes n)
 
-both-length : (n : ℕ) → length (both n) ≡ 8
+pub both-length : (n : ℕ) → length (both n) ≡ 8
 both-length n = omega (arith, length-append (numberBytes n) (inverted (numberBytes n)), number-length n, inverted-length (numberBytes n))
 
 both-bytes : (n k : ℕ) → getD (both n) k 0 < 256
 both-bytes n k = bytes-get (both n) k (bytes-append (numberBytes n) (inverted (numberBytes n)) (number-bytes n) (inverted-bytes (numberBytes n)))
 
 -- bytes 8 to 15 of the header of segment i are at least those of number n
-abbrev Keeps : ℕ → ℕ → ℕ → Image → Type 0
+abbrev pub Keeps : ℕ → ℕ → ℕ → Image → Type 0
 Keeps B i n u = (k : ℕ) → k < 8 → getD (both n) k 0 ≤ getD u (i * (B + 1) * 256 + (8 + k)) 0
 
 keeps-get : (B i n : ℕ) (u : Image) → AtLeast (i * (B + 1) * 256 + 8) (both n) u → Keeps B i n u
 keeps-get B i n u h = λ k b. let e : i * (B + 1) * 256 + 8 + k ≡ i * (B + 1) * 256 + (8 + k) = omega arith in rw e at (at-least-get (i * (B + 1) * 256 + 8) (both n) u h k (omega (arith, both-length n)))
 
-keeps-of : (B i n : ℕ) (u : Image) → Keeps B i n u → AtLeast (i * (B + 1) * 256 + 8) (both n) u
+pub keeps-of : (B i n : ℕ) (u : Image) → Keeps B i n u → AtLeast (i * (B + 1) * 256 + 8) (both n) u
 keeps-of B i n u f = at-least-of (i * (B + 1) * 256 + 8) (both n) u (λ k b. let e : i * (B + 1) * 256 + 8 + k ≡ i * (B + 1) * 256 + (8 + k) = omega arith in rw e (f k (omega (arith, both-length n))))
 
 -- ---- cuts

@@ -21,7 +21,7 @@ use Rattle.crash.specs.Skeleton.{demand2-from}
 use Rattle.crash.specs.Recover.{recover-done, recover-cut}
 use Rattle.crash.specs.Read.{read-done}
 use Rattle.crash.specs.Delete.{delete-cut}
-use Rattle.crash.specs.PutCut.{put-cut-from}
+use Rattle.crash.specs.PutCut.{put-cut}
 
 module _ (N B : ℕ) where
   finished-format : (s : Image) → rightSize N B s ≡ true → Clean N B (run B (formatSteps N B) s) × (tableOf N B (run B (formatSteps N B) s) ≡ [])
@@ -47,7 +47,7 @@ module _ (N B : ℕ) where
   request-laws = record
     { format-done = finished-format
     ; put-done = finished-put
-    ; put-cut = put-cut-from N B (recover-cut N B)
+    ; put-cut = put-cut N B
     ; delete-done = finished-delete
     ; delete-cut = delete-cut N B finished-delete
     ; read-done = read-done N B

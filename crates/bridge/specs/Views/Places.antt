@@ -262,3 +262,6 @@ written-entries b c v g = rw (all-before-top g, written-at b c v g) (shown (g .g
 pub written-place : (a b : ℕ) (c : List ℕ) (v : View) → TopGap v → holds a (entriesIn v) ≡ true → placeOf a (written b c v) ≡ placeOf a v
 unfolding placeOf
 written-place a b c v g h = rw (written-at b c v g, g .split) (place-earlier a (v .first) (g .gap) (live b c) empty (ap (holds a) (sym (all-before-top g)) ∙ h))
+
+pub written-holds : (b : ℕ) (c : List ℕ) (v : View) → TopGap v → holds b (entriesIn v) ≡ true → holds b (entriesIn (written b c v)) ≡ true
+written-holds b c v g h = ap (holds b) (written-entries b c v g) ∙ (holds-append b (entriesIn v) (record { block = b; contents = c } ∷ []) ∙ rw h)

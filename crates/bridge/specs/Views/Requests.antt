@@ -11,10 +11,10 @@ use Rattle.model.specs.Chip.{numberLimit}
 use Rattle.model.specs.State.{View, entriesIn, holds, distinct, capacity, placeOf}
 use Rattle.model.specs.Steps.{topNumber, hasRoom, roomFor, newNumbers, isWorn}
 use Rattle.model.specs.Table.{lookup, without, store, Agree}
-use Rattle.bridge.specs.Predicted.{written, marked, afterPut, afterDelete, CleanView, Fits}
+use Rattle.bridge.specs.Predicted.{written, marked, putInto, afterPut, afterDelete, CleanView, Fits}
 use Rattle.bridge.specs.Interface.{ViewLaws}
-use Rattle.model.specs.Laws.Tables.{holds-append, agree-holds, agree-store, without-absent, distinct-without, without-length, without-first, without-first-append, storedLast, stored-last-agree, stored-last-distinct, stored-last-length}
-use Rattle.bridge.specs.Views.Places.{FirstLive, TopGap, marked-entries, written-entries, written-place}
+use Rattle.model.specs.Laws.Tables.{agree-holds, agree-store, without-absent, distinct-without, without-length, without-first, without-first-append, storedLast, stored-last-agree, stored-last-distinct, stored-last-length}
+use Rattle.bridge.specs.Views.Places.{FirstLive, TopGap, marked-entries, written-entries, written-place, written-holds}
 use Rattle.bridge.specs.Views.Shape.{Shape, clean-shape, shape-clean, clean-distinct, clean-within, written-shape, marked-shape, shape-gap, first-live-in}
 use Rattle.bridge.specs.Views.Room.{Made, room-made}
 
@@ -25,7 +25,7 @@ pub record Stored (N B b : ℕ) (c : List ℕ) (r w : View) : Type 0 where
   pub entries : entriesIn w ≡ storedLast b c (entriesIn r)
 
 pub stored : (N B b : ℕ) (c : List ℕ) (r : View) → CleanView N B r → hasRoom r ≡ true
-    → Stored N B b c r (cond (holds b (entriesIn r)) (marked (placeOf b r) (written b c r)) (written b c r))
+    → Stored N B b c r (putInto b c r)
 unfolding storedLast
 stored N B b c r k h = go (holds b (entriesIn r)) refl
   where
@@ -37,7 +37,7 @@ stored N B b c r k h = go (holds b (entriesIn r)) refl
     e = written-entries b c r g
     go : (t : Bool) → holds b (entriesIn r) ≡ t → Stored N B b c r (cond t (marked (placeOf b r) (written b c r)) (written b c r))
     go true p =
-        let q : holds b (entriesIn (written b c r)) ≡ true = ap (holds b) e ∙ (holds-append b (entriesIn r) (record { block = b; contents = c } ∷ []) ∙ rw p) in
+        let q : holds b (entriesIn (written b c r)) ≡ true = written-holds b c r g p in
         let f : FirstLive b (written b c r .first) (written b c r .slots) = first-live-in b (written b c r) q in
         rw (← (written-place b b c r g p)) (record
           { shape = marked-shape b s f

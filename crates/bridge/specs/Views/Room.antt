@@ -1,5 +1,5 @@
 -- Room for a put: a clean view with no room gets some by one opening or by as many tidyings as `compactions` says, and keeps its table.
-use Prim.Native.Nat.{ℕ, zero, suc, _+_, _-_, _*_, _≤_}
+use Prim.Native.Nat.{ℕ, zero, suc, _+_, _-_, _*_, _≤_, _<_}
 use mathlib.Core.Path.{_≡_, refl, sym, ap, _∙_}
 use mathlib.Core.Bool.{Bool, true, false, cond, _||_, _&&_, not, true≢false, and-eq-true-iff}
 use mathlib.Core.List.{List, [], _∷_, _++_, flatten}
@@ -156,6 +156,10 @@ some-dead N B n m v c h k = go (noneDead (flatten (v .slots))) refl
 
 -- ---- room for a put
 
+pub opened-clean : {N B : ℕ} {v : View} → CleanView N B v → hasRoom v ≡ false → length (v .slots) < N - 1 → CleanView N B (openNext N B v .result)
+opened-clean {N} {B} {v} c e k = let x = opened-entries N B v in
+    shape-clean (opened-shape (clean-shape c) e k) (ap distinct x ∙ clean-distinct c) (omega (arith, ap length x, clean-within c))
+
 pub room-made : (N B : ℕ) → 2 ≤ N → 2 ≤ B → (v : View) → CleanView N B v → Made N B v (roomFor N B v .result) (newNumbers N v)
 unfolding roomFor newNumbers
 room-made N B n m v c = go (hasRoom v) (ltb (length (v .slots)) (N - 1)) refl refl
@@ -166,7 +170,7 @@ room-made N B n m v c = go (hasRoom v) (ltb (length (v .slots)) (N - 1)) refl re
     go false true e f =
         let k = ltb-true (length (v .slots)) (N - 1) f in
         let x = opened-entries N B v in
-        record { clean = shape-clean (opened-shape (clean-shape c) e k) (ap distinct x ∙ clean-distinct c) (omega (arith, ap length x, clean-within c))
+        record { clean = opened-clean c e k
           ; room = opened-room N B v (omega arith)
           ; table = λ b. ap (lookup b) x
           ; size = ap length x
