@@ -5,6 +5,7 @@ pub mod Views
 pub mod Held
 pub mod Done
 pub mod Accepted
+pub mod Allowance
 pub mod Requests
 pub mod Format
 pub mod Bridge

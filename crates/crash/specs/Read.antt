@@ -18,26 +18,9 @@ use Rattle.model.specs.Laws.Segments.{partOf, part-page, page-in}
 use Rattle.model.specs.Laws.SlotPage.{LiveFacts, live-facts}
 use Rattle.model.specs.Laws.Effects.{index}
 use Rattle.model.specs.Laws.Chip.{size-facts}
-use Rattle.crash.specs.Machine.{malformed, codeOnTable, plainCode}
+use Rattle.bridge.specs.Accepted.{accepted, read-passed}
 use Rattle.crash.specs.Sound.{Clean, Accepted}
-use Rattle.crash.specs.Requests.{code-clean}
 use Rattle.crash.specs.RecoverMarks.{LivePlace, live-place, live-marks, slot-inside, page-kind}
-
--- ---- a read or a delete is accepted only of a stored block
-
-stored : (number held : Bool) → cond {A = ℕ} (eqb (cond number 0 2) 0) (cond held 0 6) (cond number 0 2) ≡ 0 → held ≡ true
-stored true true e = refl
-stored true false e = absurd (omega arith)
-stored false held e = absurd (omega arith)
-
-module _ (N B : ℕ) (s : Image) (b : ℕ) (z : rightSize N B s ≡ true) (h : Clean N B s) where
-  pub read-stored : Accepted N B s (read b) → holds b (tableOf N B s) ≡ true
-  unfolding plainCode malformed codeOnTable
-  read-stored a = stored (numberOk b) (holds b (tableOf N B s)) (sym (code-clean N B s z h (read b) tt) ∙ a)
-
-  pub delete-stored : Accepted N B s (delete b) → holds b (tableOf N B s) ≡ true
-  unfolding plainCode malformed codeOnTable
-  delete-stored a = stored (numberOk b) (holds b (tableOf N B s)) (sym (code-clean N B s z h (delete b) tt) ∙ a)
 
 -- ---- the contents in a page, and in the image
 
@@ -57,7 +40,7 @@ unfolding pieceRead readOutcome contentsAt tableOf view contentsFound slotAt
 read-done N B s b z h a = rw (a, found) bytes
   where
     l : LivePlace N (segmentsOf N B s) b
-    l = live-place N (segmentsOf N B s) b (read-stored N B s b z h a)
+    l = live-place N (segmentsOf N B s) b (unfold view in read-passed N B s b (accepted N B s (read b) a .1))
     c : List ℕ
     c = l .contents
     n : ℕ

@@ -10,8 +10,9 @@ use Rattle.model.specs.Answers.{recover, workOf}
 use Rattle.model.specs.Histories.{recovered, shown}
 use Rattle.model.specs.Laws.Segments.{segments-length}
 use Rattle.model.specs.Laws.Tables.{agree-of}
+use Rattle.bridge.specs.Accepted.{recover-none}
 use Rattle.crash.specs.Sound.{SoundAs, Sound, Clean, CutOf}
-use Rattle.crash.specs.Requests.{recovered-clean, recover-idle, idle-cut}
+use Rattle.crash.specs.Requests.{recovered-clean, idle-cut}
 use Rattle.crash.specs.RecoverMarks.{mended-c, mended-d, cut-c, cut-d}
 use Rattle.crash.specs.RecoverErase.{mended-a, cut-a}
 use Rattle.crash.specs.RecoverOwing.{mended-b, cut-b}
@@ -55,6 +56,6 @@ recover-cut N B s u z h c = go (state N B s) refl h
     case caseC e = cut-c N B s z u e h c
     case caseD e = cut-d N B s z u e h c
     go : (x : State) → state N B s ≡ x → SoundAs N B s (segmentsOf N B s) x → Kept N B s u
-    go clean e k = kept-same N B s u h (idle-cut N B s u recover (recover-idle N B s e) c)
+    go clean e k = kept-same N B s u h (idle-cut N B s u recover (recover-none N B s e) c)
     go (unfinished x) e k = case x e
     go damaged e k = absurd k

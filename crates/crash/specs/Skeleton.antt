@@ -15,13 +15,15 @@ use Rattle.model.specs.Table.{Table, lookup, Agree, contentsFound, tableOf}
 use Rattle.model.specs.Answers.{Request, format, put, delete, read, readOr, recover, workOf, pieceRead}
 use Rattle.model.specs.Histories.{Reply, bytesRead, Seen, answered, lost, Proper, Does, wears, Event, History, recovered, shown}
 use Rattle.model.specs.Laws.Chip.{cut-size, run-size}
+use Rattle.model.specs.Laws.Lists.{and-left}
 use Rattle.model.specs.Laws.Tables.{agree-of, agree-trans, agree-size}
 use Rattle.model.specs.Laws.Bytes.{cut-bytes, run-bytes}
 use Rattle.crash.specs.Machine.{malformed, plainCode, plainBytes, plain, made, next, codeOnTable, Promise, settled, interrupted, unknown, IsCut, OnTable, WantsRecovery, Holds, Moves, answers, answers-again, asks-recovery, refuses-malformed, not-begun, wholly-done, formats, format-cut, no-promise, PlainRuns}
 use Rattle.crash.specs.Demand2.{Keeps, Demand2}
 use Rattle.crash.specs.Sound.{SoundAs, Sound, Clean, finished, CutOf, DoneWith, LeftWith, RequestLaws}
 use Rattle.bridge.specs.Format.{format-bytes}
-use Rattle.crash.specs.Requests.{refused-idle, idle-finished, idle-cut, read-idle, readOr-idle, readOr-work, recover-idle, shown-clean, sound-clean, read-refused, readOr-bytes, bytes-refused, ended, ends-or-stops, code-clean, Unfinished, code-unfinished, code-recover, code-format, steps-format, malformed-small, code-agree, agree-made, distinct-made, clean-distinct}
+use Rattle.bridge.specs.Accepted.{recover-none}
+use Rattle.crash.specs.Requests.{refused-idle, idle-finished, idle-cut, read-idle, readOr-idle, readOr-work, shown-clean, sound-clean, read-refused, readOr-bytes, bytes-refused, ended, ended-or-stopped, code-clean, Unfinished, code-unfinished, code-recover, code-format, steps-format, malformed-small, code-agree, agree-made, distinct-made, clean-distinct}
 
 -- ---- the table after a request with this code
 
@@ -92,7 +94,7 @@ module _ (N B : ℕ) (laws : RequestLaws N B) where
   clean-done s (delete b) o p z y h zero e = laws .delete-done s b z h e
   clean-done s (read b) o p z y h zero e = idle-done s (read b) (tableOf N B s) h (read-idle N B s b) refl
   clean-done s (readOr b f) o p z y h zero e = idle-done s (readOr b f) (tableOf N B s) h (readOr-idle N B s b f) refl
-  clean-done s recover o p z y h zero e = idle-done s recover (tableOf N B s) h (recover-idle N B s h) refl
+  clean-done s recover o p z y h zero e = idle-done s recover (tableOf N B s) h (recover-none N B s h) refl
 
   clean-cut : (s u : Image) (r : Request) → OnTable r → Proper r → rightSize N B s ≡ true → Bytes s → Clean N B s → CutOf N B s r u → (n : ℕ) → workOf N B s r .code ≡ n
       → LeftWith N B u (tableOf N B s) (after (tableOf N B s) n r)
@@ -103,7 +105,7 @@ module _ (N B : ℕ) (laws : RequestLaws N B) where
   clean-cut s u (delete b) o p z y h c zero e = laws .delete-cut s u b z h e c
   clean-cut s u (read b) o p z y h c zero e = idle-left s u (read b) (tableOf N B s) h (read-idle N B s b) c
   clean-cut s u (readOr b f) o p z y h c zero e = idle-left s u (readOr b f) (tableOf N B s) h (readOr-idle N B s b f) c
-  clean-cut s u recover o p z y h c zero e = idle-left s u recover (tableOf N B s) h (recover-idle N B s h) c
+  clean-cut s u recover o p z y h c zero e = idle-left s u recover (tableOf N B s) h (recover-none N B s h) c
 
   -- the bytes that a read hands back are the table's
   read-bytes : (s : Image) (t : Table) (b : ℕ) → rightSize N B s ≡ true → Clean N B s → Agree (tableOf N B s) t → (n : ℕ) → workOf N B s (read b) .code ≡ n
@@ -296,14 +298,14 @@ module _ (N B : ℕ) (laws : RequestLaws N B) where
   on-table s m x r o p k (answered y) (allowance, e, f) = ⊎-elim
       (λ ends. request-ends s m x r o p k (answered y) (ap answered (e ∙ ends .reply)) (f ∙ ends .image))
       (λ stops. request-cut s m x r o p k (answered y) (inr (ap answered (e ∙ stops .reply))) (rw f (stops .image)))
-      (ends-or-stops N B s allowance r)
+      (ended-or-stopped N B s allowance r)
 
   on-format : (s m : Image) (x : Promise) → rightSize N B s ≡ true → (u : Seen) → Does N B format u s m → Follows N B (wears N B s) format u x m
   on-format s m x z lost c = format-interrupted s m x z (wears N B s) lost (inl refl) c
   on-format s m x z (answered y) (allowance, e, f) = ⊎-elim
       (λ ends. format-ends s m x z (wears N B s) (answered y) (ap answered (e ∙ ends .reply)) (f ∙ ends .image))
       (λ stops. format-interrupted s m x z (wears N B s) (answered y) (inr (ap answered (e ∙ stops .reply))) (rw f (stops .image)))
-      (ends-or-stops N B s allowance format)
+      (ended-or-stopped N B s allowance format)
 
   one-event : (s m : Image) (x : Promise) (r : Request) → Proper r → Invariant N B s x → (u : Seen) → Does N B r u s m → Follows N B (wears N B s) r u x m
   one-event s m x format p k u d = on-format s m x (k .0) u d
@@ -327,16 +329,8 @@ module _ (N B : ℕ) (laws : RequestLaws N B) where
   keeps s (interrupted t) (z, k) = ((λ e. subst (λ y. SoundAs N B s (segmentsOf N B s) y) e (k .sound)), laws .recover-done s z (k .sound), k .table)
   keeps s unknown k = tt
 
-range-of : (N B : ℕ) (s : Image) → rightSize N B s ≡ true → inRange N B ≡ true
-unfolding rightSize
-range-of N B s z = go (inRange N B) z
-  where
-    go : (t : Bool) → t && eqb (length s) (imageLength N B) ≡ true → t ≡ true
-    go true e = refl
-    go false e = e
-
 pub demand2-from : ((N B : ℕ) → inRange N B ≡ true → RequestLaws N B) → Demand2
 demand2-from laws N B s u es z runs =
-    let l = laws N B (range-of N B s z) in
+    let l = laws N B (and-left (inRange N B) (eqb (length s) (imageLength N B)) (unfold rightSize in z)) in
     let a = history N B l es s u unknown (z, tt) runs in
     (a .0, a .1, keeps N B l u (a .0) (a .2))

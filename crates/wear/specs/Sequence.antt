@@ -24,7 +24,7 @@ use Rattle.bridge.specs.Requests.{put-done, delete-done}
 use Rattle.wear.specs.Demand3.{FewErases, Demand3}
 use Rattle.wear.specs.Erases.{delete-none}
 use Rattle.wear.specs.Requests.{Tracks, tracks-paid, tracks-balanced, tracks-start, tracks-still, put-few, tracks-put, tracks-delete}
-use Rattle.wear.specs.Calls.{Finished, finished}
+use Rattle.bridge.specs.Allowance.{Ends, ends}
 
 -- the image is clean, and the count belongs to its view
 pub record Sequenced (N B : ℕ) (s : Image) (t : Tally) : Type 0 where
@@ -40,7 +40,7 @@ module _ (N B : ℕ) where
   Kept s t x = Sequenced N B (outcomeOf N B s (x .allowance) (x .request) .image) (tallied (observe N B s x) t) × (length (observe N B s x .erases) ≤ N - 1)
 
   -- a call by its work, all of it done
-  kept : (s : Image) (t : Tally) (x : Call) → Sequenced N B s t → Finished N B s (x .allowance) (x .request)
+  kept : (s : Image) (t : Tally) (x : Call) → Sequenced N B s t → Ends N B s (x .allowance) (x .request)
       → let w = workOf N B s (x .request) in
         state N B (run B (w .steps) s) ≡ clean
       → Tracks N B (view N B (run B (w .steps) s)) (tallied (record { request = x .request; code = w .code; erases = erasesIn (w .steps) }) t)
@@ -52,7 +52,7 @@ module _ (N B : ℕ) where
       , few )
 
   -- one that takes no step, and neither stores nor removes a block
-  still : (s : Image) (t : Tally) (x : Call) → Sequenced N B s t → Finished N B s (x .allowance) (x .request) → workOf N B s (x .request) .steps ≡ []
+  still : (s : Image) (t : Tally) (x : Call) → Sequenced N B s t → Ends N B s (x .allowance) (x .request) → workOf N B s (x .request) .steps ≡ []
       → cond (eqb (workOf N B s (x .request) .code) 0) (storedAfter (x .request) (t .stored)) (t .stored) ≡ t .stored
       → cond (eqb (workOf N B s (x .request) .code) 0) (replaces (x .request) (t .stored)) 0 ≡ 0
       → Kept s t x
@@ -61,7 +61,7 @@ module _ (N B : ℕ) where
       let same : run B (workOf N B s (x .request) .steps) s ≡ s = ap (λ xs. run B xs s) none in
       kept s t x g f (rw same (g .clean)) (rw same (tracks-still N B (view N B s) t _ (g .tracks) (rw none) stays free)) (rw none (omega arith))
 
-  done-put : (s : Image) (t : Tally) (b : ℕ) (c : List ℕ) (allowance : ℕ) → Sequenced N B s t → Finished N B s allowance (put b c) → Bytes c → workOf N B s (put b c) .code ≡ 0
+  done-put : (s : Image) (t : Tally) (b : ℕ) (c : List ℕ) (allowance : ℕ) → Sequenced N B s t → Ends N B s allowance (put b c) → Bytes c → workOf N B s (put b c) .code ≡ 0
       → Kept s t (record { request = put b c; allowance = allowance })
   unfolding stepsFor view
   done-put s t b c allowance g f bytes e =
@@ -73,7 +73,7 @@ module _ (N B : ℕ) where
         (rw (d .1, e, a .0) (tracks-put N B laws (view N B s) t b c cv (put-passed N B s b c (a .1) .fit) (g .tracks)))
         (rw (a .0) (put-few N B (view N B s) t b c cv (g .tracks)))
 
-  done-delete : (s : Image) (t : Tally) (b allowance : ℕ) → Sequenced N B s t → Finished N B s allowance (delete b) → workOf N B s (delete b) .code ≡ 0
+  done-delete : (s : Image) (t : Tally) (b allowance : ℕ) → Sequenced N B s t → Ends N B s allowance (delete b) → workOf N B s (delete b) .code ≡ 0
       → Kept s t (record { request = delete b; allowance = allowance })
   unfolding stepsFor view
   done-delete s t b allowance g f e =
@@ -86,7 +86,7 @@ module _ (N B : ℕ) where
         (rw (a .0, delete-none N B b (view N B s)) (omega arith))
 
   -- refused, or done
-  decided : (s : Image) (t : Tally) (x : Call) → Sequenced N B s t → Finished N B s (x .allowance) (x .request) → (workOf N B s (x .request) .code ≡ 0 → Kept s t x) → Kept s t x
+  decided : (s : Image) (t : Tally) (x : Call) → Sequenced N B s t → Ends N B s (x .allowance) (x .request) → (workOf N B s (x .request) .code ≡ 0 → Kept s t x) → Kept s t x
   decided s t x g f done = go (eqb (workOf N B s (x .request) .code) 0) refl
     where
       go : (u : Bool) → eqb (workOf N B s (x .request) .code) 0 ≡ u → Kept s t x
@@ -94,7 +94,7 @@ module _ (N B : ℕ) where
       go false e = still s t x g f (refused-none N B s (x .request) e) (rw e) (rw e)
 
   -- a request that neither stores nor removes a block, whatever its answer
-  quiet : (s : Image) (t : Tally) (x : Call) → Sequenced N B s t → Finished N B s (x .allowance) (x .request) → workOf N B s (x .request) .steps ≡ []
+  quiet : (s : Image) (t : Tally) (x : Call) → Sequenced N B s t → Ends N B s (x .allowance) (x .request) → workOf N B s (x .request) .steps ≡ []
       → storedAfter (x .request) (t .stored) ≡ t .stored → replaces (x .request) (t .stored) ≡ 0 → Kept s t x
   quiet s t x g f none stays free =
       let u = eqb (workOf N B s (x .request) .code) 0 in
@@ -108,17 +108,17 @@ module _ (N B : ℕ) where
   unfolding stepsFor storedAfter replaces
   call s t format allowance g i n = absurd i
   call s t (put b c) allowance g i n =
-      let f = finished N B s allowance (put b c) n in
+      let f = ends N B s allowance (put b c) n in
       decided s t (record { request = put b c; allowance = allowance }) g f (λ e. done-put s t b c allowance g f i e)
   call s t (delete b) allowance g i n =
-      let f = finished N B s allowance (delete b) n in
+      let f = ends N B s allowance (delete b) n in
       decided s t (record { request = delete b; allowance = allowance }) g f (λ e. done-delete s t b allowance g f e)
   call s t (read b) allowance g i n =
-      quiet s t (record { request = read b; allowance = allowance }) g (finished N B s allowance (read b) n) (quiet-none N B s (read b) refl) refl refl
+      quiet s t (record { request = read b; allowance = allowance }) g (ends N B s allowance (read b) n) (quiet-none N B s (read b) refl) refl refl
   call s t (readOr b c) allowance g i n =
-      quiet s t (record { request = readOr b c; allowance = allowance }) g (finished N B s allowance (readOr b c) n) (quiet-none N B s (readOr b c) refl) refl refl
+      quiet s t (record { request = readOr b c; allowance = allowance }) g (ends N B s allowance (readOr b c) n) (quiet-none N B s (readOr b c) refl) refl refl
   call s t recover allowance g i n =
-      quiet s t (record { request = recover; allowance = allowance }) g (finished N B s allowance recover n) (recover-none N B s (g .clean)) refl refl
+      quiet s t (record { request = recover; allowance = allowance }) g (ends N B s allowance recover n) (recover-none N B s (g .clean)) refl refl
 
   -- ---- a sequence: each call works on what the one before left
 
@@ -150,7 +150,7 @@ module _ (N B : ℕ) where
   formatted : (s : Image) (allowance : ℕ) → outcomeOf N B s allowance format .code ≡ 0 → Sequenced N B (outcomeOf N B s allowance format .image) start
   unfolding stepsFor
   formatted s allowance e =
-      let f = finished N B s allowance format (λ p. omega arith) in
+      let f = ends N B s allowance format (λ p. omega arith) in
       let a = accepted N B s format (sym (f .code) ∙ e) in
       let size = format-passed N B s (a .1) in
       let d = format-done N B s size in
