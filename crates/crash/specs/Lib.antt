@@ -26,5 +26,7 @@ pub mod RoomCuts
 pub mod RoomMade
 pub mod PutCut
 
--- the theorem
+-- the theorem, the customer's sentences, and bench examples 7 and 8 as instances
 pub mod Theorem
+pub mod Sentences
+pub mod Examples
