@@ -14,11 +14,15 @@ use Rattle.model.specs.Answers.{put, delete}
 use Rattle.model.specs.Sequences.{Observed, erasesIn, among, removed, inserted, storedAfter, replaces, Tally, start, tallied, eraseCount, erasesOf}
 use Rattle.bridge.specs.Predicted.{slotChanged, written, marked, afterPut, afterDelete, fresh, CleanView, Fits}
 use Rattle.bridge.specs.Interface.{ViewLaws}
+use Rattle.model.specs.Laws.Lists.{one}
+use Rattle.model.specs.Laws.Tables.{agree-holds}
+use Rattle.bridge.specs.Views.Slots.{copied-none}
+use Rattle.bridge.specs.Format.{fresh-table}
 use Rattle.wear.specs.Demand3.{ErasesPaid, Balanced}
-use Rattle.wear.specs.Counting.{one, deads, set-slot, lives, lives-entries, Packed, clean-packed, empties-dead, empties-entries}
+use Rattle.wear.specs.Counting.{deads-behind, drop-behind, set-slot, copied-dead}
 use Rattle.wear.specs.Erases.{erases-append, written-none, delete-none, turns, turns-length, balanced}
 use Rattle.wear.specs.Room.{Paid, paid-after, Moved, room-moved}
-use Rattle.wear.specs.Stored.{agree-holds, Stored, stored-none, stored-length, stored-put, stored-delete}
+use Rattle.wear.specs.Stored.{Stored, stored-none, stored-length, stored-put, stored-delete}
 
 -- the count belongs to the view
 pub record Tracks (N B : ℕ) (v : View) (t : Tally) : Type 0 where
@@ -45,12 +49,12 @@ tracks-balanced N B v t h = λ i j hi hj. rw (h .inTurn) (omega (arith, balanced
 
 module _ (N B : ℕ) where
   pub tracks-start : 2 ≤ N → Tracks N B (fresh B) start
-  unfolding start fresh turns entriesIn flatten deads
+  unfolding start fresh turns
   tracks-start h = record
     { inTurn = refl
-    ; stored = rw (append-nil (replicate B empty), empties-entries B) stored-none
+    ; stored = rw (fresh-table B) stored-none
     ; most = omega arith
-    ; paid = record { k = 0; p = 0; boundary = omega arith; part = omega arith; paid = omega (arith, empties-dead B) } }
+    ; paid = record { k = 0; p = 0; boundary = omega arith; part = omega arith; paid = omega (arith, drop-behind 0 [] (replicate B empty) (rw (copied-none B) (copied-dead B [])), deads-behind []) } }
 
   -- the blocks stored, m replaced more, these erases
   counted : List ℕ → ℕ → List ℕ → Tally → Tally
@@ -106,16 +110,12 @@ module _ (N B : ℕ) where
       go true = paid-marked (R + 1) (placeOf b r) (written b c r) (omega arith) (paid-written R b c r (omega arith) h)
       go false = paid-written (R + 0) b c r (omega arith) h
 
-  packed : (v : View) → CleanView N B v → Packed B (v .slots)
-  unfolding noneWrongOrTorn emptySlotsLast
-  packed v c = clean-packed B (v .slots) (c .rows) (c .sound) (c .last)
-
-  few-live : (v : View) (t : Tally) → CleanView N B v → Tracks N B v t → lives (v .slots) ≤ t .largest
-  unfolding blocksDistinct entriesIn
-  few-live v t c h = omega (arith, lives-entries (v .slots), stored-length (t .stored) (entriesIn v) (h .stored) (c .once), h .most)
+  few-live : (v : View) (t : Tally) → CleanView N B v → Tracks N B v t → length (entriesIn v) ≤ t .largest
+  unfolding blocksDistinct
+  few-live v t c h = omega (arith, stored-length (t .stored) (entriesIn v) (h .stored) (c .once), h .most)
 
   put-moved : (v : View) (t : Tally) → CleanView N B v → Tracks N B v t → Moved N B (t .largest) (t .replaced) (N - 1) v (roomFor N B v)
-  put-moved v t c h = room-moved N B (t .largest) (t .replaced) v (c .spare) (packed v c) (few-live v t c h) (h .paid)
+  put-moved v t c h = room-moved N B (t .largest) (t .replaced) v c (few-live v t c h) (h .paid)
 
   put-erases : (v : View) (b : ℕ) (c : List ℕ) → erasesIn (putSteps N B b c v) ≡ erasesIn (roomFor N B v .steps)
   unfolding putSteps

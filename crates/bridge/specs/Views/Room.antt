@@ -8,7 +8,7 @@ use native.Mathlib.Nat.{mul-le-mul-right}
 use lib.ListN.{length, length-append}
 use lib.Dec.{ltb}
 use borrow.Author.Tests.{ltb-true, ltb-false, lt-ltb, le-ltb, not-true, not-false}
-use Rattle.model.specs.Lists.{all}
+use Rattle.model.specs.Lists.{all, count}
 use Rattle.model.specs.Slot.{Slot, isEmpty, isDead, isTorn, isWrong}
 use Rattle.model.specs.State.{View, entries, entriesIn, distinct, noneWrongOrTorn, capacity}
 use Rattle.model.specs.Steps.{topNumber, hasRoom, copied, openNext, compactOldest, compactUntilRoom, roomFor, compactions, newNumbers}
@@ -138,21 +138,26 @@ module _ (N B : ℕ) where
           let i = ih (x .clean) e (f .0) (omega arith) in
           record { clean = i .clean; room = i .room; table = λ b. i .table b ∙ x .table b; size = i .size ∙ x .size; number = omega (arith, i .number, x .number) }
 
--- ---- a dead slot where all segments but one are in use and full
+-- ---- no room: every slot is live or dead
 
+pub full-view : {N B : ℕ} {v : View} → CleanView N B v → hasRoom v ≡ false → length (entriesIn v) + count isDead (flatten (v .slots)) ≡ length (v .slots) * B
+unfolding noneWrongOrTorn entriesIn
+full-view {N} {B} {v} c h =
+    full-counted (flatten (v .slots)) (c .sound) (all-flatten (λ x. not (isEmpty x)) (v .slots) ∙ all-full (clean-shape c) h) ∙ rows-length B (v .slots) (c .rows)
+
+-- some are dead, where all segments but one are in use
 pub some-dead : (N B : ℕ) → 2 ≤ N → 2 ≤ B → (v : View) → CleanView N B v → hasRoom v ≡ false → N - 1 ≤ length (v .slots) → noneDead (flatten (v .slots)) ≡ false
-unfolding noneWrongOrTorn entriesIn capacity
+unfolding capacity
 some-dead N B n m v c h k = go (noneDead (flatten (v .slots))) refl
   where
     go : (t : Bool) → noneDead (flatten (v .slots)) ≡ t → t ≡ false
     go false e = refl
     go true e =
-        let f : full (flatten (v .slots)) ≡ true = all-flatten (λ x. not (isEmpty x)) (v .slots) ∙ all-full (clean-shape c) h in
         let q : length (v .slots) ≡ N - 1 = omega (arith, c .spare) in
-        let r : length (flatten (v .slots)) ≡ (N - 1) * B = rw q at (rows-length B (v .slots) (c .rows)) in
-        let w : length (entries (flatten (v .slots))) ≤ (N - 1) * B - 1 = clean-within c in
+        let r : length (entriesIn v) + count isDead (flatten (v .slots)) ≡ (N - 1) * B = rw q at (full-view c h) in
+        let w : length (entriesIn v) ≤ (N - 1) * B - 1 = clean-within c in
         let z : 1 * B ≤ (N - 1) * B = mul-le-mul-right B (omega arith) in
-        absurd (omega (arith, full-counted (flatten (v .slots)) (c .sound) f, none-count isDead (flatten (v .slots)) e))
+        absurd (omega (arith, none-count isDead (flatten (v .slots)) e))
 
 -- ---- room for a put
 

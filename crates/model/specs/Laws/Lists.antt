@@ -119,6 +119,23 @@ count-set f (x ∷ xs) (suc i) y d h = go (f x) (count-set f xs i y d (omega ari
     go true e = omega arith
     go false e = e
 
+-- wherever it is, there or not
+pub count-set-most : {A : Type 0} (f : A → Bool) (xs : List A) (i : ℕ) (y : A) → count f (set xs i y) ≤ one (f y) + count f xs
+unfolding count one
+count-set-most f [] i y = omega arith
+count-set-most f (x ∷ xs) zero y = go (f x) (f y)
+  where
+    go : (a b : Bool) → cond b (suc (count f xs)) (count f xs) ≤ one b + cond a (suc (count f xs)) (count f xs)
+    go true true = omega arith
+    go true false = omega arith
+    go false true = omega arith
+    go false false = omega arith
+count-set-most f (x ∷ xs) (suc i) y = go (f x) (count-set-most f xs i y)
+  where
+    go : (a : Bool) → count f (set xs i y) ≤ one (f y) + count f xs → cond a (suc (count f (set xs i y))) (count f (set xs i y)) ≤ one (f y) + cond a (suc (count f xs)) (count f xs)
+    go true h = omega arith
+    go false h = h
+
 pub count-none : {A : Type 0} (f : A → Bool) (xs : List A) (i : ℕ) (d : A) → count f xs ≡ 0 → i < length xs → f (getD xs i d) ≡ false
 unfolding count
 count-none f [] i d h l = absurd (omega arith)
