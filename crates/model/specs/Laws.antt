@@ -21,12 +21,10 @@ pub mod CopyOut
 pub mod Ring
 pub mod Clean
 pub mod View
-pub mod ImageView
 pub mod Exclusive
 
 -- tables
 pub mod Tables
-pub mod Requests
 
 -- the bench table
 pub mod Bench

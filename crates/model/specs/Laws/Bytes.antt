@@ -26,10 +26,6 @@ clear-byte v = and-comm 255 v ∙ and-mask v 8
 pub clear-erased : (v : ℕ) → v < 256 → clear 255 v ≡ v
 clear-erased v h = clear-byte v ∙ mod-eq-of-lt h
 
-pub clear-self : (a : ℕ) → clear a a ≡ a
-unfolding clear
-clear-self a = and-self a
-
 pub clear-le : (a v : ℕ) → clear a v ≤ a
 unfolding clear
 clear-le a v = and-le-l a v
@@ -64,9 +60,6 @@ raised-get [] t r j = and-zero-l (getD t j 0)
 raised-get (a ∷ s) [] r j = absurd r
 raised-get (a ∷ s) (x ∷ t) r zero = r .0 .0
 raised-get (a ∷ s) (x ∷ t) r (suc j) = raised-get s t (r .1) j
-
-pub raised-le : (s t : List ℕ) → Raised s t → (j : ℕ) → getD s j 0 ≤ getD t j 0
-raised-le s t r j = within-le (getD s j 0) (getD t j 0) (raised-get s t r j)
 
 -- ---- bytes one bit apart have nothing between them
 
@@ -191,9 +184,6 @@ unfolding same
 same-refl [] = refl
 same-refl (x ∷ s) = and-both (eqb x x) (same s s) (eq-eqb x x refl) (same-refl s)
 
-pub eq-same : (a b : List ℕ) → a ≡ b → same a b ≡ true
-eq-same a b e = ap (λ y. same a y) (sym e) ∙ same-refl a
-
 -- ---- erased bytes
 
 pub erased-suc : (n : ℕ) → erased (suc n) ≡ 255 ∷ erased n
@@ -226,9 +216,6 @@ pub blank-erased : (p : List ℕ) → isBlank p ≡ true → p ≡ erased (lengt
 unfolding isBlank erased
 blank-erased [] h = refl
 blank-erased (x ∷ p) h = ap₂ {C = List ℕ} (λ a b. a ∷ b) (eqb-true x 255 (and-left (eqb x 255) (isBlank p) h)) (blank-erased p (and-right (eqb x 255) (isBlank p) h))
-
-pub erased-is-blank : (p : List ℕ) → p ≡ erased (length p) → isBlank p ≡ true
-erased-is-blank p e = ap isBlank e ∙ erased-blank (length p)
 
 -- ---- an image of bytes stays one, through steps and cuts
 

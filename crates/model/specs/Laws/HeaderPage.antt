@@ -30,16 +30,6 @@ pub header-number : (N B st n old : ℕ) → n < 4294967296 → headerNumber (he
 unfolding headerNumber headerPage numberBytes
 header-number N B st n old h = number-value n h
 
-pub header-length : (N B st n old : ℕ) → length (headerPage N B st n old) ≡ 256
-unfolding headerPage numberBytes inverted erased
-header-length N B st n old = refl
-
-pub header-bytes : (N B st n old : ℕ) → N < 256 → B < 256 → st < 256 → old < 256 → Bytes (headerPage N B st n old)
-unfolding headerPage
-header-bytes N B st n old hN hB hs ho =
-    (omega arith, (omega arith, (omega arith, (omega arith, (omega arith, (hs, (hB, (hN,
-    bytes-append (numberBytes n) _ (number-bytes n) (bytes-append (inverted (numberBytes n)) _ (inverted-bytes (numberBytes n)) (ho, erased-bytes 239))))))))))
-
 -- numbers below the limit fit in four bytes
 pub number-fits : (N n : ℕ) → N ≤ mostSegments → n < numberLimit N → n < 4294967296
 unfolding mostSegments numberLimit
@@ -54,21 +44,9 @@ header-in-use N B st n hN hs hn =
     let h = headerPage N B st n (oldIndex N (n % N) st) in
     rw (header-status N B st n (oldIndex N (n % N) st), header-number N B st n (oldIndex N (n % N) st) (number-fits N n hN hn), hs, lt-ltb n (numberLimit N) hn, eq-eqb (n % N) (n % N) refl) (same-refl h)
 
-pub opened-in-use : (N B n : ℕ) → N ≤ mostSegments → n < numberLimit N → headerInUse N B (n % N) (headerPage N B opened n noOldSegment) ≡ true
-unfolding statusInUse oldIndex
-opened-in-use N B n hN hn = header-in-use N B opened n hN refl hn
-
 -- the old segment of number o, when all but one are in use: its index comes after the target's
 old-index : (N o n : ℕ) → suc n ≡ o + N → (n % N + 1) % N ≡ o % N
 old-index N o n e = let q : n + 1 ≡ o + N = omega arith in mod-add-mod n N 1 ∙ (ap (λ (y : ℕ). y % N) q ∙ add-mod-right o N)
-
-pub pending-in-use : (N B o n : ℕ) → N ≤ mostSegments → n < numberLimit N → suc n ≡ o + N → headerInUse N B (n % N) (headerPage N B erasePending n (o % N)) ≡ true
-unfolding statusInUse oldIndex
-pending-in-use N B o n hN hn e = rw (old-index N o n e) at (header-in-use N B erasePending n hN refl hn)
-
-pub compacted-in-use : (N B o n : ℕ) → N ≤ mostSegments → n < numberLimit N → suc n ≡ o + N → headerInUse N B (n % N) (headerPage N B compacted n (o % N)) ≡ true
-unfolding statusInUse oldIndex
-compacted-in-use N B o n hN hn e = rw (old-index N o n e) at (header-in-use N B compacted n hN refl hn)
 
 pub record InUseFacts (N B i : ℕ) (h : Page) : Type 0 where
   pub status : statusInUse (headerStatus h) ≡ true
@@ -90,9 +68,6 @@ in-use-facts N B i h e =
       ; below = ltb-true (headerNumber h) (numberLimit N) (and-left b (c && same h p) e1)
       ; place = eqb-true (headerNumber h % N) i (and-left c (same h p) e2)
       ; page = same-eq h p (and-right c (same h p) e2) }
-
-pub in-use-length : (N B i : ℕ) (h : Page) → headerInUse N B i h ≡ true → length h ≡ 256
-in-use-length N B i h e = ap length (in-use-facts N B i h e .page) ∙ header-length N B (headerStatus h) (headerNumber h) (oldIndex N i (headerStatus h))
 
 -- ---- not in use
 
@@ -137,20 +112,6 @@ number-raised N B i h n hN hn u low =
   where
     get : (k : ℕ) → getD h k 0 ≡ getD (headerPage N B (headerStatus h) (headerNumber h) (oldIndex N i (headerStatus h))) k 0
     get k = ap (λ y. getD y k 0) (in-use-facts N B i h u .page)
-
--- a header in use, none of whose bytes is less than that of another in use, has the same number
-pub number-kept : (N B i j : ℕ) (s h : Page) → N ≤ mostSegments → headerInUse N B i s ≡ true → headerInUse N B j h ≡ true
-    → ((k : ℕ) → getD s k 0 ≤ getD h k 0) → headerNumber h ≡ headerNumber s
-unfolding headerPage
-number-kept N B i j s h hN us uh low =
-    let f = in-use-facts N B i s us in
-    number-raised N B j h (headerNumber s) hN (number-fits N (headerNumber s) hN (f .below)) uh (λ k l. omega (arith, low (8 + k), byte k l))
-  where
-    byte : (k : ℕ) → k < 8 → getD s (8 + k) 0 ≡ getD (numberBytes (headerNumber s) ++ inverted (numberBytes (headerNumber s))) k 0
-    byte k l = let v = numberBytes (headerNumber s) in
-        sym (getD-drop 8 s k 0) ∙ ap (λ y. getD (drop 8 y) k 0) (in-use-facts N B i s us .page)
-        ∙ ap (λ y. getD y k 0) (sym (append-assoc v (inverted v) (oldIndex N i (headerStatus s) ∷ erased 239)))
-        ∙ List·getD-append (v ++ inverted v) (oldIndex N i (headerStatus s) ∷ erased 239) 0 k (omega (arith, length-append v (inverted v), number-length (headerNumber s), inverted-length v))
 
 -- ---- the steps within a header page
 
@@ -249,9 +210,6 @@ module _ (N B n : ℕ) (hN : N < 256) (hB : B < 256) where
         let eB : B % 256 ≡ B = mod-eq-of-lt hB in
         let eo : old % 256 ≡ old = mod-eq-of-lt ho in
         ap (λ y. run B (compactionHeader N B n old) y) front ∙ simp (clear-byte, eN, eB, eo)
-
-    pub compaction-pending-run : run B (pendingHeader N B n old) (run B (compactionHeader N B n old) (erased 256)) ≡ headerPage N B erasePending n old
-    compaction-pending-run = ap (λ y. run B (pendingHeader N B n old) y) compaction-run ∙ pending-run N B n old
 
 pub settled-run : (N B n old : ℕ) → run B settledHeader (headerPage N B erasePending n old) ≡ headerPage N B compacted n old
 unfolding settledHeader run step headerPage

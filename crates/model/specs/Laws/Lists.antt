@@ -80,13 +80,6 @@ all-fails f (x ∷ xs) (suc i) d l h = go (f x) (all f xs) (all-fails f xs i d (
     go true b q = q
     go false b q = refl
 
--- all but one pass
-pub all-set-back : {A : Type 0} (f : A → Bool) (xs : List A) (i : ℕ) (y d : A) → all f (set xs i y) ≡ true → f (getD xs i d) ≡ true → all f xs ≡ true
-unfolding all
-all-set-back f [] i y d h k = refl
-all-set-back f (x ∷ xs) zero y d h k = and-both (f x) (all f xs) k (and-right (f y) (all f xs) h)
-all-set-back f (x ∷ xs) (suc i) y d h k = and-both (f x) (all f xs) (and-left (f x) (all f (set xs i y)) h) (all-set-back f xs i y d (and-right (f x) (all f (set xs i y)) h) k)
-
 -- ---- counting
 
 unfoldable pub one : Bool → ℕ

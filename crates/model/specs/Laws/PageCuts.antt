@@ -83,9 +83,6 @@ write-cut B b c u v k =
       (status-cut B 0 writeBegun written (writeMiddle b c) (erased 256) u (omega (arith, erased-length 256)) (rw (e, f) begun-bit) (rw (e, f, clear-written) written-bit)
         (write-spares b c) (rw (write-parts b c) at k))
 
-pub write-cut-length : (B b : ℕ) (c : List ℕ) (u : Page) → Cut B (writeSlot b c) (erased 256) u → length u ≡ 256
-write-cut-length B b c u k = cut-length B (writeSlot b c) (erased 256) u k ∙ erased-length 256
-
 pub write-cut-kind : (B b : ℕ) (c : List ℕ) (u : Page) → Valid b c → Cut B (writeSlot b c) (erased 256) u
     → (slotOf u ≡ empty) ⊎ ((slotOf u ≡ torn) ⊎ (slotOf u ≡ live b c))
 write-cut-kind B b c u v k =
@@ -159,11 +156,3 @@ pending-cut N B n old u k =
     let e = begun-status N B old in
     ⊎-elim (λ g. inl (bit-6 compactionBegun u (g ∙ e) refl)) (λ g. inr (g ∙ pending-run N B n old))
       (finish-cut B 5 erasePending (programPart h 8 8) (begunPage N B old) u (rw (e, clear-compaction) erase-pending-bit) (spares-part 5 h 8 8 (inl (omega arith))) k)
-
--- the last status of a compaction: programmed or not
-pub settled-cut : (N B n old : ℕ) (u : Page) → Cut B settledHeader (headerPage N B erasePending n old) u
-    → (u ≡ headerPage N B erasePending n old) ⊎ (u ≡ headerPage N B compacted n old)
-unfolding settledHeader
-settled-cut N B n old u k =
-    let e : getD (headerPage N B erasePending n old) 5 0 ≡ erasePending = unfold headerPage in refl in
-    ⊎-elim (λ g. inl g) (λ g. inr (g ∙ settled-run N B n old)) (one-bit-cut B 5 compacted (headerPage N B erasePending n old) u (rw (e, clear-pending) compacted-bit) k)

@@ -49,11 +49,6 @@ unfolding run runPages
 pages-run N B [] s h = refl
 pages-run N B (x ∷ xs) s h = pages-run N B xs (step B x s) (step-length B x s ∙ h) ∙ ap (λ y. runPages B xs y) (pages-step N B x s h)
 
-pub runPages-append : (B : ℕ) (xs ys : List Step) (ps : List Page) → runPages B (xs ++ ys) ps ≡ runPages B ys (runPages B xs ps)
-unfolding runPages
-runPages-append B [] ys ps = refl
-runPages-append B (x ∷ xs) ys ps = runPages-append B xs ys (stepPages B x ps)
-
 -- ---- steps inside one page
 
 -- every step programs a byte of a page
