@@ -5,7 +5,7 @@ use mathlib.Core.Logic.{_≢_}
 use mathlib.Core.Bool.{Bool, true, false, cond}
 use mathlib.Core.List.{List, [], _∷_, _++_}
 use native.Mathlib.Omega.{arith}
-use native.Mathlib.Nat.{mod-lt, mod-add-mod, add-mod-right}
+use native.Mathlib.Nat.{mod-lt}
 use lib.ListN.{length, getD, drop, set, replicate, length-set}
 use lib.Seq.{set-set, set-comm, getD-set-same, getD-set-other}
 use Rattle.model.specs.Chip.{Image, numberLimit, imageLength, step, run, Step, erase}
@@ -15,6 +15,7 @@ use Rattle.model.specs.Slot.{Slot, empty, dead, live, Entry}
 use Rattle.model.specs.State.{Segment, blank, inUse, segmentsOf, nextNumber, nextIndex, usedCount, firstNumber, View, viewOf, view, entries, withSlot, Place}
 use Rattle.model.specs.Steps.{onPage, slotAt, writeSlot, markDead, markPlace, openSegment, copyOut, settle, compact, topRow, topNumber, firstEmpty, copied, openNext, compactOldest, writeAtTop}
 use Rattle.model.specs.Laws.Chip.{SizeFacts, size-facts, run-size, run-append, run-length, step-length}
+use Rattle.model.specs.Laws.HeaderPage.{old-index}
 use Rattle.model.specs.Laws.SlotPage.{Valid, Markable, live-markable}
 use Rattle.model.specs.Laws.Effects.{mark-effect, write-effect, slot-kind, slotPageAt, erase-effect, open-effect, settle-effect}
 use Rattle.model.specs.Laws.CopyOut.{Valids, copy-out-effect}
@@ -110,8 +111,7 @@ module _ (N B : ℕ) (s : Image) (v : View) (h : Held N B s v) where
       ring-closed = omega (arith, full, size .two)
 
       old-after : o % N ≡ (next % N + 1) % N
-      old-after = let e : suc next ≡ next + 1 = omega arith in
-          sym (add-mod-right o N) ∙ (ap (λ (y : ℕ). y % N) (ring-closed ∙ e) ∙ sym (mod-add-mod next N 1))
+      old-after = sym (old-index N o next (sym ring-closed))
 
       pub old-apart : v .first % N ≢ suc (topNumber v) % N
       old-apart e = let q : o ≡ next = mod-inj N o next (omega (arith, ring-closed, size .two)) (omega (arith, ring-closed)) e in omega (arith, ring-closed, size .two)

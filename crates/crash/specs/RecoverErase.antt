@@ -2,7 +2,7 @@
 use Prim.Native.Nat.{ℕ, _+_, _*_, _/_, _%_, _<_}
 use mathlib.Core.Path.{_≡_, refl, sym, ap, _∙_, subst}
 use mathlib.Core.Logic.{_⊎_, inl, inr, ⊎-elim}
-use mathlib.Core.Bool.{Bool, true, false, cond}
+use mathlib.Core.Bool.{Bool, true, false, cond, false≢true}
 use mathlib.Core.List.{List, [], _∷_, _++_}
 use native.Mathlib.Omega.{arith}
 use lib.ListN.{length, getD, take, drop, set, List·getD-append}
@@ -13,7 +13,7 @@ use Rattle.model.specs.Header.{allBlank}
 use Rattle.model.specs.State.{Segment, blank, invalid, inUse, segmentOf, segmentsOf, isInvalid, nextNumber, nextIndex, isClean, nextBlanked, isA, caseA, unfinished, stateOf, state}
 use Rattle.model.specs.Steps.{headerAt, mendSteps}
 use Rattle.model.specs.Answers.{recover, workOf}
-use Rattle.model.specs.Laws.Lists.{and-left, false-true}
+use Rattle.model.specs.Laws.Lists.{and-left}
 use Rattle.model.specs.Laws.Bytes.{raised-get, bit-6-kept}
 use Rattle.model.specs.Laws.Chip.{size-facts, raised-length, cut-size}
 use Rattle.model.specs.Laws.Segments.{partOf, only-part, only-segments, replaced-parts, page-byte, segment-fits, segment-bytes-length}
@@ -81,9 +81,9 @@ module _ (N B : ℕ) (s : Image) (z : rightSize N B s ≡ true) (e : state N B s
   torn-segment = is-invalid (getD l i blank) (and-left (isInvalid (getD l i blank)) (isClean N B (nextBlanked N l)) (case-of N B l caseA e))
     where
       is-invalid : (x : Segment) → isInvalid x ≡ true → x ≡ invalid
-      is-invalid blank q = absurd (false-true (unfold isInvalid in q))
+      is-invalid blank q = absurd (false≢true (unfold isInvalid in q))
       is-invalid invalid q = refl
-      is-invalid (inUse st n ks) q = absurd (false-true (unfold isInvalid in q))
+      is-invalid (inUse st n ks) q = absurd (false≢true (unfold isInvalid in q))
 
   steps-a : mendSteps N B l caseA ≡ erase i ∷ []
   unfolding mendSteps nextIndex

@@ -2,7 +2,7 @@
 use Prim.Native.Nat.{ℕ, suc, _+_, _-_, _*_, _%_, _≤_, _<_}
 use mathlib.Core.Path.{_≡_, refl, sym, ap, _∙_, subst}
 use mathlib.Core.Logic.{_⊎_, inl, inr, ⊎-elim}
-use mathlib.Core.Bool.{true, _&&_}
+use mathlib.Core.Bool.{true, _&&_, false≢true}
 use mathlib.Core.List.{List, [], _∷_, _++_, flatten}
 use native.Mathlib.Omega.{arith}
 use native.Mathlib.Decide.{decLt}
@@ -17,7 +17,7 @@ use Rattle.model.specs.Steps.{onPage, slotAt, markDead, markPlace, mendSteps}
 use Rattle.model.specs.Table.{present, lookup}
 use Rattle.model.specs.Answers.{recover}
 use Rattle.model.specs.Histories.{recovered}
-use Rattle.model.specs.Laws.Lists.{and-left, and-right, false-true}
+use Rattle.model.specs.Laws.Lists.{and-left, and-right}
 use Rattle.model.specs.Laws.Bytes.{OneBit, live-dead-bit, torn-dead-bit}
 use Rattle.model.specs.Laws.Chip.{size-facts}
 use Rattle.model.specs.Laws.Segments.{partOf, page-byte}
@@ -166,10 +166,10 @@ mark-c N B l h = record
   ; same = refl }
   where
     torn-marks : (k : Slot) → isTorn k ≡ true → Marks k
-    torn-marks empty e = absurd (false-true (unfold isTorn in e))
+    torn-marks empty e = absurd (false≢true (unfold isTorn in e))
     torn-marks torn e = tt
-    torn-marks dead e = absurd (false-true (unfold isTorn in e))
-    torn-marks wrong e = absurd (false-true (unfold isTorn in e))
+    torn-marks dead e = absurd (false≢true (unfold isTorn in e))
+    torn-marks wrong e = absurd (false≢true (unfold isTorn in e))
     torn-marks (live b c) e = tt
 
 mark-d : (N B : ℕ) (l : List Segment) → isCase N B l caseD ≡ true → OneMark N B l caseD

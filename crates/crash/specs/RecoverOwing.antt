@@ -2,7 +2,7 @@
 use Prim.Native.Nat.{ℕ, zero, suc, _+_, _-_, _*_, _%_, _≤_, _<_}
 use mathlib.Core.Path.{_≡_, refl, sym, ap, ap₂, _∙_, subst}
 use mathlib.Core.Logic.{_⊎_, inl, inr, ⊎-elim, _≢_}
-use mathlib.Core.Bool.{true, cond, _||_, _&&_}
+use mathlib.Core.Bool.{true, cond, _||_, _&&_, false≢true}
 use mathlib.Core.List.{List, [], _∷_, _++_}
 use native.Mathlib.Omega.{arith}
 use native.Mathlib.Decide.{decLt}
@@ -17,7 +17,7 @@ use Rattle.model.specs.State.{Segment, blank, invalid, inUse, segmentOf, segmen
 use Rattle.model.specs.Steps.{onPage, headerAt, settle, eraseUnlessBlank, mendSteps}
 use Rattle.model.specs.Answers.{recover}
 use Rattle.model.specs.Histories.{recovered}
-use Rattle.model.specs.Laws.Lists.{and-left, false-true, mod-inj}
+use Rattle.model.specs.Laws.Lists.{and-left, mod-inj}
 use Rattle.model.specs.Laws.Bytes.{compacted-bit, within-le, number-bytes, inverted-bytes, number-length, inverted-length, bytes-append, bytes-get, erased-get, erased-length}
 use Rattle.model.specs.Laws.Chip.{size-facts, run-append, run-length, whole-cut, cut-append, cut-size}
 use Rattle.model.specs.Laws.Ring.{next-ge, next-same}
@@ -60,8 +60,8 @@ top-at N B s h =
 
 owing-number : (x : Segment) → isOwing x ≡ true → 0 < numberAfter x
 unfolding isOwing numberAfter
-owing-number blank h = absurd (false-true h)
-owing-number invalid h = absurd (false-true h)
+owing-number blank h = absurd (false≢true h)
+owing-number invalid h = absurd (false≢true h)
 owing-number (inUse st n ks) h = omega arith
 
 record Owing (n : ℕ) (x : Segment) : Type 0 where
@@ -70,8 +70,8 @@ record Owing (n : ℕ) (x : Segment) : Type 0 where
 
 owing-top : (x : Segment) (n : ℕ) → isOwing x ≡ true → numberAfter x ≡ suc n → Owing n x
 unfolding isOwing numberAfter
-owing-top blank n h e = absurd (false-true h)
-owing-top invalid n h e = absurd (false-true h)
+owing-top blank n h e = absurd (false≢true h)
+owing-top invalid n h e = absurd (false≢true h)
 owing-top (inUse st m ks) n h e = let q : m ≡ n = omega arith in record { slots = ks; same = ap₂ (λ a b. inUse a b ks) (eqb-true st erasePending h) q }
 
 index-apart : (N n : ℕ) → 2 ≤ N → 0 < n → (n - 1) % N ≢ n % N

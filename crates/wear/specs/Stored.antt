@@ -1,7 +1,7 @@
 -- The blocks stored, by the answers, are the blocks that the live slots hold; and so they are equally many.
 use Prim.Native.Nat.{ℕ, suc, _≤_, _<_}
 use mathlib.Core.Path.{_≡_, refl, sym, ap, _∙_}
-use mathlib.Core.Bool.{Bool, true, false, cond, _||_, _&&_, not, and-false, and-eq-true-iff}
+use mathlib.Core.Bool.{Bool, true, false, cond, _||_, _&&_, not, false≢true, and-false, and-eq-true-iff}
 use mathlib.Core.List.{List, [], _∷_}
 use native.Mathlib.Omega.{arith}
 use lib.ListN.{length}
@@ -56,7 +56,7 @@ removed-most b (x ∷ xs) = go (eqb b x) (removed-most b xs)
 
 removed-fewer : (b : ℕ) (xs : List ℕ) → among b xs ≡ true → length (removed b xs) < length xs
 unfolding removed among
-removed-fewer b [] h = let z : _≡_ {A = ℕ} 0 1 = cc in absurd (omega arith)
+removed-fewer b [] h = absurd (false≢true h)
 removed-fewer b (x ∷ xs) h = go (eqb b x) h (λ m. removed-fewer b xs m)
   where
     go : (t : Bool) → (t || among b xs) ≡ true → (among b xs ≡ true → length (removed b xs) < length xs) → length (cond t (removed b xs) (x ∷ removed b xs)) < suc (length xs)

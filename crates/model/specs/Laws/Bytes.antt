@@ -2,7 +2,7 @@
 use Prim.Native.Nat.{ℕ, zero, suc, _+_, _*_, _/_, _%_, _^_, min, _≤_, _<_}
 use mathlib.Core.Path.{_≡_, refl, sym, ap, ap₂, _∙_, subst}
 use mathlib.Core.Logic.{_⊎_, inl, inr}
-use mathlib.Core.Bool.{Bool, true, false, cond, _||_, _&&_, not}
+use mathlib.Core.Bool.{Bool, true, false, cond, _||_, _&&_, not, false≢true}
 use mathlib.Core.List.{List, [], _∷_, _++_}
 use native.Mathlib.Omega.{arith}
 use native.Mathlib.Nat.{min-le-right, mod-eq-of-lt}
@@ -89,7 +89,7 @@ one-bit lo hi h law x c =
     go : (a : Bool) → eqb x lo ≡ a → (b : Bool) → eqb x hi ≡ b → (a || b) ≡ true → (x ≡ lo) ⊎ (x ≡ hi)
     go true e b f t = inl (eqb-true x lo e)
     go false e true f t = inr (eqb-true x hi f)
-    go false e false f t = absurd (let y : _≡_ {A = ℕ} 0 1 = cc in omega arith)
+    go false e false f t = absurd (false≢true t)
 
 -- FF to 7F, 7F to 3F: a slot written, a segment opened
 pub begun-bit : OneBit writeBegun 255
@@ -175,8 +175,8 @@ bytes-set (y ∷ s) (suc i) x p h = (p .0, bytes-set s i x (p .1) h)
 pub same-eq : (a b : List ℕ) → same a b ≡ true → a ≡ b
 unfolding same
 same-eq [] [] h = refl
-same-eq [] (y ∷ b) h = absurd (let y : _≡_ {A = ℕ} 0 1 = cc in omega arith)
-same-eq (x ∷ a) [] h = absurd (let y : _≡_ {A = ℕ} 0 1 = cc in omega arith)
+same-eq [] (y ∷ b) h = absurd (false≢true h)
+same-eq (x ∷ a) [] h = absurd (false≢true h)
 same-eq (x ∷ a) (y ∷ b) h = ap₂ {C = List ℕ} (λ p q. p ∷ q) (eqb-true x y (and-left (eqb x y) (same a b) h)) (same-eq a b (and-right (eqb x y) (same a b) h))
 
 pub same-refl : (s : List ℕ) → same s s ≡ true

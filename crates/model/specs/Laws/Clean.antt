@@ -2,7 +2,7 @@
 use Prim.Native.Nat.{ℕ, zero, suc, _+_, _-_, _*_, _/_, _%_, max, _≤_, _<_}
 use mathlib.Core.Path.{_≡_, refl, sym, ap, ap₂, _∙_, subst}
 use mathlib.Core.Logic.{_≢_}
-use mathlib.Core.Bool.{Bool, true, false, cond, _&&_, not}
+use mathlib.Core.Bool.{Bool, true, false, cond, _&&_, not, true≢false}
 use mathlib.Core.List.{List, [], _∷_, _++_}
 use native.Mathlib.Omega.{arith}
 use native.Mathlib.Nat.{mod-lt}
@@ -65,11 +65,11 @@ state-clean N B l h = go (isClean N B l) (isA N B l) (isB N B l) (isC N B l) (is
   where
     go : (p a b c d : Bool) → cond p clean (cond a (unfinished caseA) (cond b (unfinished caseB) (cond c (unfinished caseC) (cond d (unfinished caseD) damaged)))) ≡ clean → p ≡ true
     go true a b c d q = refl
-    go false true b c d q = absurd (let y : _≡_ {A = ℕ} 0 1 = cc in omega arith)
-    go false false true c d q = absurd (let y : _≡_ {A = ℕ} 0 1 = cc in omega arith)
-    go false false false true d q = absurd (let y : _≡_ {A = ℕ} 0 1 = cc in omega arith)
-    go false false false false true q = absurd (let y : _≡_ {A = ℕ} 0 1 = cc in omega arith)
-    go false false false false false q = absurd (let y : _≡_ {A = ℕ} 0 1 = cc in omega arith)
+    go false true b c d q = cc
+    go false false true c d q = cc
+    go false false false true d q = cc
+    go false false false false true q = cc
+    go false false false false false q = cc
 
 pub clean-state : (N B : ℕ) (l : List Segment) → isClean N B l ≡ true → stateOf N B l ≡ clean
 unfolding stateOf
@@ -114,12 +114,10 @@ module _ (N : ℕ) (l : List Segment) (r : RingFacts N l) where
   unfolding nextIndex othersBlank
   next-blank = go (getD l (nextIndex N l) blank) next-unused (not-true (isInvalid (getD l (nextIndex N l) blank)) (all-get (λ x. not (isInvalid x)) l (nextIndex N l) blank (r .others) (index-inside (nextNumber l))))
     where
-      no : true ≡ false → ⊥
-      no q = let y : _≡_ {A = ℕ} 0 1 = cc in omega arith
       go : (x : Segment) → isInUse x ≡ false → isInvalid x ≡ false → x ≡ blank
       go blank p q = refl
-      go invalid p q = absurd (no (unfold isInvalid in q))
-      go (inUse st n ks) p q = absurd (no (unfold isInUse in p))
+      go invalid p q = absurd (true≢false (unfold isInvalid in q))
+      go (inUse st n ks) p q = absurd (true≢false (unfold isInUse in p))
 
   -- the view has a row for each segment in use
   pub view-length : length (viewOf N l .slots) ≡ usedCount l

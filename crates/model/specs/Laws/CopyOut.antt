@@ -46,7 +46,7 @@ entry-slots : (es : List Entry) (qs : List Page) (c : ℕ) → Valids es → map
 unfolding entryPages copied holding
 entry-slots [] qs c v e h = let z : c - 0 ≡ c = omega arith in rw z e
 entry-slots (x ∷ es) [] zero v e h = absurd (omega arith)
-entry-slots (x ∷ es) [] (suc c) v e h = absurd (let y : _≡_ {A = ℕ} 0 1 = cc in omega arith)
+entry-slots (x ∷ es) [] (suc c) v e h = cc
 entry-slots (x ∷ es) (q ∷ qs) zero v e h = absurd (omega arith)
 entry-slots (x ∷ es) (q ∷ qs) (suc c) v e h =
     let d : suc c - suc (length es) ≡ c - length es = omega arith in

@@ -2,7 +2,7 @@
 use Prim.Native.Nat.{ℕ, zero, suc, _+_, _-_, _*_, _/_, _%_, _≤_, _<_}
 use mathlib.Core.Path.{_≡_, refl, sym, ap, ap₂, _∙_, subst}
 use mathlib.Core.Logic.{_⊎_, inl, inr}
-use mathlib.Core.Bool.{Bool, true, false, cond, _&&_}
+use mathlib.Core.Bool.{Bool, true, false, cond, _&&_, false≢true}
 use mathlib.Core.List.{List, [], _∷_, _++_, map}
 use native.Mathlib.Omega.{arith}
 use native.Mathlib.Nat.{mod-lt}
@@ -15,7 +15,7 @@ use Rattle.model.specs.Header.{opened, erasePending, compacted, noOldSeg
 use Rattle.model.specs.Slot.{Slot, empty, torn, dead, live, slotPage, slotOf, Entry, holding, mostContents}
 use Rattle.model.specs.State.{Segment, blank, invalid, inUse, segmentOf, segmentsOf, isInUse, slotsIn, withSlot, Place}
 use Rattle.model.specs.Steps.{onPage, headerAt, slotAt, writeSlot, markDead, markPlace, openSegment, copyEntries, copyOut, settle, copied}
-use Rattle.model.specs.Laws.Lists.{false-true, and-left, and-right, all-get, map-set, map-length, map-get}
+use Rattle.model.specs.Laws.Lists.{and-left, and-right, all-get, map-set, map-length, map-get}
 use Rattle.model.specs.Laws.Chip.{run-append, run-length, step-length}
 use Rattle.model.specs.Laws.Chunk.{chunk-replicate}
 use Rattle.model.specs.Laws.Pages.{InPage}
@@ -44,8 +44,8 @@ in-use-parts N B i ps st n ks e = go (headerInUse N B i (getD ps 0 [])) refl (al
         → cond t (inUse (headerStatus (getD ps 0 [])) (headerNumber (getD ps 0 [])) (map slotOf (drop 1 ps))) (cond b blank invalid) ≡ inUse st n ks → InUseParts N B i ps st n ks
     go true h b q = let r = in-use-only (headerStatus (getD ps 0 [])) (headerNumber (getD ps 0 [])) (map slotOf (drop 1 ps)) st n ks q in
         record { header = h; status = r .0; number = r .1; slots = r .2 }
-    go false h true q = absurd (let y : _≡_ {A = ℕ} 0 1 = cc in omega arith)
-    go false h false q = absurd (let y : _≡_ {A = ℕ} 0 1 = cc in omega arith)
+    go false h true q = absurd (false≢true cc)
+    go false h false q = absurd (false≢true cc)
 
 -- a header in use
 pub segment-in-use : (N B i : ℕ) (ps : List Page) → headerInUse N B i (getD ps 0 []) ≡ true
@@ -59,8 +59,8 @@ blank-parts N B i ps e = go (headerInUse N B i (getD ps 0 [])) (allBlank ps) ref
   where
     go : (t b : Bool) → allBlank ps ≡ b → cond t (inUse (headerStatus (getD ps 0 [])) (headerNumber (getD ps 0 [])) (map slotOf (drop 1 ps))) (cond b blank invalid) ≡ blank → allBlank ps ≡ true
     go t true h q = h
-    go true false h q = absurd (let y : _≡_ {A = ℕ} 0 1 = cc in omega arith)
-    go false false h q = absurd (let y : _≡_ {A = ℕ} 0 1 = cc in omega arith)
+    go true false h q = cc
+    go false false h q = cc
 
 pages-blank : (c : ℕ) → all isBlank (replicate c (erased 256)) ≡ true
 unfolding all

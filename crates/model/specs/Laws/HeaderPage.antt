@@ -45,7 +45,7 @@ header-in-use N B st n hN hs hn =
     rw (header-status N B st n (oldIndex N (n % N) st), header-number N B st n (oldIndex N (n % N) st) (number-fits N n hN hn), hs, lt-ltb n (numberLimit N) hn, eq-eqb (n % N) (n % N) refl) (same-refl h)
 
 -- the old segment of number o, when all but one are in use: its index comes after the target's
-old-index : (N o n : ℕ) → suc n ≡ o + N → (n % N + 1) % N ≡ o % N
+pub old-index : (N o n : ℕ) → suc n ≡ o + N → (n % N + 1) % N ≡ o % N
 old-index N o n e = let q : n + 1 ≡ o + N = omega arith in mod-add-mod n N 1 ∙ (ap (λ (y : ℕ). y % N) q ∙ add-mod-right o N)
 
 pub record InUseFacts (N B i : ℕ) (h : Page) : Type 0 where

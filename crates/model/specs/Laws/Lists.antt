@@ -19,13 +19,10 @@ and-left false b h = h
 
 pub and-right : (a b : Bool) → a && b ≡ true → b ≡ true
 and-right true b h = h
-and-right false b h = absurd (let y : _≡_ {A = ℕ} 0 1 = cc in omega arith)
+and-right false b h = absurd (false≢true h)
 
 pub and-both : (a b : Bool) → a ≡ true → b ≡ true → a && b ≡ true
 and-both a b h k = rw (h, k)
-
-pub false-true : false ≡ true → ⊥
-false-true h = let y : _≡_ {A = ℕ} 0 1 = cc in omega arith
 
 -- ---- every element
 

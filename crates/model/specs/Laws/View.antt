@@ -2,7 +2,7 @@
 use Prim.Native.Nat.{ℕ, zero, suc, _+_, _-_, _*_, _/_, _%_, max, _≤_, _<_}
 use mathlib.Core.Path.{_≡_, refl, sym, ap, ap₂, _∙_, subst}
 use mathlib.Core.Logic.{_≢_}
-use mathlib.Core.Bool.{Bool, true, false, cond, _&&_, not}
+use mathlib.Core.Bool.{Bool, true, false, cond, _&&_, not, true≢false}
 use mathlib.Core.List.{List, [], _∷_, _++_}
 use native.Mathlib.Omega.{arith}
 use native.Mathlib.Decide.{decLt}
@@ -177,16 +177,14 @@ erased-unused-view N l i h e =
     rw (used-kept l i blank h (unfold isInUse in sym e), next-kept l i blank (number (getD l i blank) e))
       (ap (λ (y : List (List Slot)). record { first = nextNumber l - usedCount l; slots = y }) (slots-kept N i blank l (usedCount l) (nextNumber l - usedCount l) (slots (getD l i blank) e)))
   where
-    no : true ≡ false → ⊥
-    no q = let y : _≡_ {A = ℕ} 0 1 = cc in omega arith
     number : (x : Segment) → isInUse x ≡ false → numberAfter blank ≡ numberAfter x
     number blank q = refl
     number invalid q = unfold numberAfter in refl
-    number (inUse st n ks) q = absurd (no (unfold isInUse in q))
+    number (inUse st n ks) q = absurd (true≢false (unfold isInUse in q))
     slots : (x : Segment) → isInUse x ≡ false → slotsIn blank ≡ slotsIn x
     slots blank q = refl
     slots invalid q = unfold slotsIn in refl
-    slots (inUse st n ks) q = absurd (no (unfold isInUse in q))
+    slots (inUse st n ks) q = absurd (true≢false (unfold isInUse in q))
 
 -- ---- a compaction: one more in use with the next number, and the oldest erased
 
