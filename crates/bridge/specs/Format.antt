@@ -15,7 +15,7 @@ use Rattle.model.specs.Header.{opened}
 use Rattle.model.specs.Slot.{Slot, empty, isEmpty, isWrong, isTorn}
 use Rattle.model.specs.State.{Segment, blank, inUse, isInUse, isInvalid, isOwing, numberAfter, slotsIn, segmentsOf, nextNumber, usedCount, firstNumber, slotsFrom, numbersFrom, View, viewOf, view, entries, entriesIn, distinct, capacity, noneOwing, othersBlank, state, clean}
 use Rattle.model.specs.Steps.{openSegment, eraseFirst, formatSteps}
-use Rattle.model.specs.Laws.Lists.{all-set}
+use Rattle.model.specs.Laws.Lists.{all-set, all-replicate}
 use Rattle.model.specs.Laws.Chip.{run-append, run-length, size-facts, run-size}
 use Rattle.model.specs.Laws.Bytes.{bytes-append, run-bytes, erased-bytes}
 use Rattle.model.specs.Laws.Segments.{segments-length}
@@ -134,11 +134,6 @@ module _ (N B : ℕ) (two : 2 ≤ N) where
   here : getD l (0 % N) blank ≡ inUse opened 0 (replicate B empty)
   here = rw zero-index (getD-set-same (replicate N blank) 0 (inUse opened 0 (replicate B empty)) blank inside)
 
-  blanks : (f : Segment → Bool) → f blank ≡ true → (c : ℕ) → all f (replicate c blank) ≡ true
-  unfolding all
-  blanks f h zero = refl
-  blanks f h (suc c) = rw (h, blanks f h c)
-
   fresh-ring : RingFacts N l
   unfolding numbersFrom noneOwing othersBlank isOwing isInvalid numberAfter
   fresh-ring = record
@@ -146,8 +141,8 @@ module _ (N B : ℕ) (two : 2 ≤ N) where
     ; some = rw one-used (omega arith)
     ; spare = rw one-used (omega arith)
     ; chain = rw (one-used, first-zero, here) refl
-    ; paid = all-set (λ x. not (isOwing x)) (replicate N blank) 0 (inUse opened 0 (replicate B empty)) (blanks (λ x. not (isOwing x)) refl N) refl
-    ; others = all-set (λ x. not (isInvalid x)) (replicate N blank) 0 (inUse opened 0 (replicate B empty)) (blanks (λ x. not (isInvalid x)) refl N) refl }
+    ; paid = all-set (λ x. not (isOwing x)) (replicate N blank) 0 (inUse opened 0 (replicate B empty)) (all-replicate (λ x. not (isOwing x)) blank refl N) refl
+    ; others = all-set (λ x. not (isInvalid x)) (replicate N blank) 0 (inUse opened 0 (replicate B empty)) (all-replicate (λ x. not (isInvalid x)) blank refl N) refl }
 
   fresh-view : viewOf N l ≡ fresh B
   unfolding viewOf slotsFrom slotsIn fresh

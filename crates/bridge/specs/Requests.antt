@@ -4,6 +4,7 @@ use mathlib.Core.Path.{_≡_, refl, sym, ap, ap₂, _∙_, subst}
 use mathlib.Core.Bool.{Bool, true, false, cond}
 use mathlib.Core.List.{List, [], _∷_, _++_}
 use native.Mathlib.Omega.{arith}
+use native.Mathlib.Nat.{mod-lt}
 use lib.ListN.{length, getD, drop, length-append}
 use lib.Seq.{getD-append-seam}
 use lib.Dec.{ltb}
@@ -19,9 +20,8 @@ use Rattle.model.specs.Laws.Lists.{all-row}
 use Rattle.model.specs.Laws.Chip.{run-append, size-facts}
 use Rattle.model.specs.Laws.Bytes.{run-bytes}
 use Rattle.model.specs.Laws.SlotPage.{Valid}
-use Rattle.model.specs.Laws.HeaderPage.{in-use-facts}
-use Rattle.model.specs.Laws.Segments.{partOf, segment-at}
-use Rattle.model.specs.Laws.Effects.{in-use-parts}
+use Rattle.model.specs.Laws.Effects.{numbered-at}
+use Rattle.model.specs.Laws.Clean.{numbered}
 use Rattle.bridge.specs.Predicted.{written, marked, putInto, afterPut, afterDelete, CleanView, Fits, Rows}
 use Rattle.bridge.specs.Interface.{ViewLaws}
 use Rattle.bridge.specs.Views.Slots.{slots-counted, sound}
@@ -29,13 +29,13 @@ use Rattle.bridge.specs.Views.Places.{Gap, fill, fill-length, FirstLive,
 use Rattle.bridge.specs.Views.Shape.{clean-shape, shape-gap, first-live-in, opened-top}
 use Rattle.bridge.specs.Views.Room.{Tidied, tidied}
 use Rattle.bridge.specs.Views.Requests.{view-laws}
-use Rattle.bridge.specs.Held.{Held, held-of-clean, clean-view, clean-of-held, held-row, held-lengths, row-valid, held-next}
+use Rattle.bridge.specs.Held.{Held, held-first, held-of-clean, clean-view, clean-of-held, held-row, held-lengths, row-valid, held-next}
 use Rattle.bridge.specs.Done.{mark-held, write-held, open-held, compact-held}
 use Rattle.bridge.specs.Accepted.{PutPassed, put-passed, delete-passed, accepted}
 
 -- ---- a slot among the rows
 
-module _ (B : ℕ) (g : Gap) (k : Slot) where
+module _ (g : Gap) (k : Slot) where
   pub gap-row : getD (fill g k) (length (g .rowsBefore)) [] ≡ g .before ++ (k ∷ g .after)
   gap-row = getD-append-seam (g .rowsBefore) (g .before ++ (k ∷ g .after)) (g .rowsAfter) []
 
@@ -45,8 +45,8 @@ module _ (B : ℕ) (g : Gap) (k : Slot) where
   pub gap-slot : getD (getD (fill g k) (length (g .rowsBefore)) []) (length (g .before)) empty ≡ k
   gap-slot = ap (λ (y : List Slot). getD y (length (g .before)) empty) gap-row ∙ getD-append-seam (g .before) k (g .after) empty
 
-  gap-short : Rows B (fill g k) → length (g .before) < B
-  gap-short r = let e : length (g .before ++ (k ∷ g .after)) ≡ B = ap length (sym gap-row) ∙ row (fill g k) (length (g .rowsBefore)) gap-inside r in
+  gap-short : (B : ℕ) → Rows B (fill g k) → length (g .before) < B
+  gap-short B r = let e : length (g .before ++ (k ∷ g .after)) ≡ B = ap length (sym gap-row) ∙ row (fill g k) (length (g .rowsBefore)) gap-inside r in
       omega (arith, length-append (g .before) (k ∷ g .after))
     where
       row : (l : List (List Slot)) (i : ℕ) → i < length l → Rows B l → length (getD l i []) ≡ B
@@ -61,7 +61,7 @@ pub record InView (B : ℕ) (v : View) (g : Gap) (k : Slot) : Type 0 where
   pub kind : getD (getD (v .slots) (length (g .rowsBefore)) []) (length (g .before)) empty ≡ k
 
 pub in-view : (B : ℕ) (v : View) (g : Gap) (k : Slot) → v .slots ≡ fill g k → Rows B (v .slots) → InView B v g k
-in-view B v g k e r = record { row = rw e (gap-inside B g k); short = gap-short B g k (rw e at r); kind = rw e (gap-slot B g k) }
+in-view B v g k e r = record { row = rw e (gap-inside g k); short = gap-short g k B (rw e at r); kind = rw e (gap-slot g k) }
 
 module _ (N B : ℕ) (s : Image) (v : View) (h : Held N B s v) where
   -- the first live slot of a block marked
@@ -83,15 +83,9 @@ module _ (N B : ℕ) (s : Image) (v : View) (h : Held N B s v) where
   pub held-below : CleanView N B v → topNumber v < numberLimit N
   unfolding topNumber
   held-below c =
-      let k = length (v .slots) - 1 in
-      let some = c .some in
-      let r = held-row N B s v h k (omega arith) in
+      let n = v .first + length (v .slots) - 1 in
       let p : 0 < N = omega (arith, size-facts N B s (h .size) .two) in
-      let n = v .first + k in
-      let i = native.Mathlib.Nat.mod-lt n p in
-      let u = in-use-parts N B (n % N) (partOf N B (n % N) s) (r .0) n (getD (v .slots) k []) (sym (segment-at N B (n % N) s i) ∙ r .1) in
-      let f = in-use-facts N B (n % N) (getD (partOf N B (n % N) s) 0 []) (u .header) in
-      omega (arith, f .below, u .number)
+      numbered-at N B s (n % N) n (mod-lt n p) (numbered N (segmentsOf N B s) (h .ring) n (omega (arith, held-first N B s v h, c .some)) (omega (arith, held-next N B s v h, c .some))) .1
 
 -- a slot written, and then the old one marked, where it was
 module _ (N B : ℕ) (s : Image) (v : View) (h : Held N B s v) (b : ℕ) (c : List ℕ) (valid : Valid b c) (gap : TopGap v) where

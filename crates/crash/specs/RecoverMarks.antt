@@ -7,7 +7,6 @@ use mathlib.Core.List.{List, [], _∷_, _++_, flatten}
 use native.Mathlib.Omega.{arith}
 use native.Mathlib.Decide.{decLt}
 use lib.ListN.{length, getD, set, List·getD-eq-default}
-use lib.Seq.{getD-at}
 use lib.Dec.{ltb, eqb}
 use borrow.Author.Tests.{eqb-true, eq-eqb, lt-ltb}
 use Rattle.model.specs.Chip.{Image, Page, clear, leastSlots, imageLength, run, rightSize, Cut}
@@ -19,7 +18,7 @@ use Rattle.model.specs.Answers.{recover}
 use Rattle.model.specs.Histories.{recovered}
 use Rattle.model.specs.Laws.Lists.{and-left, and-right}
 use Rattle.model.specs.Laws.Bytes.{OneBit, live-dead-bit, torn-dead-bit}
-use Rattle.model.specs.Laws.Chip.{size-facts}
+use Rattle.model.specs.Laws.Chip.{SizeFacts, size-facts}
 use Rattle.model.specs.Laws.Segments.{partOf, page-byte}
 use Rattle.model.specs.Laws.SlotPage.{Markable, live-markable, torn-markable, clear-live, clear-torn}
 use Rattle.model.specs.Laws.Effects.{index, slot-kind, slot-count, mark-effect}
@@ -27,6 +26,7 @@ use Rattle.model.specs.Laws.PageCuts.{one-bit-cut}
 use Rattle.model.specs.Laws.Ring.{slots-get, slots-length}
 use Rattle.model.specs.Laws.Tables.{holds-copies, lookup-append}
 use Rattle.bridge.specs.Views.Places.{Gap, earlier, later, fill-entries, fill-length, FirstLive, first-live}
+use Rattle.bridge.specs.Requests.{gap-slot}
 use Rattle.crash.specs.Sound.{Sound, CutOf}
 use Rattle.crash.specs.States.{isCase, mended, case-of, recover-steps, recovered-run, Kept, kept-same, Mended, kept-clean}
 
@@ -70,11 +70,8 @@ marks-inside : (ks : List Slot) (j : ℕ) → Marks (getD ks j empty) → j < le
 marks-inside ks j m = elim (decLt j (length ks)) [ yes p ↦ p | no p ↦ absurd (subst Marks (List·getD-eq-default ks empty (omega arith)) m) ]
 
 module _ (N B : ℕ) (s : Image) (z : rightSize N B s ≡ true) (k j : ℕ) (m : Marks (getD (slotsIn (getD (segmentsOf N B s) (k % N) blank)) j empty)) where
-  two : 2 ≤ N
-  two = size-facts N B s z .two
-
-  size : length s ≡ imageLength N B
-  size = size-facts N B s z .whole
+  size : SizeFacts N B s
+  size = size-facts N B s z
 
   used : InUse (getD (segmentsOf N B s) (k % N) blank)
   used = marks-in-use (getD (segmentsOf N B s) (k % N) blank) j m
@@ -84,31 +81,27 @@ module _ (N B : ℕ) (s : Image) (z : rightSize N B s ≡ true) (k j : ℕ) (m :
   unfolding slotsIn
   marks = subst (λ y. Marks (getD (slotsIn y) j empty)) (used .same) m
 
-  some-slots : 0 < B
-  unfolding leastSlots
-  some-slots = let h : 2 ≤ B = size-facts N B s z .slots in omega arith
-
   pub slot-inside : j < B
-  slot-inside = omega (arith, marks-inside (used .slots) j marks, slot-count N B two s size k 0 (used .status) (used .number) (used .slots) some-slots (used .same))
+  slot-inside = omega (arith, marks-inside (used .slots) j marks, slot-count N B (size .two) s (size .whole) k 0 (used .status) (used .number) (used .slots) (omega (arith, size .slots)) (used .same))
 
   -- its page has that kind
   pub page-kind : slotOf (getD (partOf N B (k % N) s) (suc j) []) ≡ getD (slotsIn (getD (segmentsOf N B s) (k % N) blank)) j empty
   unfolding slotsIn
-  page-kind = slot-kind N B two s size k j (used .status) (used .number) (used .slots) slot-inside (used .same) ∙ ap (λ y. getD (slotsIn y) j empty) (sym (used .same))
+  page-kind = slot-kind N B (size .two) s (size .whole) k j (used .status) (used .number) (used .slots) slot-inside (used .same) ∙ ap (λ y. getD (slotsIn y) j empty) (sym (used .same))
 
   markable : Markable (getD (getD (partOf N B (k % N) s) (suc j) []) 0 0)
   markable = marks-page (getD (partOf N B (k % N) s) (suc j) []) (subst Marks (sym page-kind) m)
 
   pub mark-segments : segmentsOf N B (run B (markPlace N B (record { number = k; slot = j })) s) ≡ set (segmentsOf N B s) (k % N) (withSlot j dead (getD (segmentsOf N B s) (k % N) blank))
   unfolding markPlace
-  mark-segments = mark-effect N B two s size k j (used .status) (used .number) (used .slots) slot-inside (used .same) markable
+  mark-segments = mark-effect N B (size .two) s (size .whole) k j (used .status) (used .number) (used .slots) slot-inside (used .same) markable
 
   pub mark-whole : (u : Image) → Cut B (markPlace N B (record { number = k; slot = j })) s u → (u ≡ s) ⊎ (u ≡ run B (markPlace N B (record { number = k; slot = j })) s)
   unfolding markPlace onPage markDead slotAt
   mark-whole u c = one-bit-cut B ((k % N * (B + 1) + suc j) * 256 + 0) 0xDF s u one-bit c
     where
       byte : getD (getD (partOf N B (k % N) s) (suc j) []) 0 0 ≡ getD s ((k % N * (B + 1) + suc j) * 256 + 0) 0
-      byte = page-byte N B (k % N) (suc j) 0 s (index N B two s size k) (omega (arith, slot-inside)) (omega arith)
+      byte = page-byte N B (k % N) (suc j) 0 s (index N B (size .two) s (size .whole) k) (omega (arith, slot-inside)) (omega arith)
       one-bit : OneBit (clear (getD s ((k % N * (B + 1) + suc j) * 256 + 0) 0) 0xDF) (getD s ((k % N * (B + 1) + suc j) * 256 + 0) 0)
       one-bit = mark-bit (getD s ((k % N * (B + 1) + suc j) * 256 + 0) 0) (subst Markable byte markable)
 
@@ -130,15 +123,14 @@ live-place N l b h = record { contents = f .contents; slot = at; found = looked 
     f = first-live b (firstNumber l) rows h
     g : Gap
     g = f .gap
-    row : slotsIn (getD l ((firstNumber l + length (g .rowsBefore)) % N) blank) ≡ g .before ++ (live b (f .contents) ∷ g .after)
+    row : getD rows (length (g .rowsBefore)) [] ≡ slotsIn (getD l ((firstNumber l + length (g .rowsBefore)) % N) blank)
     row =
         let e : length rows ≡ length (g .rowsBefore) + suc (length (g .rowsAfter)) = ap length (f .split) ∙ fill-length g (live b (f .contents)) in
-        sym (slots-get N l (usedCount l) (firstNumber l) (length (g .rowsBefore)) (omega (arith, e, slots-length N l (usedCount l) (firstNumber l))))
-        ∙ (ap (λ (y : List (List Slot)). getD y (length (g .rowsBefore)) []) (f .split)
-        ∙ getD-at (g .rowsBefore) (g .before ++ (live b (f .contents) ∷ g .after)) (g .rowsAfter) [] (length (g .rowsBefore)) refl)
+        slots-get N l (usedCount l) (firstNumber l) (length (g .rowsBefore)) (omega (arith, e, slots-length N l (usedCount l) (firstNumber l)))
     at : getD (slotsIn (getD l (placeOf b (viewOf N l) .number % N) blank)) (placeOf b (viewOf N l) .slot) empty ≡ live b (f .contents)
     at = ap (λ (p : Place). getD (slotsIn (getD l (p .number % N) blank)) (p .slot) empty) (f .place)
-        ∙ (ap (λ (y : List Slot). getD y (length (g .before)) empty) row ∙ getD-at (g .before) (live b (f .contents)) (g .after) empty (length (g .before)) refl)
+        ∙ (ap (λ (y : List Slot). getD y (length (g .before)) empty) (sym row)
+        ∙ (ap (λ (y : List (List Slot)). getD (getD y (length (g .rowsBefore)) []) (length (g .before)) empty) (f .split) ∙ gap-slot g (live b (f .contents))))
     looked : lookup b (entries (flatten rows)) ≡ present (f .contents)
     looked = ap (λ (y : List (List Slot)). lookup b (entries (flatten y))) (f .split)
         ∙ (ap (λ y. lookup b y) (fill-entries g (live b (f .contents)))

@@ -23,27 +23,13 @@ use Rattle.model.specs.Laws.Chip.{size-facts, run-append, run-length, whole-cut
 use Rattle.model.specs.Laws.Ring.{next-ge, next-same}
 use Rattle.model.specs.Laws.Segments.{partOf, segment-at, segments-length, erased-image}
 use Rattle.model.specs.Laws.HeaderPage.{in-use-facts, number-fits, number-raised, clear-pending}
-use Rattle.model.specs.Laws.Effects.{index, in-use-parts, erase-effect, settle-effect}
+use Rattle.model.specs.Laws.Effects.{index, numbered-at, in-use-parts, erase-effect, settle-effect}
 use Rattle.model.specs.Laws.PageCuts.{one-bit-cut}
 use Rattle.crash.specs.Sound.{AtLeast, headerByte, SoundAs, Sound, CutOf}
 use Rattle.crash.specs.RecoverErase.{replaced-byte, raised-segments, raised-byte, header-byte}
 use Rattle.crash.specs.States.{isCase, mended, case-of, state-case, recover-steps, recovered-run, Kept, kept-same, Mended, kept-clean, kept-case}
 
 -- ---- the top of an image's segments
-
--- a segment in use has a number below the limit, and the index of that number
-pub numbered-at : (N B : ℕ) (s : Image) (i n : ℕ) → i < N → numberAfter (getD (segmentsOf N B s) i blank) ≡ suc n → (n % N ≡ i) × (n < numberLimit N)
-unfolding numberAfter
-numbered-at N B s i n h e = go (getD (segmentsOf N B s) i blank) refl e
-  where
-    go : (x : Segment) → getD (segmentsOf N B s) i blank ≡ x → numberAfter x ≡ suc n → (n % N ≡ i) × (n < numberLimit N)
-    go blank q d = absurd (omega arith)
-    go invalid q d = absurd (omega arith)
-    go (inUse st m ks) q d =
-        let u = in-use-parts N B i (partOf N B i s) st m ks (sym (segment-at N B i s h) ∙ q) in
-        let f = in-use-facts N B i (getD (partOf N B i s) 0 []) (u .header) in
-        let w : headerNumber (getD (partOf N B i s) 0 []) ≡ n = u .number ∙ omega arith in
-        (rw w at (f .place), rw w at (f .below))
 
 next-at : (l : List Segment) → 0 < nextNumber l → (i : ℕ) × (i < length l) × (numberAfter (getD l i blank) ≡ nextNumber l)
 unfolding nextNumber

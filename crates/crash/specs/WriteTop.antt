@@ -82,7 +82,7 @@ module _ (N B : ℕ) (s : Image) (v : View) (h : Held N B s v) (clean : CleanVie
   top-segment : (st : ℕ) × (getD segments (n % N) blank ≡ inUse st n (row empty))
   top-segment =
       let x = held-row N B s v h (length (gap .gap .rowsBefore)) (place .row) in
-      let r : getD (v .slots) (length (gap .gap .rowsBefore)) [] ≡ row empty = ap (λ (y : List (List Slot)). getD y (length (gap .gap .rowsBefore)) []) (gap .split) ∙ gap-row B (gap .gap) empty in
+      let r : getD (v .slots) (length (gap .gap .rowsBefore)) [] ≡ row empty = ap (λ (y : List (List Slot)). getD y (length (gap .gap .rowsBefore)) []) (gap .split) ∙ gap-row (gap .gap) empty in
       (x .0, rw (← (gap .number), r) at (x .1))
 
   row-at : (k : Slot) → getD (row k) j empty ≡ k

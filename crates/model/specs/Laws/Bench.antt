@@ -1,7 +1,7 @@
 -- Every bench example holds: computed over pages, and carried to the image by the law that joins the two.
 use Prim.Native.Nat.{ℕ, zero, suc, _+_, _-_, _*_}
 use mathlib.Core.Path.{_≡_, refl, sym, ap, ap₂, _∙_}
-use mathlib.Core.Bool.{Bool, true, false, cond, _&&_}
+use mathlib.Core.Bool.{Bool, true, false, _&&_, and-true}
 use mathlib.Core.List.{List, [], _∷_, _++_, flatMap, flatten}
 use native.Mathlib.Omega.{arith}
 use lib.ListN.{length, take, replicate, length-replicate}
@@ -56,10 +56,6 @@ unfolding evaluate workPages playPages seenPages formattedPages benchPages
 computed = refl
 
 -- ---- the bench over pages is the bench over the image
-
-and-true : (t : Bool) → t && true ≡ t
-and-true true = refl
-and-true false = refl
 
 work-pages : (N B : ℕ) (s : Image) (r : Request) → length s ≡ imageLength N B → workOf N B s r ≡ workPages N B (pagesOf N B s) r
 unfolding workOf workPages rightSize segmentsOf

@@ -66,7 +66,8 @@ raised-get (a ∷ s) (x ∷ t) r (suc j) = raised-get s t (r .1) j
 abbrev pub OneBit : ℕ → ℕ → Type 0
 OneBit lo hi = (x : ℕ) → Between lo x hi → (x ≡ lo) ⊎ (x ≡ hi)
 
-allBelow : (ℕ → Bool) → ℕ → Bool
+-- a test of each of the numbers below n
+unfoldable pub allBelow : (ℕ → Bool) → ℕ → Bool
 allBelow f zero = true
 allBelow f (suc n) = f n && allBelow f n
 

@@ -13,7 +13,7 @@ use Rattle.model.specs.Lists.{all, chunk}
 use Rattle.model.specs.Chip.{Image, Page, Bytes, Step, program, erase, erased, withSegment, step, run, mostSegments, numberLimit, imageLength, Cut}
 use Rattle.model.specs.Header.{opened, erasePending, compacted, noOldSegment, statusInUse, headerPage, headerStatus, headerNumber, oldIndex, headerInUse, isBlank, allBlank}
 use Rattle.model.specs.Slot.{Slot, empty, torn, dead, live, slotPage, slotOf, Entry, holding, mostContents}
-use Rattle.model.specs.State.{Segment, blank, invalid, inUse, segmentOf, segmentsOf, isInUse, slotsIn, withSlot, Place}
+use Rattle.model.specs.State.{Segment, blank, invalid, inUse, segmentOf, segmentsOf, numberAfter, withSlot}
 use Rattle.model.specs.Steps.{onPage, headerAt, slotAt, writeSlot, markDead, markPlace, openSegment, copyEntries, copyOut, settle, copied}
 use Rattle.model.specs.Laws.Lists.{and-left, and-right, all-get, map-set, map-length, map-get}
 use Rattle.model.specs.Laws.Chip.{run-append, run-length, step-length}
@@ -46,6 +46,20 @@ in-use-parts N B i ps st n ks e = go (headerInUse N B i (getD ps 0 [])) refl (al
         record { header = h; status = r .0; number = r .1; slots = r .2 }
     go false h true q = absurd (false≢true cc)
     go false h false q = absurd (false≢true cc)
+
+-- a segment in use has a number below the limit, and the index of that number
+pub numbered-at : (N B : ℕ) (s : Image) (i n : ℕ) → i < N → numberAfter (getD (segmentsOf N B s) i blank) ≡ suc n → (n % N ≡ i) × (n < numberLimit N)
+unfolding numberAfter
+numbered-at N B s i n h e = go (getD (segmentsOf N B s) i blank) refl e
+  where
+    go : (x : Segment) → getD (segmentsOf N B s) i blank ≡ x → numberAfter x ≡ suc n → (n % N ≡ i) × (n < numberLimit N)
+    go blank q d = absurd (omega arith)
+    go invalid q d = absurd (omega arith)
+    go (inUse st m ks) q d =
+        let u = in-use-parts N B i (partOf N B i s) st m ks (sym (segment-at N B i s h) ∙ q) in
+        let f = in-use-facts N B i (getD (partOf N B i s) 0 []) (u .header) in
+        let w : headerNumber (getD (partOf N B i s) 0 []) ≡ n = u .number ∙ omega arith in
+        (rw w at (f .place), rw w at (f .below))
 
 -- a header in use
 pub segment-in-use : (N B i : ℕ) (ps : List Page) → headerInUse N B i (getD ps 0 []) ≡ true
