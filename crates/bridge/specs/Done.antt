@@ -1,28 +1,26 @@
 -- Each list of steps of a put or a delete, done whole, leaves the ring and the predicted view.
-use Prim.Native.Nat.{ℕ, zero, suc, _+_, _-_, _*_, _/_, _%_, _≤_, _<_}
-use mathlib.Core.Path.{_≡_, refl, sym, ap, ap₂, _∙_, subst}
+use Prim.Native.Nat.{ℕ, suc, _+_, _-_, _%_, _≤_, _<_}
+use mathlib.Core.Path.{_≡_, refl, sym, ap, ap₂, _∙_}
 use mathlib.Core.Logic.{_≢_}
-use mathlib.Core.Bool.{Bool, true, false, cond}
 use mathlib.Core.List.{List, [], _∷_, _++_}
 use native.Mathlib.Omega.{arith}
 use native.Mathlib.Nat.{mod-lt}
-use lib.ListN.{length, getD, drop, set, replicate, length-set}
+use lib.ListN.{length, getD, drop, set, replicate}
 use lib.Seq.{set-set, set-comm, getD-set-same, getD-set-other}
 use Rattle.model.specs.Chip.{Image, numberLimit, imageLength, step, run, Step, erase}
 use Rattle.model.specs.Laws.Lists.{mod-inj}
 use Rattle.model.specs.Header.{opened, erasePending, compacted}
 use Rattle.model.specs.Slot.{Slot, empty, dead, live, Entry}
-use Rattle.model.specs.State.{Segment, blank, inUse, segmentsOf, nextNumber, nextIndex, usedCount, firstNumber, View, viewOf, view, entries, withSlot, Place}
-use Rattle.model.specs.Steps.{onPage, slotAt, writeSlot, markDead, markPlace, openSegment, copyOut, settle, compact, topRow, topNumber, firstEmpty, copied, openNext, compactOldest, writeAtTop}
+use Rattle.model.specs.State.{Segment, blank, inUse, segmentsOf, nextNumber, nextIndex, usedCount, firstNumber, View, view, withSlot}
+use Rattle.model.specs.Steps.{onPage, slotAt, writeSlot, markDead, openSegment, copyOut, settle, compact, topNumber, copied, openNext}
 use Rattle.model.specs.Laws.Chip.{SizeFacts, size-facts, run-size, run-append, run-length, step-length}
 use Rattle.model.specs.Laws.HeaderPage.{old-index}
-use Rattle.model.specs.Laws.SlotPage.{Valid, Markable, live-markable}
+use Rattle.model.specs.Laws.SlotPage.{Valid, live-markable}
 use Rattle.model.specs.Laws.Effects.{mark-effect, write-effect, slot-kind, slotPageAt, erase-effect, open-effect, settle-effect}
 use Rattle.model.specs.Laws.CopyOut.{Valids, copy-out-effect}
-use Rattle.model.specs.Laws.Clean.{RingFacts, used-next, index-inside, next-blank, next-apart}
+use Rattle.model.specs.Laws.Clean.{index-inside, next-blank}
 use Rattle.model.specs.Laws.View.{slotChanged, slot-ring, slot-view, taken-ring, taken-view, moved-ring, moved-view}
-use Rattle.bridge.specs.Predicted.{written, marked}
-use Rattle.bridge.specs.Held.{Held, held-first, held-rows, held-count, held-next, held-top, held-row, row-valid}
+use Rattle.bridge.specs.Held.{Held, held-first, held-count, held-next, held-top, held-row}
 
 module _ (N B : ℕ) (s : Image) (v : View) (h : Held N B s v) where
   abbrev l : List Segment

@@ -1,19 +1,18 @@
 -- A finished format, of any image of a right size: an image of bytes, clean, with one empty segment.
-use Prim.Native.Nat.{ℕ, zero, suc, _+_, _-_, _*_, _%_, max, _≤_, _<_}
+use Prim.Native.Nat.{ℕ, zero, suc, _+_, _-_, _*_, _%_, _≤_, _<_}
 use mathlib.Core.Path.{_≡_, refl, sym, ap, ap₂, _∙_}
-use mathlib.Core.Bool.{Bool, true, false, cond, not}
+use mathlib.Core.Bool.{true, not}
 use mathlib.Core.List.{List, [], _∷_, _++_, append-nil, flatten, flatMap}
 use native.Mathlib.Omega.{arith}
 use native.Mathlib.Nat.{mod-eq-of-lt}
 use lib.ListN.{length, getD, take, drop, set, replicate, length-take, length-replicate, length-set, getD-replicate, drop-of-length-le}
 use lib.Seq.{take-all, take-append-add, take-at, set-append-seam, drop-cons, getD-set-same}
-use lib.Dec.{leb}
 use borrow.Author.Tests.{le-leb}
 use Rattle.model.specs.Lists.{all, count}
-use Rattle.model.specs.Chip.{Image, Bytes, numberLimit, imageLength, rightSize, Step, erase, erased, withSegment, step, run}
+use Rattle.model.specs.Chip.{Image, Bytes, numberLimit, imageLength, rightSize, erase, erased, withSegment, step, run}
 use Rattle.model.specs.Header.{opened}
-use Rattle.model.specs.Slot.{Slot, empty, isEmpty, isWrong, isTorn}
-use Rattle.model.specs.State.{Segment, blank, inUse, isInUse, isInvalid, isOwing, numberAfter, slotsIn, segmentsOf, nextNumber, usedCount, firstNumber, slotsFrom, numbersFrom, View, viewOf, view, entries, entriesIn, distinct, capacity, noneOwing, othersBlank, state, clean}
+use Rattle.model.specs.Slot.{Slot, empty}
+use Rattle.model.specs.State.{Segment, blank, inUse, isInUse, isInvalid, isOwing, numberAfter, slotsIn, segmentsOf, nextNumber, usedCount, firstNumber, slotsFrom, numbersFrom, viewOf, view, entries, entriesIn, distinct, capacity, noneOwing, othersBlank, state, clean}
 use Rattle.model.specs.Steps.{openSegment, eraseFirst, formatSteps}
 use Rattle.model.specs.Laws.Lists.{all-set, all-replicate}
 use Rattle.model.specs.Laws.Chip.{run-append, run-length, size-facts, run-size}

@@ -1,24 +1,24 @@
 -- An image whose segments in use form a ring, with a given view; and where the view's rows and slots stand in the image.
-use Prim.Native.Nat.{ℕ, zero, suc, _+_, _-_, _*_, _/_, _%_, _≤_, _<_}
+use Prim.Native.Nat.{ℕ, suc, _+_, _-_, _*_, _%_, _<_}
 use mathlib.Core.Path.{_≡_, refl, sym, ap, ap₂, _∙_, subst}
-use mathlib.Core.Bool.{Bool, true, false, cond}
+use mathlib.Core.Bool.{true}
 use mathlib.Core.List.{List, [], _∷_, _++_, map}
 use native.Mathlib.Omega.{arith}
 use native.Mathlib.Nat.{mod-lt}
 use lib.ListN.{length, getD, drop, length-drop}
 use lib.Seq.{getD-drop}
-use Rattle.model.specs.Chip.{Image, Page, Bytes, pagesOf, leastSegments, leastSlots, mostSlots, rightSize, run, Step}
-use Rattle.model.specs.Slot.{Slot, empty, torn, dead, wrong, live, slotOf, Entry, entryOf}
-use Rattle.model.specs.State.{Segment, blank, inUse, segmentOf, segmentsOf, numberAfter, slotsIn, nextNumber, usedCount, firstNumber, slotsFrom, View, viewOf, entries, entriesIn, isClean, clean, state, view}
+use Rattle.model.specs.Chip.{Image, Page, Bytes, pagesOf, rightSize}
+use Rattle.model.specs.Slot.{Slot, empty, torn, dead, wrong, live, slotOf, entryOf}
+use Rattle.model.specs.State.{Segment, blank, inUse, segmentsOf, numberAfter, slotsIn, nextNumber, usedCount, firstNumber, slotsFrom, View, viewOf, entries, entriesIn, isClean, clean, state, view}
 use Rattle.model.specs.Steps.{topNumber}
 use Rattle.model.specs.Table.{tableOf}
-use Rattle.model.specs.Laws.Chip.{SizeFacts, size-facts, run-size}
+use Rattle.model.specs.Laws.Chip.{size-facts}
 use Rattle.model.specs.Laws.Bytes.{chunk-bytes}
-use Rattle.model.specs.Laws.SlotPage.{Valid, live-valid}
+use Rattle.model.specs.Laws.SlotPage.{live-valid}
 use Rattle.model.specs.Laws.Segments.{partOf, part-page, part-size, segment-at, segments-length}
-use Rattle.model.specs.Laws.Effects.{InUseParts, in-use-parts, slot-count}
+use Rattle.model.specs.Laws.Effects.{in-use-parts, slot-count}
 use Rattle.model.specs.Laws.CopyOut.{Valids}
-use Rattle.model.specs.Laws.Ring.{slots-get, slots-length, numbers-get}
+use Rattle.model.specs.Laws.Ring.{slots-get, slots-length}
 use Rattle.model.specs.Laws.Clean.{RingFacts, clean-ring, clean-slots, ring-clean, state-clean, clean-state, used-next, numbered, in-use-numbered}
 use Rattle.bridge.specs.Predicted.{Rows, CleanView}
 

@@ -1,7 +1,7 @@
 -- What demands 2 and 3 use of finished requests: on views, and from bytes to views.
-use Prim.Native.Nat.{ℕ, _≤_, _<_}
+use Prim.Native.Nat.{ℕ, _<_}
 use mathlib.Core.Path.{_≡_}
-use mathlib.Core.Bool.{Bool, true, false}
+use mathlib.Core.Bool.{true, false}
 use mathlib.Core.List.{List}
 use Rattle.model.specs.Chip.{Image, Bytes, rightSize, run, numberLimit}
 use Rattle.model.specs.State.{View, entriesIn, holds, clean, state, view}

@@ -1,6 +1,6 @@
 -- Accepted puts and deletes, done whole: a clean image with the predicted view.
-use Prim.Native.Nat.{ℕ, zero, suc, _+_, _-_, _*_, _%_, _≤_, _<_}
-use mathlib.Core.Path.{_≡_, refl, sym, ap, ap₂, _∙_, subst}
+use Prim.Native.Nat.{ℕ, zero, suc, _+_, _-_, _%_, _≤_, _<_}
+use mathlib.Core.Path.{_≡_, refl, sym, ap, _∙_, subst}
 use mathlib.Core.Bool.{Bool, true, false, cond}
 use mathlib.Core.List.{List, [], _∷_, _++_}
 use native.Mathlib.Omega.{arith}
@@ -9,11 +9,10 @@ use lib.ListN.{length, getD, drop, length-append}
 use lib.Seq.{getD-append-seam}
 use lib.Dec.{ltb}
 use borrow.Author.Tests.{ltb-true, ltb-false}
-use Rattle.model.specs.Chip.{Image, Bytes, numberLimit, rightSize, run, Step}
-use Rattle.model.specs.Header.{headerNumber}
-use Rattle.model.specs.Slot.{Slot, empty, dead, live, Entry}
-use Rattle.model.specs.State.{blank, segmentsOf, nextNumber, View, view, entries, entriesIn, holds, Place, placeOf, noneWrongOrTorn, state, clean}
-use Rattle.model.specs.Steps.{onPage, slotAt, writeSlot, markDead, markPlace, topRow, topNumber, firstEmpty, hasRoom, Room, openNext, compactOldest, compactUntilRoom, roomFor, writeAtTop, markOld, putSteps, deleteSteps}
+use Rattle.model.specs.Chip.{Image, Bytes, numberLimit, rightSize, run}
+use Rattle.model.specs.Slot.{Slot, empty, live}
+use Rattle.model.specs.State.{segmentsOf, View, view, entries, entriesIn, holds, Place, placeOf, noneWrongOrTorn, state, clean}
+use Rattle.model.specs.Steps.{markPlace, topNumber, hasRoom, Room, openNext, compactOldest, compactUntilRoom, roomFor, writeAtTop, markOld, putSteps, deleteSteps}
 use Rattle.model.specs.Table.{Agree, store}
 use Rattle.model.specs.Answers.{put, delete, stepsFor, workOf}
 use Rattle.model.specs.Laws.Lists.{all-row}
@@ -22,14 +21,14 @@ use Rattle.model.specs.Laws.Bytes.{run-bytes}
 use Rattle.model.specs.Laws.SlotPage.{Valid}
 use Rattle.model.specs.Laws.Effects.{numbered-at}
 use Rattle.model.specs.Laws.Clean.{numbered}
-use Rattle.bridge.specs.Predicted.{written, marked, putInto, afterPut, afterDelete, CleanView, Fits, Rows}
+use Rattle.bridge.specs.Predicted.{written, marked, putInto, afterPut, afterDelete, CleanView, Rows}
 use Rattle.bridge.specs.Interface.{ViewLaws}
 use Rattle.bridge.specs.Views.Slots.{slots-counted, sound}
-use Rattle.bridge.specs.Views.Places.{Gap, fill, fill-length, FirstLive, TopGap, written-place, written-holds}
+use Rattle.bridge.specs.Views.Places.{Gap, fill, fill-length, TopGap, written-place, written-holds}
 use Rattle.bridge.specs.Views.Shape.{clean-shape, shape-gap, first-live-in, opened-top}
-use Rattle.bridge.specs.Views.Room.{Tidied, tidied}
+use Rattle.bridge.specs.Views.Room.{tidied}
 use Rattle.bridge.specs.Views.Requests.{view-laws}
-use Rattle.bridge.specs.Held.{Held, held-first, held-of-clean, clean-view, clean-of-held, held-row, held-lengths, row-valid, held-next}
+use Rattle.bridge.specs.Held.{Held, held-first, held-of-clean, clean-view, clean-of-held, held-lengths, row-valid, held-next}
 use Rattle.bridge.specs.Done.{mark-held, write-held, open-held, compact-held}
 use Rattle.bridge.specs.Accepted.{PutPassed, put-passed, delete-passed, accepted}
 

@@ -7,7 +7,7 @@ use mathlib.Core.List.{List}
 use lib.ListN.{getD}
 use Rattle.model.specs.Chip.{Image, Step, rightSize, run}
 use Rattle.model.specs.Slot.{empty}
-use Rattle.model.specs.State.{blank, segmentsOf, slotsIn, entriesIn, placeOf, view}
+use Rattle.model.specs.State.{blank, segmentsOf, slotsIn, placeOf, view}
 use Rattle.model.specs.Steps.{markPlace, deleteSteps}
 use Rattle.model.specs.Table.{without, tableOf}
 use Rattle.model.specs.Answers.{delete, stepsFor, workOf}

@@ -5,7 +5,7 @@ use mathlib.Core.Logic.{inl, inr, ⊎-elim}
 use mathlib.Core.Bool.{true}
 use mathlib.Core.List.{List, _++_}
 use Rattle.model.specs.Chip.{Image, Bytes, rightSize, run}
-use Rattle.model.specs.State.{View, entriesIn, view}
+use Rattle.model.specs.State.{entriesIn, view}
 use Rattle.model.specs.Steps.{roomFor, writeAtTop, markOld}
 use Rattle.model.specs.Table.{store, tableOf}
 use Rattle.model.specs.Answers.{put}

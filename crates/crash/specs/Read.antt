@@ -1,18 +1,17 @@
 -- A read of a stored block on a clean image hands back its contents: they stand in the page of its live slot.
 use Prim.Native.Nat.{ℕ, zero, suc, _+_, _-_, _*_, _%_, _≤_, _<_}
 use mathlib.Core.Path.{_≡_, refl, sym, ap, _∙_}
-use mathlib.Core.Bool.{Bool, true, false, cond}
+use mathlib.Core.Bool.{true}
 use mathlib.Core.List.{List, [], _∷_}
 use native.Mathlib.Omega.{arith}
 use lib.ListN.{length, getD, take, drop}
 use lib.Seq.{take-at, take-take, drop-drop}
-use lib.Dec.{eqb}
 use Rattle.model.specs.Chip.{Image, erased, pagesOf, rightSize}
-use Rattle.model.specs.Slot.{mostContents, numberOk, slotPage}
-use Rattle.model.specs.State.{segmentsOf, viewOf, entriesIn, holds, placeOf, view}
+use Rattle.model.specs.Slot.{mostContents, slotPage}
+use Rattle.model.specs.State.{segmentsOf, viewOf, entriesIn, placeOf, view}
 use Rattle.model.specs.Steps.{slotAt}
 use Rattle.model.specs.Table.{lookup, present, contentsFound, tableOf}
-use Rattle.model.specs.Answers.{delete, read, contentsAt, readOutcome, pieceRead}
+use Rattle.model.specs.Answers.{read, contentsAt, readOutcome, pieceRead}
 use Rattle.model.specs.Laws.Chunk.{chunk-part}
 use Rattle.model.specs.Laws.Segments.{partOf, part-page, page-in}
 use Rattle.model.specs.Laws.SlotPage.{LiveFacts, live-facts}

@@ -1,15 +1,15 @@
 -- One slot marked dead: the recovery of (c) and of (d), and a delete. It is one step with no inside, so that a cut does it or not.
-use Prim.Native.Nat.{ℕ, suc, _+_, _-_, _*_, _%_, _≤_, _<_}
+use Prim.Native.Nat.{ℕ, suc, _+_, _-_, _*_, _%_, _<_}
 use mathlib.Core.Path.{_≡_, refl, sym, ap, _∙_, subst}
 use mathlib.Core.Logic.{_⊎_, inl, inr, ⊎-elim}
 use mathlib.Core.Bool.{true, _&&_, false≢true}
-use mathlib.Core.List.{List, [], _∷_, _++_, flatten}
+use mathlib.Core.List.{List, [], _++_, flatten}
 use native.Mathlib.Omega.{arith}
 use native.Mathlib.Decide.{decLt}
 use lib.ListN.{length, getD, set, List·getD-eq-default}
 use lib.Dec.{ltb, eqb}
 use borrow.Author.Tests.{eqb-true, eq-eqb, lt-ltb}
-use Rattle.model.specs.Chip.{Image, Page, clear, leastSlots, imageLength, run, rightSize, Cut}
+use Rattle.model.specs.Chip.{Image, Page, clear, run, rightSize, Cut}
 use Rattle.model.specs.Slot.{Slot, empty, torn, dead, wrong, live, slotOf, isTorn, entryOf}
 use Rattle.model.specs.State.{Segment, blank, invalid, inUse, segmentsOf, slotsIn, nextNumber, topIndex, topSlots, usedCount, firstNumber, slotsFrom, viewOf, entries, entriesIn, holds, isClean, withSlot, lastSlot, lastKind, tornMarked, isC, Place, placeOf, lastBlock, copies, older, olderMarked, isD, Exception, caseC, caseD, unfinished, state}
 use Rattle.model.specs.Steps.{onPage, slotAt, markDead, markPlace, mendSteps}

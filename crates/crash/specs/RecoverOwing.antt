@@ -22,7 +22,7 @@ use Rattle.model.specs.Laws.Bytes.{compacted-bit, within-le, number-bytes, inve
 use Rattle.model.specs.Laws.Chip.{size-facts, run-append, run-length, whole-cut, cut-append, cut-size}
 use Rattle.model.specs.Laws.Ring.{next-ge, next-same}
 use Rattle.model.specs.Laws.Segments.{partOf, segment-at, segments-length, erased-image}
-use Rattle.model.specs.Laws.HeaderPage.{in-use-facts, number-fits, number-raised, clear-pending}
+use Rattle.model.specs.Laws.HeaderPage.{number-fits, number-raised, clear-pending}
 use Rattle.model.specs.Laws.Effects.{index, numbered-at, in-use-parts, erase-effect, settle-effect}
 use Rattle.model.specs.Laws.PageCuts.{one-bit-cut}
 use Rattle.crash.specs.Sound.{AtLeast, headerByte, SoundAs, Sound, CutOf}

@@ -2,22 +2,19 @@
 use Prim.Native.Nat.{ℕ, suc, _≤_, _<_}
 use mathlib.Core.Path.{_≡_, refl, sym, ap, ap₂, _∙_, subst}
 use mathlib.Core.Logic.{_⊎_, inl, inr, ⊎-elim, _≢_}
-use mathlib.Core.Bool.{Bool, true, false, cond, _||_, _&&_, not, false≢true}
+use mathlib.Core.Bool.{Bool, true, false, cond, _||_, _&&_, not}
 use mathlib.Core.List.{List, [], _∷_}
 use native.Mathlib.Omega.{arith}
 use lib.ListN.{length}
-use lib.Seq.{take-all}
 use lib.Dec.{ltb, leb, eqb}
 use borrow.Author.Tests.{leb-true, leb-false, ltb-true, ltb-false, lt-leb, le-leb, lt-ltb, le-ltb, ne-eqb, eqb-true}
-use Rattle.model.specs.Lists.{all}
-use Rattle.model.specs.Chip.{Image, rightSize, Step, run}
+use Rattle.model.specs.Chip.{Image, rightSize, run}
 use Rattle.model.specs.Slot.{mostContents, numberOk}
-use Rattle.model.specs.State.{Segment, segmentsOf, View, viewOf, entriesIn, holds, distinct, capacity, someInUse, consecutive, noneOwing, othersBlank, noneWrongOrTorn, blocksDistinct, emptySlotsLast, withinCapacity, conditions, isClean, isA, isB, isC, isD, placeOf, caseA, caseB, caseC, caseD, State, clean, unfinished, damaged, stateOf, state, view}
-use Rattle.model.specs.Steps.{isWorn, formatSteps, recoverSteps}
+use Rattle.model.specs.State.{segmentsOf, viewOf, entriesIn, holds, distinct, capacity, blocksDistinct, placeOf, State, clean, unfinished, damaged, stateOf, state, view}
+use Rattle.model.specs.Steps.{isWorn, formatSteps}
 use Rattle.model.specs.Table.{Table, lookup, Agree, contentsFound, tableOf}
-use Rattle.model.specs.Answers.{Request, format, put, delete, read, readOr, recover, _when_, firstOf, isDamaged, isUnfinished, isFull, absentRefusals, refusals, stepsFor, Work, workOn, workOf, codeUnder, outcomeOf, ReadOutcome, contentsAt, readOutcome, pieceRead, pieceOr}
+use Rattle.model.specs.Answers.{Request, format, put, delete, read, readOr, recover, _when_, firstOf, isDamaged, isUnfinished, isFull, absentRefusals, refusals, stepsFor, Work, workOn, workOf, outcomeOf, ReadOutcome, contentsAt, readOutcome, pieceRead, pieceOr}
 use Rattle.model.specs.Histories.{Reply, bytesRead, replyOf, wears, recovered, shown}
-use Rattle.model.specs.Laws.Chip.{prefix-cut}
 use Rattle.model.specs.Laws.Tables.{agree-of, agree-holds, agree-without, agree-store, distinct-without, distinct-store}
 use Rattle.model.specs.Laws.Clean.{clean-slots, state-clean}
 use Rattle.bridge.specs.Allowance.{ends-or-stops}

@@ -7,12 +7,11 @@ use mathlib.Core.List.{List, [], _∷_, _++_}
 use native.Mathlib.Omega.{arith}
 use lib.ListN.{length, getD, set}
 use lib.Seq.{getD-set-same, getD-set-other}
-use Rattle.model.specs.Chip.{Image, Page, Bytes, Step, erase, rightSize, run, numberLimit, imageLength, erased, Cut}
+use Rattle.model.specs.Chip.{Image, Page, Step, erase, rightSize, run, numberLimit, imageLength, erased, Cut}
 use Rattle.model.specs.Slot.{Entry}
 use Rattle.model.specs.State.{segmentOf, segmentsOf, View, entries, entriesIn}
 use Rattle.model.specs.Steps.{topNumber, hasRoom, onPage, headerAt, slotAt, writeSlot, copyEntries, copyOut, compact, settle, openNext, compactOldest}
-use Rattle.model.specs.Table.{Agree, tableOf}
-use Rattle.model.specs.Answers.{recover}
+use Rattle.model.specs.Table.{tableOf}
 use Rattle.model.specs.Histories.{shown}
 use Rattle.model.specs.Laws.Chip.{run-append, run-length, run-size, cut-append, cut-size, whole-cut, SizeFacts, size-facts}
 use Rattle.model.specs.Laws.Pages.{InPage}
@@ -22,7 +21,7 @@ use Rattle.model.specs.Laws.SlotPage.{write-in-page}
 use Rattle.model.specs.Laws.PageCuts.{opening-cut, compaction-cut, begun-bit-6, pending-cut}
 use Rattle.model.specs.Laws.Effects.{index, blank-page, header-only, header-run, few}
 use Rattle.model.specs.Laws.CopyOut.{Valids, copy-in-segment}
-use Rattle.model.specs.Laws.Tables.{agree-of, agree-trans}
+use Rattle.model.specs.Laws.Tables.{agree-trans}
 use Rattle.bridge.specs.Predicted.{CleanView}
 use Rattle.bridge.specs.Views.Shape.{opened-entries}
 use Rattle.bridge.specs.Views.Room.{opened-clean}

@@ -21,7 +21,6 @@ use Rattle.bridge.specs.Views.Room.{tidied}
 use Rattle.bridge.specs.Held.{Held, clean-of-held, held-table}
 use Rattle.bridge.specs.Requests.{until-room, until-more, top-rises, one-compaction, compacted-rows}
 use Rattle.crash.specs.States.{SoundWith, segments-show}
-use Rattle.crash.specs.RoomOwing.{Full}
 use Rattle.crash.specs.RoomCuts.{open-cut, compact-cut}
 
 module _ (N B : ℕ) where

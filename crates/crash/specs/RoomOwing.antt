@@ -1,9 +1,9 @@
 -- A compaction up to and with the owing mark leaves state (b): sound, with the old table, and its recovery is the rest of the compaction.
 use Prim.Native.Nat.{ℕ, suc, _+_, _-_, _*_, _%_, _≤_, _<_}
-use mathlib.Core.Path.{_≡_, refl, sym, ap, _∙_, subst}
+use mathlib.Core.Path.{_≡_, refl, sym, ap, _∙_}
 use mathlib.Core.Logic.{_≢_}
 use mathlib.Core.Bool.{true, false}
-use mathlib.Core.List.{List, [], _∷_, _++_, append-assoc}
+use mathlib.Core.List.{List, [], _∷_, append-assoc}
 use native.Mathlib.Omega.{arith}
 use native.Mathlib.Nat.{mod-lt, add-mod-right}
 use lib.ListN.{length, getD, set, List·getD-append}
@@ -28,7 +28,7 @@ use Rattle.bridge.specs.Views.Room.{tidied}
 use Rattle.bridge.specs.Held.{Held, held-top, held-count, held-row, held-clean, row-valid}
 use Rattle.bridge.specs.Done.{ring-closed, old-apart, compact-segments}
 use Rattle.bridge.specs.Requests.{row-fits, one-compaction, compacted-rows}
-use Rattle.crash.specs.Sound.{AtLeast, headerByte, SoundAs}
+use Rattle.crash.specs.Sound.{SoundAs}
 use Rattle.crash.specs.States.{isCase, mended, SoundWith}
 use Rattle.crash.specs.RecoverErase.{header-byte}
 use Rattle.crash.specs.RecoverOwing.{both, both-length, Keeps, keeps-of}

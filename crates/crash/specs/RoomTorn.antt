@@ -1,6 +1,6 @@
 -- Steps that touch only the segment after the top and leave bit 6 of its status set: the image is clean still, or in state (a), with the old table.
-use Prim.Native.Nat.{ℕ, suc, _+_, _*_, _/_, _%_, _<_}
-use mathlib.Core.Path.{_≡_, refl, sym, ap, _∙_, subst}
+use Prim.Native.Nat.{ℕ, suc, _/_, _%_, _<_}
+use mathlib.Core.Path.{_≡_, refl, sym, ap, _∙_}
 use mathlib.Core.Bool.{Bool, true, false, cond}
 use mathlib.Core.List.{List, []}
 use native.Mathlib.Omega.{arith}
@@ -8,7 +8,7 @@ use lib.ListN.{length, getD, set}
 use lib.Seq.{set-set, set-getD, getD-set-same}
 use Rattle.model.specs.Chip.{Image, rightSize}
 use Rattle.model.specs.Header.{allBlank}
-use Rattle.model.specs.State.{Segment, blank, invalid, segmentOf, segmentsOf, isInvalid, numberAfter, nextNumber, nextIndex, View, view, viewOf, entriesIn, isClean, nextBlanked, isA, caseA, unfinished}
+use Rattle.model.specs.State.{Segment, blank, invalid, segmentOf, segmentsOf, isInvalid, numberAfter, nextNumber, nextIndex, View, view, entriesIn, isClean, nextBlanked, isA, caseA, unfinished}
 use Rattle.model.specs.Steps.{headerAt, topNumber}
 use Rattle.model.specs.Laws.Lists.{and-both}
 use Rattle.model.specs.Laws.Segments.{partOf, Only, only-segments}

@@ -1,6 +1,6 @@
 -- The state of an image by its segments. The four unfinished cases alike: each passes its test, is mended to clean segments, and shows their table.
 -- An image that is mended to the same shows the same.
-use Prim.Native.Nat.{ℕ, _-_, _≤_, _<_}
+use Prim.Native.Nat.{ℕ, _-_, _≤_}
 use mathlib.Core.Path.{_≡_, refl, sym, ap, _∙_, subst}
 use mathlib.Core.Bool.{Bool, true, false, cond, _&&_}
 use mathlib.Core.List.{List, [], _∷_}
@@ -8,8 +8,8 @@ use native.Mathlib.Omega.{arith}
 use lib.ListN.{length, getD}
 use lib.Dec.{ltb, eqb}
 use Rattle.model.specs.Lists.{count}
-use Rattle.model.specs.Chip.{Image, leastSegments, mostSlots, rightSize, run}
-use Rattle.model.specs.Slot.{isTorn, Entry}
+use Rattle.model.specs.Chip.{Image, rightSize, run}
+use Rattle.model.specs.Slot.{isTorn}
 use Rattle.model.specs.State.{Segment, blank, isInvalid, isOwing, segmentsOf, nextIndex, topIndex, usedCount, viewOf, entriesIn, isClean, nextBlanked, isA, topSettled, isB, lastKind, tornMarked, isC, lastBlock, copies, olderMarked, isD, Exception, caseA, caseB, caseC, caseD, State, clean, unfinished, damaged, stateOf, state, view}
 use Rattle.model.specs.Steps.{mendSteps, recoverSteps}
 use Rattle.model.specs.Table.{Table, Agree, tableOf}

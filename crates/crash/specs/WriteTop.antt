@@ -11,14 +11,14 @@ use lib.Dec.{ltb}
 use Rattle.model.specs.Lists.{all}
 use Rattle.model.specs.Chip.{Image, rightSize, run, Cut}
 use Rattle.model.specs.Slot.{Slot, empty, torn, dead, live, isEmpty, isTorn, isWrong, entryOf, numberOk}
-use Rattle.model.specs.State.{Segment, blank, inUse, segmentsOf, slotsIn, numberAfter, nextNumber, topIndex, topSlots, firstNumber, View, viewOf, view, entries, entriesIn, holds, distinct, isClean, withSlot, filled, lastSlot, lastKind, tornMarked, isC, Place, placeOf, blockIn, lastBlock, copies, older, olderMarked, isD, caseC, caseD}
+use Rattle.model.specs.State.{Segment, blank, inUse, segmentsOf, slotsIn, numberAfter, nextNumber, topIndex, topSlots, firstNumber, View, viewOf, view, entries, entriesIn, holds, distinct, isClean, withSlot, filled, lastSlot, lastKind, tornMarked, isC, placeOf, blockIn, lastBlock, copies, older, olderMarked, isD, caseC, caseD}
 use Rattle.model.specs.Steps.{topRow, topNumber, firstEmpty, onPage, slotAt, writeSlot, markPlace, markOld, mendSteps, writeAtTop}
 use Rattle.model.specs.Answers.{recover, workOf}
 use Rattle.model.specs.Histories.{shown}
 use Rattle.model.specs.Laws.Lists.{and-left, and-both}
-use Rattle.model.specs.Laws.Chip.{SizeFacts, size-facts, run-size, cut-append, cut-size}
+use Rattle.model.specs.Laws.Chip.{SizeFacts, size-facts, cut-append, cut-size}
 use Rattle.model.specs.Laws.Ring.{next-kept}
-use Rattle.model.specs.Laws.Clean.{RingFacts, index-inside}
+use Rattle.model.specs.Laws.Clean.{index-inside}
 use Rattle.model.specs.Laws.View.{slotChanged, slot-ring, slot-view}
 use Rattle.model.specs.Laws.SlotPage.{Valid, write-in-page}
 use Rattle.model.specs.Laws.PageCuts.{write-cut-kind}
@@ -29,7 +29,7 @@ use Rattle.bridge.specs.Views.Places.{fill, fill-entries, fill-changed, TopGap,
 use Rattle.bridge.specs.Views.Shape.{clean-shape, shape-clean, clean-distinct, clean-within, filled-shape}
 use Rattle.bridge.specs.Held.{Held, held-first, held-top, held-row, held-clean, segments-clean, clean-of-held, held-table}
 use Rattle.bridge.specs.Requests.{gap-row, InView, in-view, write-top-held, put-held}
-use Rattle.crash.specs.Sound.{Sound, LeftWith}
+use Rattle.crash.specs.Sound.{LeftWith}
 use Rattle.crash.specs.States.{isCase, mended, SoundWith, segments-show}
 use Rattle.crash.specs.RecoverMarks.{Marks, live-place, live-marks, mark-segments}
 use Rattle.crash.specs.Recover.{case-steps, case-shows, recover-cut}

@@ -2,13 +2,13 @@
 use Prim.Native.Nat.{ℕ, _+_, _-_, _*_, _/_, max, _≤_}
 use mathlib.Core.Path.{_≡_, refl, ap, _∙_}
 use mathlib.Core.Bool.{Bool, true, false, cond}
-use mathlib.Core.List.{List, [], _++_, append-nil, flatten}
+use mathlib.Core.List.{List, [], _++_, append-nil}
 use native.Mathlib.Omega.{arith}
 use native.Mathlib.Nat.{mul-le-mul-right, div-le-of-le-mul}
 use lib.ListN.{length, replicate}
 use lib.Dec.{eqb}
 use Rattle.model.specs.Slot.{empty, dead, live, isDead}
-use Rattle.model.specs.State.{View, entriesIn, holds, noneWrongOrTorn, blocksDistinct, emptySlotsLast, Place, placeOf}
+use Rattle.model.specs.State.{View, entriesIn, holds, blocksDistinct, Place, placeOf}
 use Rattle.model.specs.Steps.{topRow, topNumber, firstEmpty, roomFor, putSteps, writeAtTop, markOld, deleteSteps}
 use Rattle.model.specs.Answers.{put, delete}
 use Rattle.model.specs.Sequences.{Observed, erasesIn, among, removed, inserted, storedAfter, replaces, Tally, start, tallied, eraseCount, erasesOf}

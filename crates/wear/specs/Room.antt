@@ -5,10 +5,9 @@ use mathlib.Core.Bool.{Bool, true, false, cond}
 use mathlib.Core.List.{List, [], _∷_, _++_, append-nil, append-assoc}
 use native.Mathlib.Omega.{arith}
 use native.Mathlib.Nat.{mul-le-mul-left}
-use lib.ListN.{length, getD, drop, replicate, length-append}
-use lib.Seq.{drop-length}
+use lib.ListN.{length, getD, drop, replicate}
 use lib.Dec.{ltb}
-use borrow.Author.Tests.{not-false, ltb-false}
+use borrow.Author.Tests.{ltb-false}
 use Rattle.model.specs.Slot.{Slot, empty}
 use Rattle.model.specs.State.{View, entries, entriesIn}
 use Rattle.model.specs.Steps.{topNumber, hasRoom, copied, Room, openNext, compactOldest, compactUntilRoom, roomFor}

@@ -11,7 +11,7 @@ use Rattle.model.specs.Lists.{all, count}
 use Rattle.model.specs.Slot.{Slot, empty, torn, dead, wrong, live, isEmpty, isTorn, isDead, isWrong, Entry, entryOf, holding}
 use Rattle.model.specs.State.{entries, emptyLast, onlyTopEmpty}
 use Rattle.model.specs.Steps.{topRow, firstEmpty, copied}
-use Rattle.model.specs.Laws.Lists.{all-join, all-append, all-replicate, flatten-append, none-count}
+use Rattle.model.specs.Laws.Lists.{all-join, all-append, all-replicate, none-count}
 use Rattle.bridge.specs.Predicted.{Rows}
 
 -- ---- tests on every slot

@@ -1,9 +1,9 @@
 -- Any byte of a header changed, or its place, and it is not in use; any byte of a live slot but its contents and number, and it is not live. Computed on one page of each.
-use Prim.Native.Nat.{ℕ, zero, suc, _-_}
+use Prim.Native.Nat.{ℕ, _-_}
 use mathlib.Core.Path.{_≡_, refl}
 use mathlib.Core.Bool.{Bool, true, false, _||_, _&&_, not}
-use mathlib.Core.List.{List, [], _∷_, _++_}
-use lib.ListN.{length, getD, set}
+use mathlib.Core.List.{[], _∷_}
+use lib.ListN.{getD, set}
 use lib.Dec.{eqb}
 use Rattle.model.specs.Lists.{same}
 use Rattle.model.specs.Chip.{Page, erased, numberLimit}

@@ -1,14 +1,12 @@
 -- Every bench example holds: computed over pages, and carried to the image by the law that joins the two.
-use Prim.Native.Nat.{ℕ, zero, suc, _+_, _-_, _*_}
-use mathlib.Core.Path.{_≡_, refl, sym, ap, ap₂, _∙_}
-use mathlib.Core.Bool.{Bool, true, false, _&&_, and-true}
+use Prim.Native.Nat.{ℕ, suc, _+_, _-_, _*_}
+use mathlib.Core.Path.{_≡_, refl, ap, ap₂, _∙_}
+use mathlib.Core.Bool.{and-true}
 use mathlib.Core.List.{List, [], _∷_, _++_, flatMap, flatten}
-use native.Mathlib.Omega.{arith}
 use lib.ListN.{length, take, replicate, length-replicate}
-use lib.Dec.{eqb}
 use borrow.Author.Tests.{eq-eqb}
 use Rattle.model.specs.Lists.{same, all, count, chunk}
-use Rattle.model.specs.Chip.{Image, Page, Step, leastSegments, mostSegments, leastSlots, mostSlots, numberLimit, imageLength, inRange, rightSize, pagesOf, bySegment, clear, erased, run}
+use Rattle.model.specs.Chip.{Image, Page, leastSegments, mostSegments, leastSlots, mostSlots, numberLimit, imageLength, inRange, rightSize, pagesOf, bySegment, clear, erased}
 use Rattle.model.specs.Header.{numberBytes, inverted, value, statusInUse, headerPage, headerStatus, headerNumber, oldIndex, headerInUse, isBlank, allBlank}
 use Rattle.model.specs.Slot.{mostContents, numberOk, slotPage, pageBlock, pageContents, slotFits, slotOf, isEmpty, isTorn, isDead, isWrong, entryOf, holding}
 use Rattle.model.specs.State.{segmentOf, segmentsFrom, segmentsOn, segmentsOf, isInUse, isInvalid, isOwing, numberAfter, slotsIn, nextNumber, topIndex, nextIndex, topSlots, usedCount, firstNumber, slotsFrom, viewOf, entries, entriesIn, someInUse, numbersFrom, consecutive, noneOwing, othersBlank, noneWrongOrTorn, holds, distinct, blocksDistinct, emptyLast, onlyTopEmpty, emptySlotsLast, capacity, withinCapacity, conditions, isClean, nextBlanked, isA, settled, topSettled, isB, withSlot, filled, lastSlot, lastKind, tornMarked, isC, slotFrom, placeFrom, placeOf, blockIn, lastBlock, copies, older, olderMarked, isD, stateOf}

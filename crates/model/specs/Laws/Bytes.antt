@@ -8,7 +8,7 @@ use native.Mathlib.Omega.{arith}
 use native.Mathlib.Nat.{min-le-right, mod-eq-of-lt}
 use native.Mathlib.Decide.{decLt}
 use lib.ListN.{length, getD, take, drop, set, length-replicate, getD-replicate, replicate-append-replicate}
-use lib.Bits.{and-comm, and-mask, and-le-l, and-le-r, and-self, and-zero-l, and-shr, and-step}
+use lib.Bits.{and-comm, and-mask, and-le-l, and-le-r, and-zero-l, and-shr, and-step}
 use lib.Dec.{eqb, leb}
 use borrow.Author.Tests.{eq-eqb, eqb-true}
 use Rattle.model.specs.Lists.{same, chunk}

@@ -1,14 +1,14 @@
 -- Laws of steps and cuts: an append, the first k steps, the length of the image.
 use Prim.Native.Nat.{ℕ, zero, suc, _+_, _-_, _*_, _≤_, _<_}
-use mathlib.Core.Path.{_≡_, refl, sym, ap, ap₂, _∙_}
+use mathlib.Core.Path.{_≡_, refl, ap, _∙_}
 use mathlib.Core.Logic.{_⊎_, inl, inr, ⊎-elim}
 use mathlib.Core.Bool.{Bool, true, false, cond, _&&_}
 use mathlib.Core.List.{List, [], _∷_, _++_}
 use native.Mathlib.Omega.{arith}
-use lib.ListN.{length, getD, take, drop, set, length-set, length-append, length-take, length-drop, length-replicate}
+use lib.ListN.{length, getD, take, length-set, length-append, length-take, length-drop, length-replicate}
 use lib.Dec.{leb, eqb}
 use borrow.Author.Tests.{leb-true, eqb-true}
-use Rattle.model.specs.Chip.{Image, Step, program, erase, clear, erased, withSegment, segmentBytes, step, run, runFirst, Between, Raised, Inside, Cut, leastSegments, mostSegments, leastSlots, mostSlots, imageLength, inRange, rightSize}
+use Rattle.model.specs.Chip.{Image, Step, program, erase, clear, erased, withSegment, segmentBytes, step, run, runFirst, Raised, Inside, Cut, leastSegments, mostSegments, leastSlots, mostSlots, imageLength, inRange, rightSize}
 use Rattle.model.specs.Laws.Lists.{and-left, and-right}
 
 -- ---- lists of steps

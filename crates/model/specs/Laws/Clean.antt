@@ -1,18 +1,18 @@
 -- Clean, taken apart: conditions 1 to 4 make the segments in use a ring, and 5 to 8 speak of the view.
-use Prim.Native.Nat.{ℕ, zero, suc, _+_, _-_, _*_, _/_, _%_, max, _≤_, _<_}
-use mathlib.Core.Path.{_≡_, refl, sym, ap, ap₂, _∙_, subst}
+use Prim.Native.Nat.{ℕ, zero, suc, _+_, _-_, _%_, _≤_, _<_}
+use mathlib.Core.Path.{_≡_, refl, ap}
 use mathlib.Core.Logic.{_≢_}
-use mathlib.Core.Bool.{Bool, true, false, cond, _&&_, not, true≢false}
-use mathlib.Core.List.{List, [], _∷_, _++_}
+use mathlib.Core.Bool.{Bool, true, false, cond, not, true≢false}
+use mathlib.Core.List.{List}
 use native.Mathlib.Omega.{arith}
 use native.Mathlib.Nat.{mod-lt}
-use lib.ListN.{length, getD, set, length-set}
+use lib.ListN.{length, getD}
 use lib.Dec.{leb}
 use borrow.Author.Tests.{leb-true, le-leb, not-true}
 use Rattle.model.specs.Lists.{all}
-use Rattle.model.specs.State.{Segment, blank, invalid, inUse, isInUse, isInvalid, isOwing, numberAfter, slotsIn, nextNumber, topIndex, nextIndex, usedCount, firstNumber, slotsFrom, View, viewOf, someInUse, numbersFrom, consecutive, noneOwing, othersBlank, noneWrongOrTorn, blocksDistinct, emptySlotsLast, withinCapacity, conditions, isClean, isA, isB, isC, isD, caseA, caseB, caseC, caseD, State, clean, unfinished, damaged, stateOf}
-use Rattle.model.specs.Laws.Lists.{and-left, and-right, and-both, all-get, mod-inj}
-use Rattle.model.specs.Laws.Ring.{next-ge, numbers-get, number-in-use, only-numbered, Apart, apart-before, slots-length}
+use Rattle.model.specs.State.{Segment, blank, invalid, inUse, isInUse, isInvalid, numberAfter, slotsIn, nextNumber, nextIndex, usedCount, firstNumber, View, viewOf, someInUse, numbersFrom, consecutive, noneOwing, othersBlank, noneWrongOrTorn, blocksDistinct, emptySlotsLast, withinCapacity, conditions, isClean, isA, isB, isC, isD, caseA, caseB, caseC, caseD, clean, unfinished, damaged, stateOf}
+use Rattle.model.specs.Laws.Lists.{and-left, and-right, all-get}
+use Rattle.model.specs.Laws.Ring.{next-ge, numbers-get, only-numbered, Apart, apart-before, slots-length}
 
 -- conditions 1 to 4
 pub record RingFacts (N : ℕ) (l : List Segment) : Type 0 where

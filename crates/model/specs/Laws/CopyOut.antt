@@ -1,24 +1,21 @@
 -- What copying entries to a blank segment makes of it: in use and owing, with those entries in its first slots.
-use Prim.Native.Nat.{ℕ, zero, suc, _+_, _-_, _*_, _/_, _%_, _≤_, _<_}
-use mathlib.Core.Path.{_≡_, refl, sym, ap, ap₂, _∙_, subst}
-use mathlib.Core.Logic.{_≢_}
-use mathlib.Core.Bool.{Bool, true, false}
+use Prim.Native.Nat.{ℕ, zero, suc, _+_, _-_, _*_, _%_, _≤_, _<_}
+use mathlib.Core.Path.{_≡_, refl, sym, ap, ap₂, _∙_}
 use mathlib.Core.List.{List, [], _∷_, _++_, map}
 use native.Mathlib.Omega.{arith}
 use native.Mathlib.Nat.{mod-lt}
 use lib.ListN.{length, getD, drop, set, replicate, length-set}
-use lib.Seq.{set-set, getD-set-same, getD-set-other, sets, length-sets}
-use Rattle.model.specs.Chip.{Image, Page, Step, erased, run, mostSegments, numberLimit, imageLength, Cut}
+use lib.Seq.{getD-set-same, getD-set-other, sets, length-sets}
+use Rattle.model.specs.Chip.{Image, Page, Step, erased, run, mostSegments, numberLimit, imageLength}
 use Rattle.model.specs.Header.{erasePending, headerPage, oldIndex}
 use Rattle.model.specs.Slot.{Slot, empty, slotPage, slotOf, Entry, holding}
 use Rattle.model.specs.State.{Segment, blank, inUse, segmentOf, segmentsOf}
 use Rattle.model.specs.Steps.{onPage, headerAt, slotAt, writeSlot, copyEntries, copyOut, copied}
 use Rattle.model.specs.Laws.Chip.{run-append, run-length}
-use Rattle.model.specs.Laws.Pages.{InPage}
-use Rattle.model.specs.Laws.Segments.{partOf, part-size, Only, only-refl, only-trans, only-segments, only-run, page-in-segment, InSegment, in-segment-append, part-run}
+use Rattle.model.specs.Laws.Segments.{partOf, part-size, Only, only-trans, only-segments, only-run, page-in-segment, InSegment, in-segment-append, part-run}
 use Rattle.model.specs.Laws.HeaderPage.{compactionHeader, pendingHeader, copy-out-pages, compaction-in-page, pending-in-page, begunPage, compaction-run, pending-run}
 use Rattle.model.specs.Laws.SlotPage.{Valid, slot-live, write-in-page, write-run}
-use Rattle.model.specs.Laws.Effects.{blank-page, blank-slots, headed, header-run, pending-status, pending-old, place, few}
+use Rattle.model.specs.Laws.Effects.{blank-page, blank-slots, headed, header-run, pending-status, pending-old, few}
 
 abbrev pub Valids : List Entry → Type 0
 Valids [] = Unit {0}

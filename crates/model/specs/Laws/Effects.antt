@@ -1,28 +1,25 @@
 -- What each list of steps makes of the segments: a slot written or marked, a segment opened, copied to, settled or erased.
-use Prim.Native.Nat.{ℕ, zero, suc, _+_, _-_, _*_, _/_, _%_, _≤_, _<_}
-use mathlib.Core.Path.{_≡_, refl, sym, ap, ap₂, _∙_, subst}
-use mathlib.Core.Logic.{_⊎_, inl, inr}
-use mathlib.Core.Bool.{Bool, true, false, cond, _&&_, false≢true}
-use mathlib.Core.List.{List, [], _∷_, _++_, map}
+use Prim.Native.Nat.{ℕ, zero, suc, _+_, _-_, _*_, _%_, _≤_, _<_}
+use mathlib.Core.Path.{_≡_, refl, sym, ap, ap₂, _∙_}
+use mathlib.Core.Bool.{Bool, true, false, cond, false≢true}
+use mathlib.Core.List.{List, [], _∷_, map}
 use native.Mathlib.Omega.{arith}
 use native.Mathlib.Nat.{mod-lt}
-use lib.ListN.{length, getD, take, drop, set, replicate, length-set, length-append, length-drop, length-replicate}
-use lib.Seq.{set-set, getD-set-same, getD-set-other, getD-drop, sets, sets-eq, length-sets}
-use lib.Dec.{eqb}
+use lib.ListN.{length, getD, drop, set, replicate, length-drop}
+use lib.Seq.{getD-drop}
 use Rattle.model.specs.Lists.{all, chunk}
-use Rattle.model.specs.Chip.{Image, Page, Bytes, Step, program, erase, erased, withSegment, step, run, mostSegments, numberLimit, imageLength, Cut}
+use Rattle.model.specs.Chip.{Image, Page, Step, erase, erased, withSegment, step, run, mostSegments, numberLimit, imageLength, Cut}
 use Rattle.model.specs.Header.{opened, erasePending, compacted, noOldSegment, statusInUse, headerPage, headerStatus, headerNumber, oldIndex, headerInUse, isBlank, allBlank}
-use Rattle.model.specs.Slot.{Slot, empty, torn, dead, live, slotPage, slotOf, Entry, holding, mostContents}
+use Rattle.model.specs.Slot.{Slot, empty, dead, live, slotOf}
 use Rattle.model.specs.State.{Segment, blank, invalid, inUse, segmentOf, segmentsOf, numberAfter, withSlot}
-use Rattle.model.specs.Steps.{onPage, headerAt, slotAt, writeSlot, markDead, markPlace, openSegment, copyEntries, copyOut, settle, copied}
-use Rattle.model.specs.Laws.Lists.{and-left, and-right, all-get, map-set, map-length, map-get}
-use Rattle.model.specs.Laws.Chip.{run-append, run-length, step-length}
+use Rattle.model.specs.Steps.{onPage, headerAt, slotAt, writeSlot, markDead, openSegment, settle}
+use Rattle.model.specs.Laws.Lists.{all-get, map-set, map-length, map-get}
 use Rattle.model.specs.Laws.Chunk.{chunk-replicate}
-use Rattle.model.specs.Laws.Pages.{InPage}
-use Rattle.model.specs.Laws.Segments.{parts, partOf, parts-length, part-size, page-size, segment-at, segments-length, Only, only-segments, only-refl, only-trans, only-part, page-in-segment, only-run, only-cut, InSegment, in-segment-append, part-run, part-cut, replaced-parts, erased-image}
 use Rattle.model.specs.Laws.Bytes.{blank-erased, erased-blank, erased-length}
-use Rattle.model.specs.Laws.HeaderPage.{header-status, header-number, header-in-use, number-fits, in-use-facts, InUseFacts, openingHeader, compactionHeader, pendingHeader, settledHeader, open-segment-page, copy-out-pages, settle-page, opening-in-page, compaction-in-page, pending-in-page, settled-in-page, opening-run, compaction-run, pending-run, begunPage, settled-run, erased-unused}
+use Rattle.model.specs.Laws.Pages.{InPage}
+use Rattle.model.specs.Laws.HeaderPage.{header-status, header-number, header-in-use, number-fits, in-use-facts, openingHeader, settledHeader, open-segment-page, settle-page, opening-in-page, settled-in-page, opening-run, settled-run, erased-unused}
 use Rattle.model.specs.Laws.SlotPage.{Valid, slot-live, erased-empty, empty-erased, Markable, marked-dead, mark-in-page, write-in-page, write-run}
+use Rattle.model.specs.Laws.Segments.{partOf, part-size, page-size, segment-at, Only, only-segments, only-part, page-in-segment, only-run, only-cut, part-run, part-cut, replaced-parts, erased-image}
 
 -- ---- a segment, taken apart
 

@@ -1,21 +1,20 @@
 -- The state's five cases exclude each other: clean, (a), (b), (c) and (d). So the order in which stateOf asks does not matter.
-use Prim.Native.Nat.{ℕ, zero, suc, _+_, _-_, _*_, _%_, _≤_, _<_}
-use mathlib.Core.Path.{_≡_, refl, sym, ap, ap₂, _∙_, subst}
+use Prim.Native.Nat.{ℕ, suc, _+_, _-_, _%_, _≤_, _<_}
+use mathlib.Core.Path.{_≡_, refl, sym, ap, _∙_}
 use mathlib.Core.Logic.{_≢_}
 use mathlib.Core.Bool.{Bool, true, false, cond, _||_, _&&_, not, false≢true}
-use mathlib.Core.List.{List, [], _∷_, _++_, flatten}
+use mathlib.Core.List.{List, [], _∷_}
 use native.Mathlib.Omega.{arith}
-use native.Mathlib.Nat.{mod-lt}
 use native.Mathlib.Decide.{decLt}
 use lib.ListN.{length, getD, set, length-set, List·getD-eq-default}
 use lib.Dec.{ltb, eqb}
-use borrow.Author.Tests.{not-true, eqb-true, eqb-false, ltb-true}
+use borrow.Author.Tests.{not-true, eqb-true, ltb-true}
 use Rattle.model.specs.Lists.{all, count}
-use Rattle.model.specs.Slot.{Slot, empty, torn, dead, wrong, live, isEmpty, isTorn, isWrong, Entry, entryOf}
-use Rattle.model.specs.State.{Segment, blank, invalid, inUse, isInUse, isInvalid, isOwing, numberAfter, slotsIn, nextNumber, topIndex, nextIndex, topSlots, usedCount, firstNumber, slotsFrom, View, viewOf, entriesIn, noneOwing, othersBlank, noneWrongOrTorn, holds, distinct, blocksDistinct, isClean, nextBlanked, isA, settled, topSettled, isB, withSlot, filled, lastSlot, lastKind, tornMarked, isC, blockIn, lastBlock, copies, older, olderMarked, isD}
-use Rattle.model.specs.Laws.Lists.{and-left, and-right, all-row, all-get, all-fails}
-use Rattle.model.specs.Laws.Ring.{next-kept, used-kept, get-kept, slots-kept, slots-get, slots-length}
-use Rattle.model.specs.Laws.Clean.{RingFacts, SlotFacts, clean-ring, clean-slots, used-next}
+use Rattle.model.specs.Slot.{Slot, empty, torn, dead, wrong, live, isTorn, isWrong, Entry, entryOf}
+use Rattle.model.specs.State.{Segment, blank, invalid, inUse, isInUse, isInvalid, isOwing, numberAfter, slotsIn, nextNumber, topIndex, nextIndex, topSlots, usedCount, firstNumber, viewOf, entriesIn, noneOwing, othersBlank, noneWrongOrTorn, holds, distinct, blocksDistinct, isClean, nextBlanked, isA, topSettled, isB, withSlot, lastSlot, lastKind, tornMarked, isC, blockIn, lastBlock, copies, older, olderMarked, isD}
+use Rattle.model.specs.Laws.Lists.{and-left, and-right, all-row, all-fails}
+use Rattle.model.specs.Laws.Ring.{next-kept, get-kept, slots-get}
+use Rattle.model.specs.Laws.Clean.{clean-ring, clean-slots, used-next}
 use Rattle.model.specs.Laws.View.{withSlot-owing, erased-unused-view}
 
 -- a test that a default element fails passes only inside the list

@@ -2,15 +2,14 @@
 use Prim.Native.Nat.{ℕ, suc, _+_, _-_, _/_, _%_, _≤_, _<_}
 use mathlib.Core.Path.{_≡_, refl, sym, ap, _∙_}
 use mathlib.Core.Bool.{true, false, _&&_}
-use mathlib.Core.List.{List, [], _∷_, _++_, append-assoc}
+use mathlib.Core.List.{List, [], _∷_, _++_}
 use native.Mathlib.Omega.{arith}
 use native.Mathlib.Nat.{mod-eq-of-lt, mod-add-mod, add-mod-right}
-use lib.ListN.{length, getD, drop, length-append, List·getD-append}
-use lib.Seq.{getD-drop}
+use lib.ListN.{getD}
 use lib.Dec.{ltb, eqb}
 use borrow.Author.Tests.{eq-eqb, ne-eqb, eqb-true, lt-ltb, ltb-true}
 use Rattle.model.specs.Lists.{same}
-use Rattle.model.specs.Chip.{Page, Bytes, Step, program, erased, clear, step, run, mostSegments, numberLimit}
+use Rattle.model.specs.Chip.{Page, Step, program, erased, clear, step, run, mostSegments, numberLimit}
 use Rattle.model.specs.Header.{numberBytes, inverted, value, openingBegun, opened, compactionBegun, erasePending, compacted, noOldSegment}
 use Rattle.model.specs.Header.{statusInUse, headerPage, headerStatus, headerNumber, oldIndex, headerInUse}
 use Rattle.model.specs.Slot.{Entry}
@@ -18,7 +17,7 @@ use Rattle.model.specs.Steps.{programs, programPart, onPage, headerAt, o
 use Rattle.model.specs.Laws.AnyByte
 use Rattle.model.specs.Laws.Pages.{InPage, in-append, in-part}
 use Rattle.model.specs.Laws.Lists.{and-left, and-right}
-use Rattle.model.specs.Laws.Bytes.{clear-byte, number-value, number-length, number-bytes, inverted-length, inverted-bytes, bytes-append, same-eq, same-refl, erased-get, erased-bytes}
+use Rattle.model.specs.Laws.Bytes.{clear-byte, number-value, same-eq, same-refl, erased-get}
 
 -- ---- the fields of an encoded page
 

@@ -7,14 +7,13 @@ use native.Mathlib.Omega.{arith}
 use lib.ListN.{length, getD, set}
 use lib.Seq.{set-getD, getD-set-same}
 use Rattle.model.specs.Chip.{Image, Page, Step, program, clear, erased, step, run, Cut}
-use Rattle.model.specs.Header.{openingBegun, opened, compactionBegun, erasePending, compacted, noOldSegment, headerPage}
+use Rattle.model.specs.Header.{openingBegun, opened, compactionBegun, erasePending, noOldSegment, headerPage}
 use Rattle.model.specs.Slot.{writeBegun, written, slotPage, empty, torn, live, slotOf}
 use Rattle.model.specs.Steps.{programPart, writeSlot, markDead}
-use Rattle.model.specs.Laws.Chip.{run-append, cut-append, cut-length}
-use Rattle.model.specs.Laws.Bytes.{clear-erased, erased-get, erased-length, OneBit, begun-bit, written-bit, live-dead-bit, torn-dead-bit, compaction-begun-bit, erase-pending-bit, compacted-bit}
+use Rattle.model.specs.Laws.Chip.{run-append, cut-append}
+use Rattle.model.specs.Laws.Bytes.{clear-erased, erased-get, erased-length, OneBit, begun-bit, written-bit, live-dead-bit, torn-dead-bit, compaction-begun-bit, erase-pending-bit}
 use Rattle.model.specs.Laws.Programs.{Spares, spares-append, spares-part, spared-run, spared-cut}
-use Rattle.model.specs.Laws.HeaderPage.{erased-bit-6, openingHeader, compactionHeader, pendingHeader, settledHeader, begunPage}
-use Rattle.model.specs.Laws.HeaderPage.{opening-run, pending-run, settled-run, clear-begun, clear-compaction, clear-pending}
+use Rattle.model.specs.Laws.HeaderPage.{erased-bit-6, openingHeader, compactionHeader, pendingHeader, begunPage, opening-run, pending-run, clear-begun, clear-compaction}
 use Rattle.model.specs.Laws.SlotPage.{Valid, slot-live, erased-empty, begun-torn, writeMiddle, write-parts, write-run, Markable, clear-live, clear-torn, clear-written}
 
 -- ---- a status of one bit, programmed first or last

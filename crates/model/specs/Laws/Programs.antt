@@ -4,11 +4,11 @@ use mathlib.Core.Path.{_≡_, refl, sym, ap, _∙_}
 use mathlib.Core.Logic.{_⊎_, inl, inr, _≢_}
 use mathlib.Core.List.{List, [], _∷_, _++_, append-assoc}
 use native.Mathlib.Omega.{arith}
-use lib.ListN.{length, getD, take, drop, set, length-append, length-take, length-drop, take-append-drop}
-use lib.Seq.{getD-set-other, set-at, getD-at, drop-drop, length-take-le}
+use lib.ListN.{length, getD, take, drop, set, length-append, length-take}
+use lib.Seq.{getD-set-other, set-at, getD-at}
 use Rattle.model.specs.Chip.{Image, Page, Bytes, Step, program, erase, clear, erased, step, run, Cut}
 use Rattle.model.specs.Steps.{programs, programPart}
-use Rattle.model.specs.Laws.Bytes.{clear-erased, bytes-take, bytes-drop}
+use Rattle.model.specs.Laws.Bytes.{clear-erased}
 
 -- ---- a byte that is kept
 

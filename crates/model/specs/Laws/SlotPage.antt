@@ -5,7 +5,7 @@ use mathlib.Core.Logic.{_⊎_, inl, inr}
 use mathlib.Core.Bool.{Bool, true, false, cond, _||_, _&&_}
 use mathlib.Core.List.{List, [], _∷_, _++_, append-assoc}
 use native.Mathlib.Omega.{arith}
-use lib.ListN.{length, getD, take, drop, length-append, length-take}
+use lib.ListN.{length, getD, take, drop, length-take}
 use lib.Seq.{take-append-seam}
 use lib.Dec.{leb, ltb, eqb}
 use borrow.Author.Tests.{eqb-true, le-leb, leb-true, ltb-true}
@@ -17,7 +17,7 @@ use Rattle.model.specs.Steps.{programs, programPart, writeSlot, markDead
 use Rattle.model.specs.Laws.Chip.{run-append}
 use Rattle.model.specs.Laws.Pages.{InPage, in-append, in-part}
 use Rattle.model.specs.Laws.Lists.{and-left, and-right}
-use Rattle.model.specs.Laws.Bytes.{clear-erased, bytes-append, bytes-take, bytes-drop, same-eq, same-refl, erased-suc, erased-length, erased-add, erased-bytes, blank-erased}
+use Rattle.model.specs.Laws.Bytes.{clear-erased, bytes-take, bytes-drop, same-eq, same-refl, erased-suc, erased-add, blank-erased}
 use Rattle.model.specs.Laws.Programs.{programs-between}
 
 -- a block number and contents that a slot can hold
