@@ -2,8 +2,8 @@
 use Prim.Native.Nat.{ℕ}
 use Rattle.bridge.specs.Interface.{Bridge}
 use Rattle.bridge.specs.Held.{clean-view}
-use Rattle.bridge.specs.Format.{format-bytes, format-done}
 use Rattle.bridge.specs.Requests.{put-done, delete-done}
+use Rattle.bridge.specs.Format.{format-bytes, format-done}
 
 pub bridge : (N B : ℕ) → Bridge N B
 bridge N B = record

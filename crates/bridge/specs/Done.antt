@@ -8,11 +8,11 @@ use native.Mathlib.Nat.{mod-lt}
 use lib.ListN.{length, getD, drop, set, replicate}
 use lib.Seq.{set-set, set-comm, getD-set-same, getD-set-other}
 use Rattle.model.specs.Chip.{Image, numberLimit, imageLength, step, run, Step, erase}
-use Rattle.model.specs.Laws.Lists.{mod-inj}
 use Rattle.model.specs.Header.{opened, erasePending, compacted}
 use Rattle.model.specs.Slot.{Slot, empty, dead, live, Entry}
 use Rattle.model.specs.State.{Segment, blank, inUse, segmentsOf, nextNumber, nextIndex, usedCount, firstNumber, View, view, withSlot}
 use Rattle.model.specs.Steps.{onPage, slotAt, writeSlot, markDead, openSegment, copyOut, settle, compact, topNumber, copied, openNext}
+use Rattle.model.specs.Laws.Lists.{mod-inj}
 use Rattle.model.specs.Laws.Chip.{SizeFacts, size-facts, run-size, run-append, run-length, step-length}
 use Rattle.model.specs.Laws.HeaderPage.{old-index}
 use Rattle.model.specs.Laws.SlotPage.{Valid, live-markable}

@@ -22,8 +22,8 @@ use Rattle.model.specs.Laws.Effects.{erase-effect, open-effect}
 use Rattle.model.specs.Laws.Ring.{used-more, next-raised}
 use Rattle.model.specs.Laws.Clean.{RingFacts}
 use Rattle.bridge.specs.Predicted.{fresh, CleanView}
-use Rattle.bridge.specs.Views.Shape.{shape-clean, added-shape, added-entries, rowAdded}
 use Rattle.bridge.specs.Views.Slots.{copied-none}
+use Rattle.bridge.specs.Views.Shape.{shape-clean, added-shape, added-entries, rowAdded}
 use Rattle.bridge.specs.Held.{Held, clean-of-held}
 
 -- ---- bytes

@@ -13,10 +13,10 @@ use Rattle.model.specs.Table.{without, tableOf}
 use Rattle.model.specs.Answers.{delete, stepsFor, workOf}
 use Rattle.model.specs.Laws.Chip.{size-facts}
 use Rattle.model.specs.Laws.Tables.{agree-of}
-use Rattle.bridge.specs.Accepted.{accepted, delete-passed}
-use Rattle.bridge.specs.Requests.{delete-done}
 use Rattle.bridge.specs.Views.Requests.{view-laws}
 use Rattle.bridge.specs.Held.{clean-view}
+use Rattle.bridge.specs.Accepted.{accepted, delete-passed}
+use Rattle.bridge.specs.Requests.{delete-done}
 use Rattle.crash.specs.Sound.{Clean, finished, Accepted, CutOf, DoneWith, LeftWith}
 use Rattle.crash.specs.States.{clean-shows}
 use Rattle.crash.specs.RecoverMarks.{Marks, live-place, live-marks, mark-whole}

@@ -13,10 +13,10 @@ use Rattle.model.specs.Steps.{slotAt}
 use Rattle.model.specs.Table.{lookup, present, contentsFound, tableOf}
 use Rattle.model.specs.Answers.{read, contentsAt, readOutcome, pieceRead}
 use Rattle.model.specs.Laws.Chunk.{chunk-part}
-use Rattle.model.specs.Laws.Segments.{partOf, part-page, page-in}
-use Rattle.model.specs.Laws.SlotPage.{LiveFacts, live-facts}
-use Rattle.model.specs.Laws.Effects.{index}
 use Rattle.model.specs.Laws.Chip.{size-facts}
+use Rattle.model.specs.Laws.SlotPage.{LiveFacts, live-facts}
+use Rattle.model.specs.Laws.Segments.{partOf, part-page, page-in}
+use Rattle.model.specs.Laws.Effects.{index}
 use Rattle.bridge.specs.Accepted.{accepted, read-passed}
 use Rattle.crash.specs.Sound.{Clean, Accepted}
 use Rattle.crash.specs.RecoverMarks.{LivePlace, live-place, live-marks, slot-inside, page-kind}

@@ -14,8 +14,8 @@ use Rattle.model.specs.State.{holds}
 use Rattle.model.specs.Table.{Table, Found, absent, present, lookup, contentsFound}
 use Rattle.model.specs.Answers.{Request, format, put, delete, read, readOr, recover}
 use Rattle.model.specs.Histories.{Reply, Seen, answered, Event}
-use Rattle.crash.specs.Machine.{malformed, codeOnTable, plainCode, plainBytes, plain, made, next, Promise, settled, interrupted, unknown, refused, OnTable, Holds, Moves, answers, answers-again, asks-recovery, refuses-malformed, not-begun, wholly-done, formats, format-cut, no-promise, PlainRuns}
 use Rattle.model.specs.Laws.Tables.{lookup-held, found-held, absent-free, lookup-without-same, lookup-without-other, lookup-store-same, lookup-store-other}
+use Rattle.crash.specs.Machine.{malformed, codeOnTable, plainCode, plainBytes, plain, made, next, Promise, settled, interrupted, unknown, refused, OnTable, Holds, Moves, answers, answers-again, asks-recovery, refuses-malformed, not-begun, wholly-done, formats, format-cut, no-promise, PlainRuns}
 use Rattle.crash.specs.Reading.{codeSeen, cut-code, not-format, format-starts, read-exact, readOr-exact}
 
 -- what is lookup-held of a block, by a promise

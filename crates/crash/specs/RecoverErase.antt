@@ -14,10 +14,10 @@ use Rattle.model.specs.State.{Segment, blank, invalid, inUse, segmentOf, segmen
 use Rattle.model.specs.Steps.{headerAt, mendSteps}
 use Rattle.model.specs.Answers.{recover, workOf}
 use Rattle.model.specs.Laws.Lists.{and-left}
-use Rattle.model.specs.Laws.Bytes.{raised-get, bit-6-kept}
 use Rattle.model.specs.Laws.Chip.{size-facts, raised-length, cut-size}
-use Rattle.model.specs.Laws.Segments.{partOf, only-part, only-segments, replaced-parts, page-byte, segment-fits, segment-bytes-length}
+use Rattle.model.specs.Laws.Bytes.{raised-get, bit-6-kept}
 use Rattle.model.specs.Laws.HeaderPage.{bit-6-unused}
+use Rattle.model.specs.Laws.Segments.{partOf, only-part, only-segments, replaced-parts, page-byte, segment-fits, segment-bytes-length}
 use Rattle.model.specs.Laws.Effects.{index, erase-effect}
 use Rattle.crash.specs.Sound.{SoundAs, Sound, CutOf}
 use Rattle.crash.specs.States.{isCase, mended, case-of, recover-steps, recovered-run, Kept, kept-same, Mended, kept-clean, kept-case}

@@ -17,12 +17,12 @@ use Rattle.model.specs.Table.{present, lookup}
 use Rattle.model.specs.Answers.{recover}
 use Rattle.model.specs.Histories.{recovered}
 use Rattle.model.specs.Laws.Lists.{and-left, and-right}
-use Rattle.model.specs.Laws.Bytes.{OneBit, live-dead-bit, torn-dead-bit}
 use Rattle.model.specs.Laws.Chip.{SizeFacts, size-facts}
-use Rattle.model.specs.Laws.Segments.{partOf, page-byte}
+use Rattle.model.specs.Laws.Bytes.{OneBit, live-dead-bit, torn-dead-bit}
 use Rattle.model.specs.Laws.SlotPage.{Markable, live-markable, torn-markable, clear-live, clear-torn}
-use Rattle.model.specs.Laws.Effects.{index, slot-kind, slot-count, mark-effect}
 use Rattle.model.specs.Laws.PageCuts.{one-bit-cut}
+use Rattle.model.specs.Laws.Segments.{partOf, page-byte}
+use Rattle.model.specs.Laws.Effects.{index, slot-kind, slot-count, mark-effect}
 use Rattle.model.specs.Laws.Ring.{slots-get, slots-length}
 use Rattle.model.specs.Laws.Tables.{holds-copies, lookup-append}
 use Rattle.bridge.specs.Views.Places.{Gap, earlier, later, fill-entries, fill-length, FirstLive, first-live}

@@ -18,16 +18,16 @@ use Rattle.model.specs.Steps.{onPage, headerAt, settle, eraseUnlessBlank, mendS
 use Rattle.model.specs.Answers.{recover}
 use Rattle.model.specs.Histories.{recovered}
 use Rattle.model.specs.Laws.Lists.{and-left, mod-inj}
-use Rattle.model.specs.Laws.Bytes.{compacted-bit, within-le, number-bytes, inverted-bytes, number-length, inverted-length, bytes-append, bytes-get, erased-get, erased-length}
 use Rattle.model.specs.Laws.Chip.{size-facts, run-append, run-length, whole-cut, cut-append, cut-size}
-use Rattle.model.specs.Laws.Ring.{next-ge, next-same}
-use Rattle.model.specs.Laws.Segments.{partOf, segment-at, segments-length, erased-image}
+use Rattle.model.specs.Laws.Bytes.{compacted-bit, within-le, number-bytes, inverted-bytes, number-length, inverted-length, bytes-append, bytes-get, erased-get, erased-length}
 use Rattle.model.specs.Laws.HeaderPage.{number-fits, number-raised, clear-pending}
-use Rattle.model.specs.Laws.Effects.{index, numbered-at, in-use-parts, erase-effect, settle-effect}
 use Rattle.model.specs.Laws.PageCuts.{one-bit-cut}
+use Rattle.model.specs.Laws.Segments.{partOf, segment-at, segments-length, erased-image}
+use Rattle.model.specs.Laws.Effects.{index, numbered-at, in-use-parts, erase-effect, settle-effect}
+use Rattle.model.specs.Laws.Ring.{next-ge, next-same}
 use Rattle.crash.specs.Sound.{AtLeast, headerByte, SoundAs, Sound, CutOf}
-use Rattle.crash.specs.RecoverErase.{replaced-byte, raised-segments, raised-byte, header-byte}
 use Rattle.crash.specs.States.{isCase, mended, case-of, state-case, recover-steps, recovered-run, Kept, kept-same, Mended, kept-clean, kept-case}
+use Rattle.crash.specs.RecoverErase.{replaced-byte, raised-segments, raised-byte, header-byte}
 
 -- ---- the top of an image's segments
 

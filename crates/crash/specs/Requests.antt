@@ -15,10 +15,10 @@ use Rattle.model.specs.Steps.{isWorn, formatSteps}
 use Rattle.model.specs.Table.{Table, lookup, Agree, contentsFound, tableOf}
 use Rattle.model.specs.Answers.{Request, format, put, delete, read, readOr, recover, _when_, firstOf, isDamaged, isUnfinished, isFull, absentRefusals, refusals, stepsFor, Work, workOn, workOf, outcomeOf, ReadOutcome, contentsAt, readOutcome, pieceRead, pieceOr}
 use Rattle.model.specs.Histories.{Reply, bytesRead, replyOf, wears, recovered, shown}
-use Rattle.model.specs.Laws.Tables.{agree-of, agree-holds, agree-without, agree-store, distinct-without, distinct-store}
 use Rattle.model.specs.Laws.Clean.{clean-slots, state-clean}
-use Rattle.bridge.specs.Allowance.{ends-or-stops}
+use Rattle.model.specs.Laws.Tables.{agree-of, agree-holds, agree-without, agree-store, distinct-without, distinct-store}
 use Rattle.bridge.specs.Accepted.{code-of, refused-none, quiet-none, recover-none}
+use Rattle.bridge.specs.Allowance.{ends-or-stops}
 use Rattle.crash.specs.Machine.{malformed, codeOnTable, plainCode, made, OnTable, WantsRecovery}
 use Rattle.crash.specs.Sound.{SoundAs, Sound, Clean, finished, CutOf}
 

@@ -15,10 +15,10 @@ use Rattle.model.specs.Table.{tableOf}
 use Rattle.model.specs.Histories.{shown}
 use Rattle.model.specs.Laws.Chip.{run-append, run-length, run-size, cut-append, cut-size, whole-cut, SizeFacts, size-facts}
 use Rattle.model.specs.Laws.Pages.{InPage}
-use Rattle.model.specs.Laws.Segments.{partOf, part-size, Only, only-segments, only-trans, only-cut, part-run, part-cut}
 use Rattle.model.specs.Laws.HeaderPage.{openingHeader, compactionHeader, pendingHeader, open-segment-page, copy-out-pages, opening-in-page, compaction-in-page, pending-in-page, begunPage, opening-run, compaction-run, pending-run}
 use Rattle.model.specs.Laws.SlotPage.{write-in-page}
 use Rattle.model.specs.Laws.PageCuts.{opening-cut, compaction-cut, begun-bit-6, pending-cut}
+use Rattle.model.specs.Laws.Segments.{partOf, part-size, Only, only-segments, only-trans, only-cut, part-run, part-cut}
 use Rattle.model.specs.Laws.Effects.{index, blank-page, header-only, header-run, few}
 use Rattle.model.specs.Laws.CopyOut.{Valids, copy-in-segment}
 use Rattle.model.specs.Laws.Tables.{agree-trans}

@@ -12,8 +12,8 @@ use Rattle.model.specs.Chip.{Image, Bytes, run, numberLimit, Cut}
 use Rattle.model.specs.State.{segmentsOf, View, entriesIn}
 use Rattle.model.specs.Steps.{topNumber, hasRoom, Room, openNext, compactOldest, compactUntilRoom, roomFor}
 use Rattle.model.specs.Histories.{shown}
-use Rattle.model.specs.Laws.Bytes.{run-bytes}
 use Rattle.model.specs.Laws.Chip.{cut-append}
+use Rattle.model.specs.Laws.Bytes.{run-bytes}
 use Rattle.model.specs.Laws.Tables.{agree-trans}
 use Rattle.bridge.specs.Predicted.{CleanView}
 use Rattle.bridge.specs.Views.Shape.{opened-top}

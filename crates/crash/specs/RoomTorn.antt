@@ -11,10 +11,10 @@ use Rattle.model.specs.Header.{allBlank}
 use Rattle.model.specs.State.{Segment, blank, invalid, segmentOf, segmentsOf, isInvalid, numberAfter, nextNumber, nextIndex, View, view, entriesIn, isClean, nextBlanked, isA, caseA, unfinished}
 use Rattle.model.specs.Steps.{headerAt, topNumber}
 use Rattle.model.specs.Laws.Lists.{and-both}
+use Rattle.model.specs.Laws.HeaderPage.{bit-6-unused}
 use Rattle.model.specs.Laws.Segments.{partOf, Only, only-segments}
 use Rattle.model.specs.Laws.Ring.{next-kept}
 use Rattle.model.specs.Laws.Clean.{index-inside}
-use Rattle.model.specs.Laws.HeaderPage.{bit-6-unused}
 use Rattle.bridge.specs.Predicted.{CleanView}
 use Rattle.bridge.specs.Held.{Held, held-top, held-clean, clean-of-held, held-table}
 use Rattle.bridge.specs.Done.{next-free}

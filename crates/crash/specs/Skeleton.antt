@@ -14,15 +14,15 @@ use Rattle.model.specs.Steps.{formatSteps}
 use Rattle.model.specs.Table.{Table, lookup, Agree, contentsFound, tableOf}
 use Rattle.model.specs.Answers.{Request, format, put, delete, read, readOr, recover, workOf, pieceRead}
 use Rattle.model.specs.Histories.{Reply, bytesRead, Seen, answered, lost, Proper, Does, wears, Event, History, recovered, shown}
-use Rattle.model.specs.Laws.Chip.{cut-size, run-size}
 use Rattle.model.specs.Laws.Lists.{and-left}
-use Rattle.model.specs.Laws.Tables.{agree-of, agree-trans, agree-size}
+use Rattle.model.specs.Laws.Chip.{cut-size, run-size}
 use Rattle.model.specs.Laws.Bytes.{cut-bytes, run-bytes}
+use Rattle.model.specs.Laws.Tables.{agree-of, agree-trans, agree-size}
+use Rattle.bridge.specs.Accepted.{recover-none}
+use Rattle.bridge.specs.Format.{format-bytes}
 use Rattle.crash.specs.Machine.{malformed, plainCode, plainBytes, plain, made, next, codeOnTable, Promise, settled, interrupted, unknown, IsCut, OnTable, WantsRecovery, Holds, Moves, answers, answers-again, asks-recovery, refuses-malformed, not-begun, wholly-done, formats, format-cut, no-promise, PlainRuns}
 use Rattle.crash.specs.Demand2.{Keeps, Demand2}
 use Rattle.crash.specs.Sound.{SoundAs, Sound, Clean, finished, CutOf, DoneWith, LeftWith, RequestLaws}
-use Rattle.bridge.specs.Format.{format-bytes}
-use Rattle.bridge.specs.Accepted.{recover-none}
 use Rattle.crash.specs.Requests.{refused-idle, idle-finished, idle-cut, read-idle, readOr-idle, readOr-work, shown-clean, sound-clean, read-refused, readOr-bytes, bytes-refused, ended, ended-or-stopped, code-clean, Unfinished, code-unfinished, code-recover, code-format, steps-format, malformed-small, code-agree, agree-made, distinct-made, clean-distinct}
 
 -- ---- the table after a request with this code

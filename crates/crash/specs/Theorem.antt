@@ -8,8 +8,8 @@ use Rattle.model.specs.State.{entriesIn}
 use Rattle.model.specs.Steps.{formatSteps}
 use Rattle.model.specs.Table.{store, tableOf}
 use Rattle.model.specs.Answers.{put}
-use Rattle.bridge.specs.Format.{format-done, fresh-table}
 use Rattle.bridge.specs.Requests.{put-done, after-table}
+use Rattle.bridge.specs.Format.{format-done, fresh-table}
 use Rattle.crash.specs.Demand2.{Demand2}
 use Rattle.crash.specs.Sound.{Clean, finished, Accepted, DoneWith, RequestLaws}
 use Rattle.crash.specs.Skeleton.{demand2-from}

@@ -12,10 +12,10 @@ use Rattle.model.specs.State.{View, entriesIn, holds, blocksDistinct, Place, pl
 use Rattle.model.specs.Steps.{topRow, topNumber, firstEmpty, roomFor, putSteps, writeAtTop, markOld, deleteSteps}
 use Rattle.model.specs.Answers.{put, delete}
 use Rattle.model.specs.Sequences.{Observed, erasesIn, among, removed, inserted, storedAfter, replaces, Tally, start, tallied, eraseCount, erasesOf}
-use Rattle.bridge.specs.Predicted.{slotChanged, written, marked, afterPut, afterDelete, fresh, CleanView, Fits}
-use Rattle.bridge.specs.Interface.{ViewLaws}
 use Rattle.model.specs.Laws.Lists.{one}
 use Rattle.model.specs.Laws.Tables.{agree-holds}
+use Rattle.bridge.specs.Predicted.{slotChanged, written, marked, afterPut, afterDelete, fresh, CleanView, Fits}
+use Rattle.bridge.specs.Interface.{ViewLaws}
 use Rattle.bridge.specs.Views.Slots.{copied-none}
 use Rattle.bridge.specs.Format.{fresh-table}
 use Rattle.wear.specs.Demand3.{ErasesPaid, Balanced}

@@ -19,12 +19,12 @@ use Rattle.model.specs.Laws.Bytes.{run-bytes}
 use Rattle.bridge.specs.Views.Requests.{view-laws}
 use Rattle.bridge.specs.Held.{clean-view}
 use Rattle.bridge.specs.Accepted.{refused-none, accepted, quiet-none, recover-none, put-passed, delete-passed, format-passed}
-use Rattle.bridge.specs.Format.{format-bytes, format-done}
+use Rattle.bridge.specs.Allowance.{Ends, ends}
 use Rattle.bridge.specs.Requests.{put-done, delete-done}
+use Rattle.bridge.specs.Format.{format-bytes, format-done}
 use Rattle.wear.specs.Demand3.{FewErases, Demand3}
 use Rattle.wear.specs.Erases.{delete-none}
 use Rattle.wear.specs.Requests.{Tracks, tracks-paid, tracks-balanced, tracks-start, tracks-still, put-few, tracks-put, tracks-delete}
-use Rattle.bridge.specs.Allowance.{Ends, ends}
 
 -- the image is clean, and the count belongs to its view
 pub record Sequenced (N B : ℕ) (s : Image) (t : Tally) : Type 0 where

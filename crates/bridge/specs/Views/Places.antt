@@ -12,9 +12,9 @@ use Rattle.model.specs.Lists.{all}
 use Rattle.model.specs.Slot.{Slot, empty, torn, dead, wrong, live, isEmpty, entryOf}
 use Rattle.model.specs.State.{View, entries, entriesIn, holds, emptyLast, onlyTopEmpty, slotFrom, placeFrom, placeOf}
 use Rattle.model.specs.Steps.{topRow, topNumber, hasRoom, firstEmpty}
-use Rattle.bridge.specs.Predicted.{slotChanged, written, marked, Rows}
-use Rattle.model.specs.Laws.Tables.{holds-append, withoutFirst, without-first-at}
 use Rattle.model.specs.Laws.Lists.{all-append, flatten-append}
+use Rattle.model.specs.Laws.Tables.{holds-append, withoutFirst, without-first-at}
+use Rattle.bridge.specs.Predicted.{slotChanged, written, marked, Rows}
 use Rattle.bridge.specs.Views.Slots.{full, entries-append, entries-cons, all-empty-entries, first-empty, top-row, find-top, only-top-empty}
 
 -- ---- rows with one slot left out

@@ -11,9 +11,9 @@ use Rattle.model.specs.Chip.{numberLimit}
 use Rattle.model.specs.State.{View, entriesIn, holds, distinct, capacity, placeOf}
 use Rattle.model.specs.Steps.{topNumber, hasRoom, roomFor, newNumbers, isWorn}
 use Rattle.model.specs.Table.{lookup, without, store, Agree}
+use Rattle.model.specs.Laws.Tables.{agree-holds, agree-store, without-absent, distinct-without, without-length, without-first, without-first-append, storedLast, stored-last-agree, stored-last-distinct, stored-last-length}
 use Rattle.bridge.specs.Predicted.{written, marked, putInto, afterPut, afterDelete, CleanView, Fits}
 use Rattle.bridge.specs.Interface.{ViewLaws}
-use Rattle.model.specs.Laws.Tables.{agree-holds, agree-store, without-absent, distinct-without, without-length, without-first, without-first-append, storedLast, stored-last-agree, stored-last-distinct, stored-last-length}
 use Rattle.bridge.specs.Views.Places.{FirstLive, TopGap, marked-entries, written-entries, written-place, written-holds}
 use Rattle.bridge.specs.Views.Shape.{Shape, clean-shape, shape-clean, clean-distinct, clean-within, written-shape, marked-shape, shape-gap, first-live-in}
 use Rattle.bridge.specs.Views.Room.{Made, room-made}

@@ -13,9 +13,9 @@ use Rattle.model.specs.Slot.{Slot, isEmpty, isDead, isTorn, isWrong}
 use Rattle.model.specs.State.{View, entries, entriesIn, distinct, noneWrongOrTorn, capacity}
 use Rattle.model.specs.Steps.{topNumber, hasRoom, copied, openNext, compactOldest, compactUntilRoom, roomFor, compactions, newNumbers}
 use Rattle.model.specs.Table.{lookup, Agree}
-use Rattle.bridge.specs.Predicted.{CleanView}
-use Rattle.model.specs.Laws.Tables.{distinct-swap, agree-swap}
 use Rattle.model.specs.Laws.Lists.{all-append, all-parts, all-flatten, none-count, some-count, flatten-last}
+use Rattle.model.specs.Laws.Tables.{distinct-swap, agree-swap}
+use Rattle.bridge.specs.Predicted.{CleanView}
 use Rattle.bridge.specs.Views.Slots.{full, noneDead, sound, entries-append, rows-length, full-counted}
 use Rattle.bridge.specs.Views.Shape.{clean-shape, shape-clean, clean-distinct, clean-within, rowAdded, added-entries, added-room, added-top, all-full, opened-shape, opened-entries, opened-room, opened-top, tidied-view, tidied-shape}
 

@@ -11,9 +11,9 @@ use Rattle.model.specs.Lists.{all}
 use Rattle.model.specs.Slot.{Slot, empty, dead, live, isEmpty, isTorn, isWrong, Entry}
 use Rattle.model.specs.State.{View, entries, entriesIn, holds, distinct, noneWrongOrTorn, blocksDistinct, emptyLast, onlyTopEmpty, emptySlotsLast, capacity, withinCapacity, placeOf}
 use Rattle.model.specs.Steps.{topRow, topNumber, hasRoom, copied, openNext, compactOldest}
+use Rattle.model.specs.Laws.Lists.{all-append, all-join, all-parts, flatten-last}
 use Rattle.bridge.specs.Predicted.{Rows, CleanView, written, marked}
 use Rattle.bridge.specs.Views.Slots.{full, sound, entries-append, entries-length, rows-append, full-then, all-empty-last, top-row, find-top, only-top-empty, copied-entries, copied-length, copied-sound, copied-empty-last, copied-full, copied-none}
-use Rattle.model.specs.Laws.Lists.{all-append, all-join, all-parts, flatten-last}
 use Rattle.bridge.specs.Views.Places.{Gap, fill, fill-all, fill-length, fill-rows, fill-empty-last, FirstLive, first-live, marked-at, TopGap, top-gap, written-at}
 
 -- conditions 1, 5 and 7

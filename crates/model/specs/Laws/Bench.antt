@@ -16,8 +16,8 @@ use Rattle.model.specs.Answers.{Request, format, recover, Work, firstOf,
 use Rattle.model.specs.Sequences.{Call, play, erasesIn, Observed, observe, observed, among, removed, inserted, storedAfter, replaces, start, tallied, tally, eraseCount}
 use Rattle.model.specs.Pages.{programPage, stepPages, runPages}
 use Rattle.model.specs.Bench.{Bench, Example, sizes, begins, answers, counts, cuts, call, whole, formatted, bench, contentsIn, isCleanIn, cutHolds, exampleHolds, failing, upFrom, putEach, examples}
-use Rattle.model.specs.Laws.Chip.{run-length}
 use Rattle.model.specs.Laws.Chunk.{chunk-replicate}
+use Rattle.model.specs.Laws.Chip.{run-length}
 use Rattle.model.specs.Laws.Pages.{pages-run}
 
 -- every definition unfolds where this name does

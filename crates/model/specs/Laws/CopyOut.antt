@@ -12,9 +12,9 @@ use Rattle.model.specs.Slot.{Slot, empty, slotPage, slotOf, Entry, holdi
 use Rattle.model.specs.State.{Segment, blank, inUse, segmentOf, segmentsOf}
 use Rattle.model.specs.Steps.{onPage, headerAt, slotAt, writeSlot, copyEntries, copyOut, copied}
 use Rattle.model.specs.Laws.Chip.{run-append, run-length}
-use Rattle.model.specs.Laws.Segments.{partOf, part-size, Only, only-trans, only-segments, only-run, page-in-segment, InSegment, in-segment-append, part-run}
 use Rattle.model.specs.Laws.HeaderPage.{compactionHeader, pendingHeader, copy-out-pages, compaction-in-page, pending-in-page, begunPage, compaction-run, pending-run}
 use Rattle.model.specs.Laws.SlotPage.{Valid, slot-live, write-in-page, write-run}
+use Rattle.model.specs.Laws.Segments.{partOf, part-size, Only, only-trans, only-segments, only-run, page-in-segment, InSegment, in-segment-append, part-run}
 use Rattle.model.specs.Laws.Effects.{blank-page, blank-slots, headed, header-run, pending-status, pending-old, few}
 
 abbrev pub Valids : List Entry → Type 0

@@ -10,14 +10,13 @@ use lib.Dec.{ltb, eqb}
 use borrow.Author.Tests.{eq-eqb, ne-eqb, eqb-true, lt-ltb, ltb-true}
 use Rattle.model.specs.Lists.{same}
 use Rattle.model.specs.Chip.{Page, Step, program, erased, clear, step, run, mostSegments, numberLimit}
-use Rattle.model.specs.Header.{numberBytes, inverted, value, openingBegun, opened, compactionBegun, erasePending, compacted, noOldSegment}
-use Rattle.model.specs.Header.{statusInUse, headerPage, headerStatus, headerNumber, oldIndex, headerInUse}
+use Rattle.model.specs.Header.{numberBytes, inverted, value, openingBegun, opened, compactionBegun, erasePending, compacted, noOldSegment, statusInUse, headerPage, headerStatus, headerNumber, oldIndex, headerInUse}
 use Rattle.model.specs.Slot.{Entry}
 use Rattle.model.specs.Steps.{programs, programPart, onPage, headerAt, openSegment, copyEntries, copyOut, settle}
-use Rattle.model.specs.Laws.AnyByte
-use Rattle.model.specs.Laws.Pages.{InPage, in-append, in-part}
 use Rattle.model.specs.Laws.Lists.{and-left, and-right}
 use Rattle.model.specs.Laws.Bytes.{clear-byte, number-value, same-eq, same-refl, erased-get}
+use Rattle.model.specs.Laws.Pages.{InPage, in-append, in-part}
+use Rattle.model.specs.Laws.AnyByte
 
 -- ---- the fields of an encoded page
 

@@ -14,10 +14,10 @@ use Rattle.model.specs.Chip.{Page, Bytes, Step, program, clear, erased, 
 use Rattle.model.specs.Header.{isBlank}
 use Rattle.model.specs.Slot.{mostContents, numberOk, writeBegun, written, slotPage, pageBlock, pageContents, slotFits, Slot, empty, torn, dead, wrong, live, slotOf}
 use Rattle.model.specs.Steps.{programs, programPart, writeSlot, markDead}
-use Rattle.model.specs.Laws.Chip.{run-append}
-use Rattle.model.specs.Laws.Pages.{InPage, in-append, in-part}
 use Rattle.model.specs.Laws.Lists.{and-left, and-right}
+use Rattle.model.specs.Laws.Chip.{run-append}
 use Rattle.model.specs.Laws.Bytes.{clear-erased, bytes-take, bytes-drop, same-eq, same-refl, erased-suc, erased-add, blank-erased}
+use Rattle.model.specs.Laws.Pages.{InPage, in-append, in-part}
 use Rattle.model.specs.Laws.Programs.{programs-between}
 
 -- a block number and contents that a slot can hold
