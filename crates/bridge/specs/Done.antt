@@ -58,10 +58,12 @@ module _ (N B : ℕ) (s : Image) (v : View) (h : Held N B s v) where
         let r = held-row N B s v h k inRow in
         let kind = slot-kind N B (size .two) s (size .whole) n j (r .0) n (getD (v .slots) k []) inSlot (r .1) in
         slot-held n j dead (onPage (slotAt N B n j) markDead) low high
-          (mark-effect N B (size .two) s (size .whole) n j (r .0) n (getD (v .slots) k []) inSlot (r .1) (live-markable (slotPageAt N B (size .two) s (size .whole) n j (r .0) n (getD (v .slots) k []) inSlot (r .1)) b c (kind ∙ e)))
+          (mark-effect N B (size .two) s (size .whole) n j (r .0) n (getD (v .slots) k []) inSlot (r .1)
+            (live-markable (slotPageAt N B (size .two) s (size .whole) n j (r .0) n (getD (v .slots) k []) inSlot (r .1)) b c (kind ∙ e)))
 
     -- an empty slot written
-    pub write-held : (b : ℕ) (c : List ℕ) → Valid b c → getD (getD (v .slots) k []) j empty ≡ empty → Held N B (run B (onPage (slotAt N B (v .first + k) j) (writeSlot b c)) s) (slotChanged (v .first + k) j (live b c) v)
+    pub write-held : (b : ℕ) (c : List ℕ) → Valid b c → getD (getD (v .slots) k []) j empty ≡ empty
+        → Held N B (run B (onPage (slotAt N B (v .first + k) j) (writeSlot b c)) s) (slotChanged (v .first + k) j (live b c) v)
     write-held b c w e =
         let r = held-row N B s v h k inRow in
         slot-held n j (live b c) (onPage (slotAt N B n j) (writeSlot b c)) low high

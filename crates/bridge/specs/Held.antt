@@ -62,8 +62,8 @@ module _ (N B : ℕ) (s : Image) (v : View) (h : Held N B s v) where
       (r .0, r .1 ∙ ap (λ y. inUse (r .0) n y) (sym row))
 
   row-length : (k : ℕ) → k < length (v .slots) → length (getD (v .slots) k []) ≡ B
-  row-length k b = let r = held-row k b in
-      slot-count N B (size-facts N B s (h .size) .two) s (size-facts N B s (h .size) .whole) (v .first + k) 0 (r .0) (v .first + k) (getD (v .slots) k []) (omega (arith, size-facts N B s (h .size) .slots)) (r .1)
+  row-length k b = let r = held-row k b in let size = size-facts N B s (h .size) in
+      slot-count N B (size .two) s (size .whole) (v .first + k) 0 (r .0) (v .first + k) (getD (v .slots) k []) (omega (arith, size .slots)) (r .1)
 
   pub held-lengths : Rows B (v .slots)
   held-lengths = rows (v .slots) (λ k b. row-length k b)

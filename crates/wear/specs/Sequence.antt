@@ -48,7 +48,10 @@ module _ (N B : ℕ) where
       → Kept s t x
   unfolding observe
   kept s t x g f c k few =
-      ( record { size = rw (f .image) (run-size N B (workOf N B s (x .request) .steps) s ∙ g .size); bytes = rw (f .image) (run-bytes B (workOf N B s (x .request) .steps) s (g .bytes)); clean = rw (f .image) c; tracks = rw (f .image, f .code) k }
+      ( record { size = rw (f .image) (run-size N B (workOf N B s (x .request) .steps) s ∙ g .size)
+        ; bytes = rw (f .image) (run-bytes B (workOf N B s (x .request) .steps) s (g .bytes))
+        ; clean = rw (f .image) c
+        ; tracks = rw (f .image, f .code) k }
       , few )
 
   -- one that takes no step, and neither stores nor removes a block

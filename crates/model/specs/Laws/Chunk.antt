@@ -96,7 +96,8 @@ pub chunk-replicate : {A : Type 0} (c z : ℕ) (x : A) → chunk c z (replicate 
 unfolding chunk
 chunk-replicate zero z x = refl
 chunk-replicate (suc c) z x = let e : suc c * z ≡ z + c * z = omega arith in
-    rw (e, ← (replicate-append-replicate z (c * z) x), take-at (replicate z x) (replicate (c * z) x) z (length-replicate z x), drop-at (replicate z x) (replicate (c * z) x) z (length-replicate z x), chunk-replicate c z x)
+    rw (e, ← (replicate-append-replicate z (c * z) x), take-at (replicate z x) (replicate (c * z) x) z (length-replicate z x),
+        drop-at (replicate z x) (replicate (c * z) x) z (length-replicate z x), chunk-replicate c z x)
 
 -- a replaced part, by index
 pub replace-part : {A : Type 0} (l : List A) (i : ℕ) (x : A) → i < length l → take i l ++ ((x ∷ []) ++ drop (i + 1) l) ≡ set l i x

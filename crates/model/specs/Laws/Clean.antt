@@ -112,7 +112,8 @@ module _ (N : ℕ) (l : List Segment) (r : RingFacts N l) where
 
   pub next-blank : getD l (nextIndex N l) blank ≡ blank
   unfolding nextIndex othersBlank
-  next-blank = go (getD l (nextIndex N l) blank) next-unused (not-true (isInvalid (getD l (nextIndex N l) blank)) (all-get (λ x. not (isInvalid x)) l (nextIndex N l) blank (r .others) (index-inside (nextNumber l))))
+  next-blank = go (getD l (nextIndex N l) blank) next-unused
+      (not-true (isInvalid (getD l (nextIndex N l) blank)) (all-get (λ x. not (isInvalid x)) l (nextIndex N l) blank (r .others) (index-inside (nextNumber l))))
     where
       go : (x : Segment) → isInUse x ≡ false → isInvalid x ≡ false → x ≡ blank
       go blank p q = refl

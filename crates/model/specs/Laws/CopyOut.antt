@@ -76,7 +76,8 @@ module _ (N B : ℕ) (two : 2 ≤ N) (n : ℕ) where
       let page = slotPage (x .block) (x .contents) in
       let here : partOf N B i t ≡ set (partOf N B i s) (suc j) page =
             part-run N B i (suc j) target (omega arith) (writeSlot (x .block) (x .contents)) (write-in-page (x .block) (x .contents) (v .0 .short)) s z
-            ∙ ap (λ (y : Page). set (partOf N B i s) (suc j) y) (ap (λ (y : Page). run B (writeSlot (x .block) (x .contents)) y) (e (suc j) (omega arith) (omega arith)) ∙ write-run B (x .block) (x .contents) (v .0)) in
+            ∙ ap (λ (y : Page). set (partOf N B i s) (suc j) y)
+              (ap (λ (y : Page). run B (writeSlot (x .block) (x .contents)) y) (e (suc j) (omega arith) (omega arith)) ∙ write-run B (x .block) (x .contents) (v .0)) in
       ap (λ y. partOf N B i y) (run-append B xs (copyEntries N B n (suc j) es) s)
       ∙ (copy-run es (suc j) t (run-length B xs s ∙ z) (v .1) (omega arith)
           (λ q lo hi. ap (λ (y : List Page). getD y q []) here ∙ (getD-set-other (partOf N B i s) (suc j) q page [] (λ w. omega arith) ∙ e q (omega arith) (omega arith)))
@@ -158,5 +159,6 @@ module _ (N B : ℕ) (two : 2 ≤ N) (most : N ≤ mostSegments) (mostB : B < 25
       ap (λ y. segmentsOf N B y) the-run
       ∙ (only-segments N B i s s3 (only-trans N B i s s2 s3 (only-trans N B i s s1 s2 (begun .0) (copied-pages .0)) (finished .0))
       ∙ ap (λ (y : Segment). set (segmentsOf N B s) i y) (ap (λ y. segmentOf N B i y) (finished .1)
-        ∙ (headed N B erasePending n pages2 most pending-status below (omega (arith, length-sets (set ps 0 (begunPage N B (o % N))) 1 (entryPages es), length-set ps 0 (begunPage N B (o % N)), part-size N B i s (target N B two n)))
+        ∙ (headed N B erasePending n pages2 most pending-status below
+            (omega (arith, length-sets (set ps 0 (begunPage N B (o % N))) 1 (entryPages es), length-set ps 0 (begunPage N B (o % N)), part-size N B i s (target N B two n)))
         ∙ ap (λ y. inUse erasePending n y) slots2)))

@@ -259,7 +259,8 @@ module _ (N B : ℕ) (two : 2 ≤ N) (most : N ≤ mostSegments) (mostB : B < 25
       let ps = partOf N B (n % N) s in
       let r = header-run (openingHeader N B n) (opening-in-page N B n) in
       let page : run B (openingHeader N B n) (getD ps 0 []) ≡ headerPage N B opened n (oldIndex N (n % N) opened) =
-            ap (λ (y : Page). run B (openingHeader N B n) y) (blank-page N B two s z (n % N) 0 place (omega arith) e) ∙ (opening-run N B n few mostB ∙ ap (λ (y : ℕ). headerPage N B opened n y) (sym (open-old N (n % N)))) in
+            ap (λ (y : Page). run B (openingHeader N B n) y) (blank-page N B two s z (n % N) 0 place (omega arith) e)
+            ∙ (opening-run N B n few mostB ∙ ap (λ (y : ℕ). headerPage N B opened n y) (sym (open-old N (n % N)))) in
       ap (λ (y : List Step). segmentsOf N B (run B y s)) (open-segment-page N B n)
       ∙ (only-segments N B (n % N) s (run B (onPage (headerAt N B n) (openingHeader N B n)) s) (r .0)
       ∙ ap (λ (y : Segment). set (segmentsOf N B s) (n % N) y)

@@ -33,7 +33,8 @@ pub next-same : (l : List Segment) (i : ℕ) (y : Segment) → numberAfter (getD
 next-same l i y h g =
     let a = next-set-le l i y in
     let b : nextNumber l ≤ max (nextNumber (set l i y)) (numberAfter (getD l i blank)) =
-        subst (λ (v : List Segment). nextNumber v ≤ max (nextNumber (set l i y)) (numberAfter (getD l i blank))) (set-set l i y (getD l i blank) ∙ set-getD l i blank) (next-set-le (set l i y) i (getD l i blank)) in
+        subst (λ (v : List Segment). nextNumber v ≤ max (nextNumber (set l i y)) (numberAfter (getD l i blank)))
+          (set-set l i y (getD l i blank) ∙ set-getD l i blank) (next-set-le (set l i y) i (getD l i blank)) in
     omega arith
 
 -- the same number: nothing changes

@@ -107,7 +107,8 @@ byte-parts N B i q k v s h j l =
     let p = i * (B + 1) + q in
     let a : chunk (N * (B + 1)) 256 (set s (p * 256 + k) v) ≡ set (chunk (N * (B + 1)) 256 s) p (set (getD (chunk (N * (B + 1)) 256 s) p []) k v) = chunk-set 256 (N * (B + 1)) p k v s l in
     let b = chunk-set (B + 1) N i q (set (getD (chunk (N * (B + 1)) 256 s) p []) k v) (chunk (N * (B + 1)) 256 s) j in
-    ap (λ (y : List Page). chunk N (B + 1) y) a ∙ (b ∙ ap (λ (y : Page). set (chunk N (B + 1) (chunk (N * (B + 1)) 256 s)) i (set (getD (chunk N (B + 1) (chunk (N * (B + 1)) 256 s)) i []) q (set y k v))) (sym (part-page N B i q s h j)))
+    ap (λ (y : List Page). chunk N (B + 1) y) a
+    ∙ (b ∙ ap (λ (y : Page). set (chunk N (B + 1) (chunk (N * (B + 1)) 256 s)) i (set (getD (chunk N (B + 1) (chunk (N * (B + 1)) 256 s)) i []) q (set y k v))) (sym (part-page N B i q s h j)))
 
 -- an offset inside segment i
 abbrev pub Within : ℕ → ℕ → ℕ → Type 0
