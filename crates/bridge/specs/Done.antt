@@ -110,7 +110,7 @@ module _ (N B : ℕ) (s : Image) (v : View) (h : Held N B s v) where
       unfolding topNumber
       ring-closed = omega (arith, full, size .two)
 
-      old-after : o % N ≡ (next % N + 1) % N
+      pub old-after : v .first % N ≡ (suc (topNumber v) % N + 1) % N
       old-after = sym (old-index N o next (sym ring-closed))
 
       pub old-apart : v .first % N ≢ suc (topNumber v) % N

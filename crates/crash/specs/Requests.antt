@@ -10,7 +10,7 @@ use lib.Dec.{ltb, leb, eqb}
 use borrow.Author.Tests.{leb-true, leb-false, ltb-true, ltb-false, lt-leb, le-leb, lt-ltb, le-ltb, ne-eqb, eqb-true}
 use Rattle.model.specs.Chip.{Image, rightSize, run}
 use Rattle.model.specs.Slot.{mostContents, numberOk}
-use Rattle.model.specs.State.{segmentsOf, viewOf, entriesIn, holds, distinct, capacity, blocksDistinct, placeOf, State, clean, unfinished, damaged, stateOf, state, view}
+use Rattle.model.specs.State.{Exception, segmentsOf, viewOf, entriesIn, holds, distinct, capacity, blocksDistinct, placeOf, State, clean, unfinished, damaged, stateOf, state, view}
 use Rattle.model.specs.Steps.{isWorn, formatSteps}
 use Rattle.model.specs.Table.{Table, lookup, Agree, contentsFound, tableOf}
 use Rattle.model.specs.Answers.{Request, format, put, delete, read, readOr, recover, _when_, firstOf, isDamaged, isUnfinished, isFull, absentRefusals, refusals, stepsFor, Work, workOn, workOf, outcomeOf, ReadOutcome, contentsAt, readOutcome, pieceRead, pieceOr}
@@ -176,10 +176,8 @@ module _ (N B : ℕ) (s : Image) (z : rightSize N B s ≡ true) (h : Clean N B s
 
 -- ---- codes on an unfinished image: put, delete and read ask for a recovery
 
-abbrev pub Unfinished : State → Type 0
-Unfinished clean = ⊥
-Unfinished (unfinished x) = Unit {0}
-Unfinished damaged = ⊥
+abbrev pub Unfinished : ℕ → ℕ → Image → Type 0
+Unfinished N B s = (x : Exception) × (state N B s ≡ unfinished x)
 
 put-unfinished : (number short full worn : Bool)
     → firstOf ((1 when false) ∷ (2 when not number) ∷ (3 when not short) ∷ (4 when false) ∷ (5 when true) ∷ (7 when full) ∷ (8 when worn) ∷ [])
@@ -195,34 +193,16 @@ unfolding firstOf
 absent-unfinished false stored = refl
 absent-unfinished true stored = refl
 
-module _ (N B : ℕ) (s : Image) (z : rightSize N B s ≡ true) (h : Unfinished (state N B s)) where
-  not-damaged : isDamaged (stateOf N B (segmentsOf N B s)) ≡ false
-  unfolding isDamaged state
-  not-damaged = go (stateOf N B (segmentsOf N B s)) h
-    where
-      go : (x : State) → Unfinished x → isDamaged x ≡ false
-      go clean k = absurd k
-      go (unfinished x) k = refl
-      go damaged k = absurd k
-
-  is-unfinished : isUnfinished (stateOf N B (segmentsOf N B s)) ≡ true
-  unfolding isUnfinished state
-  is-unfinished = go (stateOf N B (segmentsOf N B s)) h
-    where
-      go : (x : State) → Unfinished x → isUnfinished x ≡ true
-      go clean k = absurd k
-      go (unfinished x) k = refl
-      go damaged k = absurd k
-
+module _ (N B : ℕ) (s : Image) (z : rightSize N B s ≡ true) (h : Unfinished N B s) where
   absent-wants : (b : ℕ) → firstOf (absentRefusals N B (rightSize N B s) (segmentsOf N B s) b) ≡ cond (eqb (cond (numberOk b) 0 2) 0) 5 (cond (numberOk b) 0 2)
-  unfolding absentRefusals
-  absent-wants b = rw (z, not-damaged, is-unfinished) (absent-unfinished (numberOk b) (holds b (entriesIn (viewOf N (segmentsOf N B s)))))
+  unfolding absentRefusals isDamaged isUnfinished state
+  absent-wants b = rw (z, h .1) (absent-unfinished (numberOk b) (holds b (entriesIn (viewOf N (segmentsOf N B s)))))
 
   pub code-unfinished : (r : Request) → WantsRecovery r → workOf N B s r .code ≡ cond (eqb (malformed r) 0) 5 (malformed r)
-  unfolding malformed refusals
+  unfolding malformed refusals isDamaged isUnfinished state
   code-unfinished format o = absurd o
   code-unfinished (put b c) o = code-of N B s (put b c)
-      ∙ rw (z, not-damaged, is-unfinished, not-leb mostContents (length c))
+      ∙ rw (z, h .1, not-leb mostContents (length c))
         (put-unfinished (numberOk b) (leb (length c) mostContents) (isFull N B b (viewOf N (segmentsOf N B s))) (isWorn N (viewOf N (segmentsOf N B s))))
   code-unfinished (delete b) o = code-of N B s (delete b) ∙ absent-wants b
   code-unfinished (read b) o = code-of N B s (read b) ∙ absent-wants b
@@ -230,8 +210,8 @@ module _ (N B : ℕ) (s : Image) (z : rightSize N B s ≡ true) (h : Unfinished 
   code-unfinished recover o = absurd o
 
   pub code-recover : workOf N B s recover .code ≡ 0
-  unfolding refusals firstOf
-  code-recover = code-of N B s recover ∙ rw (z, not-damaged)
+  unfolding refusals firstOf isDamaged state
+  code-recover = code-of N B s recover ∙ rw (z, h .1)
 
 pub code-format : (N B : ℕ) (s : Image) → rightSize N B s ≡ true → workOf N B s format .code ≡ 0
 unfolding refusals firstOf

@@ -20,13 +20,13 @@ use Rattle.model.specs.Laws.SlotPage.{write-in-page}
 use Rattle.model.specs.Laws.PageCuts.{opening-cut, compaction-cut, begun-bit-6, pending-cut}
 use Rattle.model.specs.Laws.Segments.{partOf, part-size, Only, only-segments, only-trans, only-cut, part-run, part-cut}
 use Rattle.model.specs.Laws.Effects.{index, blank-page, header-only, header-run, few}
-use Rattle.model.specs.Laws.CopyOut.{Valids, copy-in-segment}
+use Rattle.model.specs.Laws.CopyOut.{Valids, copy-in-segment, begun}
 use Rattle.model.specs.Laws.Tables.{agree-trans}
 use Rattle.bridge.specs.Predicted.{CleanView}
 use Rattle.bridge.specs.Views.Shape.{opened-entries}
 use Rattle.bridge.specs.Views.Room.{opened-clean}
 use Rattle.bridge.specs.Held.{Held, clean-of-held, held-table}
-use Rattle.bridge.specs.Done.{next-free, open-held, copied-segments}
+use Rattle.bridge.specs.Done.{next-free, open-held, old-after, copied-segments}
 use Rattle.crash.specs.States.{SoundWith, segments-show}
 use Rattle.crash.specs.Recover.{recover-cut}
 use Rattle.crash.specs.RoomTorn.{next-torn}
@@ -136,12 +136,6 @@ module _ (N B : ℕ) (s : Image) (v : View) (f : Full N B s v) where
   abbrev es : List Entry
   es = entries (getD (v .slots) 0 [])
 
-  small : N < 256
-  small = few N B (d .two) (d .most) (d .mostB) s (d .whole) n (f .below)
-
-  old-byte : o % N < 256
-  old-byte = omega (arith, old-inside N B s v f, small)
-
   -- the header begun
   abbrev begin : List Step
   begin = onPage (headerAt N B n) (compactionHeader N B n (o % N))
@@ -152,15 +146,13 @@ module _ (N B : ℕ) (s : Image) (v : View) (f : Full N B s v) where
   size1 : SizeFacts N B s1
   size1 = size-facts N B s1 (run-size N B begin s ∙ h .size)
 
-  touched1 : Only N B i s s1
-  touched1 = header-touched N B s d n (f .below) (compactionHeader N B n (o % N)) (compaction-in-page N B n (o % N)) s1 (whole-cut B begin s)
+  begun-header : Only N B i s s1 × (partOf N B i s1 ≡ set (partOf N B i s) 0 (begunPage N B (o % N)))
+  begun-header = begun N B (d .two) (d .most) (d .mostB) s (d .whole) o n (f .below) (old-after N B s v h (f .below) (f .all) es (old-valid N B s v f) (old-fits N B s v f))
+      es (old-valid N B s v f) (old-fits N B s v f) (next-free N B s v h)
 
   page1 : getD (partOf N B i s1) 0 [] ≡ begunPage N B (o % N)
-  page1 =
-      let r = header-run N B (d .two) (d .most) (d .mostB) s (d .whole) n (f .below) (compactionHeader N B n (o % N)) (compaction-in-page N B n (o % N)) in
-      let w = run B (compactionHeader N B n (o % N)) (getD (partOf N B i s) 0 []) in
-      ap (λ (x : List Page). getD x 0 []) (r .1) ∙ (getD-set-same (partOf N B i s) 0 w [] (omega (arith, part-size N B i s (index N B (d .two) s (d .whole) n)))
-      ∙ (ap (λ (x : Page). run B (compactionHeader N B n (o % N)) x) (free-page N B s v h) ∙ compaction-run N B n small (d .mostB) (o % N) old-byte))
+  page1 = ap (λ (x : List Page). getD x 0 []) (begun-header .1)
+      ∙ getD-set-same (partOf N B i s) 0 (begunPage N B (o % N)) [] (omega (arith, part-size N B i s (index N B (d .two) s (d .whole) n)))
 
   begin-cut : (u : Image) → rightSize N B u ≡ true → Cut B begin s u → SoundWith N B u (entriesIn v)
   begin-cut u z c = let xs = compactionHeader N B n (o % N) in let p = compaction-in-page N B n (o % N) in
@@ -178,7 +170,7 @@ module _ (N B : ℕ) (s : Image) (v : View) (f : Full N B s v) where
   copy-page u c = copy-header N B (d .two) n es 0 s1 u (size1 .whole) (old-valid N B s v f) copied-fit c ∙ page1
 
   copy-touched : (u : Image) → Cut B copying s1 u → Only N B i s u
-  copy-touched u c = only-trans N B i s s1 u touched1
+  copy-touched u c = only-trans N B i s s1 u (begun-header .0)
       (only-cut N B i copying s1 u (index N B (d .two) s (d .whole) n) (copy-in-segment N B (d .two) n es 0 (old-valid N B s v f) copied-fit) c)
 
   copy-cut : (u : Image) → rightSize N B u ≡ true → Cut B copying s1 u → SoundWith N B u (entriesIn v)

@@ -176,12 +176,12 @@ module _ (N B : ℕ) (laws : RequestLaws N B) where
   -- ---- an event on an image that will show t
 
   -- clean, or unfinished
-  clean-or-unfinished : (s : Image) → Sound N B s → Clean N B s ⊎ Unfinished (state N B s)
+  clean-or-unfinished : (s : Image) → Sound N B s → Clean N B s ⊎ Unfinished N B s
   clean-or-unfinished s h = go (state N B s) refl h
     where
-      go : (y : State) → state N B s ≡ y → SoundAs N B s (segmentsOf N B s) y → Clean N B s ⊎ Unfinished (state N B s)
+      go : (y : State) → state N B s ≡ y → SoundAs N B s (segmentsOf N B s) y → Clean N B s ⊎ Unfinished N B s
       go clean e k = inl e
-      go (unfinished x) e k = inr (rw e tt)
+      go (unfinished x) e k = inr (x, e)
       go damaged e k = absurd k
 
   stores-clean : (s : Image) (t : Table) → Clean N B s → WillShow N B s t → Stores N B s t
@@ -200,7 +200,7 @@ module _ (N B : ℕ) (laws : RequestLaws N B) where
        refuses-malformed n f (i ∙ rw (e, bytes-refused N B s r n e (λ six. omega (arith, malformed-small r)))),
        rw (d, idle-finished N B s r (refused-idle N B s r n e)) (z, k))
 
-  module _ (s m : Image) (t : Table) (z : rightSize N B s ≡ true) (k : WillShow N B s t) (h : Unfinished (state N B s)) where
+  module _ (s m : Image) (t : Table) (z : rightSize N B s ≡ true) (k : WillShow N B s t) (h : Unfinished N B s) where
     wants-code : (r : Request) → WantsRecovery r → (n : ℕ) → malformed r ≡ n → workOf N B s r .code ≡ cond (eqb n 0) 5 n
     wants-code r q n e = code-unfinished N B s z h r q ∙ ap (λ (y : ℕ). cond (eqb y 0) 5 y) e
 
@@ -250,7 +250,7 @@ module _ (N B : ℕ) (laws : RequestLaws N B) where
   request-cut s m (interrupted t) r o p (z, k) u i c =
       ⊎-elim (λ h. clean-interrupted s m t r o p z (stores-clean s t h k) (interrupted t) refl u i c) (λ h. by-request r o h c) (clean-or-unfinished s (k .sound))
     where
-      by-request : (a : Request) → OnTable a → Unfinished (state N B s) → CutOf N B s a m → Follows N B (wears N B s) a u (interrupted t) m
+      by-request : (a : Request) → OnTable a → Unfinished N B s → CutOf N B s a m → Follows N B (wears N B s) a u (interrupted t) m
       by-request format oa h d = absurd oa
       by-request (put b v) oa h d = wants-interrupted s m t z k h (put b v) tt tt (wears N B s) u i d
       by-request (delete b) oa h d = wants-interrupted s m t z k h (delete b) tt tt (wears N B s) u i d
@@ -271,7 +271,7 @@ module _ (N B : ℕ) (laws : RequestLaws N B) where
       still-clean zero f q =
           (settled (next (capacity N B) (wears N B s) t r), answers-again o f (i ∙ ap answered (plain-reply s m t r o p z q)), (size-finished N B s m r z e, stored-next s m t r o p z q e))
       still-clean (suc n) f q = refuses s m t r n z k f (plain-code s m t r o p z q ∙ rw (f, ne-eqb (suc n) 0 (λ y. omega arith))) (wears N B s) u i e
-      by-request : (a : Request) → OnTable a → Unfinished (state N B s) → u ≡ answered (ended N B s a) → m ≡ finished N B s a → Follows N B (wears N B s) a u (interrupted t) m
+      by-request : (a : Request) → OnTable a → Unfinished N B s → u ≡ answered (ended N B s a) → m ≡ finished N B s a → Follows N B (wears N B s) a u (interrupted t) m
       by-request format oa h ia d = absurd oa
       by-request (put b v) oa h ia d = wants-ends s m t z k h (put b v) tt (wears N B s) u ia d
       by-request (delete b) oa h ia d = wants-ends s m t z k h (delete b) tt (wears N B s) u ia d

@@ -103,7 +103,8 @@ module _ (N B : ℕ) (two : 2 ≤ N) (most : N ≤ mostSegments) (mostB : B < 25
   z1 : length s1 ≡ imageLength N B
   z1 = run-length B begin s ∙ z
 
-  begun : (Only N B i s s1) × (partOf N B i s1 ≡ set ps 0 (begunPage N B (o % N)))
+  -- the header begun
+  pub begun : (Only N B i s s1) × (partOf N B i s1 ≡ set ps 0 (begunPage N B (o % N)))
   begun =
       let r = header-run N B two most mostB s z n below (compactionHeader N B n (o % N)) (compaction-in-page N B n (o % N)) in
       (r .0, r .1 ∙ ap (λ (y : Page). set ps 0 y) (ap (λ (y : Page). run B (compactionHeader N B n (o % N)) y) (blank-page N B two s z i 0 (target N B two n) (omega arith) free)
