@@ -54,17 +54,11 @@ mark-bit a (inl e) = rw (e, clear-live) live-dead-bit
 mark-bit a (inr e) = rw (e, clear-torn) torn-dead-bit
 
 -- a slot that can be marked is one of a segment in use
-record InUse (x : Segment) : Type 0 where
-  status : ℕ
-  number : ℕ
-  slots : List Slot
-  same : x ≡ inUse status number slots
-
-marks-in-use : (x : Segment) (j : ℕ) → Marks (getD (slotsIn x) j empty) → InUse x
+marks-in-use : (x : Segment) (j : ℕ) → Marks (getD (slotsIn x) j empty) → (st : ℕ) × (n : ℕ) × (x ≡ inUse st n (slotsIn x))
 unfolding slotsIn
 marks-in-use blank j m = absurd m
 marks-in-use invalid j m = absurd m
-marks-in-use (inUse st n ks) j m = record { status = st; number = n; slots = ks; same = refl }
+marks-in-use (inUse st n ks) j m = (st, n, refl)
 
 marks-inside : (ks : List Slot) (j : ℕ) → Marks (getD ks j empty) → j < length ks
 marks-inside ks j m = elim (decLt j (length ks)) [ yes p ↦ p | no p ↦ absurd (subst Marks (List·getD-eq-default ks empty (omega arith)) m) ]
@@ -73,28 +67,26 @@ module _ (N B : ℕ) (s : Image) (z : rightSize N B s ≡ true) (k j : ℕ) (m :
   size : SizeFacts N B s
   size = size-facts N B s z
 
-  used : InUse (getD (segmentsOf N B s) (k % N) blank)
+  abbrev row : List Slot
+  row = slotsIn (getD (segmentsOf N B s) (k % N) blank)
+
+  used : (st : ℕ) × (n : ℕ) × (getD (segmentsOf N B s) (k % N) blank ≡ inUse st n row)
   used = marks-in-use (getD (segmentsOf N B s) (k % N) blank) j m
 
   -- a segment in use has B slots, and this is one of them
-  marks : Marks (getD (used .slots) j empty)
-  unfolding slotsIn
-  marks = subst (λ y. Marks (getD (slotsIn y) j empty)) (used .same) m
-
   pub slot-inside : j < B
-  slot-inside = omega (arith, marks-inside (used .slots) j marks, slot-count N B (size .two) s (size .whole) k 0 (used .status) (used .number) (used .slots) (omega (arith, size .slots)) (used .same))
+  slot-inside = omega (arith, marks-inside row j m, slot-count N B (size .two) s (size .whole) k 0 (used .0) (used .1) row (omega (arith, size .slots)) (used .2))
 
   -- its page has that kind
   pub page-kind : slotOf (getD (partOf N B (k % N) s) (suc j) []) ≡ getD (slotsIn (getD (segmentsOf N B s) (k % N) blank)) j empty
-  unfolding slotsIn
-  page-kind = slot-kind N B (size .two) s (size .whole) k j (used .status) (used .number) (used .slots) slot-inside (used .same) ∙ ap (λ y. getD (slotsIn y) j empty) (sym (used .same))
+  page-kind = slot-kind N B (size .two) s (size .whole) k j (used .0) (used .1) row slot-inside (used .2)
 
   markable : Markable (getD (getD (partOf N B (k % N) s) (suc j) []) 0 0)
   markable = marks-page (getD (partOf N B (k % N) s) (suc j) []) (subst Marks (sym page-kind) m)
 
   pub mark-segments : segmentsOf N B (run B (markPlace N B (record { number = k; slot = j })) s) ≡ set (segmentsOf N B s) (k % N) (withSlot j dead (getD (segmentsOf N B s) (k % N) blank))
   unfolding markPlace
-  mark-segments = mark-effect N B (size .two) s (size .whole) k j (used .status) (used .number) (used .slots) slot-inside (used .same) markable
+  mark-segments = mark-effect N B (size .two) s (size .whole) k j (used .0) (used .1) row slot-inside (used .2) markable
 
   pub mark-whole : (u : Image) → Cut B (markPlace N B (record { number = k; slot = j })) s u → (u ≡ s) ⊎ (u ≡ run B (markPlace N B (record { number = k; slot = j })) s)
   unfolding markPlace onPage markDead slotAt

@@ -13,7 +13,7 @@ use borrow.Author.Tests.{eqb-true}
 use Rattle.model.specs.Chip.{Image, Page, Step, erase, erased, withSegment, run, mostSegments, numberLimit, imageLength, rightSize, Cut}
 use Rattle.model.specs.Header.{numberBytes, inverted, erasePending, compacted, headerStatus, headerNumber}
 use Rattle.model.specs.Slot.{Slot}
-use Rattle.model.specs.State.{Segment, blank, invalid, inUse, segmentOf, segmentsOf, isInUse, isInvalid, isOwing, numberAfter, nextNumber, topIndex, nextIndex, usedCount, isClean, nextBlanked, settled, topSettled, isB, caseB, unfinished, stateOf, state}
+use Rattle.model.specs.State.{Segment, blank, invalid, inUse, segmentOf, segmentsOf, isInUse, isInvalid, isOwing, numberAfter, slotsIn, nextNumber, topIndex, nextIndex, usedCount, isClean, nextBlanked, settled, topSettled, isB, caseB, unfinished, stateOf, state}
 use Rattle.model.specs.Steps.{onPage, headerAt, settle, eraseUnlessBlank, mendSteps}
 use Rattle.model.specs.Answers.{recover}
 use Rattle.model.specs.Histories.{recovered}
@@ -50,15 +50,11 @@ owing-number blank h = absurd (false≢true h)
 owing-number invalid h = absurd (false≢true h)
 owing-number (inUse st n ks) h = omega arith
 
-record Owing (n : ℕ) (x : Segment) : Type 0 where
-  slots : List Slot
-  same : x ≡ inUse erasePending n slots
-
-owing-top : (x : Segment) (n : ℕ) → isOwing x ≡ true → numberAfter x ≡ suc n → Owing n x
-unfolding isOwing numberAfter
+owing-top : (x : Segment) (n : ℕ) → isOwing x ≡ true → numberAfter x ≡ suc n → x ≡ inUse erasePending n (slotsIn x)
+unfolding isOwing numberAfter slotsIn
 owing-top blank n h e = absurd (false≢true h)
 owing-top invalid n h e = absurd (false≢true h)
-owing-top (inUse st m ks) n h e = let q : m ≡ n = omega arith in record { slots = ks; same = ap₂ (λ a b. inUse a b ks) (eqb-true st erasePending h) q }
+owing-top (inUse st m ks) n h e = let q : m ≡ n = omega arith in ap₂ (λ a b. inUse a b ks) (eqb-true st erasePending h) q
 
 index-apart : (N n : ℕ) → 2 ≤ N → 0 < n → (n - 1) % N ≢ n % N
 index-apart N n h k e = let q : n - 1 ≡ n = mod-inj N (n - 1) n (omega arith) (omega arith) e in omega arith
@@ -105,7 +101,10 @@ module _ (N B : ℕ) (s : Image) (z : rightSize N B s ≡ true) (e : state N B s
   top-number : numberAfter (getD l (n % N) blank) ≡ suc n
   top-number = top-at N B s some ∙ omega (arith, some)
 
-  top : Owing n (getD l (n % N) blank)
+  abbrev slots : List Slot
+  slots = slotsIn (getD l (n % N) blank)
+
+  top : getD l (n % N) blank ≡ inUse erasePending n slots
   top = owing-top (getD l (n % N) blank) n owing top-number
 
   below : n < numberLimit N
@@ -136,19 +135,19 @@ module _ (N B : ℕ) (s : Image) (z : rightSize N B s ≡ true) (e : state N B s
   wiped-size : length wiped ≡ imageLength N B
   wiped-size = run-length B wipe s ∙ size
 
-  wiped-top : getD (segmentsOf N B wiped) (n % N) blank ≡ inUse erasePending n (top .slots)
-  wiped-top = ap (λ (y : List Segment). getD y (n % N) blank) wiped-segments ∙ (getD-set-other l i (n % N) blank blank apart ∙ top .same)
+  wiped-top : getD (segmentsOf N B wiped) (n % N) blank ≡ inUse erasePending n slots
+  wiped-top = ap (λ (y : List Segment). getD y (n % N) blank) wiped-segments ∙ (getD-set-other l i (n % N) blank blank apart ∙ top)
 
   recovered-b : recovered N B s ≡ run B (settle N B n) wiped
   recovered-b = recovered-run N B s caseB z e ∙ (ap (λ y. run B y s) steps-b ∙ run-append B wipe (settle N B n) s)
 
-  mended-is : mended N l caseB ≡ set (set l i blank) (n % N) (inUse compacted n (top .slots))
+  mended-is : mended N l caseB ≡ set (set l i blank) (n % N) (inUse compacted n slots)
   unfolding mended topSettled nextBlanked nextIndex topIndex settled
-  mended-is = rw (top .same)
+  mended-is = ap (λ (y : Segment). set (set l i blank) (n % N) (settled y)) top
 
   pub mended-b : Mended N B s caseB
-  mended-b = ap (λ y. segmentsOf N B y) recovered-b ∙ (settle-effect N B two most (size-facts N B s z .mostB) wiped wiped-size n below (top .slots) wiped-top
-      ∙ (ap (λ (y : List Segment). set y (n % N) (inUse compacted n (top .slots))) wiped-segments ∙ sym mended-is))
+  mended-b = ap (λ y. segmentsOf N B y) recovered-b ∙ (settle-effect N B two most (size-facts N B s z .mostB) wiped wiped-size n below slots wiped-top
+      ∙ (ap (λ (y : List Segment). set y (n % N) (inUse compacted n slots)) wiped-segments ∙ sym mended-is))
 
   -- the mark is set or not
   settle-whole : (u : Image) → Cut B (settle N B n) wiped u → (u ≡ wiped) ⊎ (u ≡ run B (settle N B n) wiped)
@@ -159,7 +158,7 @@ module _ (N B : ℕ) (s : Image) (z : rightSize N B s ≡ true) (e : state N B s
       here = index N B two s size n
       byte : getD wiped (n % N * (B + 1) * 256 + 5) 0 ≡ erasePending
       byte = sym (header-byte N B (n % N) 5 wiped here (omega arith)) ∙ (unfold headerStatus in
-          in-use-parts N B (n % N) (partOf N B (n % N) wiped) erasePending n (top .slots) (sym (segment-at N B (n % N) wiped here) ∙ wiped-top) .status)
+          in-use-parts N B (n % N) (partOf N B (n % N) wiped) erasePending n slots (sym (segment-at N B (n % N) wiped here) ∙ wiped-top) .status)
 
   -- the segment after the top has a smaller number, if any
   old-number : numberAfter (getD l i blank) < nextNumber l
