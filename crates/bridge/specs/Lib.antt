@@ -1,6 +1,5 @@
 -- From bytes to views.
 pub mod Predicted
-pub mod Interface
 pub mod Views
 pub mod Held
 pub mod Done
@@ -8,4 +7,3 @@ pub mod Accepted
 pub mod Allowance
 pub mod Requests
 pub mod Format
-pub mod Bridge

@@ -12,7 +12,7 @@ use borrow.Author.Tests.{ltb-true, ltb-false}
 use Rattle.model.specs.Chip.{Image, Bytes, numberLimit, rightSize, run}
 use Rattle.model.specs.Slot.{Slot, empty, live}
 use Rattle.model.specs.State.{segmentsOf, View, view, entries, entriesIn, holds, Place, placeOf, noneWrongOrTorn, state, clean}
-use Rattle.model.specs.Steps.{markPlace, topNumber, hasRoom, Room, openNext, compactOldest, compactUntilRoom, roomFor, writeAtTop, markOld, putSteps, deleteSteps}
+use Rattle.model.specs.Steps.{markPlace, topNumber, hasRoom, Room, openNext, compactOldest, compactUntilRoom, roomFor, newNumbers, writeAtTop, markOld, putSteps, deleteSteps}
 use Rattle.model.specs.Table.{Agree, store}
 use Rattle.model.specs.Answers.{put, delete, stepsFor, workOf}
 use Rattle.model.specs.Laws.Lists.{all-row}
@@ -22,12 +22,11 @@ use Rattle.model.specs.Laws.SlotPage.{Valid}
 use Rattle.model.specs.Laws.Effects.{numbered-at}
 use Rattle.model.specs.Laws.Clean.{numbered}
 use Rattle.bridge.specs.Predicted.{written, marked, putInto, afterPut, afterDelete, CleanView, Rows}
-use Rattle.bridge.specs.Interface.{ViewLaws}
 use Rattle.bridge.specs.Views.Slots.{slots-counted, sound}
 use Rattle.bridge.specs.Views.Places.{Gap, fill, fill-length, TopGap, written-place, written-holds}
 use Rattle.bridge.specs.Views.Shape.{clean-shape, shape-gap, first-live-in, opened-top}
-use Rattle.bridge.specs.Views.Room.{tidied}
-use Rattle.bridge.specs.Views.Requests.{view-laws}
+use Rattle.bridge.specs.Views.Room.{tidied, Made, room-made}
+use Rattle.bridge.specs.Views.Requests.{room-numbered, put-keeps-clean, put-stores, delete-keeps-clean}
 use Rattle.bridge.specs.Held.{Held, held-first, held-of-clean, clean-view, clean-of-held, held-lengths, row-valid, held-next}
 use Rattle.bridge.specs.Done.{mark-held, write-held, open-held, compact-held}
 use Rattle.bridge.specs.Accepted.{PutPassed, put-passed, delete-passed, accepted}
@@ -190,8 +189,11 @@ module _ (N B : ℕ) (s : Image) (z : rightSize N B s ≡ true) (cl : state N B 
   cv : CleanView N B v
   cv = clean-view N B s z cl
 
-  laws : ViewLaws N B
-  laws = view-laws N B (size-facts N B s z .two) (size-facts N B s z .slots)
+  two : 2 ≤ N
+  two = size-facts N B s z .two
+
+  slots : 2 ≤ B
+  slots = size-facts N B s z .slots
 
   pub delete-done : (b : ℕ) → workOf N B s (delete b) .code ≡ 0
       → (state N B (run B (workOf N B s (delete b) .steps) s) ≡ clean) × (view N B (run B (workOf N B s (delete b) .steps) s) ≡ afterDelete b v)
@@ -200,7 +202,7 @@ module _ (N B : ℕ) (s : Image) (z : rightSize N B s ≡ true) (cl : state N B 
       let a = accepted N B s (delete b) e in
       let held = delete-passed N B s b (a .1) in
       let m = mark-place-held N B s v h b held in
-      rw (a .0) (clean-of-held N B _ (marked (placeOf b v) v) m (laws .delete-clean v b cv held), m .view)
+      rw (a .0) (clean-of-held N B _ (marked (placeOf b v) v) m (delete-keeps-clean N B v b cv held), m .view)
 
   module _ (b : ℕ) (c : List ℕ) (bs : Bytes s) (bc : Bytes c) (e : workOf N B s (put b c) .code ≡ 0) where
     passes : PutPassed N B b c v
@@ -212,30 +214,33 @@ module _ (N B : ℕ) (s : Image) (z : rightSize N B s ≡ true) (cl : state N B 
     abbrev r : View
     r = roomFor N B v .result
 
+    made : Made N B v r (newNumbers N v)
+    made = room-made N B two slots v cv
+
     -- room made
     abbrev pub roomed : Image
     roomed = run B (roomFor N B v .steps) s
 
     pub roomed-below : topNumber (roomFor N B (view N B s) .result) < numberLimit N
-    roomed-below = laws .room-number v b cv (passes .fit) (passes .fresh) (held-below N B s v h cv)
+    roomed-below = room-numbered N B two slots v cv (passes .fresh) (held-below N B s v h cv)
 
     pub roomed-held : Held N B roomed r
     roomed-held = room-held N B s v h bs cv roomed-below
 
     pub roomed-clean : CleanView N B r
-    roomed-clean = laws .room-clean v b cv (passes .fit)
+    roomed-clean = made .clean
 
     pub roomed-gap : TopGap r
-    roomed-gap = shape-gap (clean-shape roomed-clean) (laws .room-found v b cv (passes .fit))
+    roomed-gap = shape-gap (clean-shape roomed-clean) (made .room)
 
     pub roomed-table : Agree (entriesIn (roomFor N B (view N B s) .result)) (entriesIn (view N B s))
-    roomed-table = laws .room-table v b cv (passes .fit)
+    roomed-table = made .table
 
     pub after-clean : CleanView N B (afterPut N B b c (view N B s))
-    after-clean = laws .put-clean v b c cv (passes .fit)
+    after-clean = put-keeps-clean N B two slots v b c cv (passes .fit)
 
     pub after-table : Agree (entriesIn (afterPut N B b c (view N B s))) (store b c (entriesIn (view N B s)))
-    after-table = laws .put-table v b c cv (passes .fit)
+    after-table = put-stores N B two slots v b c cv
 
     pub put-steps : workOf N B s (put b c) .steps ≡ roomFor N B v .steps ++ (writeAtTop N B b c r ++ markOld N B b r)
     unfolding stepsFor putSteps view

@@ -11,9 +11,8 @@ use Rattle.model.specs.State.{blank, segmentsOf, slotsIn, placeOf, view}
 use Rattle.model.specs.Steps.{markPlace, deleteSteps}
 use Rattle.model.specs.Table.{without, tableOf}
 use Rattle.model.specs.Answers.{delete, stepsFor, workOf}
-use Rattle.model.specs.Laws.Chip.{size-facts}
 use Rattle.model.specs.Laws.Tables.{agree-of}
-use Rattle.bridge.specs.Views.Requests.{view-laws}
+use Rattle.bridge.specs.Views.Requests.{delete-removes}
 use Rattle.bridge.specs.Held.{clean-view}
 use Rattle.bridge.specs.Accepted.{accepted, delete-passed}
 use Rattle.bridge.specs.Requests.{delete-done}
@@ -26,8 +25,7 @@ module _ (N B : ℕ) (s : Image) (b : ℕ) (z : rightSize N B s ≡ true) (h : C
   unfolding tableOf
   finished-delete =
       let d = delete-done N B s z h b a in
-      let laws = view-laws N B (size-facts N B s z .two) (size-facts N B s z .slots) in
-      (d .0, rw (d .1) (laws .delete-table (view N B s) b (clean-view N B s z h) (delete-passed N B s b (accepted N B s (delete b) a .1))))
+      (d .0, rw (d .1) (delete-removes N B (view N B s) b (clean-view N B s z h) (delete-passed N B s b (accepted N B s (delete b) a .1))))
 
   steps : workOf N B s (delete b) .steps ≡ markPlace N B (placeOf b (view N B s))
   unfolding stepsFor deleteSteps view

@@ -10,7 +10,7 @@ use lib.Dec.{ltb, leb, eqb}
 use borrow.Author.Tests.{leb-true, leb-false, ltb-true, ltb-false, lt-leb, le-leb, lt-ltb, le-ltb, ne-eqb, eqb-true}
 use Rattle.model.specs.Chip.{Image, rightSize, run}
 use Rattle.model.specs.Slot.{mostContents, numberOk}
-use Rattle.model.specs.State.{Exception, segmentsOf, viewOf, entriesIn, holds, distinct, capacity, blocksDistinct, placeOf, State, clean, unfinished, damaged, stateOf, state, view}
+use Rattle.model.specs.State.{Exception, segmentsOf, viewOf, entriesIn, holds, distinct, capacity, blocksDistinct, placeOf, unfinished, state, view}
 use Rattle.model.specs.Steps.{isWorn, formatSteps}
 use Rattle.model.specs.Table.{Table, lookup, Agree, contentsFound, tableOf}
 use Rattle.model.specs.Answers.{Request, format, put, delete, read, readOr, recover, _when_, firstOf, isDamaged, isUnfinished, isFull, absentRefusals, refusals, stepsFor, Work, workOn, workOf, outcomeOf, ReadOutcome, contentsAt, readOutcome, pieceRead, pieceOr}

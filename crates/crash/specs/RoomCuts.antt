@@ -15,7 +15,7 @@ use Rattle.model.specs.Table.{tableOf}
 use Rattle.model.specs.Histories.{shown}
 use Rattle.model.specs.Laws.Chip.{run-append, run-length, run-size, cut-append, cut-size, whole-cut, SizeFacts, size-facts}
 use Rattle.model.specs.Laws.Pages.{InPage}
-use Rattle.model.specs.Laws.HeaderPage.{openingHeader, compactionHeader, pendingHeader, open-segment-page, copy-out-pages, opening-in-page, compaction-in-page, pending-in-page, begunPage, opening-run, compaction-run, pending-run}
+use Rattle.model.specs.Laws.HeaderPage.{openingHeader, compactionHeader, pendingHeader, open-segment-page, copy-out-pages, opening-in-page, compaction-in-page, pending-in-page, begunPage, opening-run, pending-run}
 use Rattle.model.specs.Laws.SlotPage.{write-in-page}
 use Rattle.model.specs.Laws.PageCuts.{opening-cut, compaction-cut, begun-bit-6, pending-cut}
 use Rattle.model.specs.Laws.Segments.{partOf, part-size, Only, only-segments, only-trans, only-cut, part-run, part-cut}
@@ -30,7 +30,7 @@ use Rattle.bridge.specs.Done.{next-free, open-held, old-after, copied-segments}
 use Rattle.crash.specs.States.{SoundWith, segments-show}
 use Rattle.crash.specs.Recover.{recover-cut}
 use Rattle.crash.specs.RoomTorn.{next-torn}
-use Rattle.crash.specs.RoomOwing.{Full, old-valid, old-fits, old-inside, Owing, owing-left}
+use Rattle.crash.specs.RoomOwing.{Full, old-valid, old-fits, Owing, owing-left}
 
 -- ---- steps in a header page
 

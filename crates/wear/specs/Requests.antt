@@ -14,9 +14,10 @@ use Rattle.model.specs.Answers.{put, delete}
 use Rattle.model.specs.Sequences.{Observed, erasesIn, among, removed, inserted, storedAfter, replaces, Tally, start, tallied, eraseCount, erasesOf}
 use Rattle.model.specs.Laws.Lists.{one}
 use Rattle.model.specs.Laws.Tables.{agree-holds}
-use Rattle.bridge.specs.Predicted.{slotChanged, written, marked, afterPut, afterDelete, fresh, CleanView, Fits}
-use Rattle.bridge.specs.Interface.{ViewLaws}
+use Rattle.bridge.specs.Predicted.{slotChanged, written, marked, afterPut, afterDelete, fresh, CleanView}
 use Rattle.bridge.specs.Views.Slots.{copied-none}
+use Rattle.bridge.specs.Views.Room.{room-made}
+use Rattle.bridge.specs.Views.Requests.{put-stores, delete-removes}
 use Rattle.bridge.specs.Format.{fresh-table}
 use Rattle.wear.specs.Demand3.{ErasesPaid, Balanced}
 use Rattle.wear.specs.Counting.{deads-behind, drop-behind, set-slot, copied-dead}
@@ -126,19 +127,18 @@ module _ (N B : ℕ) where
   pub put-few : (v : View) (t : Tally) (b : ℕ) (c : List ℕ) → CleanView N B v → Tracks N B v t → length (erasesIn (putSteps N B b c v)) ≤ N - 1
   put-few v t b c cv h = rw (put-erases v b c) (put-moved v t cv h .few)
 
-  module _ (laws : ViewLaws N B) where
-    pub tracks-put : (v : View) (t : Tally) (b : ℕ) (c : List ℕ) → CleanView N B v → Fits N B b v → Tracks N B v t
-        → Tracks N B (afterPut N B b c v) (tallied (record { request = put b c; code = 0; erases = erasesIn (putSteps N B b c v) }) t)
-    unfolding tallied storedAfter replaces counted
-    tracks-put v t b c cv fits h = tracks-counted (afterPut N B b c v) t (inserted b (t .stored)) (cond (among b (t .stored)) 1 0) (erasesIn (putSteps N B b c v))
-        (rw (h .inTurn, put-erases v b c, put-first v b c) (put-moved v t cv h .inTurn))
-        (stored-put (t .stored) (entriesIn v) (entriesIn (afterPut N B b c v)) b c (h .stored) (laws .put-table v b c cv fits))
-        (rw (h .stored .same b, ← agree-holds _ _ (laws .room-table v b cv fits) b) (put-paid v b c (put-moved v t cv h .paid)))
+  pub tracks-put : 2 ≤ N → 2 ≤ B → (v : View) (t : Tally) (b : ℕ) (c : List ℕ) → CleanView N B v → Tracks N B v t
+      → Tracks N B (afterPut N B b c v) (tallied (record { request = put b c; code = 0; erases = erasesIn (putSteps N B b c v) }) t)
+  unfolding tallied storedAfter replaces counted
+  tracks-put two slots v t b c cv h = tracks-counted (afterPut N B b c v) t (inserted b (t .stored)) (cond (among b (t .stored)) 1 0) (erasesIn (putSteps N B b c v))
+      (rw (h .inTurn, put-erases v b c, put-first v b c) (put-moved v t cv h .inTurn))
+      (stored-put (t .stored) (entriesIn v) (entriesIn (afterPut N B b c v)) b c (h .stored) (put-stores N B two slots v b c cv))
+      (rw (h .stored .same b, ← agree-holds _ _ (room-made N B two slots v cv .table) b) (put-paid v b c (put-moved v t cv h .paid)))
 
-    pub tracks-delete : (v : View) (t : Tally) (b : ℕ) → CleanView N B v → holds b (entriesIn v) ≡ true → Tracks N B v t
-        → Tracks N B (afterDelete b v) (tallied (record { request = delete b; code = 0; erases = erasesIn (deleteSteps N B b v) }) t)
-    unfolding tallied storedAfter replaces counted afterDelete marked slotChanged
-    tracks-delete v t b cv held h = tracks-counted (afterDelete b v) t (removed b (t .stored)) 1 (erasesIn (deleteSteps N B b v))
-        (rw (delete-none N B b v) (append-nil (t .erased) ∙ h .inTurn))
-        (stored-delete (t .stored) (entriesIn v) (entriesIn (afterDelete b v)) b (h .stored) (laws .delete-table v b cv held))
-        (paid-marked (t .replaced + 1) (placeOf b v) v (omega arith) (h .paid))
+  pub tracks-delete : (v : View) (t : Tally) (b : ℕ) → CleanView N B v → holds b (entriesIn v) ≡ true → Tracks N B v t
+      → Tracks N B (afterDelete b v) (tallied (record { request = delete b; code = 0; erases = erasesIn (deleteSteps N B b v) }) t)
+  unfolding tallied storedAfter replaces counted afterDelete marked slotChanged
+  tracks-delete v t b cv held h = tracks-counted (afterDelete b v) t (removed b (t .stored)) 1 (erasesIn (deleteSteps N B b v))
+      (rw (delete-none N B b v) (append-nil (t .erased) ∙ h .inTurn))
+      (stored-delete (t .stored) (entriesIn v) (entriesIn (afterDelete b v)) b (h .stored) (delete-removes N B v b cv held))
+      (paid-marked (t .replaced + 1) (placeOf b v) v (omega arith) (h .paid))

@@ -16,9 +16,8 @@ use Rattle.model.specs.Answers.{Request, format, put, delete, read, readOr, rec
 use Rattle.model.specs.Sequences.{Call, play, erasesIn, observe, observed, InSequence, Uncut, storedAfter, replaces, Tally, start, tallied, tally}
 use Rattle.model.specs.Laws.Chip.{size-facts, run-size}
 use Rattle.model.specs.Laws.Bytes.{run-bytes}
-use Rattle.bridge.specs.Views.Requests.{view-laws}
 use Rattle.bridge.specs.Held.{clean-view}
-use Rattle.bridge.specs.Accepted.{refused-none, accepted, quiet-none, recover-none, put-passed, delete-passed, format-passed}
+use Rattle.bridge.specs.Accepted.{refused-none, accepted, quiet-none, recover-none, delete-passed, format-passed}
 use Rattle.bridge.specs.Allowance.{Ends, ends}
 use Rattle.bridge.specs.Requests.{put-done, delete-done}
 use Rattle.bridge.specs.Format.{format-bytes, format-done}
@@ -71,9 +70,9 @@ module _ (N B : ℕ) where
       let a = accepted N B s (put b c) e in
       let d = put-done N B s (g .size) (g .clean) b c (g .bytes) bytes e in
       let cv = clean-view N B s (g .size) (g .clean) in
-      let laws = view-laws N B (size-facts N B s (g .size) .two) (size-facts N B s (g .size) .slots) in
+      let size = size-facts N B s (g .size) in
       kept s t (record { request = put b c; allowance = allowance }) g f (d .0)
-        (rw (d .1, e, a .0) (tracks-put N B laws (view N B s) t b c cv (put-passed N B s b c (a .1) .fit) (g .tracks)))
+        (rw (d .1, e, a .0) (tracks-put N B (size .two) (size .slots) (view N B s) t b c cv (g .tracks)))
         (rw (a .0) (put-few N B (view N B s) t b c cv (g .tracks)))
 
   done-delete : (s : Image) (t : Tally) (b allowance : ℕ) → Sequenced N B s t → Ends N B s allowance (delete b) → workOf N B s (delete b) .code ≡ 0
@@ -83,9 +82,8 @@ module _ (N B : ℕ) where
       let a = accepted N B s (delete b) e in
       let d = delete-done N B s (g .size) (g .clean) b e in
       let cv = clean-view N B s (g .size) (g .clean) in
-      let laws = view-laws N B (size-facts N B s (g .size) .two) (size-facts N B s (g .size) .slots) in
       kept s t (record { request = delete b; allowance = allowance }) g f (d .0)
-        (rw (d .1, e, a .0) (tracks-delete N B laws (view N B s) t b cv (delete-passed N B s b (a .1)) (g .tracks)))
+        (rw (d .1, e, a .0) (tracks-delete N B (view N B s) t b cv (delete-passed N B s b (a .1)) (g .tracks)))
         (rw (a .0, delete-none N B b (view N B s)) (omega arith))
 
   -- refused, or done
