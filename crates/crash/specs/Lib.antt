@@ -19,11 +19,11 @@ pub mod Read
 pub mod Delete
 
 -- put: making room, the slot written, the old one marked
-pub mod WriteTop
 pub mod RoomTorn
 pub mod RoomOwing
 pub mod RoomCuts
 pub mod RoomMade
+pub mod WriteTop
 pub mod PutCut
 
 -- the theorem, the customer's sentences, and bench examples 7 and 8 as instances

@@ -1,4 +1,4 @@
--- Laws of tests on lists.
+-- Laws of lists: tests and counts, rows joined, elements of a map. And numbers modulo N.
 use Prim.Native.Nat.{ℕ, zero, suc, _+_, _-_, _*_, _/_, _%_, _≤_, _<_}
 use mathlib.Core.Path.{_≡_, refl, sym, ap, _∙_}
 use mathlib.Core.Bool.{Bool, true, false, cond, _&&_, not, true≢false, false≢true, and-assoc, and-eq-true-iff}
