@@ -1,12 +1,11 @@
 -- Accepted puts and deletes, done whole: a clean image with the predicted view.
 use Prim.Native.Nat.{ℕ, zero, suc, _+_, _-_, _%_, _≤_, _<_}
-use mathlib.Core.Path.{_≡_, refl, sym, ap, _∙_, subst}
+use mathlib.Core.Path.{_≡_, refl, _∙_, subst}
 use mathlib.Core.Bool.{Bool, true, false, cond}
 use mathlib.Core.List.{List, [], _∷_, _++_}
 use native.Mathlib.Omega.{arith}
 use native.Mathlib.Nat.{mod-lt}
 use lib.ListN.{length, getD, drop, length-append}
-use lib.Seq.{getD-append-seam}
 use lib.Dec.{ltb}
 use borrow.Author.Tests.{ltb-true, ltb-false}
 use Rattle.model.specs.Chip.{Image, Bytes, numberLimit, rightSize, run}
@@ -23,7 +22,7 @@ use Rattle.model.specs.Laws.Effects.{numbered-at}
 use Rattle.model.specs.Laws.Clean.{numbered}
 use Rattle.bridge.specs.Predicted.{written, marked, putInto, afterPut, afterDelete, CleanView, Rows}
 use Rattle.bridge.specs.Views.Slots.{slots-counted, sound}
-use Rattle.bridge.specs.Views.Places.{Gap, fill, fill-length, TopGap, written-place, written-holds}
+use Rattle.bridge.specs.Views.Places.{in-view, TopGap, written-place, written-holds}
 use Rattle.bridge.specs.Views.Shape.{clean-shape, shape-gap, first-live-in, opened-top}
 use Rattle.bridge.specs.Views.Room.{tidied, Made, room-made}
 use Rattle.bridge.specs.Views.Requests.{room-numbered, put-keeps-clean, put-stores, delete-keeps-clean}
@@ -31,35 +30,7 @@ use Rattle.bridge.specs.Held.{Held, held-first, held-of-clean, clean-vie
 use Rattle.bridge.specs.Done.{mark-held, write-held, open-held, compact-held}
 use Rattle.bridge.specs.Accepted.{PutPassed, put-passed, delete-passed, accepted}
 
--- ---- a slot among the rows
-
-module _ (g : Gap) (k : Slot) where
-  pub gap-row : getD (fill g k) (length (g .rowsBefore)) [] ≡ g .before ++ (k ∷ g .after)
-  gap-row = getD-append-seam (g .rowsBefore) (g .before ++ (k ∷ g .after)) (g .rowsAfter) []
-
-  gap-inside : length (g .rowsBefore) < length (fill g k)
-  gap-inside = omega (arith, fill-length g k)
-
-  pub gap-slot : getD (getD (fill g k) (length (g .rowsBefore)) []) (length (g .before)) empty ≡ k
-  gap-slot = ap (λ (y : List Slot). getD y (length (g .before)) empty) gap-row ∙ getD-append-seam (g .before) k (g .after) empty
-
-  gap-short : (B : ℕ) → Rows B (fill g k) → length (g .before) < B
-  gap-short B r = let e : length (g .before ++ (k ∷ g .after)) ≡ B = ap length (sym gap-row) ∙ row (fill g k) (length (g .rowsBefore)) gap-inside r in
-      omega (arith, length-append (g .before) (k ∷ g .after))
-    where
-      row : (l : List (List Slot)) (i : ℕ) → i < length l → Rows B l → length (getD l i []) ≡ B
-      row [] i h r = absurd (omega arith)
-      row (x ∷ l) zero h r = r .0
-      row (x ∷ l) (suc i) h r = row l i (omega arith) (r .1)
-
--- where a slot stands in a view with B slots to a row
-pub record InView (B : ℕ) (v : View) (g : Gap) (k : Slot) : Type 0 where
-  pub row : length (g .rowsBefore) < length (v .slots)
-  pub short : length (g .before) < B
-  pub kind : getD (getD (v .slots) (length (g .rowsBefore)) []) (length (g .before)) empty ≡ k
-
-pub in-view : (B : ℕ) (v : View) (g : Gap) (k : Slot) → v .slots ≡ fill g k → Rows B (v .slots) → InView B v g k
-in-view B v g k e r = record { row = rw e (gap-inside g k); short = gap-short g k B (rw e at r); kind = rw e (gap-slot g k) }
+-- ---- one slot marked or written
 
 module _ (N B : ℕ) (s : Image) (v : View) (h : Held N B s v) where
   -- the first live slot of a block marked

@@ -16,8 +16,8 @@ use Rattle.bridge.specs.Predicted.{afterPut}
 use Rattle.bridge.specs.Held.{held-of-clean, clean-view}
 use Rattle.bridge.specs.Requests.{put-valid, roomed-below, roomed-held, roomed-clean, roomed-gap, roomed-table, after-clean, after-table, put-steps}
 use Rattle.crash.specs.Sound.{Clean, Accepted, CutOf, LeftWith}
-use Rattle.crash.specs.WriteTop.{put-into-cut}
 use Rattle.crash.specs.RoomMade.{room-cut}
+use Rattle.crash.specs.WriteTop.{put-into-cut}
 
 pub put-cut : (N B : ℕ) (s u : Image) (b : ℕ) (c : List ℕ) → rightSize N B s ≡ true → Bytes s → Clean N B s → Bytes c → Accepted N B s (put b c)
     → CutOf N B s (put b c) u → LeftWith N B u (tableOf N B s) (store b c (tableOf N B s))

@@ -25,8 +25,7 @@ use Rattle.model.specs.Laws.Segments.{partOf, page-byte}
 use Rattle.model.specs.Laws.Effects.{index, slot-kind, slot-count, mark-effect}
 use Rattle.model.specs.Laws.Ring.{slots-get, slots-length}
 use Rattle.model.specs.Laws.Tables.{holds-copies, lookup-append}
-use Rattle.bridge.specs.Views.Places.{Gap, earlier, later, fill-entries, fill-length, FirstLive, first-live}
-use Rattle.bridge.specs.Requests.{gap-slot}
+use Rattle.bridge.specs.Views.Places.{Gap, earlier, later, fill-entries, fill-length, FirstLive, first-live, gap-slot}
 use Rattle.crash.specs.Sound.{Sound, CutOf}
 use Rattle.crash.specs.States.{isCase, mended, case-of, recover-steps, recovered-run, Kept, kept-same, Mended, kept-clean}
 

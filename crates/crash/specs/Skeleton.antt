@@ -22,8 +22,8 @@ use Rattle.bridge.specs.Accepted.{recover-none}
 use Rattle.bridge.specs.Format.{format-bytes}
 use Rattle.crash.specs.Machine.{malformed, plainCode, plainBytes, plain, made, next, codeOnTable, Promise, settled, interrupted, unknown, IsCut, OnTable, WantsRecovery, Holds, Moves, answers, answers-again, asks-recovery, refuses-malformed, not-begun, wholly-done, formats, format-cut, no-promise, PlainRuns}
 use Rattle.crash.specs.Demand2.{Keeps, Demand2}
-use Rattle.crash.specs.Sound.{SoundAs, Sound, Clean, finished, CutOf, DoneWith, LeftWith, RequestLaws}
 use Rattle.crash.specs.Reading
+use Rattle.crash.specs.Sound.{SoundAs, Sound, Clean, finished, CutOf, DoneWith, LeftWith, RequestLaws}
 use Rattle.crash.specs.Requests.{refused-idle, idle-finished, idle-cut, read-idle, readOr-idle, readOr-work, shown-clean, sound-clean, read-refused, readOr-bytes, bytes-refused, ended, ended-or-stopped, code-clean, Unfinished, code-unfinished, code-recover, code-format, steps-format, malformed-small, code-agree, agree-made, distinct-made, clean-distinct}
 
 -- ---- the table after a request with this code

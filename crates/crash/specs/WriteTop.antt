@@ -25,10 +25,10 @@ use Rattle.model.specs.Laws.Clean.{index-inside}
 use Rattle.model.specs.Laws.View.{slotChanged, slot-ring, slot-view}
 use Rattle.model.specs.Laws.Tables.{copies-append, copies-cons-same, copies-none, held-copies, distinct-copies, agree-trans}
 use Rattle.bridge.specs.Predicted.{written, putInto, CleanView}
-use Rattle.bridge.specs.Views.Places.{fill, fill-entries, fill-changed, TopGap, written-entries, written-place, written-holds}
+use Rattle.bridge.specs.Views.Places.{fill, fill-entries, fill-changed, TopGap, written-entries, written-place, written-holds, gap-row, InView, in-view}
 use Rattle.bridge.specs.Views.Shape.{clean-shape, shape-clean, clean-distinct, clean-within, filled-shape}
 use Rattle.bridge.specs.Held.{Held, held-first, held-top, held-row, held-clean, segments-clean, clean-of-held, held-table}
-use Rattle.bridge.specs.Requests.{gap-row, InView, in-view, write-top-held, put-held}
+use Rattle.bridge.specs.Requests.{write-top-held, put-held}
 use Rattle.crash.specs.Sound.{LeftWith}
 use Rattle.crash.specs.States.{isCase, mended, SoundWith, segments-show}
 use Rattle.crash.specs.RecoverMarks.{Marks, live-place, live-marks, mark-segments}
