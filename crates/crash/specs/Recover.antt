@@ -8,8 +8,8 @@ use Rattle.model.specs.State.{Segment, segmentsOf, viewOf, entriesIn, Exception
 use Rattle.model.specs.Steps.{mendSteps}
 use Rattle.model.specs.Answers.{recover, workOf}
 use Rattle.model.specs.Histories.{recovered, shown}
-use Rattle.model.specs.Laws.Segments.{segments-length}
 use Rattle.model.specs.Laws.Tables.{agree-of}
+use Rattle.model.specs.Laws.Segments.{segments-length}
 use Rattle.bridge.specs.Accepted.{recover-none}
 use Rattle.crash.specs.Sound.{SoundAs, Sound, Clean, CutOf}
 use Rattle.crash.specs.Requests.{recovered-clean, idle-cut}

@@ -1,7 +1,7 @@
 -- One slot marked dead: the recovery of (c) and of (d), and a delete. It is one step with no inside, so that a cut does it or not.
 use Prim.Native.Nat.{ℕ, suc, _+_, _-_, _*_, _%_, _<_}
 use mathlib.Core.Path.{_≡_, refl, sym, ap, _∙_, subst}
-use mathlib.Core.Logic.{_⊎_, inl, inr, ⊎-elim}
+use mathlib.Core.Logic.{_⊎_, ⊎-elim}
 use mathlib.Core.Bool.{true, _&&_, false≢true}
 use mathlib.Core.List.{List, [], _++_, flatten}
 use native.Mathlib.Omega.{arith}
@@ -18,13 +18,13 @@ use Rattle.model.specs.Answers.{recover}
 use Rattle.model.specs.Histories.{recovered}
 use Rattle.model.specs.Laws.Lists.{and-left, and-right}
 use Rattle.model.specs.Laws.Chip.{SizeFacts, size-facts}
-use Rattle.model.specs.Laws.Bytes.{OneBit, live-dead-bit, torn-dead-bit}
-use Rattle.model.specs.Laws.SlotPage.{Markable, live-markable, torn-markable, clear-live, clear-torn}
-use Rattle.model.specs.Laws.PageCuts.{one-bit-cut}
+use Rattle.model.specs.Laws.Bytes.{OneBit}
+use Rattle.model.specs.Laws.SlotPage.{Markable, live-markable, torn-markable}
+use Rattle.model.specs.Laws.PageCuts.{one-bit-cut, mark-bit}
+use Rattle.model.specs.Laws.Tables.{holds-copies, lookup-append}
 use Rattle.model.specs.Laws.Segments.{partOf, page-byte}
 use Rattle.model.specs.Laws.Effects.{index, slot-kind, slot-count, mark-effect}
 use Rattle.model.specs.Laws.Ring.{slots-get, slots-length}
-use Rattle.model.specs.Laws.Tables.{holds-copies, lookup-append}
 use Rattle.bridge.specs.Views.Places.{Gap, earlier, later, fill-entries, fill-length, FirstLive, first-live, gap-slot}
 use Rattle.crash.specs.Sound.{Sound, CutOf}
 use Rattle.crash.specs.States.{isCase, mended, case-of, recover-steps, recovered-run, Kept, kept-same, Mended, kept-clean}
@@ -47,10 +47,6 @@ marks-page p m = go (slotOf p) refl m
     go dead e h = absurd h
     go wrong e h = absurd h
     go (live b c) e h = live-markable p b c e
-
-mark-bit : (a : ℕ) → Markable a → OneBit (clear a 0xDF) a
-mark-bit a (inl e) = rw (e, clear-live) live-dead-bit
-mark-bit a (inr e) = rw (e, clear-torn) torn-dead-bit
 
 -- a slot that can be marked is one of a segment in use
 marks-in-use : (x : Segment) (j : ℕ) → Marks (getD (slotsIn x) j empty) → (st : ℕ) × (n : ℕ) × (x ≡ inUse st n (slotsIn x))

@@ -10,12 +10,11 @@ use lib.Dec.{ltb, leb, eqb}
 use borrow.Author.Tests.{leb-true, leb-false, ltb-true, ltb-false, lt-leb, le-leb, lt-ltb, le-ltb, ne-eqb, eqb-true}
 use Rattle.model.specs.Chip.{Image, rightSize, run}
 use Rattle.model.specs.Slot.{mostContents, numberOk}
-use Rattle.model.specs.State.{Exception, segmentsOf, viewOf, entriesIn, holds, distinct, capacity, blocksDistinct, placeOf, unfinished, state, view}
+use Rattle.model.specs.State.{Exception, segmentsOf, viewOf, entriesIn, holds, distinct, capacity, placeOf, unfinished, state, view}
 use Rattle.model.specs.Steps.{isWorn, formatSteps}
 use Rattle.model.specs.Table.{Table, lookup, Agree, contentsFound, tableOf}
 use Rattle.model.specs.Answers.{Request, format, put, delete, read, readOr, recover, _when_, firstOf, isDamaged, isUnfinished, isFull, absentRefusals, refusals, stepsFor, Work, workOn, workOf, outcomeOf, ReadOutcome, contentsAt, readOutcome, pieceRead, pieceOr}
 use Rattle.model.specs.Histories.{Reply, bytesRead, replyOf, wears, recovered, shown}
-use Rattle.model.specs.Laws.Clean.{clean-slots, state-clean}
 use Rattle.model.specs.Laws.Tables.{agree-of, agree-holds, agree-without, agree-store, distinct-without, distinct-store}
 use Rattle.bridge.specs.Accepted.{code-of, refused-none, quiet-none, recover-none}
 use Rattle.bridge.specs.Allowance.{ends-or-stops}
@@ -271,9 +270,3 @@ distinct-made t (delete b) q = distinct-without b t q
 distinct-made t (read b) q = q
 distinct-made t (readOr b f) q = q
 distinct-made t recover q = q
-
--- ---- the table of a clean image has each block once
-
-pub clean-distinct : (N B : ℕ) (s : Image) → Clean N B s → distinct (tableOf N B s) ≡ true
-unfolding state view tableOf blocksDistinct
-clean-distinct N B s h = clean-slots N B (segmentsOf N B s) (state-clean N B (segmentsOf N B s) h) .once

@@ -17,12 +17,12 @@ use Rattle.model.specs.Steps.{topNumber, hasRoom, headerAt, settle, copied, com
 use Rattle.model.specs.Answers.{recover, workOf}
 use Rattle.model.specs.Laws.Chip.{size-facts}
 use Rattle.model.specs.Laws.HeaderPage.{in-use-facts}
+use Rattle.model.specs.Laws.Tables.{agree-trans}
 use Rattle.model.specs.Laws.Segments.{parts, partOf, Only, segment-at}
 use Rattle.model.specs.Laws.Effects.{in-use-parts}
 use Rattle.model.specs.Laws.CopyOut.{Valids}
 use Rattle.model.specs.Laws.Ring.{next-raised}
 use Rattle.model.specs.Laws.Clean.{index-inside}
-use Rattle.model.specs.Laws.Tables.{agree-trans}
 use Rattle.bridge.specs.Predicted.{CleanView}
 use Rattle.bridge.specs.Views.Room.{tidied}
 use Rattle.bridge.specs.Held.{Held, held-top, held-count, held-row, held-clean, row-valid}

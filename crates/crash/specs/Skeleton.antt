@@ -18,13 +18,15 @@ use Rattle.model.specs.Laws.Lists.{and-left}
 use Rattle.model.specs.Laws.Chip.{cut-size, run-size}
 use Rattle.model.specs.Laws.Bytes.{cut-bytes, run-bytes}
 use Rattle.model.specs.Laws.Tables.{agree-of, agree-trans, agree-size}
+use Rattle.bridge.specs.Views.Shape.{clean-distinct}
+use Rattle.bridge.specs.Held.{clean-view}
 use Rattle.bridge.specs.Accepted.{recover-none}
 use Rattle.bridge.specs.Format.{format-bytes}
 use Rattle.crash.specs.Machine.{malformed, plainCode, plainBytes, plain, made, next, codeOnTable, Promise, settled, interrupted, unknown, IsCut, OnTable, WantsRecovery, Holds, Moves, answers, answers-again, asks-recovery, refuses-malformed, not-begun, wholly-done, formats, format-cut, no-promise, PlainRuns}
 use Rattle.crash.specs.Demand2.{Keeps, Demand2}
 use Rattle.crash.specs.Reading
 use Rattle.crash.specs.Sound.{SoundAs, Sound, Clean, finished, CutOf, DoneWith, LeftWith, RequestLaws}
-use Rattle.crash.specs.Requests.{refused-idle, idle-finished, idle-cut, read-idle, readOr-idle, readOr-work, shown-clean, sound-clean, read-refused, readOr-bytes, bytes-refused, ended, ended-or-stopped, code-clean, Unfinished, code-unfinished, code-recover, code-format, steps-format, malformed-small, code-agree, agree-made, distinct-made, clean-distinct}
+use Rattle.crash.specs.Requests.{refused-idle, idle-finished, idle-cut, read-idle, readOr-idle, readOr-work, shown-clean, sound-clean, read-refused, readOr-bytes, bytes-refused, ended, ended-or-stopped, code-clean, Unfinished, code-unfinished, code-recover, code-format, steps-format, malformed-small, code-agree, agree-made, distinct-made}
 
 -- ---- the table after a request with this code
 
@@ -133,8 +135,9 @@ module _ (N B : ℕ) (laws : RequestLaws N B) where
 
   module _ (s m : Image) (t : Table) (r : Request) (o : OnTable r) (p : Proper r) (z : rightSize N B s ≡ true) (k : Stores N B s t) where
     plain-code : workOf N B s r .code ≡ plainCode (capacity N B) (wears N B s) t r
+    unfolding tableOf
     plain-code = code-clean N B s z (k .clean) r o
-        ∙ code-agree (capacity N B) (wears N B s) (tableOf N B s) t (k .table) (agree-size (tableOf N B s) t (clean-distinct N B s (k .clean)) (k .once) (k .table)) r
+        ∙ code-agree (capacity N B) (wears N B s) (tableOf N B s) t (k .table) (agree-size (tableOf N B s) t (clean-distinct (clean-view N B s z (k .clean))) (k .once) (k .table)) r
 
     plain-reply : ended N B s r ≡ plain (capacity N B) (wears N B s) t r
     unfolding ended plain

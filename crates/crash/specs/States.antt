@@ -16,9 +16,9 @@ use Rattle.model.specs.Table.{Table, Agree, tableOf}
 use Rattle.model.specs.Answers.{recover, isDamaged, firstOf, refusals, stepsFor, workOn, workOf}
 use Rattle.model.specs.Histories.{recovered, shown}
 use Rattle.model.specs.Laws.Lists.{and-right}
+use Rattle.model.specs.Laws.Tables.{agree-of, agree-trans}
 use Rattle.model.specs.Laws.Clean.{clean-state}
 use Rattle.model.specs.Laws.Exclusive.{exclusive}
-use Rattle.model.specs.Laws.Tables.{agree-of, agree-trans}
 use Rattle.crash.specs.Sound.{SoundAs, Sound, Clean, DoneWith}
 use Rattle.crash.specs.Requests.{shown-clean, sound-clean}
 

@@ -19,11 +19,11 @@ use Rattle.model.specs.Laws.Lists.{and-left, and-both}
 use Rattle.model.specs.Laws.Chip.{SizeFacts, size-facts, cut-append, cut-size}
 use Rattle.model.specs.Laws.SlotPage.{Valid, write-in-page}
 use Rattle.model.specs.Laws.PageCuts.{write-cut-kind}
+use Rattle.model.specs.Laws.Tables.{copies-append, copies-cons-same, copies-none, held-copies, distinct-copies, agree-trans}
 use Rattle.model.specs.Laws.Effects.{slot-cut, empty-page, write-effect}
 use Rattle.model.specs.Laws.Ring.{next-kept}
 use Rattle.model.specs.Laws.Clean.{index-inside}
 use Rattle.model.specs.Laws.View.{slotChanged, slot-ring, slot-view}
-use Rattle.model.specs.Laws.Tables.{copies-append, copies-cons-same, copies-none, held-copies, distinct-copies, agree-trans}
 use Rattle.bridge.specs.Predicted.{written, putInto, CleanView}
 use Rattle.bridge.specs.Views.Places.{fill, fill-entries, fill-changed, TopGap, written-entries, written-place, written-holds, gap-row, InView, in-view}
 use Rattle.bridge.specs.Views.Shape.{clean-shape, shape-clean, clean-distinct, clean-within, filled-shape}

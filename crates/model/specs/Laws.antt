@@ -14,6 +14,9 @@ pub mod HeaderPage
 pub mod SlotPage
 pub mod PageCuts
 
+-- tables
+pub mod Tables
+
 -- the segments, the view, and the state
 pub mod Segments
 pub mod Effects
@@ -22,9 +25,6 @@ pub mod Ring
 pub mod Clean
 pub mod View
 pub mod Exclusive
-
--- tables
-pub mod Tables
 
 -- the bench table
 pub mod Bench

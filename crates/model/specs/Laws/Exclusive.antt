@@ -1,18 +1,19 @@
 -- The state's five cases exclude each other: clean, (a), (b), (c) and (d). So the order in which stateOf asks does not matter.
-use Prim.Native.Nat.{ℕ, suc, _+_, _-_, _%_, _≤_, _<_}
+use Prim.Native.Nat.{ℕ, _+_, _-_, _%_, _≤_, _<_}
 use mathlib.Core.Path.{_≡_, refl, sym, ap, _∙_}
 use mathlib.Core.Logic.{_≢_}
-use mathlib.Core.Bool.{Bool, true, false, cond, _||_, _&&_, not, false≢true}
+use mathlib.Core.Bool.{Bool, true, false, _||_, _&&_, not, false≢true}
 use mathlib.Core.List.{List, [], _∷_}
 use native.Mathlib.Omega.{arith}
 use native.Mathlib.Decide.{decLt}
 use lib.ListN.{length, getD, set, length-set, List·getD-eq-default}
 use lib.Dec.{ltb, eqb}
-use borrow.Author.Tests.{not-true, eqb-true, ltb-true}
+use borrow.Author.Tests.{eqb-true, ltb-true}
 use Rattle.model.specs.Lists.{all, count}
-use Rattle.model.specs.Slot.{Slot, empty, torn, dead, wrong, live, isTorn, isWrong, Entry, entryOf}
-use Rattle.model.specs.State.{Segment, blank, invalid, inUse, isInUse, isInvalid, isOwing, numberAfter, slotsIn, nextNumber, topIndex, nextIndex, topSlots, usedCount, firstNumber, viewOf, entriesIn, noneOwing, othersBlank, noneWrongOrTorn, holds, distinct, blocksDistinct, isClean, nextBlanked, isA, topSettled, isB, withSlot, lastSlot, lastKind, tornMarked, isC, blockIn, lastBlock, copies, older, olderMarked, isD}
+use Rattle.model.specs.Slot.{Slot, empty, torn, dead, wrong, live, isTorn, isWrong, entryOf}
+use Rattle.model.specs.State.{Segment, blank, invalid, inUse, isInUse, isInvalid, isOwing, numberAfter, slotsIn, nextNumber, topIndex, nextIndex, topSlots, usedCount, firstNumber, viewOf, entriesIn, noneOwing, othersBlank, noneWrongOrTorn, blocksDistinct, isClean, nextBlanked, isA, topSettled, isB, withSlot, lastSlot, lastKind, tornMarked, isC, blockIn, lastBlock, copies, older, olderMarked, isD}
 use Rattle.model.specs.Laws.Lists.{and-left, and-right, all-row, all-fails}
+use Rattle.model.specs.Laws.Tables.{distinct-copies}
 use Rattle.model.specs.Laws.Ring.{next-kept, get-kept, slots-get}
 use Rattle.model.specs.Laws.Clean.{clean-ring, clean-slots, used-next}
 use Rattle.model.specs.Laws.View.{withSlot-owing, erased-unused-view}
@@ -20,28 +21,6 @@ use Rattle.model.specs.Laws.View.{withSlot-owing, erased-unused-view}
 -- a test that a default element fails passes only inside the list
 pub inside : {A : Type 0} (f : A → Bool) (l : List A) (i : ℕ) (d : A) → f d ≡ false → f (getD l i d) ≡ true → i < length l
 inside f l i d e h = elim (decLt i (length l)) [ yes p ↦ p | no p ↦ absurd (false≢true (sym e ∙ (ap f (sym (List·getD-eq-default l d (omega arith))) ∙ h))) ]
-
--- ---- entries with one block number
-
-copies-absent : (b : ℕ) (t : List Entry) → holds b t ≡ false → copies b t ≡ 0
-unfolding copies count holds
-copies-absent b [] q = refl
-copies-absent b (e ∷ t) q = go (eqb b (e .block)) q (λ r. copies-absent b t r)
-  where
-    go : (x : Bool) → x || holds b t ≡ false → (holds b t ≡ false → copies b t ≡ 0) → cond x (suc (count (λ e. eqb b (e .block)) t)) (count (λ e. eqb b (e .block)) t) ≡ 0
-    go true r ih = absurd (false≢true (sym r))
-    go false r ih = unfold copies in ih r
-
-pub copies-once : (b : ℕ) (t : List Entry) → distinct t ≡ true → copies b t ≤ 1
-unfolding copies count distinct
-copies-once b [] q = omega arith
-copies-once b (e ∷ t) q = go (eqb b (e .block)) refl (copies-once b t (and-right (not (holds (e .block) t)) (distinct t) q))
-  where
-    alone : holds (e .block) t ≡ false
-    alone = not-true (holds (e .block) t) (and-left (not (holds (e .block) t)) (distinct t) (unfold distinct in q))
-    go : (x : Bool) → eqb b (e .block) ≡ x → copies b t ≤ 1 → cond x (suc (count (λ e. eqb b (e .block)) t)) (count (λ e. eqb b (e .block)) t) ≤ 1
-    go true y ih = let z : count (λ e. eqb b (e .block)) t ≡ 0 = (unfold copies in copies-absent b t (ap (λ (z : ℕ). holds z t) (eqb-true b (e .block) y) ∙ alone)) in omega arith
-    go false y ih = unfold copies in ih
 
 -- ---- what is never clean
 
@@ -85,7 +64,7 @@ module _ (N B : ℕ) (l : List Segment) (size : length l ≡ N) (h : isClean N B
 
   pub no-twins : (b : ℕ) → copies b (entriesIn (viewOf N l)) ≤ 1
   unfolding blocksDistinct
-  no-twins b = copies-once b (entriesIn (viewOf N l)) (clean-slots N B l h .once)
+  no-twins b = distinct-copies (entriesIn (viewOf N l)) (clean-slots N B l h .once) b
 
 -- ---- of five tests that exclude each other, at most one holds
 

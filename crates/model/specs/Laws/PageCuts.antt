@@ -9,7 +9,7 @@ use lib.Seq.{set-getD, getD-set-same}
 use Rattle.model.specs.Chip.{Image, Page, Step, program, clear, erased, step, run, Cut}
 use Rattle.model.specs.Header.{openingBegun, opened, compactionBegun, erasePending, noOldSegment, headerPage}
 use Rattle.model.specs.Slot.{writeBegun, written, slotPage, empty, torn, live, slotOf}
-use Rattle.model.specs.Steps.{programPart, writeSlot, markDead}
+use Rattle.model.specs.Steps.{programPart, writeSlot}
 use Rattle.model.specs.Laws.Chip.{run-append, cut-append}
 use Rattle.model.specs.Laws.Bytes.{clear-erased, erased-get, erased-length, OneBit, begun-bit, written-bit, live-dead-bit, torn-dead-bit, compaction-begun-bit, erase-pending-bit}
 use Rattle.model.specs.Laws.Programs.{Spares, spares-append, spares-part, spared-run, spared-cut}
@@ -88,10 +88,9 @@ write-cut-kind B b c u v k =
     ⊎-elim (λ e. inl (ap slotOf e ∙ erased-empty)) (λ h. inr (⊎-elim (λ e. inl (begun-torn u e)) (λ e. inr (ap slotOf e ∙ slot-live b c (v .number) (v .short))) h)) (write-cut B b c u v k)
 
 -- marked or not
-pub mark-cut : (B : ℕ) (p u : Page) → Markable (getD p 0 0) → Cut B markDead p u → (u ≡ p) ⊎ (u ≡ run B markDead p)
-unfolding markDead
-mark-cut B p u (inl e) k = one-bit-cut B 0 0xDF p u (rw (e, clear-live) live-dead-bit) k
-mark-cut B p u (inr e) k = one-bit-cut B 0 0xDF p u (rw (e, clear-torn) torn-dead-bit) k
+pub mark-bit : (a : ℕ) → Markable a → OneBit (clear a 0xDF) a
+mark-bit a (inl e) = rw (e, clear-live) live-dead-bit
+mark-bit a (inr e) = rw (e, clear-torn) torn-dead-bit
 
 -- ---- a header: finished, or bit 6 of its status is still set
 
