@@ -13,8 +13,8 @@ use Rattle.model.specs.State.{holds}
 use Rattle.model.specs.Table.{Table, present, lookup, contentsFound}
 use Rattle.model.specs.Answers.{Request, format, put, delete, read, readOr, recover}
 use Rattle.model.specs.Histories.{Reply, Seen, answered, lost}
+use Rattle.model.specs.Laws.Tables.{lookup-store-same}
 use Rattle.crash.specs.Machine.{malformed, codeOnTable, plainCode, plainBytes, plain, made, next, Promise, settled, interrupted, unknown, refused, IsCut, OnTable, WantsRecovery, Holds, Moves, answers, answers-again, asks-recovery, refuses-malformed, not-begun, wholly-done, formats, format-cut, no-promise}
-use Rattle.crash.specs.TableLaws.{lookup-store-same}
 use Rattle.crash.specs.Requests.{malformed-small}
 
 -- ---- what the table answers

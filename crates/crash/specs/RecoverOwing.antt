@@ -2,7 +2,7 @@
 use Prim.Native.Nat.{ℕ, zero, suc, _+_, _-_, _*_, _%_, _≤_, _<_}
 use mathlib.Core.Path.{_≡_, refl, sym, ap, ap₂, _∙_, subst}
 use mathlib.Core.Logic.{_⊎_, inl, inr, ⊎-elim, _≢_}
-use mathlib.Core.Bool.{true, cond, _||_, _&&_}
+use mathlib.Core.Bool.{true, cond, _||_, _&&_, false≢true}
 use mathlib.Core.List.{List, [], _∷_, _++_}
 use native.Mathlib.Omega.{arith}
 use native.Mathlib.Decide.{decLt}
@@ -13,37 +13,23 @@ use borrow.Author.Tests.{eqb-true}
 use Rattle.model.specs.Chip.{Image, Page, Step, erase, erased, withSegment, run, mostSegments, numberLimit, imageLength, rightSize, Cut}
 use Rattle.model.specs.Header.{numberBytes, inverted, erasePending, compacted, headerStatus, headerNumber}
 use Rattle.model.specs.Slot.{Slot}
-use Rattle.model.specs.State.{Segment, blank, invalid, inUse, segmentOf, segmentsOf, isInUse, isInvalid, isOwing, numberAfter, nextNumber, topIndex, nextIndex, usedCount, isClean, nextBlanked, settled, topSettled, isB, caseB, unfinished, stateOf, state}
+use Rattle.model.specs.State.{Segment, blank, invalid, inUse, segmentOf, segmentsOf, isInUse, isInvalid, isOwing, numberAfter, slotsIn, nextNumber, topIndex, nextIndex, usedCount, isClean, nextBlanked, settled, topSettled, isB, caseB, unfinished, stateOf, state}
 use Rattle.model.specs.Steps.{onPage, headerAt, settle, eraseUnlessBlank, mendSteps}
 use Rattle.model.specs.Answers.{recover}
 use Rattle.model.specs.Histories.{recovered}
-use Rattle.model.specs.Laws.Lists.{and-left, false-true, mod-inj}
-use Rattle.model.specs.Laws.Bytes.{compacted-bit, within-le, number-bytes, inverted-bytes, number-length, inverted-length, bytes-append, bytes-get, erased-get, erased-length}
+use Rattle.model.specs.Laws.Lists.{and-left, mod-inj}
 use Rattle.model.specs.Laws.Chip.{size-facts, run-append, run-length, whole-cut, cut-append, cut-size}
-use Rattle.model.specs.Laws.Ring.{next-ge, next-same}
-use Rattle.model.specs.Laws.Segments.{partOf, segment-at, segments-length, erased-image}
-use Rattle.model.specs.Laws.HeaderPage.{in-use-facts, number-fits, number-raised, clear-pending}
-use Rattle.model.specs.Laws.Effects.{index, in-use-parts, erase-effect, settle-effect}
+use Rattle.model.specs.Laws.Bytes.{compacted-bit, within-le, number-bytes, inverted-bytes, number-length, inverted-length, bytes-append, bytes-get, erased-get, erased-length}
+use Rattle.model.specs.Laws.HeaderPage.{number-fits, number-raised, clear-pending}
 use Rattle.model.specs.Laws.PageCuts.{one-bit-cut}
+use Rattle.model.specs.Laws.Segments.{partOf, segment-at, segments-length, erased-image}
+use Rattle.model.specs.Laws.Effects.{index, numbered-at, in-use-parts, erase-effect, settle-effect}
+use Rattle.model.specs.Laws.Ring.{next-ge, next-same}
 use Rattle.crash.specs.Sound.{AtLeast, headerByte, SoundAs, Sound, CutOf}
-use Rattle.crash.specs.RecoverCases.{two-segments, few-slots, isCase, mended, case-of, state-case, recover-steps, recovered-run, Kept, kept-same, Mended, kept-clean, kept-case}
+use Rattle.crash.specs.States.{isCase, mended, case-of, state-case, recover-steps, recovered-run, Kept, kept-same, Mended, kept-clean, kept-case}
 use Rattle.crash.specs.RecoverErase.{replaced-byte, raised-segments, raised-byte, header-byte}
 
 -- ---- the top of an image's segments
-
--- a segment in use has a number below the limit, and the index of that number
-pub numbered-at : (N B : ℕ) (s : Image) (i n : ℕ) → i < N → numberAfter (getD (segmentsOf N B s) i blank) ≡ suc n → (n % N ≡ i) × (n < numberLimit N)
-unfolding numberAfter
-numbered-at N B s i n h e = go (getD (segmentsOf N B s) i blank) refl e
-  where
-    go : (x : Segment) → getD (segmentsOf N B s) i blank ≡ x → numberAfter x ≡ suc n → (n % N ≡ i) × (n < numberLimit N)
-    go blank q d = absurd (omega arith)
-    go invalid q d = absurd (omega arith)
-    go (inUse st m ks) q d =
-        let u = in-use-parts N B i (partOf N B i s) st m ks (sym (segment-at N B i s h) ∙ q) in
-        let f = in-use-facts N B i (getD (partOf N B i s) 0 []) (u .header) in
-        let w : headerNumber (getD (partOf N B i s) 0 []) ≡ n = u .number ∙ omega arith in
-        (rw w at (f .place), rw w at (f .below))
 
 next-at : (l : List Segment) → 0 < nextNumber l → (i : ℕ) × (i < length l) × (numberAfter (getD l i blank) ≡ nextNumber l)
 unfolding nextNumber
@@ -60,19 +46,15 @@ top-at N B s h =
 
 owing-number : (x : Segment) → isOwing x ≡ true → 0 < numberAfter x
 unfolding isOwing numberAfter
-owing-number blank h = absurd (false-true h)
-owing-number invalid h = absurd (false-true h)
+owing-number blank h = absurd (false≢true h)
+owing-number invalid h = absurd (false≢true h)
 owing-number (inUse st n ks) h = omega arith
 
-record Owing (n : ℕ) (x : Segment) : Type 0 where
-  slots : List Slot
-  same : x ≡ inUse erasePending n slots
-
-owing-top : (x : Segment) (n : ℕ) → isOwing x ≡ true → numberAfter x ≡ suc n → Owing n x
-unfolding isOwing numberAfter
-owing-top blank n h e = absurd (false-true h)
-owing-top invalid n h e = absurd (false-true h)
-owing-top (inUse st m ks) n h e = let q : m ≡ n = omega arith in record { slots = ks; same = ap₂ (λ a b. inUse a b ks) (eqb-true st erasePending h) q }
+owing-top : (x : Segment) (n : ℕ) → isOwing x ≡ true → numberAfter x ≡ suc n → x ≡ inUse erasePending n (slotsIn x)
+unfolding isOwing numberAfter slotsIn
+owing-top blank n h e = absurd (false≢true h)
+owing-top invalid n h e = absurd (false≢true h)
+owing-top (inUse st m ks) n h e = let q : m ≡ n = omega arith in ap₂ (λ a b. inUse a b ks) (eqb-true st erasePending h) q
 
 index-apart : (N n : ℕ) → 2 ≤ N → 0 < n → (n - 1) % N ≢ n % N
 index-apart N n h k e = let q : n - 1 ≡ n = mod-inj N (n - 1) n (omega arith) (omega arith) e in omega arith
@@ -91,7 +73,7 @@ module _ (N B : ℕ) (s : Image) (z : rightSize N B s ≡ true) (e : state N B s
   i = nextNumber l % N
 
   two : 2 ≤ N
-  two = two-segments N B s z
+  two = size-facts N B s z .two
 
   most : N ≤ mostSegments
   most = size-facts N B s z .most
@@ -119,7 +101,10 @@ module _ (N B : ℕ) (s : Image) (z : rightSize N B s ≡ true) (e : state N B s
   top-number : numberAfter (getD l (n % N) blank) ≡ suc n
   top-number = top-at N B s some ∙ omega (arith, some)
 
-  top : Owing n (getD l (n % N) blank)
+  abbrev slots : List Slot
+  slots = slotsIn (getD l (n % N) blank)
+
+  top : getD l (n % N) blank ≡ inUse erasePending n slots
   top = owing-top (getD l (n % N) blank) n owing top-number
 
   below : n < numberLimit N
@@ -150,19 +135,19 @@ module _ (N B : ℕ) (s : Image) (z : rightSize N B s ≡ true) (e : state N B s
   wiped-size : length wiped ≡ imageLength N B
   wiped-size = run-length B wipe s ∙ size
 
-  wiped-top : getD (segmentsOf N B wiped) (n % N) blank ≡ inUse erasePending n (top .slots)
-  wiped-top = ap (λ (y : List Segment). getD y (n % N) blank) wiped-segments ∙ (getD-set-other l i (n % N) blank blank apart ∙ top .same)
+  wiped-top : getD (segmentsOf N B wiped) (n % N) blank ≡ inUse erasePending n slots
+  wiped-top = ap (λ (y : List Segment). getD y (n % N) blank) wiped-segments ∙ (getD-set-other l i (n % N) blank blank apart ∙ top)
 
   recovered-b : recovered N B s ≡ run B (settle N B n) wiped
   recovered-b = recovered-run N B s caseB z e ∙ (ap (λ y. run B y s) steps-b ∙ run-append B wipe (settle N B n) s)
 
-  mended-is : mended N l caseB ≡ set (set l i blank) (n % N) (inUse compacted n (top .slots))
+  mended-is : mended N l caseB ≡ set (set l i blank) (n % N) (inUse compacted n slots)
   unfolding mended topSettled nextBlanked nextIndex topIndex settled
-  mended-is = rw (top .same)
+  mended-is = ap (λ (y : Segment). set (set l i blank) (n % N) (settled y)) top
 
   pub mended-b : Mended N B s caseB
-  mended-b = ap (λ y. segmentsOf N B y) recovered-b ∙ (settle-effect N B two most (few-slots N B s z) wiped wiped-size n below (top .slots) wiped-top
-      ∙ (ap (λ (y : List Segment). set y (n % N) (inUse compacted n (top .slots))) wiped-segments ∙ sym mended-is))
+  mended-b = ap (λ y. segmentsOf N B y) recovered-b ∙ (settle-effect N B two most (size-facts N B s z .mostB) wiped wiped-size n below slots wiped-top
+      ∙ (ap (λ (y : List Segment). set y (n % N) (inUse compacted n slots)) wiped-segments ∙ sym mended-is))
 
   -- the mark is set or not
   settle-whole : (u : Image) → Cut B (settle N B n) wiped u → (u ≡ wiped) ⊎ (u ≡ run B (settle N B n) wiped)
@@ -173,7 +158,7 @@ module _ (N B : ℕ) (s : Image) (z : rightSize N B s ≡ true) (e : state N B s
       here = index N B two s size n
       byte : getD wiped (n % N * (B + 1) * 256 + 5) 0 ≡ erasePending
       byte = sym (header-byte N B (n % N) 5 wiped here (omega arith)) ∙ (unfold headerStatus in
-          in-use-parts N B (n % N) (partOf N B (n % N) wiped) erasePending n (top .slots) (sym (segment-at N B (n % N) wiped here) ∙ wiped-top) .status)
+          in-use-parts N B (n % N) (partOf N B (n % N) wiped) erasePending n slots (sym (segment-at N B (n % N) wiped here) ∙ wiped-top) .status)
 
   -- the segment after the top has a smaller number, if any
   old-number : numberAfter (getD l i blank) < nextNumber l
@@ -216,23 +201,23 @@ at-least-of at (x ∷ xs) s f =
     (rw e at (f 0 (omega arith)), at-least-of (suc at) xs s (λ k b. let d : at + suc k ≡ suc at + k = omega arith in rw d at (f (suc k) (omega arith))))
 
 -- a number's bytes and their inverse, as the header has them
-abbrev both : ℕ → List ℕ
+abbrev pub both : ℕ → List ℕ
 both n = numberBytes n ++ inverted (numberBytes n)
 
-both-length : (n : ℕ) → length (both n) ≡ 8
+pub both-length : (n : ℕ) → length (both n) ≡ 8
 both-length n = omega (arith, length-append (numberBytes n) (inverted (numberBytes n)), number-length n, inverted-length (numberBytes n))
 
 both-bytes : (n k : ℕ) → getD (both n) k 0 < 256
 both-bytes n k = bytes-get (both n) k (bytes-append (numberBytes n) (inverted (numberBytes n)) (number-bytes n) (inverted-bytes (numberBytes n)))
 
 -- bytes 8 to 15 of the header of segment i are at least those of number n
-abbrev Keeps : ℕ → ℕ → ℕ → Image → Type 0
+abbrev pub Keeps : ℕ → ℕ → ℕ → Image → Type 0
 Keeps B i n u = (k : ℕ) → k < 8 → getD (both n) k 0 ≤ getD u (i * (B + 1) * 256 + (8 + k)) 0
 
 keeps-get : (B i n : ℕ) (u : Image) → AtLeast (i * (B + 1) * 256 + 8) (both n) u → Keeps B i n u
 keeps-get B i n u h = λ k b. let e : i * (B + 1) * 256 + 8 + k ≡ i * (B + 1) * 256 + (8 + k) = omega arith in rw e at (at-least-get (i * (B + 1) * 256 + 8) (both n) u h k (omega (arith, both-length n)))
 
-keeps-of : (B i n : ℕ) (u : Image) → Keeps B i n u → AtLeast (i * (B + 1) * 256 + 8) (both n) u
+pub keeps-of : (B i n : ℕ) (u : Image) → Keeps B i n u → AtLeast (i * (B + 1) * 256 + 8) (both n) u
 keeps-of B i n u f = at-least-of (i * (B + 1) * 256 + 8) (both n) u (λ k b. let e : i * (B + 1) * 256 + 8 + k ≡ i * (B + 1) * 256 + (8 + k) = omega arith in rw e (f k (omega (arith, both-length n))))
 
 -- ---- cuts

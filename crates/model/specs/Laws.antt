@@ -14,6 +14,9 @@ pub mod HeaderPage
 pub mod SlotPage
 pub mod PageCuts
 
+-- tables
+pub mod Tables
+
 -- the segments, the view, and the state
 pub mod Segments
 pub mod Effects
@@ -21,9 +24,7 @@ pub mod CopyOut
 pub mod Ring
 pub mod Clean
 pub mod View
-pub mod ImageView
 pub mod Exclusive
-pub mod Requests
 
 -- the bench table
 pub mod Bench

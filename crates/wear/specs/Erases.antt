@@ -16,6 +16,7 @@ use Rattle.model.specs.Slot.{Entry}
 use Rattle.model.specs.State.{View, entriesIn, holds, Place, placeOf}
 use Rattle.model.specs.Steps.{programs, programPart, onPage, writeSlot, markDead, markPlace, openSegment, copyEntries, copyOut, settle, compact, markOld, writeAtTop, deleteSteps}
 use Rattle.model.specs.Sequences.{erasesIn}
+use Rattle.model.specs.Laws.Lists.{count-append}
 
 -- ---- the erase steps of lists
 
@@ -89,27 +90,13 @@ turns-length N (suc e) = omega (arith, length-append (turns N e) (e % N ∷ []),
 abbrev erasesAt : ℕ → ℕ → ℕ → ℕ
 erasesAt N e i = count (λ x. eqb i x) (turns N e)
 
-count-snoc : (f : ℕ → Bool) (xs : List ℕ) (y : ℕ) → count f (xs ++ (y ∷ [])) ≡ cond (f y) 1 0 + count f xs
-unfolding count
-count-snoc f [] y = go (f y)
-  where
-    go : (t : Bool) → cond t 1 0 ≡ cond t 1 0 + 0
-    go true = refl
-    go false = refl
-count-snoc f (x ∷ xs) y = go (f x) (count-snoc f xs y)
-  where
-    go : (t : Bool) → count f (xs ++ (y ∷ [])) ≡ cond (f y) 1 0 + count f xs
-        → cond t (suc (count f (xs ++ (y ∷ [])))) (count f (xs ++ (y ∷ []))) ≡ cond (f y) 1 0 + cond t (suc (count f xs)) (count f xs)
-    go true h = omega arith
-    go false h = h
-
 one-more : (N e i w : ℕ) → e % N ≡ w → i ≡ w → erasesAt N (suc e) i ≡ suc (erasesAt N e i)
-unfolding turns
-one-more N e i w m h = rw (count-snoc (λ x. eqb i x) (turns N e) (e % N), eq-eqb i (e % N) (h ∙ sym m)) (omega arith)
+unfolding turns count
+one-more N e i w m h = rw (count-append (λ x. eqb i x) (turns N e) (e % N ∷ []), eq-eqb i (e % N) (h ∙ sym m)) (omega arith)
 
 no-more : (N e i w : ℕ) → e % N ≡ w → (i ≡ w → ⊥) → erasesAt N (suc e) i ≡ erasesAt N e i
-unfolding turns
-no-more N e i w m h = rw (count-snoc (λ x. eqb i x) (turns N e) (e % N), ne-eqb i (e % N) (λ p. h (p ∙ m))) (omega arith)
+unfolding turns count
+no-more N e i w m h = rw (count-append (λ x. eqb i x) (turns N e) (e % N ∷ []), ne-eqb i (e % N) (λ p. h (p ∙ m))) (omega arith)
 
 -- after q rounds over all N and w more, index i has q erases, and one more if i < w
 record Even (N e : ℕ) : Type 0 where

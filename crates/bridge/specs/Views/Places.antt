@@ -1,20 +1,21 @@
 -- One slot of a view among the others: what changing it changes, and where the first live slot of a block and the top's first empty slot are.
-use Prim.Native.Nat.{ℕ, suc, _+_, _-_, _≤_}
+use Prim.Native.Nat.{ℕ, zero, suc, _+_, _-_, _≤_, _<_}
 use mathlib.Core.Path.{_≡_, refl, sym, ap, _∙_}
 use mathlib.Core.Bool.{Bool, true, false, cond, _||_, _&&_, false≢true, and-eq-true-iff}
 use mathlib.Core.List.{List, [], _∷_, _++_, flatMap, flatten, append-assoc, append-nil}
 use native.Mathlib.Omega.{arith}
-use lib.ListN.{length, length-append}
-use lib.Seq.{set-at, getD-at}
+use lib.ListN.{length, getD, length-append}
+use lib.Seq.{getD-append-seam, set-at, getD-at}
 use lib.Dec.{eqb}
 use borrow.Author.Tests.{eqb-true, not-true}
 use Rattle.model.specs.Lists.{all}
 use Rattle.model.specs.Slot.{Slot, empty, torn, dead, wrong, live, isEmpty, entryOf}
 use Rattle.model.specs.State.{View, entries, entriesIn, holds, emptyLast, onlyTopEmpty, slotFrom, placeFrom, placeOf}
 use Rattle.model.specs.Steps.{topRow, topNumber, hasRoom, firstEmpty}
+use Rattle.model.specs.Laws.Lists.{all-append, flatten-append}
+use Rattle.model.specs.Laws.Tables.{holds-append, withoutFirst, without-first-at}
 use Rattle.bridge.specs.Predicted.{slotChanged, written, marked, Rows}
-use Rattle.bridge.specs.Views.Tables.{holds-append, withoutFirst, without-first-at}
-use Rattle.bridge.specs.Views.Slots.{full, all-append, flatten-append, entries-append, entries-cons, all-empty-entries, first-empty, top-row, find-top, only-top-empty}
+use Rattle.bridge.specs.Views.Slots.{full, entries-append, entries-cons, all-empty-entries, first-empty, top-row, find-top, only-top-empty}
 
 -- ---- rows with one slot left out
 
@@ -95,6 +96,36 @@ fill-changed v g k m n j h p q =
     rw (h, getD-at (g .rowsBefore) (g .before ++ (k ∷ g .after)) (g .rowsAfter) [] (n - v .first) i,
         set-at (g .before) k (g .after) m j (sym q),
         set-at (g .rowsBefore) (g .before ++ (k ∷ g .after)) (g .rowsAfter) (g .before ++ (m ∷ g .after)) (n - v .first) i)
+
+-- ---- where it stands, by row and place
+
+module _ (g : Gap) (k : Slot) where
+  pub gap-row : getD (fill g k) (length (g .rowsBefore)) [] ≡ g .before ++ (k ∷ g .after)
+  gap-row = getD-append-seam (g .rowsBefore) (g .before ++ (k ∷ g .after)) (g .rowsAfter) []
+
+  gap-inside : length (g .rowsBefore) < length (fill g k)
+  gap-inside = omega (arith, fill-length g k)
+
+  pub gap-slot : getD (getD (fill g k) (length (g .rowsBefore)) []) (length (g .before)) empty ≡ k
+  gap-slot = ap (λ (y : List Slot). getD y (length (g .before)) empty) gap-row ∙ getD-append-seam (g .before) k (g .after) empty
+
+  gap-short : (B : ℕ) → Rows B (fill g k) → length (g .before) < B
+  gap-short B r = let e : length (g .before ++ (k ∷ g .after)) ≡ B = ap length (sym gap-row) ∙ row (fill g k) (length (g .rowsBefore)) gap-inside r in
+      omega (arith, length-append (g .before) (k ∷ g .after))
+    where
+      row : (l : List (List Slot)) (i : ℕ) → i < length l → Rows B l → length (getD l i []) ≡ B
+      row [] i h r = absurd (omega arith)
+      row (x ∷ l) zero h r = r .0
+      row (x ∷ l) (suc i) h r = row l i (omega arith) (r .1)
+
+-- where a slot stands in a view with B slots to a row
+pub record InView (B : ℕ) (v : View) (g : Gap) (k : Slot) : Type 0 where
+  pub row : length (g .rowsBefore) < length (v .slots)
+  pub short : length (g .before) < B
+  pub kind : getD (getD (v .slots) (length (g .rowsBefore)) []) (length (g .before)) empty ≡ k
+
+pub in-view : (B : ℕ) (v : View) (g : Gap) (k : Slot) → v .slots ≡ fill g k → Rows B (v .slots) → InView B v g k
+in-view B v g k e r = record { row = rw e (gap-inside g k); short = gap-short g k B (rw e at r); kind = rw e (gap-slot g k) }
 
 -- ---- the first live slot of a block
 
@@ -261,3 +292,6 @@ written-entries b c v g = rw (all-before-top g, written-at b c v g) (shown (g .g
 pub written-place : (a b : ℕ) (c : List ℕ) (v : View) → TopGap v → holds a (entriesIn v) ≡ true → placeOf a (written b c v) ≡ placeOf a v
 unfolding placeOf
 written-place a b c v g h = rw (written-at b c v g, g .split) (place-earlier a (v .first) (g .gap) (live b c) empty (ap (holds a) (sym (all-before-top g)) ∙ h))
+
+pub written-holds : (b : ℕ) (c : List ℕ) (v : View) → TopGap v → holds b (entriesIn v) ≡ true → holds b (entriesIn (written b c v)) ≡ true
+written-holds b c v g h = ap (holds b) (written-entries b c v g) ∙ (holds-append b (entriesIn v) (record { block = b; contents = c } ∷ []) ∙ rw h)

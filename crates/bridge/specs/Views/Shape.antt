@@ -11,8 +11,9 @@ use Rattle.model.specs.Lists.{all}
 use Rattle.model.specs.Slot.{Slot, empty, dead, live, isEmpty, isTorn, isWrong, Entry}
 use Rattle.model.specs.State.{View, entries, entriesIn, holds, distinct, noneWrongOrTorn, blocksDistinct, emptyLast, onlyTopEmpty, emptySlotsLast, capacity, withinCapacity, placeOf}
 use Rattle.model.specs.Steps.{topRow, topNumber, hasRoom, copied, openNext, compactOldest}
+use Rattle.model.specs.Laws.Lists.{all-append, all-join, all-parts, flatten-last}
 use Rattle.bridge.specs.Predicted.{Rows, CleanView, written, marked}
-use Rattle.bridge.specs.Views.Slots.{full, sound, all-append, all-join, all-parts, flatten-last, entries-append, entries-length, rows-append, full-then, all-empty-last, top-row, find-top, only-top-empty, copied-entries, copied-length, copied-sound, copied-empty-last, copied-full, copied-none}
+use Rattle.bridge.specs.Views.Slots.{full, sound, entries-append, entries-length, rows-append, full-then, all-empty-last, top-row, find-top, only-top-empty, copied-entries, copied-length, copied-sound, copied-empty-last, copied-full, copied-none}
 use Rattle.bridge.specs.Views.Places.{Gap, fill, fill-all, fill-length, fill-rows, fill-empty-last, FirstLive, first-live, marked-at, TopGap, top-gap, written-at}
 
 -- conditions 1, 5 and 7
@@ -53,13 +54,17 @@ changed-shape N B v g k m h p e s =
       ; sound = fill-all (λ x. not (isWrong x || isTorn x)) g k m p (rw h at (s .sound))
       ; last = e }
 
-pub written-shape : {N B : ℕ} {v : View} (b : ℕ) (c : List ℕ) → Shape N B v → TopGap v → Shape N B (written b c v)
-unfolding isWrong isTorn
-written-shape {N} {B} {v} b c s g = rw (written-at b c v g) (changed-shape N B v (g .gap) empty (live b c) (g .split) refl (ends (g .gap) (g .isTop) (g .fullRows) (g .fullBefore) (g .emptyAfter)) s)
+-- a sound slot at the top's first empty place
+pub filled-shape : {N B : ℕ} {v : View} (k : Slot) → not (isWrong k || isTorn k) ≡ true → isEmpty k ≡ false → Shape N B v → (g : TopGap v) → Shape N B (record { first = v .first; slots = fill (g .gap) k })
+filled-shape {N} {B} {v} k p q s g = changed-shape N B v (g .gap) empty k (g .split) p (ends (g .gap) (g .isTop) (g .fullRows) (g .fullBefore) (g .emptyAfter)) s
   where
-    ends : (p : Gap) → p .rowsAfter ≡ [] → all (λ x. full x) (p .rowsBefore) ≡ true → full (p .before) ≡ true → all isEmpty (p .after) ≡ true → onlyTopEmpty (fill p (live b c)) ≡ true
-    ends p z f l r = rw (z, only-top-empty (p .rowsBefore) (p .before ++ (live b c ∷ p .after)), f, full-then (p .before) (live b c ∷ p .after) l)
-        (unfold emptyLast isEmpty in all-empty-last (p .after) r)
+    ends : (p : Gap) → p .rowsAfter ≡ [] → all (λ x. full x) (p .rowsBefore) ≡ true → full (p .before) ≡ true → all isEmpty (p .after) ≡ true → onlyTopEmpty (fill p k) ≡ true
+    ends p z f l r = rw (z, only-top-empty (p .rowsBefore) (p .before ++ (k ∷ p .after)), f, full-then (p .before) (k ∷ p .after) l)
+        (unfold emptyLast in (rw q (all-empty-last (p .after) r)))
+
+pub written-shape : {N B : ℕ} {v : View} (b : ℕ) (c : List ℕ) → Shape N B v → TopGap v → Shape N B (written b c v)
+unfolding isWrong isTorn isEmpty
+written-shape {N} {B} {v} b c s g = rw (written-at b c v g) (filled-shape (live b c) refl refl s g)
 
 pub marked-shape : {N B : ℕ} {v : View} (b : ℕ) → Shape N B v → FirstLive b (v .first) (v .slots) → Shape N B (marked (placeOf b v) v)
 unfolding isWrong isTorn isEmpty emptySlotsLast

@@ -3,7 +3,7 @@ use Prim.Native.Nat.{ℕ, zero, suc, _+_, _-_, _*_, _≤_, _<_}
 use mathlib.Core.Path.{_≡_, refl, sym, ap, _∙_}
 use mathlib.Core.List.{List, [], _∷_, _++_, append-assoc}
 use native.Mathlib.Omega.{arith}
-use lib.ListN.{length, getD, take, drop, set, replicate, length-take, length-drop, length-append, length-replicate, replicate-append-replicate}
+use lib.ListN.{length, getD, take, drop, set, replicate, length-take, length-drop, length-replicate, replicate-append-replicate}
 use lib.Seq.{take-set-lt, drop-set-lt, take-set-le, drop-set-add, getD-take, getD-drop, take-at, drop-at, length-take-le, take-add, drop-drop}
 use Rattle.model.specs.Lists.{chunk}
 
@@ -96,7 +96,8 @@ pub chunk-replicate : {A : Type 0} (c z : ℕ) (x : A) → chunk c z (replicate 
 unfolding chunk
 chunk-replicate zero z x = refl
 chunk-replicate (suc c) z x = let e : suc c * z ≡ z + c * z = omega arith in
-    rw (e, ← (replicate-append-replicate z (c * z) x), take-at (replicate z x) (replicate (c * z) x) z (length-replicate z x), drop-at (replicate z x) (replicate (c * z) x) z (length-replicate z x), chunk-replicate c z x)
+    rw (e, ← (replicate-append-replicate z (c * z) x), take-at (replicate z x) (replicate (c * z) x) z (length-replicate z x),
+        drop-at (replicate z x) (replicate (c * z) x) z (length-replicate z x), chunk-replicate c z x)
 
 -- a replaced part, by index
 pub replace-part : {A : Type 0} (l : List A) (i : ℕ) (x : A) → i < length l → take i l ++ ((x ∷ []) ++ drop (i + 1) l) ≡ set l i x

@@ -1,24 +1,21 @@
 -- What copying entries to a blank segment makes of it: in use and owing, with those entries in its first slots.
-use Prim.Native.Nat.{ℕ, zero, suc, _+_, _-_, _*_, _/_, _%_, _≤_, _<_}
-use mathlib.Core.Path.{_≡_, refl, sym, ap, ap₂, _∙_, subst}
-use mathlib.Core.Logic.{_≢_}
-use mathlib.Core.Bool.{Bool, true, false}
+use Prim.Native.Nat.{ℕ, zero, suc, _+_, _-_, _*_, _%_, _≤_, _<_}
+use mathlib.Core.Path.{_≡_, refl, sym, ap, ap₂, _∙_}
 use mathlib.Core.List.{List, [], _∷_, _++_, map}
 use native.Mathlib.Omega.{arith}
 use native.Mathlib.Nat.{mod-lt}
 use lib.ListN.{length, getD, drop, set, replicate, length-set}
-use lib.Seq.{set-set, getD-set-same, getD-set-other, sets, length-sets}
-use Rattle.model.specs.Chip.{Image, Page, Step, erased, run, mostSegments, numberLimit, imageLength, Cut}
+use lib.Seq.{getD-set-same, getD-set-other, sets, length-sets}
+use Rattle.model.specs.Chip.{Image, Page, Step, erased, run, mostSegments, numberLimit, imageLength}
 use Rattle.model.specs.Header.{erasePending, headerPage, oldIndex}
 use Rattle.model.specs.Slot.{Slot, empty, slotPage, slotOf, Entry, holding}
 use Rattle.model.specs.State.{Segment, blank, inUse, segmentOf, segmentsOf}
 use Rattle.model.specs.Steps.{onPage, headerAt, slotAt, writeSlot, copyEntries, copyOut, copied}
 use Rattle.model.specs.Laws.Chip.{run-append, run-length}
-use Rattle.model.specs.Laws.Pages.{InPage}
-use Rattle.model.specs.Laws.Segments.{partOf, part-size, Only, only-refl, only-trans, only-segments, only-run, page-in-segment, InSegment, in-segment-append, part-run}
 use Rattle.model.specs.Laws.HeaderPage.{compactionHeader, pendingHeader, copy-out-pages, compaction-in-page, pending-in-page, begunPage, compaction-run, pending-run}
 use Rattle.model.specs.Laws.SlotPage.{Valid, slot-live, write-in-page, write-run}
-use Rattle.model.specs.Laws.Effects.{blank-page, blank-slots, headed, header-run, pending-status, pending-old, place, few}
+use Rattle.model.specs.Laws.Segments.{partOf, part-size, Only, only-trans, only-segments, only-run, page-in-segment, InSegment, in-segment-append, part-run}
+use Rattle.model.specs.Laws.Effects.{blank-page, blank-slots, headed, header-run, pending-status, pending-old, few}
 
 abbrev pub Valids : List Entry → Type 0
 Valids [] = Unit {0}
@@ -46,7 +43,7 @@ entry-slots : (es : List Entry) (qs : List Page) (c : ℕ) → Valids es → map
 unfolding entryPages copied holding
 entry-slots [] qs c v e h = let z : c - 0 ≡ c = omega arith in rw z e
 entry-slots (x ∷ es) [] zero v e h = absurd (omega arith)
-entry-slots (x ∷ es) [] (suc c) v e h = absurd (let y : _≡_ {A = ℕ} 0 1 = cc in omega arith)
+entry-slots (x ∷ es) [] (suc c) v e h = cc
 entry-slots (x ∷ es) (q ∷ qs) zero v e h = absurd (omega arith)
 entry-slots (x ∷ es) (q ∷ qs) (suc c) v e h =
     let d : suc c - suc (length es) ≡ c - length es = omega arith in
@@ -79,7 +76,8 @@ module _ (N B : ℕ) (two : 2 ≤ N) (n : ℕ) where
       let page = slotPage (x .block) (x .contents) in
       let here : partOf N B i t ≡ set (partOf N B i s) (suc j) page =
             part-run N B i (suc j) target (omega arith) (writeSlot (x .block) (x .contents)) (write-in-page (x .block) (x .contents) (v .0 .short)) s z
-            ∙ ap (λ (y : Page). set (partOf N B i s) (suc j) y) (ap (λ (y : Page). run B (writeSlot (x .block) (x .contents)) y) (e (suc j) (omega arith) (omega arith)) ∙ write-run B (x .block) (x .contents) (v .0)) in
+            ∙ ap (λ (y : Page). set (partOf N B i s) (suc j) y)
+              (ap (λ (y : Page). run B (writeSlot (x .block) (x .contents)) y) (e (suc j) (omega arith) (omega arith)) ∙ write-run B (x .block) (x .contents) (v .0)) in
       ap (λ y. partOf N B i y) (run-append B xs (copyEntries N B n (suc j) es) s)
       ∙ (copy-run es (suc j) t (run-length B xs s ∙ z) (v .1) (omega arith)
           (λ q lo hi. ap (λ (y : List Page). getD y q []) here ∙ (getD-set-other (partOf N B i s) (suc j) q page [] (λ w. omega arith) ∙ e q (omega arith) (omega arith)))
@@ -105,7 +103,8 @@ module _ (N B : ℕ) (two : 2 ≤ N) (most : N ≤ mostSegments) (mostB : B < 25
   z1 : length s1 ≡ imageLength N B
   z1 = run-length B begin s ∙ z
 
-  begun : (Only N B i s s1) × (partOf N B i s1 ≡ set ps 0 (begunPage N B (o % N)))
+  -- the header begun
+  pub begun : (Only N B i s s1) × (partOf N B i s1 ≡ set ps 0 (begunPage N B (o % N)))
   begun =
       let r = header-run N B two most mostB s z n below (compactionHeader N B n (o % N)) (compaction-in-page N B n (o % N)) in
       (r .0, r .1 ∙ ap (λ (y : Page). set ps 0 y) (ap (λ (y : Page). run B (compactionHeader N B n (o % N)) y) (blank-page N B two s z i 0 (target N B two n) (omega arith) free)
@@ -161,5 +160,6 @@ module _ (N B : ℕ) (two : 2 ≤ N) (most : N ≤ mostSegments) (mostB : B < 25
       ap (λ y. segmentsOf N B y) the-run
       ∙ (only-segments N B i s s3 (only-trans N B i s s2 s3 (only-trans N B i s s1 s2 (begun .0) (copied-pages .0)) (finished .0))
       ∙ ap (λ (y : Segment). set (segmentsOf N B s) i y) (ap (λ y. segmentOf N B i y) (finished .1)
-        ∙ (headed N B erasePending n pages2 most pending-status below (omega (arith, length-sets (set ps 0 (begunPage N B (o % N))) 1 (entryPages es), length-set ps 0 (begunPage N B (o % N)), part-size N B i s (target N B two n)))
+        ∙ (headed N B erasePending n pages2 most pending-status below
+            (omega (arith, length-sets (set ps 0 (begunPage N B (o % N))) 1 (entryPages es), length-set ps 0 (begunPage N B (o % N)), part-size N B i s (target N B two n)))
         ∙ ap (λ y. inUse erasePending n y) slots2)))

@@ -7,14 +7,13 @@ use native.Mathlib.Omega.{arith}
 use lib.ListN.{length, getD, set}
 use lib.Seq.{set-getD, getD-set-same}
 use Rattle.model.specs.Chip.{Image, Page, Step, program, clear, erased, step, run, Cut}
-use Rattle.model.specs.Header.{openingBegun, opened, compactionBegun, erasePending, compacted, noOldSegment, headerPage}
+use Rattle.model.specs.Header.{openingBegun, opened, compactionBegun, erasePending, noOldSegment, headerPage}
 use Rattle.model.specs.Slot.{writeBegun, written, slotPage, empty, torn, live, slotOf}
-use Rattle.model.specs.Steps.{programPart, writeSlot, markDead}
-use Rattle.model.specs.Laws.Chip.{run-append, cut-append, cut-length}
-use Rattle.model.specs.Laws.Bytes.{clear-erased, erased-get, erased-length, OneBit, begun-bit, written-bit, live-dead-bit, torn-dead-bit, compaction-begun-bit, erase-pending-bit, compacted-bit}
+use Rattle.model.specs.Steps.{programPart, writeSlot}
+use Rattle.model.specs.Laws.Chip.{run-append, cut-append}
+use Rattle.model.specs.Laws.Bytes.{clear-erased, erased-get, erased-length, OneBit, begun-bit, written-bit, live-dead-bit, torn-dead-bit, compaction-begun-bit, erase-pending-bit}
 use Rattle.model.specs.Laws.Programs.{Spares, spares-append, spares-part, spared-run, spared-cut}
-use Rattle.model.specs.Laws.HeaderPage.{erased-bit-6, openingHeader, compactionHeader, pendingHeader, settledHeader, begunPage}
-use Rattle.model.specs.Laws.HeaderPage.{opening-run, pending-run, settled-run, clear-begun, clear-compaction, clear-pending}
+use Rattle.model.specs.Laws.HeaderPage.{erased-bit-6, openingHeader, compactionHeader, pendingHeader, begunPage, opening-run, pending-run, clear-begun, clear-compaction}
 use Rattle.model.specs.Laws.SlotPage.{Valid, slot-live, erased-empty, begun-torn, writeMiddle, write-parts, write-run, Markable, clear-live, clear-torn, clear-written}
 
 -- ---- a status of one bit, programmed first or last
@@ -83,19 +82,15 @@ write-cut B b c u v k =
       (status-cut B 0 writeBegun written (writeMiddle b c) (erased 256) u (omega (arith, erased-length 256)) (rw (e, f) begun-bit) (rw (e, f, clear-written) written-bit)
         (write-spares b c) (rw (write-parts b c) at k))
 
-pub write-cut-length : (B b : ℕ) (c : List ℕ) (u : Page) → Cut B (writeSlot b c) (erased 256) u → length u ≡ 256
-write-cut-length B b c u k = cut-length B (writeSlot b c) (erased 256) u k ∙ erased-length 256
-
 pub write-cut-kind : (B b : ℕ) (c : List ℕ) (u : Page) → Valid b c → Cut B (writeSlot b c) (erased 256) u
     → (slotOf u ≡ empty) ⊎ ((slotOf u ≡ torn) ⊎ (slotOf u ≡ live b c))
 write-cut-kind B b c u v k =
     ⊎-elim (λ e. inl (ap slotOf e ∙ erased-empty)) (λ h. inr (⊎-elim (λ e. inl (begun-torn u e)) (λ e. inr (ap slotOf e ∙ slot-live b c (v .number) (v .short))) h)) (write-cut B b c u v k)
 
 -- marked or not
-pub mark-cut : (B : ℕ) (p u : Page) → Markable (getD p 0 0) → Cut B markDead p u → (u ≡ p) ⊎ (u ≡ run B markDead p)
-unfolding markDead
-mark-cut B p u (inl e) k = one-bit-cut B 0 0xDF p u (rw (e, clear-live) live-dead-bit) k
-mark-cut B p u (inr e) k = one-bit-cut B 0 0xDF p u (rw (e, clear-torn) torn-dead-bit) k
+pub mark-bit : (a : ℕ) → Markable a → OneBit (clear a 0xDF) a
+mark-bit a (inl e) = rw (e, clear-live) live-dead-bit
+mark-bit a (inr e) = rw (e, clear-torn) torn-dead-bit
 
 -- ---- a header: finished, or bit 6 of its status is still set
 
@@ -159,11 +154,3 @@ pending-cut N B n old u k =
     let e = begun-status N B old in
     ⊎-elim (λ g. inl (bit-6 compactionBegun u (g ∙ e) refl)) (λ g. inr (g ∙ pending-run N B n old))
       (finish-cut B 5 erasePending (programPart h 8 8) (begunPage N B old) u (rw (e, clear-compaction) erase-pending-bit) (spares-part 5 h 8 8 (inl (omega arith))) k)
-
--- the last status of a compaction: programmed or not
-pub settled-cut : (N B n old : ℕ) (u : Page) → Cut B settledHeader (headerPage N B erasePending n old) u
-    → (u ≡ headerPage N B erasePending n old) ⊎ (u ≡ headerPage N B compacted n old)
-unfolding settledHeader
-settled-cut N B n old u k =
-    let e : getD (headerPage N B erasePending n old) 5 0 ≡ erasePending = unfold headerPage in refl in
-    ⊎-elim (λ g. inl g) (λ g. inr (g ∙ settled-run N B n old)) (one-bit-cut B 5 compacted (headerPage N B erasePending n old) u (rw (e, clear-pending) compacted-bit) k)

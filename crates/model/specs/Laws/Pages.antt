@@ -1,22 +1,20 @@
 -- The pages of a run are the run of the pages. A step inside a page changes that page only; an erase, that segment only.
-use Prim.Native.Nat.{ℕ, zero, suc, _+_, _-_, _*_, _/_, _%_, _≤_, _<_}
-use mathlib.Core.Path.{_≡_, refl, sym, ap, ap₂, _∙_, subst}
-use mathlib.Core.Logic.{_⊎_, inl, inr}
-use mathlib.Core.Bool.{Bool, true, false, cond}
-use mathlib.Core.List.{List, [], _∷_, _++_, append-assoc}
+use Prim.Native.Nat.{ℕ, suc, _+_, _-_, _*_, _/_, _%_, _≤_, _<_}
+use mathlib.Core.Path.{_≡_, refl, sym, ap, _∙_}
+use mathlib.Core.Logic.{inl, inr}
+use mathlib.Core.List.{List, [], _∷_, _++_}
 use native.Mathlib.Omega.{arith}
-use native.Mathlib.Nat.{div-add-mod', mul-le-mul-right, suc-mul}
+use native.Mathlib.Nat.{div-add-mod'}
 use native.Mathlib.Decide.{decLt, decLe}
-use lib.ListN.{length, getD, take, drop, set, replicate, length-set, length-replicate, length-take, length-drop}
+use lib.ListN.{length, getD, take, drop, set, replicate, length-set, length-replicate, length-take}
 use lib.Seq.{set-out, set-set, set-getD, getD-set-same}
-use lib.Dec.{leb}
 use borrow.Author.Tests.{le-leb, lt-leb}
 use Rattle.model.specs.Lists.{chunk}
-use Rattle.model.specs.Chip.{Image, Page, Step, program, erase, clear, erased, withSegment, step, run, imageLength, pagesOf, Inside, Cut}
-use Rattle.model.specs.Pages.{programPage, stepPages, runPages}
+use Rattle.model.specs.Chip.{Image, Page, Step, program, erase, clear, erased, withSegment, step, run, imageLength, pagesOf, Cut}
 use Rattle.model.specs.Steps.{programs, programPart, onPage}
-use Rattle.model.specs.Laws.Chip.{step-length}
+use Rattle.model.specs.Pages.{programPage, stepPages, runPages}
 use Rattle.model.specs.Laws.Chunk.{chunk-length, chunk-set, chunk-get, chunk-replace, chunk-replicate}
+use Rattle.model.specs.Laws.Chip.{step-length}
 
 -- ---- the pages of a run
 
@@ -48,11 +46,6 @@ pub pages-run : (N B : ℕ) (xs : List Step) (s : Image) → length s ≡ imageL
 unfolding run runPages
 pages-run N B [] s h = refl
 pages-run N B (x ∷ xs) s h = pages-run N B xs (step B x s) (step-length B x s ∙ h) ∙ ap (λ y. runPages B xs y) (pages-step N B x s h)
-
-pub runPages-append : (B : ℕ) (xs ys : List Step) (ps : List Page) → runPages B (xs ++ ys) ps ≡ runPages B ys (runPages B xs ps)
-unfolding runPages
-runPages-append B [] ys ps = refl
-runPages-append B (x ∷ xs) ys ps = runPages-append B xs ys (stepPages B x ps)
 
 -- ---- steps inside one page
 

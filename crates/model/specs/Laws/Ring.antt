@@ -1,16 +1,15 @@
 -- The segments as a ring: how the numbers, the count and the slots of those in use change when one segment is replaced.
-use Prim.Native.Nat.{ℕ, zero, suc, _+_, _-_, _*_, _/_, _%_, max, _≤_, _<_}
+use Prim.Native.Nat.{ℕ, zero, suc, _+_, _-_, _%_, max, _≤_, _<_}
 use mathlib.Core.Path.{_≡_, refl, sym, ap, ap₂, _∙_, subst}
 use mathlib.Core.Logic.{_≢_}
-use mathlib.Core.Bool.{Bool, true, false, cond, _&&_, not}
+use mathlib.Core.Bool.{true, false, _&&_}
 use mathlib.Core.List.{List, [], _∷_, _++_}
 use native.Mathlib.Omega.{arith}
 use native.Mathlib.Nat.{mod-lt}
-use lib.ListN.{length, getD, set, length-set, length-append}
+use lib.ListN.{length, getD, set, length-set}
 use lib.Seq.{set-getD, set-set, getD-set-same, getD-set-other}
 use lib.Dec.{eqb}
 use borrow.Author.Tests.{eqb-true, eq-eqb}
-use Rattle.model.specs.Lists.{count}
 use Rattle.model.specs.Slot.{Slot}
 use Rattle.model.specs.State.{Segment, blank, invalid, inUse, isInUse, numberAfter, slotsIn, nextNumber, usedCount, slotsFrom, numbersFrom}
 use Rattle.model.specs.Laws.Lists.{and-left, and-right, and-both, one, count-set, count-none, mod-inj}
@@ -34,7 +33,8 @@ pub next-same : (l : List Segment) (i : ℕ) (y : Segment) → numberAfter (getD
 next-same l i y h g =
     let a = next-set-le l i y in
     let b : nextNumber l ≤ max (nextNumber (set l i y)) (numberAfter (getD l i blank)) =
-        subst (λ (v : List Segment). nextNumber v ≤ max (nextNumber (set l i y)) (numberAfter (getD l i blank))) (set-set l i y (getD l i blank) ∙ set-getD l i blank) (next-set-le (set l i y) i (getD l i blank)) in
+        subst (λ (v : List Segment). nextNumber v ≤ max (nextNumber (set l i y)) (numberAfter (getD l i blank)))
+          (set-set l i y (getD l i blank) ∙ set-getD l i blank) (next-set-le (set l i y) i (getD l i blank)) in
     omega arith
 
 -- the same number: nothing changes

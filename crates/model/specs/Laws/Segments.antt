@@ -1,20 +1,17 @@
 -- Steps inside one segment, whole or cut, change that segment only, and an erase does too.
 use Prim.Native.Nat.{ℕ, zero, suc, _+_, _-_, _*_, _/_, _%_, _≤_, _<_}
-use mathlib.Core.Path.{_≡_, refl, sym, ap, ap₂, _∙_, subst}
-use mathlib.Core.Logic.{_⊎_, inl, inr}
-use mathlib.Core.Bool.{Bool, true, false, cond}
-use mathlib.Core.List.{List, [], _∷_, _++_, append-nil}
+use mathlib.Core.Path.{_≡_, refl, sym, ap, _∙_, subst}
+use mathlib.Core.Logic.{inl, inr}
+use mathlib.Core.List.{List, [], _∷_, _++_}
 use native.Mathlib.Omega.{arith}
-use native.Mathlib.Nat.{div-add-mod', mul-le-mul-right, suc-mul, add-mul, mul-assoc}
-use lib.ListN.{length, getD, take, drop, set, length-set, length-take, length-drop, length-replicate}
-use lib.Seq.{set-set, set-getD, getD-set-same, getD-set-other}
-use lib.Dec.{leb}
+use native.Mathlib.Nat.{div-add-mod', mul-le-mul-right, suc-mul}
+use lib.ListN.{length, getD, take, drop, set, length-take, length-drop}
+use lib.Seq.{set-set, set-getD, getD-set-same}
 use borrow.Author.Tests.{le-leb}
 use Rattle.model.specs.Lists.{chunk}
-use Rattle.model.specs.Chip.{Image, Page, Step, program, erase, clear, erased, withSegment, segmentBytes, step, run, imageLength, pagesOf, bySegment, Raised, Inside, Cut}
-use Rattle.model.specs.State.{Segment, blank, segmentOf, segmentsFrom, segmentsOn, segmentsOf}
+use Rattle.model.specs.Chip.{Image, Page, Step, program, erase, clear, erased, withSegment, segmentBytes, step, run, imageLength, pagesOf, bySegment, Cut}
+use Rattle.model.specs.State.{blank, segmentOf, segmentsFrom, segmentsOn, segmentsOf}
 use Rattle.model.specs.Steps.{onPage}
-use Rattle.model.specs.Laws.Chip.{step-length, run-length, raised-length}
 use Rattle.model.specs.Laws.Chunk.{chunk-length, chunk-set, chunk-get, part-length, chunk-replace, replace-part}
 use Rattle.model.specs.Laws.Pages.{pages-run, InPage, run-on-page, cut-on-page}
 
@@ -110,7 +107,8 @@ byte-parts N B i q k v s h j l =
     let p = i * (B + 1) + q in
     let a : chunk (N * (B + 1)) 256 (set s (p * 256 + k) v) ≡ set (chunk (N * (B + 1)) 256 s) p (set (getD (chunk (N * (B + 1)) 256 s) p []) k v) = chunk-set 256 (N * (B + 1)) p k v s l in
     let b = chunk-set (B + 1) N i q (set (getD (chunk (N * (B + 1)) 256 s) p []) k v) (chunk (N * (B + 1)) 256 s) j in
-    ap (λ (y : List Page). chunk N (B + 1) y) a ∙ (b ∙ ap (λ (y : Page). set (chunk N (B + 1) (chunk (N * (B + 1)) 256 s)) i (set (getD (chunk N (B + 1) (chunk (N * (B + 1)) 256 s)) i []) q (set y k v))) (sym (part-page N B i q s h j)))
+    ap (λ (y : List Page). chunk N (B + 1) y) a
+    ∙ (b ∙ ap (λ (y : Page). set (chunk N (B + 1) (chunk (N * (B + 1)) 256 s)) i (set (getD (chunk N (B + 1) (chunk (N * (B + 1)) 256 s)) i []) q (set y k v))) (sym (part-page N B i q s h j)))
 
 -- an offset inside segment i
 abbrev pub Within : ℕ → ℕ → ℕ → Type 0

@@ -1,20 +1,20 @@
 -- The view after one segment is replaced: a slot changed, a segment opened, erased, or compacted to another.
-use Prim.Native.Nat.{ℕ, zero, suc, _+_, _-_, _*_, _/_, _%_, max, _≤_, _<_}
-use mathlib.Core.Path.{_≡_, refl, sym, ap, ap₂, _∙_, subst}
+use Prim.Native.Nat.{ℕ, zero, suc, _+_, _-_, _%_, _≤_, _<_}
+use mathlib.Core.Path.{_≡_, refl, sym, ap, ap₂, _∙_}
 use mathlib.Core.Logic.{_≢_}
-use mathlib.Core.Bool.{Bool, true, false, cond, _&&_, not}
+use mathlib.Core.Bool.{Bool, true, false, not, true≢false}
 use mathlib.Core.List.{List, [], _∷_, _++_}
 use native.Mathlib.Omega.{arith}
 use native.Mathlib.Decide.{decLt}
 use lib.ListN.{length, getD, drop, set, length-set}
-use lib.Seq.{getD-set-same, getD-set-other, set-comm}
+use lib.Seq.{getD-set-same, getD-set-other}
 use lib.Dec.{eqb}
 use Rattle.model.specs.Lists.{all}
-use Rattle.model.specs.Header.{opened, erasePending, compacted}
+use Rattle.model.specs.Header.{erasePending}
 use Rattle.model.specs.Slot.{Slot}
 use Rattle.model.specs.State.{Segment, blank, invalid, inUse, isInUse, isInvalid, isOwing, numberAfter, slotsIn, nextNumber, nextIndex, usedCount, firstNumber, slotsFrom, numbersFrom, View, viewOf, noneOwing, othersBlank, withSlot}
 use Rattle.model.specs.Laws.Lists.{and-left, and-right, and-both, all-set, mod-inj}
-use Rattle.model.specs.Laws.Ring.{Apart, apart-after, apart-before, apart-later, next-kept, next-raised, next-same, used-kept, used-more, used-less, slots-apart, slots-kept, slots-get, slots-snoc, slots-length, numbers-apart, numbers-kept, numbers-snoc, number-in-use}
+use Rattle.model.specs.Laws.Ring.{Apart, apart-after, next-kept, next-raised, next-same, used-kept, used-more, used-less, slots-apart, slots-kept, slots-get, slots-snoc, slots-length, numbers-apart, numbers-kept, numbers-snoc, number-in-use}
 use Rattle.model.specs.Laws.Clean.{RingFacts, used-next, two-segments, index-inside, numbered, next-unused, next-apart}
 
 -- slot j of the segment with number n changed
@@ -177,16 +177,14 @@ erased-unused-view N l i h e =
     rw (used-kept l i blank h (unfold isInUse in sym e), next-kept l i blank (number (getD l i blank) e))
       (ap (λ (y : List (List Slot)). record { first = nextNumber l - usedCount l; slots = y }) (slots-kept N i blank l (usedCount l) (nextNumber l - usedCount l) (slots (getD l i blank) e)))
   where
-    no : true ≡ false → ⊥
-    no q = let y : _≡_ {A = ℕ} 0 1 = cc in omega arith
     number : (x : Segment) → isInUse x ≡ false → numberAfter blank ≡ numberAfter x
     number blank q = refl
     number invalid q = unfold numberAfter in refl
-    number (inUse st n ks) q = absurd (no (unfold isInUse in q))
+    number (inUse st n ks) q = absurd (true≢false (unfold isInUse in q))
     slots : (x : Segment) → isInUse x ≡ false → slotsIn blank ≡ slotsIn x
     slots blank q = refl
     slots invalid q = unfold slotsIn in refl
-    slots (inUse st n ks) q = absurd (no (unfold isInUse in q))
+    slots (inUse st n ks) q = absurd (true≢false (unfold isInUse in q))
 
 -- ---- a compaction: one more in use with the next number, and the oldest erased
 

@@ -9,10 +9,11 @@ use native.Mathlib.Decide.{ℕ-discrete}
 use lib.ListN.{length, length-append}
 use lib.Dec.{ltb, eqb}
 use borrow.Author.Tests.{ltb-true, ltb-false, lt-ltb, le-ltb, eqb-true, eqb-false, eq-eqb, ne-eqb, not-true}
 use Rattle.model.specs.Lists.{count}
 use Rattle.model.specs.Slot.{Entry}
 use Rattle.model.specs.State.{holds, distinct, copies}
-use Rattle.model.specs.Table.{Table, Found, absent, present, lookup, without, store, Agree}
+use Rattle.model.specs.Table.{Table, Found, absent, present, lookup, without, store, Agree, contentsFound}
+use Rattle.model.specs.Laws.Lists.{count-append}
 
 -- ---- holds and copies
 
@@ -20,15 +21,6 @@ pub holds-append : (b : ℕ) (x y : Table) → holds b (x ++ y) ≡ (holds b x |
 unfolding holds
 holds-append b [] y = refl
 holds-append b (e ∷ x) y = ap (λ t. eqb b (e .block) || t) (holds-append b x y) ∙ sym (or-assoc (eqb b (e .block)) (holds b x) (holds b y))
-
-pub count-append : {A : Type 0} (f : A → Bool) (x y : List A) → count f (x ++ y) ≡ count f x + count f y
-unfolding count
-count-append f [] y = omega arith
-count-append f (e ∷ x) y = go (f e) (count-append f x y)
-  where
-    go : (t : Bool) → count f (x ++ y) ≡ count f x + count f y → cond t (suc (count f (x ++ y))) (count f (x ++ y)) ≡ cond t (suc (count f x)) (count f x) + count f y
-    go true h = omega arith
-    go false h = h
 
 pub copies-append : (b : ℕ) (x y : Table) → copies b (x ++ y) ≡ copies b x + copies b y
 unfolding copies
@@ -91,35 +83,6 @@ distinct-swap x y h = copies-distinct (y ++ x) (λ b. omega (arith, distinct-cop
 
 -- ---- lookup
 
-pub lookup-absent : (b : ℕ) (t : Table) → holds b t ≡ false → lookup b t ≡ absent
-unfolding lookup holds
-lookup-absent b [] h = refl
-lookup-absent b (e ∷ t) h = go (eqb b (e .block)) h (λ k. lookup-absent b t k)
-  where
-    go : (x : Bool) → (x || holds b t) ≡ false → (holds b t ≡ false → lookup b t ≡ absent) → cond x (present (e .contents)) (lookup b t) ≡ absent
-    go true k ih = absurd (true≢false k)
-    go false k ih = ih k
-
-pub lookup-append : (b : ℕ) (x y : Table) → lookup b (x ++ y) ≡ cond (holds b x) (lookup b x) (lookup b y)
-unfolding lookup holds
-lookup-append b [] y = refl
-lookup-append b (e ∷ x) y = go (eqb b (e .block)) (lookup-append b x y)
-  where
-    go : (t : Bool) → lookup b (x ++ y) ≡ cond (holds b x) (lookup b x) (lookup b y)
-        → cond t (present (e .contents)) (lookup b (x ++ y)) ≡ cond (t || holds b x) (cond t (present (e .contents)) (lookup b x)) (lookup b y)
-    go true h = refl
-    go false h = h
-
--- two parts of a table with each block once may change places
-pub agree-swap : (x y : Table) → distinct (x ++ y) ≡ true → Agree (y ++ x) (x ++ y)
-agree-swap x y h b = rw (lookup-append b y x, lookup-append b x y) (go (holds b x) (holds b y) refl refl)
-  where
-    go : (s t : Bool) → holds b x ≡ s → holds b y ≡ t → cond t (lookup b y) (lookup b x) ≡ cond s (lookup b x) (lookup b y)
-    go true true p q = absurd (omega (arith, held-copies b x p, held-copies b y q, distinct-copies (x ++ y) h b, copies-append b x y))
-    go true false p q = refl
-    go false true p q = refl
-    go false false p q = lookup-absent b x p ∙ sym (lookup-absent b y q)
-
 isPresent : Found → Bool
 isPresent absent = false
 isPresent (present c) = true
@@ -133,8 +96,61 @@ holds-lookup b (e ∷ t) = go (eqb b (e .block)) (holds-lookup b t)
     go true h = refl
     go false h = h
 
+pub lookup-absent : (b : ℕ) (t : Table) → holds b t ≡ false → lookup b t ≡ absent
+unfolding isPresent
+lookup-absent b t e = go (lookup b t) (sym (holds-lookup b t) ∙ e)
+  where
+    go : (f : Found) → isPresent f ≡ false → f ≡ absent
+    go absent h = refl
+    go (present c) h = absurd (true≢false h)
+
+pub lookup-held : (b : ℕ) (t : Table) → holds b t ≡ true → lookup b t ≡ present (contentsFound (lookup b t))
+unfolding isPresent contentsFound
+lookup-held b t e = go (lookup b t) (sym (holds-lookup b t) ∙ e)
+  where
+    go : (f : Found) → isPresent f ≡ true → f ≡ present (contentsFound f)
+    go absent h = absurd (false≢true h)
+    go (present c) h = refl
+
+-- and back
+pub absent-free : (b : ℕ) (t : Table) → lookup b t ≡ absent → holds b t ≡ false
+unfolding isPresent
+absent-free b t e = holds-lookup b t ∙ ap isPresent e
+
+pub found-held : (b : ℕ) (t : Table) (c : List ℕ) → lookup b t ≡ present c → holds b t ≡ true
+unfolding isPresent
+found-held b t c e = holds-lookup b t ∙ ap isPresent e
+
+pub lookup-append : (b : ℕ) (x y : Table) → lookup b (x ++ y) ≡ cond (holds b x) (lookup b x) (lookup b y)
+unfolding lookup holds
+lookup-append b [] y = refl
+lookup-append b (e ∷ x) y = go (eqb b (e .block)) (lookup-append b x y)
+  where
+    go : (t : Bool) → lookup b (x ++ y) ≡ cond (holds b x) (lookup b x) (lookup b y)
+        → cond t (present (e .contents)) (lookup b (x ++ y)) ≡ cond (t || holds b x) (cond t (present (e .contents)) (lookup b x)) (lookup b y)
+    go true h = refl
+    go false h = h
+
+-- ---- tables that agree
+
+pub agree-of : (t u : Table) → t ≡ u → Agree t u
+agree-of t u e b = ap (λ y. lookup b y) e
+
+pub agree-trans : (t u v : Table) → Agree t u → Agree u v → Agree t v
+agree-trans t u v p q b = p b ∙ q b
+
 pub agree-holds : (t u : Table) → Agree t u → (b : ℕ) → holds b t ≡ holds b u
 agree-holds t u g b = holds-lookup b t ∙ (ap isPresent (g b) ∙ sym (holds-lookup b u))
+
+-- two parts of a table with each block once may change places
+pub agree-swap : (x y : Table) → distinct (x ++ y) ≡ true → Agree (y ++ x) (x ++ y)
+agree-swap x y h b = rw (lookup-append b y x, lookup-append b x y) (go (holds b x) (holds b y) refl refl)
+  where
+    go : (s t : Bool) → holds b x ≡ s → holds b y ≡ t → cond t (lookup b y) (lookup b x) ≡ cond s (lookup b x) (lookup b y)
+    go true true p q = absurd (omega (arith, held-copies b x p, held-copies b y q, distinct-copies (x ++ y) h b, copies-append b x y))
+    go true false p q = refl
+    go false true p q = refl
+    go false false p q = lookup-absent b x p ∙ sym (lookup-absent b y q)
 
 -- ---- a block taken out
 
@@ -167,6 +183,14 @@ lookup-without-other a b (e ∷ t) n = go (eqb b (e .block)) refl (lookup-withou
     go : (x : Bool) → eqb b (e .block) ≡ x → lookup a (without b t) ≡ lookup a t → lookup a (cond x (without b t) (e ∷ without b t)) ≡ cond (eqb a (e .block)) (present (e .contents)) (lookup a t)
     go true h ih = let q : eqb a (e .block) ≡ false = ne-eqb a (e .block) (λ z. n (z ∙ sym (eqb-true b (e .block) h))) in rw (q, ih)
     go false h ih = rw ih
+
+pub lookup-store-same : (b : ℕ) (c : List ℕ) (t : Table) → lookup b (store b c t) ≡ present c
+unfolding lookup store
+lookup-store-same b c t = rw (eq-eqb b b refl)
+
+pub lookup-store-other : (a b : ℕ) (c : List ℕ) (t : Table) → a ≢ b → lookup a (store b c t) ≡ lookup a t
+unfolding lookup store
+lookup-store-other a b c t n = rw (ne-eqb a b n, lookup-without-other a b t n)
 
 pub agree-without : (b : ℕ) (t u : Table) → Agree t u → Agree (without b t) (without b u)
 agree-without b t u g a = elim (ℕ-discrete a b)

@@ -1,5 +1,6 @@
--- The four unfinished cases alike: each passes its test, is mended to clean segments, and shows their table. An image that is mended to the same shows the same.
-use Prim.Native.Nat.{ℕ, _-_, _≤_, _<_}
+-- The state of an image by its segments. The four unfinished cases alike: each passes its test, is mended to clean segments, and shows their table.
+-- An image that is mended to the same shows the same.
+use Prim.Native.Nat.{ℕ, _-_, _≤_}
 use mathlib.Core.Path.{_≡_, refl, sym, ap, _∙_, subst}
 use mathlib.Core.Bool.{Bool, true, false, cond, _&&_}
 use mathlib.Core.List.{List, [], _∷_}
@@ -7,29 +8,19 @@ use native.Mathlib.Omega.{arith}
 use lib.ListN.{length, getD}
 use lib.Dec.{ltb, eqb}
 use Rattle.model.specs.Lists.{count}
-use Rattle.model.specs.Chip.{Image, leastSegments, mostSlots, rightSize, run}
-use Rattle.model.specs.Slot.{isTorn, Entry}
+use Rattle.model.specs.Chip.{Image, rightSize, run}
+use Rattle.model.specs.Slot.{isTorn}
 use Rattle.model.specs.State.{Segment, blank, isInvalid, isOwing, segmentsOf, nextIndex, topIndex, usedCount, viewOf, entriesIn, isClean, nextBlanked, isA, topSettled, isB, lastKind, tornMarked, isC, lastBlock, copies, olderMarked, isD, Exception, caseA, caseB, caseC, caseD, State, clean, unfinished, damaged, stateOf, state, view}
 use Rattle.model.specs.Steps.{mendSteps, recoverSteps}
-use Rattle.model.specs.Table.{Agree, tableOf}
+use Rattle.model.specs.Table.{Table, Agree, tableOf}
 use Rattle.model.specs.Answers.{recover, isDamaged, firstOf, refusals, stepsFor, workOn, workOf}
 use Rattle.model.specs.Histories.{recovered, shown}
 use Rattle.model.specs.Laws.Lists.{and-right}
-use Rattle.model.specs.Laws.Chip.{size-facts}
+use Rattle.model.specs.Laws.Tables.{agree-of, agree-trans}
+use Rattle.model.specs.Laws.Clean.{clean-state}
 use Rattle.model.specs.Laws.Exclusive.{exclusive}
-use Rattle.crash.specs.TableLaws.{agree-of}
-use Rattle.crash.specs.Sound.{SoundAs, Sound, Clean}
+use Rattle.crash.specs.Sound.{SoundAs, Sound, Clean, DoneWith}
 use Rattle.crash.specs.Requests.{shown-clean, sound-clean}
-
--- ---- size
-
-pub two-segments : (N B : ℕ) (s : Image) → rightSize N B s ≡ true → 2 ≤ N
-unfolding leastSegments
-two-segments N B s z = size-facts N B s z .segments
-
-pub few-slots : (N B : ℕ) (s : Image) → rightSize N B s ≡ true → B < 256
-unfolding mostSlots
-few-slots N B s z = let h : B ≤ 255 = size-facts N B s z .mostB in omega arith
 
 -- ---- the cases
 
@@ -64,10 +55,6 @@ pick caseA a b c d = a
 pick caseB a b c d = b
 pick caseC a b c d = c
 pick caseD a b c d = d
-
-pub state-clean : (N B : ℕ) (l : List Segment) → isClean N B l ≡ true → stateOf N B l ≡ clean
-unfolding stateOf
-state-clean N B l h = rw h
 
 pub case-of : (N B : ℕ) (l : List Segment) (x : Exception) → stateOf N B l ≡ unfinished x → isCase N B l x ≡ true
 unfolding stateOf
@@ -138,30 +125,47 @@ pub recovered-run : (N B : ℕ) (s : Image) (x : Exception) → rightSize N B s 
 unfolding recovered
 recovered-run N B s x z e = ap (λ y. run B y s) (recover-steps N B s x z e)
 
+-- ---- what an image will show
+
+-- sound, and a finished recovery shows this table
+abbrev pub SoundWith : ℕ → ℕ → Image → Table → Type 0
+SoundWith N B u t = Sound N B u × Agree (shown N B u) t
+
 -- what is promised of an image that a cut recovery left
 abbrev pub Kept : ℕ → ℕ → Image → Image → Type 0
-Kept N B s u = Sound N B u × Agree (shown N B u) (shown N B s)
+Kept N B s u = SoundWith N B u (shown N B s)
 
 pub kept-same : (N B : ℕ) (s u : Image) → Sound N B s → u ≡ s → Kept N B s u
 kept-same N B s u h e = subst (λ (y : Image). Kept N B s y) (sym e) (h, agree-of (shown N B s) (shown N B s) refl)
+
+-- a clean image with this table shows it
+pub clean-shows : (N B : ℕ) (u : Image) (t : Table) → DoneWith N B u t → SoundWith N B u t
+clean-shows N B u t d = (sound-clean N B u (d .0), agree-trans (shown N B u) (tableOf N B u) t (agree-of (shown N B u) (tableOf N B u) (shown-clean N B u (d .0))) (d .1))
+
+-- the state and the table are those of the segments
+pub segments-state : (N B : ℕ) (s u : Image) (x : State) → segmentsOf N B u ≡ segmentsOf N B s → state N B s ≡ x → state N B u ≡ x
+unfolding state
+segments-state N B s u x e h = ap (λ y. stateOf N B y) e ∙ h
+
+pub table-in : (N B : ℕ) (s : Image) (l : List Segment) → segmentsOf N B s ≡ l → tableOf N B s ≡ entriesIn (viewOf N l)
+unfolding tableOf view
+table-in N B s l e = ap (λ (y : List Segment). entriesIn (viewOf N y)) e
+
+-- an image with the segments of a clean one is clean, with its table
+pub segments-show : (N B : ℕ) (s u : Image) → Clean N B s → segmentsOf N B u ≡ segmentsOf N B s → SoundWith N B u (tableOf N B s)
+segments-show N B s u h e = clean-shows N B u (tableOf N B s)
+    (segments-state N B s u clean e h, agree-of (tableOf N B u) (tableOf N B s) (table-in N B u (segmentsOf N B s) e ∙ sym (table-in N B s (segmentsOf N B s) refl)))
 
 -- an image has been recovered to the mended segments of the case
 abbrev pub Mended : ℕ → ℕ → Image → Exception → Type 0
 Mended N B s x = segmentsOf N B (recovered N B s) ≡ mended N (segmentsOf N B s) x
 
-unfoldable tableIn : ℕ → List Segment → List Entry
-tableIn N l = entriesIn (viewOf N l)
-
-table-in : (N B : ℕ) (s : Image) (l : List Segment) → segmentsOf N B s ≡ l → tableOf N B s ≡ tableIn N l
-unfolding tableOf view tableIn
-table-in N B s l e = ap (λ (y : List Segment). entriesIn (viewOf N y)) e
-
 module _ (N B : ℕ) (s : Image) (x : Exception) (e : state N B s ≡ unfinished x) (m : Mended N B s x) where
   pub mended-state : stateOf N B (mended N (segmentsOf N B s) x) ≡ clean
   unfolding state
-  mended-state = state-clean N B (mended N (segmentsOf N B s) x) (mended-clean N B (segmentsOf N B s) x (case-of N B (segmentsOf N B s) x e))
+  mended-state = clean-state N B (mended N (segmentsOf N B s) x) (mended-clean N B (segmentsOf N B s) x (case-of N B (segmentsOf N B s) x e))
 
-  mended-shown : shown N B s ≡ tableIn N (mended N (segmentsOf N B s) x)
+  pub mended-shown : shown N B s ≡ entriesIn (viewOf N (mended N (segmentsOf N B s) x))
   unfolding shown
   mended-shown = table-in N B (recovered N B s) (mended N (segmentsOf N B s) x) m
 
@@ -169,8 +173,8 @@ module _ (N B : ℕ) (s : Image) (x : Exception) (e : state N B s ≡ unfinished
   pub kept-clean : (u : Image) → segmentsOf N B u ≡ mended N (segmentsOf N B s) x → Kept N B s u
   unfolding state
   kept-clean u q =
-      let c : Clean N B u = ap (λ (y : List Segment). stateOf N B y) q ∙ mended-state in
-      (sound-clean N B u c, agree-of (shown N B u) (shown N B s) (shown-clean N B u c ∙ (table-in N B u (mended N (segmentsOf N B s) x) q ∙ sym mended-shown)))
+      clean-shows N B u (shown N B s) (ap (λ (y : List Segment). stateOf N B y) q ∙ mended-state,
+        agree-of (tableOf N B u) (shown N B s) (table-in N B u (mended N (segmentsOf N B s) x) q ∙ sym mended-shown))
 
   pub done : Clean N B (recovered N B s)
   unfolding state
@@ -181,4 +185,4 @@ pub kept-case : (N B : ℕ) (s u : Image) (x : Exception) → state N B s ≡ un
     → mended N (segmentsOf N B u) x ≡ mended N (segmentsOf N B s) x → SoundAs N B u (segmentsOf N B u) (unfinished x) → Kept N B s u
 kept-case N B s u x e m f n q h =
     (subst (λ y. SoundAs N B u (segmentsOf N B u) y) (sym f) h
-    , agree-of (shown N B u) (shown N B s) (mended-shown N B u x f n ∙ (ap (λ y. tableIn N y) q ∙ sym (mended-shown N B s x e m))))
+    , agree-of (shown N B u) (shown N B s) (mended-shown N B u x f n ∙ (ap (λ y. entriesIn (viewOf N y)) q ∙ sym (mended-shown N B s x e m))))
