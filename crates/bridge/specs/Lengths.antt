@@ -240,7 +240,7 @@ module _ (N B : ℕ) (s : Image) (z : rightSize N B s ≡ true) where
   room-bound =
       let f = size-facts N B s z in
       let n : N ≤ 64 = f .most in
-      let b : B ≤ 255 = f .mostB in
+      let b = f .mostB in
       let x : N - 1 ≤ 63 = omega arith in
       let y : most B ≤ 64535 = omega arith in
       mul-le-mul x y

@@ -24,6 +24,7 @@ pub mod CopyOut
 pub mod Ring
 pub mod Clean
 pub mod View
+pub mod ImageView
 pub mod Exclusive
 
 -- the bench table
