@@ -11,7 +11,7 @@ use Rattle.model.specs.Chip.{Image, rightSize}
 use Rattle.model.specs.Slot.{mostContents, numberOk}
 use Rattle.model.specs.State.{segmentsOf, View, viewOf, view, entriesIn, holds, capacity, state, clean}
 use Rattle.model.specs.Steps.{recoverSteps, isWorn}
-use Rattle.model.specs.Answers.{Request, format, put, delete, read, recover, Refusal, firstOf, isFull, absentRefusals, refusals, stepsFor, Work, workOn, workOf}
+use Rattle.model.specs.Answers.{Request, format, put, delete, read, readOr, recover, Refusal, firstOf, isFull, absentRefusals, refusals, stepsFor, Work, workOn, workOf}
 use Rattle.bridge.specs.Predicted.{Fits}
 
 -- ---- the code and the list
@@ -108,6 +108,16 @@ delete-passed N B s b h = absent-passed N B s b h
 pub read-passed : (N B : ℕ) (s : Image) (b : ℕ) → refusal N B s (read b) ≡ 0 → holds b (entriesIn (view N B s)) ≡ true
 unfolding refusals
 read-passed N B s b h = absent-passed N B s b h
+
+-- every request's first row is the size
+pub size-passed : (N B : ℕ) (s : Image) (r : Request) → refusal N B s r ≡ 0 → rightSize N B s ≡ true
+unfolding refusals absentRefusals
+size-passed N B s format h = not-false (rightSize N B s) (passed 0 (not (rightSize N B s)) _ h .0)
+size-passed N B s (put b c) h = not-false (rightSize N B s) (passed 0 (not (rightSize N B s)) _ h .0)
+size-passed N B s (delete b) h = not-false (rightSize N B s) (passed 0 (not (rightSize N B s)) _ h .0)
+size-passed N B s (read b) h = not-false (rightSize N B s) (passed 0 (not (rightSize N B s)) _ h .0)
+size-passed N B s (readOr b f) h = not-false (rightSize N B s) (passed 0 (not (rightSize N B s)) _ h .0)
+size-passed N B s recover h = not-false (rightSize N B s) (passed 0 (not (rightSize N B s)) _ h .0)
 
 pub format-passed : (N B : ℕ) (s : Image) → refusal N B s format ≡ 0 → rightSize N B s ≡ true
 unfolding refusals
