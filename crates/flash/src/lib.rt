@@ -1,0 +1,72 @@
+// Flash steps under a budget. Each function takes the budget and returns what is left of it.
+ghost use mathlib.Core.Path.{_≡_};
+ghost use mathlib.Core.List.{[], _∷_};
+ghost use Prim.Native.Nat.{_+_, _*_, _<_, _≤_};
+ghost use lib.ListN.{length};
+ghost use Rattle.model.specs.Chip.{program, erase};
+ghost use Rattle.model.specs.Header.{isBlank};
+ghost use Rattle.model.specs.Steps.{programs};
+ghost use Rattle.flash.specs.Ran.{Ran, Programmed};
+
+// Programs one byte.
+pub fn program_byte(image: &mut [u8], at: usize, value: u8, budget: u64) -> u64
+    requires { ⌜ at < length (now image) ⌝ }
+    ensures { λ r. ⌜ Programmed (program at value ∷ []) budget r (now (image .entry)) (now (image .exit)) ⌝ }
+{
+    if budget == 0 {
+        return 0;
+    }
+    image[at] = image[at] & value;
+    budget - 1
+}
+
+// Programs bytes one after the other. The store stands in the loop: a call for each byte is several times slower.
+pub fn program_run(image: &mut [u8], at: usize, bytes: &[u8], budget: u64) -> u64
+    requires { ⌜ at + length (now bytes) ≤ length (now image) ⌝ }
+    ensures { λ r. ⌜ Programmed (programs at (now (bytes .entry))) budget r (now (image .entry)) (now (image .exit)) ⌝ }
+{
+    let mut left = budget;
+    let mut i = 0;
+    while i < bytes.len() {
+        if left == 0 {
+            return 0;
+        }
+        let o = at + i;
+        image[o] = image[o] & bytes[i];
+        left -= 1;
+        i += 1;
+    }
+    left
+}
+
+// Erases the segment at an index, as one step.
+pub fn erase_segment(image: &mut [u8], index: usize, slots: usize, budget: u64) -> u64
+    requires { ⌜ (index * (slots + 1) + (slots + 1)) * 256 ≤ length (now image) ⌝ }
+    ensures { λ r. ⌜ Ran (erase index ∷ []) slots budget r (now (image .entry)) (now (image .exit)) ⌝ }
+{
+    if budget == 0 {
+        return 0;
+    }
+    let at = index * (slots + 1) * 256;
+    let count = (slots + 1) * 256;
+    let mut i = 0;
+    while i < count {
+        image[at + i] = 255;
+        i += 1;
+    }
+    budget - 1
+}
+
+// Whether every byte is 255. Stops at the first that is not.
+pub fn is_blank(bytes: &[u8]) -> bool
+    ensures { λ r. ⌜ r ≡ isBlank (now (bytes .entry)) ⌝ }
+{
+    let mut i = 0;
+    while i < bytes.len() {
+        if bytes[i] != 255 {
+            return false;
+        }
+        i += 1;
+    }
+    true
+}
