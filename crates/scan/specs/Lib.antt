@@ -1,3 +1,5 @@
 pub mod Cases
 pub mod Endings
 pub mod Judged
+pub mod Ordered
+pub mod Ends
