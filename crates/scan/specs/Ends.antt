@@ -33,7 +33,7 @@ both-ways true b f g = sym (f refl)
 both-ways false true f g = g refl
 both-ways false false f g = refl
 
-fine-ordered : (N B : ℕ) (v : View) → fine N B v ≡ (ordered v && leb (length (entriesIn v)) (capacity N B))
+pub fine-ordered : (N B : ℕ) (v : View) → fine N B v ≡ (ordered v && leb (length (entriesIn v)) (capacity N B))
 unfolding fine ordered withinCapacity
 fine-ordered N B v = go (noneWrongOrTorn v) (blocksDistinct v) (emptySlotsLast v) (leb (length (entriesIn v)) (capacity N B))
   where
@@ -70,10 +70,10 @@ module _ (p : List Entry) where
       go false q = absurd (false≢true (unfold endsTorn in (ap endsTorn q)))
 
   -- a live slot whose block is among the entries
-  abbrev Twin : Slot → Type 0
+  abbrev pub Twin : Slot → Type 0
   Twin k = (e : Entry) × (k ≡ live (e .block) (e .contents)) × (holds (e .block) p ≡ true)
 
-  stop-twin : (k : Slot) → turn Full p k ≡ TwinLast → Twin k
+  pub stop-twin : (k : Slot) → turn Full p k ≡ TwinLast → Twin k
   unfolding turn behind leaveRoom
   stop-twin empty e = absurd (false≢true (unfold endsTwin in (ap endsTwin e)))
   stop-twin torn e = absurd (false≢true (unfold endsTwin in (ap endsTwin e)))
@@ -88,18 +88,18 @@ module _ (p : List Entry) where
 -- ---- the rows before the top must be plain
 
 module _ (n : ℕ) (l : List (List Slot)) (t : List Slot) where
-  abbrev v : View
+  abbrev pub v : View
   v = rowsWith n l t
 
-  abbrev ending : Ending
+  abbrev pub ending : Ending
   ending = ring Full [] (l ++ (t ∷ []))
 
-  rows-then : Plain [] (flatten l) → ending ≡ judge Full (before-top l) t
+  pub rows-then : Plain [] (flatten l) → ending ≡ judge Full (before-top l) t
   unfolding behind
   rows-then h = ring-snoc Full [] l t ∙ ap (λ (e : Ending). behind e (judge Full (before-top l) t)) (rows-full [] l h)
 
   -- an ending that is not bad says so
-  rows-plain : (f : Ending) → isBad f ≡ false → ending ≡ f → Plain [] (flatten l) × Judged f (before-top l) t
+  pub rows-plain : (f : Ending) → isBad f ≡ false → ending ≡ f → Plain [] (flatten l) × Judged f (before-top l) t
   unfolding distinct isBad
   rows-plain f b e = go (isFull (ring Full [] l)) refl
     where
@@ -159,27 +159,23 @@ module _ (n : ℕ) (l : List (List Slot)) (t : List Slot) where
 
   -- ---- (c)
 
-  entries-of : entriesIn v ≡ before-top l ++ entries t
+  pub entries-of : entriesIn v ≡ before-top l ++ entries t
   unfolding entriesIn
   entries-of = ap entries (flatten-last l t) ∙ entries-append (flatten l) t
 
--- the top's last written slot exchanged for another
-module _ (n : ℕ) (l : List (List Slot)) (x : List Slot) (k m : Slot) (y : List Slot) where
-  swap-sound : not (isWrong k || isTorn k) ≡ true → not (isWrong m || isTorn m) ≡ true
-      → noneWrongOrTorn (rowsWith n l (x ++ (k ∷ y))) ≡ noneWrongOrTorn (rowsWith n l (x ++ (m ∷ y)))
+-- one slot exchanged for another
+module _ (n : ℕ) (g : Gap) (k m : Slot) where
+  pub swap-sound : not (isWrong k || isTorn k) ≡ true → not (isWrong m || isTorn m) ≡ true
+      → noneWrongOrTorn (record { first = n; slots = fill g k }) ≡ noneWrongOrTorn (record { first = n; slots = fill g m })
   unfolding noneWrongOrTorn
-  swap-sound a b = let g : Gap = record { rowsBefore = l; before = x; after = y; rowsAfter = [] } in
-      both-ways (all (λ z. not (isWrong z || isTorn z)) (flatten (fill g k))) (all (λ z. not (isWrong z || isTorn z)) (flatten (fill g m)))
-        (λ h. fill-all (λ z. not (isWrong z || isTorn z)) g k m b h) (λ h. fill-all (λ z. not (isWrong z || isTorn z)) g m k a h)
+  swap-sound a b = both-ways (all (λ z. not (isWrong z || isTorn z)) (flatten (fill g k))) (all (λ z. not (isWrong z || isTorn z)) (flatten (fill g m)))
+      (λ h. fill-all (λ z. not (isWrong z || isTorn z)) g k m b h) (λ h. fill-all (λ z. not (isWrong z || isTorn z)) g m k a h)
 
-  swap-last : isEmpty k ≡ isEmpty m → emptySlotsLast (rowsWith n l (x ++ (k ∷ y))) ≡ emptySlotsLast (rowsWith n l (x ++ (m ∷ y)))
+  pub swap-last : isEmpty k ≡ isEmpty m → emptySlotsLast (record { first = n; slots = fill g k }) ≡ emptySlotsLast (record { first = n; slots = fill g m })
   unfolding emptySlotsLast
-  swap-last e = fill-empty-last (record { rowsBefore = l; before = x; after = y; rowsAfter = [] }) k m e
+  swap-last e = fill-empty-last g k m e
 
 module _ (N B n : ℕ) (l : List (List Slot)) (t : List Slot) where
-  room-left : Bool
-  room-left = leb (length (entriesIn (rowsWith n l t))) (capacity N B)
-
   -- a torn last slot marked
   module _ (x y : List Slot) (split : t ≡ x ++ (torn ∷ y)) (rest : all isEmpty y ≡ true) where
     torn-written : lastWritten (rowsWith n l t) ≡ torn
@@ -224,3 +220,27 @@ module _ (N B n : ℕ) (l : List (List Slot)) (t : List Slot) where
           let r = find-last t e in
           let k : r .slot ≡ torn = is-torn (r .slot) (ap isTorn (sym (ap (λ (z : List Slot). lastWritten (rowsWith n l z)) (r .split) ∙ last-written n l (r .left) (r .slot) (r .right) (r .written) (r .rest))) ∙ w) in
           at-last (r .left) (r .right) (r .split ∙ ap (λ (z : Slot). r .left ++ (z ∷ r .right)) k) (r .rest)
+
+  torn-from : (endsTorn (ending n l t) && leb (length (entriesIn (rowsWith n l t))) (capacity N B)) ≡ true → tornLast N B (rowsWith n l t) ≡ true
+  unfolding tornLast
+  torn-from h = let r = rows-plain n l t TornLast (unfold isBad in refl) (is-torn (ending n l t) (g .0)) in go (r .0) (r .1)
+    where
+      g : (endsTorn (ending n l t) ≡ true) × (leb (length (entriesIn (rowsWith n l t))) (capacity N B) ≡ true)
+      g = and-eq-true-iff (endsTorn (ending n l t)) (leb (length (entriesIn (rowsWith n l t))) (capacity N B)) .0 h
+      is-torn : (e : Ending) → endsTorn e ≡ true → e ≡ TornLast
+      is-torn Full q = absurd (false≢true (unfold endsTorn in q))
+      is-torn Room q = absurd (false≢true (unfold endsTorn in q))
+      is-torn TornLast q = refl
+      is-torn TwinLast q = absurd (false≢true (unfold endsTorn in q))
+      is-torn Bad q = absurd (false≢true (unfold endsTorn in q))
+      go : Plain [] (flatten l) → Judged TornLast (before-top l) t → (isTorn (lastWritten (rowsWith n l t)) && fine N B (lastMarked (rowsWith n l t))) ≡ true
+      go r (inl (e, q)) = absurd (false≢true (unfold isFull in (ap isFull e)))
+      go r (inr s) =
+          let e : t ≡ s .left ++ (torn ∷ s .right) = s .split ∙ ap (λ (z : Slot). s .left ++ (z ∷ s .right)) (stop-torn (before-top l ++ entries (s .left)) (s .slot) (s .ending)) in
+          let d : distinct (before-top l ++ entries (s .left) ++ entryOf dead) ≡ true = (unfold entryOf in (ap distinct (append-nil (before-top l ++ entries (s .left))) ∙ s .plain .once)) in
+          let o : ordered (lastMarked (rowsWith n l t)) ≡ true = ap ordered (torn-marked (s .left) (s .right) e (s .rest))
+                ∙ facts-ordered n l (s .left ++ (dead ∷ s .right)) (ordered-ending l (s .left) dead (s .right) r (s .plain) (s .rest) (unfold isWrong isTorn in refl) d) in
+          rw (torn-written (s .left) (s .right) e (s .rest), fine-ordered N B (lastMarked (rowsWith n l t)), o, torn-entries (s .left) (s .right) e (s .rest)) (unfold isTorn in (g .1))
+
+  pub torn-ending : tornLast N B (rowsWith n l t) ≡ (endsTorn (ending n l t) && leb (length (entriesIn (rowsWith n l t))) (capacity N B))
+  torn-ending = both-ways (tornLast N B (rowsWith n l t)) (endsTorn (ending n l t) && leb (length (entriesIn (rowsWith n l t))) (capacity N B)) torn-to torn-from

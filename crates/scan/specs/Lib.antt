@@ -3,3 +3,4 @@ pub mod Endings
 pub mod Judged
 pub mod Ordered
 pub mod Ends
+pub mod Twins
