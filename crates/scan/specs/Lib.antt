@@ -4,3 +4,6 @@ pub mod Judged
 pub mod Ordered
 pub mod Ends
 pub mod Twins
+pub mod Bitmap
+pub mod BitLaws
+pub mod Rows
