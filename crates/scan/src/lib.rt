@@ -145,3 +145,25 @@ fn count(row: Row, kind: SlotKind, seen: &mut [u64; 1024]) -> Row
         },
     }
 }
+
+// The slots of a segment, from the offset of the first one.
+fn scan_row(image: &[u8], at: usize, slots: usize, seen: &mut [u64; 1024]) -> Row
+    requires { ⌜ (at + slots * 256 ≤ length (now image)) × (slots ≤ 255) ⌝ }
+    ensures { λ r. ⌜ (pass r (now (seen .exit)) ≡ seeAll (kindsAt (now (image .entry)) at slots) (pass noRow (now (seen .entry)))) × Small r slots ⌝ }
+{
+    let mut row = Row {
+        live: 0,
+        dead: 0,
+        written: 0,
+        ending: Ending::Full,
+        block: BlockNumber(0),
+    };
+    let mut i: usize = 0;
+    while i < slots {
+        let a = at + i * 256;
+        let e = a + 256;
+        row = count(row, page::slot_kind(&image[a..e]), seen);
+        i += 1;
+    }
+    row
+}

@@ -1,7 +1,7 @@
 -- `scan::behind` is the definition's. Assumes nothing.
 use mathlib.Core.Path.{sym}
 use Rattle.scan.specs.Endings.{behind}
-use Rattle.scan.proofs.Laws.{behind-other}
+use Rattle.scan.proofs.Laws.Enums.{behind-other}
 use borrow.Author.Needs.{needs}
 use Rattle.scan.proofs.behind.Statement.{statement}
 use Rattle.scan.proofs.behind.Tie as tie
