@@ -7,3 +7,5 @@ pub mod Twins
 pub mod Bitmap
 pub mod BitLaws
 pub mod Rows
+pub mod Parts
+pub mod Heads
