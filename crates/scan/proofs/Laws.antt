@@ -1,2 +1,4 @@
 pub mod Enums
 pub mod Rows
+pub mod Tables
+pub mod Heads

@@ -3,7 +3,7 @@ use Prim.Native.Nat.{ℕ, zero, suc, _-_, _%_, max}
 use mathlib.Core.Path.{_≡_, refl, sym, ap, ap₂, _∙_}
 use mathlib.Core.Bool.{Bool, true, false, cond, _&&_, not}
 use mathlib.Core.List.{List, [], _∷_, map}
-use lib.ListN.{length, getD, set, List·getD-map}
+use lib.ListN.{length, getD, take, set, List·getD-map}
 use lib.Dec.{eqb}
 use Rattle.model.specs.Lists.{all, count}
 use Rattle.model.specs.Header.{erasePending, compacted}
@@ -125,3 +125,20 @@ pub outline-settled-top : (N : ℕ) (l : List Segment) → topSettled N (map out
 unfolding topSettled topIndex
 outline-settled-top N l = rw (outline-blanked N l, outline-next l, outline-get l ((nextNumber l - 1) % N), outline-settled (getD l ((nextNumber l - 1) % N) blank))
     (sym (map-set outline (nextBlanked N l) ((nextNumber l - 1) % N) (settled (getD l ((nextNumber l - 1) % N) blank))))
+
+-- ---- of a table of summaries
+
+-- the segments that the first N summaries show
+unfoldable pub heads : ℕ → List Summary → List Segment
+heads N table = map bare (take N table)
+
+-- the state of a segment in use, by its status
+unfoldable pub stateSeen : ℕ → SegmentState
+stateSeen st = cond (eqb st erasePending) Owing InUse
+
+-- neither owing nor invalid
+unfoldable pub isSettled : Segment → Bool
+isSettled x = not (isOwing x) && not (isInvalid x)
+
+unfoldable pub allSettled : List Segment → Bool
+allSettled l = noneOwing l && othersBlank l
