@@ -9,3 +9,5 @@ pub mod BitLaws
 pub mod Rows
 pub mod Parts
 pub mod Heads
+pub mod Tally
+pub mod TallyLaws

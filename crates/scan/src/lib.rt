@@ -358,3 +358,16 @@ fn all_settled(table: [Summary; 64], segments: usize) -> bool
     }
     true
 }
+
+// ---- the rows of the segments in use, oldest first
+
+// Rows added up: live slots; of the last row, how many are written, how it ends behind the others and its last live
+// block; and how many rows there are up to the first with a dead slot.
+pub struct Sum {
+    pub live: usize,
+    pub written: usize,
+    pub compactions: usize,
+    pub dead: bool,
+    pub ending: Ending,
+    pub block: BlockNumber,
+}
