@@ -2,3 +2,5 @@ pub mod Enums
 pub mod Rows
 pub mod Tables
 pub mod Heads
+pub mod Frames
+pub mod Gather

@@ -12,6 +12,7 @@ use Rattle.model.specs.Laws.Lists.{map-set}
 use Rattle.scan.specs.declared.SegmentState.{SegmentState}
 use Rattle.scan.specs.declared.SegmentState.the-variants.{Blank, Invalid, InUse, Owing}
 use Rattle.scan.specs.declared.Summary.{Summary}
+use Rattle.scan.specs.declared.Frame.{Frame}
 use Rattle.scan.specs.Cases.{frame}
 
 -- the segment that a state and a number stand for, its slots left out
@@ -136,9 +137,10 @@ heads N table = map bare (take N table)
 unfoldable pub stateSeen : ℕ → SegmentState
 stateSeen st = cond (eqb st erasePending) Owing InUse
 
--- neither owing nor invalid
-unfoldable pub isSettled : Segment → Bool
-isSettled x = not (isOwing x) && not (isInvalid x)
-
+-- none owing, all that are not in use blank
 unfoldable pub allSettled : List Segment → Bool
 allSettled l = noneOwing l && othersBlank l
+
+-- the segments in use: the smallest number, how many, and whether conditions 1 to 4 hold
+unfoldable pub frameOf : ℕ → List Segment → Frame
+frameOf N l = record { first = firstNumber l; used = usedCount l; fine = frame N l }

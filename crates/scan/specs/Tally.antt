@@ -9,6 +9,7 @@ use Rattle.scan.specs.declared.Ending.the-variants.{Full, Bad}
 use Rattle.scan.specs.declared.Row.{Row}
 use Rattle.scan.specs.declared.Summary.{Summary}
 use Rattle.scan.specs.declared.Sum.{Sum}
+use Rattle.scan.specs.declared.Frame.{Frame}
 use Rattle.scan.specs.Endings.{behind}
 use Rattle.scan.specs.Rows.{Pass, pass, seeAll, noRow}
 
@@ -48,3 +49,8 @@ badSum = record { live = 0; written = 0; compactions = 0; dead = false; ending =
 pub record Few (f : Sum) (i : ℕ) : Type 0 where
   pub live : f .live ≤ 65535 * i
   pub compactions : f .compactions ≤ i
+
+-- numbers of a frame fit
+pub record Ranged (f : Frame) : Type 0 where
+  pub first : f .first ≤ 4294967296
+  pub used : f .used ≤ 64

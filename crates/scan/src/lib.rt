@@ -8,11 +8,13 @@ ghost use mathlib.Core.Bool.{cond};
 ghost use mathlib.Core.List.{map};
 ghost use Prim.Native.Nat.{_+_, _-_, _*_, _<_, _≤_, max};
 ghost use lib.ListN.{length, getD, take};
-ghost use Rattle.model.specs.State.{blank, isInUse, isInvalid, isOwing, numberAfter, nextNumber, usedCount, numbersFrom, segmentsOf};
+ghost use Rattle.model.specs.State.{blank, isInUse, isInvalid, isOwing, numberAfter, nextNumber, usedCount, numbersFrom, segmentsOf, nextBlanked, settled, topSettled};
 ghost use Rattle.page.specs.Pages.{Sized};
 ghost use Rattle.scan.specs.Bitmap.{inBits, putBit};
 ghost use Rattle.scan.specs.Endings.{behind, leaveRoom};
-ghost use Rattle.scan.specs.Heads.{bareOf, bare, outline, heads, stateSeen, isSettled, allSettled};
+ghost use Rattle.scan.specs.Heads.{bareOf, bare, outline, heads, stateSeen, allSettled, frameOf};
+ghost use Rattle.scan.specs.Parts.{rowsOn};
+ghost use Rattle.scan.specs.Tally.{noneMet, tallies, rowOf, addRow, addRows, noSum, Few, Ranged};
 ghost use Rattle.scan.specs.Rows.{pass, see, seeAll, noRow, kindsAt, Small};
 
 // What a segment's header and a blank test tell: blank; neither in use nor blank; in use; in use with the old segment still to be erased.
@@ -234,7 +236,7 @@ fn see_headers(image: &[u8], segments: usize, slots: usize) -> [Summary; 64]
 
 // One more than the number of a segment in use, or 0.
 fn number_after(s: Summary) -> usize
-    ensures { λ r. ⌜ r ≡ numberAfter (bare s) ⌝ }
+    ensures { λ r. ⌜ (r ≡ numberAfter (bare s)) × (r ≤ 4294967296) ⌝ }
 {
     let state = s.state;
     let number = s.number;
@@ -297,7 +299,7 @@ fn less(a: usize, b: usize) -> usize
 // The number after the top's, or 0 if none is in use.
 fn next_number(table: [Summary; 64], segments: usize) -> usize
     requires { ⌜ segments ≤ 64 ⌝ }
-    ensures { λ r. ⌜ r ≡ nextNumber (heads segments table) ⌝ }
+    ensures { λ r. ⌜ (r ≡ nextNumber (heads segments table)) × (r ≤ 4294967296) ⌝ }
 {
     let mut next: usize = 0;
     let mut i: usize = 0;
@@ -359,6 +361,66 @@ fn all_settled(table: [Summary; 64], segments: usize) -> bool
     true
 }
 
+// The segments in use: the smallest number, how many, and whether conditions 1 to 4 of document 01's Clean hold.
+pub struct Frame {
+    pub first: usize,
+    pub used: usize,
+    pub fine: bool,
+}
+
+fn see_frame(table: [Summary; 64], segments: usize) -> Frame
+    requires { ⌜ (0 < segments) × (segments ≤ 64) ⌝ }
+    ensures { λ r. ⌜ (r ≡ frameOf segments (heads segments table)) × Ranged r ⌝ }
+{
+    let next = next_number(table, segments);
+    let used = used_count(table, segments);
+    let first = less(next, used);
+    if used == 0 {
+        return Frame { first, used, fine: false };
+    }
+    if used >= segments {
+        return Frame { first, used, fine: false };
+    }
+    if !consecutive(table, segments, first, used) {
+        return Frame { first, used, fine: false };
+    }
+    let fine = all_settled(table, segments);
+    Frame { first, used, fine }
+}
+
+// The segment after the top taken for blank.
+fn next_blanked(table: [Summary; 64], segments: usize, next: usize) -> [Summary; 64]
+    requires { ⌜ (0 < segments) × (segments ≤ 64) × (next ≡ nextNumber (heads segments table)) ⌝ }
+    ensures { λ r. ⌜ heads segments r ≡ nextBlanked segments (heads segments table) ⌝ }
+{
+    let mut mended = table;
+    let after = next % segments;
+    mended[after] = head(SegmentState::Blank, SegmentNumber(0));
+    mended
+}
+
+// A segment whose old one is erased.
+fn settled(s: Summary) -> Summary
+    ensures { λ r. ⌜ bare r ≡ settled (bare s) ⌝ }
+{
+    let number = s.number;
+    if is_owing(s) {
+        return head(SegmentState::InUse, number);
+    }
+    s
+}
+
+// The segment after the top taken for blank, and the top for one whose old segment is erased.
+fn top_settled(table: [Summary; 64], segments: usize, next: usize) -> [Summary; 64]
+    requires { ⌜ (0 < segments) × (segments ≤ 64) × (next ≡ nextNumber (heads segments table)) ⌝ }
+    ensures { λ r. ⌜ heads segments r ≡ topSettled segments (heads segments table) ⌝ }
+{
+    let mut mended = next_blanked(table, segments, next);
+    let top = less(next, 1) % segments;
+    mended[top] = settled(table[top]);
+    mended
+}
+
 // ---- the rows of the segments in use, oldest first
 
 // Rows added up: live slots; of the last row, how many are written, how it ends behind the others and its last live
@@ -370,4 +432,81 @@ pub struct Sum {
     pub dead: bool,
     pub ending: Ending,
     pub block: BlockNumber,
+}
+
+fn with_row(s: Summary, row: Row) -> Summary
+    ensures { λ r. ⌜ (r .state ≡ s .state) × (r .number ≡ s .number) × (rowOf r ≡ row) ⌝ }
+{
+    let state = s.state;
+    let number = s.number;
+    Summary { state, number, row }
+}
+
+// The summaries of the segments in use, oldest first, with their rows, each looked at behind those before.
+fn gather(image: &[u8], segments: usize, slots: usize, table: [Summary; 64], first: usize, used: usize) -> [Summary; 64]
+    requires { ⌜ Sized segments slots (length (now image)) × (segments ≤ 64) × (first ≤ 4294967296) × (used ≤ 64) ⌝ }
+    ensures { λ r. ⌜ (map rowOf (take used r) ≡ tallies (rowsOn (now (image .entry)) segments slots used first) noneMet) ⌝ }
+{
+    let mut seen = [0u64; 1024];
+    let mut ring = table;
+    let mut i: usize = 0;
+    while i < used {
+        let index = (first + i) % segments;
+        let at = (index * (slots + 1) + 1) * 256;
+        ring[i] = with_row(table[index], scan_row(image, at, slots, &mut seen));
+        i += 1;
+    }
+    ring
+}
+
+fn add_row(sum: Sum, row: Row) -> Sum
+    requires { ⌜ Few sum 1000 ⌝ }
+    ensures { λ r. ⌜ (r ≡ addRow sum row) × (row .live ≤ 65535) ⌝ }
+{
+    let block = row.block;
+    let before = sum.ending;
+    let then = row.ending;
+    let live = sum.live + wide(row.live);
+    let written = wide(row.written);
+    let ending = behind(before, then);
+    if sum.dead {
+        return Sum {
+            live,
+            written,
+            compactions: sum.compactions,
+            dead: true,
+            ending,
+            block,
+        };
+    }
+    Sum {
+        live,
+        written,
+        compactions: sum.compactions + 1,
+        dead: row.dead > 0,
+        ending,
+        block,
+    }
+}
+
+fn sum_rows(ring: [Summary; 64], used: usize) -> Sum
+    requires { ⌜ used ≤ 64 ⌝ }
+    ensures { λ r. ⌜ r ≡ addRows (map rowOf (take used ring)) noSum ⌝ }
+{
+    let mut sum = Sum {
+        live: 0,
+        written: 0,
+        compactions: 0,
+        dead: false,
+        ending: Ending::Full,
+        block: BlockNumber(0),
+    };
+    let mut i: usize = 0;
+    while i < used {
+        let s = ring[i];
+        let row = s.row;
+        sum = add_row(sum, row);
+        i += 1;
+    }
+    sum
 }

@@ -44,7 +44,7 @@ returns c =
     let l = c .before .before .before .before .loop in
     let m = mod-lt (s .args .first + l .i) (s .pre .0) in
     let h : (s .args .first + l .i) % s .args .segments < length (s .args .t1) = omega (arith, s .good .0, s .pre) in
-    sym (sym (l .inv .0) ∙ numbers-stop (s .args .segments) (s .args .t1) (s .args .used) (s .args .first) (l .i) _ (c .before .before .before .loop-test .taken) m h (λ e. c .if1 .taken (c .before .number-after .ensures ∙ e)))
+    sym (sym (l .inv .0) ∙ numbers-stop (s .args .segments) (s .args .t1) (s .args .used) (s .args .first) (l .i) _ (c .before .before .before .loop-test .taken) m h (λ e. c .if1 .taken (c .before .number-after .ensures .0 ∙ e)))
 
 add-i : tie.Need-add-i Inv-loop μ-loop
 add-i c = search needs
@@ -58,7 +58,7 @@ loop-again c =
     let l = c .before .before .before .before .loop in
     let m = mod-lt (s .args .first + l .i) (s .pre .0) in
     let h : (s .args .first + l .i) % s .args .segments < length (s .args .t1) = omega (arith, s .good .0, s .pre) in
-    (sym (numbers-turn (s .args .segments) (s .args .t1) (s .args .used) (s .args .first) (l .i) _ (c .before .before .before .loop-test .taken) m h (sym (c .before .number-after .ensures) ∙ c .if1 .left)) ∙ l .inv .0, omega arith)
+    (sym (numbers-turn (s .args .segments) (s .args .t1) (s .args .used) (s .args .first) (l .i) _ (c .before .before .before .loop-test .taken) m h (sym (c .before .number-after .ensures .0) ∙ c .if1 .left)) ∙ l .inv .0, omega arith)
 
 returns-2 : tie.Need-returns-2 Inv-loop μ-loop
 returns-2 c =

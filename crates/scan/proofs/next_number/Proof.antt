@@ -19,13 +19,13 @@ use Rattle.scan.proofs.next_number.Statement.{statement}
 use Rattle.scan.proofs.next_number.Tie as tie
 
 abbrev Inv-loop : tie.InvT-loop
-Inv-loop segments table next₀ i₀ next i = (max next (nextNumber (headsFrom segments i table)) ≡ nextNumber (heads segments table)) × (i ≤ segments)
+Inv-loop segments table next₀ i₀ next i = (max next (nextNumber (headsFrom segments i table)) ≡ nextNumber (heads segments table)) × (i ≤ segments) × (next ≤ 4294967296)
 
 abbrev μ-loop : tie.MeasureT-loop
 μ-loop segments table next₀ i₀ next i = segments - i
 
 loop-holds : tie.Need-loop-holds Inv-loop μ-loop
-loop-holds c = (next-start (c .args .segments) (c .args .t1), omega arith)
+loop-holds c = (next-start (c .args .segments) (c .args .t1), omega arith, omega arith)
 
 mul-number-after : tie.Need-mul-number-after Inv-loop μ-loop
 mul-number-after c = search needs
@@ -51,12 +51,12 @@ loop-again c =
     let l = c .before .before .before .before .loop in
     let t = c .before .before .before .loop-test .taken in
     let h : l .i < length (s .args .t1) = omega (arith, s .good .0, s .pre) in
-    (next-turn (s .args .segments) (s .args .t1) (l .i) _ (l .next) (c .larger .result) t h (c .larger .ensures ∙ ap (λ (x : ℕ). max (l .next) x) (c .before .number-after .ensures)) (l .inv .0), omega arith)
+    (next-turn (s .args .segments) (s .args .t1) (l .i) _ (l .next) (c .larger .result) t h (c .larger .ensures ∙ ap (λ (x : ℕ). max (l .next) x) (c .before .number-after .ensures .0)) (l .inv .0), omega arith, omega (arith, l .inv .2, c .larger .ensures, c .before .number-after .ensures .1))
 
 returns : tie.Need-returns Inv-loop μ-loop
 returns c =
     let s = c .before .before in
-    next-end (s .args .segments) (s .args .t1) (c .before .loop .i) (c .before .loop .next) (c .loop-test .left) (c .before .loop .inv .0)
+    (next-end (s .args .segments) (s .args .t1) (c .before .loop .i) (c .before .loop .next) (c .loop-test .left) (c .before .loop .inv .0), c .before .loop .inv .2)
 
 pub next-number-spec : {M : Type 1} → statement M
 next-number-spec =

@@ -1,4 +1,8 @@
 -- `scan::number_after` is the number of the definition. Assumes nothing.
+use mathlib.Core.Path.{_≡_}
+use Rattle.model.specs.State.{numberAfter}
+use Rattle.scan.specs.Heads.{bare, bareOf}
+use native.Mathlib.Omega.{arith}
 use Rattle.model.specs.State.{numberAfter}
 use Rattle.scan.specs.Heads.{bare, bareOf}
 use native.Mathlib.Omega.{arith}
@@ -32,19 +36,19 @@ add-result-2 c = search needs
 
 returns : tie.Need-returns
 unfolding numberAfter bare bareOf
-returns c = rw (c .enum-told .given .1)
+returns c = (rw (c .enum-told .given .1), omega arith)
 
 returns-2 : tie.Need-returns-2
 unfolding numberAfter bare bareOf
-returns-2 c = rw (c .enum-told2 .given .1)
+returns-2 c = (rw (c .enum-told2 .given .1), omega arith)
 
 returns-3 : tie.Need-returns-3
 unfolding numberAfter bare bareOf
-returns-3 c = rw (c .before .enum-told3 .given .1) (omega arith)
+returns-3 c = (rw (c .before .enum-told3 .given .1) (omega arith), omega arith)
 
 returns-4 : tie.Need-returns-4
 unfolding numberAfter bare bareOf
-returns-4 c = rw (c .before .enum-told4 .given .1) (omega arith)
+returns-4 c = (rw (c .before .enum-told4 .given .1) (omega arith), omega arith)
 
 pub number-after-spec : {M : Type 1} → statement M
 number-after-spec =
