@@ -4,3 +4,4 @@ pub mod Tables
 pub mod Heads
 pub mod Frames
 pub mod Gather
+pub mod Find

@@ -11,3 +11,4 @@ pub mod Parts
 pub mod Heads
 pub mod Tally
 pub mod TallyLaws
+pub mod Find

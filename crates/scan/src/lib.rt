@@ -2,18 +2,20 @@
 use model::BlockNumber;
 use model::SegmentNumber;
 use model::SlotKind;
+use model::SlotPlace;
 use page::HeaderSeen;
 ghost use mathlib.Core.Path.{_≡_};
-ghost use mathlib.Core.Bool.{cond};
+ghost use mathlib.Core.Bool.{true, cond};
 ghost use mathlib.Core.List.{map};
 ghost use Prim.Native.Nat.{_+_, _-_, _*_, _<_, _≤_, max};
 ghost use lib.ListN.{length, getD, take};
-ghost use Rattle.model.specs.State.{blank, isInUse, isInvalid, isOwing, numberAfter, nextNumber, usedCount, numbersFrom, segmentsOf, nextBlanked, settled, topSettled};
+ghost use Rattle.model.specs.State.{blank, isInUse, isInvalid, isOwing, numberAfter, nextNumber, usedCount, numbersFrom, segmentsOf, nextBlanked, settled, topSettled, slotsFrom};
 ghost use Rattle.page.specs.Pages.{Sized};
 ghost use Rattle.scan.specs.Bitmap.{inBits, putBit};
 ghost use Rattle.scan.specs.Endings.{behind, leaveRoom};
 ghost use Rattle.scan.specs.Heads.{bareOf, bare, outline, heads, stateSeen, allSettled, frameOf};
 ghost use Rattle.scan.specs.Parts.{rowsOn};
+ghost use Rattle.scan.specs.Find.{foundIn};
 ghost use Rattle.scan.specs.Tally.{noneMet, tallies, rowOf, addRow, addRows, noSum, Few, Ranged};
 ghost use Rattle.scan.specs.Rows.{pass, see, seeAll, noRow, kindsAt, Small};
 
@@ -509,4 +511,42 @@ fn sum_rows(ring: [Summary; 64], used: usize) -> Sum
         i += 1;
     }
     sum
+}
+
+// ---- the search for a block
+
+// Where a block's live slot is, and the length of its contents.
+pub enum Found {
+    At(SlotPlace, usize),
+    Nothing,
+}
+
+// The first live slot of a block, in the segments in use from the oldest on. Leaves both walks at the first hit.
+pub fn find(image: &[u8], segments: usize, slots: usize, first: SegmentNumber, used: usize, block: BlockNumber) -> Found
+    requires { ⌜ Sized segments slots (length (now image)) × (used ≤ 255) × (numbersFrom segments (segmentsOf segments slots (now image)) used (first .0) ≡ true) ⌝ }
+    ensures { λ r. ⌜ r ≡ foundIn segments slots (block .0) (record { first = first .0; slots = slotsFrom segments (segmentsOf segments slots (now (image .entry))) used (first .0) }) ⌝ }
+{
+    let mut found = Found::Nothing;
+    let number = first.0 as usize;
+    let mut i: usize = 0;
+    'segments: while i < used {
+        let index = (number + i) % segments;
+        let mut j: usize = 0;
+        while j < slots {
+            let at = (index * (slots + 1) + 1 + j) * 256;
+            let end = at + 256;
+            let kind = page::slot_kind(&image[at..end]);
+            let SlotKind::Live { length, block: held } = kind else {
+                j += 1;
+                continue;
+            };
+            if held.0 == block.0 {
+                found = Found::At(SlotPlace(at), length);
+                break 'segments;
+            }
+            j += 1;
+        }
+        i += 1;
+    }
+    found
 }
