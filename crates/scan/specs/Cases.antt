@@ -228,7 +228,7 @@ module _ (N B : ℕ) (l : List Segment) (r : RingFacts N l) (f : frame N l ≡ t
       rw (view-last, view-number, ← view-top) (ap (λ t. isTorn (lastWritten (viewOf N l)) && t)
         (unfold lastSlot in marked-clean (nextNumber l - 1) (filled (topSlots N l) - 1) (omega (arith, used-next N l r, r .some)) (omega arith) (index-inside N l r (nextNumber l - 1))))
 
-  view-block : lastBlock N l ≡ twinBlock (viewOf N l)
+  pub view-block : lastBlock N l ≡ twinBlock (viewOf N l)
   unfolding lastBlock twinBlock
   view-block = rw view-last
 

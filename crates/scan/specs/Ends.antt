@@ -57,7 +57,7 @@ module _ (p : List Entry) where
       go true q = absurd (false≢true (unfold inOrder in (ap inOrder q ∙ i)))
       go false q = absurd (true≢false (unfold isFull in (ap isFull q ∙ n)))
 
-  stop-torn : (k : Slot) → turn Full p k ≡ TornLast → k ≡ torn
+  pub stop-torn : (k : Slot) → turn Full p k ≡ TornLast → k ≡ torn
   unfolding turn behind leaveRoom
   stop-torn empty e = absurd (false≢true (unfold endsTorn in (ap endsTorn e)))
   stop-torn torn e = refl
@@ -134,7 +134,7 @@ module _ (n : ℕ) (l : List (List Slot)) (t : List Slot) where
               ; once = distinct-front (before-top l ++ entries (f .left)) (entryOf empty) (ap distinct (sym (top-entries l (f .left) empty (f .right) (f .emptyRight))) ∙ o .once) }
             ; rest = f .emptyRight; ending = (unfold turn leaveRoom in refl); stops = (unfold isFull in refl) }))
 
-  ending-ordered : inOrder ending ≡ true → Ordered l t
+  pub ending-ordered : inOrder ending ≡ true → Ordered l t
   ending-ordered i = let r = rows-plain ending (sane ending i) refl in go (r .0) (r .1)
     where
       sane : (f : Ending) → inOrder f ≡ true → isBad f ≡ false

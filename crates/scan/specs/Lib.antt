@@ -12,3 +12,4 @@ pub mod Heads
 pub mod Tally
 pub mod TallyLaws
 pub mod Find
+pub mod Verdict

@@ -8,12 +8,12 @@ use lib.ListN.{length, getD, set, length-append}
 use lib.Seq.{getD-at, set-at}
 use Rattle.model.specs.Lists.{all}
 use Rattle.model.specs.Slot.{Slot, empty, torn, dead, wrong, live, isEmpty, isTorn, isWrong, Entry, entryOf}
-use Rattle.model.specs.State.{View, entries, entriesIn, distinct, emptyLast, onlyTopEmpty, noneWrongOrTorn, blocksDistinct, emptySlotsLast, filled}
+use Rattle.model.specs.State.{View, entries, entriesIn, distinct, emptyLast, onlyTopEmpty, noneWrongOrTorn, blocksDistinct, emptySlotsLast, filled, blockIn}
 use Rattle.model.specs.Steps.{topRow, topNumber}
 use Rattle.model.specs.Laws.Lists.{all-get}
 use Rattle.model.specs.Laws.View.{slotSet}
 use Rattle.bridge.specs.Views.Slots.{full, sound, all-append, all-join, all-parts, all-flatten, flatten-last, entries-append, entries-cons, all-empty-entries, all-empty-last, full-then, top-row, only-top-empty}
-use Rattle.scan.specs.Cases.{lastWritten, lastMarked}
+use Rattle.scan.specs.Cases.{lastWritten, lastMarked, twinBlock}
 use Rattle.scan.specs.Judged.{Plain, distinct-front}
 
 -- conditions 5 to 7
@@ -160,6 +160,11 @@ module _ (n : ℕ) (l : List (List Slot)) (x : List Slot) (k : Slot) (y : List S
       let m = length-append l ((x ++ (k ∷ y)) ∷ []) in
       let i : length l ≡ n + length (l ++ ((x ++ (k ∷ y)) ∷ [])) - 1 - n = omega arith in
       rw (place, ← i, getD-at l (x ++ (k ∷ y)) [] [] (length l) refl, set-at x k y dead (length x) refl, set-at l (x ++ (k ∷ y)) [] (x ++ (dead ∷ y)) (length l) refl)
+
+-- and its block if it is live
+pub last-block : (n : ℕ) (l : List (List Slot)) (x : List Slot) (b : ℕ) (c : List ℕ) (y : List Slot) → all isEmpty y ≡ true → twinBlock (rowsWith n l (x ++ (live b c ∷ y))) ≡ b
+unfolding twinBlock isEmpty entryOf blockIn
+last-block n l x b c y e = ap (λ (k : Slot). blockIn (entryOf k)) (last-written n l x (live b c) y refl e)
 
 -- a top with no slot written has none that is last
 pub none-written : (n : ℕ) (l : List (List Slot)) (t : List Slot) → all isEmpty t ≡ true → lastWritten (rowsWith n l t) ≡ empty

@@ -25,14 +25,14 @@ use Rattle.scan.specs.Endings.{behind, turn, judge, ring}
 use Rattle.scan.specs.Rows.{Pass, pass, see, seeAll, noRow}
 use Rattle.scan.specs.Tally.{noneMet, tallies, addRow, addRows, noSum}
 
--- block numbers have 16 bits
+-- block numbers are not 0 and have 16 bits
 abbrev pub Narrow : List Slot → Type 0
 Narrow [] = Unit {0}
 Narrow (empty ∷ s) = Narrow s
 Narrow (torn ∷ s) = Narrow s
 Narrow (dead ∷ s) = Narrow s
 Narrow (wrong ∷ s) = Narrow s
-Narrow (live b c ∷ s) = (b < 65536) × Narrow s
+Narrow (live b c ∷ s) = ((0 < b) × (b < 65536)) × Narrow s
 
 abbrev pub NarrowRows : List (List Slot) → Type 0
 NarrowRows [] = Unit {0}
@@ -124,7 +124,7 @@ seen-after (torn ∷ x) r s p n a = seen-after x _ s p n a
 seen-after (dead ∷ x) r s p n a = seen-after x _ s p n a
 seen-after (wrong ∷ x) r s p n a = seen-after x _ s p n a
 seen-after (live b c ∷ x) r s p n a = let e : Entry = record { block = b; contents = c } in
-    rw (← (append-assoc p (e ∷ []) (flatMap entryOf x))) (seen-after x _ (putBit 64 s b) (p ++ (e ∷ [])) (n .1) (agree-put s p e (n .0) a))
+    rw (← (append-assoc p (e ∷ []) (flatMap entryOf x))) (seen-after x _ (putBit 64 s b) (p ++ (e ∷ [])) (n .1) (agree-put s p e (n .0 .1) a))
 
 ending-after : (x : List Slot) (r : Row) (s : List ℕ) (p : List Entry) → Narrow x → Agree s p → seeAll (map kindOf x) (pass r s) .row .ending ≡ judge (r .ending) p x
 unfolding seeAll see kindOf judge turn entryOf
@@ -134,8 +134,8 @@ ending-after (torn ∷ x) r s p n a = ending-after x _ s (p ++ []) n (agree-same
 ending-after (dead ∷ x) r s p n a = ending-after x _ s (p ++ []) n (agree-same a)
 ending-after (wrong ∷ x) r s p n a = ending-after x _ s (p ++ []) n (agree-same a)
 ending-after (live b c ∷ x) r s p n a = let e : Entry = record { block = b; contents = c } in
-    ending-after x _ (putBit 64 s b) (p ++ (e ∷ [])) (n .1) (agree-put s p e (n .0) a)
-    ∙ ap (λ (t : Bool). judge (behind (r .ending) (cond t TwinLast Full)) (p ++ (e ∷ [])) x) (a .same b (n .0))
+    ending-after x _ (putBit 64 s b) (p ++ (e ∷ [])) (n .1) (agree-put s p e (n .0 .1) a)
+    ∙ ap (λ (t : Bool). judge (behind (r .ending) (cond t TwinLast Full)) (p ++ (e ∷ [])) x) (a .same b (n .0 .1))
 
 -- ---- the rows added up
 

@@ -23,7 +23,7 @@ use Rattle.scan.specs.declared.Ending.the-variants.{Full, Room, TornLast
 use Rattle.scan.specs.Endings.{behind, turn, judge, ring, isFull, isBad, endsTwin}
 use Rattle.scan.specs.Cases.{fine, lastWritten, twinBlock, twinMarked, twinLast}
 use Rattle.scan.specs.Judged.{Plain, Stop, Judged, stop-judge}
-use Rattle.scan.specs.Ordered.{ordered, rowsWith, before-top, Ordered, ordered-facts, facts-ordered, ordered-rows, top-entries, ordered-ending, ending-plain, Last, find-last, last-written, none-written}
+use Rattle.scan.specs.Ordered.{ordered, rowsWith, before-top, Ordered, ordered-facts, facts-ordered, ordered-rows, top-entries, ordered-ending, ending-plain, Last, find-last, last-written, last-block, none-written}
 use Rattle.scan.specs.Ends.{both-ways, fine-ordered, stop-twin, ending, rows-then, rows-plain, entries-of, swap-sound, swap-last}
 
 -- ---- the first entry of a block taken out
@@ -107,8 +107,7 @@ module _ (N B n : ℕ) (l : List (List Slot)) (t : List Slot) (proper : (b : ℕ
 
   module _ (x : List Slot) (e : Entry) (y : List Slot) (split : t ≡ x ++ (live (e .block) (e .contents) ∷ y)) (rest : all isEmpty y ≡ true) where
     twin-is : twinBlock w ≡ e .block
-    unfolding twinBlock isEmpty entryOf blockIn
-    twin-is = ap (λ (k : Slot). blockIn (entryOf k)) (ap (λ (z : List Slot). lastWritten (rowsWith n l z)) split ∙ last-written n l x (live (e .block) (e .contents)) y refl rest)
+    twin-is = ap (λ (z : List Slot). twinBlock (rowsWith n l z)) split ∙ last-block n l x (e .block) (e .contents) y rest
 
     live-entries : entriesIn w ≡ before-top l ++ entries x ++ (e ∷ [])
     unfolding entryOf
