@@ -26,25 +26,19 @@ use Rattle.scan.specs.Twins.{twin-ending}
 use Rattle.scan.specs.Tally.{noneMet, tallies, addRows, noSum}
 use Rattle.scan.specs.TallyLaws.{Narrow, NarrowRows, agree-none, lastLive, isWritten, sum-live, sum-ending, sum-compactions, sum-top}
 
--- ---- the state of the slots, by how they end and whether they are few enough
+-- ---- the state of the slots, by how they end and whether few enough are live
 
-unfoldable pub verdictOf : Ending → Bool → Bool → State
-verdictOf Full x y = cond x clean damaged
-verdictOf Room x y = cond x clean damaged
-verdictOf TornLast x y = cond x (unfinished caseC) damaged
-verdictOf TwinLast x y = cond y (unfinished caseD) damaged
-verdictOf Bad x y = damaged
+unfoldable pub orderly : ℕ → Sum → Bool
+orderly C f = inOrder (f .ending) && leb (f .live) C
+
+unfoldable pub tornWithin : ℕ → Sum → Bool
+tornWithin C f = endsTorn (f .ending) && leb (f .live) C
+
+unfoldable pub twinWithin : ℕ → Sum → Bool
+twinWithin C f = endsTwin (f .ending) && leb (f .live) C
 
 unfoldable pub verdict : ℕ → Sum → State
-verdict C f = verdictOf (f .ending) (leb (f .live) C) (leb (f .live) (C + 1))
-
-by-ending : (e : Ending) (x y : Bool) → cond (inOrder e && x) clean (cond (endsTorn e && x) (unfinished caseC) (cond (endsTwin e && y) (unfinished caseD) damaged)) ≡ verdictOf e x y
-unfolding inOrder endsTorn endsTwin verdictOf
-by-ending Full x y = refl
-by-ending Room x y = refl
-by-ending TornLast x y = refl
-by-ending TwinLast x y = refl
-by-ending Bad x y = refl
+verdict C f = cond (orderly C f) clean (cond (tornWithin C f) (unfinished caseC) (cond (twinWithin (C + 1) f) (unfinished caseD) damaged))
 
 -- ---- block numbers
 
@@ -127,7 +121,7 @@ last-live d (live g h ∷ x) b c y e = last-live g x b c y e
 pub record Told (N B n : ℕ) (rows : List (List Slot)) (f : Sum) : Type 0 where
   pub live : f .live ≡ length (entries (flatten rows))
   pub compactions : f .compactions ≡ compactions rows
-  pub fine : fine N B (record { first = n; slots = rows }) ≡ (inOrder (f .ending) && leb (f .live) (capacity N B))
+  pub fine : fine N B (record { first = n; slots = rows }) ≡ orderly (capacity N B) f
   pub state : slotState N B (record { first = n; slots = rows }) ≡ verdict (capacity N B) f
   pub free : inOrder (f .ending) ≡ true → f .written ≡ firstEmpty (topRow rows)
   pub last : (endsTorn (f .ending) || endsTwin (f .ending)) ≡ true → f .written ≡ filled (topRow rows)
@@ -150,9 +144,12 @@ module _ (N B n : ℕ) (l : List (List Slot)) (t : List Slot) (narrow : NarrowRo
   f-compactions = sum-compactions (l ++ (t ∷ [])) noneMet noSum refl ∙ omega arith
 
   f-state : slotState N B (rowsWith n l t) ≡ verdict (capacity N B) f
-  unfolding slotState verdict entriesIn
+  unfolding slotState verdict orderly tornWithin twinWithin entriesIn
   f-state = rw (fine-ending n l t N B, torn-ending N B n l t, twin-ending N B n l t (λ b h. proper-rows b (l ++ (t ∷ [])) narrow (unfold entriesIn in h)), f-ending, f-live)
-      (by-ending (ending n l t) (leb (length (entries (flatten (l ++ (t ∷ []))))) (capacity N B)) (leb (length (entries (flatten (l ++ (t ∷ []))))) (capacity N B + 1)))
+
+  f-orderly : (inOrder (ending n l t) && leb (length (entriesIn (rowsWith n l t))) (capacity N B)) ≡ orderly (capacity N B) f
+  unfolding orderly entriesIn
+  f-orderly = rw (f-ending, f-live)
 
   -- the stop of a torn or twin ending
   stop-at : (e : Ending) → isBad e ≡ false → isFull e ≡ false → ending n l t ≡ e → Stop e (before-top l) t
@@ -198,7 +195,7 @@ module _ (N B n : ℕ) (l : List (List Slot)) (t : List Slot) (narrow : NarrowRo
   told-top = let w = sum-top l t noneMet noSum in record
     { live = f-live
     ; compactions = f-compactions
-    ; fine = fine-ending n l t N B ∙ (rw (f-ending, f-live) (unfold entriesIn in refl))
+    ; fine = fine-ending n l t N B ∙ f-orderly
     ; state = f-state
     ; free = λ h. w .0 ∙ (first-free t (ending-ordered n l t (ap inOrder (sym f-ending) ∙ h) .last) ∙ ap firstEmpty (sym (top-row l t)))
     ; last = λ h. w .0 ∙ (f-last h ∙ ap filled (sym (top-row l t)))
