@@ -13,3 +13,5 @@ pub mod Tally
 pub mod TallyLaws
 pub mod Find
 pub mod Verdict
+pub mod Surveys
+pub mod SurveyLaws

@@ -550,3 +550,28 @@ pub fn find(image: &[u8], segments: usize, slots: usize, first: SegmentNumber, u
     }
     found
 }
+
+// ---- the survey
+
+// The segments in use that a table of summaries shows, and their rows added up.
+pub struct Exam {
+    pub first: usize,
+    pub used: usize,
+    pub sum: Sum,
+}
+
+// The state of an image, with what a request needs in that state.
+pub enum Survey {
+    // The smallest number in use, how many segments are, how many slots are live, the top's first empty slot, or as
+    // many as it has, and how many compactions make room when there is none.
+    Clean { first: SegmentNumber, used: usize, live: usize, free: usize, compactions: usize },
+    // (a): the segment after the top is neither in use nor blank.
+    TornSegment { top: SegmentNumber },
+    // (b): the top is owing; whether its old segment is blank already.
+    ErasePending { top: SegmentNumber, blank: bool },
+    // (c): the top's last written slot is torn.
+    TornSlot { place: SlotPlace },
+    // (d): the older of two live slots with one block.
+    OldSlot { place: SlotPlace },
+    Damaged,
+}
