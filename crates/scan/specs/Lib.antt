@@ -15,3 +15,4 @@ pub mod Find
 pub mod Verdict
 pub mod Surveys
 pub mod SurveyLaws
+pub mod SurveyCases

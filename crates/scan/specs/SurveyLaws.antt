@@ -1,4 +1,4 @@
--- The survey of an image by its cases: the top owing, the segment after it torn, or neither.
+-- What a table of summaries examined says of an image: conditions 1 to 8 of a mended list, and the state of its slots.
 use Prim.Native.Nat.{ℕ, zero, suc, _+_, _-_, _*_, _%_, _≤_, _<_}
 use mathlib.Core.Path.{_≡_, refl, sym, ap, ap₂, _∙_, subst}
 use mathlib.Core.Logic.{_≢_}
@@ -61,7 +61,7 @@ narrow-rows s N B (suc u) n = (narrow-slots s (slotsOffset B (n % N)) B, narrow-
 
 -- ---- a mended list, whose segments in use are those of the image
 
-abbrev Within : List Segment → List Segment → Type 0
+abbrev pub Within : List Segment → List Segment → Type 0
 Within m l = (i : ℕ) → isInUse (getD m i blank) ≡ true → (numberAfter (getD l i blank) ≡ numberAfter (getD m i blank)) × (slotsIn (getD l i blank) ≡ slotsIn (getD m i blank))
 
 within-rows : (N : ℕ) (m l : List Segment) → Within m l → (u n : ℕ) → numbersFrom N m u n ≡ true → (numbersFrom N l u n ≡ true) × (slotsFrom N l u n ≡ slotsFrom N m u n)
@@ -74,10 +74,10 @@ within-rows N m l w (suc u) n h =
     let r = within-rows N m l w u (suc n) (and-right (eqb (numberAfter (getD m (n % N) blank)) (suc n)) (numbersFrom N m u (suc n)) h) in
     (rw (q .0, a, r .0), ap₂ {C = List (List Slot)} (λ x y. x ∷ y) (q .1) (r .1))
 
-within-same : (l : List Segment) → Within l l
+pub within-same : (l : List Segment) → Within l l
 within-same l i h = (refl, refl)
 
-within-blanked : (N : ℕ) (l : List Segment) → Within (nextBlanked N l) l
+pub within-blanked : (N : ℕ) (l : List Segment) → Within (nextBlanked N l) l
 unfolding nextBlanked
 within-blanked N l i h = elim (ℕ-discrete i (nextIndex N l))
     [ no d ↦ (let e = getD-set-other l (nextIndex N l) i blank blank d in (ap numberAfter (sym e), ap slotsIn (sym e)))
@@ -90,7 +90,7 @@ within-blanked N l i h = elim (ℕ-discrete i (nextIndex N l))
     none : {x : Segment} → x ≡ blank → isInUse x ≡ false
     none q = ap isInUse q ∙ (unfold isInUse in refl)
 
-within-settled : (N : ℕ) (l : List Segment) → length l ≡ N → 0 < N → Within (topSettled N l) l
+pub within-settled : (N : ℕ) (l : List Segment) → length l ≡ N → 0 < N → Within (topSettled N l) l
 unfolding topSettled
 within-settled N l z p i h = elim (ℕ-discrete i (topIndex N l))
     [ no d ↦ (let e = getD-set-other (nextBlanked N l) (topIndex N l) i (settled (getD l (topIndex N l) blank)) blank d in
@@ -112,7 +112,7 @@ within-settled N l z p i h = elim (ℕ-discrete i (topIndex N l))
 
 -- ---- a table examined
 
-bad-orderly : (C : ℕ) → orderly C badSum ≡ false
+pub bad-orderly : (C : ℕ) → orderly C badSum ≡ false
 unfolding orderly badSum inOrder
 bad-orderly C = refl
 
@@ -125,7 +125,7 @@ module _ (N B : ℕ) (s : Image) (some : 0 < N) where
   l = segmentsOf N B s
 
   -- what the sums say of a list with its frame
-  exam-told : (m : List Segment) → length m ≡ N → Within m l → frame N m ≡ true → Told N B (viewOf N m .first) (viewOf N m .slots) (sumOn s N B (usedCount m) (firstNumber m))
+  pub exam-told : (m : List Segment) → length m ≡ N → Within m l → frame N m ≡ true → Told N B (viewOf N m .first) (viewOf N m .slots) (sumOn s N B (usedCount m) (firstNumber m))
   unfolding viewOf sumOn
   exam-told m z w f =
       let r = frame-ring N m z f in
@@ -135,12 +135,12 @@ module _ (N B : ℕ) (s : Image) (some : 0 < N) where
       subst (λ (y : List (List Slot)). Told N B (firstNumber m) y (addRows (tallies (rowsOn s N B (usedCount m) (firstNumber m)) noneMet) noSum)) e
         (told N B (firstNumber m) (rowsOn s N B (usedCount m) (firstNumber m)) (omega (arith, r .some)) (narrow-rows s N B (usedCount m) (firstNumber m)))
 
-  exam-sum : (m : List Segment) → examOf N B s (map outline m) .sum ≡ cond (frame N m) (sumOn s N B (usedCount m) (firstNumber m)) badSum
+  pub exam-sum : (m : List Segment) → examOf N B s (map outline m) .sum ≡ cond (frame N m) (sumOn s N B (usedCount m) (firstNumber m)) badSum
   unfolding examOf
   exam-sum m = rw (outline-frame N m, outline-used m, outline-first m)
 
   -- orderly sums: conditions 1 to 8
-  exam-orderly : (m : List Segment) → length m ≡ N → Within m l → (frame N m && fine N B (viewOf N m)) ≡ orderly (capacity N B) (examOf N B s (map outline m) .sum)
+  pub exam-orderly : (m : List Segment) → length m ≡ N → Within m l → (frame N m && fine N B (viewOf N m)) ≡ orderly (capacity N B) (examOf N B s (map outline m) .sum)
   exam-orderly m z w = go (frame N m) refl
     where
       go : (t : Bool) → frame N m ≡ t → (frame N m && fine N B (viewOf N m)) ≡ orderly (capacity N B) (examOf N B s (map outline m) .sum)
@@ -148,7 +148,7 @@ module _ (N B : ℕ) (s : Image) (some : 0 < N) where
       go false f = let e : examOf N B s (map outline m) .sum ≡ badSum = exam-sum m ∙ rw f in rw (f, e) (sym (bad-orderly (capacity N B)))
 
   -- the state of the slots, if the top is not owing and the segment after it not torn
-  exam-verdict : cond (frame N l) (slotState N B (viewOf N l)) damaged ≡ verdict (capacity N B) (examOf N B s (map outline l) .sum)
+  pub exam-verdict : cond (frame N l) (slotState N B (viewOf N l)) damaged ≡ verdict (capacity N B) (examOf N B s (map outline l) .sum)
   exam-verdict = go (frame N l) refl
     where
       go : (t : Bool) → frame N l ≡ t → cond t (slotState N B (viewOf N l)) damaged ≡ verdict (capacity N B) (examOf N B s (map outline l) .sum)
