@@ -5,3 +5,4 @@ pub mod Heads
 pub mod Frames
 pub mod Gather
 pub mod Find
+pub mod Surveys

@@ -1,17 +1,20 @@
 -- What a survey of an image says: its state, and what a request needs in that state.
-use Prim.Native.Nat.{ℕ, _-_, _*_}
+use Prim.Native.Nat.{ℕ, _+_, _-_, _*_, _≤_}
 use mathlib.Core.Path.{_≡_, refl}
 use mathlib.Core.Bool.{Bool, cond, _||_, not}
-use mathlib.Core.List.{List}
+use mathlib.Core.List.{List, map}
 use lib.ListN.{length, getD}
 use Rattle.model.specs.Chip.{Image}
-use Rattle.model.specs.State.{Segment, blank, isInUse, isInvalid, nextNumber, nextIndex, usedCount, firstNumber, viewOf, entriesIn, lastSlot, older, Exception, caseA, caseB, caseC, caseD, State, clean, unfinished, damaged, stateOf}
+use Rattle.model.specs.State.{Segment, blank, segmentsOf, isInUse, isInvalid, nextNumber, nextIndex, usedCount, firstNumber, viewOf, entriesIn, lastSlot, older, Exception, caseA, caseB, caseC, caseD, State, clean, unfinished, damaged, stateOf}
 use Rattle.model.specs.Steps.{slotAt, topRow, firstEmpty, compactions}
+use Rattle.page.specs.Pages.{Sized}
 use Rattle.scan.specs.declared.Sum.{Sum}
+use Rattle.scan.specs.declared.Summary.{Summary}
 use Rattle.scan.specs.declared.Exam.{Exam}
 use Rattle.scan.specs.declared.Survey.{Survey}
 use Rattle.scan.specs.declared.Survey.the-variants.{Clean, TornSegment, ErasePending, TornSlot, OldSlot, Damaged}
 use Rattle.scan.specs.Cases.{frame}
+use Rattle.scan.specs.Heads.{outline, heads}
 use Rattle.scan.specs.Parts.{rowsOn}
 use Rattle.scan.specs.Tally.{noneMet, tallies, addRows, noSum, badSum}
 
@@ -60,3 +63,18 @@ sumOn s N B u n = addRows (tallies (rowsOn s N B u n) noneMet) noSum
 
 unfoldable pub examOf : ℕ → ℕ → Image → List Segment → Exam
 examOf N B s h = record { first = firstNumber h; used = usedCount h; sum = cond (frame N h) (sumOn s N B (usedCount h) (firstNumber h)) badSum }
+
+-- a table shows the segments of an image of a right size, and the number after its top's
+pub record Shown (N B : ℕ) (s : Image) (table : List Summary) (next : ℕ) : Type 0 where
+  pub size : Sized N B (length s)
+  pub least : 2 ≤ N
+  pub most : N ≤ 64
+  pub slots : 2 ≤ B
+  pub shown : heads N table ≡ map outline (segmentsOf N B s)
+  pub after : next ≡ nextNumber (heads N table)
+  pub below : next ≤ 4294967296
+
+-- the numbers of an exam fit
+pub record Bounded (e : Exam) : Type 0 where
+  pub whole : e .first + e .used ≤ 4294967296
+  pub used : e .used ≤ 64

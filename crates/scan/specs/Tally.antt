@@ -52,5 +52,5 @@ pub record Few (f : Sum) (i : ℕ) : Type 0 where
 
 -- numbers of a frame fit
 pub record Ranged (f : Frame) : Type 0 where
-  pub first : f .first ≤ 4294967296
+  pub whole : f .first + f .used ≤ 4294967296
   pub used : f .used ≤ 64

@@ -5,14 +5,17 @@ use model::SlotKind;
 use model::SlotPlace;
 use page::HeaderSeen;
 ghost use mathlib.Core.Path.{_≡_};
-ghost use mathlib.Core.Bool.{true, cond};
+ghost use mathlib.Core.Bool.{true, false, cond, not, _||_};
 ghost use mathlib.Core.List.{map};
 ghost use Prim.Native.Nat.{_+_, _-_, _*_, _<_, _≤_, max};
 ghost use lib.ListN.{length, getD, take};
-ghost use Rattle.model.specs.State.{blank, isInUse, isInvalid, isOwing, numberAfter, nextNumber, usedCount, numbersFrom, segmentsOf, nextBlanked, settled, topSettled, slotsFrom};
+ghost use Rattle.model.specs.State.{blank, isInUse, isInvalid, isOwing, numberAfter, nextNumber, usedCount, numbersFrom, segmentsOf, nextBlanked, settled, topSettled, slotsFrom, topIndex, nextIndex, capacity};
+ghost use Rattle.model.specs.Steps.{slotAt};
 ghost use Rattle.page.specs.Pages.{Sized};
 ghost use Rattle.scan.specs.Bitmap.{inBits, putBit};
-ghost use Rattle.scan.specs.Endings.{behind, leaveRoom};
+ghost use Rattle.scan.specs.Endings.{behind, leaveRoom, inOrder, endsTorn, endsTwin};
+ghost use Rattle.scan.specs.Verdict.{orderly, tornWithin, twinWithin};
+ghost use Rattle.scan.specs.Surveys.{surveyOf, examOf, Shown, Bounded};
 ghost use Rattle.scan.specs.Heads.{bareOf, bare, outline, heads, stateSeen, allSettled, frameOf};
 ghost use Rattle.scan.specs.Parts.{rowsOn};
 ghost use Rattle.scan.specs.Find.{foundIn};
@@ -574,4 +577,156 @@ pub enum Survey {
     // (d): the older of two live slots with one block.
     OldSlot { place: SlotPlace },
     Damaged,
+}
+
+fn in_order(ending: Ending) -> bool
+    ensures { λ r. ⌜ r ≡ inOrder ending ⌝ }
+{
+    match ending {
+        Ending::Full => true,
+        Ending::Room => true,
+        Ending::TornLast => false,
+        Ending::TwinLast => false,
+        Ending::Bad => false,
+    }
+}
+
+fn ends_torn(ending: Ending) -> bool
+    ensures { λ r. ⌜ r ≡ endsTorn ending ⌝ }
+{
+    match ending {
+        Ending::Full => false,
+        Ending::Room => false,
+        Ending::TornLast => true,
+        Ending::TwinLast => false,
+        Ending::Bad => false,
+    }
+}
+
+fn ends_twin(ending: Ending) -> bool
+    ensures { λ r. ⌜ r ≡ endsTwin ending ⌝ }
+{
+    match ending {
+        Ending::Full => false,
+        Ending::Room => false,
+        Ending::TornLast => false,
+        Ending::TwinLast => true,
+        Ending::Bad => false,
+    }
+}
+
+// Whether conditions 5 to 8 hold.
+fn orderly(sum: Sum, most: usize) -> bool
+    ensures { λ r. ⌜ r ≡ orderly most sum ⌝ }
+{
+    let ending = sum.ending;
+    if in_order(ending) { sum.live <= most } else { false }
+}
+
+// Whether they hold but for a torn slot, written last.
+fn torn_within(sum: Sum, most: usize) -> bool
+    ensures { λ r. ⌜ r ≡ tornWithin most sum ⌝ }
+{
+    let ending = sum.ending;
+    if ends_torn(ending) { sum.live <= most } else { false }
+}
+
+// Whether they hold but for a live slot, written last, whose block was met before.
+fn twin_within(sum: Sum, most: usize) -> bool
+    ensures { λ r. ⌜ r ≡ twinWithin most sum ⌝ }
+{
+    let ending = sum.ending;
+    if ends_twin(ending) { sum.live <= most } else { false }
+}
+
+// The most live slots (document 01: the capacity C).
+fn capacity(segments: usize, slots: usize) -> usize
+    requires { ⌜ (2 ≤ segments) × (segments ≤ 64) × (2 ≤ slots) × (slots ≤ 255) ⌝ }
+    ensures { λ r. ⌜ (r ≡ capacity segments slots) × (r ≤ 1000000) ⌝ }
+{
+    (segments - 1) * slots - 1
+}
+
+// A table examined: the frame, and the rows if it is fine.
+fn examine(image: &[u8], segments: usize, slots: usize, table: [Summary; 64]) -> Exam
+    requires { ⌜ Sized segments slots (length (now image)) × (segments ≤ 64) ⌝ }
+    ensures { λ r. ⌜ (r ≡ examOf segments slots (now (image .entry)) (heads segments table)) × Bounded r ⌝ }
+{
+    let f = see_frame(table, segments);
+    let first = f.first;
+    let used = f.used;
+    if f.fine {
+        let sum = sum_rows(gather(image, segments, slots, table, first, used), used);
+        return Exam { first, used, sum };
+    }
+    let sum = Sum {
+        live: 0,
+        written: 0,
+        compactions: 0,
+        dead: false,
+        ending: Ending::Bad,
+        block: BlockNumber(0),
+    };
+    Exam { first, used, sum }
+}
+
+// The number before the next one.
+fn top_number(next: usize) -> SegmentNumber
+    requires { ⌜ next ≤ 4294967296 ⌝ }
+    ensures { λ r. ⌜ r .0 ≡ next - 1 ⌝ }
+{
+    SegmentNumber(less(next, 1) as u32)
+}
+
+// Whether a summary shows a blank segment.
+fn shows_blank(s: Summary) -> bool
+    ensures { λ r. ⌜ r ≡ not (isInUse (bare s) || isInvalid (bare s)) ⌝ }
+{
+    if is_in_use(s) {
+        return false;
+    }
+    !is_invalid(s)
+}
+
+// The place of a slot of the segment with a number.
+fn slot_place(segments: usize, slots: usize, number: usize, slot: usize) -> SlotPlace
+    requires { ⌜ (0 < segments) × (segments ≤ 64) × (slots ≤ 255) × (slot ≤ 65535) ⌝ }
+    ensures { λ r. ⌜ r .0 ≡ slotAt segments slots number slot * 256 ⌝ }
+{
+    SlotPlace((number % segments * (slots + 1) + 1 + slot) * 256)
+}
+
+// The survey where the top is owing: all is fine once its old segment, the one after it, is taken for erased.
+fn survey_owing(image: &[u8], segments: usize, slots: usize, table: [Summary; 64], next: usize) -> Survey
+    requires { ⌜ Shown segments slots (now image) table next × (isOwing (getD (heads segments table) (topIndex segments (heads segments table)) blank) ≡ true) ⌝ }
+    ensures { λ r. ⌜ r ≡ surveyOf segments slots (segmentsOf segments slots (now (image .entry))) ⌝ }
+{
+    let exam = examine(image, segments, slots, top_settled(table, segments, next));
+    let sum = exam.sum;
+    if exam.used + 1 != segments {
+        return Survey::Damaged;
+    }
+    if orderly(sum, capacity(segments, slots)) {
+        let after = next % segments;
+        let top = top_number(next);
+        return Survey::ErasePending {
+            top,
+            blank: shows_blank(table[after]),
+        };
+    }
+    Survey::Damaged
+}
+
+// The survey where the segment after the top is neither in use nor blank: all is fine once it is taken for blank.
+fn survey_torn(image: &[u8], segments: usize, slots: usize, table: [Summary; 64], next: usize) -> Survey
+    requires { ⌜ Shown segments slots (now image) table next × (isOwing (getD (heads segments table) (topIndex segments (heads segments table)) blank) ≡ false) × (isInvalid (getD (heads segments table) (nextIndex segments (heads segments table)) blank) ≡ true) ⌝ }
+    ensures { λ r. ⌜ r ≡ surveyOf segments slots (segmentsOf segments slots (now (image .entry))) ⌝ }
+{
+    let exam = examine(image, segments, slots, next_blanked(table, segments, next));
+    let sum = exam.sum;
+    if orderly(sum, capacity(segments, slots)) {
+        let top = top_number(next);
+        return Survey::TornSegment { top };
+    }
+    Survey::Damaged
 }
