@@ -10,7 +10,7 @@ use lib.Dec.{ltb, leb, eqb}
 use borrow.Author.Tests.{eqb-true, lt-ltb}
 use Rattle.model.specs.Chip.{Image}
 use Rattle.model.specs.Slot.{Slot}
-use Rattle.model.specs.State.{Segment, blank, segmentsOf, isInUse, isInvalid, isOwing, nextNumber, topIndex, nextIndex, usedCount, firstNumber, slotsFrom, View, viewOf, entriesIn, holds, copies, capacity, nextBlanked, topSettled, topSlots, filled, lastSlot, placeOf, lastBlock, older, Exception, caseA, caseB, caseC, caseD, State, clean, unfinished, damaged, stateOf}
+use Rattle.model.specs.State.{Segment, blank, segmentsOf, isInUse, isInvalid, isOwing, nextNumber, topIndex, nextIndex, usedCount, firstNumber, slotsFrom, numbersFrom, View, viewOf, entriesIn, holds, copies, capacity, nextBlanked, topSettled, topSlots, filled, lastSlot, placeOf, lastBlock, older, Exception, caseA, caseB, caseC, caseD, State, clean, unfinished, damaged, stateOf}
 use Rattle.model.specs.Steps.{slotAt, topRow, firstEmpty, compactions}
 use Rattle.model.specs.Table.{lookup, contentsFound}
 use Rattle.model.specs.Laws.Ring.{slots-length}
@@ -21,8 +21,8 @@ use Rattle.scan.specs.declared.Sum.{Sum}
 use Rattle.scan.specs.declared.Exam.{Exam}
 use Rattle.scan.specs.declared.Found.{Found}
 use Rattle.scan.specs.declared.Found.the-variants.{At, Nothing}
-use Rattle.scan.specs.declared.Survey.{Survey}
-use Rattle.scan.specs.declared.Survey.the-variants.{Clean, TornSegment, ErasePending, TornSlot, OldSlot, Damaged}
+use Rattle.scan.specs.declared.Surveyed.{Surveyed}
+use Rattle.scan.specs.declared.Surveyed.the-variants.{Clean, TornSegment, ErasePending, TornSlot, OldSlot, Damaged}
 use Rattle.scan.specs.Endings.{inOrder, endsTorn, endsTwin}
 use Rattle.scan.specs.Cases.{frame, fine, slotState, twinLast, twinBlock, mendedState, stateBy, state-by, frame-ring, view-top, view-block}
 use Rattle.scan.specs.Heads.{outline, outline-used, outline-first}
@@ -132,15 +132,23 @@ module _ (N B : ℕ) (s : Image) (some : 0 < N) where
   unfolding examOf viewOf
   exam-used = outline-used l ∙ sym (slots-length N l (usedCount l) (firstNumber l))
 
-  -- some segment is in use, and the top's number follows
+  -- some segment is in use
   pub framed-some : frame N l ≡ true → 1 ≤ examined l .used
   framed-some f = let r = frame-ring N l size f in let e : examined l .used ≡ usedCount l = (unfold examOf in outline-used l) in omega (arith, r .some)
 
-  framed-top : frame N l ≡ true → examined l .first + examined l .used - 1 ≡ nextNumber l - 1
-  framed-top f = let r = frame-ring N l size f in
-      let a : examined l .first ≡ firstNumber l = (unfold examOf in outline-first l) in
-      let e : examined l .used ≡ usedCount l = (unfold examOf in outline-used l) in
-      omega (arith, used-next N l r)
+  -- as many numbers from the first on are in use
+  pub framed-chain : frame N l ≡ true → numbersFrom N l (examined l .used) (examined l .first) ≡ true
+  unfolding examOf
+  framed-chain f = ap₂ (numbersFrom N l) (outline-used l) (outline-first l) ∙ frame-ring N l size f .chain
+
+  -- and their rows are the view
+  pub exam-view : record { first = examined l .first; slots = slotsFrom N l (examined l .used) (examined l .first) } ≡ viewOf N l
+  unfolding examOf viewOf
+  exam-view = rw (outline-used l, outline-first l)
+
+  pub twin-held : (C : ℕ) → twinWithin C (examined l .sum) ≡ true → holds (examined l .sum .block .0) (entriesIn (viewOf N l)) ≡ true
+  unfolding entriesIn
+  twin-held C h = framed-told (framed-twin C h) .held (and-eq-true-iff (endsTwin (examined l .sum .ending)) (leb (examined l .sum .live) C) .0 (unfold twinWithin in h) .0)
 
   module _ (paid : isOwing (getD l (topIndex N l) blank) ≡ false) (whole : isInvalid (getD l (nextIndex N l) blank) ≡ false) where
     slots-state : stateOf N B l ≡ verdict (capacity N B) (examined l .sum)
@@ -159,12 +167,12 @@ module _ (N B : ℕ) (s : Image) (some : 0 < N) where
         clean-verdict = unfold verdict in rw h
 
     pub slots-torn : orderly (capacity N B) (examined l .sum) ≡ false → tornWithin (capacity N B) (examined l .sum) ≡ true
-        → surveyOf N B l ≡ TornSlot (record { 0 = slotAt N B (examined l .first + examined l .used - 1) (examined l .sum .written - 1) * 256 })
+        → surveyOf N B l ≡ TornSlot (record { 0 = slotAt N B (nextNumber l - 1) (examined l .sum .written - 1) * 256 })
     unfolding surveyIn mendIn
     slots-torn o h =
         let f = framed-torn (capacity N B) h in
         let e : endsTorn (examined l .sum .ending) ≡ true = and-eq-true-iff (endsTorn (examined l .sum .ending)) (leb (examined l .sum .live) (capacity N B)) .0 (unfold tornWithin in h) .0 in
-        survey-at (unfinished caseC) (slots-state ∙ torn-verdict) ∙ (rw (framed-top f, written f e))
+        survey-at (unfinished caseC) (slots-state ∙ torn-verdict) ∙ (rw (written f e))
       where
         torn-verdict : verdict (capacity N B) (examined l .sum) ≡ unfinished caseC
         torn-verdict = unfold verdict in rw (o, h)

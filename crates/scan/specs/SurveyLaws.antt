@@ -24,8 +24,8 @@ use Rattle.model.specs.Laws.Segments.{segments-length}
 use Rattle.scan.specs.declared.Sum.{Sum}
 use Rattle.scan.specs.declared.Exam.{Exam}
 use Rattle.scan.specs.declared.Found.{Found}
-use Rattle.scan.specs.declared.Survey.{Survey}
-use Rattle.scan.specs.declared.Survey.the-variants.{Clean, TornSegment, ErasePending, TornSlot, OldSlot, Damaged}
+use Rattle.scan.specs.declared.Surveyed.{Surveyed}
+use Rattle.scan.specs.declared.Surveyed.the-variants.{Clean, TornSegment, ErasePending, TornSlot, OldSlot, Damaged}
 use Rattle.scan.specs.Endings.{inOrder, endsTorn, endsTwin}
 use Rattle.scan.specs.Cases.{frame, fine, slotState, mendedState, stateBy, state-by, frame-ring, view-top, view-block, twinBlock}
 use Rattle.scan.specs.Rows.{slotsAt}

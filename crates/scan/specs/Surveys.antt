@@ -11,8 +11,10 @@ use Rattle.page.specs.Pages.{Sized}
 use Rattle.scan.specs.declared.Sum.{Sum}
 use Rattle.scan.specs.declared.Summary.{Summary}
 use Rattle.scan.specs.declared.Exam.{Exam}
-use Rattle.scan.specs.declared.Survey.{Survey}
-use Rattle.scan.specs.declared.Survey.the-variants.{Clean, TornSegment, ErasePending, TornSlot, OldSlot, Damaged}
+use Rattle.scan.specs.declared.Found.{Found}
+use Rattle.scan.specs.declared.Found.the-variants.{At, Nothing}
+use Rattle.scan.specs.declared.Surveyed.{Surveyed}
+use Rattle.scan.specs.declared.Surveyed.the-variants.{Clean, TornSegment, ErasePending, TornSlot, OldSlot, Damaged}
 use Rattle.scan.specs.Cases.{frame}
 use Rattle.scan.specs.Heads.{outline, heads}
 use Rattle.scan.specs.Parts.{rowsOn}
@@ -20,23 +22,23 @@ use Rattle.scan.specs.Tally.{noneMet, tallies, addRows, noSum, badSum}
 
 -- ---- a survey
 
-unfoldable pub mendIn : ℕ → ℕ → List Segment → Exception → Survey
+unfoldable pub mendIn : ℕ → ℕ → List Segment → Exception → Surveyed
 mendIn N B l caseA = TornSegment (record { 0 = nextNumber l - 1 })
 mendIn N B l caseB = ErasePending (record { 0 = nextNumber l - 1 }) (not (isInUse (getD l (nextIndex N l) blank) || isInvalid (getD l (nextIndex N l) blank)))
 mendIn N B l caseC = TornSlot (record { 0 = slotAt N B (nextNumber l - 1) (lastSlot N l) * 256 })
 mendIn N B l caseD = OldSlot (record { 0 = slotAt N B (older N l .number) (older N l .slot) * 256 })
 
-unfoldable pub surveyIn : ℕ → ℕ → List Segment → State → Survey
+unfoldable pub surveyIn : ℕ → ℕ → List Segment → State → Surveyed
 surveyIn N B l clean = let v = viewOf N l in
     Clean (record { 0 = v .first }) (length (v .slots)) (length (entriesIn v)) (firstEmpty (topRow (v .slots))) (compactions (v .slots))
 surveyIn N B l (unfinished x) = mendIn N B l x
 surveyIn N B l damaged = Damaged
 
-unfoldable pub surveyOf : ℕ → ℕ → List Segment → Survey
+unfoldable pub surveyOf : ℕ → ℕ → List Segment → Surveyed
 surveyOf N B l = surveyIn N B l (stateOf N B l)
 
 -- the state that a survey says
-unfoldable pub stateIn : Survey → State
+unfoldable pub stateIn : Surveyed → State
 stateIn (Clean n u l f c) = clean
 stateIn (TornSegment n) = unfinished caseA
 stateIn (ErasePending n b) = unfinished caseB
@@ -64,6 +66,14 @@ sumOn s N B u n = addRows (tallies (rowsOn s N B u n) noneMet) noSum
 unfoldable pub examOf : ℕ → ℕ → Image → List Segment → Exam
 examOf N B s h = record { first = firstNumber h; used = usedCount h; sum = cond (frame N h) (sumOn s N B (usedCount h) (firstNumber h)) badSum }
 
+-- the survey of a clean image, and of one with an older slot that was searched
+unfoldable pub cleanIn : Exam → Surveyed
+cleanIn e = Clean (record { 0 = e .first }) (e .used) (e .sum .live) (e .sum .written) (e .sum .compactions)
+
+unfoldable pub oldIn : Found → Surveyed
+oldIn (At p n) = OldSlot p
+oldIn Nothing = Damaged
+
 -- a table shows the segments of an image of a right size, and the number after its top's
 pub record Shown (N B : ℕ) (s : Image) (table : List Summary) (next : ℕ) : Type 0 where
   pub size : Sized N B (length s)
@@ -78,3 +88,4 @@ pub record Shown (N B : ℕ) (s : Image) (table : List Summary) (next : ℕ) : T
 pub record Bounded (e : Exam) : Type 0 where
   pub whole : e .first + e .used ≤ 4294967296
   pub used : e .used ≤ 64
+  pub written : e .sum .written ≤ 65535

@@ -48,6 +48,7 @@ badSum = record { live = 0; written = 0; compactions = 0; dead = false; ending =
 -- sums of at most i rows
 pub record Few (f : Sum) (i : ℕ) : Type 0 where
   pub live : f .live ≤ 65535 * i
+  pub written : f .written ≤ 65535
   pub compactions : f .compactions ≤ i
 
 -- numbers of a frame fit

@@ -2,17 +2,17 @@
 use Prim.Native.Nat.{ℕ, zero, suc, _+_, _-_, _*_, _≤_, _<_}
 use mathlib.Core.Path.{_≡_, refl, sym, ap, ap₂, _∙_, subst}
 use mathlib.Core.Logic.{_⊎_, inl, inr}
-use mathlib.Core.Bool.{Bool, true, false, cond, _||_, _&&_, not, true≢false, false≢true, and-eq-true-iff}
+use mathlib.Core.Bool.{Bool, true, false, cond, _||_, _&&_, not, true≢false, false≢true, and-eq-true-iff, or-true}
 use mathlib.Core.List.{List, [], _∷_, _++_, flatMap, flatten}
 use native.Mathlib.Omega.{arith}
 use lib.ListN.{length}
 use lib.Dec.{ltb, leb, eqb}
-use borrow.Author.Tests.{eqb-true}
+use borrow.Author.Tests.{eqb-true, eq-eqb}
 use Rattle.model.specs.Lists.{all, count}
 use Rattle.model.specs.Slot.{Slot, empty, torn, dead, wrong, live, isEmpty, Entry, entryOf}
 use Rattle.model.specs.State.{View, entries, entriesIn, holds, emptyLast, capacity, filled, blockIn, Exception, caseC, caseD, State, clean, unfinished, damaged}
 use Rattle.model.specs.Steps.{topRow, firstEmpty, compactions}
-use Rattle.bridge.specs.Views.Slots.{full, entries-append, find-top, top-row}
+use Rattle.bridge.specs.Views.Slots.{full, flatten-last, entries-append, find-top, top-row}
 use Rattle.bridge.specs.Views.Tables.{holds-append, count-append}
 use Rattle.scan.specs.declared.Ending.{Ending}
 use Rattle.scan.specs.declared.Ending.the-variants.{Full, Room, TornLast, TwinLast, Bad}
@@ -116,6 +116,20 @@ last-live d (dead ∷ x) b c y e = last-live d x b c y e
 last-live d (wrong ∷ x) b c y e = last-live d x b c y e
 last-live d (live g h ∷ x) b c y e = last-live g x b c y e
 
+-- a live slot of the top holds its block
+holds-right : (b : ℕ) (x y : List Entry) → holds b y ≡ true → holds b (x ++ y) ≡ true
+holds-right b x y h = holds-append b x y ∙ rw h (or-true (holds b x))
+
+held-last : (l : List (List Slot)) (x : List Slot) (e : Entry) (y : List Slot) → holds (e .block) (entries (flatten (l ++ ((x ++ (live (e .block) (e .contents) ∷ y)) ∷ [])))) ≡ true
+held-last l x e y =
+    let b = e .block in
+    let k = live (e .block) (e .contents) in
+    rw (flatten-last l (x ++ (k ∷ y)), entries-append (flatten l) (x ++ (k ∷ y)), entries-append x (k ∷ y))
+      (holds-right b (entries (flatten l)) (entries x ++ entries (k ∷ y)) (holds-right b (entries x) (entries (k ∷ y)) (here e y)))
+  where
+    here : (e : Entry) (y : List Slot) → holds (e .block) (entries (live (e .block) (e .contents) ∷ y)) ≡ true
+    here e y = unfold holds entries flatMap entryOf in rw (eq-eqb (e .block) (e .block) refl)
+
 -- ---- what the sums of rows say of the view
 
 pub record Told (N B n : ℕ) (rows : List (List Slot)) (f : Sum) : Type 0 where
@@ -126,6 +140,7 @@ pub record Told (N B n : ℕ) (rows : List (List Slot)) (f : Sum) : Type 0 where
   pub free : inOrder (f .ending) ≡ true → f .written ≡ firstEmpty (topRow rows)
   pub last : (endsTorn (f .ending) || endsTwin (f .ending)) ≡ true → f .written ≡ filled (topRow rows)
   pub block : endsTwin (f .ending) ≡ true → f .block .0 ≡ twinBlock (record { first = n; slots = rows })
+  pub held : endsTwin (f .ending) ≡ true → holds (f .block .0) (entries (flatten rows)) ≡ true
 
 module _ (N B n : ℕ) (l : List (List Slot)) (t : List Slot) (narrow : NarrowRows (l ++ (t ∷ []))) where
   abbrev f : Sum
@@ -191,6 +206,22 @@ module _ (N B n : ℕ) (l : List (List Slot)) (t : List Slot) (narrow : NarrowRo
       go TwinLast q k = at (stop-at TwinLast (unfold isBad in refl) (unfold isFull in refl) q)
       go Bad q k = absurd (false≢true (unfold endsTwin in k))
 
+  f-held : endsTwin (f .ending) ≡ true → holds (lastLive 0 t) (entries (flatten (l ++ (t ∷ [])))) ≡ true
+  f-held h = go (f .ending) (sym f-ending) h
+    where
+      at : (s : Stop TwinLast (before-top l) t) → holds (lastLive 0 t) (entries (flatten (l ++ (t ∷ [])))) ≡ true
+      at s =
+          let k = stop-twin (before-top l ++ entries (s .left)) (s .slot) (s .ending) in
+          let e = k .0 in
+          let q : t ≡ s .left ++ (live (e .block) (e .contents) ∷ s .right) = s .split ∙ ap (λ (z : Slot). s .left ++ (z ∷ s .right)) (k .1) in
+          rw (q, last-live 0 (s .left) (e .block) (e .contents) (s .right) (s .rest)) (held-last l (s .left) e (s .right))
+      go : (e : Ending) → ending n l t ≡ e → endsTwin e ≡ true → holds (lastLive 0 t) (entries (flatten (l ++ (t ∷ [])))) ≡ true
+      go Full q k = absurd (false≢true (unfold endsTwin in k))
+      go Room q k = absurd (false≢true (unfold endsTwin in k))
+      go TornLast q k = absurd (false≢true (unfold endsTwin in k))
+      go TwinLast q k = at (stop-at TwinLast (unfold isBad in refl) (unfold isFull in refl) q)
+      go Bad q k = absurd (false≢true (unfold endsTwin in k))
+
   told-top : Told N B n (l ++ (t ∷ [])) f
   told-top = let w = sum-top l t noneMet noSum in record
     { live = f-live
@@ -199,7 +230,8 @@ module _ (N B n : ℕ) (l : List (List Slot)) (t : List Slot) (narrow : NarrowRo
     ; state = f-state
     ; free = λ h. w .0 ∙ (first-free t (ending-ordered n l t (ap inOrder (sym f-ending) ∙ h) .last) ∙ ap firstEmpty (sym (top-row l t)))
     ; last = λ h. w .0 ∙ (f-last h ∙ ap filled (sym (top-row l t)))
-    ; block = λ h. w .1 ∙ f-block h }
+    ; block = λ h. w .1 ∙ f-block h
+    ; held = λ h. ap (λ (b : ℕ). holds b (entries (flatten (l ++ (t ∷ []))))) (w .1) ∙ f-held h }
 
 pub told : (N B n : ℕ) (rows : List (List Slot)) → 1 ≤ length rows → NarrowRows rows → Told N B n rows (addRows (tallies rows noneMet) noSum)
 told N B n rows h k =

@@ -15,7 +15,8 @@ ghost use Rattle.page.specs.Pages.{Sized};
 ghost use Rattle.scan.specs.Bitmap.{inBits, putBit};
 ghost use Rattle.scan.specs.Endings.{behind, leaveRoom, inOrder, endsTorn, endsTwin};
 ghost use Rattle.scan.specs.Verdict.{orderly, tornWithin, twinWithin};
-ghost use Rattle.scan.specs.Surveys.{surveyOf, examOf, Shown, Bounded};
+ghost use Rattle.scan.specs.Surveys.{surveyOf, cleanIn, oldIn, examOf, Shown, Bounded};
+ghost use Rattle.model.specs.Chip.{rightSize};
 ghost use Rattle.scan.specs.Heads.{bareOf, bare, outline, heads, stateSeen, allSettled, frameOf};
 ghost use Rattle.scan.specs.Parts.{rowsOn};
 ghost use Rattle.scan.specs.Find.{foundIn};
@@ -466,7 +467,7 @@ fn gather(image: &[u8], segments: usize, slots: usize, table: [Summary; 64], fir
 
 fn add_row(sum: Sum, row: Row) -> Sum
     requires { ⌜ Few sum 1000 ⌝ }
-    ensures { λ r. ⌜ (r ≡ addRow sum row) × (row .live ≤ 65535) ⌝ }
+    ensures { λ r. ⌜ (r ≡ addRow sum row) × (row .live ≤ 65535) × (row .written ≤ 65535) ⌝ }
 {
     let block = row.block;
     let before = sum.ending;
@@ -496,7 +497,7 @@ fn add_row(sum: Sum, row: Row) -> Sum
 
 fn sum_rows(ring: [Summary; 64], used: usize) -> Sum
     requires { ⌜ used ≤ 64 ⌝ }
-    ensures { λ r. ⌜ r ≡ addRows (map rowOf (take used ring)) noSum ⌝ }
+    ensures { λ r. ⌜ (r ≡ addRows (map rowOf (take used ring)) noSum) × (r .written ≤ 65535) ⌝ }
 {
     let mut sum = Sum {
         live: 0,
@@ -564,7 +565,7 @@ pub struct Exam {
 }
 
 // The state of an image, with what a request needs in that state.
-pub enum Survey {
+pub enum Surveyed {
     // The smallest number in use, how many segments are, how many slots are live, the top's first empty slot, or as
     // many as it has, and how many compactions make room when there is none.
     Clean { first: SegmentNumber, used: usize, live: usize, free: usize, compactions: usize },
@@ -697,28 +698,28 @@ fn slot_place(segments: usize, slots: usize, number: usize, slot: usize) -> Slot
 }
 
 // The survey where the top is owing: all is fine once its old segment, the one after it, is taken for erased.
-fn survey_owing(image: &[u8], segments: usize, slots: usize, table: [Summary; 64], next: usize) -> Survey
+fn survey_owing(image: &[u8], segments: usize, slots: usize, table: [Summary; 64], next: usize) -> Surveyed
     requires { ⌜ Shown segments slots (now image) table next × (isOwing (getD (heads segments table) (topIndex segments (heads segments table)) blank) ≡ true) ⌝ }
     ensures { λ r. ⌜ r ≡ surveyOf segments slots (segmentsOf segments slots (now (image .entry))) ⌝ }
 {
     let exam = examine(image, segments, slots, top_settled(table, segments, next));
     let sum = exam.sum;
     if exam.used + 1 != segments {
-        return Survey::Damaged;
+        return Surveyed::Damaged;
     }
     if orderly(sum, capacity(segments, slots)) {
         let after = next % segments;
         let top = top_number(next);
-        return Survey::ErasePending {
+        return Surveyed::ErasePending {
             top,
             blank: shows_blank(table[after]),
         };
     }
-    Survey::Damaged
+    Surveyed::Damaged
 }
 
 // The survey where the segment after the top is neither in use nor blank: all is fine once it is taken for blank.
-fn survey_torn(image: &[u8], segments: usize, slots: usize, table: [Summary; 64], next: usize) -> Survey
+fn survey_torn(image: &[u8], segments: usize, slots: usize, table: [Summary; 64], next: usize) -> Surveyed
     requires { ⌜ Shown segments slots (now image) table next × (isOwing (getD (heads segments table) (topIndex segments (heads segments table)) blank) ≡ false) × (isInvalid (getD (heads segments table) (nextIndex segments (heads segments table)) blank) ≡ true) ⌝ }
     ensures { λ r. ⌜ r ≡ surveyOf segments slots (segmentsOf segments slots (now (image .entry))) ⌝ }
 {
@@ -726,7 +727,79 @@ fn survey_torn(image: &[u8], segments: usize, slots: usize, table: [Summary; 64]
     let sum = exam.sum;
     if orderly(sum, capacity(segments, slots)) {
         let top = top_number(next);
-        return Survey::TornSegment { top };
+        return Surveyed::TornSegment { top };
     }
-    Survey::Damaged
+    Surveyed::Damaged
+}
+
+// The survey of a clean image.
+fn clean_survey(exam: Exam) -> Surveyed
+    requires { ⌜ exam .first < 4294967296 ⌝ }
+    ensures { λ r. ⌜ r ≡ cleanIn exam ⌝ }
+{
+    let sum = exam.sum;
+    let first = SegmentNumber(exam.first as u32);
+    Surveyed::Clean {
+        first,
+        used: exam.used,
+        live: sum.live,
+        free: sum.written,
+        compactions: sum.compactions,
+    }
+}
+
+// The survey where the block of the slot written last has an older live slot, which is searched.
+fn old_slot(image: &[u8], segments: usize, slots: usize, exam: Exam) -> Surveyed
+    requires { ⌜ Sized segments slots (length (now image)) × (exam .used ≤ 64) × (exam .first < 4294967296) × (numbersFrom segments (segmentsOf segments slots (now image)) (exam .used) (exam .first) ≡ true) ⌝ }
+    ensures { λ r. ⌜ r ≡ oldIn (foundIn segments slots (exam .sum .block .0) (record { first = exam .first; slots = slotsFrom segments (segmentsOf segments slots (now (image .entry))) (exam .used) (exam .first) })) ⌝ }
+{
+    let sum = exam.sum;
+    let block = sum.block;
+    let first = SegmentNumber(exam.first as u32);
+    let found = find(image, segments, slots, first, exam.used, block);
+    match found {
+        Found::At(place, _) => Surveyed::OldSlot { place },
+        Found::Nothing => Surveyed::Damaged,
+    }
+}
+
+// The survey where the top is not owing and the segment after it is blank or in use: the slots decide.
+fn survey_slots(image: &[u8], segments: usize, slots: usize, table: [Summary; 64], next: usize) -> Surveyed
+    requires { ⌜ Shown segments slots (now image) table next × (isOwing (getD (heads segments table) (topIndex segments (heads segments table)) blank) ≡ false) × (isInvalid (getD (heads segments table) (nextIndex segments (heads segments table)) blank) ≡ false) ⌝ }
+    ensures { λ r. ⌜ r ≡ surveyOf segments slots (segmentsOf segments slots (now (image .entry))) ⌝ }
+{
+    let exam = examine(image, segments, slots, table);
+    let sum = exam.sum;
+    let most = capacity(segments, slots);
+    if orderly(sum, most) {
+        return clean_survey(exam);
+    }
+    if torn_within(sum, most) {
+        let number = less(next, 1);
+        let place = slot_place(segments, slots, number, less(sum.written, 1));
+        return Surveyed::TornSlot { place };
+    }
+    if twin_within(sum, most + 1) {
+        return old_slot(image, segments, slots, exam);
+    }
+    Surveyed::Damaged
+}
+
+// The state of an image of a right size, and what a request needs in that state. Headers first, since the slots of the
+// segment after an owing top are not looked at; then each slot once, oldest segment first.
+pub fn survey(image: &[u8], segments: usize, slots: usize) -> Surveyed
+    requires { ⌜ rightSize segments slots (now image) ≡ true ⌝ }
+    ensures { λ r. ⌜ r ≡ surveyOf segments slots (segmentsOf segments slots (now (image .entry))) ⌝ }
+{
+    let table = see_headers(image, segments, slots);
+    let next = next_number(table, segments);
+    let top = less(next, 1) % segments;
+    if is_owing(table[top]) {
+        return survey_owing(image, segments, slots, table, next);
+    }
+    let after = next % segments;
+    if is_invalid(table[after]) {
+        return survey_torn(image, segments, slots, table, next);
+    }
+    survey_slots(image, segments, slots, table, next)
 }

@@ -70,15 +70,17 @@ module _ (ring : List Summary) (u : ℕ) where
 
 pub few-start : Few noSum 0
 unfolding noSum
-few-start = record { live = omega arith; compactions = omega arith }
+few-start = record { live = omega arith; written = omega arith; compactions = omega arith }
 
-pub few-more : (f : Sum) (r : Row) (i : ℕ) → r .live ≤ 65535 → Few f i → Few (addRow f r) (i + 1)
-few-more f r i h k = go (f .dead) refl
+pub few-more : (f : Sum) (r : Row) (i : ℕ) → r .live ≤ 65535 → r .written ≤ 65535 → Few f i → Few (addRow f r) (i + 1)
+few-more f r i h m k = go (f .dead) refl
   where
     live : addRow f r .live ≡ f .live + r .live
     live = unfold addRow in refl
+    last : addRow f r .written ≡ r .written
+    last = unfold addRow in refl
     one : addRow f r .compactions ≡ cond (f .dead) (f .compactions) (f .compactions + 1)
     one = unfold addRow in refl
     go : (t : Bool) → f .dead ≡ t → Few (addRow f r) (i + 1)
-    go true e = let q : addRow f r .compactions ≡ f .compactions = one ∙ rw e in record { live = omega (arith, live, k .live); compactions = omega (arith, k .compactions) }
-    go false e = let q : addRow f r .compactions ≡ f .compactions + 1 = one ∙ rw e in record { live = omega (arith, live, k .live); compactions = omega (arith, k .compactions) }
+    go true e = let q : addRow f r .compactions ≡ f .compactions = one ∙ rw e in record { live = omega (arith, live, k .live); written = omega (arith, last); compactions = omega (arith, k .compactions) }
+    go false e = let q : addRow f r .compactions ≡ f .compactions + 1 = one ∙ rw e in record { live = omega (arith, live, k .live); written = omega (arith, last); compactions = omega (arith, k .compactions) }

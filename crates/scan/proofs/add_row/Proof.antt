@@ -19,14 +19,14 @@ behind-requires c κs = search needs
 
 returns : tie.Need-returns
 unfolding addRow
-returns c = (rw (c .before .before .before .before .wide .ensures, c .before .before .wide2 .ensures, c .before .behind .ensures, c .if1 .taken), omega arith)
+returns c = (rw (c .before .before .before .before .wide .ensures, c .before .before .wide2 .ensures, c .before .behind .ensures, c .if1 .taken), omega arith, omega arith)
 
 add-t9 : tie.Need-add-t9
 add-t9 c = search needs
 
 returns-2 : tie.Need-returns-2
 unfolding addRow
-returns-2 c = (rw (c .before .before .before .before .before .before .wide .ensures, c .before .before .before .before .wide2 .ensures, c .before .before .before .behind .ensures, c .before .before .if1 .left), omega arith)
+returns-2 c = (rw (c .before .before .before .before .before .before .wide .ensures, c .before .before .before .before .wide2 .ensures, c .before .before .before .behind .ensures, c .before .before .if1 .left), omega arith, omega arith)
 
 pub add-row-spec : {M : Type 1} → statement M
 add-row-spec =

@@ -30,7 +30,7 @@ add-row-requires : tie.Need-add-row-requires Inv-loop μ-loop
 add-row-requires c κs =
     let k = c .before .before .before .loop .inv .2 in
     let p = c .before .before .before .before .pre in
-    record { live = omega (arith, k .live); compactions = omega (arith, k .compactions) }
+    record { live = omega (arith, k .live); written = k .written; compactions = omega (arith, k .compactions) }
 
 add-i : tie.Need-add-i Inv-loop μ-loop
 add-i c = search needs
@@ -46,13 +46,13 @@ loop-again c =
     let t = c .before .before .before .loop-test .taken in
     let h : l .i < length (s .args .t1) = omega (arith, s .good .0, s .pre) in
     (rows-turn (s .args .t1) (s .args .used) (l .i) _ (l .sum) (c .add-row .result) t h (c .add-row .ensures .0) ∙ l .inv .0, omega arith,
-      rw (c .add-row .ensures .0) (few-more (l .sum) _ (l .i) (c .add-row .ensures .1) (l .inv .2)))
+      rw (c .add-row .ensures .0) (few-more (l .sum) _ (l .i) (c .add-row .ensures .1) (c .add-row .ensures .2) (l .inv .2)))
 
 returns : tie.Need-returns Inv-loop μ-loop
 returns c =
     let s = c .before .before in
     let l = c .before .loop in
-    sym (rows-end (s .args .t1) (s .args .used) (l .i) (l .sum) (c .loop-test .left)) ∙ l .inv .0
+    (sym (rows-end (s .args .t1) (s .args .used) (l .i) (l .sum) (c .loop-test .left)) ∙ l .inv .0, l .inv .2 .written)
 
 pub sum-rows-spec : {M : Type 1} → statement M
 sum-rows-spec =
