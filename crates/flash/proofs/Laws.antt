@@ -1,12 +1,12 @@
 -- Laws of steps under a budget: nothing, one step, one call after another, a budget that is spent; bytes programmed in a loop; a part of the image; the blank test.
 use mathlib.Core.Path.{_≡_, refl, sym, ap, _∙_, subst}
-use mathlib.Core.Bool.{Bool, true, false}
+use mathlib.Core.Bool.{true, false}
 use Prim.Native.Nat.{ℕ, zero, suc, _+_, _-_, _*_, _≤_, _<_}
-use native.Mathlib.Nat.{sub-zero, not-suc-le-zero, le-of-suc-le-suc, le-of-eq, add-zero, zero-add, suc-add, add-suc}
+use native.Mathlib.Nat.{sub-zero, le-of-eq, add-zero, zero-add, suc-add}
 use native.Mathlib.Numerals.{add-one}
 use native.Mathlib.Omega.{arith}
 use mathlib.Core.List.{List, [], _∷_, _++_, append-assoc}
-use lib.ListN.{length, getD, take, drop, set, replicate, length-append, length-set, length-drop, length-replicate, drop-of-length-le, getD-replicate, take-append-drop, List·getD-append}
+use lib.ListN.{length, getD, take, drop, set, replicate, length-append, length-drop, length-replicate, drop-of-length-le, getD-replicate, take-append-drop, List·getD-append}
 use lib.Bits.{bitAnd}
 use lib.Seq.{drop-cons, take-suc, paste, paste-suc, take-all, getD-append-add, set-append-left, length-take-le}
 use borrow.Author.Tests.{eq-eqb, ne-eqb, le-leb}

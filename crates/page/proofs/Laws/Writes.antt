@@ -1,13 +1,12 @@
 -- Laws of pages that are made up and then programmed, where they belong in the image.
 use Prim.Native.Nat.{ℕ, zero, suc, _+_, _-_, _*_, _/_, _%_, _≤_, _<_}
-use mathlib.Core.Path.{_≡_, refl, sym, ap, ap₂, _∙_, subst}
-use mathlib.Core.Bool.{Bool, true, false, _&&_}
+use mathlib.Core.Path.{_≡_, refl, sym, ap, ap₂, _∙_}
+use mathlib.Core.Bool.{true}
 use mathlib.Core.List.{List, [], _∷_, _++_, append-assoc}
 use native.Mathlib.Nat.{sub-zero, zero-sub, suc-sub-suc, suc-mul, mul-le-mul-right, mod-lt}
-use native.Mathlib.Numerals.{add-one}
 use native.Mathlib.Omega.{arith}
-use lib.ListN.{length, getD, take, drop, set, replicate, length-take}
-use lib.Seq.{paste, paste-suc, take-length, drop-drop}
+use lib.ListN.{length, take, drop, set, replicate, length-take}
+use lib.Seq.{paste, take-length, drop-drop}
 use lib.Dec.{leb, eqb}
 use borrow.Author.Tests.{leb-true, eqb-true}
 use Rattle.model.specs.Chip.{Image, Page, Step, program, erased, leastSegments, mostSegments, leastSlots, mostSlots, inRange, imageLength, rightSize}
@@ -46,9 +45,11 @@ programmed-slot p k d₁ d₂ d₃ d₄ B = _then_ (d₁ B) (_then_ (d₂ B) (_t
 
 slot-within : (p : Page) (k : ℕ) → k ≤ 248 → Within 256 (slotParts p k)
 unfolding slotParts
-slot-within p k h =
-    (omega arith, within-append 256 (programPart p 1 3) (programPart p 8 k ++ (program 0 0x3F ∷ [])) (within-part p 1 3 (omega arith))
-      (within-append 256 (programPart p 8 k) (program 0 0x3F ∷ []) (within-part p 8 k (omega arith)) (omega arith, tt)))
+slot-within p k h = (
+  omega arith,
+  within-append 256 (programPart p 1 3) (programPart p 8 k ++ (program 0 0x3F ∷ [])) (within-part p 1 3 (omega arith))
+      (within-append 256 (programPart p 8 k) (program 0 0x3F ∷ []) (within-part p 8 k (omega arith)) (omega arith, tt)),
+)
 
 slot-parts : (b : ℕ) (c : List ℕ) → slotParts (slotPage b c) (length c) ≡ writeSlot b c
 unfolding slotParts writeSlot
@@ -81,7 +82,7 @@ unfolding slotPage mostContents erased
 slot-made b c i e =
     ap (paste (slotHead (length c) b) 8 c) e
     ∙ ap₂ (λ (x y : List ℕ). take 8 (slotHead (length c) b) ++ x ++ y) (take-length c)
-      (sym (drop-drop (length c) 8 (slotHead (length c) b)) ∙ drop-replicate (length c) 248 255)
+    (sym (drop-drop (length c) 8 (slotHead (length c) b)) ∙ drop-replicate (length c) 248 255)
 
 -- ---- headers
 
@@ -92,11 +93,12 @@ sized N B s e =
     let range = and-first _ (eqb (length s) (N * (B + 1) * 256)) e in
     let more = and-second (leb 2 N) _ range in
     let most = and-second (leb N 64) _ more in
-    record
-      { some = omega (arith, leb-true 2 N (and-first (leb 2 N) _ range))
-      ; segments = omega (arith, leb-true N 64 (and-first (leb N 64) _ more))
-      ; slots = leb-true B 255 (and-second (leb 2 B) (leb B 255) most)
-      ; whole = eqb-true (length s) (N * (B + 1) * 256) (and-second (inRange N B) _ e) }
+    record {
+      some = omega (arith, leb-true 2 N (and-first (leb 2 N) _ range));
+      segments = omega (arith, leb-true N 64 (and-first (leb N 64) _ more));
+      slots = leb-true B 255 (and-second (leb 2 B) (leb B 255) most);
+      whole = eqb-true (length s) (N * (B + 1) * 256) (and-second (inRange N B) _ e);
+    }
 
 pub index-small : (n N : ℕ) → 0 < N → N ≤ 255 → n % N < 255
 index-small n N z h = omega (arith, mod-lt n {m = N} z)
