@@ -20,7 +20,7 @@ ghost use Rattle.scan.specs.Heads.{heads};
 ghost use Rattle.scan.specs.Find.{foundIn};
 
 // What a segment's header and a blank test tell: blank; neither in use nor blank; in use; in use with the old segment still to be erased.
-pub enum SegmentState {
+enum SegmentState {
     Blank,
     Invalid,
     InUse,
@@ -29,7 +29,7 @@ pub enum SegmentState {
 
 // How a row of slots ends: every slot written; empty ones last; the last written slot torn; or live with a number
 // that was met before; or against the rules.
-pub enum Ending {
+enum Ending {
     Full,
     Room,
     TornLast,
@@ -38,37 +38,37 @@ pub enum Ending {
 }
 
 // The slots of one segment, looked at in order: counts, how they end, and the block of the last live one.
-pub struct Row {
-    pub live: u16,
-    pub dead: u16,
-    pub written: u16,
-    pub ending: Ending,
-    pub block: BlockNumber,
+struct Row {
+    live: u16,
+    dead: u16,
+    written: u16,
+    ending: Ending,
+    block: BlockNumber,
 }
 
 // One segment (document 01: summary).
-pub struct Summary {
-    pub state: SegmentState,
-    pub number: SegmentNumber,
-    pub row: Row,
+struct Summary {
+    state: SegmentState,
+    number: SegmentNumber,
+    row: Row,
 }
 
 // The segments in use: the smallest number, how many, and whether conditions 1 to 4 of document 01's Clean hold.
-pub struct Frame {
-    pub first: usize,
-    pub used: usize,
-    pub fine: bool,
+struct Frame {
+    first: usize,
+    used: usize,
+    fine: bool,
 }
 
 // Rows added up: live slots; of the last row, how many are written, how it ends behind the others and its last live
 // block; and how many rows there are up to the first with a dead slot.
-pub struct Sum {
-    pub live: usize,
-    pub written: usize,
-    pub compactions: usize,
-    pub dead: bool,
-    pub ending: Ending,
-    pub block: BlockNumber,
+struct Sum {
+    live: usize,
+    written: usize,
+    compactions: usize,
+    dead: bool,
+    ending: Ending,
+    block: BlockNumber,
 }
 
 // ---- the search for a block
@@ -112,10 +112,10 @@ pub fn find(image: &[u8], segments: usize, slots: usize, first: SegmentNumber, u
 // ---- the survey
 
 // The segments in use that a table of summaries shows, and their rows added up.
-pub struct Exam {
-    pub first: usize,
-    pub used: usize,
-    pub sum: Sum,
+struct Exam {
+    first: usize,
+    used: usize,
+    sum: Sum,
 }
 
 // The state of an image, with what a request needs in that state.
