@@ -16,3 +16,4 @@ pub mod Verdict
 pub mod Surveys
 pub mod SurveyLaws
 pub mod SurveyCases
+pub mod Callers
