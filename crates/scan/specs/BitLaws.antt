@@ -25,8 +25,10 @@ power-above j d =
     rw (e, pow-add, mul-div-cancel (2 ^ suc d) (pow-pos j), pow-suc) (mul-mod-left (2 ^ d) 2)
 
 power-other : (j k : ℕ) → (j ≡ k → ⊥) → 2 ^ k / 2 ^ j % 2 ≡ 0
-power-other j k n = elim (decLt j k) [ yes p ↦ (let e : k ≡ j + suc (k - j - 1) = omega arith in rw e (power-above j (k - j - 1)))
-  | no p ↦ rw (div-eq-of-lt (pow-lt {i = k} {j = j} (omega arith))) ]
+power-other j k n = elim (decLt j k) [
+  | yes p ↦ (let e : k ≡ j + suc (k - j - 1) = omega arith in rw e (power-above j (k - j - 1)))
+  | no p ↦ rw (div-eq-of-lt (pow-lt {i = k} {j = j} (omega arith)))
+]
 
 put-same : (a k : ℕ) → bitOr a (2 ^ k) / 2 ^ k % 2 ≡ 1
 put-same a k = or-digit a (2 ^ k) k ∙ (rw (div-self (pow-pos k)) (omega arith))
@@ -41,13 +43,19 @@ in-same z s x h = rw (getD-set-same s (x / z) _ 0 h, put-same)
 pub in-other : (z : ℕ) (s : List ℕ) (x y : ℕ) → (y ≡ x → ⊥) → inBits z (putBit z s x) y ≡ inBits z s y
 unfolding inBits putBit
 in-other z s x y n =
-    elim (ℕ-discrete (y / z) (x / z)) [ no p ↦ rw (getD-set-other s (x / z) (y / z) _ 0 p)
-      | yes p ↦ elim (decLt (x / z) (length s)) [ no q ↦ rw (set-out s (x / z) _ (omega arith))
-         | yes q ↦ (let d : y % z ≡ x % z → ⊥ = λ e. n (sym (div-add-mod' y z) ∙ ap₂ (λ (u v : ℕ). u * z + v) p e ∙ div-add-mod' x z) in
-            rw (p, getD-set-same s (x / z) _ 0 q, put-other (getD s (x / z) 0) (y % z) (x % z) d)) ] ]
+    elim (ℕ-discrete (y / z) (x / z)) [
+      | no p ↦ rw (getD-set-other s (x / z) (y / z) _ 0 p)
+      | yes p ↦ elim (decLt (x / z) (length s)) [
+        | no q ↦ rw (set-out s (x / z) _ (omega arith))
+        | yes q ↦ (let d : y % z ≡ x % z → ⊥ = λ e. n (sym (div-add-mod' y z) ∙ ap₂ (λ (u v : ℕ). u * z + v) p e ∙ div-add-mod' x z) in
+            rw (p, getD-set-same s (x / z) _ 0 q, put-other (getD s (x / z) 0) (y % z) (x % z) d))
+      ]
+    ]
 
 pub in-none : (z n x : ℕ) → inBits z (replicate n 0) x ≡ false
 unfolding inBits
 in-none z n x =
-    elim (decLt (x / z) n) [ yes p ↦ rw (getD-replicate {A = ℕ} n (x / z) 0 0 p, zero-div)
-      | no p ↦ rw (List·getD-eq-default {A = ℕ} (replicate n 0) 0 {n = x / z} (omega (arith, length-replicate {A = ℕ} n 0)), zero-div) ]
+    elim (decLt (x / z) n) [
+      | yes p ↦ rw (getD-replicate {A = ℕ} n (x / z) 0 0 p, zero-div)
+      | no p ↦ rw (List·getD-eq-default {A = ℕ} (replicate n 0) 0 {n = x / z} (omega (arith, length-replicate {A = ℕ} n 0)), zero-div)
+    ]

@@ -87,13 +87,14 @@ unfolding frame someInUse consecutive
 frame-ring N l e h =
     let a = and-left (someInUse N l) (consecutive N l && (noneOwing l && othersBlank l)) h in
     let b = and-right (someInUse N l) (consecutive N l && (noneOwing l && othersBlank l)) h in
-    let c = and-right (consecutive N l) (noneOwing l && othersBlank l) b in record
-    { size = e
-    ; some = leb-true 1 (usedCount l) (and-left (leb 1 (usedCount l)) (leb (usedCount l) (N - 1)) a)
-    ; spare = leb-true (usedCount l) (N - 1) (and-right (leb 1 (usedCount l)) (leb (usedCount l) (N - 1)) a)
-    ; chain = and-left (consecutive N l) (noneOwing l && othersBlank l) b
-    ; paid = and-left (noneOwing l) (othersBlank l) c
-    ; others = and-right (noneOwing l) (othersBlank l) c }
+    let c = and-right (consecutive N l) (noneOwing l && othersBlank l) b in record {
+      size = e;
+      some = leb-true 1 (usedCount l) (and-left (leb 1 (usedCount l)) (leb (usedCount l) (N - 1)) a);
+      spare = leb-true (usedCount l) (N - 1) (and-right (leb 1 (usedCount l)) (leb (usedCount l) (N - 1)) a);
+      chain = and-left (consecutive N l) (noneOwing l && othersBlank l) b;
+      paid = and-left (noneOwing l) (othersBlank l) c;
+      others = and-right (noneOwing l) (othersBlank l) c;
+    }
 
 -- ---- a slot changed leaves the frame
 
@@ -126,9 +127,13 @@ unfolding frame someInUse consecutive firstNumber noneOwing othersBlank
 frame-kept N l i j k h =
     let x = getD l i blank in
     let y = withSlot j k x in
-    rw (used-kept l i y h (withSlot-use j k x), next-kept l i y (withSlot-number j k x),
-        numbers-kept N i y l (usedCount l) (nextNumber l - usedCount l) (withSlot-number j k x),
-        all-same (λ z. not (isOwing z)) l i y blank (ap not (withSlot-owing j k x)), all-same (λ z. not (isInvalid z)) l i y blank (ap not (withSlot-invalid j k x)))
+    rw (
+      used-kept l i y h (withSlot-use j k x),
+      next-kept l i y (withSlot-number j k x),
+      numbers-kept N i y l (usedCount l) (nextNumber l - usedCount l) (withSlot-number j k x),
+      all-same (λ z. not (isOwing z)) l i y blank (ap not (withSlot-owing j k x)),
+      all-same (λ z. not (isInvalid z)) l i y blank (ap not (withSlot-invalid j k x)),
+    )
 
 -- ---- what is never clean
 
@@ -159,7 +164,7 @@ module _ (N B : ℕ) (l : List Segment) (size : length l ≡ N) where
   unfolding nextBlanked
   blanked-owing i o = not-so (isClean N B (set l (nextIndex N l) blank))
       (λ h. no-owing N B (set l (nextIndex N l) blank) (length-set l (nextIndex N l) blank ∙ size) h (topIndex N l)
-        (get-kept isOwing l (nextIndex N l) blank (paid (getD l (nextIndex N l) blank) i) (topIndex N l) ∙ o))
+      (get-kept isOwing l (nextIndex N l) blank (paid (getD l (nextIndex N l) blank) i) (topIndex N l) ∙ o))
     where
       paid : (x : Segment) → isInvalid x ≡ true → isOwing blank ≡ isOwing x
       paid blank q = refl
@@ -168,11 +173,12 @@ module _ (N B : ℕ) (l : List Segment) (size : length l ≡ N) where
 
   owing-rest : isOwing (getD l (topIndex N l) blank) ≡ true → (isClean N B l ≡ false) × (isA N B l ≡ false) × (isC N B l ≡ false) × (isD N B l ≡ false)
   unfolding isA isC isD tornMarked olderMarked
-  owing-rest o =
-      ( not-so (isClean N B l) (λ h. no-owing N B l size h (topIndex N l) o)
-      , first (isInvalid (getD l (nextIndex N l) blank)) refl
-      , rw (marked-owing (topIndex N l) (lastSlot N l) (topIndex N l) o) (and-false (isTorn (lastKind N l)))
-      , rw (marked-owing (older N l .number % N) (older N l .slot) (topIndex N l) o) (and-false-2 (ltb 0 (lastBlock N l)) (eqb (copies (lastBlock N l) (entriesIn (viewOf N l))) 2)) )
+  owing-rest o = (
+    not-so (isClean N B l) (λ h. no-owing N B l size h (topIndex N l) o),
+    first (isInvalid (getD l (nextIndex N l) blank)) refl,
+    rw (marked-owing (topIndex N l) (lastSlot N l) (topIndex N l) o) (and-false (isTorn (lastKind N l))),
+    rw (marked-owing (older N l .number % N) (older N l .slot) (topIndex N l) o) (and-false-2 (ltb 0 (lastBlock N l)) (eqb (copies (lastBlock N l) (entriesIn (viewOf N l))) 2)),
+  )
     where
       first : (t : Bool) → isInvalid (getD l (nextIndex N l) blank) ≡ t → (t && isClean N B (nextBlanked N l)) ≡ false
       first true e = blanked-owing e o
@@ -180,10 +186,11 @@ module _ (N B : ℕ) (l : List Segment) (size : length l ≡ N) where
 
   invalid-rest : isInvalid (getD l (nextIndex N l) blank) ≡ true → (isClean N B l ≡ false) × (isC N B l ≡ false) × (isD N B l ≡ false)
   unfolding isC isD tornMarked olderMarked
-  invalid-rest o =
-      ( not-so (isClean N B l) (λ h. no-invalid N B l size h (nextIndex N l) o)
-      , rw (marked-invalid (topIndex N l) (lastSlot N l) (nextIndex N l) o) (and-false (isTorn (lastKind N l)))
-      , rw (marked-invalid (older N l .number % N) (older N l .slot) (nextIndex N l) o) (and-false-2 (ltb 0 (lastBlock N l)) (eqb (copies (lastBlock N l) (entriesIn (viewOf N l))) 2)) )
+  invalid-rest o = (
+    not-so (isClean N B l) (λ h. no-invalid N B l size h (nextIndex N l) o),
+    rw (marked-invalid (topIndex N l) (lastSlot N l) (nextIndex N l) o) (and-false (isTorn (lastKind N l))),
+    rw (marked-invalid (older N l .number % N) (older N l .slot) (nextIndex N l) o) (and-false-2 (ltb 0 (lastBlock N l)) (eqb (copies (lastBlock N l) (entriesIn (viewOf N l))) 2)),
+  )
 
 -- ---- the view's tests are those of the segments
 
@@ -226,7 +233,7 @@ module _ (N B : ℕ) (l : List Segment) (r : RingFacts N l) (f : frame N l ≡ t
   view-torn =
       let p : 1 ≤ nextNumber l = omega (arith, used-next N l r, r .some) in
       rw (view-last, view-number, ← view-top) (ap (λ t. isTorn (lastWritten (viewOf N l)) && t)
-        (unfold lastSlot in marked-clean (nextNumber l - 1) (filled (topSlots N l) - 1) (omega (arith, used-next N l r, r .some)) (omega arith) (index-inside N l r (nextNumber l - 1))))
+      (unfold lastSlot in marked-clean (nextNumber l - 1) (filled (topSlots N l) - 1) (omega (arith, used-next N l r, r .some)) (omega arith) (index-inside N l r (nextNumber l - 1))))
 
   pub view-block : lastBlock N l ≡ twinBlock (viewOf N l)
   unfolding lastBlock twinBlock
@@ -259,10 +266,11 @@ module _ (N B : ℕ) (l : List Segment) (size : length l ≡ N) (some : 0 < N) w
   -- without its frame an image is neither clean nor (c) nor (d)
   no-frame : frame N l ≡ false → (isClean N B l ≡ false) × (isC N B l ≡ false) × (isD N B l ≡ false)
   unfolding isC isD tornMarked olderMarked topIndex
-  no-frame f =
-      ( clean-split N B l ∙ rw f
-      , rw (marked (nextNumber l - 1) (lastSlot N l)) (and-false (isTorn (lastKind N l)))
-      , rw (marked (older N l .number) (older N l .slot)) (and-false-2 (ltb 0 (lastBlock N l)) (eqb (copies (lastBlock N l) (entriesIn (viewOf N l))) 2)) )
+  no-frame f = (
+    clean-split N B l ∙ rw f,
+    rw (marked (nextNumber l - 1) (lastSlot N l)) (and-false (isTorn (lastKind N l))),
+    rw (marked (older N l .number) (older N l .slot)) (and-false-2 (ltb 0 (lastBlock N l)) (eqb (copies (lastBlock N l) (entriesIn (viewOf N l))) 2)),
+  )
     where
       marked : (k j : ℕ) → isClean N B (set l (k % N) (withSlot j dead (getD l (k % N) blank))) ≡ false
       marked k j = clean-split N B (set l (k % N) (withSlot j dead (getD l (k % N) blank)))
@@ -280,18 +288,20 @@ module _ (N B : ℕ) (l : List Segment) (size : length l ≡ N) (some : 0 < N) w
           → cond (isClean N B l) clean (cond (isC N B l) (unfinished caseC) (cond (isD N B l) (unfinished caseD) damaged)) ≡ cond t (slotState N B (viewOf N l)) damaged
       framed true e = with-frame e
       framed false e = let n = no-frame e in rw (n .0, n .1, n .2)
+
       split : (s t : Bool) → cond (s && t) (unfinished caseB) damaged ≡ cond s (cond t (unfinished caseB) damaged) damaged
       split true t = refl
       split false t = refl
+
       go : (o : Bool) → isOwing (getD l (topIndex N l) blank) ≡ o
           → cond (isClean N B l) clean (cond (isA N B l) (unfinished caseA) (cond (o && (eqb (usedCount (topSettled N l)) (N - 1) && isClean N B (topSettled N l))) (unfinished caseB) (cond (isC N B l) (unfinished caseC) (cond (isD N B l) (unfinished caseD) damaged))))
-            ≡ cond o (cond (eqb (usedCount (topSettled N l)) (N - 1)) (mendedState N B caseB (topSettled N l)) damaged) (cond (isInvalid (getD l (nextIndex N l) blank)) (mendedState N B caseA (nextBlanked N l)) (cond (frame N l) (slotState N B (viewOf N l)) damaged))
+          ≡ cond o (cond (eqb (usedCount (topSettled N l)) (N - 1)) (mendedState N B caseB (topSettled N l)) damaged) (cond (isInvalid (getD l (nextIndex N l) blank)) (mendedState N B caseA (nextBlanked N l)) (cond (frame N l) (slotState N B (viewOf N l)) damaged))
       go true o = let n = owing-rest N B l size o in
           rw (n .0, n .1, n .2, n .3, clean-split N B (topSettled N l)) (split (eqb (usedCount (topSettled N l)) (N - 1)) (frame N (topSettled N l) && fine N B (viewOf N (topSettled N l))))
       go false o = next (isInvalid (getD l (nextIndex N l) blank)) refl
         where
           next : (t : Bool) → isInvalid (getD l (nextIndex N l) blank) ≡ t
               → cond (isClean N B l) clean (cond (t && isClean N B (nextBlanked N l)) (unfinished caseA) (cond (isC N B l) (unfinished caseC) (cond (isD N B l) (unfinished caseD) damaged)))
-                ≡ cond t (mendedState N B caseA (nextBlanked N l)) (cond (frame N l) (slotState N B (viewOf N l)) damaged)
+              ≡ cond t (mendedState N B caseA (nextBlanked N l)) (cond (frame N l) (slotState N B (viewOf N l)) damaged)
           next true i = let n = invalid-rest N B l size i in rw (n .0, n .1, n .2, clean-split N B (nextBlanked N l))
           next false i = framed (frame N l) refl

@@ -109,6 +109,7 @@ module _ (n : ℕ) (l : List (List Slot)) (t : List Slot) where
       is-full TornLast q = absurd (false≢true (unfold isFull in q))
       is-full TwinLast q = absurd (false≢true (unfold isFull in q))
       is-full Bad q = absurd (false≢true (unfold isFull in q))
+
       go : (x : Bool) → isFull (ring Full [] l) ≡ x → Plain [] (flatten l) × Judged f (before-top l) t
       go true q =
           let h = full-rows [] refl l (is-full (ring Full [] l) q) in
@@ -128,11 +129,20 @@ module _ (n : ℕ) (l : List (List Slot)) (t : List Slot) where
       go false q =
           let f = first-empty t (h .last) q in
           let o : Ordered l (f .left ++ (empty ∷ f .right)) = rw (f .split) at h in
-          ap inOrder (rows-then (ordered-rows h) ∙ stop-judge Room (before-top l) t (record
-            { left = f .left; slot = empty; right = f .right; split = f .split
-            ; plain = record { sound = all-parts (λ k. not (isWrong k || isTorn k)) (f .left) (empty ∷ f .right) (o .soundTop) .0; full = f .fullLeft
-              ; once = distinct-front (before-top l ++ entries (f .left)) (entryOf empty) (ap distinct (sym (top-entries l (f .left) empty (f .right) (f .emptyRight))) ∙ o .once) }
-            ; rest = f .emptyRight; ending = (unfold turn leaveRoom in refl); stops = (unfold isFull in refl) }))
+          ap inOrder (rows-then (ordered-rows h) ∙ stop-judge Room (before-top l) t (record {
+            left = f .left;
+            slot = empty;
+            right = f .right;
+            split = f .split;
+            plain = record {
+              sound = all-parts (λ k. not (isWrong k || isTorn k)) (f .left) (empty ∷ f .right) (o .soundTop) .0;
+              full = f .fullLeft;
+              once = distinct-front (before-top l ++ entries (f .left)) (entryOf empty) (ap distinct (sym (top-entries l (f .left) empty (f .right) (f .emptyRight))) ∙ o .once);
+            };
+            rest = f .emptyRight;
+            ending = (unfold turn leaveRoom in refl);
+            stops = (unfold isFull in refl);
+          }))
 
   pub ending-ordered : inOrder ending ≡ true → Ordered l t
   ending-ordered i = let r = rows-plain ending (sane ending i) refl in go (r .0) (r .1)
@@ -143,15 +153,17 @@ module _ (n : ℕ) (l : List (List Slot)) (t : List Slot) where
       sane TornLast q = unfold isBad in refl
       sane TwinLast q = unfold isBad in refl
       sane Bad q = absurd (false≢true (unfold inOrder in q))
+
       full-last : (s : List Slot) → full s ≡ true → emptyLast s ≡ true
       full-last s q = ap emptyLast (sym (append-nil s)) ∙ (full-then s [] q ∙ (unfold emptyLast in refl))
+
       go : Plain [] (flatten l) → Judged ending (before-top l) t → Ordered l t
       go r (inl (e, h)) = record { soundRows = r .sound; soundTop = h .sound; once = h .once; fullRows = r .full; last = full-last t (h .full) }
       go r (inr s) =
           let k = stop-room (before-top l ++ entries (s .left)) (s .slot) ending i (s .stops) (s .ending) .0 in
           let top : t ≡ s .left ++ (empty ∷ s .right) = s .split ∙ ap (λ (y : Slot). s .left ++ (y ∷ s .right)) k in
           rw top (ordered-ending l (s .left) empty (s .right) r (s .plain) (s .rest) (unfold isWrong isTorn in refl)
-            (unfold entryOf in (ap distinct (append-nil (before-top l ++ entries (s .left))) ∙ s .plain .once)))
+          (unfold entryOf in (ap distinct (append-nil (before-top l ++ entries (s .left))) ∙ s .plain .once)))
 
   pub fine-ending : (N B : ℕ) → fine N B v ≡ (inOrder ending && leb (length (entriesIn v)) (capacity N B))
   fine-ending N B = fine-ordered N B v ∙ ap (λ x. x && leb (length (entriesIn v)) (capacity N B))
@@ -197,23 +209,35 @@ module _ (N B n : ℕ) (l : List (List Slot)) (t : List Slot) where
     where
       w : isTorn (lastWritten (rowsWith n l t)) ≡ true
       w = and-eq-true-iff (isTorn (lastWritten (rowsWith n l t))) (fine N B (lastMarked (rowsWith n l t))) .0 (unfold tornLast in h) .0
+
       f : (ordered (lastMarked (rowsWith n l t)) && leb (length (entriesIn (lastMarked (rowsWith n l t)))) (capacity N B)) ≡ true
       f = sym (fine-ordered N B (lastMarked (rowsWith n l t))) ∙ and-eq-true-iff (isTorn (lastWritten (rowsWith n l t))) (fine N B (lastMarked (rowsWith n l t))) .0 (unfold tornLast in h) .1
+
       g : (ordered (lastMarked (rowsWith n l t)) ≡ true) × (leb (length (entriesIn (lastMarked (rowsWith n l t)))) (capacity N B) ≡ true)
       g = and-eq-true-iff (ordered (lastMarked (rowsWith n l t))) (leb (length (entriesIn (lastMarked (rowsWith n l t)))) (capacity N B)) .0 f
+
       is-torn : (k : Slot) → isTorn k ≡ true → k ≡ torn
       is-torn empty q = absurd (false≢true (unfold isTorn in q))
       is-torn torn q = refl
       is-torn dead q = absurd (false≢true (unfold isTorn in q))
       is-torn wrong q = absurd (false≢true (unfold isTorn in q))
       is-torn (live b c) q = absurd (false≢true (unfold isTorn in q))
+
       at-last : (x y : List Slot) → t ≡ x ++ (torn ∷ y) → all isEmpty y ≡ true → (endsTorn (ending n l t) && leb (length (entriesIn (rowsWith n l t))) (capacity N B)) ≡ true
       at-last x y e r =
           let o : Ordered l (x ++ (dead ∷ y)) = ordered-facts n l (x ++ (dead ∷ y)) (rw (torn-marked x y e r) at (g .0)) in
-          let s : ending n l t ≡ TornLast = rows-then n l t (ordered-rows o) ∙ stop-judge TornLast (before-top l) t (record
-                { left = x; slot = torn; right = y; split = e; plain = ending-plain l x dead y (unfold isEmpty in refl) r o; rest = r
-                ; ending = (unfold turn behind in refl); stops = (unfold isFull in refl) }) in
+          let s : ending n l t ≡ TornLast = rows-then n l t (ordered-rows o) ∙ stop-judge TornLast (before-top l) t (record {
+            left = x;
+            slot = torn;
+            right = y;
+            split = e;
+            plain = ending-plain l x dead y (unfold isEmpty in refl) r o;
+            rest = r;
+            ending = (unfold turn behind in refl);
+            stops = (unfold isFull in refl);
+          }) in
           rw (s, ← (torn-entries x y e r)) (unfold endsTorn in (g .1))
+
       go : (b : Bool) → all isEmpty t ≡ b → (endsTorn (ending n l t) && leb (length (entriesIn (rowsWith n l t))) (capacity N B)) ≡ true
       go true e = absurd (false≢true (unfold isTorn in (sym (ap isTorn (none-written n l t e)) ∙ w)))
       go false e =
@@ -227,19 +251,21 @@ module _ (N B n : ℕ) (l : List (List Slot)) (t : List Slot) where
     where
       g : (endsTorn (ending n l t) ≡ true) × (leb (length (entriesIn (rowsWith n l t))) (capacity N B) ≡ true)
       g = and-eq-true-iff (endsTorn (ending n l t)) (leb (length (entriesIn (rowsWith n l t))) (capacity N B)) .0 h
+
       is-torn : (e : Ending) → endsTorn e ≡ true → e ≡ TornLast
       is-torn Full q = absurd (false≢true (unfold endsTorn in q))
       is-torn Room q = absurd (false≢true (unfold endsTorn in q))
       is-torn TornLast q = refl
       is-torn TwinLast q = absurd (false≢true (unfold endsTorn in q))
       is-torn Bad q = absurd (false≢true (unfold endsTorn in q))
+
       go : Plain [] (flatten l) → Judged TornLast (before-top l) t → (isTorn (lastWritten (rowsWith n l t)) && fine N B (lastMarked (rowsWith n l t))) ≡ true
       go r (inl (e, q)) = absurd (false≢true (unfold isFull in (ap isFull e)))
       go r (inr s) =
           let e : t ≡ s .left ++ (torn ∷ s .right) = s .split ∙ ap (λ (z : Slot). s .left ++ (z ∷ s .right)) (stop-torn (before-top l ++ entries (s .left)) (s .slot) (s .ending)) in
           let d : distinct (before-top l ++ entries (s .left) ++ entryOf dead) ≡ true = (unfold entryOf in (ap distinct (append-nil (before-top l ++ entries (s .left))) ∙ s .plain .once)) in
           let o : ordered (lastMarked (rowsWith n l t)) ≡ true = ap ordered (torn-marked (s .left) (s .right) e (s .rest))
-                ∙ facts-ordered n l (s .left ++ (dead ∷ s .right)) (ordered-ending l (s .left) dead (s .right) r (s .plain) (s .rest) (unfold isWrong isTorn in refl) d) in
+          ∙ facts-ordered n l (s .left ++ (dead ∷ s .right)) (ordered-ending l (s .left) dead (s .right) r (s .plain) (s .rest) (unfold isWrong isTorn in refl) d) in
           rw (torn-written (s .left) (s .right) e (s .rest), fine-ordered N B (lastMarked (rowsWith n l t)), o, torn-entries (s .left) (s .right) e (s .rest)) (unfold isTorn in (g .1))
 
   pub torn-ending : tornLast N B (rowsWith n l t) ≡ (endsTorn (ending n l t) && leb (length (entriesIn (rowsWith n l t))) (capacity N B))

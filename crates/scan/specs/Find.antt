@@ -54,7 +54,7 @@ slot-found b o j (k ∷ s) other =
   where
     go : (k : Slot) → findSlot b (o + suc j * 256) s other ≡ cond (holds b (entries s)) (At (record { 0 = o + slotFrom b (suc j) s * 256 }) (length (contentsFound (lookup b (entries s))))) other
         → cond (holds b (entryOf k)) (At (record { 0 = o + j * 256 }) (contentsLength k)) (findSlot b (o + suc j * 256) s other)
-          ≡ cond (holds b (entries (k ∷ s))) (At (record { 0 = o + cond (holds b (entryOf k)) j (slotFrom b (suc j) s) * 256 }) (length (contentsFound (lookup b (entries (k ∷ s)))))) other
+        ≡ cond (holds b (entries (k ∷ s))) (At (record { 0 = o + cond (holds b (entryOf k)) j (slotFrom b (suc j) s) * 256 }) (length (contentsFound (lookup b (entries (k ∷ s)))))) other
     go empty h = h
     go torn h = h
     go dead h = h
@@ -63,7 +63,7 @@ slot-found b o j (k ∷ s) other =
       where
         hit : (t : Bool) → findSlot b (o + suc j * 256) s other ≡ cond (holds b (entries s)) (At (record { 0 = o + slotFrom b (suc j) s * 256 }) (length (contentsFound (lookup b (entries s))))) other
             → cond (t || false) (At (record { 0 = o + j * 256 }) (contentsLength (live a c))) (findSlot b (o + suc j * 256) s other)
-              ≡ cond (t || holds b (entries s)) (At (record { 0 = o + cond (t || false) j (slotFrom b (suc j) s) * 256 }) (length (contentsFound (cond t (present c) (lookup b (entries s)))))) other
+            ≡ cond (t || holds b (entries s)) (At (record { 0 = o + cond (t || false) j (slotFrom b (suc j) s) * 256 }) (length (contentsFound (cond t (present c) (lookup b (entries s)))))) other
         hit true q = unfold contentsLength contentsFound in refl
         hit false q = q
 
@@ -83,11 +83,13 @@ rows-found N B b n (s ∷ rows) =
   where
     held : holds b (entries (flatten (s ∷ rows))) ≡ (holds b (entries s) || holds b (entries (flatten rows)))
     held = unfold flatten in (ap (holds b) (entries-append s (flatten rows)) ∙ holds-append b (entries s) (entries (flatten rows)))
+
     looked : lookup b (entries (flatten (s ∷ rows))) ≡ cond (holds b (entries s)) (lookup b (entries s)) (lookup b (entries (flatten rows)))
     looked = unfold flatten in (ap (lookup b) (entries-append s (flatten rows)) ∙ lookup-append b (entries s) (entries (flatten rows)))
+
     go : (t : Bool) → holds b (entries s) ≡ t
         → findRows N B b (suc n) rows ≡ cond (holds b (entries (flatten rows))) (At (record { 0 = slotAt N B (placeFrom b (suc n) rows .number) (placeFrom b (suc n) rows .slot) * 256 }) (length (contentsFound (lookup b (entries (flatten rows)))))) Nothing
         → cond (holds b (entries s)) (At (record { 0 = slotAt N B n (slotFrom b 0 s) * 256 }) (length (contentsFound (lookup b (entries s))))) (findRows N B b (suc n) rows)
-          ≡ cond (holds b (entries (flatten (s ∷ rows)))) (At (record { 0 = slotAt N B (placeFrom b n (s ∷ rows) .number) (placeFrom b n (s ∷ rows) .slot) * 256 }) (length (contentsFound (lookup b (entries (flatten (s ∷ rows))))))) Nothing
+        ≡ cond (holds b (entries (flatten (s ∷ rows)))) (At (record { 0 = slotAt N B (placeFrom b n (s ∷ rows) .number) (placeFrom b n (s ∷ rows) .slot) * 256 }) (length (contentsFound (lookup b (entries (flatten (s ∷ rows))))))) Nothing
     go true e h = rw (held, looked, e)
     go false e h = rw (held, looked, e, h)

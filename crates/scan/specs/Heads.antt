@@ -101,8 +101,13 @@ outline-first l = rw (outline-next l, outline-used l)
 
 pub outline-frame : (N : ℕ) (l : List Segment) → frame N (map outline l) ≡ frame N l
 unfolding frame someInUse consecutive noneOwing othersBlank
-outline-frame N l = rw (outline-used l, outline-first l, outline-numbers N l (usedCount l) (firstNumber l),
-    all-map (λ x. not (isOwing x)) outline (λ x. ap not (outline-owing x)) l, all-map (λ x. not (isInvalid x)) outline (λ x. ap not (outline-invalid x)) l)
+outline-frame N l = rw (
+  outline-used l,
+  outline-first l,
+  outline-numbers N l (usedCount l) (firstNumber l),
+  all-map (λ x. not (isOwing x)) outline (λ x. ap not (outline-owing x)) l,
+  all-map (λ x. not (isInvalid x)) outline (λ x. ap not (outline-invalid x)) l,
+)
 
 -- ---- the top, and the segment after it
 

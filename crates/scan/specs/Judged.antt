@@ -29,9 +29,10 @@ distinct-more x e d h = copies-distinct (x ++ (e ∷ [])) (λ b.
     let s = copies-append b x (e ∷ []) in
     let z = copies-none b in
     let k = distinct-copies x d b in
-    elim (native.Mathlib.Decide.ℕ-discrete b (e .block))
-      [ yes q ↦ let a : copies b x ≡ 0 = rw q (absent-copies (e .block) x h) in omega (arith, copies-cons-same b e [] q)
-      | no q ↦ omega (arith, copies-cons-other b e [] q) ])
+    elim (native.Mathlib.Decide.ℕ-discrete b (e .block)) [
+      | yes q ↦ let a : copies b x ≡ 0 = rw q (absent-copies (e .block) x h) in omega (arith, copies-cons-same b e [] q)
+      | no q ↦ omega (arith, copies-cons-other b e [] q)
+    ])
 
 -- ---- plain slots: written, neither torn nor wrong, each block once, behind these entries
 
@@ -53,19 +54,21 @@ plain-cons p k s a b h = record { sound = rw (a, h .sound); full = rw (b, h .ful
 
 plain-tail : (p : List Entry) (k : Slot) (s : List Slot) → Plain p (k ∷ s) → Plain (p ++ entryOf k) s
 unfolding all
-plain-tail p k s h = record
-  { sound = and-eq-true-iff (not (isWrong k || isTorn k)) (sound s) .0 (h .sound) .1
-  ; full = and-eq-true-iff (not (isEmpty k)) (full s) .0 (h .full) .1
-  ; once = rw (← (grouped p k s)) (h .once) }
+plain-tail p k s h = record {
+  sound = and-eq-true-iff (not (isWrong k || isTorn k)) (sound s) .0 (h .sound) .1;
+  full = and-eq-true-iff (not (isEmpty k)) (full s) .0 (h .full) .1;
+  once = rw (← (grouped p k s)) (h .once);
+}
 
 pub plain-parts : (p : List Entry) (x y : List Slot) → Plain p (x ++ y) → Plain p x × Plain (p ++ entries x) y
 plain-parts p x y h =
     let a = all-parts (λ k. not (isWrong k || isTorn k)) x y (h .sound) in
     let b = all-parts (λ k. not (isEmpty k)) x y (h .full) in
     let e : p ++ entries (x ++ y) ≡ p ++ entries x ++ entries y = ap (λ (z : List Entry). p ++ z) (entries-append x y) ∙ sym (append-assoc p (entries x) (entries y)) in
-    let d : distinct (p ++ entries x ++ entries y) ≡ true = rw (← e) (h .once) in
-    ( record { sound = a .0; full = b .0; once = distinct-front (p ++ entries x) (entries y) d }
-    , record { sound = a .1; full = b .1; once = d } )
+    let d : distinct (p ++ entries x ++ entries y) ≡ true = rw (← e) (h .once) in (
+      record { sound = a .0; full = b .0; once = distinct-front (p ++ entries x) (entries y) d },
+      record { sound = a .1; full = b .1; once = d },
+    )
 
 pub plain-join : (p : List Entry) (x y : List Slot) → Plain p x → Plain (p ++ entries x) y → Plain p (x ++ y)
 plain-join p x y g h =
@@ -170,14 +173,30 @@ stop-here : (f e : Ending) (p : List Entry) (k : Slot) (s : List Slot) → disti
 unfolding entries flatMap
 stop-here f e p k s d n t h q =
     let r = stopped e f h n (p ++ entryOf k) s q in
-    inr (record { left = []; slot = k; right = s; split = refl; plain = plain-none p d; rest = r .1
-      ; ending = ap (λ (y : List Entry). turn Full y k) (append-nil p) ∙ (t ∙ sym (r .0)); stops = ap isFull (r .0) ∙ h })
+    inr (record {
+      left = [];
+      slot = k;
+      right = s;
+      split = refl;
+      plain = plain-none p d;
+      rest = r .1;
+      ending = ap (λ (y : List Entry). turn Full y k) (append-nil p) ∙ (t ∙ sym (r .0));
+      stops = ap isFull (r .0) ∙ h;
+    })
 
 -- the first slot is plain
 judged-cons : (f : Ending) (p : List Entry) (k : Slot) (s : List Slot) → not (isWrong k || isTorn k) ≡ true → isEmpty k ≡ false → Judged f (p ++ entryOf k) s → Judged f p (k ∷ s)
 judged-cons f p k s a b (inl (e, h)) = inl (e, plain-cons p k s a b h)
-judged-cons f p k s a b (inr h) = inr (record { left = k ∷ h .left; slot = h .slot; right = h .right; split = ap {B = List Slot} (λ y. k ∷ y) (h .split)
-    ; plain = plain-cons p k (h .left) a b (h .plain); rest = h .rest; ending = ap (λ (y : List Entry). turn Full y (h .slot)) (grouped p k (h .left)) ∙ h .ending; stops = h .stops })
+judged-cons f p k s a b (inr h) = inr (record {
+  left = k ∷ h .left;
+  slot = h .slot;
+  right = h .right;
+  split = ap {B = List Slot} (λ y. k ∷ y) (h .split);
+  plain = plain-cons p k (h .left) a b (h .plain);
+  rest = h .rest;
+  ending = ap (λ (y : List Entry). turn Full y (h .slot)) (grouped p k (h .left)) ∙ h .ending;
+  stops = h .stops;
+})
 
 pub judged : (f : Ending) → isBad f ≡ false → (p : List Entry) → distinct p ≡ true → (s : List Slot) → judge Full p s ≡ f → Judged f p s
 unfolding judge turn behind leaveRoom isWrong isTorn isEmpty
@@ -214,6 +233,7 @@ ring-full e p (r ∷ l) h = go e (ring-full (behind e (judge Full p r)) (p ++ en
   where
     no : Bad ≡ Full → ⊥
     no q = false≢true (unfold isFull in (ap isFull q))
+
     go : (x : Ending) → behind x (judge Full p r) ≡ Full → x ≡ Full
     go Full q = refl
     go Room q = absurd (no q)

@@ -42,9 +42,13 @@ ordered-facts n l t h =
     let d = and-eq-true-iff (distinct (entries (flatten (l ++ (t ∷ []))))) (onlyTopEmpty (l ++ (t ∷ []))) .0 r in
     let a = all-parts (λ k. not (isWrong k || isTorn k)) (flatten l) t (rw (← (flatten-last l t)) s) in
     let e = and-eq-true-iff (all (λ x. full x) l) (emptyLast t) .0 (sym (only-top-empty l t) ∙ d .1) in
-    record { soundRows = a .0; soundTop = a .1
-      ; once = ap distinct (sym (ap entries (flatten-last l t) ∙ entries-append (flatten l) t)) ∙ d .0
-      ; fullRows = all-flatten (λ k. not (isEmpty k)) l ∙ e .0; last = e .1 }
+    record {
+      soundRows = a .0;
+      soundTop = a .1;
+      once = ap distinct (sym (ap entries (flatten-last l t) ∙ entries-append (flatten l) t)) ∙ d .0;
+      fullRows = all-flatten (λ k. not (isEmpty k)) l ∙ e .0;
+      last = e .1;
+    }
 
 pub facts-ordered : (n : ℕ) (l : List (List Slot)) (t : List Slot) → Ordered l t → ordered (rowsWith n l t) ≡ true
 unfolding ordered noneWrongOrTorn blocksDistinct emptySlotsLast entriesIn
@@ -77,12 +81,13 @@ empty-sound (live b c ∷ s) h = absurd (false≢true h)
 pub ordered-ending : (l : List (List Slot)) (x : List Slot) (k : Slot) (y : List Slot) → Plain [] (flatten l) → Plain (before-top l) x → all isEmpty y ≡ true
     → not (isWrong k || isTorn k) ≡ true → distinct (before-top l ++ entries x ++ entryOf k) ≡ true → Ordered l (x ++ (k ∷ y))
 unfolding all emptyLast
-ordered-ending l x k y r p e s d = record
-  { soundRows = r .sound
-  ; soundTop = all-join (λ z. not (isWrong z || isTorn z)) x (k ∷ y) (p .sound) (rw (s, empty-sound y e))
-  ; once = rw (top-entries l x k y e) d
-  ; fullRows = r .full
-  ; last = full-then x (k ∷ y) (p .full) ∙ one (isEmpty k) }
+ordered-ending l x k y r p e s d = record {
+  soundRows = r .sound;
+  soundTop = all-join (λ z. not (isWrong z || isTorn z)) x (k ∷ y) (p .sound) (rw (s, empty-sound y e));
+  once = rw (top-entries l x k y e) d;
+  fullRows = r .full;
+  last = full-then x (k ∷ y) (p .full) ∙ one (isEmpty k);
+}
   where
     one : (t : Bool) → cond t (all isEmpty y) (emptyLast y) ≡ true
     one true = e
@@ -98,10 +103,11 @@ full-before (a ∷ x) k y n h = go (isEmpty a) h (λ q. full-before x k y n q)
     go false q ih = ih q
 
 pub ending-plain : (l : List (List Slot)) (x : List Slot) (k : Slot) (y : List Slot) → isEmpty k ≡ false → all isEmpty y ≡ true → Ordered l (x ++ (k ∷ y)) → Plain (before-top l) x
-ending-plain l x k y n e h = record
-  { sound = all-parts (λ z. not (isWrong z || isTorn z)) x (k ∷ y) (h .soundTop) .0
-  ; full = full-before x k y n (h .last)
-  ; once = distinct-front (before-top l ++ entries x) (entryOf k) (rw (← (top-entries l x k y e)) (h .once)) }
+ending-plain l x k y n e h = record {
+  sound = all-parts (λ z. not (isWrong z || isTorn z)) x (k ∷ y) (h .soundTop) .0;
+  full = full-before x k y n (h .last);
+  once = distinct-front (before-top l ++ entries x) (entryOf k) (rw (← (top-entries l x k y e)) (h .once));
+}
 
 -- ---- the last written slot
 
@@ -121,6 +127,7 @@ find-last (k ∷ s) h = go (all isEmpty s) refl h (λ q. find-last s q)
     one : (t : Bool) → (t && true) ≡ false → t ≡ false
     one true q = absurd (true≢false q)
     one false q = refl
+
     go : (t : Bool) → all isEmpty s ≡ t → (isEmpty k && t) ≡ false → (all isEmpty s ≡ false → Last s) → Last (k ∷ s)
     go true e q ih = record { left = []; slot = k; right = s; split = refl; written = one (isEmpty k) q; rest = e }
     go false e q ih = let r = ih e in record { left = k ∷ r .left; slot = r .slot; right = r .right; split = ap {B = List Slot} (λ y. k ∷ y) (r .split); written = r .written; rest = r .rest }
@@ -142,6 +149,7 @@ filled-at (a ∷ x) k y n e = rw (some (isEmpty a) x, filled-at x k y n e)
         and-no : (t : Bool) → (t && false) ≡ false
         and-no true = refl
         and-no false = refl
+
     some : (t : Bool) (x : List Slot) → (t && all isEmpty (x ++ (k ∷ y))) ≡ false
     some true x = ends x
     some false x = refl
@@ -177,6 +185,7 @@ none-written n l t e = rw (top-row l t, filled-none t e) (first t e)
     is-empty dead q = absurd (false≢true (unfold isEmpty in q))
     is-empty wrong q = absurd (false≢true (unfold isEmpty in q))
     is-empty (live b c) q = absurd (false≢true (unfold isEmpty in q))
+
     first : (s : List Slot) → all isEmpty s ≡ true → getD s (0 - 1) empty ≡ empty
     first [] q = refl
     first (k ∷ s) q = is-empty k (and-eq-true-iff (isEmpty k) (all isEmpty s) .0 (unfold all in q) .0)

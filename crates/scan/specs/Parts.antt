@@ -92,8 +92,10 @@ used-slots N B i n s h e =
   where
     hd : Page
     hd = take 256 (drop (headerOffset B i) s)
+
     bs : List ℕ
     bs = take ((B + 1) * 256) (drop (headerOffset B i) s)
+
     go : (a b : Bool) → numberAfter (cond a (inUse (headerStatus hd) (headerNumber hd) (slotsAt s (slotsOffset B i) B)) (cond b blank invalid)) ≡ suc n
         → slotsIn (cond a (inUse (headerStatus hd) (headerNumber hd) (slotsAt s (slotsOffset B i) B)) (cond b blank invalid)) ≡ slotsAt s (slotsOffset B i) B
     go true b q = refl
@@ -113,4 +115,4 @@ used-rows N B s p (suc u) n h =
     let l = segmentsOf N B s in
     let a = eqb-true (numberAfter (getD l (n % N) blank)) (suc n) (and-left (eqb (numberAfter (getD l (n % N) blank)) (suc n)) (numbersFrom N l u (suc n)) h) in
     ap₂ {C = List (List Slot)} (λ x y. x ∷ y) (used-slots N B (n % N) n s (mod-lt n p) a)
-      (used-rows N B s p u (suc n) (and-right (eqb (numberAfter (getD l (n % N) blank)) (suc n)) (numbersFrom N l u (suc n)) h))
+    (used-rows N B s p u (suc n) (and-right (eqb (numberAfter (getD l (n % N) blank)) (suc n)) (numbersFrom N l u (suc n)) h))

@@ -176,6 +176,7 @@ module _ (N B : ℕ) (s : Image) (some : 0 < N) where
       where
         torn-verdict : verdict (capacity N B) (examined l .sum) ≡ unfinished caseC
         torn-verdict = unfold verdict in rw (o, h)
+
         written : (f : frame N l ≡ true) → endsTorn (examined l .sum .ending) ≡ true → examined l .sum .written - 1 ≡ lastSlot N l
         written f e = let r = frame-ring N l size f in
             let w : examined l .sum .written ≡ filled (topRow (viewOf N l .slots)) = framed-told f .last (rw e) in
@@ -188,8 +189,10 @@ module _ (N B : ℕ) (s : Image) (some : 0 < N) where
       where
         twin-verdict : verdict (capacity N B) (examined l .sum) ≡ unfinished caseD
         twin-verdict = unfold verdict in rw (o, c, h)
+
         e : endsTwin (examined l .sum .ending) ≡ true
         e = and-eq-true-iff (endsTwin (examined l .sum .ending)) (leb (examined l .sum .live) (capacity N B + 1)) .0 (unfold twinWithin in h) .0
+
         block-is : frame N l ≡ true → examined l .sum .block .0 ≡ lastBlock N l
         block-is f = framed-told f .block e ∙ sym (view-block N B l (frame-ring N l size f) f)
 

@@ -79,34 +79,40 @@ within-same l i h = (refl, refl)
 
 pub within-blanked : (N : ℕ) (l : List Segment) → Within (nextBlanked N l) l
 unfolding nextBlanked
-within-blanked N l i h = elim (ℕ-discrete i (nextIndex N l))
-    [ no d ↦ (let e = getD-set-other l (nextIndex N l) i blank blank d in (ap numberAfter (sym e), ap slotsIn (sym e)))
-    | yes e ↦ absurd (false≢true (sym (none (getD-blank l (nextIndex N l))) ∙ (ap (λ (k : ℕ). isInUse (getD (set l (nextIndex N l) blank) k blank)) (sym e) ∙ h))) ]
+within-blanked N l i h = elim (ℕ-discrete i (nextIndex N l)) [
+  | no d ↦ (let e = getD-set-other l (nextIndex N l) i blank blank d in (ap numberAfter (sym e), ap slotsIn (sym e)))
+  | yes e ↦ absurd (false≢true (sym (none (getD-blank l (nextIndex N l))) ∙ (ap (λ (k : ℕ). isInUse (getD (set l (nextIndex N l) blank) k blank)) (sym e) ∙ h)))
+]
   where
     getD-blank : (l : List Segment) (k : ℕ) → getD (set l k blank) k blank ≡ blank
     getD-blank [] k = refl
     getD-blank (x ∷ l) zero = refl
     getD-blank (x ∷ l) (suc k) = getD-blank l k
+
     none : {x : Segment} → x ≡ blank → isInUse x ≡ false
     none q = ap isInUse q ∙ (unfold isInUse in refl)
 
 pub within-settled : (N : ℕ) (l : List Segment) → length l ≡ N → 0 < N → Within (topSettled N l) l
 unfolding topSettled
-within-settled N l z p i h = elim (ℕ-discrete i (topIndex N l))
-    [ no d ↦ (let e = getD-set-other (nextBlanked N l) (topIndex N l) i (settled (getD l (topIndex N l) blank)) blank d in
-        let w = within-blanked N l i (ap isInUse (sym e) ∙ h) in (w .0 ∙ ap numberAfter (sym e), w .1 ∙ ap slotsIn (sym e)))
-    | yes q ↦ rw q (top (getD-set-same (nextBlanked N l) (topIndex N l) (settled (getD l (topIndex N l) blank)) blank inside)) ]
+within-settled N l z p i h = elim (ℕ-discrete i (topIndex N l)) [
+  | no d ↦ (let e = getD-set-other (nextBlanked N l) (topIndex N l) i (settled (getD l (topIndex N l) blank)) blank d in
+      let w = within-blanked N l i (ap isInUse (sym e) ∙ h) in (w .0 ∙ ap numberAfter (sym e), w .1 ∙ ap slotsIn (sym e)))
+  | yes q ↦ rw q (top (getD-set-same (nextBlanked N l) (topIndex N l) (settled (getD l (topIndex N l) blank)) blank inside))
+]
   where
     inside : topIndex N l < length (nextBlanked N l)
     inside = unfold topIndex nextBlanked in omega (arith, mod-lt (nextNumber l - 1) p, length-set l (nextIndex N l) blank)
+
     number : (x : Segment) → numberAfter x ≡ numberAfter (settled x)
     number blank = unfold settled in refl
     number invalid = unfold settled in refl
     number (inUse st n ks) = unfold settled numberAfter in refl
+
     slots : (x : Segment) → slotsIn x ≡ slotsIn (settled x)
     slots blank = unfold settled in refl
     slots invalid = unfold settled in refl
     slots (inUse st n ks) = unfold settled slotsIn in refl
+
     top : {y : Segment} → y ≡ settled (getD l (topIndex N l) blank) → (numberAfter (getD l (topIndex N l) blank) ≡ numberAfter y) × (slotsIn (getD l (topIndex N l) blank) ≡ slotsIn y)
     top e = (number (getD l (topIndex N l) blank) ∙ ap numberAfter (sym e), slots (getD l (topIndex N l) blank) ∙ ap slotsIn (sym e))
 
@@ -133,7 +139,7 @@ module _ (N B : ℕ) (s : Image) (some : 0 < N) where
       let e : rowsOn s N B (usedCount m) (firstNumber m) ≡ slotsFrom N m (usedCount m) (firstNumber m) = sym (used-rows N B s some (usedCount m) (firstNumber m) (q .0)) ∙ q .1 in
       let n : length (rowsOn s N B (usedCount m) (firstNumber m)) ≡ usedCount m = ap length e ∙ slots-length N m (usedCount m) (firstNumber m) in
       subst (λ (y : List (List Slot)). Told N B (firstNumber m) y (addRows (tallies (rowsOn s N B (usedCount m) (firstNumber m)) noneMet) noSum)) e
-        (told N B (firstNumber m) (rowsOn s N B (usedCount m) (firstNumber m)) (omega (arith, r .some)) (narrow-rows s N B (usedCount m) (firstNumber m)))
+      (told N B (firstNumber m) (rowsOn s N B (usedCount m) (firstNumber m)) (omega (arith, r .some)) (narrow-rows s N B (usedCount m) (firstNumber m)))
 
   pub exam-sum : (m : List Segment) → examOf N B s (map outline m) .sum ≡ cond (frame N m) (sumOn s N B (usedCount m) (firstNumber m)) badSum
   unfolding examOf

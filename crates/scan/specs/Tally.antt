@@ -26,13 +26,14 @@ rowOf s = s .row
 
 -- one row more. The count of compactions ends at the first row with a dead slot
 unfoldable pub addRow : Sum → Row → Sum
-addRow f r = record
-  { live = f .live + r .live
-  ; written = r .written
-  ; compactions = cond (f .dead) (f .compactions) (f .compactions + 1)
-  ; dead = cond (f .dead) true (ltb 0 (r .dead))
-  ; ending = behind (f .ending) (r .ending)
-  ; block = r .block }
+addRow f r = record {
+  live = f .live + r .live;
+  written = r .written;
+  compactions = cond (f .dead) (f .compactions) (f .compactions + 1);
+  dead = cond (f .dead) true (ltb 0 (r .dead));
+  ending = behind (f .ending) (r .ending);
+  block = r .block;
+}
 
 unfoldable pub addRows : List Row → Sum → Sum
 addRows [] f = f

@@ -57,11 +57,13 @@ or-true false = refl
 
 agree-put : (s : List ℕ) (p : List Entry) (e : Entry) → e .block < 65536 → Agree s p → Agree (putBit 64 s (e .block)) (p ++ (e ∷ []))
 unfolding putBit
-agree-put s p e h a = record
-  { long = length-set s _ _ ∙ a .long
-  ; same = λ x k. elim (ℕ-discrete x (e .block))
-      [ yes q ↦ rw (q, in-same 64 s (e .block) (omega (arith, a .long)), holds-append (e .block) p (e ∷ [])) (unfold holds in rw (eq-eqb (e .block) (e .block) refl) (sym (or-true (holds (e .block) p))))
-      | no q ↦ rw (in-other 64 s (e .block) x q, holds-append x p (e ∷ []), a .same x k) (unfold holds in rw (ne-eqb x (e .block) q) (sym (or-false (holds x p)))) ] }
+agree-put s p e h a = record {
+  long = length-set s _ _ ∙ a .long;
+  same = λ x k. elim (ℕ-discrete x (e .block)) [
+    | yes q ↦ rw (q, in-same 64 s (e .block) (omega (arith, a .long)), holds-append (e .block) p (e ∷ [])) (unfold holds in rw (eq-eqb (e .block) (e .block) refl) (sym (or-true (holds (e .block) p))))
+    | no q ↦ rw (in-other 64 s (e .block) x q, holds-append x p (e ∷ []), a .same x k) (unfold holds in rw (ne-eqb x (e .block) q) (sym (or-false (holds x p))))
+  ];
+}
 
 agree-same : {s : List ℕ} {p : List Entry} → Agree s p → Agree s (p ++ [])
 agree-same {s} {p} a = rw (append-nil p) a
@@ -175,12 +177,16 @@ sum-compactions (x ∷ rows) s f h = go (noneDead x) refl (λ q. sum-compactions
   where
     r : Row
     r = seeAll (map kindOf x) (pass noRow s) .row
+
     first : addRows (tallies (x ∷ rows) s) f ≡ addRows (tallies rows (seeAll (map kindOf x) (pass noRow s) .seen)) (addRow f r)
     first = unfold addRows tallies in refl
+
     one : addRow f r .compactions ≡ f .compactions + 1
     one = add-one-more f r h
+
     marks : addRow f r .dead ≡ ltb 0 (count isDead x)
     marks = add-marks f r h ∙ ap (ltb 0) (row-dead x s)
+
     go : (t : Bool) → noneDead x ≡ t → (addRow f r .dead ≡ false → addRows (tallies rows (seeAll (map kindOf x) (pass noRow s) .seen)) (addRow f r) .compactions ≡ addRow f r .compactions + compactions rows)
         → addRows (tallies (x ∷ rows) s) f .compactions ≡ f .compactions + cond t (suc (compactions rows)) 1
     go true e ih = ap (λ (g : Sum). g .compactions) first ∙ (ih (marks ∙ le-ltb 0 (count isDead x) (omega (arith, none-count isDead x e))) ∙ omega (arith, one))

@@ -61,14 +61,16 @@ module _ (b : ℕ) (x : Table) (e : Entry) (same : b ≡ e .block) where
   behind-holds = holds-copies b (x ++ (e ∷ [])) ∙ lt-ltb 0 (copies b (x ++ (e ∷ []))) (omega (arith, behind-copies))
 
   twin-distinct : distinct x ≡ true → copies b x ≡ 1 → distinct (withoutFirst b (x ++ (e ∷ []))) ≡ true
-  twin-distinct d c = copies-distinct (withoutFirst b (x ++ (e ∷ []))) (λ a. elim (ℕ-discrete a b)
-      [ yes q ↦ rw q (omega (arith, without-first-same b (x ++ (e ∷ [])) behind-holds .0, behind-copies))
-      | no q ↦ omega (arith, without-first-other a b (x ++ (e ∷ [])) q, copies-append a x (e ∷ []), copies-cons-other a e [] (λ z. q (z ∙ sym same)), copies-none a, distinct-copies x d a) ])
+  twin-distinct d c = copies-distinct (withoutFirst b (x ++ (e ∷ []))) (λ a. elim (ℕ-discrete a b) [
+    | yes q ↦ rw q (omega (arith, without-first-same b (x ++ (e ∷ [])) behind-holds .0, behind-copies))
+    | no q ↦ omega (arith, without-first-other a b (x ++ (e ∷ [])) q, copies-append a x (e ∷ []), copies-cons-other a e [] (λ z. q (z ∙ sym same)), copies-none a, distinct-copies x d a)
+  ])
 
   distinct-twin : distinct (withoutFirst b (x ++ (e ∷ []))) ≡ true → copies b x ≡ 1 → distinct x ≡ true
-  distinct-twin d c = copies-distinct x (λ a. elim (ℕ-discrete a b)
-      [ yes q ↦ rw q (omega arith)
-      | no q ↦ omega (arith, without-first-other a b (x ++ (e ∷ [])) q, copies-append a x (e ∷ []), copies-cons-other a e [] (λ z. q (z ∙ sym same)), copies-none a, distinct-copies (withoutFirst b (x ++ (e ∷ []))) d a) ])
+  distinct-twin d c = copies-distinct x (λ a. elim (ℕ-discrete a b) [
+    | yes q ↦ rw q (omega arith)
+    | no q ↦ omega (arith, without-first-other a b (x ++ (e ∷ [])) q, copies-append a x (e ∷ []), copies-cons-other a e [] (λ z. q (z ∙ sym same)), copies-none a, distinct-copies (withoutFirst b (x ++ (e ∷ []))) d a)
+  ])
 
 -- ---- the older slot marked
 
@@ -90,9 +92,9 @@ module _ (b : ℕ) (v : View) (h : holds b (entriesIn v) ≡ true) where
       let k = live b (g .contents) in
       let at : twinless ≡ record { first = v .first; slots = fill (g .gap) dead } = is-marked ∙ marked-at b v g in
       let same-sound : noneWrongOrTorn twinless ≡ noneWrongOrTorn v =
-            ap noneWrongOrTorn at ∙ (swap-sound (v .first) (g .gap) dead k refl refl ∙ ap (λ (z : List (List Slot)). noneWrongOrTorn (record { first = v .first; slots = z })) (sym (g .split))) in
+      ap noneWrongOrTorn at ∙ (swap-sound (v .first) (g .gap) dead k refl refl ∙ ap (λ (z : List (List Slot)). noneWrongOrTorn (record { first = v .first; slots = z })) (sym (g .split))) in
       let same-last : emptySlotsLast twinless ≡ emptySlotsLast v =
-            ap emptySlotsLast at ∙ (swap-last (v .first) (g .gap) dead k refl ∙ ap (λ (z : List (List Slot)). emptySlotsLast (record { first = v .first; slots = z })) (sym (g .split))) in
+      ap emptySlotsLast at ∙ (swap-last (v .first) (g .gap) dead k refl ∙ ap (λ (z : List (List Slot)). emptySlotsLast (record { first = v .first; slots = z })) (sym (g .split))) in
       rw (twinless-entries, same-sound, same-last)
 
 -- ---- the last written slot is live
@@ -145,8 +147,8 @@ module _ (N B n : ℕ) (l : List (List Slot)) (t : List Slot) (proper : (b : ℕ
     within-more : leb (length (withoutFirst (e .block) (entriesIn w))) (capacity N B) ≡ leb (length (entriesIn w)) (capacity N B + 1)
     within-more = let s = without-first-same (e .block) (entriesIn w) live-holds .1 in
         both-ways (leb (length (withoutFirst (e .block) (entriesIn w))) (capacity N B)) (leb (length (entriesIn w)) (capacity N B + 1))
-          (λ h. le-leb (length (entriesIn w)) (capacity N B + 1) (omega (arith, leb-true (length (withoutFirst (e .block) (entriesIn w))) (capacity N B) h)))
-          (λ h. le-leb (length (withoutFirst (e .block) (entriesIn w))) (capacity N B) (omega (arith, leb-true (length (entriesIn w)) (capacity N B + 1) h)))
+        (λ h. le-leb (length (entriesIn w)) (capacity N B + 1) (omega (arith, leb-true (length (withoutFirst (e .block) (entriesIn w))) (capacity N B) h)))
+        (λ h. le-leb (length (withoutFirst (e .block) (entriesIn w))) (capacity N B) (omega (arith, leb-true (length (entriesIn w)) (capacity N B + 1) h)))
 
     -- the rows are plain before it, and its block is there once
     met-once : test ≡ true → Ordered l (x ++ (dead ∷ y)) × (copies (e .block) (before-top l ++ entries x) ≡ 1)
@@ -182,20 +184,30 @@ module _ (N B n : ℕ) (l : List (List Slot)) (t : List Slot) (proper : (b : ℕ
     where
       positive : 0 < twinBlock w
       positive = ltb-true 0 (twinBlock w) (and-eq-true-iff (ltb 0 (twinBlock w)) (eqb (copies (twinBlock w) (entriesIn w)) 2 && fine N B (twinMarked w)) .0 (unfold twinLast in h) .0)
+
       is-live : (k : Slot) → 0 < blockIn (entryOf k) → (e : Entry) × (k ≡ live (e .block) (e .contents))
       is-live empty q = absurd (unfold entryOf blockIn in omega arith)
       is-live torn q = absurd (unfold entryOf blockIn in omega arith)
       is-live dead q = absurd (unfold entryOf blockIn in omega arith)
       is-live wrong q = absurd (unfold entryOf blockIn in omega arith)
       is-live (live b c) q = (record { block = b; contents = c }, refl)
+
       at-last : (x : List Slot) (e : Entry) (y : List Slot) → t ≡ x ++ (live (e .block) (e .contents) ∷ y) → all isEmpty y ≡ true → (endsTwin (ending n l t) && leb (length (entriesIn w)) (capacity N B + 1)) ≡ true
       at-last x e y s r =
           let m = met-once x e y s r (sym (twin-test x e y s r) ∙ h) in
           let g : holds (e .block) (before-top l ++ entries x) ≡ true = holds-copies (e .block) (before-top l ++ entries x) ∙ lt-ltb 0 (copies (e .block) (before-top l ++ entries x)) (omega (arith, m .1)) in
-          let z : ending n l t ≡ TwinLast = rows-then n l t (ordered-rows (m .0)) ∙ stop-judge TwinLast (before-top l) t (record
-                { left = x; slot = live (e .block) (e .contents); right = y; split = s; plain = ending-plain l x dead y (unfold isEmpty in refl) r (m .0); rest = r
-                ; ending = twin-turn (before-top l ++ entries x) e g; stops = (unfold isFull in refl) }) in
+          let z : ending n l t ≡ TwinLast = rows-then n l t (ordered-rows (m .0)) ∙ stop-judge TwinLast (before-top l) t (record {
+            left = x;
+            slot = live (e .block) (e .contents);
+            right = y;
+            split = s;
+            plain = ending-plain l x dead y (unfold isEmpty in refl) r (m .0);
+            rest = r;
+            ending = twin-turn (before-top l ++ entries x) e g;
+            stops = (unfold isFull in refl);
+          }) in
           rw z (sym (met-test x e y s r (m .0) g) ∙ (sym (twin-test x e y s r) ∙ h))
+
       go : (b : Bool) → all isEmpty t ≡ b → (endsTwin (ending n l t) && leb (length (entriesIn w)) (capacity N B + 1)) ≡ true
       go true e = absurd (none (ap (λ (k : Slot). blockIn (entryOf k)) (none-written n l t e)))
         where
@@ -213,12 +225,14 @@ module _ (N B n : ℕ) (l : List (List Slot)) (t : List Slot) (proper : (b : ℕ
     where
       g : (endsTwin (ending n l t) ≡ true) × (leb (length (entriesIn w)) (capacity N B + 1) ≡ true)
       g = and-eq-true-iff (endsTwin (ending n l t)) (leb (length (entriesIn w)) (capacity N B + 1)) .0 h
+
       is-twin : (e : Ending) → endsTwin e ≡ true → e ≡ TwinLast
       is-twin Full q = absurd (false≢true (unfold endsTwin in q))
       is-twin Room q = absurd (false≢true (unfold endsTwin in q))
       is-twin TornLast q = absurd (false≢true (unfold endsTwin in q))
       is-twin TwinLast q = refl
       is-twin Bad q = absurd (false≢true (unfold endsTwin in q))
+
       go : Plain [] (flatten l) → Judged TwinLast (before-top l) t → twinLast N B w ≡ true
       go r (inl (e, q)) = absurd (false≢true (unfold isFull in (ap isFull e)))
       go r (inr s) =

@@ -125,7 +125,7 @@ held-last l x e y =
     let b = e .block in
     let k = live (e .block) (e .contents) in
     rw (flatten-last l (x ++ (k ∷ y)), entries-append (flatten l) (x ++ (k ∷ y)), entries-append x (k ∷ y))
-      (holds-right b (entries (flatten l)) (entries x ++ entries (k ∷ y)) (holds-right b (entries x) (entries (k ∷ y)) (here e y)))
+    (holds-right b (entries (flatten l)) (entries x ++ entries (k ∷ y)) (holds-right b (entries x) (entries (k ∷ y)) (here e y)))
   where
     here : (e : Entry) (y : List Slot) → holds (e .block) (entries (live (e .block) (e .contents) ∷ y)) ≡ true
     here e y = unfold holds entries flatMap entryOf in rw (eq-eqb (e .block) (e .block) refl)
@@ -198,7 +198,8 @@ module _ (N B n : ℕ) (l : List (List Slot)) (t : List Slot) (narrow : NarrowRo
           let e = k .0 in
           let q : t ≡ s .left ++ (live (e .block) (e .contents) ∷ s .right) = s .split ∙ ap (λ (z : Slot). s .left ++ (z ∷ s .right)) (k .1) in
           ap (lastLive 0) q ∙ (last-live 0 (s .left) (e .block) (e .contents) (s .right) (s .rest)
-            ∙ sym (ap (λ (z : List Slot). twinBlock (rowsWith n l z)) q ∙ last-block n l (s .left) (e .block) (e .contents) (s .right) (s .rest)))
+          ∙ sym (ap (λ (z : List Slot). twinBlock (rowsWith n l z)) q ∙ last-block n l (s .left) (e .block) (e .contents) (s .right) (s .rest)))
+
       go : (e : Ending) → ending n l t ≡ e → endsTwin e ≡ true → lastLive 0 t ≡ twinBlock (rowsWith n l t)
       go Full q k = absurd (false≢true (unfold endsTwin in k))
       go Room q k = absurd (false≢true (unfold endsTwin in k))
@@ -215,6 +216,7 @@ module _ (N B n : ℕ) (l : List (List Slot)) (t : List Slot) (narrow : NarrowRo
           let e = k .0 in
           let q : t ≡ s .left ++ (live (e .block) (e .contents) ∷ s .right) = s .split ∙ ap (λ (z : Slot). s .left ++ (z ∷ s .right)) (k .1) in
           rw (q, last-live 0 (s .left) (e .block) (e .contents) (s .right) (s .rest)) (held-last l (s .left) e (s .right))
+
       go : (e : Ending) → ending n l t ≡ e → endsTwin e ≡ true → holds (lastLive 0 t) (entries (flatten (l ++ (t ∷ [])))) ≡ true
       go Full q k = absurd (false≢true (unfold endsTwin in k))
       go Room q k = absurd (false≢true (unfold endsTwin in k))
@@ -223,15 +225,16 @@ module _ (N B n : ℕ) (l : List (List Slot)) (t : List Slot) (narrow : NarrowRo
       go Bad q k = absurd (false≢true (unfold endsTwin in k))
 
   told-top : Told N B n (l ++ (t ∷ [])) f
-  told-top = let w = sum-top l t noneMet noSum in record
-    { live = f-live
-    ; compactions = f-compactions
-    ; fine = fine-ending n l t N B ∙ f-orderly
-    ; state = f-state
-    ; free = λ h. w .0 ∙ (first-free t (ending-ordered n l t (ap inOrder (sym f-ending) ∙ h) .last) ∙ ap firstEmpty (sym (top-row l t)))
-    ; last = λ h. w .0 ∙ (f-last h ∙ ap filled (sym (top-row l t)))
-    ; block = λ h. w .1 ∙ f-block h
-    ; held = λ h. ap (λ (b : ℕ). holds b (entries (flatten (l ++ (t ∷ []))))) (w .1) ∙ f-held h }
+  told-top = let w = sum-top l t noneMet noSum in record {
+    live = f-live;
+    compactions = f-compactions;
+    fine = fine-ending n l t N B ∙ f-orderly;
+    state = f-state;
+    free = λ h. w .0 ∙ (first-free t (ending-ordered n l t (ap inOrder (sym f-ending) ∙ h) .last) ∙ ap firstEmpty (sym (top-row l t)));
+    last = λ h. w .0 ∙ (f-last h ∙ ap filled (sym (top-row l t)));
+    block = λ h. w .1 ∙ f-block h;
+    held = λ h. ap (λ (b : ℕ). holds b (entries (flatten (l ++ (t ∷ []))))) (w .1) ∙ f-held h;
+  }
 
 pub told : (N B n : ℕ) (rows : List (List Slot)) → 1 ≤ length rows → NarrowRows rows → Told N B n rows (addRows (tallies rows noneMet) noSum)
 told N B n rows h k =

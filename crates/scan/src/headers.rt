@@ -1,12 +1,12 @@
 // The segments by their headers, and the tests that need no more.
+use crate::Ending;
+use crate::Frame;
+use crate::Row;
+use crate::SegmentState;
+use crate::Summary;
 use model::BlockNumber;
 use model::SegmentNumber;
 use page::HeaderSeen;
-use crate::SegmentState;
-use crate::Ending;
-use crate::Row;
-use crate::Summary;
-use crate::Frame;
 ghost use mathlib.Core.Path.{_≡_};
 ghost use mathlib.Core.Bool.{not, _||_};
 ghost use mathlib.Core.List.{map};
@@ -209,13 +209,25 @@ pub fn see_frame(table: [Summary; 64], segments: usize) -> Frame
     let used = used_count(table, segments);
     let first = less(next, used);
     if used == 0 {
-        return Frame { first, used, fine: false };
+        return Frame {
+            first,
+            used,
+            fine: false,
+        };
     }
     if used >= segments {
-        return Frame { first, used, fine: false };
+        return Frame {
+            first,
+            used,
+            fine: false,
+        };
     }
     if !consecutive(table, segments, first, used) {
-        return Frame { first, used, fine: false };
+        return Frame {
+            first,
+            used,
+            fine: false,
+        };
     }
     let fine = all_settled(table, segments);
     Frame { first, used, fine }

@@ -80,7 +80,14 @@ pub enum Found {
 }
 
 // The first live slot of a block, in the segments in use from the oldest on. Leaves both walks at the first hit.
-pub fn find(image: &[u8], segments: usize, slots: usize, first: SegmentNumber, used: usize, block: BlockNumber) -> Found
+pub fn find(
+    image: &[u8],
+    segments: usize,
+    slots: usize,
+    first: SegmentNumber,
+    used: usize,
+    block: BlockNumber,
+) -> Found
     requires { ⌜ Sized segments slots (length (now image)) × (used ≤ 255) × (numbersFrom segments (segmentsOf segments slots (now image)) used (first .0) ≡ true) ⌝ }
     ensures { λ r. ⌜ r ≡ foundIn segments slots (block .0) (record { first = first .0; slots = slotsFrom segments (segmentsOf segments slots (now (image .entry))) used (first .0) }) ⌝ }
 {
@@ -94,7 +101,11 @@ pub fn find(image: &[u8], segments: usize, slots: usize, first: SegmentNumber, u
             let at = (index * (slots + 1) + 1 + j) * 256;
             let end = at + 256;
             let kind = page::slot::slot_kind(&image[at..end]);
-            let SlotKind::Live { length, block: held } = kind else {
+            let SlotKind::Live {
+                length,
+                block: held,
+            } = kind
+            else {
                 j += 1;
                 continue;
             };
@@ -122,15 +133,30 @@ struct Exam {
 pub enum Surveyed {
     // The smallest number in use, how many segments are, how many slots are live, the top's first empty slot, or as
     // many as it has, and how many compactions make room when there is none.
-    Clean { first: SegmentNumber, used: usize, live: usize, free: usize, compactions: usize },
+    Clean {
+        first: SegmentNumber,
+        used: usize,
+        live: usize,
+        free: usize,
+        compactions: usize,
+    },
     // (a): the segment after the top is neither in use nor blank.
-    TornSegment { top: SegmentNumber },
+    TornSegment {
+        top: SegmentNumber,
+    },
     // (b): the top is owing; whether its old segment is blank already.
-    ErasePending { top: SegmentNumber, blank: bool },
+    ErasePending {
+        top: SegmentNumber,
+        blank: bool,
+    },
     // (c): the top's last written slot is torn.
-    TornSlot { place: SlotPlace },
+    TornSlot {
+        place: SlotPlace,
+    },
     // (d): the older of two live slots with one block.
-    OldSlot { place: SlotPlace },
+    OldSlot {
+        place: SlotPlace,
+    },
     Damaged,
 }
 
@@ -159,11 +185,22 @@ fn slot_place(segments: usize, slots: usize, number: usize, slot: usize) -> Slot
 }
 
 // The survey where the top is owing: all is fine once its old segment, the one after it, is taken for erased.
-fn survey_owing(image: &[u8], segments: usize, slots: usize, table: [Summary; 64], next: usize) -> Surveyed
+fn survey_owing(
+    image: &[u8],
+    segments: usize,
+    slots: usize,
+    table: [Summary; 64],
+    next: usize,
+) -> Surveyed
     requires { ⌜ Shown segments slots (now image) table next × (isOwing (getD (heads segments table) (topIndex segments (heads segments table)) blank) ≡ true) ⌝ }
     ensures { λ r. ⌜ r ≡ surveyOf segments slots (segmentsOf segments slots (now (image .entry))) ⌝ }
 {
-    let exam = sums::examine(image, segments, slots, headers::top_settled(table, segments, next));
+    let exam = sums::examine(
+        image,
+        segments,
+        slots,
+        headers::top_settled(table, segments, next),
+    );
     let sum = exam.sum;
     if exam.used + 1 != segments {
         return Surveyed::Damaged;
@@ -180,11 +217,22 @@ fn survey_owing(image: &[u8], segments: usize, slots: usize, table: [Summary; 64
 }
 
 // The survey where the segment after the top is neither in use nor blank: all is fine once it is taken for blank.
-fn survey_torn(image: &[u8], segments: usize, slots: usize, table: [Summary; 64], next: usize) -> Surveyed
+fn survey_torn(
+    image: &[u8],
+    segments: usize,
+    slots: usize,
+    table: [Summary; 64],
+    next: usize,
+) -> Surveyed
     requires { ⌜ Shown segments slots (now image) table next × (isOwing (getD (heads segments table) (topIndex segments (heads segments table)) blank) ≡ false) × (isInvalid (getD (heads segments table) (nextIndex segments (heads segments table)) blank) ≡ true) ⌝ }
     ensures { λ r. ⌜ r ≡ surveyOf segments slots (segmentsOf segments slots (now (image .entry))) ⌝ }
 {
-    let exam = sums::examine(image, segments, slots, headers::next_blanked(table, segments, next));
+    let exam = sums::examine(
+        image,
+        segments,
+        slots,
+        headers::next_blanked(table, segments, next),
+    );
     let sum = exam.sum;
     if sums::orderly(sum, capacity(segments, slots)) {
         let top = top_number(next);
@@ -225,7 +273,13 @@ fn old_slot(image: &[u8], segments: usize, slots: usize, exam: Exam) -> Surveyed
 }
 
 // The survey where the top is not owing and the segment after it is blank or in use: the slots decide.
-fn survey_slots(image: &[u8], segments: usize, slots: usize, table: [Summary; 64], next: usize) -> Surveyed
+fn survey_slots(
+    image: &[u8],
+    segments: usize,
+    slots: usize,
+    table: [Summary; 64],
+    next: usize,
+) -> Surveyed
     requires { ⌜ Shown segments slots (now image) table next × (isOwing (getD (heads segments table) (topIndex segments (heads segments table)) blank) ≡ false) × (isInvalid (getD (heads segments table) (nextIndex segments (heads segments table)) blank) ≡ false) ⌝ }
     ensures { λ r. ⌜ r ≡ surveyOf segments slots (segmentsOf segments slots (now (image .entry))) ⌝ }
 {

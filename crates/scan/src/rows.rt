@@ -1,8 +1,8 @@
 // The slots of one segment, looked at once, in order.
-use model::BlockNumber;
-use model::SlotKind;
 use crate::Ending;
 use crate::Row;
+use model::BlockNumber;
+use model::SlotKind;
 ghost use mathlib.Core.Path.{_≡_};
 ghost use mathlib.Core.Bool.{cond};
 ghost use Prim.Native.Nat.{_+_, _*_, _≤_};
@@ -56,7 +56,11 @@ fn leave_room(before: Ending) -> Ending
 fn live_ending(again: bool) -> Ending
     ensures { λ r. ⌜ r ≡ cond again Ending.TwinLast Ending.Full ⌝ }
 {
-    if again { Ending::TwinLast } else { Ending::Full }
+    if again {
+        Ending::TwinLast
+    } else {
+        Ending::Full
+    }
 }
 
 // The next slot of a row: it is counted, and the number of a live one is met, whatever came before.

@@ -1,10 +1,10 @@
 // The rows of the segments in use, oldest first, gathered and added up.
-use model::BlockNumber;
 use crate::Ending;
-use crate::Row;
-use crate::Summary;
-use crate::Sum;
 use crate::Exam;
+use crate::Row;
+use crate::Sum;
+use crate::Summary;
+use model::BlockNumber;
 ghost use mathlib.Core.Path.{_≡_};
 ghost use mathlib.Core.List.{map};
 ghost use Prim.Native.Nat.{_≤_};
@@ -26,7 +26,14 @@ fn with_row(s: Summary, row: Row) -> Summary
 }
 
 // The summaries of the segments in use, oldest first, with their rows, each looked at behind those before.
-fn gather(image: &[u8], segments: usize, slots: usize, table: [Summary; 64], first: usize, used: usize) -> [Summary; 64]
+fn gather(
+    image: &[u8],
+    segments: usize,
+    slots: usize,
+    table: [Summary; 64],
+    first: usize,
+    used: usize,
+) -> [Summary; 64]
     requires { ⌜ Sized segments slots (length (now image)) × (segments ≤ 64) × (first ≤ 4294967296) × (used ≤ 64) ⌝ }
     ensures { λ r. ⌜ (map rowOf (take used r) ≡ tallies (rowsOn (now (image .entry)) segments slots used first) noneMet) ⌝ }
 {
@@ -36,7 +43,10 @@ fn gather(image: &[u8], segments: usize, slots: usize, table: [Summary; 64], fir
     while i < used {
         let index = (first + i) % segments;
         let at = (index * (slots + 1) + 1) * 256;
-        ring[i] = with_row(table[index], crate::rows::scan_row(image, at, slots, &mut seen));
+        ring[i] = with_row(
+            table[index],
+            crate::rows::scan_row(image, at, slots, &mut seen),
+        );
         i += 1;
     }
     ring
@@ -135,7 +145,11 @@ pub fn orderly(sum: Sum, most: usize) -> bool
     ensures { λ r. ⌜ r ≡ orderly most sum ⌝ }
 {
     let ending = sum.ending;
-    if in_order(ending) { sum.live <= most } else { false }
+    if in_order(ending) {
+        sum.live <= most
+    } else {
+        false
+    }
 }
 
 // Whether they hold but for a torn slot, written last.
@@ -143,7 +157,11 @@ pub fn torn_within(sum: Sum, most: usize) -> bool
     ensures { λ r. ⌜ r ≡ tornWithin most sum ⌝ }
 {
     let ending = sum.ending;
-    if ends_torn(ending) { sum.live <= most } else { false }
+    if ends_torn(ending) {
+        sum.live <= most
+    } else {
+        false
+    }
 }
 
 // Whether they hold but for a live slot, written last, whose block was met before.
@@ -151,7 +169,11 @@ pub fn twin_within(sum: Sum, most: usize) -> bool
     ensures { λ r. ⌜ r ≡ twinWithin most sum ⌝ }
 {
     let ending = sum.ending;
-    if ends_twin(ending) { sum.live <= most } else { false }
+    if ends_twin(ending) {
+        sum.live <= most
+    } else {
+        false
+    }
 }
 
 // A table examined: the frame, and the rows if it is fine.

@@ -41,8 +41,8 @@ module _ (m : Image) (N B u n : ℕ) where
       let d : u - i ≡ suc (u - (i + 1)) = omega arith in
       let f : n + (i + 1) ≡ suc (n + i) = omega arith in
       rw (f, add-one i, take-suc-set ring i v k, ← (add-one i), map-snoc (take i ring) v, q)
-        (append-snoc (map rowOf (take i ring)) r (tallies (rowsOn m N B (u - (i + 1)) (suc (n + i))) z)
-        ∙ (ap (λ (p : Pass). map rowOf (take i ring) ++ (p .row ∷ tallies (rowsOn m N B (u - (i + 1)) (suc (n + i))) (p .seen))) e ∙ (rw d at w)))
+      (append-snoc (map rowOf (take i ring)) r (tallies (rowsOn m N B (u - (i + 1)) (suc (n + i))) z)
+      ∙ (ap (λ (p : Pass). map rowOf (take i ring) ++ (p .row ∷ tallies (rowsOn m N B (u - (i + 1)) (suc (n + i))) (p .seen))) e ∙ (rw d at w)))
 
   pub gather-end : (i : ℕ) (ring : List Summary) (s : List ℕ) (whole : List Row) → i ≡ u → gathered i ring s ≡ whole → map rowOf (take u ring) ≡ whole
   unfolding gathered tallies rowsOn
@@ -77,10 +77,13 @@ few-more f r i h m k = go (f .dead) refl
   where
     live : addRow f r .live ≡ f .live + r .live
     live = unfold addRow in refl
+
     last : addRow f r .written ≡ r .written
     last = unfold addRow in refl
+
     one : addRow f r .compactions ≡ cond (f .dead) (f .compactions) (f .compactions + 1)
     one = unfold addRow in refl
+
     go : (t : Bool) → f .dead ≡ t → Few (addRow f r) (i + 1)
     go true e = let q : addRow f r .compactions ≡ f .compactions = one ∙ rw e in record { live = omega (arith, live, k .live); written = omega (arith, last); compactions = omega (arith, k .compactions) }
     go false e = let q : addRow f r .compactions ≡ f .compactions + 1 = one ∙ rw e in record { live = omega (arith, live, k .live); written = omega (arith, last); compactions = omega (arith, k .compactions) }

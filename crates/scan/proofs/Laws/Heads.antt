@@ -36,6 +36,7 @@ module _ (N B i : ℕ) (h : Page) (t : Bool) (ks : List Slot) where
       state : (b : Bool) (m : ℕ) → inUse (cond b erasePending compacted) m [] ≡ bareOf (cond b Owing Rattle.scan.specs.declared.SegmentState.the-variants.InUse) m
       state true m = unfold bareOf in refl
       state false m = unfold bareOf in refl
+
       go : (b : Bool) → cond b (InUse (headerStatus h) (record { 0 = headerNumber h })) NotInUse ≡ InUse st n
           → outline (cond b (inUse (headerStatus h) (headerNumber h) ks) (cond t blank invalid)) ≡ bareOf (cond (eqb st erasePending) Owing Rattle.scan.specs.declared.SegmentState.the-variants.InUse) (n .0)
       go true q =
@@ -52,6 +53,7 @@ module _ (N B i : ℕ) (h : Page) (t : Bool) (ks : List Slot) where
       same : (b : Bool) → outline (cond b blank invalid) ≡ cond b blank invalid
       same true = refl
       same false = refl
+
       go : (b : Bool) → cond b (InUse (headerStatus h) (record { 0 = headerNumber h })) NotInUse ≡ NotInUse
           → outline (cond b (inUse (headerStatus h) (headerNumber h) ks) (cond t blank invalid)) ≡ cond t blank invalid
       go true q = absurd (let z : _≡_ {A = ℕ} 0 1 = cc in omega arith)
@@ -74,7 +76,7 @@ module _ (N B i : ℕ) (s : Image) (h : i < N) where
       → t ≡ isBlank (take (i * (B + 1) * 256 + (B + 1) * 256 - i * (B + 1) * 256) (drop (i * (B + 1) * 256) s)) → cond t blank invalid ≡ outline (getD (segmentsOf N B s) i blank)
   seen-unused r t e q f = ap (λ (x : Bool). cond x blank invalid) (f ∙ ap isBlank whole-is)
       ∙ sym (ap outline (segment-seen N B i s h) ∙ outline-unused N B i (take 256 (drop (headerOffset B i) s)) (isBlank (take ((B + 1) * 256) (drop (headerOffset B i) s))) (slotsAt s (slotsOffset B i) B)
-        (sym (e ∙ ap (headerSeen N B i) page-is) ∙ q))
+      (sym (e ∙ ap (headerSeen N B i) page-is) ∙ q))
 
 -- ---- a table filled
 

@@ -152,7 +152,7 @@ module _ (N B : ℕ) (s : Image) (table : List Summary) (next : ℕ) (w : Shown 
         → TornSlot p ≡ surveyOf N B l
     slots-torn-last p o h q =
         let z : p .0 ≡ slotAt N B (nextNumber l - 1) (examOf N B s (map outline l) .sum .written - 1) * 256 =
-              q ∙ ap₂ (λ (n : ℕ) (y : Exam). slotAt N B (n - 1) (y .sum .written - 1) * 256) next-is (sym slots-exam) in
+        q ∙ ap₂ (λ (n : ℕ) (y : Exam). slotAt N B (n - 1) (y .sum .written - 1) * 256) next-is (sym slots-exam) in
         ap {B = Surveyed} (λ (k : ℕ). TornSlot (record { 0 = k })) z
         ∙ sym (slots-torn N B s some not-owing not-torn (on-sums (orderly (capacity N B)) false o) (on-sums (tornWithin (capacity N B)) true h))
 
@@ -186,9 +186,12 @@ right-size N B s h =
     let c = and-eq-true-iff (leb N 64) (leb 2 B && leb B 255) .0 (b .1) in
     let d = and-eq-true-iff (leb 2 B) (leb B 255) .0 (c .1) in
     let n = leb-true 2 N (b .0) in
-    let m = leb-true N 64 (c .0) in
-    ( record { some = omega arith; segments = omega arith; slots = leb-true B 255 (d .1); whole = eqb-true (length s) (N * (B + 1) * 256) (a .1) }
-    , n, m, leb-true 2 B (d .0) )
+    let m = leb-true N 64 (c .0) in (
+      record { some = omega arith; segments = omega arith; slots = leb-true B 255 (d .1); whole = eqb-true (length s) (N * (B + 1) * 256) (a .1) },
+      n,
+      m,
+      leb-true 2 B (d .0),
+    )
 
 module _ (N B : ℕ) (s : Image) (table : List Summary) (next : ℕ) (right : rightSize N B s ≡ true) (shown : heads N table ≡ map outline (segmentsOf N B s)) (after : next ≡ nextNumber (heads N table)) (below : next ≤ 4294967296) where
   pub table-shown : Shown N B s table next

@@ -57,7 +57,7 @@ returns-2 c =
     let ao : orderly (capacity (s .args .segments) (s .args .slots)) (x .sum) ≡ c .before .before .before .before .before .before .orderly .result = sym (c .before .before .before .before .before .before .orderly .ensures ∙ ap (λ (y : ℕ). orderly y (x .sum)) (c .before .before .before .before .before .before .before .capacity .ensures .0)) in
     let bo : tornWithin (capacity (s .args .segments) (s .args .slots)) (x .sum) ≡ c .before .before .before .before .torn-within .result = sym (c .before .before .before .before .torn-within .ensures ∙ ap (λ (y : ℕ). tornWithin y (x .sum)) (c .before .before .before .before .before .before .before .capacity .ensures .0)) in
     slots-torn-last (s .args .segments) (s .args .slots) (now (s .args .image)) (s .args .table) (s .args .next) (s .pre .0) (c .before .before .before .before .before .before .before .before .before .examine .result) (c .before .before .before .before .before .before .before .before .before .examine .ensures .0) (s .pre .1) (s .pre .2) (c .slot-place .result) (ao ∙ c .before .before .before .before .before .if1 .left) (bo ∙ c .before .before .before .if2 .taken)
-      (c .slot-place .ensures ∙ ap₂ (λ (n j : ℕ). slotAt (s .args .segments) (s .args .slots) n j * 256) (c .before .before .less .ensures) (c .before .less2 .ensures))
+    (c .slot-place .ensures ∙ ap₂ (λ (n j : ℕ). slotAt (s .args .segments) (s .args .slots) n j * 256) (c .before .before .less .ensures) (c .before .less2 .ensures))
 
 add-twin-within : tie.Need-add-twin-within
 add-twin-within c = omega (arith, c .before .before .before .before .capacity .ensures .1)

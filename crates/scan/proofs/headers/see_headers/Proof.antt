@@ -47,9 +47,11 @@ loop-again c =
     let l = c .before .before .loop in
     let t = c .before .loop-test .taken in
     let image = now (s .args .image) in
-    let z = segments-length (s .args .segments) (s .args .slots) image in
-    (filled-turn (segmentsOf (s .args .segments) (s .args .slots) image) (l .table) (l .i) (c .see-segment .result) (omega (arith, l .inv .2, s .pre .1)) (omega arith) (c .see-segment .ensures) (l .inv .0),
-      omega arith, simp length-set (l .inv .2))
+    let z = segments-length (s .args .segments) (s .args .slots) image in (
+      filled-turn (segmentsOf (s .args .segments) (s .args .slots) image) (l .table) (l .i) (c .see-segment .result) (omega (arith, l .inv .2, s .pre .1)) (omega arith) (c .see-segment .ensures) (l .inv .0),
+      omega arith,
+      simp length-set (l .inv .2),
+    )
 
 returns : tie.Need-returns Inv-loop μ-loop
 returns c =

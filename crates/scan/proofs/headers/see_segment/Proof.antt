@@ -69,7 +69,7 @@ unfolding bareOf
 returns c =
     let s = c .before .before .before .before .before .before .before .before .before in
     c .head .ensures ∙ seen-unused (s .args .segments) (s .args .slots) (s .args .index) (now (s .args .image)) (s .pre .1) _ true (c .before .before .before .before .before .before .see-header .ensures) (c .before .before .before .before .enum-told .given .1)
-      (sym (c .before .if1 .taken) ∙ c .before .before .is-blank .ensures)
+    (sym (c .before .if1 .taken) ∙ c .before .before .is-blank .ensures)
 
 head-requires-2 : tie.Need-head-requires-2
 head-requires-2 c κs = search needs
@@ -79,7 +79,7 @@ unfolding bareOf
 returns-2 c =
     let s = c .before .before .before .before .before .before .before .before .before in
     c .head2 .ensures ∙ seen-unused (s .args .segments) (s .args .slots) (s .args .index) (now (s .args .image)) (s .pre .1) _ false (c .before .before .before .before .before .before .see-header .ensures) (c .before .before .before .before .enum-told .given .1)
-      (sym (c .before .if1 .left) ∙ c .before .before .is-blank .ensures)
+    (sym (c .before .if1 .left) ∙ c .before .before .is-blank .ensures)
 
 state-seen-requires : tie.Need-state-seen-requires
 state-seen-requires c κs = search needs
@@ -91,7 +91,7 @@ returns-3 : tie.Need-returns-3
 returns-3 c =
     let s = c .before .before .before .before .before .before .before .before in
     c .head3 .ensures ∙ (ap (λ (x : SegmentState). bareOf x (c .before .before .before .seen .given .0 .1 .0 .0)) (c .before .state-seen .ensures)
-      ∙ seen-in-use (s .args .segments) (s .args .slots) (s .args .index) (now (s .args .image)) (s .pre .1) _ _ _ (c .before .before .before .before .before .see-header .ensures) (c .before .before .before .seen .given .1))
+    ∙ seen-in-use (s .args .segments) (s .args .slots) (s .args .index) (now (s .args .image)) (s .pre .1) _ _ _ (c .before .before .before .before .before .see-header .ensures) (c .before .before .before .seen .given .1))
 
 pub see-segment-spec : {M : Type 1} → statement M
 see-segment-spec =

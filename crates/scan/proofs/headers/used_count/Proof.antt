@@ -55,9 +55,9 @@ loop-again c =
     let h : l .i < length (s .args .t1) = omega (arith, s .good .0, s .pre) in
     let rest = usedCount (headsFrom (s .args .segments) (l .i + 1) (s .args .t1)) in
     ⊎-elim
-      (λ w. (ap (λ (x : ℕ). x + rest) (w .1) ∙ used-turn (s .args .segments) (s .args .t1) (l .i) _ (l .used) t h (sym (c .before .is-in-use .ensures) ∙ w .0 .taken) (l .inv .0), omega (arith, w .1, l .inv .1), omega arith))
-      (λ w. (ap (λ (x : ℕ). x + rest) (w .1) ∙ used-pass (s .args .segments) (s .args .t1) (l .i) _ (l .used) t h (sym (c .before .is-in-use .ensures) ∙ w .0 .left) (l .inv .0), omega (arith, w .1, l .inv .1), omega arith))
-      (c .if1 .came)
+    (λ w. (ap (λ (x : ℕ). x + rest) (w .1) ∙ used-turn (s .args .segments) (s .args .t1) (l .i) _ (l .used) t h (sym (c .before .is-in-use .ensures) ∙ w .0 .taken) (l .inv .0), omega (arith, w .1, l .inv .1), omega arith))
+    (λ w. (ap (λ (x : ℕ). x + rest) (w .1) ∙ used-pass (s .args .segments) (s .args .t1) (l .i) _ (l .used) t h (sym (c .before .is-in-use .ensures) ∙ w .0 .left) (l .inv .0), omega (arith, w .1, l .inv .1), omega arith))
+    (c .if1 .came)
 
 returns : tie.Need-returns Inv-loop μ-loop
 returns c =

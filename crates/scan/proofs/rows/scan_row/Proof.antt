@@ -68,17 +68,20 @@ loop-again c =
     let t = c .before .before .before .before .loop-test .taken in
     let o = a .at + l .i * 256 in
     let k : c .before .before .slot-kind .result ≡ kindOf (slotOf (take 256 (drop o (now (a .image))))) = c .before .before .slot-kind .ensures ∙ ap (λ (x : List ℕ). kindOf (slotOf x)) (page-part (now (a .image)) o) in
-    let e = c .count .ensures ∙ ap (λ (q : SlotKind). see q (pass (l .row) (l .seen))) k in
-    (ap (seeAll (kindsAt (now (a .image)) (a .at + (l .i + 1) * 256) (a .slots - (l .i + 1)))) e ∙ (sym (row-next (now (a .image)) (a .at) (l .i) (a .slots) (pass (l .row) (l .seen)) t) ∙ l .inv .0), omega arith,
-      rw (ap (λ (p : Pass). p .row) e) (see-small (kindOf (slotOf (take 256 (drop o (now (a .image)))))) (pass (l .row) (l .seen)) (l .i) (l .inv .2)))
+    let e = c .count .ensures ∙ ap (λ (q : SlotKind). see q (pass (l .row) (l .seen))) k in (
+      ap (seeAll (kindsAt (now (a .image)) (a .at + (l .i + 1) * 256) (a .slots - (l .i + 1)))) e ∙ (sym (row-next (now (a .image)) (a .at) (l .i) (a .slots) (pass (l .row) (l .seen)) t) ∙ l .inv .0),
+      omega arith,
+      rw (ap (λ (p : Pass). p .row) e) (see-small (kindOf (slotOf (take 256 (drop o (now (a .image)))))) (pass (l .row) (l .seen)) (l .i) (l .inv .2)),
+    )
 
 returns : tie.Need-returns Inv-loop μ-loop
 returns c =
     let a = c .before .before .before .args in
     let l = c .before .loop in
-    let k = l .inv .2 in
-    (sym (row-end (now (a .image)) (a .at + l .i * 256) (l .i) (a .slots) (pass (l .row) (l .seen)) (c .loop-test .left)) ∙ l .inv .0,
-      record { live = omega (arith, l .inv .1); dead = omega (arith, l .inv .1); written = omega (arith, l .inv .1) })
+    let k = l .inv .2 in (
+      sym (row-end (now (a .image)) (a .at + l .i * 256) (l .i) (a .slots) (pass (l .row) (l .seen)) (c .loop-test .left)) ∙ l .inv .0,
+      record { live = omega (arith, l .inv .1); dead = omega (arith, l .inv .1); written = omega (arith, l .inv .1) },
+    )
 
 pub scan-row-spec : {M : Type 1} → statement M
 scan-row-spec =

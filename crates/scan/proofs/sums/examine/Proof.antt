@@ -22,17 +22,19 @@ sum-rows-requires c κs = search needs
 returns : tie.Need-returns
 returns c =
     let s = c .before .before .before .before .before in
-    let f = c .before .before .before .see-frame in
-    (exam-looked (s .args .segments) (s .args .slots) (now (s .args .image)) (heads (s .args .segments) (s .args .table)) (f .result) (f .ensures .0) _ (c .sum-rows .result) (c .before .before .if1 .taken) (c .before .gather .ensures) (c .sum-rows .ensures .0),
-      record { whole = f .ensures .1 .whole; used = f .ensures .1 .used; written = c .sum-rows .ensures .1 })
+    let f = c .before .before .before .see-frame in (
+      exam-looked (s .args .segments) (s .args .slots) (now (s .args .image)) (heads (s .args .segments) (s .args .table)) (f .result) (f .ensures .0) _ (c .sum-rows .result) (c .before .before .if1 .taken) (c .before .gather .ensures) (c .sum-rows .ensures .0),
+      record { whole = f .ensures .1 .whole; used = f .ensures .1 .used; written = c .sum-rows .ensures .1 },
+    )
 
 returns-2 : tie.Need-returns-2
 unfolding badSum
 returns-2 c =
     let s = c .before .before .before in
-    let f = c .before .see-frame in
-    (exam-skipped (s .args .segments) (s .args .slots) (now (s .args .image)) (heads (s .args .segments) (s .args .table)) (f .result) (f .ensures .0) (c .if1 .left),
-      record { whole = f .ensures .1 .whole; used = f .ensures .1 .used; written = omega arith })
+    let f = c .before .see-frame in (
+      exam-skipped (s .args .segments) (s .args .slots) (now (s .args .image)) (heads (s .args .segments) (s .args .table)) (f .result) (f .ensures .0) (c .if1 .left),
+      record { whole = f .ensures .1 .whole; used = f .ensures .1 .used; written = omega arith },
+    )
 
 pub examine-spec : {M : Type 1} → statement M
 examine-spec =

@@ -97,9 +97,11 @@ loop-again c =
     let s = c .before .before .before .before .before .before .before in
     let l = c .before .before .before .before .before .loop in
     let t = c .before .before .before .before .loop-test .taken in
-    let k : l .i < length (l .ring) = omega (arith, l .inv .2, s .pre) in
-    (gather-turn (now (s .args .image)) (s .args .segments) (s .args .slots) (s .args .used) (s .args .first) (l .i) (l .ring) (l .seen) _ _ (c .with-row .result) _ t k (c .with-row .ensures .2) (c .before .scan-row .ensures .0) (l .inv .0),
-      omega arith, simp length-set (l .inv .2))
+    let k : l .i < length (l .ring) = omega (arith, l .inv .2, s .pre) in (
+      gather-turn (now (s .args .image)) (s .args .segments) (s .args .slots) (s .args .used) (s .args .first) (l .i) (l .ring) (l .seen) _ _ (c .with-row .result) _ t k (c .with-row .ensures .2) (c .before .scan-row .ensures .0) (l .inv .0),
+      omega arith,
+      simp length-set (l .inv .2),
+    )
 
 returns : tie.Need-returns Inv-loop μ-loop
 returns c =

@@ -44,9 +44,11 @@ loop-again c =
     let s = c .before .before .before .before .before in
     let l = c .before .before .before .before .loop in
     let t = c .before .before .before .loop-test .taken in
-    let h : l .i < length (s .args .t1) = omega (arith, s .good .0, s .pre) in
-    (rows-turn (s .args .t1) (s .args .used) (l .i) _ (l .sum) (c .add-row .result) t h (c .add-row .ensures .0) ∙ l .inv .0, omega arith,
-      rw (c .add-row .ensures .0) (few-more (l .sum) _ (l .i) (c .add-row .ensures .1) (c .add-row .ensures .2) (l .inv .2)))
+    let h : l .i < length (s .args .t1) = omega (arith, s .good .0, s .pre) in (
+      rows-turn (s .args .t1) (s .args .used) (l .i) _ (l .sum) (c .add-row .result) t h (c .add-row .ensures .0) ∙ l .inv .0,
+      omega arith,
+      rw (c .add-row .ensures .0) (few-more (l .sum) _ (l .i) (c .add-row .ensures .1) (c .add-row .ensures .2) (l .inv .2)),
+    )
 
 returns : tie.Need-returns Inv-loop μ-loop
 returns c =
