@@ -13,7 +13,7 @@ use Rattle.model.specs.Lists.{all}
 use Rattle.model.specs.Slot.{Slot, empty, torn, dead, wrong, live, isEmpty, isTorn, isWrong, Entry, entryOf}
 use Rattle.model.specs.State.{View, entries, entriesIn, holds, distinct, emptyLast, onlyTopEmpty, noneWrongOrTorn, blocksDistinct, emptySlotsLast, capacity, withinCapacity, placeOf, blockIn, copies}
 use Rattle.model.specs.Table.{Table}
-use Rattle.model.specs.Laws.View.{slotSet}
+use Rattle.model.specs.Laws.View.{slotChanged}
 use Rattle.bridge.specs.Predicted.{slotChanged, marked}
 use Rattle.bridge.specs.Views.Slots.{full, sound, entries-append, full-then, first-empty, all-empty-last}
 use Rattle.bridge.specs.Views.Places.{Gap, FirstLive, fill, fill-all, fill-empty-last, marked-at, marked-entries}
