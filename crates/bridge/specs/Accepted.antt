@@ -85,11 +85,12 @@ put-passed N B s b c h =
     let contents = passed 2 (ltb mostContents (length c)) _ (number .1) in
     let damage = passed 3 _ _ (contents .1) .1 in
     let whole = passed 4 _ _ damage .1 in
-    let full = passed 6 (isFull N B b v) _ whole in record
-    { number = not-false (numberOk b) (number .0)
-    ; short = ltb-false mostContents (length c) (contents .0)
-    ; fit = not-full N B b v (full .0)
-    ; fresh = passed 7 (isWorn N v) _ (full .1) .0 }
+    let full = passed 6 (isFull N B b v) _ whole in record {
+      number = not-false (numberOk b) (number .0);
+      short = ltb-false mostContents (length c) (contents .0);
+      fit = not-full N B b v (full .0);
+      fresh = passed 7 (isWorn N v) _ (full .1) .0;
+    }
 
 -- a delete or a read
 absent-passed : (N B : ℕ) (s : Image) (b : ℕ) → firstOf (absentRefusals N B (rightSize N B s) (segmentsOf N B s) b) ≡ 0 → holds b (entriesIn (view N B s)) ≡ true

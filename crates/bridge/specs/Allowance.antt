@@ -28,6 +28,7 @@ ends-or-stops N B s allowance r = go (leb (length xs) allowance) refl
   where
     xs : List Step
     xs = workOf N B s r .steps
+
     go : (t : Bool) → leb (length xs) allowance ≡ t → Ends N B s allowance r ⊎ Stops N B s allowance r
     go true e = inl (record { code = rw e; image = ap (λ y. run B y s) (take-all allowance xs (leb-true (length xs) allowance e)) })
     go false e = inr (record { short = leb-false (length xs) allowance e; code = rw e; image = prefix-cut B allowance xs s })

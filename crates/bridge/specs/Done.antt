@@ -37,10 +37,11 @@ module _ (N B : ℕ) (s : Image) (v : View) (h : Held N B s v) where
   unfolding view
   slot-held n j x xs lo hi e =
       let f = held-first N B s v h in
-      let low : firstNumber l ≤ n = omega arith in record
-      { size = run-size N B xs s ∙ h .size
-      ; ring = rw e (slot-ring N l (h .ring) n j x low hi)
-      ; view = rw e (slot-view N l (h .ring) n j x low hi ∙ ap (λ y. slotChanged n j x y) (h .view)) }
+      let low : firstNumber l ≤ n = omega arith in record {
+        size = run-size N B xs s ∙ h .size;
+        ring = rw e (slot-ring N l (h .ring) n j x low hi);
+        view = rw e (slot-view N l (h .ring) n j x low hi ∙ ap (λ y. slotChanged n j x y) (h .view));
+      }
 
   module _ (k j : ℕ) (inRow : k < length (v .slots)) (inSlot : j < B) where
     abbrev n : ℕ
@@ -58,8 +59,8 @@ module _ (N B : ℕ) (s : Image) (v : View) (h : Held N B s v) where
         let r = held-row N B s v h k inRow in
         let kind = slot-kind N B (size .two) s (size .whole) n j (r .0) n (getD (v .slots) k []) inSlot (r .1) in
         slot-held n j dead (onPage (slotAt N B n j) markDead) low high
-          (mark-effect N B (size .two) s (size .whole) n j (r .0) n (getD (v .slots) k []) inSlot (r .1)
-            (live-markable (slotPageAt N B (size .two) s (size .whole) n j (r .0) n (getD (v .slots) k []) inSlot (r .1)) b c (kind ∙ e)))
+        (mark-effect N B (size .two) s (size .whole) n j (r .0) n (getD (v .slots) k []) inSlot (r .1)
+        (live-markable (slotPageAt N B (size .two) s (size .whole) n j (r .0) n (getD (v .slots) k []) inSlot (r .1)) b c (kind ∙ e)))
 
     -- an empty slot written
     pub write-held : (b : ℕ) (c : List ℕ) → Valid b c → getD (getD (v .slots) k []) j empty ≡ empty
@@ -67,7 +68,7 @@ module _ (N B : ℕ) (s : Image) (v : View) (h : Held N B s v) where
     write-held b c w e =
         let r = held-row N B s v h k inRow in
         slot-held n j (live b c) (onPage (slotAt N B n j) (writeSlot b c)) low high
-          (write-effect N B (size .two) s (size .whole) n j (r .0) n (getD (v .slots) k []) inSlot (r .1) b c w e)
+        (write-effect N B (size .two) s (size .whole) n j (r .0) n (getD (v .slots) k []) inSlot (r .1) b c w e)
 
   -- ---- one more segment
 
@@ -94,10 +95,11 @@ module _ (N B : ℕ) (s : Image) (v : View) (h : Held N B s v) where
     unfolding openNext view
     open-held few =
         let e : segmentsOf N B (run B (openSegment N B next) s) ≡ set l (nextIndex N l) (inUse opened (nextNumber l) (replicate B empty)) =
-              open-effect N B (size .two) (size .most) (size .mostB) s (size .whole) next below next-free ∙ taken-is opened (replicate B empty) in record
-        { size = run-size N B (openSegment N B next) s ∙ h .size
-        ; ring = rw e (taken-ring N l (h .ring) opened (replicate B empty) (omega (arith, held-count N B s v h)) refl)
-        ; view = rw e (taken-view N l (h .ring) opened (replicate B empty) ∙ ap (λ (y : View). record { first = y .first; slots = y .slots ++ (replicate B empty ∷ []) }) (h .view)) }
+        open-effect N B (size .two) (size .most) (size .mostB) s (size .whole) next below next-free ∙ taken-is opened (replicate B empty) in record {
+          size = run-size N B (openSegment N B next) s ∙ h .size;
+          ring = rw e (taken-ring N l (h .ring) opened (replicate B empty) (omega (arith, held-count N B s v h)) refl);
+          view = rw e (taken-view N l (h .ring) opened (replicate B empty) ∙ ap (λ (y : View). record { first = y .first; slots = y .slots ++ (replicate B empty ∷ []) }) (h .view));
+        }
 
     -- ---- a compaction
 
@@ -139,10 +141,10 @@ module _ (N B : ℕ) (s : Image) (v : View) (h : Held N B s v) where
           let p : 0 < N = omega (arith, size .two) in
           let whole-copied : length copiedTo ≡ imageLength N B = run-length B (copyOut N B o next es) s ∙ size .whole in
           let erased-segments : segmentsOf N B erasedOld ≡ set owing j blank =
-                erase-effect N B (size .two) copiedTo whole-copied j (mod-lt o p) ∙ ap (λ (x : List Segment). set x j blank) copied-segments in
+          erase-effect N B (size .two) copiedTo whole-copied j (mod-lt o p) ∙ ap (λ (x : List Segment). set x j blank) copied-segments in
           let there : getD (segmentsOf N B erasedOld) i blank ≡ inUse erasePending next (copied B es) =
-                ap (λ (x : List Segment). getD x i blank) erased-segments
-                ∙ (getD-set-other owing j i blank blank (λ e. old-apart (sym e)) ∙ getD-set-same l i (inUse erasePending next (copied B es)) blank (index-inside N l (h .ring) next)) in
+          ap (λ (x : List Segment). getD x i blank) erased-segments
+          ∙ (getD-set-other owing j i blank blank (λ e. old-apart (sym e)) ∙ getD-set-same l i (inUse erasePending next (copied B es)) blank (index-inside N l (h .ring) next)) in
           ap (λ y. segmentsOf N B y) (run-append B (copyOut N B o next es) (erase j ∷ settle N B next) s)
           ∙ (settle-effect N B (size .two) (size .most) (size .mostB) erasedOld (step-length B (erase j) copiedTo ∙ whole-copied) next below (copied B es) there
           ∙ (ap (λ (x : List Segment). set x i (inUse compacted next (copied B es))) erased-segments
@@ -153,8 +155,9 @@ module _ (N B : ℕ) (s : Image) (v : View) (h : Held N B s v) where
       unfolding view
       compact-held =
           let e : segmentsOf N B (run B whole s) ≡ set (set l (nextIndex N l) (inUse compacted (nextNumber l) (copied B es))) (firstNumber l % N) blank =
-                compact-segments ∙ ap₂ (λ (x : List Segment) (y : ℕ). set x (y % N) blank) (taken-is compacted (copied B es)) (held-first N B s v h) in
-          let used : usedCount l ≡ N - 1 = sym (held-count N B s v h) ∙ full in record
-          { size = run-size N B whole s ∙ h .size
-          ; ring = rw e (moved-ring N l (h .ring) compacted (copied B es) used refl)
-          ; view = rw e (moved-view N l (h .ring) compacted (copied B es) used ∙ ap (λ (y : View). record { first = suc (y .first); slots = drop 1 (y .slots) ++ (copied B es ∷ []) }) (h .view)) }
+          compact-segments ∙ ap₂ (λ (x : List Segment) (y : ℕ). set x (y % N) blank) (taken-is compacted (copied B es)) (held-first N B s v h) in
+          let used : usedCount l ≡ N - 1 = sym (held-count N B s v h) ∙ full in record {
+            size = run-size N B whole s ∙ h .size;
+            ring = rw e (moved-ring N l (h .ring) compacted (copied B es) used refl);
+            view = rw e (moved-view N l (h .ring) compacted (copied B es) used ∙ ap (λ (y : View). record { first = suc (y .first); slots = drop 1 (y .slots) ++ (copied B es ∷ []) }) (h .view));
+          }

@@ -34,18 +34,23 @@ unfolding eraseFirst run step withSegment erased
 first-bytes B zero s h = let e : 0 * ((B + 1) * 256) ≡ 0 = omega arith in rw e tt
 first-bytes B (suc k) s h = rw (run-append B (eraseFirst k) (erase k ∷ []) s, le-leb ((k * (B + 1) + (B + 1)) * 256) (length u) (omega (arith, run-length B (eraseFirst k) s)), total)
     (rw (take-append-add (take before u) (replicate size 255 ++ rest) size, take-at (replicate size 255) rest size (length-replicate size 255))
-      (bytes-append (take before u) (replicate size 255) (rw same (first-bytes B k s (omega arith))) (erased-bytes size)))
+    (bytes-append (take before u) (replicate size 255) (rw same (first-bytes B k s (omega arith))) (erased-bytes size)))
   where
     u : Image
     u = run B (eraseFirst k) s
+
     size : ℕ
     size = (B + 1) * 256
+
     before : ℕ
     before = k * (B + 1) * 256
+
     rest : List ℕ
     rest = drop ((k * (B + 1) + (B + 1)) * 256) u
+
     same : before ≡ k * ((B + 1) * 256)
     same = omega arith
+
     total : suc k * ((B + 1) * 256) ≡ length (take before u) + size
     total = omega (arith, length-take before u, run-length B (eraseFirst k) s)
 
@@ -93,7 +98,7 @@ opened-segments N B s z =
     let l = all-erased N B s z in
     ap (λ y. segmentsOf N B y) (run-append B (eraseFirst N) (openSegment N B 0) s)
     ∙ (open-effect N B two (size .most) (size-facts N B s z .mostB) u (run-length B (eraseFirst N) s ∙ size .whole) 0 (omega arith)
-        (ap₂ (λ (x : List Segment) (y : ℕ). getD x y blank) l zero-index ∙ getD-replicate N 0 blank blank p)
+    (ap₂ (λ (x : List Segment) (y : ℕ). getD x y blank) l zero-index ∙ getD-replicate N 0 blank blank p)
     ∙ ap₂ (λ (x : List Segment) (y : ℕ). set x y (inUse opened 0 (replicate B empty))) l zero-index)
 
 -- ---- one empty segment
@@ -135,13 +140,14 @@ module _ (N B : ℕ) (two : 2 ≤ N) where
 
   fresh-ring : RingFacts N l
   unfolding numbersFrom noneOwing othersBlank isOwing isInvalid numberAfter
-  fresh-ring = record
-    { size = length-set (replicate N blank) 0 (inUse opened 0 (replicate B empty)) ∙ length-replicate N blank
-    ; some = rw one-used (omega arith)
-    ; spare = rw one-used (omega arith)
-    ; chain = rw (one-used, first-zero, here) refl
-    ; paid = all-set (λ x. not (isOwing x)) (replicate N blank) 0 (inUse opened 0 (replicate B empty)) (all-replicate (λ x. not (isOwing x)) blank refl N) refl
-    ; others = all-set (λ x. not (isInvalid x)) (replicate N blank) 0 (inUse opened 0 (replicate B empty)) (all-replicate (λ x. not (isInvalid x)) blank refl N) refl }
+  fresh-ring = record {
+    size = length-set (replicate N blank) 0 (inUse opened 0 (replicate B empty)) ∙ length-replicate N blank;
+    some = rw one-used (omega arith);
+    spare = rw one-used (omega arith);
+    chain = rw (one-used, first-zero, here) refl;
+    paid = all-set (λ x. not (isOwing x)) (replicate N blank) 0 (inUse opened 0 (replicate B empty)) (all-replicate (λ x. not (isOwing x)) blank refl N) refl;
+    others = all-set (λ x. not (isInvalid x)) (replicate N blank) 0 (inUse opened 0 (replicate B empty)) (all-replicate (λ x. not (isInvalid x)) blank refl N) refl;
+  }
 
   fresh-view : viewOf N l ≡ fresh B
   unfolding viewOf slotsFrom slotsIn fresh
@@ -160,10 +166,11 @@ fresh-table B = ap (λ (y : List Slot). entriesIn (record { first = 0; slots = y
 
 pub format-held : (N B : ℕ) (s : Image) → rightSize N B s ≡ true → Held N B (run B (formatSteps N B) s) (fresh B)
 unfolding view
-format-held N B s z = record
-  { size = run-size N B (formatSteps N B) s ∙ z
-  ; ring = rw (opened-segments N B s z) (fresh-ring N B (size-facts N B s z .two))
-  ; view = rw (opened-segments N B s z) (fresh-view N B (size-facts N B s z .two)) }
+format-held N B s z = record {
+  size = run-size N B (formatSteps N B) s ∙ z;
+  ring = rw (opened-segments N B s z) (fresh-ring N B (size-facts N B s z .two));
+  view = rw (opened-segments N B s z) (fresh-view N B (size-facts N B s z .two));
+}
 
 pub format-done : (N B : ℕ) (s : Image) → rightSize N B s ≡ true → (state N B (run B (formatSteps N B) s) ≡ clean) × (view N B (run B (formatSteps N B) s) ≡ fresh B)
 format-done N B s z = let h = format-held N B s z in

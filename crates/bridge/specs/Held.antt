@@ -58,7 +58,7 @@ module _ (N B : ℕ) (s : Image) (v : View) (h : Held N B s v) where
       let num : numberAfter (getD l (n % N) blank) ≡ suc n = numbered N l (h .ring) n (omega arith) (omega (arith, used-next N l (h .ring))) in
       let r = in-use-numbered (getD l (n % N) blank) n num in
       let row : getD (v .slots) k [] ≡ slotsIn (getD l (n % N) blank) =
-            ap (λ (y : List (List Slot)). getD y k []) held-rows ∙ (slots-get N l (usedCount l) (firstNumber l) k (omega arith) ∙ ap (λ (y : ℕ). slotsIn (getD l ((y + k) % N) blank)) (sym e)) in
+      ap (λ (y : List (List Slot)). getD y k []) held-rows ∙ (slots-get N l (usedCount l) (firstNumber l) k (omega arith) ∙ ap (λ (y : ℕ). slotsIn (getD l ((y + k) % N) blank)) (sym e)) in
       (r .0, r .1 ∙ ap (λ y. inUse (r .0) n y) (sym row))
 
   row-length : (k : ℕ) → k < length (v .slots) → length (getD (v .slots) k []) ≡ B
@@ -84,8 +84,15 @@ clean-view N B s z c =
     let l = segmentsOf N B s in
     let h = held-of-clean N B s z c in
     let f = clean-slots N B l (state-clean N B l c) in
-    record { some = omega (arith, held-count N B s (view N B s) h, h .ring .some); spare = omega (arith, held-count N B s (view N B s) h, h .ring .spare)
-           ; rows = held-lengths N B s (view N B s) h; sound = f .sound; once = f .once; last = f .last; within = f .within }
+    record {
+      some = omega (arith, held-count N B s (view N B s) h, h .ring .some);
+      spare = omega (arith, held-count N B s (view N B s) h, h .ring .spare);
+      rows = held-lengths N B s (view N B s) h;
+      sound = f .sound;
+      once = f .once;
+      last = f .last;
+      within = f .within;
+    }
 
 -- and back
 pub segments-clean : (N B : ℕ) (l : List Segment) → RingFacts N l → CleanView N B (viewOf N l) → isClean N B l ≡ true
@@ -128,4 +135,4 @@ row-valid N B s v h bs k b =
     let i = mod-lt n p in
     let parts = in-use-parts N B (n % N) ps (r .0) n (getD (v .slots) k []) (sym (segment-at N B (n % N) s i) ∙ r .1) in
     subst (λ (y : List Slot). Valids (entries y)) (parts .slots)
-      (valid-entries (drop 1 ps) (λ q c. rw (getD-drop 1 ps q [], part-page N B (n % N) (1 + q) s i (omega (arith, length-drop 1 ps, part-size N B (n % N) s i))) (chunk-bytes (N * (B + 1)) 256 _ s bs)))
+    (valid-entries (drop 1 ps) (λ q c. rw (getD-drop 1 ps q [], part-page N B (n % N) (1 + q) s i (omega (arith, length-drop 1 ps, part-size N B (n % N) s i))) (chunk-bytes (N * (B + 1)) 256 _ s bs)))

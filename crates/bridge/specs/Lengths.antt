@@ -66,9 +66,16 @@ copy-length N B n j (e ∷ es) s =
 open-length : (N B n : ℕ) → length (openSegment N B n) ≤ 17
 unfolding openSegment
 open-length N B n = let h = headerPage N B 0x3F n 255 in
-    omega (arith, page-length (headerAt N B n) (program 5 0x7F ∷ (programPart h 0 5 ++ (programPart h 6 2 ++ (programPart h 8 8 ++ (program 5 0x3F ∷ []))))),
-      length-append (programPart h 0 5) (programPart h 6 2 ++ (programPart h 8 8 ++ (program 5 0x3F ∷ []))), length-append (programPart h 6 2) (programPart h 8 8 ++ (program 5 0x3F ∷ [])),
-      length-append (programPart h 8 8) (program 5 0x3F ∷ []), part-length h 0 5, part-length h 6 2, part-length h 8 8)
+    omega (
+      arith,
+      page-length (headerAt N B n) (program 5 0x7F ∷ (programPart h 0 5 ++ (programPart h 6 2 ++ (programPart h 8 8 ++ (program 5 0x3F ∷ []))))),
+      length-append (programPart h 0 5) (programPart h 6 2 ++ (programPart h 8 8 ++ (program 5 0x3F ∷ []))),
+      length-append (programPart h 6 2) (programPart h 8 8 ++ (program 5 0x3F ∷ [])),
+      length-append (programPart h 8 8) (program 5 0x3F ∷ []),
+      part-length h 0 5,
+      part-length h 6 2,
+      part-length h 8 8,
+    )
 
 compact-length : (N B o n : ℕ) (es : List Entry) → Short es → length (compact N B o n es) ≤ 20 + 253 * length es
 unfolding compact copyOut settle
@@ -80,9 +87,23 @@ compact-length N B o n es s =
     let b = copyEntries N B n 0 es in
     let c = onPage (headerAt N B n) last in
     let d = erase (o % N) ∷ onPage (headerAt N B n) (program 5 0x8F ∷ []) in
-    omega (arith, length-append (a ++ (b ++ c)) d, length-append a (b ++ c), length-append b c, page-length (headerAt N B n) first, page-length (headerAt N B n) last, page-length (headerAt N B n) (program 5 0x8F ∷ []),
-      length-append (programPart h 0 5) (programPart h 6 2 ++ programPart h 16 1), length-append (programPart h 6 2) (programPart h 16 1), length-append (programPart h 8 8) (program 5 0x9F ∷ []),
-      part-length h 0 5, part-length h 6 2, part-length h 16 1, part-length h 8 8, copy-length N B n 0 es s)
+    omega (
+      arith,
+      length-append (a ++ (b ++ c)) d,
+      length-append a (b ++ c),
+      length-append b c,
+      page-length (headerAt N B n) first,
+      page-length (headerAt N B n) last,
+      page-length (headerAt N B n) (program 5 0x8F ∷ []),
+      length-append (programPart h 0 5) (programPart h 6 2 ++ programPart h 16 1),
+      length-append (programPart h 6 2) (programPart h 16 1),
+      length-append (programPart h 8 8) (program 5 0x9F ∷ []),
+      part-length h 0 5,
+      part-length h 6 2,
+      part-length h 16 1,
+      part-length h 8 8,
+      copy-length N B n 0 es s,
+    )
 
 entries-length : (ks : List Slot) → length (entries ks) ≤ length ks
 unfolding entries flatMap
@@ -120,6 +141,7 @@ segment-row N B i ps h = go (headerInUse N B i (getD ps 0 [])) (allBlank ps)
   where
     used : Segment
     used = inUse (headerStatus (getD ps 0 [])) (headerNumber (getD ps 0 [])) (map slotOf (drop 1 ps))
+
     go : (t u : Bool) → Short (entries (slotsIn (cond t used (cond u blank invalid)))) × (length (slotsIn (cond t used (cond u blank invalid))) ≤ B)
     go true u = unfold slotsIn in (short-pages (drop 1 ps), omega (arith, map-length slotOf (drop 1 ps), length-drop 1 ps))
     go false true = unfold slotsIn entries flatMap in (tt, omega arith)
@@ -127,9 +149,10 @@ segment-row N B i ps h = go (headerInUse N B i (getD ps 0 [])) (allBlank ps)
 
 image-row : (N B i : ℕ) (s : Image) → Short (entries (slotsIn (getD (segmentsOf N B s) i blank))) × (length (slotsIn (getD (segmentsOf N B s) i blank)) ≤ B)
 unfolding slotsIn entries flatMap
-image-row N B i s = elim (decLt i N)
-  [ yes h ↦ rw (segment-at N B i s h) (segment-row N B i (partOf N B i s) (part-size N B i s h))
-  | no h ↦ rw (List·getD-eq-default (segmentsOf N B s) blank (beyond h)) (tt, omega arith) ]
+image-row N B i s = elim (decLt i N) [
+  | yes h ↦ rw (segment-at N B i s h) (segment-row N B i (partOf N B i s) (part-size N B i s h))
+  | no h ↦ rw (List·getD-eq-default (segmentsOf N B s) blank (beyond h)) (tt, omega arith)
+]
   where
     beyond : ¬ (i < N) → length (segmentsOf N B s) ≤ i
     beyond h = omega (arith, segments-length N B s)
@@ -173,8 +196,10 @@ until-length N B (suc k) v r = go (hasRoom v) (until-length N B k (compactOldest
   where
     w : View
     w = compactOldest N B v .result
+
     steps : Bool → List Step
     steps t = (cond {A = Room} t (record { steps = []; result = v }) (record { steps = compactOldest N B v .steps ++ compactUntilRoom N B k w .steps; result = compactUntilRoom N B k w .result })) .steps
+
     go : (t : Bool) → length (compactUntilRoom N B k w .steps) ≤ k * most B → length (steps t) ≤ suc k * most B
     go true h = omega arith
     go false h = omega (arith, length-append (compactOldest N B v .steps) (compactUntilRoom N B k w .steps), one-length N B v r .0)
@@ -185,6 +210,7 @@ room-length N B v r = go (hasRoom v) (ltb (length (v .slots)) (N - 1))
   where
     steps : Bool → Bool → List Step
     steps t u = (cond {A = Room} t (record { steps = []; result = v }) (cond u (openNext N B v) (compactUntilRoom N B (N - 1) v))) .steps
+
     go : (t u : Bool) → length (steps t u) ≤ 17 + (N - 1) * most B
     go true u = omega arith
     go false true = omega (arith, open-length N B (suc (topNumber v)))
@@ -220,8 +246,12 @@ mend-length N B l caseA = omega arith
 mend-length N B l caseB =
     let i = nextIndex N l in
     let x = getD l i blank in
-    omega (arith, length-append (cond (isInUse x || isInvalid x) (erase i ∷ []) []) (onPage (headerAt N B (nextNumber l - 1)) (program 5 0x8F ∷ [])), page-length (headerAt N B (nextNumber l - 1)) (program 5 0x8F ∷ []),
-      first (isInUse x || isInvalid x) i)
+    omega (
+      arith,
+      length-append (cond (isInUse x || isInvalid x) (erase i ∷ []) []) (onPage (headerAt N B (nextNumber l - 1)) (program 5 0x8F ∷ [])),
+      page-length (headerAt N B (nextNumber l - 1)) (program 5 0x8F ∷ []),
+      first (isInUse x || isInvalid x) i,
+    )
   where
     first : (t : Bool) (i : ℕ) → length (cond t (erase i ∷ []) []) ≤ 1
     first true i = omega arith
@@ -313,11 +343,14 @@ read-small N B s b = go (eqb (workOf N B s (read b) .code) 0) refl
   where
     l : List Segment
     l = segmentsOf N B s
+
     rows : List (List Slot)
     rows = slotsFrom N l (usedCount l) (firstNumber l)
+
     out : Bool → ReadOutcome
     out t = cond t (record { code = 0; offset = (placeFrom b (firstNumber l) rows .number % N * (B + 1) + suc (placeFrom b (firstNumber l) rows .slot)) * 256 + 8; length = length (contentsFound (lookup b (entries (flatten rows)))) })
         (record { code = workOf N B s (read b) .code; offset = 0; length = 0 })
+
     go : (t : Bool) → eqb (workOf N B s (read b) .code) 0 ≡ t → (out t .offset ≤ 4194304) × (out t .length ≤ 248)
     go true e =
         let a = accepted N B s (read b) (eqb-true (workOf N B s (read b) .code) 0 e) in

@@ -67,6 +67,7 @@ module _ (N B : ℕ) (s : Image) (v : View) (h : Held N B s v) (b : ℕ) (c : Li
     where
       written-held : Held N B wrote (written b c v)
       written-held = write-top-held N B s v h b c valid gap
+
       go : (t : Bool) → holds b (entriesIn v) ≡ t → Held N B (run B (cond t (markPlace N B (placeOf b v)) []) wrote) (cond t (marked (placeOf b v) (written b c v)) (written b c v))
       go false q = unfold run in written-held
       go true q = subst (λ (p : Place). Held N B (run B (markPlace N B p) wrote) (marked p (written b c v))) (written-place b b c v gap q)
@@ -124,8 +125,8 @@ compactions-held N B (suc k) s v h bs c full below =
   where
     go : (t : Bool) → hasRoom v ≡ t → topNumber (compactUntilRoom N B (suc k) v .result) < numberLimit N
         → ((t : Image) → Held N B t (compactOldest N B v .result) → Bytes t → CleanView N B (compactOldest N B v .result) → length (compactOldest N B v .result .slots) ≡ N - 1
-            → topNumber (compactUntilRoom N B k (compactOldest N B v .result) .result) < numberLimit N
-            → Held N B (run B (compactUntilRoom N B k (compactOldest N B v .result) .steps) t) (compactUntilRoom N B k (compactOldest N B v .result) .result))
+        → topNumber (compactUntilRoom N B k (compactOldest N B v .result) .result) < numberLimit N
+        → Held N B (run B (compactUntilRoom N B k (compactOldest N B v .result) .steps) t) (compactUntilRoom N B k (compactOldest N B v .result) .result))
         → Held N B (run B (compactUntilRoom N B (suc k) v .steps) s) (compactUntilRoom N B (suc k) v .result)
     go true e bl ih = rw (until-room N B k v e) (unfold run in h)
     go false e bl ih =
@@ -134,7 +135,7 @@ compactions-held N B (suc k) s v h bs c full below =
         let low : suc (topNumber v) < numberLimit N = omega (arith, top-rises N B k (compactOldest N B v .result) (t .clean), t .number, bl2) in
         let xs = compactOldest N B v .steps in
         rw (until-more N B k v e, run-append B xs (compactUntilRoom N B k (compactOldest N B v .result) .steps) s)
-          (ih (run B xs s) (one-compaction N B s v h bs c full low) (run-bytes B xs s bs) (t .clean) (compacted-rows N B v (c .some) ∙ full) bl2)
+        (ih (run B xs s) (one-compaction N B s v h bs c full low) (run-bytes B xs s bs) (t .clean) (compacted-rows N B v (c .some) ∙ full) bl2)
 
 pub room-held : (N B : ℕ) (s : Image) (v : View) → Held N B s v → Bytes s → CleanView N B v → topNumber (roomFor N B v .result) < numberLimit N
     → Held N B (run B (roomFor N B v .steps) s) (roomFor N B v .result)
@@ -143,6 +144,7 @@ room-held N B s v h bs c below = go (hasRoom v) (ltb (length (v .slots)) (N - 1)
   where
     chosen : Bool → Bool → Room
     chosen t u = cond t (record { steps = []; result = v }) (cond u (openNext N B v) (compactUntilRoom N B (N - 1) v))
+
     go : (t u : Bool) → ltb (length (v .slots)) (N - 1) ≡ u → topNumber (chosen t u .result) < numberLimit N → Held N B (run B (chosen t u .steps) s) (chosen t u .result)
     go true u e bl = unfold run in h
     go false true e bl = open-held N B s v h (omega (arith, bl, opened-top N B v (c .some))) (ltb-true (length (v .slots)) (N - 1) e)

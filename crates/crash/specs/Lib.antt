@@ -3,12 +3,10 @@ pub mod Machine
 pub mod Demand2
 pub mod Reading
 pub mod ReadingRuns
-
 -- the invariant that is closed under power cuts, and the induction over histories
 pub mod Sound
 pub mod Requests
 pub mod Skeleton
-
 -- recovery, delete and read
 pub mod States
 pub mod RecoverMarks
@@ -17,7 +15,6 @@ pub mod RecoverOwing
 pub mod Recover
 pub mod Read
 pub mod Delete
-
 -- put: making room, the slot written, the old one marked
 pub mod RoomTorn
 pub mod RoomOwing
@@ -25,7 +22,6 @@ pub mod RoomCuts
 pub mod RoomMade
 pub mod WriteTop
 pub mod PutCut
-
 -- the theorem, the customer's sentences, and bench examples 7 and 8 as instances
 pub mod Theorem
 pub mod Sentences

@@ -27,12 +27,14 @@ put-cut N B s u b c z y h yc e k =
     let r = roomFor N B v .result in
     let xs = roomFor N B v .steps in
     ⊎-elim
-      (λ d. let q = room-cut N B s v (held-of-clean N B s z h) y (clean-view N B s z h) (roomed-below N B s z h b c y yc e) u d in (q .0, inl (q .1)))
-      (λ d.
-        let q = put-into-cut N B (run B xs s) r (roomed-held N B s z h b c y yc e) (roomed-clean N B s z h b c y yc e) (roomed-gap N B s z h b c y yc e)
-              b c (put-valid N B s z h b c y yc e) (after-clean N B s z h b c y yc e) u d in
-        (q .0, ⊎-elim
+    (λ d. let q = room-cut N B s v (held-of-clean N B s z h) y (clean-view N B s z h) (roomed-below N B s z h b c y yc e) u d in (q .0, inl (q .1)))
+    (λ d.
+    let q = put-into-cut N B (run B xs s) r (roomed-held N B s z h b c y yc e) (roomed-clean N B s z h b c y yc e) (roomed-gap N B s z h b c y yc e)
+    b c (put-valid N B s z h b c y yc e) (after-clean N B s z h b c y yc e) u d in (
+      q .0,
+      ⊎-elim
           (λ old. inl (agree-trans (shown N B u) (entriesIn r) (entriesIn v) old (roomed-table N B s z h b c y yc e)))
           (λ new. inr (agree-trans (shown N B u) (entriesIn (afterPut N B b c v)) (store b c (entriesIn v)) new (after-table N B s z h b c y yc e)))
-          (q .1)))
-      (cut-append B xs (writeAtTop N B b c r ++ markOld N B b r) s u (rw (put-steps N B s z h b c y yc e) at k))
+          (q .1),
+    ))
+    (cut-append B xs (writeAtTop N B b c r ++ markOld N B b r) s u (rw (put-steps N B s z h b c y yc e) at k))

@@ -40,24 +40,34 @@ read-done N B s b z h a = rw (a, found) bytes
   where
     l : LivePlace N (segmentsOf N B s) b
     l = live-place N (segmentsOf N B s) b (unfold view in read-passed N B s b (accepted N B s (read b) a .1))
+
     c : List ℕ
     c = l .contents
+
     n : ℕ
     n = placeOf b (viewOf N (segmentsOf N B s)) .number
+
     j : ℕ
     j = placeOf b (viewOf N (segmentsOf N B s)) .slot
+
     p : ℕ
     p = n % N * (B + 1) + suc j
+
     here : n % N < N
     here = index N B (size-facts N B s z .two) s (size-facts N B s z .whole) n
+
     inside : j < B
     inside = slot-inside N B s z n j (live-marks l)
+
     facts : LiveFacts (getD (partOf N B (n % N) s) (suc j) []) b c
     facts = live-facts (getD (partOf N B (n % N) s) (suc j) []) b c (page-kind N B s z n j (live-marks l) ∙ l .slot)
+
     page : slotPage b c ≡ take 256 (drop (p * 256) s)
     page = sym (facts .page) ∙ (part-page N B (n % N) (suc j) s here (omega (arith, inside)) ∙ (unfold pagesOf in chunk-part 256 (N * (B + 1)) p s (page-in N B (n % N) (suc j) here (omega (arith, inside)))))
+
     found : lookup b (entriesIn (viewOf N (segmentsOf N B s))) ≡ present c
     found = l .found
+
     bytes : take (length c) (drop (p * 256 + 8) s) ≡ c
     bytes = ap (λ y. take (length c) y) (sym (drop-drop 8 (p * 256) s))
         ∙ (sym (take-inside (length c) 8 256 (drop (p * 256) s) (unfold mostContents in omega (arith, facts .short)))

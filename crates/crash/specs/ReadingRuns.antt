@@ -41,11 +41,15 @@ made-from : (r : Request) (t : Table) (b : ℕ) (c : List ℕ) → lookup b (mad
 unfolding made lookup
 made-from format t b c h = absurd (never c h)
 made-from (put a d) t b c h =
-    elim (ℕ-discrete b a) [ yes e ↦ inr (ap₂ put (sym e) (cc (lookup-store-same b d t, h, e)))
-      | no n ↦ inl (sym (lookup-store-other b a d t n) ∙ h) ]
+    elim (ℕ-discrete b a) [
+      | yes e ↦ inr (ap₂ put (sym e) (cc (lookup-store-same b d t, h, e)))
+      | no n ↦ inl (sym (lookup-store-other b a d t n) ∙ h)
+    ]
 made-from (delete a) t b c h =
-    elim (ℕ-discrete b a) [ yes e ↦ absurd (never c (sym (lookup-without-same b t) ∙ rw (← e) at h))
-      | no n ↦ inl (sym (lookup-without-other b a t n) ∙ h) ]
+    elim (ℕ-discrete b a) [
+      | yes e ↦ absurd (never c (sym (lookup-without-same b t) ∙ rw (← e) at h))
+      | no n ↦ inl (sym (lookup-without-other b a t n) ∙ h)
+    ]
 made-from (read a) t b c h = inl h
 made-from (readOr a f) t b c h = inl h
 made-from recover t b c h = inl h
@@ -217,6 +221,7 @@ next-keeps C w t r b q = go (eqb (plainCode C w t r) 0) (made-keeps r q)
     made-keeps (read a) h = refl
     made-keeps (readOr a f) h = refl
     made-keeps recover h = refl
+
     go : (x : Bool) → lookup b (made t r) ≡ lookup b t → lookup b (cond x (made t r) t) ≡ lookup b t
     go true h = h
     go false h = refl

@@ -35,9 +35,10 @@ module _ (N B : ℕ) (u : Image) (x : Exception) (z : rightSize N B u ≡ true) 
   case-steps = recover-steps N B u x z case-state
 
   pub case-shows : (m : List Segment) → mended N (segmentsOf N B u) x ≡ m → SoundAs N B u (segmentsOf N B u) (unfinished x) → SoundWith N B u (entriesIn (viewOf N m))
-  case-shows m e k =
-      ( subst (λ y. SoundAs N B u (segmentsOf N B u) y) (sym case-state) k
-      , agree-of (shown N B u) (entriesIn (viewOf N m)) (mended-shown N B u x case-state (recovery-mends N B u z x case-state) ∙ ap (λ y. entriesIn (viewOf N y)) e) )
+  case-shows m e k = (
+    subst (λ y. SoundAs N B u (segmentsOf N B u) y) (sym case-state) k,
+    agree-of (shown N B u) (entriesIn (viewOf N m)) (mended-shown N B u x case-state (recovery-mends N B u z x case-state) ∙ ap (λ y. entriesIn (viewOf N y)) e),
+  )
 
 pub recover-done : (N B : ℕ) (s : Image) → rightSize N B s ≡ true → Sound N B s → Clean N B (recovered N B s)
 recover-done N B s z h = go (state N B s) refl h
@@ -55,6 +56,7 @@ recover-cut N B s u z h c = go (state N B s) refl h
     case caseB e = cut-b N B s z e h u c
     case caseC e = cut-c N B s z u e h c
     case caseD e = cut-d N B s z u e h c
+
     go : (x : State) → state N B s ≡ x → SoundAs N B s (segmentsOf N B s) x → Kept N B s u
     go clean e k = kept-same N B s u h (idle-cut N B s u recover (recover-none N B s e) c)
     go (unfinished x) e k = case x e

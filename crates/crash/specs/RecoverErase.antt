@@ -108,19 +108,23 @@ unfolding state headerAt
 same-segments N B s u z zu e q b =
     let f : state N B u ≡ unfinished caseA = ap (λ y. stateOf N B y) q ∙ e in
     kept-case N B s u caseA e (mended-a N B s z e) f (mended-a N B u zu f) (ap (λ y. mended N y caseA) q)
-      (subst (λ (y : List Segment). getD u (nextNumber y % N * (B + 1) * 256 + 5) 0 / 64 % 2 ≡ 1) (sym q) b)
+    (subst (λ (y : List Segment). getD u (nextNumber y % N * (B + 1) * 256 + 5) 0 / 64 % 2 ≡ 1) (sym q) b)
 
 pub cut-a : (N B : ℕ) (s u : Image) → rightSize N B s ≡ true → state N B s ≡ unfinished caseA → Sound N B s → CutOf N B s recover u → Kept N B s u
 cut-a N B s u z e h c = go (rw (recover-steps N B s caseA z e ∙ steps-a N B s z e) at c)
   where
     l′ : List Segment
     l′ = segmentsOf N B s
+
     k : ℕ
     k = nextNumber (segmentsOf N B s) % N
+
     zu : rightSize N B u ≡ true
     zu = cut-size N B (workOf N B s recover .steps) s u c ∙ z
+
     blanked : segmentsOf N B u ≡ set l′ k blank → Kept N B s u
     blanked q = kept-clean N B s caseA e (mended-a N B s z e) u (q ∙ sym (mended-is N B s z e))
+
     go : Cut B (erase k ∷ []) s u → Kept N B s u
     go (inl q) = kept-same N B s u h q
     go (inr (inl (v, r, q))) = ⊎-elim
@@ -131,8 +135,9 @@ cut-a N B s u z e h c = go (rw (recover-steps N B s caseA z e ∙ steps-a N B s 
         bit : getD u (k * (B + 1) * 256 + 5) 0 / 64 % 2 ≡ 1
         bit = bit-6-kept (getD s (k * (B + 1) * 256 + 5) 0) (getD u (k * (B + 1) * 256 + 5) 0)
             (subst (λ (y : Image). clear (getD s (k * (B + 1) * 256 + 5) 0) (getD y (k * (B + 1) * 256 + 5) 0) ≡ getD s (k * (B + 1) * 256 + 5) 0) (sym q)
-              (raised-byte N B k (inside N B s z e) s (size N B s z e) v r 5 (omega arith)))
+            (raised-byte N B k (inside N B s z e) s (size N B s z e) v r 5 (omega arith)))
             (bit-a N B s z e h)
+
         new : segmentsOf N B u ≡ set l′ k (segmentOf N B k (partOf N B k u))
         new = subst (λ (y : Image). segmentsOf N B y ≡ set l′ k (segmentOf N B k (partOf N B k y))) (sym q) (raised-segments N B k (inside N B s z e) s (size N B s z e) v r)
     go (inr (inr q)) = blanked (ap (λ y. segmentsOf N B y) q ∙ erase-effect N B (size-facts N B s z .two) s (size N B s z e) k (inside N B s z e))

@@ -89,6 +89,7 @@ module _ (N B : ℕ) (s : Image) (z : rightSize N B s ≡ true) (k j : ℕ) (m :
     where
       byte : getD (getD (partOf N B (k % N) s) (suc j) []) 0 0 ≡ getD s ((k % N * (B + 1) + suc j) * 256 + 0) 0
       byte = page-byte N B (k % N) (suc j) 0 s (index N B (size .two) s (size .whole) k) (omega (arith, slot-inside)) (omega arith)
+
       one-bit : OneBit (clear (getD s ((k % N * (B + 1) + suc j) * 256 + 0) 0) 0xDF) (getD s ((k % N * (B + 1) + suc j) * 256 + 0) 0)
       one-bit = mark-bit (getD s ((k % N * (B + 1) + suc j) * 256 + 0) 0) (subst Markable byte markable)
 
@@ -106,18 +107,23 @@ live-place N l b h = record { contents = f .contents; slot = at; found = looked 
   where
     rows : List (List Slot)
     rows = slotsFrom N l (usedCount l) (firstNumber l)
+
     f : FirstLive b (firstNumber l) rows
     f = first-live b (firstNumber l) rows h
+
     g : Gap
     g = f .gap
+
     row : getD rows (length (g .rowsBefore)) [] ≡ slotsIn (getD l ((firstNumber l + length (g .rowsBefore)) % N) blank)
     row =
         let e : length rows ≡ length (g .rowsBefore) + suc (length (g .rowsAfter)) = ap length (f .split) ∙ fill-length g (live b (f .contents)) in
         slots-get N l (usedCount l) (firstNumber l) (length (g .rowsBefore)) (omega (arith, e, slots-length N l (usedCount l) (firstNumber l)))
+
     at : getD (slotsIn (getD l (placeOf b (viewOf N l) .number % N) blank)) (placeOf b (viewOf N l) .slot) empty ≡ live b (f .contents)
     at = ap (λ (p : Place). getD (slotsIn (getD l (p .number % N) blank)) (p .slot) empty) (f .place)
         ∙ (ap (λ (y : List Slot). getD y (length (g .before)) empty) (sym row)
         ∙ (ap (λ (y : List (List Slot)). getD (getD y (length (g .rowsBefore)) []) (length (g .before)) empty) (f .split) ∙ gap-slot g (live b (f .contents))))
+
     looked : lookup b (entries (flatten rows)) ≡ present (f .contents)
     looked = ap (λ (y : List (List Slot)). lookup b (entries (flatten y))) (f .split)
         ∙ (ap (λ y. lookup b y) (fill-entries g (live b (f .contents)))
@@ -138,11 +144,12 @@ record OneMark (N B : ℕ) (l : List Segment) (x : Exception) : Type 0 where
 
 mark-c : (N B : ℕ) (l : List Segment) → isCase N B l caseC ≡ true → OneMark N B l caseC
 unfolding isCase isC lastKind topSlots topIndex mended tornMarked mendSteps
-mark-c N B l h = record
-  { place = record { number = nextNumber l - 1; slot = lastSlot N l }
-  ; marks = torn-marks (lastKind N l) (and-left (isTorn (lastKind N l)) (isClean N B (tornMarked N l)) h)
-  ; steps = refl
-  ; same = refl }
+mark-c N B l h = record {
+  place = record { number = nextNumber l - 1; slot = lastSlot N l };
+  marks = torn-marks (lastKind N l) (and-left (isTorn (lastKind N l)) (isClean N B (tornMarked N l)) h);
+  steps = refl;
+  same = refl;
+}
   where
     torn-marks : (k : Slot) → isTorn k ≡ true → Marks k
     torn-marks empty e = absurd (false≢true (unfold isTorn in e))
@@ -157,11 +164,12 @@ mark-d N B l h =
     let b = lastBlock N l in
     let q = and-right (ltb 0 b) (eqb (copies b (entriesIn (viewOf N l))) 2 && isClean N B (olderMarked N l)) h in
     let c : copies b (entriesIn (viewOf N l)) ≡ 2 = eqb-true (copies b (entriesIn (viewOf N l))) 2 (and-left (eqb (copies b (entriesIn (viewOf N l))) 2) (isClean N B (olderMarked N l)) q) in
-    record
-      { place = older N l
-      ; marks = live-marks (live-place N l b (holds-copies b (entriesIn (viewOf N l)) ∙ lt-ltb 0 (copies b (entriesIn (viewOf N l))) (omega arith)))
-      ; steps = refl
-      ; same = refl }
+    record {
+      place = older N l;
+      marks = live-marks (live-place N l b (holds-copies b (entriesIn (viewOf N l)) ∙ lt-ltb 0 (copies b (entriesIn (viewOf N l))) (omega arith)));
+      steps = refl;
+      same = refl;
+    }
 
 module _ (N B : ℕ) (s : Image) (z : rightSize N B s ≡ true) (x : Exception) (e : state N B s ≡ unfinished x) (o : OneMark N B (segmentsOf N B s) x) where
   one-recovered : recovered N B s ≡ run B (markPlace N B (o .place)) s

@@ -127,6 +127,7 @@ module _ (N B : ℕ) (s : Image) (z : rightSize N B s ≡ true) (e : state N B s
     where
       erased-one : segmentsOf N B (run B (erase i ∷ []) s) ≡ set l i blank
       erased-one = unfold run in erase-effect N B two s size i inside
+
       go : (x : Segment) → getD l i blank ≡ x → segmentsOf N B (run B (cond (isInUse x || isInvalid x) (erase i ∷ []) []) s) ≡ set l i blank
       go blank q = unfold run isInUse isInvalid in sym (ap (λ (y : Segment). set l i y) (sym q) ∙ set-getD l i blank)
       go invalid q = unfold isInUse isInvalid in erased-one
@@ -156,14 +157,17 @@ module _ (N B : ℕ) (s : Image) (z : rightSize N B s ≡ true) (e : state N B s
     where
       here : n % N < N
       here = index N B two s size n
+
       byte : getD wiped (n % N * (B + 1) * 256 + 5) 0 ≡ erasePending
       byte = sym (header-byte N B (n % N) 5 wiped here (omega arith)) ∙ (unfold headerStatus in
           in-use-parts N B (n % N) (partOf N B (n % N) wiped) erasePending n slots (sym (segment-at N B (n % N) wiped here) ∙ wiped-top) .status)
 
   -- the segment after the top has a smaller number, if any
   old-number : numberAfter (getD l i blank) < nextNumber l
-  old-number = elim (decLt (numberAfter (getD l i blank)) (nextNumber l)) [ yes p ↦ p
-      | no p ↦ absurd (apart (numbered-at N B s i n inside (omega (arith, next-ge l i, some)) .0)) ]
+  old-number = elim (decLt (numberAfter (getD l i blank)) (nextNumber l)) [
+    | yes p ↦ p
+    | no p ↦ absurd (apart (numbered-at N B s i n inside (omega (arith, next-ge l i, some)) .0))
+  ]
 
   -- that segment replaced by one that is not the top: (b) again, and mended to the same
   module _ (y : Segment) (small : numberAfter y ≤ nextNumber l) where
@@ -232,7 +236,7 @@ keep N B s u y z e zu q g hn b =
     let f : state N B u ≡ unfinished caseB = ap (λ (v : List Segment). stateOf N B v) q ∙ replaced-state N B s z e y g in
     let nn : nextNumber (segmentsOf N B u) ≡ m = ap nextNumber q ∙ replaced-next N B s z e y g in
     let so : SoundAs N B u (segmentsOf N B u) (unfinished caseB) =
-          subst (λ (v : ℕ). (N ≤ v) × AtLeast (headerByte N B v 8) (both (v - N)) u) (sym nn) (hn, (unfold headerAt in keeps-of B (m % N) (m - N) u b)) in
+    subst (λ (v : ℕ). (N ≤ v) × AtLeast (headerByte N B v 8) (both (v - N)) u) (sym nn) (hn, (unfold headerAt in keeps-of B (m % N) (m - N) u b)) in
     kept-case N B s u caseB e (mended-b N B s z e) f (mended-b N B u zu f) (unfold mended in (ap (λ (v : List Segment). topSettled N v) q ∙ replaced-mended N B s z e y g)) so
 
 module _ (N B : ℕ) (s : Image) (z : rightSize N B s ≡ true) (e : state N B s ≡ unfinished caseB) (h : Sound N B s) where
@@ -256,6 +260,7 @@ module _ (N B : ℕ) (s : Image) (z : rightSize N B s ≡ true) (e : state N B s
     where
       page : Page
       page = getD (partOf N B j u) 0 []
+
       go : (x : Segment) → segmentOf N B j (partOf N B j u) ≡ x → numberAfter x ≤ m
       go blank q = omega arith
       go invalid q = omega arith
@@ -263,7 +268,7 @@ module _ (N B : ℕ) (s : Image) (z : rightSize N B s ≡ true) (e : state N B s
           let p = in-use-parts N B j (partOf N B j u) st a ks q in
           let small = number-fits N (m - 1) (most N B s z e) (below N B s z e) in
           let r : headerNumber page ≡ m - N = number-raised N B j page (m - N) (most N B s z e) (omega (arith, two N B s z e)) (p .header)
-                (λ k l. rw (header-byte N B j (8 + k) u (inside N B s z e) (omega arith)) (b k l)) in
+          (λ k l. rw (header-byte N B j (8 + k) u (inside N B s z e) (omega arith)) (b k l)) in
           omega (arith, p .number, r, enough, two N B s z e)
 
   erasing : (u : Image) → rightSize N B u ≡ true → Cut B (erase j ∷ []) s u → Kept N B s u
@@ -272,6 +277,7 @@ module _ (N B : ℕ) (s : Image) (z : rightSize N B s ≡ true) (e : state N B s
     where
       new : segmentsOf N B u ≡ set (segmentsOf N B s) j (segmentOf N B j (partOf N B j u))
       new = subst (λ (y : Image). segmentsOf N B y ≡ set (segmentsOf N B s) j (segmentOf N B j (partOf N B j y))) (sym q) (raised-segments N B j (inside N B s z e) s (size N B s z e) v r)
+
       raised : Keeps B j (m - N) u
       raised = subst (λ (y : Image). Keeps B j (m - N) y) (sym q) (λ k l.
           let at = j * (B + 1) * 256 + (8 + k) in
@@ -279,8 +285,8 @@ module _ (N B : ℕ) (s : Image) (z : rightSize N B s ≡ true) (e : state N B s
           omega (arith, keeps k l))
   erasing u zu (inr (inr q)) = keep N B s u blank z e zu (ap (λ y. segmentsOf N B y) q ∙ erase-effect N B (two N B s z e) s (size N B s z e) j (inside N B s z e))
       (unfold numberAfter in omega arith) enough (subst (λ (y : Image). Keeps B j (m - N) y) (sym (q ∙ erased-image N B j (inside N B s z e) s (size N B s z e))) (λ k l.
-        let byte = replaced-byte N B j (inside N B s z e) s (size N B s z e) (erased ((B + 1) * 256)) (erased-length ((B + 1) * 256)) (8 + k) (omega arith) in
-        omega (arith, byte, erased-get ((B + 1) * 256) (8 + k) (omega arith), both-bytes (m - N) k)))
+      let byte = replaced-byte N B j (inside N B s z e) s (size N B s z e) (erased ((B + 1) * 256)) (erased-length ((B + 1) * 256)) (8 + k) (omega arith) in
+      omega (arith, byte, erased-get ((B + 1) * 256) (8 + k) (omega arith), both-bytes (m - N) k)))
 
   wiping : (u : Image) → Cut B (wipe N B s z e) s u → Kept N B s u
   unfolding eraseUnlessBlank isInUse isInvalid
@@ -288,6 +294,7 @@ module _ (N B : ℕ) (s : Image) (z : rightSize N B s ≡ true) (e : state N B s
     where
       zu : rightSize N B u ≡ true
       zu = cut-size N B (eraseUnlessBlank j (getD (segmentsOf N B s) j blank)) s u c ∙ z
+
       go : (x : Segment) → Cut B (cond (isInUse x || isInvalid x) (erase j ∷ []) []) s u → Kept N B s u
       go blank d = kept-same N B s u h d
       go invalid d = erasing u zu d
@@ -296,6 +303,6 @@ module _ (N B : ℕ) (s : Image) (z : rightSize N B s ≡ true) (e : state N B s
   pub cut-b : (u : Image) → CutOf N B s recover u → Kept N B s u
   cut-b u c = ⊎-elim (λ d. wiping u d)
       (λ d. ⊎-elim (λ q. subst (λ (y : Image). Kept N B s y) (sym q) (wiping (wiped N B s z e) (whole-cut B (wipe N B s z e) s)))
-        (λ q. kept-clean N B s caseB e (mended-b N B s z e) u (ap (λ y. segmentsOf N B y) (q ∙ sym (recovered-b N B s z e)) ∙ mended-b N B s z e))
-        (settle-whole N B s z e u d))
+      (λ q. kept-clean N B s caseB e (mended-b N B s z e) u (ap (λ y. segmentsOf N B y) (q ∙ sym (recovered-b N B s z e)) ∙ mended-b N B s z e))
+      (settle-whole N B s z e u d))
       (cut-append B (wipe N B s z e) (settle N B (m - 1)) s u (rw (recover-steps N B s caseB z e ∙ steps-b N B s z e) at c))

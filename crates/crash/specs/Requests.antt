@@ -68,6 +68,7 @@ read-code N B s b = go (workOf N B s (read b) .code) (contentsAt N B (placeOf b 
     by-test : (n at k : ℕ) (t : Bool) → eqb n 0 ≡ t → (cond {A = ReadOutcome} t (record { code = 0; offset = at; length = k }) (record { code = n; offset = 0; length = 0 })) .code ≡ n
     by-test n at k true e = sym (eqb-true n 0 e)
     by-test n at k false e = refl
+
     go : (n at k : ℕ) → (cond {A = ReadOutcome} (eqb n 0) (record { code = 0; offset = at; length = k }) (record { code = n; offset = 0; length = 0 })) .code ≡ n
     go n at k = by-test n at k (eqb n 0) refl
 
@@ -142,7 +143,7 @@ not-ltb a b = go (ltb b a) refl
 -- the rows of a put and of a delete or a read, with sized, damaged and unfinished decided
 put-codes : (number short stored room worn : Bool)
     → firstOf ((1 when false) ∷ (2 when not number) ∷ (3 when not short) ∷ (4 when false) ∷ (5 when false) ∷ (7 when not stored && not room) ∷ (8 when worn) ∷ [])
-      ≡ cond (eqb (cond number (cond short 0 3) 2) 0) (cond (stored || room) (cond worn 8 0) 7) (cond number (cond short 0 3) 2)
+    ≡ cond (eqb (cond number (cond short 0 3) 2) 0) (cond (stored || room) (cond worn 8 0) 7) (cond number (cond short 0 3) 2)
 unfolding firstOf
 put-codes false short stored room worn = refl
 put-codes true false stored room worn = refl
@@ -167,7 +168,7 @@ module _ (N B : ℕ) (s : Image) (z : rightSize N B s ≡ true) (h : Clean N B s
   code-clean format o = absurd o
   code-clean (put b c) o = code-of N B s (put b c)
       ∙ rw (z, h, not-leb mostContents (length c), not-ltb (capacity N B) (length (entriesIn (view N B s))))
-        (put-codes (numberOk b) (leb (length c) mostContents) (holds b (entriesIn (view N B s))) (ltb (length (entriesIn (view N B s))) (capacity N B)) (isWorn N (view N B s)))
+      (put-codes (numberOk b) (leb (length c) mostContents) (holds b (entriesIn (view N B s))) (ltb (length (entriesIn (view N B s))) (capacity N B)) (isWorn N (view N B s)))
   code-clean (delete b) o = code-of N B s (delete b) ∙ absent-clean b
   code-clean (read b) o = code-of N B s (read b) ∙ absent-clean b
   code-clean (readOr b f) o = code-of N B s (readOr b f) ∙ absent-clean b
@@ -180,7 +181,7 @@ Unfinished N B s = (x : Exception) × (state N B s ≡ unfinished x)
 
 put-unfinished : (number short full worn : Bool)
     → firstOf ((1 when false) ∷ (2 when not number) ∷ (3 when not short) ∷ (4 when false) ∷ (5 when true) ∷ (7 when full) ∷ (8 when worn) ∷ [])
-      ≡ cond (eqb (cond number (cond short 0 3) 2) 0) 5 (cond number (cond short 0 3) 2)
+    ≡ cond (eqb (cond number (cond short 0 3) 2) 0) 5 (cond number (cond short 0 3) 2)
 unfolding firstOf
 put-unfinished false short full worn = refl
 put-unfinished true false full worn = refl
@@ -202,7 +203,7 @@ module _ (N B : ℕ) (s : Image) (z : rightSize N B s ≡ true) (h : Unfinished 
   code-unfinished format o = absurd o
   code-unfinished (put b c) o = code-of N B s (put b c)
       ∙ rw (z, h .1, not-leb mostContents (length c))
-        (put-unfinished (numberOk b) (leb (length c) mostContents) (isFull N B b (viewOf N (segmentsOf N B s))) (isWorn N (viewOf N (segmentsOf N B s))))
+      (put-unfinished (numberOk b) (leb (length c) mostContents) (isFull N B b (viewOf N (segmentsOf N B s))) (isWorn N (viewOf N (segmentsOf N B s))))
   code-unfinished (delete b) o = code-of N B s (delete b) ∙ absent-wants b
   code-unfinished (read b) o = code-of N B s (read b) ∙ absent-wants b
   code-unfinished (readOr b f) o = code-of N B s (readOr b f) ∙ absent-wants b

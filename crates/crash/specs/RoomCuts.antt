@@ -68,21 +68,25 @@ unfolding copyEntries slotAt
 copy-header N B two n [] j s u z v h c = ap (λ y. getD (partOf N B (n % N) y) 0 []) c
 copy-header N B two n (e ∷ es) j s u z v h c =
     ⊎-elim
-      (λ d. let x = part-cut N B i (suc j) (index N B two s z n) (omega arith) ws p s z u d in
-        ap (λ (y : List Page). getD y 0 []) (x .2) ∙ getD-set-other (partOf N B i s) (suc j) 0 (x .0) [] (λ q. omega arith))
-      (λ d. copy-header N B two n es (suc j) t u (run-length B xs s ∙ z) (v .1) (omega arith) d
-        ∙ (ap (λ (y : List Page). getD y 0 []) (part-run N B i (suc j) (index N B two s z n) (omega arith) ws p s z)
-        ∙ getD-set-other (partOf N B i s) (suc j) 0 (run B ws (getD (partOf N B i s) (suc j) [])) [] (λ q. omega arith)))
-      (cut-append B xs (copyEntries N B n (suc j) es) s u c)
+    (λ d. let x = part-cut N B i (suc j) (index N B two s z n) (omega arith) ws p s z u d in
+    ap (λ (y : List Page). getD y 0 []) (x .2) ∙ getD-set-other (partOf N B i s) (suc j) 0 (x .0) [] (λ q. omega arith))
+    (λ d. copy-header N B two n es (suc j) t u (run-length B xs s ∙ z) (v .1) (omega arith) d
+    ∙ (ap (λ (y : List Page). getD y 0 []) (part-run N B i (suc j) (index N B two s z n) (omega arith) ws p s z)
+    ∙ getD-set-other (partOf N B i s) (suc j) 0 (run B ws (getD (partOf N B i s) (suc j) [])) [] (λ q. omega arith)))
+    (cut-append B xs (copyEntries N B n (suc j) es) s u c)
   where
     i : ℕ
     i = n % N
+
     ws : List Step
     ws = writeSlot (e .block) (e .contents)
+
     xs : List Step
     xs = onPage (n % N * (B + 1) + suc j) (writeSlot (e .block) (e .contents))
+
     t : Image
     t = run B xs s
+
     p : InPage (writeSlot (e .block) (e .contents))
     p = write-in-page (e .block) (e .contents) (v .0 .short)
 
@@ -107,13 +111,13 @@ module _ (N B : ℕ) (s : Image) (v : View) (h : Held N B s v) where
       let k = rw open-steps at cut in
       let small : N < 256 = few N B (size .two) (size .most) (size .mostB) s (size .whole) n below in
       ⊎-elim
-        (λ six. next-torn N B s v h c u (cut-size N B (openNext N B v .steps) s u cut ∙ h .size) (header-touched N B s size n below xs p u k) six)
-        (λ e. let whole = header-whole N B s size n below xs p u k (e ∙ sym (ap (λ (y : Page). run B xs y) free-page ∙ opening-run N B n small (size .mostB))) in
-          let w = run B (openNext N B v .steps) s in
-          let r = open-held N B s v h below few-used in
-          let t : tableOf N B w ≡ entriesIn v = held-table N B w (openNext N B v .result) r ∙ opened-entries N B v in
-          rw t at (segments-show N B w u (clean-of-held N B w (openNext N B v .result) r (opened-clean c full few-used)) (whole ∙ ap (λ y. segmentsOf N B (run B y s)) (sym open-steps))))
-        (opening-cut N B n (getD (partOf N B (n % N) u) 0 []) small (size .mostB) (header-cut N B s size n below xs p u k (erased 256) free-page))
+      (λ six. next-torn N B s v h c u (cut-size N B (openNext N B v .steps) s u cut ∙ h .size) (header-touched N B s size n below xs p u k) six)
+      (λ e. let whole = header-whole N B s size n below xs p u k (e ∙ sym (ap (λ (y : Page). run B xs y) free-page ∙ opening-run N B n small (size .mostB))) in
+      let w = run B (openNext N B v .steps) s in
+      let r = open-held N B s v h below few-used in
+      let t : tableOf N B w ≡ entriesIn v = held-table N B w (openNext N B v .result) r ∙ opened-entries N B v in
+      rw t at (segments-show N B w u (clean-of-held N B w (openNext N B v .result) r (opened-clean c full few-used)) (whole ∙ ap (λ y. segmentsOf N B (run B y s)) (sym open-steps))))
+      (opening-cut N B n (getD (partOf N B (n % N) u) 0 []) small (size .mostB) (header-cut N B s size n below xs p u k (erased 256) free-page))
 
 -- ---- compaction
 
@@ -157,7 +161,7 @@ module _ (N B : ℕ) (s : Image) (v : View) (f : Full N B s v) where
   begin-cut : (u : Image) → rightSize N B u ≡ true → Cut B begin s u → SoundWith N B u (entriesIn v)
   begin-cut u z c = let xs = compactionHeader N B n (o % N) in let p = compaction-in-page N B n (o % N) in
       next-torn N B s v h (f .clean) u z (header-touched N B s d n (f .below) xs p u c)
-        (compaction-cut N B n (o % N) (getD (partOf N B i u) 0 []) (header-cut N B s d n (f .below) xs p u c (erased 256) (free-page N B s v h)))
+      (compaction-cut N B n (o % N) (getD (partOf N B i u) 0 []) (header-cut N B s d n (f .below) xs p u c (erased 256) (free-page N B s v h)))
 
   -- the slots copied
   abbrev copying : List Step
@@ -202,16 +206,16 @@ module _ (N B : ℕ) (s : Image) (v : View) (f : Full N B s v) where
       let p = pending-in-page N B n (o % N) in
       let page2 = copy-page s2 (whole-cut B copying s1) in
       ⊎-elim
-        (λ six. next-torn N B s v h (f .clean) u z (touched2 u c) six)
-        (λ e. let whole = header-whole N B s2 size2 n (f .below) xs p u c (e ∙ sym (ap (λ (x : Page). run B xs x) page2 ∙ pending-run N B n (o % N))) in
-          owes u z (touched2 u c) (whole ∙ ap (λ x. segmentsOf N B x) (sym the-run)) .shows)
-        (pending-cut N B n (o % N) (getD (partOf N B i u) 0 []) (header-cut N B s2 size2 n (f .below) xs p u c (begunPage N B (o % N)) page2))
+      (λ six. next-torn N B s v h (f .clean) u z (touched2 u c) six)
+      (λ e. let whole = header-whole N B s2 size2 n (f .below) xs p u c (e ∙ sym (ap (λ (x : Page). run B xs x) page2 ∙ pending-run N B n (o % N))) in
+      owes u z (touched2 u c) (whole ∙ ap (λ x. segmentsOf N B x) (sym the-run)) .shows)
+      (pending-cut N B n (o % N) (getD (partOf N B i u) 0 []) (header-cut N B s2 size2 n (f .below) xs p u c (begunPage N B (o % N)) page2))
 
   copy-out-cut : (u : Image) → Cut B (copyOut N B o n es) s u → SoundWith N B u (entriesIn v)
   copy-out-cut u c =
       let z = cut-size N B (copyOut N B o n es) s u c ∙ h .size in
       ⊎-elim (λ k. begin-cut u z k) (λ k. ⊎-elim (λ r. copy-cut u z r) (λ r. finish-cut u z r) (cut-append B copying finish s1 u k))
-        (cut-append B begin (copying ++ finish) s u (rw (copy-out-pages N B o n es) at c))
+      (cut-append B begin (copying ++ finish) s u (rw (copy-out-pages N B o n es) at c))
 
   -- the rest, the old segment erased and the status after it, is the recovery of state (b)
   pub compact-cut : (u : Image) → Cut B (compactOldest N B v .steps) s u → SoundWith N B u (entriesIn v)
@@ -221,7 +225,7 @@ module _ (N B : ℕ) (s : Image) (v : View) (f : Full N B s v) where
       let z = run-size N B (copyOut N B o n es) s ∙ h .size in
       let w = owes t z (rw the-run (touched2 (run B finish s2) (whole-cut B finish s2))) refl in
       ⊎-elim
-        (λ k. copy-out-cut u k)
-        (λ k. let r = recover-cut N B t u z (w .shows .0) (rw (w .steps) k) in
-          (r .0, agree-trans (shown N B u) (shown N B t) (entriesIn v) (r .1) (w .shows .1)))
-        (cut-append B (copyOut N B o n es) (erase (o % N) ∷ settle N B n) s u c)
+      (λ k. copy-out-cut u k)
+      (λ k. let r = recover-cut N B t u z (w .shows .0) (rw (w .steps) k) in
+      (r .0, agree-trans (shown N B u) (shown N B t) (entriesIn v) (r .1) (w .shows .1)))
+      (cut-append B (copyOut N B o n es) (erase (o % N) ∷ settle N B n) s u c)

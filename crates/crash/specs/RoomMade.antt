@@ -36,8 +36,8 @@ module _ (N B : ℕ) where
     where
       go : (t : Bool) → hasRoom v ≡ t
           → ((t : Image) → Held N B t (compactOldest N B v .result) → Bytes t → CleanView N B (compactOldest N B v .result) → length (compactOldest N B v .result .slots) ≡ N - 1
-              → topNumber (compactUntilRoom N B k (compactOldest N B v .result) .result) < numberLimit N
-              → Cut B (compactUntilRoom N B k (compactOldest N B v .result) .steps) t u → SoundWith N B u (entriesIn (compactOldest N B v .result)))
+          → topNumber (compactUntilRoom N B k (compactOldest N B v .result) .result) < numberLimit N
+          → Cut B (compactUntilRoom N B k (compactOldest N B v .result) .steps) t u → SoundWith N B u (entriesIn (compactOldest N B v .result)))
           → SoundWith N B u (entriesIn v)
       go true e ih = none-cut s v h c u (rw (until-room N B k v e) at cut)
       go false e ih =
@@ -47,10 +47,10 @@ module _ (N B : ℕ) where
           let low : suc (topNumber v) < numberLimit N = omega (arith, top-rises N B k (compactOldest N B v .result) (t .clean), t .number, b) in
           let xs = compactOldest N B v .steps in
           ⊎-elim
-            (λ d. compact-cut N B s v (record { held = h; clean = c; noRoom = e; all = all; bytes = y; below = low }) u d)
-            (λ d. let r = ih (run B xs s) (one-compaction N B s v h y c all low) (run-bytes B xs s y) (t .clean) (compacted-rows N B v (c .some) ∙ all) b d in
-              (r .0, agree-trans (shown N B u) (entriesIn (compactOldest N B v .result)) (entriesIn v) (r .1) (t .table)))
-            (cut-append B xs (compactUntilRoom N B k (compactOldest N B v .result) .steps) s u (rw m at cut))
+          (λ d. compact-cut N B s v (record { held = h; clean = c; noRoom = e; all = all; bytes = y; below = low }) u d)
+          (λ d. let r = ih (run B xs s) (one-compaction N B s v h y c all low) (run-bytes B xs s y) (t .clean) (compacted-rows N B v (c .some) ∙ all) b d in
+          (r .0, agree-trans (shown N B u) (entriesIn (compactOldest N B v .result)) (entriesIn v) (r .1) (t .table)))
+          (cut-append B xs (compactUntilRoom N B k (compactOldest N B v .result) .steps) s u (rw m at cut))
 
   pub room-cut : (s : Image) (v : View) → Held N B s v → Bytes s → CleanView N B v → topNumber (roomFor N B v .result) < numberLimit N
       → (u : Image) → Cut B (roomFor N B v .steps) s u → SoundWith N B u (entriesIn v)
@@ -59,6 +59,7 @@ module _ (N B : ℕ) where
     where
       chosen : Bool → Bool → Room
       chosen t w = cond t (record { steps = []; result = v }) (cond w (openNext N B v) (compactUntilRoom N B (N - 1) v))
+
       go : (t w : Bool) → hasRoom v ≡ t → ltb (length (v .slots)) (N - 1) ≡ w → topNumber (chosen t w .result) < numberLimit N → Cut B (chosen t w .steps) s u → SoundWith N B u (entriesIn v)
       go true w e k b d = none-cut s v h c u d
       go false true e k b d = open-cut N B s v h c e (ltb-true (length (v .slots)) (N - 1) k) (omega (arith, opened-top N B v (c .some), b)) u d

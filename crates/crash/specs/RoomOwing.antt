@@ -177,10 +177,10 @@ module _ (N B : ℕ) (s : Image) (v : View) (f : Full N B s v) where
         let g = in-use-facts N B (o % N) (getD ps 0 []) (p .header) in
         let st = headerStatus (getD ps 0 []) in
         let byte : getD u (o % N * (B + 1) * 256 + (8 + k)) 0 ≡ getD (both o) k 0 =
-              sym (header-byte N B (o % N) (8 + k) u old-inside (omega arith))
-              ∙ (ap (λ (y : List Page). getD (getD y 0 []) (8 + k) 0) old-part
-              ∙ (ap (λ (y : Page). getD y (8 + k) 0) (g .page ∙ ap (λ (y : ℕ). headerPage N B st y (oldIndex N (o % N) st)) (p .number))
-              ∙ header-digits N B st o (oldIndex N (o % N) st) k l)) in
+        sym (header-byte N B (o % N) (8 + k) u old-inside (omega arith))
+        ∙ (ap (λ (y : List Page). getD (getD y 0 []) (8 + k) 0) old-part
+        ∙ (ap (λ (y : Page). getD y (8 + k) 0) (g .page ∙ ap (λ (y : ℕ). headerPage N B st y (oldIndex N (o % N) st)) (p .number))
+        ∙ header-digits N B st o (oldIndex N (o % N) st) k l)) in
         omega (arith, byte)
 
     owing-sound : SoundAs N B u (segmentsOf N B u) (unfinished caseB)
@@ -193,6 +193,7 @@ module _ (N B : ℕ) (s : Image) (v : View) (f : Full N B s v) where
     pub owing-left : Owing u
     owing-left =
         let shows : SoundWith N B u (entriesIn (viewOf N moved)) = case-shows N B u caseB z (rw e owing-case) moved (rw e owing-mended) owing-sound in
-        record
-        { shows = (shows .0, agree-trans _ (entriesIn (viewOf N moved)) (entriesIn v) (shows .1) (rw moved-view (tidied N B v (f .clean) (f .noRoom) .table)))
-        ; steps = case-steps N B u caseB z (rw e owing-case) ∙ (ap (λ y. mendSteps N B y caseB) e ∙ owing-steps) }
+        record {
+          shows = (shows .0, agree-trans _ (entriesIn (viewOf N moved)) (entriesIn v) (shows .1) (rw moved-view (tidied N B v (f .clean) (f .noRoom) .table)));
+          steps = case-steps N B u caseB z (rw e owing-case) ∙ (ap (λ y. mendSteps N B y caseB) e ∙ owing-steps);
+        }

@@ -68,6 +68,7 @@ module _ (N B : ℕ) (s : Image) (v : View) (h : Held N B s v) (c : CleanView N 
     where
       kind : segmentOf N B i (partOf N B i u) ≡ cond (allBlank (partOf N B i u)) blank invalid
       kind = unfold segmentOf in (rw (bit-6-unused N B i (getD (partOf N B i u) 0 []) six))
+
       go : (t : Bool) → allBlank (partOf N B i u) ≡ t → SoundWith N B u (entriesIn v)
       go true e = rw (held-table N B s v h) at (segments-show N B s u (clean-of-held N B s v h c) (only-segments N B i s u o ∙ (ap (λ (y : Segment). set segments i y) (kind ∙ rw e) ∙ blanked)))
       go false e = spoilt-left u z (only-segments N B i s u o ∙ ap (λ (y : Segment). set segments i y) (kind ∙ rw e)) six

@@ -154,11 +154,12 @@ module _ (N B : ℕ) (laws : RequestLaws N B) where
     stored-next e =
         let n = workOf N B s r .code in
         let d = clean-done s r o p z (k .bytes) (k .clean) n refl in
-        rw (e, ← plain-next) (record
-          { clean = d .0
-          ; table = agree-trans (tableOf N B (finished N B s r)) (after (tableOf N B s) n r) (after t n r) (d .1) (agree-after (tableOf N B s) t n r (k .table))
-          ; once = distinct-after t n r (k .once)
-          ; bytes = run-bytes B (workOf N B s r .steps) s (k .bytes) })
+        rw (e, ← plain-next) (record {
+          clean = d .0;
+          table = agree-trans (tableOf N B (finished N B s r)) (after (tableOf N B s) n r) (after t n r) (d .1) (agree-after (tableOf N B s) t n r (k .table));
+          once = distinct-after t n r (k .once);
+          bytes = run-bytes B (workOf N B s r .steps) s (k .bytes);
+        })
 
     clean-interrupted : (x : Promise) → Holds x t → (u : Seen) → IsCut u → CutOf N B s r m → Follows N B (wears N B s) r u x m
     clean-interrupted x held u i c =
@@ -167,15 +168,25 @@ module _ (N B : ℕ) (laws : RequestLaws N B) where
         let zm = cut-size N B (workOf N B s r .steps) s m c ∙ z in
         let ym = cut-bytes B (workOf N B s r .steps) s m c (k .bytes) in
         ⊎-elim
-          (λ old. (interrupted t, not-begun t held o i,
-            (zm, record { sound = d .0; table = agree-trans (shown N B m) (tableOf N B s) t old (k .table); once = k .once; bytes = ym })))
-          (λ new. (interrupted (next (capacity N B) (wears N B s) t r), wholly-done t held o i,
-            (zm, rw (← plain-next) (record
-              { sound = d .0
-              ; table = agree-trans (shown N B m) (after (tableOf N B s) n r) (after t n r) new (agree-after (tableOf N B s) t n r (k .table))
-              ; once = distinct-after t n r (k .once)
-              ; bytes = ym }))))
-          (d .1)
+        (λ old. (
+          interrupted t,
+          not-begun t held o i,
+          (zm, record { sound = d .0; table = agree-trans (shown N B m) (tableOf N B s) t old (k .table); once = k .once; bytes = ym }),
+        ))
+        (λ new. (
+          interrupted (next (capacity N B) (wears N B s) t r),
+          wholly-done t held o i,
+          (
+            zm,
+            rw (← plain-next) (record {
+              sound = d .0;
+              table = agree-trans (shown N B m) (after (tableOf N B s) n r) (after t n r) new (agree-after (tableOf N B s) t n r (k .table));
+              once = distinct-after t n r (k .once);
+              bytes = ym;
+            }),
+          ),
+        ))
+        (d .1)
 
   -- ---- an event on an image that will show t
 
@@ -189,20 +200,22 @@ module _ (N B : ℕ) (laws : RequestLaws N B) where
       go damaged e k = absurd k
 
   stores-clean : (s : Image) (t : Table) → Clean N B s → WillShow N B s t → Stores N B s t
-  stores-clean s t h k = record
-    { clean = h
-    ; table = agree-trans (tableOf N B s) (shown N B s) t (agree-of (tableOf N B s) (shown N B s) (sym (shown-clean N B s h))) (k .table)
-    ; once = k .once
-    ; bytes = k .bytes }
+  stores-clean s t h k = record {
+    clean = h;
+    table = agree-trans (tableOf N B s) (shown N B s) t (agree-of (tableOf N B s) (shown N B s) (sym (shown-clean N B s h))) (k .table);
+    once = k .once;
+    bytes = k .bytes;
+  }
 
   -- refused as malformed, on any image: nothing changes
   refuses : (s m : Image) (t : Table) (r : Request) (n : ℕ) → rightSize N B s ≡ true → WillShow N B s t → malformed r ≡ suc n → workOf N B s r .code ≡ suc n
       → (w : Bool) (u : Seen) → u ≡ answered (ended N B s r) → m ≡ finished N B s r → Follows N B w r u (interrupted t) m
   unfolding ended
-  refuses s m t r n z k f e w u i d =
-      (interrupted t,
-       refuses-malformed n f (i ∙ rw (e, bytes-refused N B s r n e (λ six. omega (arith, malformed-small r)))),
-       rw (d, idle-finished N B s r (refused-idle N B s r n e)) (z, k))
+  refuses s m t r n z k f e w u i d = (
+    interrupted t,
+    refuses-malformed n f (i ∙ rw (e, bytes-refused N B s r n e (λ six. omega (arith, malformed-small r)))),
+    rw (d, idle-finished N B s r (refused-idle N B s r n e)) (z, k),
+  )
 
   module _ (s m : Image) (t : Table) (z : rightSize N B s ≡ true) (k : WillShow N B s t) (h : Unfinished N B s) where
     wants-code : (r : Request) → WantsRecovery r → (n : ℕ) → malformed r ≡ n → workOf N B s r .code ≡ cond (eqb n 0) 5 n
@@ -231,20 +244,31 @@ module _ (N B : ℕ) (laws : RequestLaws N B) where
 
     recover-interrupted : (w : Bool) (u : Seen) → IsCut u → CutOf N B s recover m → Follows N B w recover u (interrupted t) m
     recover-interrupted w u i c =
-        let d = laws .recover-cut s m z (k .sound) c in
-        (interrupted t, not-begun t refl tt i,
-          (cut-size N B (workOf N B s recover .steps) s m c ∙ z, record
-            { sound = d .0
-            ; table = agree-trans (shown N B m) (shown N B s) t (d .1) (k .table)
-            ; once = k .once
-            ; bytes = cut-bytes B (workOf N B s recover .steps) s m c (k .bytes) }))
+        let d = laws .recover-cut s m z (k .sound) c in (
+          interrupted t,
+          not-begun t refl tt i,
+          (
+            cut-size N B (workOf N B s recover .steps) s m c ∙ z,
+            record {
+              sound = d .0;
+              table = agree-trans (shown N B m) (shown N B s) t (d .1) (k .table);
+              once = k .once;
+              bytes = cut-bytes B (workOf N B s recover .steps) s m c (k .bytes);
+            },
+          ),
+        )
 
     recover-ends : (w : Bool) (u : Seen) → u ≡ answered (ended N B s recover) → m ≡ finished N B s recover → Follows N B w recover u (interrupted t) m
     unfolding malformed recovered shown ended plain plainCode codeOnTable plainBytes bytesRead next made
-    recover-ends w u i e =
-        (settled t, answers-again {t = t} tt refl (i ∙ rw (code-recover N B s z h)),
-          (size-finished N B s m recover z e, rw e (record
-            { clean = laws .recover-done s z (k .sound); table = k .table; once = k .once; bytes = run-bytes B (workOf N B s recover .steps) s (k .bytes) })))
+    recover-ends w u i e = (
+      settled t,
+      answers-again {t = t} tt refl (i ∙ rw (code-recover N B s z h)),
+      (
+        size-finished N B s m recover z e,
+        rw e (record
+            { clean = laws .recover-done s z (k .sound); table = k .table; once = k .once; bytes = run-bytes B (workOf N B s recover .steps) s (k .bytes) }),
+      ),
+    )
 
   -- ---- one event, whatever the promise
 
@@ -275,6 +299,7 @@ module _ (N B : ℕ) (laws : RequestLaws N B) where
       still-clean zero f q =
           (settled (next (capacity N B) (wears N B s) t r), answers-again o f (i ∙ ap answered (plain-reply s m t r o p z q)), (size-finished N B s m r z e, stored-next s m t r o p z q e))
       still-clean (suc n) f q = refuses s m t r n z k f (plain-code s m t r o p z q ∙ rw (f, ne-eqb (suc n) 0 (λ y. omega arith))) (wears N B s) u i e
+
       by-request : (a : Request) → OnTable a → Unfinished N B s → u ≡ answered (ended N B s a) → m ≡ finished N B s a → Follows N B (wears N B s) a u (interrupted t) m
       by-request format oa h ia d = absurd oa
       by-request (put b v) oa h ia d = wants-ends s m t z k h (put b v) tt (wears N B s) u ia d
@@ -291,10 +316,15 @@ module _ (N B : ℕ) (laws : RequestLaws N B) where
   unfolding ended bytesRead distinct
   format-ends s m x z w u i e =
       let d = laws .format-done s z in
-      let v : m ≡ run B (formatSteps N B) s = e ∙ ap (λ y. run B y s) (steps-format N B s z) in
-      (settled [], formats refl (i ∙ rw (code-format N B s z)),
-        (size-finished N B s m format z e, rw v (record
-          { clean = d .0; table = agree-of (tableOf N B (run B (formatSteps N B) s)) [] (d .1); once = refl; bytes = format-bytes N B s z })))
+      let v : m ≡ run B (formatSteps N B) s = e ∙ ap (λ y. run B y s) (steps-format N B s z) in (
+        settled [],
+        formats refl (i ∙ rw (code-format N B s z)),
+        (
+          size-finished N B s m format z e,
+          rw v (record
+              { clean = d .0; table = agree-of (tableOf N B (run B (formatSteps N B) s)) [] (d .1); once = refl; bytes = format-bytes N B s z }),
+        ),
+      )
 
   -- ended, stopped at the allowance, or lost
   on-table : (s m : Image) (x : Promise) (r : Request) → OnTable r → Proper r → Invariant N B s x → (u : Seen) → Does N B r u s m → Follows N B (wears N B s) r u x m

@@ -65,6 +65,7 @@ case-of N B l x h = passed x ∙ go (isClean N B l) (isA N B l) (isB N B l) (isC
     passed caseB = unfold isCase in refl
     passed caseC = unfold isCase in refl
     passed caseD = unfold isCase in refl
+
     go : (p a b c d : Bool) → choice p a b c d ≡ unfinished x → pick x a b c d ≡ true
     go true a b c d e = cc
     go false true b c d e = let y : caseA ≡ x = cc in subst (λ w. pick w true b c d ≡ true) y refl
@@ -173,8 +174,10 @@ module _ (N B : ℕ) (s : Image) (x : Exception) (e : state N B s ≡ unfinished
   pub kept-clean : (u : Image) → segmentsOf N B u ≡ mended N (segmentsOf N B s) x → Kept N B s u
   unfolding state
   kept-clean u q =
-      clean-shows N B u (shown N B s) (ap (λ (y : List Segment). stateOf N B y) q ∙ mended-state,
-        agree-of (tableOf N B u) (shown N B s) (table-in N B u (mended N (segmentsOf N B s) x) q ∙ sym mended-shown))
+      clean-shows N B u (shown N B s) (
+        ap (λ (y : List Segment). stateOf N B y) q ∙ mended-state,
+        agree-of (tableOf N B u) (shown N B s) (table-in N B u (mended N (segmentsOf N B s) x) q ∙ sym mended-shown),
+      )
 
   pub done : Clean N B (recovered N B s)
   unfolding state
@@ -183,6 +186,7 @@ module _ (N B : ℕ) (s : Image) (x : Exception) (e : state N B s ≡ unfinished
 -- an image in the same case with the same mended segments shows the same
 pub kept-case : (N B : ℕ) (s u : Image) (x : Exception) → state N B s ≡ unfinished x → Mended N B s x → state N B u ≡ unfinished x → Mended N B u x
     → mended N (segmentsOf N B u) x ≡ mended N (segmentsOf N B s) x → SoundAs N B u (segmentsOf N B u) (unfinished x) → Kept N B s u
-kept-case N B s u x e m f n q h =
-    (subst (λ y. SoundAs N B u (segmentsOf N B u) y) (sym f) h
-    , agree-of (shown N B u) (shown N B s) (mended-shown N B u x f n ∙ (ap (λ y. entriesIn (viewOf N y)) q ∙ sym (mended-shown N B s x e m))))
+kept-case N B s u x e m f n q h = (
+  subst (λ y. SoundAs N B u (segmentsOf N B u) y) (sym f) h,
+  agree-of (shown N B u) (shown N B s) (mended-shown N B u x f n ∙ (ap (λ y. entriesIn (viewOf N y)) q ∙ sym (mended-shown N B s x e m))),
+)

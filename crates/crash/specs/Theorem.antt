@@ -30,15 +30,16 @@ module _ (N B : ℕ) where
       let d = put-done N B s z h b c y yc e in (d .0, rw (d .1) (after-table N B s z h b c y yc e))
 
   pub request-laws : RequestLaws N B
-  request-laws = record
-    { format-done = finished-format
-    ; put-done = finished-put
-    ; put-cut = put-cut N B
-    ; delete-done = λ s b z h a. finished-delete N B s b z h a
-    ; delete-cut = λ s u b z h a c. delete-cut N B s b z h a u c
-    ; read-done = read-done N B
-    ; recover-done = recover-done N B
-    ; recover-cut = recover-cut N B }
+  request-laws = record {
+    format-done = finished-format;
+    put-done = finished-put;
+    put-cut = put-cut N B;
+    delete-done = λ s b z h a. finished-delete N B s b z h a;
+    delete-cut = λ s u b z h a c. delete-cut N B s b z h a u c;
+    read-done = read-done N B;
+    recover-done = recover-done N B;
+    recover-cut = recover-cut N B;
+  }
 
 pub demand2 : Demand2
 demand2 = demand2-from (λ N B range. request-laws N B)

@@ -254,12 +254,12 @@ module _ (N B : ℕ) (s : Image) (v : View) (h : Held N B s v) (clean : CleanVie
         let x = slot-cut N B (size .two) s (size .whole) n j (top-segment .0) n (row empty) inside (top-segment .1) (writeSlot b c) (write-in-page b c (valid .short)) u k in
         let p = rw (empty-page N B (size .two) s (size .whole) n j (top-segment .0) n (row empty) inside (top-segment .1) (row-at empty)) at (x .1) in
         ⊎-elim
-          (λ e. let r = rw (held-table N B s v h) at (segments-show N B s u (clean-of-held N B s v h clean) ((rw e at (x .2)) ∙ changed-same)) in (r .0, inl (r .1)))
-          (λ q. ⊎-elim
-            (λ e. let r = torn-left u z (rw e at (x .2)) in (r .0, inl (r .1)))
-            (λ e. let r = live-left u z ((rw e at (x .2)) ∙ sym wrote-segments) in (r .0, inr (r .1)))
-            q)
-          (write-cut-kind B b c (x .0) valid p)
+        (λ e. let r = rw (held-table N B s v h) at (segments-show N B s u (clean-of-held N B s v h clean) ((rw e at (x .2)) ∙ changed-same)) in (r .0, inl (r .1)))
+        (λ q. ⊎-elim
+        (λ e. let r = torn-left u z (rw e at (x .2)) in (r .0, inl (r .1)))
+        (λ e. let r = live-left u z ((rw e at (x .2)) ∙ sym wrote-segments) in (r .0, inr (r .1)))
+        q)
+        (write-cut-kind B b c (x .0) valid p)
 
     mark-cut : (u : Image) → Cut B (markOld N B b v) wrote u → SoundWith N B u (entriesIn (putInto b c v))
     unfolding markOld

@@ -118,18 +118,34 @@ even N (suc e) h = go (even N e h)
         let sm = v .small in
         let m : e % N ≡ v .w = rw (v .split) (mul-add-mod-self-right (v .q) N (v .w) ∙ mod-eq-of-lt (v .small)) in
         ⊎-elim
-          (λ full. record { q = suc (v .q); w = 0; split = omega arith; small = h; low = λ i z. absurd (omega arith)
-                   ; high = λ i a b. elim (decLt i (v .w)) [ yes lt ↦ no-more N e i (v .w) m (λ p. omega arith) ∙ v .low i lt
-                                                          | no ge ↦ one-more N e i (v .w) m (omega arith) ∙ ap suc (v .high i (omega arith) b) ] })
-          (λ more. record { q = v .q; w = suc (v .w); split = omega arith; small = more
-                   ; low = λ i z. elim (decLt i (v .w)) [ yes lt ↦ no-more N e i (v .w) m (λ p. omega arith) ∙ v .low i lt
-                                                        | no ge ↦ one-more N e i (v .w) m (omega arith) ∙ ap suc (v .high i (omega arith) (omega arith)) ]
-                   ; high = λ i a b. no-more N e i (v .w) m (λ p. omega arith) ∙ v .high i (omega arith) b })
-          (eq-or-lt-of-le (v .small))
+        (λ full. record {
+          q = suc (v .q);
+          w = 0;
+          split = omega arith;
+          small = h;
+          low = λ i z. absurd (omega arith);
+          high = λ i a b. elim (decLt i (v .w)) [
+            | yes lt ↦ no-more N e i (v .w) m (λ p. omega arith) ∙ v .low i lt
+            | no ge ↦ one-more N e i (v .w) m (omega arith) ∙ ap suc (v .high i (omega arith) b)
+          ];
+        })
+        (λ more. record {
+          q = v .q;
+          w = suc (v .w);
+          split = omega arith;
+          small = more;
+          low = λ i z. elim (decLt i (v .w)) [
+            | yes lt ↦ no-more N e i (v .w) m (λ p. omega arith) ∙ v .low i lt
+            | no ge ↦ one-more N e i (v .w) m (omega arith) ∙ ap suc (v .high i (omega arith) (omega arith))
+          ];
+          high = λ i a b. no-more N e i (v .w) m (λ p. omega arith) ∙ v .high i (omega arith) b;
+        })
+        (eq-or-lt-of-le (v .small))
 
 pub balanced : (N e i j : ℕ) → i < N → j < N → erasesAt N e i ≤ suc (erasesAt N e j)
 balanced N e i j hi hj =
     let v = even N e (omega arith) in
-    elim (decLt i (v .w))
-      [ yes a ↦ elim (decLt j (v .w)) [ yes b ↦ omega (arith, v .low i a, v .low j b) | no b ↦ omega (arith, v .low i a, v .high j (omega arith) hj) ]
-      | no a ↦ elim (decLt j (v .w)) [ yes b ↦ omega (arith, v .high i (omega arith) hi, v .low j b) | no b ↦ omega (arith, v .high i (omega arith) hi, v .high j (omega arith) hj) ] ]
+    elim (decLt i (v .w)) [
+      | yes a ↦ elim (decLt j (v .w)) [ yes b ↦ omega (arith, v .low i a, v .low j b) | no b ↦ omega (arith, v .low i a, v .high j (omega arith) hj) ]
+      | no a ↦ elim (decLt j (v .w)) [ yes b ↦ omega (arith, v .high i (omega arith) hi, v .low j b) | no b ↦ omega (arith, v .high i (omega arith) hi, v .high j (omega arith) hj) ]
+    ]

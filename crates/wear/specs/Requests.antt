@@ -51,11 +51,12 @@ tracks-balanced N B v t h = λ i j hi hj. rw (h .inTurn) (omega (arith, balanced
 module _ (N B : ℕ) where
   pub tracks-start : 2 ≤ N → Tracks N B (fresh B) start
   unfolding start fresh turns
-  tracks-start h = record
-    { inTurn = refl
-    ; stored = rw (fresh-table B) stored-none
-    ; most = omega arith
-    ; paid = record { k = 0; p = 0; boundary = omega arith; part = omega arith; paid = omega (arith, drop-behind 0 [] (replicate B empty) (rw (copied-none B) (copied-dead B [])), deads-behind []) } }
+  tracks-start h = record {
+    inTurn = refl;
+    stored = rw (fresh-table B) stored-none;
+    most = omega arith;
+    paid = record { k = 0; p = 0; boundary = omega arith; part = omega arith; paid = omega (arith, drop-behind 0 [] (replicate B empty) (rw (copied-none B) (copied-dead B [])), deads-behind []) };
+  }
 
   -- the blocks stored, m replaced more, these erases
   counted : List ℕ → ℕ → List ℕ → Tally → Tally
@@ -64,11 +65,12 @@ module _ (N B : ℕ) where
   tracks-counted : (v : View) (t : Tally) (xs : List ℕ) (m : ℕ) (es : List ℕ) → t .erased ++ es ≡ turns N (v .first) → Stored xs (entriesIn v)
       → Paid (N - 1) ((N - 1) * B - t .largest) (v .first) (v .slots) (t .replaced + m) → Tracks N B v (counted xs m es t)
   unfolding counted
-  tracks-counted v t xs m es e s p = record
-    { inTurn = e
-    ; stored = s
-    ; most = omega arith
-    ; paid = paid-after ((N - 1) * B - max (t .largest) (length xs)) (t .replaced + m) 0 (v .slots) (omega arith) (omega arith) (λ p. omega arith) p }
+  tracks-counted v t xs m es e s p = record {
+    inTurn = e;
+    stored = s;
+    most = omega arith;
+    paid = paid-after ((N - 1) * B - max (t .largest) (length xs)) (t .replaced + m) 0 (v .slots) (omega arith) (omega arith) (λ p. omega arith) p;
+  }
 
   -- a request that erases nothing and neither stores nor removes a block
   pub tracks-still : (v : View) (t : Tally) (o : Observed) → Tracks N B v t → o .erases ≡ []
@@ -79,7 +81,7 @@ module _ (N B : ℕ) where
   tracks-still v t o h e s r =
       let p = h .paid in
       rw (e, s, r) (tracks-counted v t (t .stored) 0 [] (append-nil (t .erased) ∙ h .inTurn) (h .stored)
-        (paid-after ((N - 1) * B - t .largest) (t .replaced + 0) 0 (v .slots) (omega arith) (omega arith) (λ q. omega arith) p))
+      (paid-after ((N - 1) * B - t .largest) (t .replaced + 0) 0 (v .slots) (omega arith) (omega arith) (λ q. omega arith) p))
 
   -- a slot marked dead, and one written
   paid-marked : {X E R : ℕ} (S : ℕ) (p : Place) (v : View) → R + 1 ≤ S → Paid (N - 1) X E (v .slots) R → Paid (N - 1) X E (marked p v .slots) S

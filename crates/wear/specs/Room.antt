@@ -49,8 +49,13 @@ module _ (n B L R : ℕ) where
           → Good (suc E) (drop 1 l ++ (copied B (entries (getD l 0 [])) ∷ []))
       go p [] len full b h d = absurd (omega arith)
       go (suc p) (s ∷ r) len full b h d = record { k = v .k; p = p; boundary = omega arith; part = omega arith; paid = omega (arith, drop-behind p r (copied B (entries s)) (copied-dead B (entries s))) }
-      go zero (s ∷ r) len full b h d = record { k = suc (v .k); p = length r; boundary = omega arith; part = omega arith
-          ; paid = omega (arith, drop-behind (length r) r (copied B (entries s)) (copied-dead B (entries s)), deads-behind r) }
+      go zero (s ∷ r) len full b h d = record {
+        k = suc (v .k);
+        p = length r;
+        boundary = omega arith;
+        part = omega arith;
+        paid = omega (arith, drop-behind (length r) r (copied B (entries s)) (copied-dead B (entries s)), deads-behind r);
+      }
 
 -- what making room, by these steps, does to a view
 pub record Moved (N B L R most : ℕ) (v : View) (r : Room) : Type 0 where
@@ -76,9 +81,11 @@ module _ (N B L R : ℕ) where
   unfolding compactOldest turns
   again most v more m =
       let one = compact-one N B (v .first) (suc (topNumber v)) (entries (getD (v .slots) 0 [])) in
-      record { inTurn = simp (erases-append, one) (sym (append-assoc (turns N (v .first)) (v .first % N ∷ []) (erasesIn (more .steps))) ∙ m .inTurn)
-             ; few = simp (erases-append, one) (omega (arith, m .few))
-             ; paid = m .paid }
+      record {
+        inTurn = simp (erases-append, one) (sym (append-assoc (turns N (v .first)) (v .first % N ∷ []) (erasesIn (more .steps))) ∙ m .inTurn);
+        few = simp (erases-append, one) (omega (arith, m .few));
+        paid = m .paid;
+      }
 
   -- N-1 segments in use, and at most L slots live
   record Ready (v : View) : Type 0 where
@@ -94,11 +101,12 @@ module _ (N B L R : ℕ) where
   ready-after : (v : View) → hasRoom v ≡ false → Ready v → Ready (oldest v .result)
   ready-after v full h =
       let t = tidied N B v (h .clean) full in
-      let c : length (entriesIn v) + deads (v .slots) ≡ (N - 1) * B = rw (h .all) at (full-view (h .clean) full) in record
-      { clean = t .clean
-      ; all = compacted-rows N B v (h .clean .some) ∙ h .all
-      ; few = omega (arith, t .size, h .few)
-      ; paid = paid-oldest v (h .all) (omega (arith, c, h .few)) (h .paid) }
+      let c : length (entriesIn v) + deads (v .slots) ≡ (N - 1) * B = rw (h .all) at (full-view (h .clean) full) in record {
+        clean = t .clean;
+        all = compacted-rows N B v (h .clean .some) ∙ h .all;
+        few = omega (arith, t .size, h .few);
+        paid = paid-oldest v (h .all) (omega (arith, c, h .few)) (h .paid);
+      }
 
   series-moved : (most : ℕ) (v : View) → Ready v → Moved N B L R most v (compactUntilRoom N B most v)
   series-moved zero v h = unfold compactUntilRoom in unmoved 0 v (h .paid)

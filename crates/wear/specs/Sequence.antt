@@ -33,7 +33,6 @@ pub record Sequenced (N B : ℕ) (s : Image) (t : Tally) : Type 0 where
   pub tracks : Tracks N B (view N B s) t
 
 module _ (N B : ℕ) where
-
   -- a call kept the image clean and the count with it, and did not erase too often
   abbrev Kept : Image → Tally → Call → Type 0
   Kept s t x = Sequenced N B (outcomeOf N B s (x .allowance) (x .request) .image) (tallied (observe N B s x) t) × (length (observe N B s x .erases) ≤ N - 1)
@@ -41,17 +40,20 @@ module _ (N B : ℕ) where
   -- a call by its work, all of it done
   kept : (s : Image) (t : Tally) (x : Call) → Sequenced N B s t → Ends N B s (x .allowance) (x .request)
       → let w = workOf N B s (x .request) in
-        state N B (run B (w .steps) s) ≡ clean
+      state N B (run B (w .steps) s) ≡ clean
       → Tracks N B (view N B (run B (w .steps) s)) (tallied (record { request = x .request; code = w .code; erases = erasesIn (w .steps) }) t)
       → length (erasesIn (w .steps)) ≤ N - 1
       → Kept s t x
   unfolding observe
-  kept s t x g f c k few =
-      ( record { size = rw (f .image) (run-size N B (workOf N B s (x .request) .steps) s ∙ g .size)
-        ; bytes = rw (f .image) (run-bytes B (workOf N B s (x .request) .steps) s (g .bytes))
-        ; clean = rw (f .image) c
-        ; tracks = rw (f .image, f .code) k }
-      , few )
+  kept s t x g f c k few = (
+    record {
+      size = rw (f .image) (run-size N B (workOf N B s (x .request) .steps) s ∙ g .size);
+      bytes = rw (f .image) (run-bytes B (workOf N B s (x .request) .steps) s (g .bytes));
+      clean = rw (f .image) c;
+      tracks = rw (f .image, f .code) k;
+    },
+    few,
+  )
 
   -- one that takes no step, and neither stores nor removes a block
   still : (s : Image) (t : Tally) (x : Call) → Sequenced N B s t → Ends N B s (x .allowance) (x .request) → workOf N B s (x .request) .steps ≡ []
@@ -72,8 +74,8 @@ module _ (N B : ℕ) where
       let cv = clean-view N B s (g .size) (g .clean) in
       let size = size-facts N B s (g .size) in
       kept s t (record { request = put b c; allowance = allowance }) g f (d .0)
-        (rw (d .1, e, a .0) (tracks-put N B (size .two) (size .slots) (view N B s) t b c cv (g .tracks)))
-        (rw (a .0) (put-few N B (view N B s) t b c cv (g .tracks)))
+      (rw (d .1, e, a .0) (tracks-put N B (size .two) (size .slots) (view N B s) t b c cv (g .tracks)))
+      (rw (a .0) (put-few N B (view N B s) t b c cv (g .tracks)))
 
   done-delete : (s : Image) (t : Tally) (b allowance : ℕ) → Sequenced N B s t → Ends N B s allowance (delete b) → workOf N B s (delete b) .code ≡ 0
       → Kept s t (record { request = delete b; allowance = allowance })
@@ -83,8 +85,8 @@ module _ (N B : ℕ) where
       let d = delete-done N B s (g .size) (g .clean) b e in
       let cv = clean-view N B s (g .size) (g .clean) in
       kept s t (record { request = delete b; allowance = allowance }) g f (d .0)
-        (rw (d .1, e, a .0) (tracks-delete N B (view N B s) t b cv (delete-passed N B s b (a .1)) (g .tracks)))
-        (rw (a .0, delete-none N B b (view N B s)) (omega arith))
+      (rw (d .1, e, a .0) (tracks-delete N B (view N B s) t b cv (delete-passed N B s b (a .1)) (g .tracks)))
+      (rw (a .0, delete-none N B b (view N B s)) (omega arith))
 
   -- refused, or done
   decided : (s : Image) (t : Tally) (x : Call) → Sequenced N B s t → Ends N B s (x .allowance) (x .request) → (workOf N B s (x .request) .code ≡ 0 → Kept s t x) → Kept s t x
@@ -162,7 +164,7 @@ module _ (N B : ℕ) where
 pub all-kept : (N B : ℕ) (s : Image) (allowance : ℕ) (xs : List Call) → outcomeOf N B s allowance format .code ≡ 0
     → Uncut (observed N B (outcomeOf N B s allowance format .image) xs)
     → FewErases N (observed N B (outcomeOf N B s allowance format .image) xs)
-      × ((k : ℕ) → Sequenced N B (play N B (outcomeOf N B s allowance format .image) (take k xs)) (tally (take k (observed N B (outcomeOf N B s allowance format .image) xs)) start))
+    × ((k : ℕ) → Sequenced N B (play N B (outcomeOf N B s allowance format .image) (take k xs)) (tally (take k (observed N B (outcomeOf N B s allowance format .image) xs)) start))
 all-kept N B s allowance xs e u =
     sequence N B (outcomeOf N B s allowance format .image) start xs (formatted N B s allowance e) u
 

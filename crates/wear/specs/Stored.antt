@@ -119,9 +119,12 @@ stored-none = record { same = λ b. refl; once = tt }
 
 pub stored-length : (xs : List ℕ) (t : Table) → Stored xs t → distinct t ≡ true → length xs ≡ length t
 stored-length xs t s d =
-    omega (arith, blocks-length t
-          , no-more xs (blocks t) (s .once) (λ a m. sym (s .same a ∙ holds-blocks a t) ∙ m)
-          , no-more (blocks t) xs (blocks-distinct t d) (λ a m. s .same a ∙ holds-blocks a t ∙ m))
+    omega (
+      arith,
+      blocks-length t,
+      no-more xs (blocks t) (s .once) (λ a m. sym (s .same a ∙ holds-blocks a t) ∙ m),
+      no-more (blocks t) xs (blocks-distinct t d) (λ a m. s .same a ∙ holds-blocks a t ∙ m),
+    )
 
 same-without : (xs : List ℕ) (t : Table) → Stored xs t → (b a : ℕ) → among a (removed b xs) ≡ holds a (without b t)
 same-without xs t s b a =
@@ -134,5 +137,7 @@ stored-delete xs t u b s h = record { same = λ a. same-without xs t s b a ∙ s
 pub stored-put : (xs : List ℕ) (t u : Table) (b : ℕ) (c : List ℕ) → Stored xs t → Agree u (store b c t) → Stored (inserted b xs) u
 unfolding inserted store among holds
 stored-put xs t u b c s h =
-    record { same = λ a. ap (λ y. eqb a b || y) (same-without xs t s b a) ∙ sym (agree-holds u (store b c t) h a)
-           ; once = inserted-distinct b xs (s .once) }
+    record {
+      same = λ a. ap (λ y. eqb a b || y) (same-without xs t s b a) ∙ sym (agree-holds u (store b c t) h a);
+      once = inserted-distinct b xs (s .once);
+    }

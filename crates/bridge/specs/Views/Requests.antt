@@ -30,18 +30,22 @@ stored N B b c r k h = go (holds b (entriesIn r)) refl
   where
     g : TopGap r
     g = shape-gap (clean-shape k) h
+
     s : Shape N B (written b c r)
     s = written-shape b c (clean-shape k) g
+
     e : entriesIn (written b c r) ≡ entriesIn r ++ (record { block = b; contents = c } ∷ [])
     e = written-entries b c r g
+
     go : (t : Bool) → holds b (entriesIn r) ≡ t → Stored N B b c r (cond t (marked (placeOf b r) (written b c r)) (written b c r))
     go true p =
         let q : holds b (entriesIn (written b c r)) ≡ true = written-holds b c r g p in
         let f : FirstLive b (written b c r .first) (written b c r .slots) = first-live-in b (written b c r) q in
-        rw (← (written-place b b c r g p)) (record
-          { shape = marked-shape b s f
-          ; entries = marked-entries b (written b c r) f
-              ∙ rw (e, without-first-append b (entriesIn r) (record { block = b; contents = c } ∷ []) p, without-first b (entriesIn r) (clean-distinct k)) })
+        rw (← (written-place b b c r g p)) (record {
+          shape = marked-shape b s f;
+          entries = marked-entries b (written b c r) f
+              ∙ rw (e, without-first-append b (entriesIn r) (record { block = b; contents = c } ∷ []) p, without-first b (entriesIn r) (clean-distinct k));
+        })
     go false p = record { shape = s; entries = e ∙ rw (without-absent b (entriesIn r) p) }
 
 -- ---- the requests
@@ -57,7 +61,7 @@ module _ (N B : ℕ) (n : 2 ≤ N) (m : 2 ≤ B) where
       let s = put-stored v b c k in
       let d = clean-distinct (r .clean) in
       shape-clean (s .shape) (ap distinct (s .entries) ∙ stored-last-distinct b c (entriesIn (roomFor N B v .result)) d)
-        (within (roomFor N B v .result) r (holds b (entriesIn v)) refl f (ap length (s .entries) ∙ stored-last-length b c (entriesIn (roomFor N B v .result)) d))
+      (within (roomFor N B v .result) r (holds b (entriesIn v)) refl f (ap length (s .entries) ∙ stored-last-length b c (entriesIn (roomFor N B v .result)) d))
     where
       within : (w : View) → Made N B v w (newNumbers N v) → (t : Bool) → holds b (entriesIn v) ≡ t → (t || ltb (length (entriesIn v)) (capacity N B)) ≡ true
           → length (entriesIn (afterPut N B b c v)) ≡ cond (holds b (entriesIn w)) (length (entriesIn w)) (suc (length (entriesIn w))) → length (entriesIn (afterPut N B b c v)) ≤ capacity N B
@@ -89,7 +93,7 @@ module _ (N B : ℕ) where
       let e = deleted-entries v b k h in
       let d = clean-distinct k in
       shape-clean (marked-shape b (clean-shape k) (first-live-in b v h)) (ap distinct e ∙ distinct-without b (entriesIn v) d)
-        (omega (arith, ap length e, without-length b (entriesIn v) d h, clean-within k))
+      (omega (arith, ap length e, without-length b (entriesIn v) d h, clean-within k))
 
   pub delete-removes : (v : View) (b : ℕ) → CleanView N B v → holds b (entriesIn v) ≡ true → Agree (entriesIn (afterDelete b v)) (without b (entriesIn v))
   delete-removes v b k h a = ap (lookup a) (deleted-entries v b k h)

@@ -77,33 +77,39 @@ module _ (N B : ℕ) where
       go : (n : ℕ) (l : List (List Slot)) → CleanView N B (record { first = n; slots = l }) → hasRoom (record { first = n; slots = l }) ≡ false
           → Tidied N B (record { first = n; slots = l }) (compactOldest N B (record { first = n; slots = l }) .result)
       go n [] c h = absurd (omega (arith, c .some))
-      go n (s ∷ l) c h = record
-          { clean = shape-clean (tidied-shape (clean-shape c) h) (ap distinct now ∙ distinct-swap (entries s) (entries (flatten l)) was)
-              (omega (arith, ap length now, length-append (entries (flatten l)) (entries s), counted, clean-within c))
-          ; table = λ b. ap (lookup b) now ∙ (agree-swap (entries s) (entries (flatten l)) was b ∙ ap (lookup b) (sym (entries-append s (flatten l))))
-          ; size = omega (arith, ap length now, length-append (entries (flatten l)) (entries s), counted)
-          ; number = ap topNumber (tidied-view N B n s l) ∙ (added-top B (suc n) l (entries s) ∙ omega arith)
-          ; done = λ p. rw (not-true (noneDead s) (sym room ∙ p))
-          ; further = λ p q. later (not-false (noneDead s) (sym room ∙ p)) (sym (all-append (λ k. not (isDead k)) s (flatten l)) ∙ q) }
+      go n (s ∷ l) c h = record {
+        clean = shape-clean (tidied-shape (clean-shape c) h) (ap distinct now ∙ distinct-swap (entries s) (entries (flatten l)) was)
+            (omega (arith, ap length now, length-append (entries (flatten l)) (entries s), counted, clean-within c));
+        table = λ b. ap (lookup b) now ∙ (agree-swap (entries s) (entries (flatten l)) was b ∙ ap (lookup b) (sym (entries-append s (flatten l))));
+        size = omega (arith, ap length now, length-append (entries (flatten l)) (entries s), counted);
+        number = ap topNumber (tidied-view N B n s l) ∙ (added-top B (suc n) l (entries s) ∙ omega arith);
+        done = λ p. rw (not-true (noneDead s) (sym room ∙ p));
+        further = λ p q. later (not-false (noneDead s) (sym room ∙ p)) (sym (all-append (λ k. not (isDead k)) s (flatten l)) ∙ q);
+      }
         where
           now : entriesIn (compactOldest N B (record { first = n; slots = s ∷ l }) .result) ≡ entries (flatten l) ++ entries s
           now = ap entriesIn (tidied-view N B n s l) ∙ added-entries B (suc n) l (entries s)
+
           was : distinct (entries s ++ entries (flatten l)) ≡ true
           was = ap distinct (sym (entries-append s (flatten l))) ∙ clean-distinct c
+
           counted : length (entries (s ++ flatten l)) ≡ length (entries s) + length (entries (flatten l))
           counted = ap length (entries-append s (flatten l)) ∙ length-append (entries s) (entries (flatten l))
+
           room : hasRoom (compactOldest N B (record { first = n; slots = s ∷ l }) .result) ≡ not (noneDead s)
           room = ap hasRoom (tidied-view N B n s l) ∙ (added-room B (suc n) l (entries s)
               ∙ row-room B s (c .rows .0) (all-parts (λ k. not (isWrong k || isTorn k)) s (flatten l) (c .sound) .0)
-                  (and-eq-true-iff (full s) (all (λ x. full x) l) .0 (all-full (clean-shape c) h) .0))
+              (and-eq-true-iff (full s) (all (λ x. full x) l) .0 (all-full (clean-shape c) h) .0))
+
           later : noneDead s ≡ true → (noneDead s && noneDead (flatten l)) ≡ false
               → (noneDead (flatten (compactOldest N B (record { first = n; slots = s ∷ l }) .result .slots)) ≡ false)
               × (cond (noneDead s) (suc (compactions l)) 1 ≡ suc (compactions (compactOldest N B (record { first = n; slots = s ∷ l }) .result .slots)))
           later e q =
               let d : noneDead (flatten l) ≡ false = rw e at q in
-              let z : compactOldest N B (record { first = n; slots = s ∷ l }) .result .slots ≡ l ++ (copied B (entries s) ∷ []) = ap (λ y. y .slots) (tidied-view N B n s l) in
-              ( rw (z, flatten-last l (copied B (entries s)), all-append (λ k. not (isDead k)) (flatten l) (copied B (entries s)), d)
-              , rw (z, e, compactions-append l (copied B (entries s) ∷ []) d) )
+              let z : compactOldest N B (record { first = n; slots = s ∷ l }) .result .slots ≡ l ++ (copied B (entries s) ∷ []) = ap (λ y. y .slots) (tidied-view N B n s l) in (
+                rw (z, flatten-last l (copied B (entries s)), all-append (λ k. not (isDead k)) (flatten l) (copied B (entries s)), d),
+                rw (z, e, compactions-append l (copied B (entries s) ∷ []) d),
+              )
 
   -- ---- as many as it takes
 
@@ -175,11 +181,13 @@ room-made N B n m v c = go (hasRoom v) (ltb (length (v .slots)) (N - 1)) refl re
     go false true e f =
         let k = ltb-true (length (v .slots)) (N - 1) f in
         let x = opened-entries N B v in
-        record { clean = opened-clean c e k
-          ; room = opened-room N B v (omega arith)
-          ; table = λ b. ap (lookup b) x
-          ; size = ap length x
-          ; number = opened-top N B v (c .some) ∙ omega arith }
+        record {
+          clean = opened-clean c e k;
+          room = opened-room N B v (omega arith);
+          table = λ b. ap (lookup b) x;
+          size = ap length x;
+          number = opened-top N B v (c .some) ∙ omega arith;
+        }
     go false false e f =
         let k = ltb-false (length (v .slots)) (N - 1) f in
         room-after-tidying N B (N - 1) v c e (some-dead N B n m v c e k) (omega (arith, compactions-length (v .slots), c .spare))

@@ -30,8 +30,15 @@ clean-shape c = record { some = c .some; spare = c .spare; rows = c .rows; sound
 -- conditions 6 and 8 look at the entries alone
 pub shape-clean : {N B : ℕ} {v : View} → Shape N B v → distinct (entriesIn v) ≡ true → length (entriesIn v) ≤ capacity N B → CleanView N B v
 unfolding blocksDistinct withinCapacity
-shape-clean {N} {B} {v} s d h = record { some = s .some; spare = s .spare; rows = s .rows; sound = s .sound; once = d; last = s .last
-    ; within = le-leb (length (entriesIn v)) (capacity N B) h }
+shape-clean {N} {B} {v} s d h = record {
+  some = s .some;
+  spare = s .spare;
+  rows = s .rows;
+  sound = s .sound;
+  once = d;
+  last = s .last;
+  within = le-leb (length (entriesIn v)) (capacity N B) h;
+}
 
 pub clean-distinct : {N B : ℕ} {v : View} → CleanView N B v → distinct (entriesIn v) ≡ true
 unfolding blocksDistinct
@@ -49,10 +56,13 @@ changed-shape : (N B : ℕ) (v : View) (g : Gap) (k m : Slot) → v .slots ≡ f
 unfolding noneWrongOrTorn emptySlotsLast
 changed-shape N B v g k m h p e s =
     let n : length (v .slots) ≡ length (fill g m) = ap length h ∙ (fill-length g k ∙ sym (fill-length g m)) in
-    record { some = rw (← n) (s .some); spare = rw (← n) (s .spare)
-      ; rows = fill-rows B g k m (rw h at (s .rows))
-      ; sound = fill-all (λ x. not (isWrong x || isTorn x)) g k m p (rw h at (s .sound))
-      ; last = e }
+    record {
+      some = rw (← n) (s .some);
+      spare = rw (← n) (s .spare);
+      rows = fill-rows B g k m (rw h at (s .rows));
+      sound = fill-all (λ x. not (isWrong x || isTorn x)) g k m p (rw h at (s .sound));
+      last = e;
+    }
 
 -- a sound slot at the top's first empty place
 pub filled-shape : {N B : ℕ} {v : View} (k : Slot) → not (isWrong k || isTorn k) ≡ true → isEmpty k ≡ false → Shape N B v → (g : TopGap v) → Shape N B (record { first = v .first; slots = fill (g .gap) k })
@@ -89,10 +99,13 @@ pub added-shape : (N B n : ℕ) (l : List (List Slot)) (es : List Entry) → suc
 unfolding noneWrongOrTorn emptySlotsLast rowAdded
 added-shape N B n l es m r s f h =
     let k = length-append l (copied B es ∷ []) in
-    record { some = omega arith; spare = omega arith
-      ; rows = rows-append B l (copied B es ∷ []) r (copied-length B es h, tt)
-      ; sound = rw (flatten-last l (copied B es)) (all-join (λ x. not (isWrong x || isTorn x)) (flatten l) (copied B es) s (copied-sound B es))
-      ; last = rw (only-top-empty l (copied B es), f) (copied-empty-last B es) }
+    record {
+      some = omega arith;
+      spare = omega arith;
+      rows = rows-append B l (copied B es ∷ []) r (copied-length B es h, tt);
+      sound = rw (flatten-last l (copied B es)) (all-join (λ x. not (isWrong x || isTorn x)) (flatten l) (copied B es) s (copied-sound B es));
+      last = rw (only-top-empty l (copied B es), f) (copied-empty-last B es);
+    }
 
 pub added-entries : (B n : ℕ) (l : List (List Slot)) (es : List Entry) → entriesIn (rowAdded B n l es) ≡ entries (flatten l) ++ es
 unfolding entriesIn rowAdded

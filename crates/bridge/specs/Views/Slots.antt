@@ -109,8 +109,15 @@ first-empty [] h f = absurd (true≢false f)
 first-empty (k ∷ s) h f = go k h f (λ p q. first-empty s p q)
   where
     next : (k : Slot) → isEmpty k ≡ false → FirstEmpty s → FirstEmpty (k ∷ s)
-    next k e r = record { left = k ∷ r .left; right = r .right; split = ap {B = List Slot} (λ y. k ∷ y) (r .split)
-      ; place = rw (e, r .place); fullLeft = rw (e, r .fullLeft); emptyRight = r .emptyRight }
+    next k e r = record {
+      left = k ∷ r .left;
+      right = r .right;
+      split = ap {B = List Slot} (λ y. k ∷ y) (r .split);
+      place = rw (e, r .place);
+      fullLeft = rw (e, r .fullLeft);
+      emptyRight = r .emptyRight;
+    }
+
     go : (k : Slot) → emptyLast (k ∷ s) ≡ true → full (k ∷ s) ≡ false → (emptyLast s ≡ true → full s ≡ false → FirstEmpty s) → FirstEmpty (k ∷ s)
     go empty p q ih = record { left = []; right = s; split = refl; place = refl; fullLeft = refl; emptyRight = p }
     go torn p q ih = next torn refl (ih p q)

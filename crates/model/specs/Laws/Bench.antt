@@ -44,10 +44,11 @@ formattedPages : ℕ → ℕ → List Page
 formattedPages N B = playPages N B (replicate (N * (B + 1)) (replicate 256 0)) (whole format ∷ [])
 
 benchPages : Bench
-benchPages = record
-  { pages = λ N B xs. playPages N B (formattedPages N B) xs
-  ; work = λ N B xs r. workPages N B (playPages N B (formattedPages N B) xs) r
-  ; seen = λ N B xs. seenPages N B (formattedPages N B) xs }
+benchPages = record {
+  pages = λ N B xs. playPages N B (formattedPages N B) xs;
+  work = λ N B xs r. workPages N B (playPages N B (formattedPages N B) xs) r;
+  seen = λ N B xs. seenPages N B (formattedPages N B) xs;
+}
 
 computed : failing benchPages 0 examples ≡ []
 unfolding evaluate workPages playPages seenPages formattedPages benchPages
@@ -91,7 +92,7 @@ seen-pages N B [] s h = refl
 seen-pages N B (x ∷ xs) s h =
     ap₂ {C = List Observed} (λ y ys. y ∷ ys) (observe-pages N B s x h)
     (seen-pages N B xs (outcomeOf N B s (x .allowance) (x .request) .image) (outcome-length N B s (x .allowance) (x .request) h)
-      ∙ ap (λ y. seenPages N B y xs) (outcome-pages N B s x h))
+    ∙ ap (λ y. seenPages N B y xs) (outcome-pages N B s x h))
 
 zeros : ℕ → ℕ → Image
 zeros N B = replicate (imageLength N B) 0

@@ -74,9 +74,10 @@ allBelow f (suc n) = f n && allBelow f n
 below : (f : ℕ → Bool) (n : ℕ) → allBelow f n ≡ true → (x : ℕ) → x < n → f x ≡ true
 unfolding allBelow
 below f zero t x h = absurd (omega arith)
-below f (suc n) t x h = elim (decLt x n)
-  [ yes l ↦ below f n (and-right (f n) (allBelow f n) t) x l
-  | no g ↦ (let e : n ≡ x = omega arith in rw (← e) (and-left (f n) (allBelow f n) t)) ]
+below f (suc n) t x h = elim (decLt x n) [
+  | yes l ↦ below f n (and-right (f n) (allBelow f n) t) x l
+  | no g ↦ (let e : n ≡ x = omega arith in rw (← e) (and-left (f n) (allBelow f n) t))
+]
 
 endsOnly : ℕ → ℕ → ℕ → Bool
 endsOnly lo hi x = not (eqb (clear lo x) lo && eqb (clear x hi) x) || (eqb x lo || eqb x hi)

@@ -114,9 +114,10 @@ unfolding rightSize inRange leastSegments leastSlots mostSlots
 size-facts N B s z =
     let a = and-left (inRange N B) (eqb (length s) (imageLength N B)) z in
     let b = and-right (leb 2 N) (leb N mostSegments && (leb 2 B && leb B 255)) a in
-    let c = and-right (leb N mostSegments) (leb 2 B && leb B 255) b in record
-    { two = leb-true 2 N (and-left (leb 2 N) (leb N mostSegments && (leb 2 B && leb B 255)) a)
-    ; most = leb-true N mostSegments (and-left (leb N mostSegments) (leb 2 B && leb B 255) b)
-    ; slots = leb-true 2 B (and-left (leb 2 B) (leb B 255) c)
-    ; mostB = omega (arith, leb-true B 255 (and-right (leb 2 B) (leb B 255) c))
-    ; whole = eqb-true (length s) (imageLength N B) (and-right (inRange N B) (eqb (length s) (imageLength N B)) z) }
+    let c = and-right (leb N mostSegments) (leb 2 B && leb B 255) b in record {
+      two = leb-true 2 N (and-left (leb 2 N) (leb N mostSegments && (leb 2 B && leb B 255)) a);
+      most = leb-true N mostSegments (and-left (leb N mostSegments) (leb 2 B && leb B 255) b);
+      slots = leb-true 2 B (and-left (leb 2 B) (leb B 255) c);
+      mostB = omega (arith, leb-true B 255 (and-right (leb 2 B) (leb B 255) c));
+      whole = eqb-true (length s) (imageLength N B) (and-right (inRange N B) (eqb (length s) (imageLength N B)) z);
+    }

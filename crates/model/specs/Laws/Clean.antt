@@ -37,21 +37,23 @@ condition N B l i h b = all-get (λ t. t) (conditions N B l) i true h (unfold co
 pub clean-ring : (N B : ℕ) (l : List Segment) → length l ≡ N → isClean N B l ≡ true → RingFacts N l
 unfolding conditions someInUse consecutive
 clean-ring N B l e h =
-    let one : someInUse N l ≡ true = condition N B l 0 h (omega arith) in record
-    { size = e
-    ; some = leb-true 1 (usedCount l) (and-left (leb 1 (usedCount l)) (leb (usedCount l) (N - 1)) one)
-    ; spare = leb-true (usedCount l) (N - 1) (and-right (leb 1 (usedCount l)) (leb (usedCount l) (N - 1)) one)
-    ; chain = condition N B l 1 h (omega arith)
-    ; paid = condition N B l 2 h (omega arith)
-    ; others = condition N B l 3 h (omega arith) }
+    let one : someInUse N l ≡ true = condition N B l 0 h (omega arith) in record {
+      size = e;
+      some = leb-true 1 (usedCount l) (and-left (leb 1 (usedCount l)) (leb (usedCount l) (N - 1)) one);
+      spare = leb-true (usedCount l) (N - 1) (and-right (leb 1 (usedCount l)) (leb (usedCount l) (N - 1)) one);
+      chain = condition N B l 1 h (omega arith);
+      paid = condition N B l 2 h (omega arith);
+      others = condition N B l 3 h (omega arith);
+    }
 
 pub clean-slots : (N B : ℕ) (l : List Segment) → isClean N B l ≡ true → SlotFacts N B (viewOf N l)
 unfolding conditions
-clean-slots N B l h = record
-  { sound = condition N B l 4 h (omega arith)
-  ; once = condition N B l 5 h (omega arith)
-  ; last = condition N B l 6 h (omega arith)
-  ; within = condition N B l 7 h (omega arith) }
+clean-slots N B l h = record {
+  sound = condition N B l 4 h (omega arith);
+  once = condition N B l 5 h (omega arith);
+  last = condition N B l 6 h (omega arith);
+  within = condition N B l 7 h (omega arith);
+}
 
 -- and together again
 pub ring-clean : (N B : ℕ) (l : List Segment) → RingFacts N l → SlotFacts N B (viewOf N l) → isClean N B l ≡ true

@@ -49,7 +49,7 @@ entry-slots (x ∷ es) (q ∷ qs) (suc c) v e h =
     let d : suc c - suc (length es) ≡ c - length es = omega arith in
     let r : map slotOf qs ≡ replicate c empty = ap (λ (y : List Slot). drop 1 y) e in
     rw d (ap (λ y. map slotOf y) (sets-cons (slotPage (x .block) (x .contents)) qs 0 (entryPages es))
-      ∙ ap₂ {C = List Slot} (λ a b. a ∷ b) (slot-live (x .block) (x .contents) (v .0 .number) (v .0 .short)) (entry-slots es qs c (v .1) r (omega arith)))
+    ∙ ap₂ {C = List Slot} (λ a b. a ∷ b) (slot-live (x .block) (x .contents) (v .0 .number) (v .0 .short)) (entry-slots es qs c (v .1) r (omega arith)))
 
 -- ---- the copying
 
@@ -75,12 +75,12 @@ module _ (N B : ℕ) (two : 2 ≤ N) (n : ℕ) where
       let t = run B xs s in
       let page = slotPage (x .block) (x .contents) in
       let here : partOf N B i t ≡ set (partOf N B i s) (suc j) page =
-            part-run N B i (suc j) target (omega arith) (writeSlot (x .block) (x .contents)) (write-in-page (x .block) (x .contents) (v .0 .short)) s z
-            ∙ ap (λ (y : Page). set (partOf N B i s) (suc j) y)
-              (ap (λ (y : Page). run B (writeSlot (x .block) (x .contents)) y) (e (suc j) (omega arith) (omega arith)) ∙ write-run B (x .block) (x .contents) (v .0)) in
+      part-run N B i (suc j) target (omega arith) (writeSlot (x .block) (x .contents)) (write-in-page (x .block) (x .contents) (v .0 .short)) s z
+      ∙ ap (λ (y : Page). set (partOf N B i s) (suc j) y)
+      (ap (λ (y : Page). run B (writeSlot (x .block) (x .contents)) y) (e (suc j) (omega arith) (omega arith)) ∙ write-run B (x .block) (x .contents) (v .0)) in
       ap (λ y. partOf N B i y) (run-append B xs (copyEntries N B n (suc j) es) s)
       ∙ (copy-run es (suc j) t (run-length B xs s ∙ z) (v .1) (omega arith)
-          (λ q lo hi. ap (λ (y : List Page). getD y q []) here ∙ (getD-set-other (partOf N B i s) (suc j) q page [] (λ w. omega arith) ∙ e q (omega arith) (omega arith)))
+      (λ q lo hi. ap (λ (y : List Page). getD y q []) here ∙ (getD-set-other (partOf N B i s) (suc j) q page [] (λ w. omega arith) ∙ e q (omega arith) (omega arith)))
       ∙ ap (λ (y : List Page). sets y (suc (suc j)) (entryPages es)) here)
 
 module _ (N B : ℕ) (two : 2 ≤ N) (most : N ≤ mostSegments) (mostB : B < 256) (s : Image) (z : length s ≡ imageLength N B) (o n : ℕ) (below : n < numberLimit N)
@@ -106,9 +106,11 @@ module _ (N B : ℕ) (two : 2 ≤ N) (most : N ≤ mostSegments) (mostB : B < 25
   -- the header begun
   pub begun : (Only N B i s s1) × (partOf N B i s1 ≡ set ps 0 (begunPage N B (o % N)))
   begun =
-      let r = header-run N B two most mostB s z n below (compactionHeader N B n (o % N)) (compaction-in-page N B n (o % N)) in
-      (r .0, r .1 ∙ ap (λ (y : Page). set ps 0 y) (ap (λ (y : Page). run B (compactionHeader N B n (o % N)) y) (blank-page N B two s z i 0 (target N B two n) (omega arith) free)
-        ∙ compaction-run N B n (few N B two most mostB s z n below) mostB (o % N) old-byte))
+      let r = header-run N B two most mostB s z n below (compactionHeader N B n (o % N)) (compaction-in-page N B n (o % N)) in (
+        r .0,
+        r .1 ∙ ap (λ (y : Page). set ps 0 y) (ap (λ (y : Page). run B (compactionHeader N B n (o % N)) y) (blank-page N B two s z i 0 (target N B two n) (omega arith) free)
+            ∙ compaction-run N B n (few N B two most mostB s z n below) mostB (o % N) old-byte),
+      )
 
   abbrev copying : List Step
   copying = copyEntries N B n 0 es
@@ -120,11 +122,12 @@ module _ (N B : ℕ) (two : 2 ≤ N) (most : N ≤ mostSegments) (mostB : B < 25
   z2 = run-length B copying s1 ∙ z1
 
   copied-pages : (Only N B i s1 s2) × (partOf N B i s2 ≡ sets (set ps 0 (begunPage N B (o % N))) 1 (entryPages es))
-  copied-pages =
-      (only-run N B i copying s1 (target N B two n) (copy-in-segment N B two n es 0 valid (omega arith))
-      , copy-run N B two n es 0 s1 z1 valid (omega arith) (λ q lo hi. ap (λ (y : List Page). getD y q []) (begun .1)
-          ∙ (getD-set-other ps 0 q (begunPage N B (o % N)) [] (λ w. omega arith) ∙ blank-page N B two s z i q (target N B two n) (omega arith) free))
-        ∙ ap (λ (y : List Page). sets y 1 (entryPages es)) (begun .1))
+  copied-pages = (
+    only-run N B i copying s1 (target N B two n) (copy-in-segment N B two n es 0 valid (omega arith)),
+    copy-run N B two n es 0 s1 z1 valid (omega arith) (λ q lo hi. ap (λ (y : List Page). getD y q []) (begun .1)
+        ∙ (getD-set-other ps 0 q (begunPage N B (o % N)) [] (λ w. omega arith) ∙ blank-page N B two s z i q (target N B two n) (omega arith) free))
+        ∙ ap (λ (y : List Page). sets y 1 (entryPages es)) (begun .1),
+  )
 
   abbrev pages2 : List Page
   pages2 = sets (set ps 0 (begunPage N B (o % N))) 1 (entryPages es)
@@ -147,10 +150,12 @@ module _ (N B : ℕ) (two : 2 ≤ N) (most : N ≤ mostSegments) (mostB : B < 25
 
   finished : (Only N B i s2 s3) × (partOf N B i s3 ≡ set pages2 0 (headerPage N B erasePending n (oldIndex N i erasePending)))
   finished =
-      let r = header-run N B two most mostB s2 z2 n below (pendingHeader N B n (o % N)) (pending-in-page N B n (o % N)) in
-      (r .0, r .1 ∙ ap (λ (y : List Page). set y 0 (run B (pendingHeader N B n (o % N)) (getD y 0 []))) (copied-pages .1)
-        ∙ ap (λ (y : Page). set pages2 0 y) (ap (λ (y : Page). run B (pendingHeader N B n (o % N)) y) head2 ∙ (pending-run N B n (o % N)
-          ∙ ap (λ (y : ℕ). headerPage N B erasePending n y) (ring ∙ sym (pending-old N i)))))
+      let r = header-run N B two most mostB s2 z2 n below (pendingHeader N B n (o % N)) (pending-in-page N B n (o % N)) in (
+        r .0,
+        r .1 ∙ ap (λ (y : List Page). set y 0 (run B (pendingHeader N B n (o % N)) (getD y 0 []))) (copied-pages .1)
+            ∙ ap (λ (y : Page). set pages2 0 y) (ap (λ (y : Page). run B (pendingHeader N B n (o % N)) y) head2 ∙ (pending-run N B n (o % N)
+            ∙ ap (λ (y : ℕ). headerPage N B erasePending n y) (ring ∙ sym (pending-old N i)))),
+      )
 
   the-run : run B (copyOut N B o n es) s ≡ s3
   the-run = ap (λ (y : List Step). run B y s) (copy-out-pages N B o n es) ∙ (run-append B begin (copying ++ finish) s ∙ run-append B copying finish s1)
@@ -160,6 +165,6 @@ module _ (N B : ℕ) (two : 2 ≤ N) (most : N ≤ mostSegments) (mostB : B < 25
       ap (λ y. segmentsOf N B y) the-run
       ∙ (only-segments N B i s s3 (only-trans N B i s s2 s3 (only-trans N B i s s1 s2 (begun .0) (copied-pages .0)) (finished .0))
       ∙ ap (λ (y : Segment). set (segmentsOf N B s) i y) (ap (λ y. segmentOf N B i y) (finished .1)
-        ∙ (headed N B erasePending n pages2 most pending-status below
-            (omega (arith, length-sets (set ps 0 (begunPage N B (o % N))) 1 (entryPages es), length-set ps 0 (begunPage N B (o % N)), part-size N B i s (target N B two n)))
-        ∙ ap (λ y. inUse erasePending n y) slots2)))
+      ∙ (headed N B erasePending n pages2 most pending-status below
+      (omega (arith, length-sets (set ps 0 (begunPage N B (o % N))) 1 (entryPages es), length-set ps 0 (begunPage N B (o % N)), part-size N B i s (target N B two n)))
+      ∙ ap (λ y. inUse erasePending n y) slots2)))

@@ -86,6 +86,7 @@ slot-part N B i j ps x h = rw (header ps, h, slots ps)
     header : (qs : List Page) → getD (set qs (suc j) x) 0 [] ≡ getD qs 0 []
     header [] = refl
     header (q ∷ qs) = refl
+
     slots : (qs : List Page) → map slotOf (drop 1 (set qs (suc j) x)) ≡ set (map slotOf (drop 1 qs)) j (slotOf x)
     slots [] = refl
     slots (q ∷ qs) = map-set slotOf qs j x
@@ -149,7 +150,7 @@ module _ (N B : ℕ) (two : 2 ≤ N) (s : Image) (z : length s ≡ imageLength N
         → segmentsOf N B u ≡ set (segmentsOf N B s) (k % N) (withSlot j (slotOf x) (getD (segmentsOf N B s) (k % N) blank))
     slot-only xs p u o x e = only-segments N B (k % N) s u o
         ∙ ap (λ (y : Segment). set (segmentsOf N B s) (k % N) y) (ap (λ y. segmentOf N B (k % N) y) e
-          ∙ (slot-part N B (k % N) j (partOf N B (k % N) s) x (used-parts .header) ∙ ap (λ y. withSlot j (slotOf x) y) (sym (segment-at N B (k % N) s (index k)))))
+        ∙ (slot-part N B (k % N) j (partOf N B (k % N) s) x (used-parts .header) ∙ ap (λ y. withSlot j (slotOf x) y) (sym (segment-at N B (k % N) s (index k)))))
 
     pub slot-run : (xs : List Step) → InPage xs
         → segmentsOf N B (run B (onPage (slotAt N B k j) xs) s) ≡ set (segmentsOf N B s) (k % N) (withSlot j (slotOf (run B xs slotPageAt)) (getD (segmentsOf N B s) (k % N) blank))
@@ -177,7 +178,7 @@ module _ (N B : ℕ) (two : 2 ≤ N) (s : Image) (z : length s ≡ imageLength N
         → segmentsOf N B (run B (onPage (slotAt N B k j) (writeSlot b c)) s) ≡ set (segmentsOf N B s) (k % N) (withSlot j (live b c) (getD (segmentsOf N B s) (k % N) blank))
     write-effect b c v e = slot-run (writeSlot b c) (write-in-page b c (v .short))
         ∙ ap (λ (y : Slot). set (segmentsOf N B s) (k % N) (withSlot j y (getD (segmentsOf N B s) (k % N) blank)))
-          (ap (λ (y : Page). slotOf (run B (writeSlot b c) y)) (empty-page e) ∙ (ap slotOf (write-run B b c v) ∙ slot-live b c (v .number) (v .short)))
+        (ap (λ (y : Page). slotOf (run B (writeSlot b c) y)) (empty-page e) ∙ (ap slotOf (write-run B b c v) ∙ slot-live b c (v .number) (v .short)))
 
   -- ---- an erase
 
@@ -189,9 +190,11 @@ module _ (N B : ℕ) (two : 2 ≤ N) (s : Image) (z : length s ≡ imageLength N
     where
       pages : chunk (B + 1) 256 (erased ((B + 1) * 256)) ≡ replicate (B + 1) (erased 256)
       pages = unfold erased in chunk-replicate (B + 1) 256 255
+
       first : (c : ℕ) → 0 < c → getD (replicate c (erased 256)) 0 [] ≡ erased 256
       first zero q = absurd (omega arith)
       first (suc c) q = refl
+
       is-blank : segmentOf N B i (replicate (B + 1) (erased 256)) ≡ blank
       is-blank = unfold segmentOf allBlank in rw (first (B + 1) (omega arith), erased-unused N B i, pages-blank (B + 1))
 
@@ -259,13 +262,13 @@ module _ (N B : ℕ) (two : 2 ≤ N) (most : N ≤ mostSegments) (mostB : B < 25
       let ps = partOf N B (n % N) s in
       let r = header-run (openingHeader N B n) (opening-in-page N B n) in
       let page : run B (openingHeader N B n) (getD ps 0 []) ≡ headerPage N B opened n (oldIndex N (n % N) opened) =
-            ap (λ (y : Page). run B (openingHeader N B n) y) (blank-page N B two s z (n % N) 0 place (omega arith) e)
-            ∙ (opening-run N B n few mostB ∙ ap (λ (y : ℕ). headerPage N B opened n y) (sym (open-old N (n % N)))) in
+      ap (λ (y : Page). run B (openingHeader N B n) y) (blank-page N B two s z (n % N) 0 place (omega arith) e)
+      ∙ (opening-run N B n few mostB ∙ ap (λ (y : ℕ). headerPage N B opened n y) (sym (open-old N (n % N)))) in
       ap (λ (y : List Step). segmentsOf N B (run B y s)) (open-segment-page N B n)
       ∙ (only-segments N B (n % N) s (run B (onPage (headerAt N B n) (openingHeader N B n)) s) (r .0)
       ∙ ap (λ (y : Segment). set (segmentsOf N B s) (n % N) y)
-        (ap (λ y. segmentOf N B (n % N) y) (r .1 ∙ ap (λ (y : Page). set ps 0 y) page)
-        ∙ (headed N B opened n ps most open-status below (omega (arith, part-size N B (n % N) s place)) ∙ ap (λ y. inUse opened n y) (blank-slots N B two s z (n % N) place e))))
+      (ap (λ y. segmentOf N B (n % N) y) (r .1 ∙ ap (λ (y : Page). set ps 0 y) page)
+      ∙ (headed N B opened n ps most open-status below (omega (arith, part-size N B (n % N) s place)) ∙ ap (λ y. inUse opened n y) (blank-slots N B two s z (n % N) place e))))
 
   -- the old segment erased: an owing segment settled
   pub settle-effect : (ks : List Slot) → getD (segmentsOf N B s) (n % N) blank ≡ inUse erasePending n ks → segmentsOf N B (run B (settle N B n) s) ≡ set (segmentsOf N B s) (n % N) (inUse compacted n ks)
@@ -276,11 +279,11 @@ module _ (N B : ℕ) (two : 2 ≤ N) (most : N ≤ mostSegments) (mostB : B < 25
       let f = in-use-facts N B (n % N) h (u .header) in
       let r = header-run settledHeader settled-in-page in
       let page : h ≡ headerPage N B erasePending n ((n % N + 1) % N) =
-            f .page ∙ ap₂ (λ a b. headerPage N B a b (oldIndex N (n % N) a)) (u .status) (u .number) ∙ ap (λ (y : ℕ). headerPage N B erasePending n y) (pending-old N (n % N)) in
+      f .page ∙ ap₂ (λ a b. headerPage N B a b (oldIndex N (n % N) a)) (u .status) (u .number) ∙ ap (λ (y : ℕ). headerPage N B erasePending n y) (pending-old N (n % N)) in
       let page2 : run B settledHeader h ≡ headerPage N B compacted n (oldIndex N (n % N) compacted) =
-            ap (λ (y : Page). run B settledHeader y) page ∙ (settled-run N B n ((n % N + 1) % N) ∙ ap (λ (y : ℕ). headerPage N B compacted n y) (sym (compacted-old N (n % N)))) in
+      ap (λ (y : Page). run B settledHeader y) page ∙ (settled-run N B n ((n % N + 1) % N) ∙ ap (λ (y : ℕ). headerPage N B compacted n y) (sym (compacted-old N (n % N)))) in
       ap (λ (y : List Step). segmentsOf N B (run B y s)) (settle-page N B n)
       ∙ (only-segments N B (n % N) s (run B (onPage (headerAt N B n) settledHeader) s) (r .0)
       ∙ ap (λ (y : Segment). set (segmentsOf N B s) (n % N) y)
-        (ap (λ y. segmentOf N B (n % N) y) (r .1 ∙ ap (λ (y : Page). set ps 0 y) page2)
-        ∙ (headed N B compacted n ps most compacted-status below (omega (arith, part-size N B (n % N) s place)) ∙ ap (λ y. inUse compacted n y) (u .slots))))
+      (ap (λ y. segmentOf N B (n % N) y) (r .1 ∙ ap (λ (y : Page). set ps 0 y) page2)
+      ∙ (headed N B compacted n ps most compacted-status below (omega (arith, part-size N B (n % N) s place)) ∙ ap (λ y. inUse compacted n y) (u .slots))))

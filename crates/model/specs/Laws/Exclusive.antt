@@ -51,7 +51,7 @@ module _ (N B : ℕ) (l : List Segment) (size : length l ≡ N) (h : isClean N B
       let r = clean-ring N B l size h in
       let rows = viewOf N l .slots in
       let top : all (λ k. not (isWrong k || isTorn k)) (topSlots N l) ≡ true =
-            ap (λ (y : List Slot). all (λ k. not (isWrong k || isTorn k)) y) top-row ∙ all-row (λ k. not (isWrong k || isTorn k)) rows (usedCount l - 1) (clean-slots N B l h .sound) in
+      ap (λ (y : List Slot). all (λ k. not (isWrong k || isTorn k)) y) top-row ∙ all-row (λ k. not (isWrong k || isTorn k)) rows (usedCount l - 1) (clean-slots N B l h .sound) in
       let b = inside isTorn (topSlots N l) (lastSlot N l) empty (unfold isTorn in refl) t in
       false≢true (sym (all-fails (λ k. not (isWrong k || isTorn k)) (topSlots N l) (lastSlot N l) empty b (bad (getD (topSlots N l) (lastSlot N l) empty) t)) ∙ top)
     where
@@ -108,10 +108,11 @@ module _ (N B : ℕ) (l : List Segment) (size : length l ≡ N) where
   d-facts : isD N B l ≡ true → (0 < lastBlock N l) × (copies (lastBlock N l) (entriesIn (viewOf N l)) ≡ 2) × (isClean N B (olderMarked N l) ≡ true)
   unfolding isD
   d-facts h =
-      let r = and-right (ltb 0 (lastBlock N l)) (eqb (copies (lastBlock N l) (entriesIn (viewOf N l))) 2 && isClean N B (olderMarked N l)) h in
-      (ltb-true 0 (lastBlock N l) (and-left (ltb 0 (lastBlock N l)) (eqb (copies (lastBlock N l) (entriesIn (viewOf N l))) 2 && isClean N B (olderMarked N l)) h)
-      , eqb-true (copies (lastBlock N l) (entriesIn (viewOf N l))) 2 (and-left (eqb (copies (lastBlock N l) (entriesIn (viewOf N l))) 2) (isClean N B (olderMarked N l)) r)
-      , and-right (eqb (copies (lastBlock N l) (entriesIn (viewOf N l))) 2) (isClean N B (olderMarked N l)) r)
+      let r = and-right (ltb 0 (lastBlock N l)) (eqb (copies (lastBlock N l) (entriesIn (viewOf N l))) 2 && isClean N B (olderMarked N l)) h in (
+        ltb-true 0 (lastBlock N l) (and-left (ltb 0 (lastBlock N l)) (eqb (copies (lastBlock N l) (entriesIn (viewOf N l))) 2 && isClean N B (olderMarked N l)) h),
+        eqb-true (copies (lastBlock N l) (entriesIn (viewOf N l))) 2 (and-left (eqb (copies (lastBlock N l) (entriesIn (viewOf N l))) 2) (isClean N B (olderMarked N l)) r),
+        and-right (eqb (copies (lastBlock N l) (entriesIn (viewOf N l))) 2) (isClean N B (olderMarked N l)) r,
+      )
 
   -- a segment that is neither in use nor blank may as well be blank: the top and the view are the same
   module _ (i : isInvalid (getD l (nextIndex N l) blank) ≡ true) where
@@ -133,7 +134,7 @@ module _ (N B : ℕ) (l : List Segment) (size : length l ≡ N) where
     unfolding lastKind lastSlot topSlots topIndex
     blanked-last =
         let e : slotsIn (getD (nextBlanked N l) ((nextNumber l - 1) % N) blank) ≡ slotsIn (getD l ((nextNumber l - 1) % N) blank) =
-              (unfold nextBlanked in get-kept slotsIn l (nextIndex N l) blank (unused (getD l (nextIndex N l) blank) i .2) ((nextNumber l - 1) % N)) in
+        (unfold nextBlanked in get-kept slotsIn l (nextIndex N l) blank (unused (getD l (nextIndex N l) blank) i .2) ((nextNumber l - 1) % N)) in
         rw (blanked-next, e)
 
   clean-a : isClean N B l ≡ true → isA N B l ≡ true → ⊥

@@ -61,11 +61,12 @@ in-use-facts N B i h e =
     let p = headerPage N B (headerStatus h) (headerNumber h) (oldIndex N i (headerStatus h)) in
     let e1 = and-right a (b && (c && same h p)) e in
     let e2 = and-right b (c && same h p) e1 in
-    record
-      { status = and-left a (b && (c && same h p)) e
-      ; below = ltb-true (headerNumber h) (numberLimit N) (and-left b (c && same h p) e1)
-      ; place = eqb-true (headerNumber h % N) i (and-left c (same h p) e2)
-      ; page = same-eq h p (and-right c (same h p) e2) }
+    record {
+      status = and-left a (b && (c && same h p)) e;
+      below = ltb-true (headerNumber h) (numberLimit N) (and-left b (c && same h p) e1);
+      place = eqb-true (headerNumber h % N) i (and-left c (same h p) e2);
+      page = same-eq h p (and-right c (same h p) e2);
+    }
 
 -- ---- not in use
 
@@ -103,10 +104,10 @@ unfolding headerPage numberBytes inverted
 number-raised N B i h n hN hn u low =
     let f = in-use-facts N B i h u in
     same-number (headerNumber h) n (number-fits N (headerNumber h) hN (f .below)) hn
-      (digit _ (n % 256) (getD h 8 0) (getD h 12 0) (omega arith) (omega arith) (get 8) (get 12) (low 0 (omega arith)) (low 4 (omega arith)))
-      (digit _ (n / 256 % 256) (getD h 9 0) (getD h 13 0) (omega arith) (omega arith) (get 9) (get 13) (low 1 (omega arith)) (low 5 (omega arith)))
-      (digit _ (n / 256 / 256 % 256) (getD h 10 0) (getD h 14 0) (omega arith) (omega arith) (get 10) (get 14) (low 2 (omega arith)) (low 6 (omega arith)))
-      (digit _ (n / 256 / 256 / 256 % 256) (getD h 11 0) (getD h 15 0) (omega arith) (omega arith) (get 11) (get 15) (low 3 (omega arith)) (low 7 (omega arith)))
+    (digit _ (n % 256) (getD h 8 0) (getD h 12 0) (omega arith) (omega arith) (get 8) (get 12) (low 0 (omega arith)) (low 4 (omega arith)))
+    (digit _ (n / 256 % 256) (getD h 9 0) (getD h 13 0) (omega arith) (omega arith) (get 9) (get 13) (low 1 (omega arith)) (low 5 (omega arith)))
+    (digit _ (n / 256 / 256 % 256) (getD h 10 0) (getD h 14 0) (omega arith) (omega arith) (get 10) (get 14) (low 2 (omega arith)) (low 6 (omega arith)))
+    (digit _ (n / 256 / 256 / 256 % 256) (getD h 11 0) (getD h 15 0) (omega arith) (omega arith) (get 11) (get 15) (low 3 (omega arith)) (low 7 (omega arith)))
   where
     get : (k : ℕ) → getD h k 0 ≡ getD (headerPage N B (headerStatus h) (headerNumber h) (oldIndex N i (headerStatus h))) k 0
     get k = ap (λ y. getD y k 0) (in-use-facts N B i h u .page)
@@ -143,9 +144,11 @@ settle-page N B n = refl
 
 pub opening-in-page : (N B n : ℕ) → InPage (openingHeader N B n)
 unfolding openingHeader
-opening-in-page N B n = let h = headerPage N B opened n noOldSegment in
-    (omega arith, in-append (programPart h 0 5) _ (in-part h 0 5 (omega arith)) (in-append (programPart h 6 2) _ (in-part h 6 2 (omega arith))
-    (in-append (programPart h 8 8) _ (in-part h 8 8 (omega arith)) (omega arith, tt))))
+opening-in-page N B n = let h = headerPage N B opened n noOldSegment in (
+  omega arith,
+  in-append (programPart h 0 5) _ (in-part h 0 5 (omega arith)) (in-append (programPart h 6 2) _ (in-part h 6 2 (omega arith))
+      (in-append (programPart h 8 8) _ (in-part h 8 8 (omega arith)) (omega arith, tt))),
+)
 
 pub compaction-in-page : (N B n old : ℕ) → InPage (compactionHeader N B n old)
 unfolding compactionHeader

@@ -194,8 +194,10 @@ pub mod-inj : (N a b : ℕ) → a ≤ b → b < a + N → a % N ≡ b % N → a 
 mod-inj N a b h k e =
     let da = div-add-mod' a N in
     let db = div-add-mod' b N in
-    elim (decLt (a / N) (b / N)) [ yes l ↦ absurd (omega (arith, mul-le-mul-right N l))
-      | no l ↦ elim (decLt (b / N) (a / N)) [ yes r ↦ absurd (omega (arith, mul-le-mul-right N r)) | no r ↦ omega (arith, ap (λ (y : ℕ). y * N) (quotients (a / N) (b / N) l r)) ] ]
+    elim (decLt (a / N) (b / N)) [
+      | yes l ↦ absurd (omega (arith, mul-le-mul-right N l))
+      | no l ↦ elim (decLt (b / N) (a / N)) [ yes r ↦ absurd (omega (arith, mul-le-mul-right N r)) | no r ↦ omega (arith, ap (λ (y : ℕ). y * N) (quotients (a / N) (b / N) l r)) ]
+    ]
   where
     quotients : (x y : ℕ) → ¬ (x < y) → ¬ (y < x) → x ≡ y
     quotients x y p q = omega arith

@@ -164,9 +164,11 @@ module _ (N B i q : ℕ) (h : i < N) (j : q < B + 1) (xs : List Step) (p : InPag
     where
       inside : i * (B + 1) + q < length (pagesOf N B s)
       inside = unfold pagesOf in omega (arith, page-in N B i q h j, chunk-length (N * (B + 1)) 256 s)
+
       new : pagesOf N B (run B (onPage (i * (B + 1) + q) xs) s) ≡ set (pagesOf N B s) (i * (B + 1) + q) (run B xs (getD (partOf N B i s) q []))
       new = pages-run N B (onPage (i * (B + 1) + q) xs) s z ∙ (run-on-page B (i * (B + 1) + q) xs (pagesOf N B s) inside p
           ∙ ap (λ (y : Page). set (pagesOf N B s) (i * (B + 1) + q) (run B xs y)) (sym (part-page N B i q s h j)))
+
       whole : parts N B (run B (onPage (i * (B + 1) + q) xs) s) ≡ set (parts N B s) i (set (partOf N B i s) q (run B xs (getD (partOf N B i s) q [])))
       whole = ap (λ y. bySegment N B y) new ∙ (unfold bySegment in chunk-set (B + 1) N i q (run B xs (getD (partOf N B i s) q [])) (pagesOf N B s) j)
 
@@ -177,6 +179,7 @@ module _ (N B i q : ℕ) (h : i < N) (j : q < B + 1) (xs : List Step) (p : InPag
     where
       r : (page : Page) × Cut B xs (getD (chunk (N * (B + 1)) 256 s) (i * (B + 1) + q) []) page × (chunk (N * (B + 1)) 256 u ≡ set (chunk (N * (B + 1)) 256 s) (i * (B + 1) + q) page)
       r = cut-on-page B (N * (B + 1)) (i * (B + 1) + q) xs s u (page-in N B i q h j) p c
+
       whole : parts N B u ≡ set (parts N B s) i (set (partOf N B i s) q (r .0))
       whole = unfold bySegment pagesOf in (ap (λ (y : List Page). chunk N (B + 1) y) (r .2) ∙ chunk-set (B + 1) N i q (r .0) (chunk (N * (B + 1)) 256 s) j)
 
@@ -198,12 +201,12 @@ module _ (N B i : ℕ) (h : i < N) (s : Image) (z : length s ≡ imageLength N B
       let ps = chunk (N * m) 256 s in
       let n : length ps ≡ N * m = chunk-length (N * m) 256 s in
       let a : chunk (N * m) 256 (take (i * m * 256) s ++ (u ++ drop ((i * m + m) * 256) s)) ≡ take (i * m) ps ++ (chunk m 256 u ++ drop (i * m + m) ps) =
-            chunk-replace 256 (N * m) (i * m) m u s (omega (arith, mul-le-mul-right m h, suc-mul i m)) k segment-fits in
+      chunk-replace 256 (N * m) (i * m) m u s (omega (arith, mul-le-mul-right m h, suc-mul i m)) k segment-fits in
       let e : (i + 1) * m ≡ i * m + m = omega arith in
       let b : chunk N m (take (i * m) ps ++ (chunk m 256 u ++ drop ((i + 1) * m) ps)) ≡ take i (chunk N m ps) ++ (chunk 1 m (chunk m 256 u) ++ drop (i + 1) (chunk N m ps)) =
-            chunk-replace m N i 1 (chunk m 256 u) ps (omega arith) (chunk-length m 256 u ∙ omega arith) (omega (arith, mul-le-mul-right m h, suc-mul i m)) in
+      chunk-replace m N i 1 (chunk m 256 u) ps (omega arith) (chunk-length m 256 u ∙ omega arith) (omega (arith, mul-le-mul-right m h, suc-mul i m)) in
       ap (λ (y : List Page). chunk N m y) a ∙ (rw e at b) ∙ ap (λ (y : List (List Page)). take i (chunk N m ps) ++ (y ++ drop (i + 1) (chunk N m ps))) (single (chunk m 256 u) (chunk-length m 256 u))
-        ∙ replace-part (chunk N m ps) i (chunk m 256 u) (omega (arith, chunk-length N m ps))
+      ∙ replace-part (chunk N m ps) i (chunk m 256 u) (omega (arith, chunk-length N m ps))
     where
       single : (x : List Page) → length x ≡ B + 1 → chunk 1 (B + 1) x ≡ x ∷ []
       single x q = unfold chunk in ap {B = List (List Page)} (λ (y : List Page). y ∷ []) (lib.Seq.take-all (B + 1) x (omega arith))

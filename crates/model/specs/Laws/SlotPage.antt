@@ -85,10 +85,11 @@ fits-facts p e =
     let b = numberOk (pageBlock p) in
     let q = slotPage (pageBlock p) (pageContents p) in
     let e1 = and-right a (b && same p q) e in
-    record
-      { number = and-left b (same p q) e1
-      ; short = omega (arith, length-take (getD p 1 0) (drop 8 p), leb-true (getD p 1 0) mostContents (and-left a (b && same p q) e))
-      ; page = same-eq p q (and-right b (same p q) e1) }
+    record {
+      number = and-left b (same p q) e1;
+      short = omega (arith, length-take (getD p 1 0) (drop 8 p), leb-true (getD p 1 0) mostContents (and-left a (b && same p q) e));
+      page = same-eq p q (and-right b (same p q) e1);
+    }
 
 module _ (p : Page) where
   abbrev st : ℕ

@@ -46,9 +46,10 @@ copies-none b = refl
 pub holds-copies : (b : ℕ) (t : Table) → holds b t ≡ ltb 0 (copies b t)
 unfolding holds
 holds-copies b [] = sym (le-ltb 0 (copies b []) (omega (arith, copies-none b)))
-holds-copies b (e ∷ t) = elim (ℕ-discrete b (e .block))
-    [ yes h ↦ rw (eq-eqb b (e .block) h, copies-cons-same b e t h) (sym (lt-ltb 0 (suc (copies b t)) (omega arith)))
-    | no h ↦ rw (ne-eqb b (e .block) h, copies-cons-other b e t h) (holds-copies b t) ]
+holds-copies b (e ∷ t) = elim (ℕ-discrete b (e .block)) [
+  | yes h ↦ rw (eq-eqb b (e .block) h, copies-cons-same b e t h) (sym (lt-ltb 0 (suc (copies b t)) (omega arith)))
+  | no h ↦ rw (ne-eqb b (e .block) h, copies-cons-other b e t h) (holds-copies b t)
+]
 
 pub held-copies : (b : ℕ) (t : Table) → holds b t ≡ true → 1 ≤ copies b t
 held-copies b t h = ltb-true 0 (copies b t) (sym (holds-copies b t) ∙ h)
@@ -67,9 +68,10 @@ distinct-copies [] h b = omega (arith, copies-none b)
 distinct-copies (e ∷ t) h b =
     let p = and-eq-true-iff (not (holds (e .block) t)) (distinct t) .0 h in
     let i = distinct-copies t (p .1) b in
-    elim (ℕ-discrete b (e .block))
-      [ yes q ↦ let z : copies b t ≡ 0 = rw q (absent-copies (e .block) t (not-true (holds (e .block) t) (p .0))) in omega (arith, copies-cons-same b e t q)
-      | no q ↦ omega (arith, copies-cons-other b e t q) ]
+    elim (ℕ-discrete b (e .block)) [
+      | yes q ↦ let z : copies b t ≡ 0 = rw q (absent-copies (e .block) t (not-true (holds (e .block) t) (p .0))) in omega (arith, copies-cons-same b e t q)
+      | no q ↦ omega (arith, copies-cons-other b e t q)
+    ]
 
 pub copies-distinct : (t : Table) → ((b : ℕ) → copies b t ≤ 1) → distinct t ≡ true
 unfolding distinct
@@ -193,9 +195,10 @@ unfolding lookup store
 lookup-store-other a b c t n = rw (ne-eqb a b n, lookup-without-other a b t n)
 
 pub agree-without : (b : ℕ) (t u : Table) → Agree t u → Agree (without b t) (without b u)
-agree-without b t u g a = elim (ℕ-discrete a b)
-    [ yes e ↦ rw (e, lookup-without-same b t, lookup-without-same b u)
-    | no n ↦ lookup-without-other a b t n ∙ (g a ∙ sym (lookup-without-other a b u n)) ]
+agree-without b t u g a = elim (ℕ-discrete a b) [
+  | yes e ↦ rw (e, lookup-without-same b t, lookup-without-same b u)
+  | no n ↦ lookup-without-other a b t n ∙ (g a ∙ sym (lookup-without-other a b u n))
+]
 
 pub agree-store : (b : ℕ) (c : List ℕ) (t u : Table) → Agree t u → Agree (store b c t) (store b c u)
 unfolding lookup store
@@ -211,9 +214,10 @@ without-absent b (e ∷ t) h = go (eqb b (e .block)) h (λ k. without-absent b t
     go false k ih = ap {B = Table} (λ y. e ∷ y) (ih k)
 
 pub distinct-without : (b : ℕ) (t : Table) → distinct t ≡ true → distinct (without b t) ≡ true
-distinct-without b t h = copies-distinct (without b t) (λ a. elim (ℕ-discrete a b)
-    [ yes e ↦ rw e (omega (arith, copies-without-same b t))
-    | no n ↦ omega (arith, copies-without-other a b t n, distinct-copies t h a) ])
+distinct-without b t h = copies-distinct (without b t) (λ a. elim (ℕ-discrete a b) [
+  | yes e ↦ rw e (omega (arith, copies-without-same b t))
+  | no n ↦ omega (arith, copies-without-other a b t n, distinct-copies t h a)
+])
 
 pub distinct-store : (b : ℕ) (c : List ℕ) (t : Table) → distinct t ≡ true → distinct (store b c t) ≡ true
 unfolding distinct store
@@ -275,9 +279,10 @@ storedLast b c t = without b t ++ (record { block = b; contents = c } ∷ [])
 
 pub stored-last-agree : (b : ℕ) (c : List ℕ) (t : Table) → Agree (storedLast b c t) (store b c t)
 unfolding storedLast store lookup
-stored-last-agree b c t a = lookup-append a (without b t) (record { block = b; contents = c } ∷ []) ∙ elim (ℕ-discrete a b)
-    [ yes e ↦ rw (e, copies-absent b (without b t) (copies-without-same b t), eq-eqb b b refl)
-    | no n ↦ rw (ne-eqb a b n) (split (holds a (without b t)) refl) ]
+stored-last-agree b c t a = lookup-append a (without b t) (record { block = b; contents = c } ∷ []) ∙ elim (ℕ-discrete a b) [
+  | yes e ↦ rw (e, copies-absent b (without b t) (copies-without-same b t), eq-eqb b b refl)
+  | no n ↦ rw (ne-eqb a b n) (split (holds a (without b t)) refl)
+]
   where
     split : (x : Bool) → holds a (without b t) ≡ x → cond x (lookup a (without b t)) absent ≡ lookup a (without b t)
     split true h = refl
@@ -288,9 +293,10 @@ unfolding storedLast
 stored-last-distinct b c t h = copies-distinct (without b t ++ (record { block = b; contents = c } ∷ [])) (λ a.
     let s = copies-append a (without b t) (record { block = b; contents = c } ∷ []) in
     let z = copies-none a in
-    elim (ℕ-discrete a b)
-      [ yes e ↦ let y : copies a (without b t) ≡ 0 = rw e (copies-without-same b t) in omega (arith, copies-cons-same a (record { block = b; contents = c }) [] e)
-      | no n ↦ omega (arith, copies-cons-other a (record { block = b; contents = c }) [] n, copies-without-other a b t n, distinct-copies t h a) ])
+    elim (ℕ-discrete a b) [
+      | yes e ↦ let y : copies a (without b t) ≡ 0 = rw e (copies-without-same b t) in omega (arith, copies-cons-same a (record { block = b; contents = c }) [] e)
+      | no n ↦ omega (arith, copies-cons-other a (record { block = b; contents = c }) [] n, copies-without-other a b t n, distinct-copies t h a)
+    ])
 
 -- a new block takes one entry more, a stored one as many
 pub stored-last-length : (b : ℕ) (c : List ℕ) (t : Table) → distinct t ≡ true → length (storedLast b c t) ≡ cond (holds b t) (length t) (suc (length t))
@@ -314,9 +320,12 @@ agree-size (e ∷ t) u p q g =
   where
     tail : (not (holds (e .block) t) ≡ true) × (distinct t ≡ true)
     tail = and-eq-true-iff (not (holds (e .block) t)) (distinct t) .0 p
+
     here : holds (e .block) u ≡ true
     here = sym (agree-holds (e ∷ t) u g (e .block)) ∙ rw (eq-eqb (e .block) (e .block) refl)
+
     rest : Agree t (without (e .block) u)
-    rest a = elim (ℕ-discrete a (e .block))
-      [ yes i ↦ rw (i, lookup-without-same (e .block) u) (lookup-absent (e .block) t (not-true (holds (e .block) t) (tail .0)))
-      | no n ↦ (let k : eqb a (e .block) ≡ false = ne-eqb a (e .block) n in rw k at (g a)) ∙ sym (lookup-without-other a (e .block) u n) ]
+    rest a = elim (ℕ-discrete a (e .block)) [
+      | yes i ↦ rw (i, lookup-without-same (e .block) u) (lookup-absent (e .block) t (not-true (holds (e .block) t) (tail .0)))
+      | no n ↦ (let k : eqb a (e .block) ≡ false = ne-eqb a (e .block) n in rw k at (g a)) ∙ sym (lookup-without-other a (e .block) u n)
+    ]
