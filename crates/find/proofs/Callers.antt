@@ -2,13 +2,11 @@
 use Prim.Native.Nat.{ℕ, zero, suc, _+_, _*_, _%_, _≤_, _<_}
 use mathlib.Core.Path.{_≡_, refl, sym, ap, _∙_, subst}
 use mathlib.Core.Bool.{Bool, true, false, cond}
-use mathlib.Core.List.{List, [], _∷_, flatMap, flatten}
+use mathlib.Core.List.{List, _∷_, flatMap, flatten}
 use native.Mathlib.Nat.{mod-lt, mul-le-mul-right, suc-mul}
 use native.Mathlib.Omega.{arith}
 use lib.ListN.{length}
 use lib.Dec.{eqb}
-use denote.Enum.Declared.{tagOf}
-use types.Run.{OneOf}
 use Rattle.model.specs.declared.SlotPlace.{SlotPlace}
 use Rattle.model.specs.Chip.{Image, Page}
 use Rattle.model.specs.Slot.{mostContents, Slot, empty, torn, dead, wrong, live, slotOf, entryOf}
@@ -20,7 +18,6 @@ use Rattle.bridge.specs.Held.{Held}
 use Rattle.find.specs.declared.Found.{Found}
 use Rattle.find.specs.declared.Found.the-variants.{At, Nothing}
 use Rattle.find.specs.Search.{rowsAt, foundIn, held-found}
-use Rattle.find.proofs.Found.{the-type}
 use Rattle.find.proofs.Laws.{foundFrom, row-enter, row-end, slot-next, slot-stop, slotsLeft, pageRead, left-next, left-end}
 
 -- ---- inside the image, whatever the image
@@ -50,7 +47,7 @@ module _ (N B b : ℕ) (s : Image) (some : 0 < N) where
   row-inside : (n : ℕ) (rows : List (List Slot)) → Inside N B (foundIn N B (suc n) rows b) → (d j : ℕ) → j + d ≡ B → Inside N B (foundFrom N B b n j (slotsLeft N B s n j) rows)
   row-inside n rows i zero j e =
       let g : foundFrom N B b n j (slotsLeft N B s n j) rows ≡ foundIn N B (suc n) rows b =
-        ap (λ (ks : List Slot). foundFrom N B b n j ks rows) (left-end N B s n j (mod-lt n {m = N} some) (omega arith)) ∙ row-end N B b n j rows in
+      ap (λ (ks : List Slot). foundFrom N B b n j ks rows) (left-end N B s n j (mod-lt n {m = N} some) (omega arith)) ∙ row-end N B b n j rows in
       subst (Inside N B) (sym g) i
   row-inside n rows i (suc d) j e =
       subst (λ (ks : List Slot). Inside N B (foundFrom N B b n j ks rows)) (sym (left-next N B s n j at (mod-lt n {m = N} some) (omega arith) refl))
@@ -58,10 +55,13 @@ module _ (N B b : ℕ) (s : Image) (some : 0 < N) where
     where
       at : ℕ
       at = slotAt N B n 0 * 256 + j * 256
+
       page : Page
       page = pageRead s at
+
       later : List Slot
       later = slotsLeft N B s n (j + 1)
+
       go : (t : Bool) → holds b (entryOf (slotOf page)) ≡ t → Inside N B (foundFrom N B b n (j + 1) later rows) → Inside N B (foundFrom N B b n j (slotOf page ∷ later) rows)
       go true h m = subst (Inside N B) (sym (slot-stop N B b n j (slotOf page) later rows h)) (slot-inside N B n j (mod-lt n {m = N} some) (omega arith), short b page (slotOf page) refl)
       go false h m = subst (Inside N B) (sym (slot-next N B b n j (slotOf page) later rows h)) m
@@ -77,10 +77,6 @@ module _ (N B b : ℕ) (s : Image) (some : 0 < N) where
   found-inside u n e = subst (Inside N B) (sym e) (rows-inside u n)
 
 -- ---- an image with a view
-
--- the else of a `let Found::At .. else`
-abbrev pub Missing : Found → Type 0
-Missing r = OneOf (1 ∷ []) (tagOf the-type r)
 
 pub record FoundAt (N B b : ℕ) (v : View) (p : SlotPlace) (l : ℕ) : Type 0 where
   pub held : holds b (entriesIn v) ≡ true
@@ -104,9 +100,9 @@ module _ (N B b : ℕ) (s : Image) (v : View) (h : Held N B s v) {r : Found} {n 
           record { held = t; place = ap (λ (x : SlotPlace). x .0) a; long = cc }
       go false t q = absurd (let z : _≡_ {A = ℕ} 0 1 = cc in omega arith)
 
-  pub found-nothing : Missing r → holds b (entriesIn v) ≡ false
-  found-nothing m = go (holds b (entriesIn v)) refl (subst Missing outcome m)
+  pub found-nothing : r ≡ Nothing → holds b (entriesIn v) ≡ false
+  found-nothing a = go (holds b (entriesIn v)) refl (sym a ∙ outcome)
     where
-      go : (t : Bool) → holds b (entriesIn v) ≡ t → Missing (answer t) → holds b (entriesIn v) ≡ false
-      go true t q = absurd (omega arith)
+      go : (t : Bool) → holds b (entriesIn v) ≡ t → Nothing ≡ answer t → holds b (entriesIn v) ≡ false
+      go true t q = absurd (let z : _≡_ {A = ℕ} 0 1 = cc in omega arith)
       go false t q = t

@@ -1,9 +1,9 @@
 -- Laws of the search: what is still to be looked at gives the whole answer; the slot that is read; what its kind says of the block.
-use Prim.Native.Nat.{ℕ, zero, suc, _+_, _-_, _*_, _/_, _%_, _≤_, _<_}
+use Prim.Native.Nat.{ℕ, suc, _+_, _-_, _*_, _/_, _%_, _≤_, _<_}
 use mathlib.Core.Path.{_≡_, refl, sym, ap, _∙_, subst}
 use mathlib.Core.Logic.{⊎-elim}
 use mathlib.Core.Bool.{Bool, true, false, cond, or-false, true≢false}
-use mathlib.Core.List.{List, [], _∷_, _++_, map, flatMap, flatten}
+use mathlib.Core.List.{List, [], _∷_, map, flatMap, flatten}
 use native.Mathlib.Nat.{mod-lt, mul-le-mul-right, suc-mul}
 use native.Mathlib.Numerals.{add-one}
 use native.Mathlib.Omega.{arith}
@@ -25,12 +25,12 @@ use Rattle.model.specs.Table.{lookup, contentsFound}
 use Rattle.model.specs.Laws.Chunk.{chunk-part}
 use Rattle.model.specs.Laws.Segments.{partOf, part-page, part-size, page-in}
 use Rattle.model.specs.Laws.SlotPage.{live-facts}
-use Rattle.bridge.specs.Views.Tables.{holds-append, lookup-append}
 use Rattle.bridge.specs.Views.Slots.{entries-append, entries-cons}
 use Rattle.page.specs.Pages.{Sized}
 use Rattle.find.specs.declared.Found.{Found}
 use Rattle.find.specs.declared.Found.the-variants.{At, Nothing}
 use Rattle.find.specs.Search.{mayHold, rowsAt, foundIn}
+use Rattle.model.specs.Laws.Tables.{holds-append, lookup-append}
 
 -- ---- the kinds that `let SlotKind::Live .. else` tells apart
 
@@ -77,6 +77,7 @@ passed-over p b d f = go (slotOf p) refl
   where
     same : (c : List ℕ) → slotOf p ≡ live b c → mayHold p b ≡ true
     same c e = rw (live-facts p b c e .page) (unfold mayHold slotPage in simp (eq-eqb (b % 256) (b % 256) refl, eq-eqb (b / 256) (b / 256) refl))
+
     go : (k : Slot) → slotOf p ≡ k → holds b (entryOf k) ≡ false
     go empty e = refl
     go torn e = refl
@@ -130,7 +131,7 @@ left-next N B s n j at i h e =
     let f : at + 256 - at ≡ 256 = omega arith in
     let g : at ≡ (n % N * (B + 1) + suc j) * 256 = omega arith in
     let p : getD (partOf N B (n % N) s) (suc j) [] ≡ take 256 (drop ((n % N * (B + 1) + suc j) * 256) s) =
-      part-page N B (n % N) (suc j) s i (omega arith) ∙ chunk-part 256 (N * (B + 1)) (n % N * (B + 1) + suc j) s (page-in N B (n % N) (suc j) i (omega arith)) in
+    part-page N B (n % N) (suc j) s i (omega arith) ∙ chunk-part 256 (N * (B + 1)) (n % N * (B + 1) + suc j) s (page-in N B (n % N) (suc j) i (omega arith)) in
     rw (f, g, ← p, add-one j, drop-cons (partOf N B (n % N) s) (suc j) [] (omega (arith, part-size N B (n % N) s i)))
 
 pub left-end : (N B : ℕ) (s : Image) (n j : ℕ) → n % N < N → B ≤ j → slotsLeft N B s n j ≡ []
@@ -179,8 +180,14 @@ walking-start N B b s first used turn from z w h e =
     let n = first + turn in
     let i : n % N < N = mod-lt n {m = N} (z .some) in
     let u : used - turn ≡ suc (used - (turn + 1)) = omega arith in
-    record { more = h; within = omega arith; index = i; here = e; reads = omega (arith, z .whole, slots-inside N B n i)
-           ; rest = sym (row-enter N B b n (slotsLeft N B s n 0) (rowsAt N B s (used - (turn + 1)) (suc n))) ∙ rw u at (w .rest) }
+    record {
+      more = h;
+      within = omega arith;
+      index = i;
+      here = e;
+      reads = omega (arith, z .whole, slots-inside N B n i);
+      rest = sym (row-enter N B b n (slotsLeft N B s n 0) (rowsAt N B s (used - (turn + 1)) (suc n))) ∙ rw u at (w .rest);
+    }
 
 module _ (N B b : ℕ) (s : Image) (first used turn from slot : ℕ) (w : Walking N B b s first used turn from slot) where
   abbrev rows : List (List Slot)
@@ -190,7 +197,7 @@ module _ (N B b : ℕ) (s : Image) (first used turn from slot : ℕ) (w : Walkin
   walking-end h =
       let e : suc (first + turn) ≡ first + (turn + 1) = omega arith in
       let f : foundIn N B (suc (first + turn)) rows b ≡ foundIn N B first (rowsAt N B s used first) b =
-        sym (row-end N B b (first + turn) slot rows) ∙ rw (left-end N B s (first + turn) slot (w .index) h) at (w .rest) in
+      sym (row-end N B b (first + turn) slot rows) ∙ rw (left-end N B s (first + turn) slot (w .index) h) at (w .rest) in
       record { within = omega (arith, w .more); rest = rw e at f }
 
   -- a slot read: passed over, of another kind, of another block, or the one
@@ -202,8 +209,14 @@ module _ (N B b : ℕ) (s : Image) (first used turn from slot : ℕ) (w : Walkin
     unread = rw (left-next N B s (first + turn) slot (from + slot * 256) (w .index) h (omega (arith, w .here))) at (w .rest)
 
     passed : holds b (entryOf kind) ≡ false → Walking N B b s first used turn from (slot + 1)
-    passed e = record { more = w .more; within = omega arith; index = w .index; here = w .here; reads = w .reads
-        ; rest = sym (slot-next N B b (first + turn) slot kind (slotsLeft N B s (first + turn) (slot + 1)) rows e) ∙ unread }
+    passed e = record {
+      more = w .more;
+      within = omega arith;
+      index = w .index;
+      here = w .here;
+      reads = w .reads;
+      rest = sym (slot-next N B b (first + turn) slot kind (slotsLeft N B s (first + turn) (slot + 1)) rows e) ∙ unread;
+    }
 
     pub walking-over : {t : Bool} → t ≡ mayHold (pageRead s (from + slot * 256)) b → t ≡ false → Walking N B b s first used turn from (slot + 1)
     walking-over d f = passed (passed-over (pageRead s (from + slot * 256)) b d f)

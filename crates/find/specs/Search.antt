@@ -1,7 +1,7 @@
 -- What a search for a block finds: in rows of slots, and in the segments of an image with given numbers, whatever their headers say. For an image with a view
 -- the rows are the view's.
 use Prim.Native.Nat.{ℕ, zero, suc, _+_, _*_, _/_, _%_, _<_}
-use mathlib.Core.Path.{_≡_, refl, sym, ap, ap₂, _∙_}
+use mathlib.Core.Path.{_≡_, refl, sym, ap₂, _∙_}
 use mathlib.Core.Bool.{Bool, cond, _&&_}
 use mathlib.Core.List.{List, [], _∷_, map, flatten}
 use native.Mathlib.Nat.{mod-lt}
@@ -15,7 +15,8 @@ use Rattle.model.specs.Steps.{slotAt}
 use Rattle.model.specs.Table.{lookup, contentsFound}
 use Rattle.model.specs.Laws.Segments.{partOf, segment-at}
 use Rattle.model.specs.Laws.Effects.{in-use-parts}
-use Rattle.bridge.specs.Held.{Held, held-row, two-segments}
+use Rattle.bridge.specs.Held.{Held, held-row}
+use Rattle.model.specs.Laws.Chip.{size-facts}
 use Rattle.find.specs.declared.Found.{Found}
 use Rattle.find.specs.declared.Found.the-variants.{At, Nothing}
 
@@ -53,7 +54,7 @@ held-rows-at N B s v h = rows-same N B s (v .slots) (v .first) row
     row k b =
         let n = v .first + k in
         let r = held-row N B s v h k b in
-        let i : n % N < N = mod-lt n {m = N} (omega (arith, two-segments N B s (h .size))) in
+        let i : n % N < N = mod-lt n {m = N} (omega (arith, size-facts N B s (h .size) .two)) in
         in-use-parts N B (n % N) (partOf N B (n % N) s) (r .0) n (getD (v .slots) k []) (sym (segment-at N B (n % N) s i) ∙ r .1) .slots
 
 -- what the search finds is by the view's entries and places

@@ -1,7 +1,9 @@
 // What comes back from a request that writes.
 use model::Answer;
 use model::Performed;
+ghost use mathlib.Core.Path.{_≡_};
 ghost use Prim.Native.Nat.{_≤_};
+ghost use Rattle.model.specs.Answers.{codeOf};
 ghost use Rattle.store.specs.Finish.{Refused, Finished};
 
 // A refusal takes no step.
@@ -26,5 +28,23 @@ pub fn finished(budget: u64, left: u64, before: u64, last: u64) -> Performed
     Performed {
         answer: Answer::Done,
         steps: budget - left,
+    }
+}
+
+// The number of an answer.
+pub fn code_of(answer: Answer) -> u8
+    ensures { λ r. ⌜ r ≡ codeOf answer ⌝ }
+{
+    match answer {
+        Answer::Done => 0,
+        Answer::Size => 1,
+        Answer::Number => 2,
+        Answer::Length => 3,
+        Answer::Damaged => 4,
+        Answer::Unfinished => 5,
+        Answer::Absent => 6,
+        Answer::Full => 7,
+        Answer::Worn => 8,
+        Answer::Cut => 9,
     }
 }

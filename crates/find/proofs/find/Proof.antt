@@ -100,9 +100,11 @@ loop-again-3 c =
     let told = c .before .before .before .before in
     let seen = told .before .before in
     let test = seen .before .before .before .before .before in
-    let k = test .before in
-    (walking-next _ _ _ _ _ _ _ _ _ (k .loop .inv .0) (test .loop-test .taken) (seen .slot-kind .result) (seen .slot-kind .ensures) (told .kind .given .0 .0) (told .kind .given .0 .1 .0)
-    (told .kind .given .1) (c .if2 .left), k .loop .inv .1)
+    let k = test .before in (
+      walking-next _ _ _ _ _ _ _ _ _ (k .loop .inv .0) (test .loop-test .taken) (seen .slot-kind .result) (seen .slot-kind .ensures) (told .kind .given .0 .0) (told .kind .given .0 .1 .0)
+          (told .kind .given .1) (c .if2 .left),
+      k .loop .inv .1,
+    )
 
 add-turn : tie.Need-add-turn Inv-loop μ-loop Inv-segments μ-segments
 add-turn c = search needs

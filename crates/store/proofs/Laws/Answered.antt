@@ -14,7 +14,7 @@ use Rattle.model.specs.declared.Answer.{Answer}
 use Rattle.model.specs.declared.Performed.{Performed}
 use Rattle.bridge.specs.Accepted.{refusal}
 use Rattle.flash.specs.Ran.{Ran}
-use Rattle.store.specs.Finish.{Refused, Finished}
+use Rattle.store.specs.Finish.{Refused, Finished, Carried}
 
 -- ---- no step
 
@@ -33,6 +33,11 @@ cut-short a f budget h = go (leb (a + f) budget) refl
     go true e = let k = leb-true (a + f) budget e in rw (le-ltb (budget - a) f (omega arith))
     go false e = let k = leb-false (a + f) budget e in rw (lt-ltb (budget - a) f (omega arith))
 
+-- two calls, and what was left between them
+pub carried : (xs ys : List Step) {B budget left m f : ℕ} {p : Performed} {s t : Image} → Ran (xs ++ ys) B budget left s t → m ≡ budget - length xs → f ≡ length ys → Finished budget left m f p
+    → Carried xs ys B budget p s t
+carried xs ys {left = left} d em ef r = record { left = left; ran = d; finished = record { code = rw (em, ef) at (r .code); count = r .count } }
+
 module _ (N B : ℕ) (s : Image) (budget : ℕ) where
   pub refused-outcome : (q : Request) (a : Answer) (p : Performed) → refusal N B s q ≡ codeOf a → eqb (codeOf a) 0 ≡ false → Refused a p → performed p s ≡ outcomeOf N B s budget q
   unfolding performed outcomeOf workOf workOn codeUnder
@@ -43,12 +48,11 @@ module _ (N B : ℕ) (s : Image) (budget : ℕ) where
   unfolding performed outcomeOf workOf workOn codeUnder
   idle-outcome q a p e n z r = rw (e, n, r .code, r .none, z) (nothing B 0 budget s)
 
-  pub carried-outcome : (q : Request) (xs ys : List Step) {left m f : ℕ} {t : Image} {p : Performed} → refusal N B s q ≡ 0 → stepsFor N B (segmentsOf N B s) q ≡ xs ++ ys
-      → Ran (xs ++ ys) B budget left s t → m ≡ budget - length xs → f ≡ length ys → 0 < length ys → Finished budget left m f p → performed p t ≡ outcomeOf N B s budget q
+  pub carried-outcome : (q : Request) (xs ys : List Step) {p : Performed} {t : Image} → refusal N B s q ≡ 0 → stepsFor N B (segmentsOf N B s) q ≡ xs ++ ys → 0 < length ys → Carried xs ys B budget p s t
+      → performed p t ≡ outcomeOf N B s budget q
   unfolding performed outcomeOf workOf workOn codeUnder
-  carried-outcome q xs ys {left} {m} {f} {t} {p} e n d before last some r =
+  carried-outcome q xs ys {p} {t} e n some c =
       let l = length-append xs ys in
-      let code : codeOf (p .answer) ≡ cond (leb (length (xs ++ ys)) budget) 0 9 =
-            r .code ∙ (rw (before, last, l) (cut-short (length xs) (length ys) budget some)) in
-      let count : p .steps ≡ length (take budget (xs ++ ys)) = omega (arith, r .count, d .rest, length-take budget (xs ++ ys)) in
-      rw (e, n, code, count, d .image)
+      let code : codeOf (p .answer) ≡ cond (leb (length (xs ++ ys)) budget) 0 9 = c .finished .code ∙ rw l (cut-short (length xs) (length ys) budget some) in
+      let count : p .steps ≡ length (take budget (xs ++ ys)) = omega (arith, c .finished .count, c .ran .rest, length-take budget (xs ++ ys)) in
+      rw (e, n, code, count, c .ran .image)

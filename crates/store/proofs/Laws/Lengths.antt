@@ -8,7 +8,7 @@ use lib.Seq.{take-at}
 use Rattle.model.specs.Chip.{Image, Step, program, erase, run, erased}
 use Rattle.model.specs.Header.{opened, noOldSegment, numberBytes, inverted, headerPage}
 use Rattle.model.specs.Slot.{mostContents, slotPage}
-use Rattle.model.specs.Steps.{programs, programPart, onPage, markDead, markPlace, writeSlot, openSegment}
+use Rattle.model.specs.Steps.{programs, programPart, onPage, markDead, markPlace, writeSlot, openSegment, settle}
 use Rattle.model.specs.Laws.Chip.{run-length}
 use Rattle.flash.specs.Ran.{Ran}
 
@@ -36,6 +36,10 @@ write-length p b c =
 pub mark-length : (p : ℕ) → length (onPage p markDead) ≡ 1
 unfolding markDead
 mark-length p = page-length p markDead
+
+pub settle-length : (N B n : ℕ) → length (settle N B n) ≡ 1
+unfolding settle
+settle-length N B n = page-length _ _
 
 -- ---- a budget
 

@@ -20,7 +20,7 @@ use Rattle.model.specs.Laws.Ring.{apart-before}
 use Rattle.model.specs.Laws.Segments.{partOf, segment-at}
 use Rattle.model.specs.Laws.Effects.{in-use-parts}
 use Rattle.bridge.specs.Predicted.{Rows, CleanView}
-use Rattle.bridge.specs.Held.{Held, two-segments, two-slots, held-of-clean, clean-view, held-row}
+use Rattle.bridge.specs.Held.{Held, held-of-clean, clean-view, held-row}
 use Rattle.bridge.specs.Requests.{held-below}
 use Rattle.bridge.specs.TimesDone.{times-number, times-held}
 use Rattle.bridge.specs.Views.Slots.{full, top-row, copied-full}
@@ -34,11 +34,11 @@ use Rattle.compact.specs.Compaction.{liveEntries, Apart, Compaction}
 use Rattle.compact.specs.Composed.{then-list-if-whole}
 use Rattle.store.specs.declared.room.Plan.{Plan}
 use Rattle.store.specs.declared.room.Room.{Room}
-use Rattle.store.specs.Room.{Planned, Writable, Full, Roomed}
+use Rattle.store.specs.Room.{Planned, Full, Roomed}
 
 -- ---- a row
 
-row-full : (r : List Slot) → not (full r) ≡ ltb (firstEmpty r) (length r)
+pub row-full : (r : List Slot) → not (full r) ≡ ltb (firstEmpty r) (length r)
 unfolding all firstEmpty
 row-full [] = refl
 row-full (k ∷ r) = go (isEmpty k) (row-full r)
@@ -51,7 +51,7 @@ row-full (k ∷ r) = go (isEmpty k) (row-full r)
         less true h = let b = ltb-true (firstEmpty r) (length r) h in sym (lt-ltb (suc (firstEmpty r)) (suc (length r)) (omega arith))
         less false h = let b = ltb-false (firstEmpty r) (length r) h in sym (le-ltb (suc (firstEmpty r)) (suc (length r)) (omega arith))
 
-top-length : (B : ℕ) (l : List (List Slot)) → Rows B l → 1 ≤ length l → length (topRow l) ≡ B
+pub top-length : (B : ℕ) (l : List (List Slot)) → Rows B l → 1 ≤ length l → length (topRow l) ≡ B
 unfolding topRow
 top-length B [] r h = absurd (omega arith)
 top-length B (x ∷ []) r h = r .0
@@ -68,7 +68,7 @@ unfolding liveEntries
 live-row N B s v h some =
     let z : v .first + 0 ≡ v .first = omega arith in
     let r = rw z at (held-row N B s v h 0 some) in
-    let p : 0 < N = omega (arith, two-segments N B s (h .size)) in
+    let p : 0 < N = omega (arith, size-facts N B s (h .size) .two) in
     let i = mod-lt (v .first) p in
     let u = in-use-parts N B (v .first % N) (partOf N B (v .first % N) s) (r .0) (v .first) (getD (v .slots) 0 []) (sym (segment-at N B (v .first % N) s i) ∙ r .1) in
     ap entries (u .slots)
@@ -85,12 +85,9 @@ pub record Compacting (N B : ℕ) (p : Plan) (s : Image) (budget i left slot : �
   pub ran : Ran (compactTimes N B i (view N B s) .steps) B budget left s t
   pub last : 0 < left → (j : ℕ) → suc j ≡ i → slot ≡ length (entries (getD (view N B s .slots) j []))
 
-module _ (N B : ℕ) (p : Plan) (s : Image) (writable : Writable N B p s) where
+module _ (N B : ℕ) (p : Plan) (s : Image) (k : Planned N B p s) where
   abbrev v : View
   v = view N B s
-
-  abbrev k : Planned N B p s
-  k = writable .plan
 
   abbrev pub plan-held : Held N B s (view N B s)
   plan-held = held-of-clean N B s (k .size) (k .state)
@@ -99,26 +96,25 @@ module _ (N B : ℕ) (p : Plan) (s : Image) (writable : Writable N B p s) where
   plan-clean = clean-view N B s (k .size) (k .state)
 
   two : 2 ≤ N
-  two = two-segments N B s (k .size)
+  two = size-facts N B s (k .size) .two
 
   slots-two : 2 ≤ B
-  slots-two = two-slots N B s (k .size)
+  slots-two = size-facts N B s (k .size) .slots
 
   pub plan-sized : Sized N B (length s)
   plan-sized = sized N B s (k .size)
 
-  room-test : hasRoom v ≡ ltb (p .slot) B
+  pub room-test : hasRoom (view N B s) ≡ ltb (p .slot) B
   unfolding hasRoom
   room-test = row-full (topRow (v .slots)) ∙ ap₂ ltb (sym (k .slot)) (top-length B (v .slots) (plan-clean .rows) (plan-clean .some))
 
-  pub has-room : p .slot < B → hasRoom v ≡ true
+  pub has-room : p .slot < B → hasRoom (view N B s) ≡ true
   has-room h = room-test ∙ lt-ltb (p .slot) B h
 
-  pub no-room : B ≤ p .slot → hasRoom v ≡ false
+  pub no-room : B ≤ p .slot → hasRoom (view N B s) ≡ false
   no-room h = room-test ∙ le-ltb (p .slot) B h
 
-  -- ---- the numbers stay small
-
+  -- the numbers stay small
   pub record Small : Type 0 where
     pub some : 1 ≤ p .used
     pub spare : p .used + 1 ≤ N
@@ -135,7 +131,7 @@ module _ (N B : ℕ) (p : Plan) (s : Image) (writable : Writable N B p s) where
     ; limit = omega (arith, size-facts N B s (k .size) .most)
     ; few = omega (arith, k .used, k .compactions, compactions-length (v .slots)) }
 
-  top-is : p .first .0 + p .used ≡ suc (topNumber v)
+  pub top-is : p .first .0 + p .used ≡ suc (topNumber (view N B s))
   unfolding topNumber
   top-is = omega (arith, k .first, k .used, plan-clean .some)
 
@@ -164,7 +160,7 @@ module _ (N B : ℕ) (p : Plan) (s : Image) (writable : Writable N B p s) where
 
   -- ---- compactions
 
-  module _ (f : Full N B p) where
+  module _ (bytes : Bytes s) (fresh : isWorn N (view N B s) ≡ false) (f : Full N B p) where
     pub none-left : hasRoom v ≡ false
     none-left = no-room (f .top)
 
@@ -179,7 +175,7 @@ module _ (N B : ℕ) (p : Plan) (s : Image) (writable : Writable N B p s) where
 
     pub below : topNumber v + compactions (v .slots) < numberLimit N
     unfolding isWorn newNumbers
-    below = leb-false (numberLimit N) (topNumber v + compactions (v .slots)) (rw (none-left, not-few) at (writable .fresh))
+    below = leb-false (numberLimit N) (topNumber v + compactions (v .slots)) (rw (none-left, not-few) at (fresh))
 
     -- the top was full of a row's entries but for one slot or more
     last-short : (j : ℕ) → suc j ≡ compactions (v .slots) → length (entries (getD (v .slots) j [])) < B
@@ -217,7 +213,7 @@ module _ (N B : ℕ) (p : Plan) (s : Image) (writable : Writable N B p s) where
       found : (o : ℕ) → o ≡ p .first .0 + i → length xs ≤ budget → liveEntries N B o t ≡ entries (getD (w .slots) 0 [])
       found o e h =
           let a = after-times N B v needs i (omega (arith, within)) in
-          let held = times-held N B s v plan-held (writable .bytes) needs rows-full below i (omega (arith, within)) in
+          let held = times-held N B s v plan-held (bytes) needs rows-full below i (omega (arith, within)) in
           let first : o ≡ w .first = omega (arith, a .first, k .first) in
           let done : t ≡ run B xs s = d .ran .image ∙ ap (λ (y : List Step). run B y s) (take-all budget xs h) in
           rw (first, done) (live-row N B (run B xs s) w held (omega (arith, a .rows, plan-clean .some)))
@@ -234,7 +230,7 @@ module _ (N B : ℕ) (p : Plan) (s : Image) (writable : Writable N B p s) where
       compacting-next o n left₁ count {u} eo en c =
           let a = after-times N B v needs i (omega (arith, within)) in
           let first : o ≡ w .first = omega (arith, a .first, k .first) in
-          let next : n ≡ suc (topNumber w) = omega (arith, times-number N B s v plan-held (writable .bytes) needs rows-full below i (omega (arith, within)), top-is) in
+          let next : n ≡ suc (topNumber w) = omega (arith, times-number N B s v plan-held (bytes) needs rows-full below i (omega (arith, within)), top-is) in
           let same : length xs ≤ budget → compact N B o n (liveEntries N B o t) ≡ compact N B (w .first) (suc (topNumber w)) (entries (getD (w .slots) 0 [])) =
                 (λ h. rw (found o eo h, first, next)) in record
           { bound = omega arith

@@ -1,13 +1,14 @@
 -- Laws of the tests that come before the image is looked at.
-use Prim.Native.Nat.{ℕ, _+_, _*_, _≤_, _<_}
+use Prim.Native.Nat.{ℕ, suc, _+_, _*_, _≤_, _<_}
 use mathlib.Core.Path.{_≡_, sym, _∙_}
 use mathlib.Core.Bool.{Bool, true, false, _&&_, not}
 use native.Mathlib.Nat.{mul-le-mul-right, mul-le-mul-left, le-trans}
 use native.Mathlib.Omega.{arith}
-use lib.ListN.{length}
+use mathlib.Core.List.{List, [], _∷_}
+use lib.ListN.{length, getD}
 use lib.Dec.{leb, ltb, eqb}
 use borrow.Author.Tests.{le-leb, lt-leb, lt-ltb, ne-eqb, not-true, not-false}
-use Rattle.model.specs.Chip.{Image, leastSegments, mostSegments, leastSlots, mostSlots, inRange, imageLength, rightSize}
+use Rattle.model.specs.Chip.{Image, Bytes, leastSegments, mostSegments, leastSlots, mostSlots, inRange, imageLength, rightSize}
 use Rattle.model.specs.Slot.{numberOk}
 
 module _ (N B bytes : ℕ) where
@@ -51,3 +52,8 @@ module _ (N B : ℕ) (s : Image) (r : Bool) (e : r ≡ (inRange N B && eqb (leng
   pub right-size : not r ≡ false → rightSize N B s ≡ true
   unfolding rightSize
   right-size h = sym e ∙ not-false r h
+
+-- a slice of bytes
+pub bytes-known : (s : List ℕ) → ((i : ℕ) → getD s i 0 < 256) → Bytes s
+bytes-known [] h = tt
+bytes-known (x ∷ s) h = (h 0, bytes-known s (λ i. h (suc i)))
