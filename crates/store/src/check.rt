@@ -1,7 +1,7 @@
 // What a request is refused for: its arguments, or the state of the image.
-use scan::Surveyed;
 use model::Answer;
 use model::BlockNumber;
+use scan::Surveyed;
 ghost use mathlib.Core.Path.{_≡_};
 ghost use mathlib.Core.Bool.{_&&_};
 ghost use lib.Dec.{eqb};
@@ -45,7 +45,13 @@ pub fn state_answer(survey: Surveyed) -> Answer
     ensures { λ r. ⌜ r ≡ answerIn (stateIn survey) ⌝ }
 {
     match survey {
-        Surveyed::Clean { first: _, used: _, live: _, free: _, compactions: _ } => Answer::Done,
+        Surveyed::Clean {
+            first: _,
+            used: _,
+            live: _,
+            free: _,
+            compactions: _,
+        } => Answer::Done,
         Surveyed::TornSegment { top: _ } => Answer::Unfinished,
         Surveyed::ErasePending { top: _, blank: _ } => Answer::Unfinished,
         Surveyed::TornSlot { place: _ } => Answer::Unfinished,

@@ -66,7 +66,8 @@ pub fn put(
         live,
         free,
         compactions,
-    } = surveyed else {
+    } = surveyed
+    else {
         return finish::refused(check::state_answer(surveyed));
     };
     let plan = Plan {

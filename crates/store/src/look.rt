@@ -1,11 +1,11 @@
 // A block looked for, by delete and by both forms of reading.
 use crate::check;
 use crate::room::Plan;
-use scan::Surveyed;
 use find::Found;
 use model::Answer;
 use model::BlockNumber;
 use model::SlotPlace;
+use scan::Surveyed;
 ghost use mathlib.Core.Path.{_≡_};
 ghost use mathlib.Core.Bool.{true};
 ghost use Rattle.model.specs.Slot.{numberOk};
@@ -19,13 +19,7 @@ pub enum Looked {
 }
 
 // Looks for a block in a clean image.
-fn look_clean(
-    image: &[u8],
-    segments: usize,
-    slots: usize,
-    plan: Plan,
-    block: BlockNumber,
-) -> Looked
+fn look_clean(image: &[u8], segments: usize, slots: usize, plan: Plan, block: BlockNumber) -> Looked
     requires { ⌜ Planned segments slots plan (now image) × (numberOk (block .0) ≡ true) ⌝ }
     ensures { λ r. ⌜ Looks segments slots (now (image .entry)) (block .0) r ⌝ }
 {
@@ -53,7 +47,8 @@ pub fn look(image: &[u8], segments: usize, slots: usize, block: BlockNumber) -> 
         live,
         free,
         compactions,
-    } = surveyed else {
+    } = surveyed
+    else {
         return Looked::Refused(check::state_answer(surveyed));
     };
     let plan = Plan {

@@ -1,10 +1,10 @@
 // The steps of a recovery; a delete has one of them too.
 use crate::finish;
-use scan::Surveyed;
 use model::Answer;
 use model::Performed;
 use model::SegmentNumber;
 use model::SlotPlace;
+use scan::Surveyed;
 ghost use mathlib.Core.Path.{_≡_};
 ghost use mathlib.Core.Bool.{true, cond};
 ghost use mathlib.Core.List.{[], _∷_};
@@ -91,9 +91,22 @@ pub fn mend(
     ensures { λ r. ⌜ performed r (now (image .exit)) ≡ outcomeOf segments slots (now (image .entry)) budget recover ⌝ }
 {
     match survey {
-        Surveyed::Clean { first: _, used: _, live: _, free: _, compactions: _ } => finish::refused(Answer::Done),
+        Surveyed::Clean {
+            first: _,
+            used: _,
+            live: _,
+            free: _,
+            compactions: _,
+        } => finish::refused(Answer::Done),
         Surveyed::TornSegment { top } => erase_torn(image, segments, slots, top, budget),
-        Surveyed::ErasePending { top, blank } => erase_pending(image, segments, slots, top, blank, budget),
+        Surveyed::ErasePending { top, blank } => erase_pending(
+            image,
+            segments,
+            slots,
+            top,
+            blank,
+            budget,
+        ),
         Surveyed::TornSlot { place } => mark_slot(image, place, budget),
         Surveyed::OldSlot { place } => mark_slot(image, place, budget),
         Surveyed::Damaged => finish::refused(Answer::Damaged),

@@ -32,13 +32,7 @@ fn after(number: SegmentNumber, count: usize) -> SegmentNumber
 }
 
 // Compacts the oldest segment, as often as it takes.
-fn compact_oldest(
-    image: &mut [u8],
-    segments: usize,
-    slots: usize,
-    plan: Plan,
-    budget: u64,
-) -> Room
+fn compact_oldest(image: &mut [u8], segments: usize, slots: usize, plan: Plan, budget: u64) -> Room
     requires { ⌜ Writable segments slots plan (now image) × Full segments slots plan ⌝ }
     ensures { λ r. ⌜ Roomed segments slots budget r (now (image .entry)) (now (image .exit)) ⌝ }
 {
@@ -64,13 +58,7 @@ fn compact_oldest(
 }
 
 // Makes room: nothing, if the top has an empty slot; else one more segment is opened, if two are left; else the oldest are compacted.
-pub fn make_room(
-    image: &mut [u8],
-    segments: usize,
-    slots: usize,
-    plan: Plan,
-    budget: u64,
-) -> Room
+pub fn make_room(image: &mut [u8], segments: usize, slots: usize, plan: Plan, budget: u64) -> Room
     requires { ⌜ Writable segments slots plan (now image) ⌝ }
     ensures { λ r. ⌜ Roomed segments slots budget r (now (image .entry)) (now (image .exit)) ⌝ }
 {

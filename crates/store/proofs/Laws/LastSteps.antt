@@ -74,10 +74,11 @@ module _ (N B : ℕ) (r : Room) (f : Found) (b : ℕ) (c : List ℕ) (budget : �
     pub wrote-new : {p : Performed} → f ≡ Nothing → Finished budget written before (5 + length c) p → Wrote N B b c budget before p t w
     unfolding lastSteps markOld
     wrote-new {p} m fin =
-        let n : holds b (entriesIn v) ≡ false = found-nothing N B b t v h (k .first) (k .used) (k .old) m in record
-        { left = written
-        ; ran = rw (n, append-nil (writeAtTop N B b c v)) ran-top
-        ; finished = rw (n, append-nil (writeAtTop N B b c v), wrote-length) fin }
+        let n : holds b (entriesIn v) ≡ false = found-nothing N B b t v h (k .first) (k .used) (k .old) m in record {
+          left = written;
+          ran = rw (n, append-nil (writeAtTop N B b c v)) ran-top;
+          finished = rw (n, append-nil (writeAtTop N B b c v), wrote-length) fin;
+        }
 
     -- and then the old slot
     module _ (q : SlotPlace) (n : ℕ) (o : f ≡ At q n) (left : ℕ) {x : Image} (g : OnPageAt (q .0) markDead written left w x) where
@@ -94,7 +95,8 @@ module _ (N B : ℕ) (r : Room) (f : Found) (b : ℕ) (c : List ℕ) (budget : �
       unfolding lastSteps markOld markPlace
       wrote-old {p} fin =
           let z = old-at q n o .held in
-          let l : length (writeAtTop N B b c v ++ onPage old-page markDead) ≡ 5 + length c + 1 = length-append (writeAtTop N B b c v) (onPage old-page markDead) ∙ ap₂ _+_ wrote-length (mark-length old-page) in record
-          { left = left
-          ; ran = rw z (_then_ ran-top ran-old)
-          ; finished = rw (z, l) fin }
+          let l : length (writeAtTop N B b c v ++ onPage old-page markDead) ≡ 5 + length c + 1 = length-append (writeAtTop N B b c v) (onPage old-page markDead) ∙ ap₂ _+_ wrote-length (mark-length old-page) in record {
+            left = left;
+            ran = rw z (_then_ ran-top ran-old);
+            finished = rw (z, l) fin;
+          }

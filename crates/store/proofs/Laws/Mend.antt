@@ -104,8 +104,11 @@ module _ (N B : ℕ) (s : Image) (z : rightSize N B s ≡ true) where
   unfolding imageLength slotAt
   slot-page n j h =
       let p : 0 < N = omega (arith, size-facts N B s z .two) in
-      record { page = slotAt N B n j; whole = refl
-             ; inside = omega (arith, size-facts N B s z .whole, suc-mul (n % N) (B + 1), mul-le-mul-right (B + 1) (mod-lt n {m = N} p)) }
+      record {
+        page = slotAt N B n j;
+        whole = refl;
+        inside = omega (arith, size-facts N B s z .whole, suc-mul (n % N) (B + 1), mul-le-mul-right (B + 1) (mod-lt n {m = N} p));
+      }
 
   pub torn-page : state N B s ≡ unfinished caseC → PageAt (slotAt N B (nextNumber l - 1) (lastSlot N l) * 256) (length s)
   unfolding isC lastKind topSlots isTorn
@@ -134,7 +137,7 @@ module _ (N B : ℕ) (s : Image) (z : rightSize N B s ≡ true) where
       let t = and-right (ltb 0 (lastBlock N l)) (eqb (copies (lastBlock N l) (entriesIn (viewOf N l))) 2 && isClean N B (olderMarked N l)) (tested caseD e) in
       let c = eqb-true (copies (lastBlock N l) (entriesIn (viewOf N l))) 2 (and-left (eqb (copies (lastBlock N l) (entriesIn (viewOf N l))) 2) (isClean N B (olderMarked N l)) t) in
       slot-page (older N l .number) (older N l .slot)
-        (place-short (lastBlock N l) (holds-copies (lastBlock N l) (entriesIn (viewOf N l)) ∙ lt-ltb 0 (copies (lastBlock N l) (entriesIn (viewOf N l))) (omega arith)))
+      (place-short (lastBlock N l) (holds-copies (lastBlock N l) (entriesIn (viewOf N l)) ∙ lt-ltb 0 (copies (lastBlock N l) (entriesIn (viewOf N l))) (omega arith)))
 
   -- ---- the outcomes
 

@@ -65,10 +65,11 @@ module _ (N B : ℕ) (p : Plan) (f : Found) (b : ℕ) (c : List ℕ) (s : Image)
       let ys = lastSteps N B b c (room .result) in
       let ran : Ran (room .steps) B budget 0 s t = rw z at (d .ran) in
       let rest : budget - length (room .steps) ≡ 0 = sym (ran .rest) in
-      carried-outcome N B s budget (put b c) (room .steps) ys accepted-code accepted-steps (last-some (room .result)) (record
-        { left = 0
-        ; ran = _then_ ran (ran-spent ys B 0 t refl)
-        ; finished = record { code = fin .code ∙ rw (rest, lt-ltb 0 (length ys) (last-some (room .result))) refl; count = fin .count } })
+      carried-outcome N B s budget (put b c) (room .steps) ys accepted-code accepted-steps (last-some (room .result)) (record {
+        left = 0;
+        ran = _then_ ran (ran-spent ys B 0 t refl);
+        finished = record { code = fin .code ∙ rw (rest, lt-ltb 0 (length ys) (last-some (room .result))) refl; count = fin .count };
+      })
 
   -- ---- room was made whole
 
@@ -81,6 +82,7 @@ module _ (N B : ℕ) (p : Plan) (f : Found) (b : ℕ) (c : List ℕ) (s : Image)
     where
       x : ℕ
       x = cond (ltb (length (v .slots)) (N - 1)) 1 (compactions (v .slots))
+
       go : (t : Bool) → hasRoom v ≡ t → (not t && leb (numberLimit N) (topNumber v + cond t 0 x)) ≡ false → topNumber (room .result) ≡ topNumber v + cond t 0 x → topNumber (room .result) < numberLimit N
       go true h e n = omega (arith, n, held-below N B s v (plan-held N B p s k) (plan-clean N B p s k))
       go false h e n = omega (arith, n, leb-false (numberLimit N) (topNumber v + x) e)
@@ -118,20 +120,21 @@ module _ (N B : ℕ) (p : Plan) (f : Found) (b : ℕ) (c : List ℕ) (s : Image)
     pub room-ready : (o : Found) → o ≡ foundIn N B (r .first .0) (rowsAt N B t (r .used) (r .first .0)) b → Ready N B r o b c budget t
     room-ready o e =
         let h = room-made-held in
-        let view-is : room .result ≡ view N B t = sym (h .view) in record
-        { size = h .size
-        ; state = clean-of-held N B t (room .result) h (made .clean)
-        ; first = d .first ∙ ap (λ (y : View). y .first) view-is
-        ; used = d .used ∙ ap (λ (y : View). length (y .slots)) view-is
-        ; slot = d .slot some ∙ ap (λ (y : View). firstEmpty (topRow (y .slots))) view-is
-        ; room = omega (arith, d .slot some, room-free)
-        ; old = e
-        ; short = a .put .short
-        ; left = ran-left (d .ran) }
+        let view-is : room .result ≡ view N B t = sym (h .view) in record {
+          size = h .size;
+          state = clean-of-held N B t (room .result) h (made .clean);
+          first = d .first ∙ ap (λ (y : View). y .first) view-is;
+          used = d .used ∙ ap (λ (y : View). length (y .slots)) view-is;
+          slot = d .slot some ∙ ap (λ (y : View). firstEmpty (topRow (y .slots))) view-is;
+          room = omega (arith, d .slot some, room-free);
+          old = e;
+          short = a .put .short;
+          left = ran-left (d .ran);
+        }
 
     pub put-done : {u : Image} {q : Performed} → Wrote N B b c budget (r .left) q t u → performed q u ≡ outcomeOf N B s budget (put b c)
     put-done {u} {q} w =
         let ys = lastSteps N B b c (room .result) in
         let same : lastSteps N B b c (view N B t) ≡ ys = ap (lastSteps N B b c) (room-made-held .view) in
         carried-outcome N B s budget (put b c) (room .steps) ys accepted-code accepted-steps (last-some (room .result))
-          (carried (room .steps) ys (_then_ (d .ran) (rw same at (w .ran))) (d .ran .rest) refl (rw same at (w .finished)))
+        (carried (room .steps) ys (_then_ (d .ran) (rw same at (w .ran))) (d .ran .rest) refl (rw same at (w .finished)))

@@ -124,12 +124,13 @@ module _ (N B : ℕ) (p : Plan) (s : Image) (k : Planned N B p s) where
 
   pub small : Small
   unfolding topNumber numberLimit mostSegments
-  small = record
-    { some = omega (arith, k .used, plan-clean .some)
-    ; spare = omega (arith, k .used, plan-clean .spare, two)
-    ; number = omega (arith, k .first, k .used, plan-clean .some, held-below N B s v plan-held plan-clean)
-    ; limit = omega (arith, size-facts N B s (k .size) .most)
-    ; few = omega (arith, k .used, k .compactions, compactions-length (v .slots)) }
+  small = record {
+    some = omega (arith, k .used, plan-clean .some);
+    spare = omega (arith, k .used, plan-clean .spare, two);
+    number = omega (arith, k .first, k .used, plan-clean .some, held-below N B s v plan-held plan-clean);
+    limit = omega (arith, size-facts N B s (k .size) .most);
+    few = omega (arith, k .used, k .compactions, compactions-length (v .slots));
+  }
 
   pub top-is : p .first .0 + p .used ≡ suc (topNumber (view N B s))
   unfolding topNumber
@@ -139,11 +140,12 @@ module _ (N B : ℕ) (p : Plan) (s : Image) (k : Planned N B p s) where
 
   pub room-there : (budget : ℕ) (r : Room) → p .slot < B → r .left ≡ budget → r .first .0 ≡ p .first .0 → r .used ≡ p .used → r .slot ≡ p .slot → Roomed N B budget r s s
   unfolding roomFor
-  room-there budget r h l f u j = record
-    { ran = rw (has-room h, l) (ran-none B budget s)
-    ; first = rw (has-room h) (f ∙ k .first)
-    ; used = rw (has-room h) (u ∙ k .used)
-    ; slot = λ e. rw (has-room h) (j ∙ k .slot) }
+  room-there budget r h l f u j = record {
+    ran = rw (has-room h, l) (ran-none B budget s);
+    first = rw (has-room h) (f ∙ k .first);
+    used = rw (has-room h) (u ∙ k .used);
+    slot = λ e. rw (has-room h) (j ∙ k .slot);
+  }
 
   few-used : p .used + 1 < N → ltb (length (v .slots)) (N - 1) ≡ true
   few-used h = lt-ltb (length (v .slots)) (N - 1) (omega (arith, k .used))
@@ -152,11 +154,12 @@ module _ (N B : ℕ) (p : Plan) (s : Image) (k : Planned N B p s) where
       → Programmed (openSegment N B n) budget (r .left) s t → Roomed N B budget r s t
   unfolding roomFor openNext
   room-opened budget n r {t} h u e f g j d =
-      let top : n ≡ suc (topNumber v) = e ∙ top-is in record
-      { ran = rw (no-room h, few-used u) (rw top at (d B))
-      ; first = rw (no-room h, few-used u) (f ∙ k .first)
-      ; used = rw (no-room h, few-used u) (omega (arith, g, k .used, length-append (v .slots) (replicate B empty ∷ [])))
-      ; slot = λ z. rw (no-room h, few-used u) (j ∙ sym (ap firstEmpty (top-row (v .slots) (replicate B empty)) ∙ empty-first B)) }
+      let top : n ≡ suc (topNumber v) = e ∙ top-is in record {
+        ran = rw (no-room h, few-used u) (rw top at (d B));
+        first = rw (no-room h, few-used u) (f ∙ k .first);
+        used = rw (no-room h, few-used u) (omega (arith, g, k .used, length-append (v .slots) (replicate B empty ∷ [])));
+        slot = λ z. rw (no-room h, few-used u) (j ∙ sym (ap firstEmpty (top-row (v .slots) (replicate B empty)) ∙ empty-first B));
+      }
 
   -- ---- compactions
 
@@ -232,12 +235,13 @@ module _ (N B : ℕ) (p : Plan) (s : Image) (k : Planned N B p s) where
           let first : o ≡ w .first = omega (arith, a .first, k .first) in
           let next : n ≡ suc (topNumber w) = omega (arith, times-number N B s v plan-held (bytes) needs rows-full below i (omega (arith, within)), top-is) in
           let same : length xs ≤ budget → compact N B o n (liveEntries N B o t) ≡ compact N B (w .first) (suc (topNumber w)) (entries (getD (w .slots) 0 [])) =
-                (λ h. rw (found o eo h, first, next)) in record
-          { bound = omega arith
-          ; ran = rw add-one (then-list-if-whole (d .ran) (c .ran) same)
-          ; last = λ h j e.
-              let j-is : j ≡ i = omega arith in
-              c .counted ∙ ap length (found o eo (omega (arith, c .ran .rest, d .ran .rest)) ∙ ap entries (oldest ∙ ap (λ (y : ℕ). getD (v .slots) y []) (sym j-is))) }
+          (λ h. rw (found o eo h, first, next)) in record {
+            bound = omega arith;
+            ran = rw add-one (then-list-if-whole (d .ran) (c .ran) same);
+            last = λ h j e.
+                let j-is : j ≡ i = omega arith in
+                c .counted ∙ ap length (found o eo (omega (arith, c .ran .rest, d .ran .rest)) ∙ ap entries (oldest ∙ ap (λ (y : ℕ). getD (v .slots) y []) (sym j-is)));
+          }
 
     pub targets-apart : (i o n : ℕ) → o ≡ p .first .0 + i → n ≡ p .first .0 + (p .used + i) → Apart N o n
     targets-apart i o n eo en e =
@@ -249,8 +253,9 @@ module _ (N B : ℕ) (p : Plan) (s : Image) (k : Planned N B p s) where
     compacting-end budget i left slot r {t} d h el es ef eu =
         let n : i ≡ compactions (v .slots) = omega (arith, d .bound, k .compactions) in
         let a = after-times N B v needs i (omega arith) in
-        let room = room-times N B two slots-two v plan-clean none-left not-few in record
-        { ran = rw (room, ← n, el) (d .ran)
-        ; first = rw (room, ← n) (omega (arith, ef, k .first, a .first))
-        ; used = rw (room, ← n) (omega (arith, eu, k .used, a .rows))
-        ; slot = λ z. rw (room, ← n) (es ∙ last-empty i slot n (d .last (omega (arith, el)))) }
+        let room = room-times N B two slots-two v plan-clean none-left not-few in record {
+          ran = rw (room, ← n, el) (d .ran);
+          first = rw (room, ← n) (omega (arith, ef, k .first, a .first));
+          used = rw (room, ← n) (omega (arith, eu, k .used, a .rows));
+          slot = λ z. rw (room, ← n) (es ∙ last-empty i slot n (d .last (omega (arith, el))));
+        }

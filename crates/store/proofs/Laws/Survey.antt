@@ -66,14 +66,15 @@ module _ (N B : ℕ) (s : Image) (r : Surveyed) (e : r ≡ surveyOf N B (segment
       let v = viewOf N l in
       let c : state N B s ≡ clean = sym survey-says ∙ (ap stateIn w ∙ clean-says first used live free compactions) in
       let f : Clean first used live free compactions ≡ Clean (record { 0 = v .first }) (length (v .slots)) (length (entriesIn v)) (firstEmpty (topRow (v .slots))) (compactions-in (v .slots)) =
-            sym w ∙ (e ∙ ap (surveyIn N B l) (stated c)) in record
-      { size = z
-      ; state = c
-      ; first = let n : first ≡ record { 0 = v .first } = cc in ap (λ (y : SegmentNumber). y .0) n
-      ; used = cc
-      ; slot = cc
-      ; live = cc
-      ; compactions = cc }
+      sym w ∙ (e ∙ ap (surveyIn N B l) (stated c)) in record {
+        size = z;
+        state = c;
+        first = let n : first ≡ record { 0 = v .first } = cc in ap (λ (y : SegmentNumber). y .0) n;
+        used = cc;
+        slot = cc;
+        live = cc;
+        compactions = cc;
+      }
 
   -- ---- an unfinished image
 

@@ -11,7 +11,7 @@ use types.Run.{OneOf}
 use lib.ListN.{length}
 use lib.Dec.{ltb, leb, eqb}
 use borrow.Author.Tests.{lt-ltb, le-ltb}
-use Rattle.model.specs.Chip.{Image, numberLimit, mostSegments}
+use Rattle.model.specs.Chip.{Image, numberLimit, leastSegments, mostSegments, leastSlots, mostSlots}
 use Rattle.model.specs.State.{View, entriesIn, holds, capacity, state, view}
 use Rattle.model.specs.Steps.{topNumber, newNumbers, isWorn}
 use Rattle.model.specs.Answers.{codeOf, put, isFull}
@@ -95,9 +95,10 @@ module _ (N B : ℕ) (p : Plan) (b : ℕ) (c : List ℕ) (s : Image) (u : Puttab
     where
       h : Held N B s v
       h = plan-held N B p s k
+
       go : (r : Found) → f ≡ r → fullBy N B p r ≡ (not (holds b (entriesIn v)) && leb (capacity N B) (length (entriesIn v)))
       go (At q n) w = rw (found-at N B b s v h (k .first) (k .used) e q n w .held)
-      go Nothing w = rw (found-nothing N B b s v h (k .first) (k .used) e w) (ap (leb (capacity N B)) (k .live))
+      go Nothing w = rw (found-nothing N B b s v h (k .first) (k .used) (sym w ∙ e) refl) (ap (leb (capacity N B)) (k .live))
 
   -- a refusal
   pub answer-refuses : (a : Answer) → a ≡ answerFor N B p f → Refusing a → (refusal N B s (put b c) ≡ codeOf a) × (eqb (codeOf a) 0 ≡ false)

@@ -38,7 +38,7 @@ returns-2 c =
     let a = c .before .before .before .before .before .before .before .args in
     refused-outcome (a .segments) (a .slots) (now (a .image)) (a .budget) (put (a .block .0) (now (a .contents))) Number _
     (put-number (a .segments) (a .slots) (now (a .image)) (right-size (a .segments) (a .slots) (now (a .image)) _ (c .before .before .before .before .right-size .ensures) (c .before .before .before .if1 .left)) (a .block .0) (now (a .contents))
-      (sym (c .before .before .number-ok .ensures) ∙ not-true _ (c .before .if2 .taken)))
+    (sym (c .before .before .number-ok .ensures) ∙ not-true _ (c .before .if2 .taken)))
     refl (c .refused2 .ensures)
 
 refused-requires-3 : tie.Need-refused-requires-3
@@ -50,7 +50,7 @@ returns-3 c =
     let a = c .before .before .before .before .before .before .before .before .args in
     refused-outcome (a .segments) (a .slots) (now (a .image)) (a .budget) (put (a .block .0) (now (a .contents))) Length _
     (put-length (a .segments) (a .slots) (now (a .image)) (right-size (a .segments) (a .slots) (now (a .image)) _ (c .before .before .before .before .before .right-size .ensures) (c .before .before .before .before .if1 .left)) (a .block .0) (now (a .contents))
-      (sym (c .before .before .before .number-ok .ensures) ∙ not-false _ (c .before .before .if2 .left)) (c .before .if3 .taken))
+    (sym (c .before .before .before .number-ok .ensures) ∙ not-false _ (c .before .before .if2 .left)) (c .before .if3 .taken))
     refl (c .refused3 .ensures)
 
 survey-requires : tie.Need-survey-requires
@@ -82,11 +82,12 @@ returns-4 c =
 put-clean-requires : tie.Need-put-clean-requires
 put-clean-requires c κs =
     let a = c .before .before .before .before .before .before .before .before .before .before .before .before .before .args in
-    let r = c .before .before .before .before .survey in record
-    { plan = survey-plan (a .segments) (a .slots) (now (a .image)) (r .result) (r .ensures) (right-size (a .segments) (a .slots) (now (a .image)) _ (c .before .before .before .before .before .before .before .before .before .before .right-size .ensures) (c .before .before .before .before .before .before .before .before .before .if1 .left)) _ _ _ _ _ (c .before .before .surveyed .given .1)
-    ; bytes = bytes-known (now (a .image)) (λ i. omega (arith, c .before .before .before .before .before .before .before .before .before .before .before .before .slice-known .given i))
-    ; number = sym (c .before .before .before .before .before .before .before .before .number-ok .ensures) ∙ not-false _ (c .before .before .before .before .before .before .before .if2 .left)
-    ; short = c .before .before .before .before .before .before .if3 .left }
+    let r = c .before .before .before .before .survey in record {
+      plan = survey-plan (a .segments) (a .slots) (now (a .image)) (r .result) (r .ensures) (right-size (a .segments) (a .slots) (now (a .image)) _ (c .before .before .before .before .before .before .before .before .before .before .right-size .ensures) (c .before .before .before .before .before .before .before .before .before .if1 .left)) _ _ _ _ _ (c .before .before .surveyed .given .1);
+      bytes = bytes-known (now (a .image)) (λ i. omega (arith, c .before .before .before .before .before .before .before .before .before .before .before .before .slice-known .given i));
+      number = sym (c .before .before .before .before .before .before .before .before .number-ok .ensures) ∙ not-false _ (c .before .before .before .before .before .before .before .if2 .left);
+      short = c .before .before .before .before .before .before .if3 .left;
+    }
 
 same-length-2 : tie.Need-same-length-2
 same-length-2 c = search needs

@@ -23,9 +23,10 @@ returns : tie.Need-returns
 returns c =
     let a = c .before .before .before .before .before .before .before .before .args in
     let x = c .before .before .before .looked .given in
-    let kept = subst (Looks (a .segments) (a .slots) (now (a .image)) (a .block .0)) (x .1) (c .before .before .before .before .before .look .ensures) in
-    (piece-absent (a .segments) (a .slots) (now (a .image)) (a .block .0) (x .0 .0) (now (a .factory)) kept (sym (c .before .code-of .ensures) ∙ c .if1 .taken),
-    c .before .code-of .ensures ∙ code-refused (a .segments) (a .slots) (now (a .image)) (a .block .0) (x .0 .0) kept)
+    let kept = subst (Looks (a .segments) (a .slots) (now (a .image)) (a .block .0)) (x .1) (c .before .before .before .before .before .look .ensures) in (
+      piece-absent (a .segments) (a .slots) (now (a .image)) (a .block .0) (x .0 .0) (now (a .factory)) kept (sym (c .before .code-of .ensures) ∙ c .if1 .taken),
+      c .before .code-of .ensures ∙ code-refused (a .segments) (a .slots) (now (a .image)) (a .block .0) (x .0 .0) kept,
+    )
 
 sub-result : tie.Need-sub-result
 sub-result c = search needs
@@ -67,9 +68,10 @@ returns-2 : tie.Need-returns-2
 returns-2 c =
     let a = c .before .before .before .before .before .before .before .before .before .args in
     let x = c .before .before .before .before .looked .given in
-    let kept = subst (Looks (a .segments) (a .slots) (now (a .image)) (a .block .0)) (x .1) (c .before .before .before .before .before .before .look .ensures) in
-    (piece-refused (a .segments) (a .slots) (now (a .image)) (a .block .0) (x .0 .0) (now (a .factory)) kept (λ e. c .before .if1 .left (c .before .before .code-of .ensures ∙ e)),
-    c .before .before .code-of .ensures ∙ code-refused (a .segments) (a .slots) (now (a .image)) (a .block .0) (x .0 .0) kept)
+    let kept = subst (Looks (a .segments) (a .slots) (now (a .image)) (a .block .0)) (x .1) (c .before .before .before .before .before .before .look .ensures) in (
+      piece-refused (a .segments) (a .slots) (now (a .image)) (a .block .0) (x .0 .0) (now (a .factory)) kept (λ e. c .before .if1 .left (c .before .before .code-of .ensures ∙ e)),
+      c .before .before .code-of .ensures ∙ code-refused (a .segments) (a .slots) (now (a .image)) (a .block .0) (x .0 .0) kept,
+    )
 
 returns-3 : tie.Need-returns-3
 returns-3 c =
@@ -78,9 +80,10 @@ returns-3 c =
     let there = subst (Looks (a .segments) (a .slots) (now (a .image)) (a .block .0)) (x .1) (c .before .before .before .before .before .look .ensures) in
     let o = x .0 .0 .0 in
     let n = x .0 .1 .0 in
-    let d : o + 8 + n - (o + 8) ≡ n = omega arith in
-    (ap (λ (k : ℕ). take k (drop (o + 8) (now (a .image)))) d ∙ piece-there (a .segments) (a .slots) (now (a .image)) (a .block .0) o n (now (a .factory)) there,
-    code-there (a .segments) (a .slots) (now (a .image)) (a .block .0) o n there)
+    let d : o + 8 + n - (o + 8) ≡ n = omega arith in (
+      ap (λ (k : ℕ). take k (drop (o + 8) (now (a .image)))) d ∙ piece-there (a .segments) (a .slots) (now (a .image)) (a .block .0) o n (now (a .factory)) there,
+      code-there (a .segments) (a .slots) (now (a .image)) (a .block .0) o n there,
+    )
 
 pub read-or-spec : {M : Type 1} → statement M
 read-or-spec =

@@ -41,9 +41,10 @@ after-requires-2 c κs =
 compact-segment-requires : tie.Need-compact-segment-requires Inv-loop μ-loop
 compact-segment-requires c κs =
     let a = c .before .before .before .before .before .before .before .before in
-    let l = c .before .before .before .before .before .before .loop in
-    (rw (ran-length (l .inv .ran)) (plan-sized (a .args .segments) (a .args .slots) (a .args .plan) (now (a .args .image)) (a .pre .0 .plan)),
-    targets-apart (a .args .segments) (a .args .slots) (a .args .plan) (now (a .args .image)) (a .pre .0 .plan) (a .pre .0 .bytes) (a .pre .0 .fresh) (a .pre .1) (l .i) _ _ (c .before .before .before .after .ensures) (c .before .after2 .ensures))
+    let l = c .before .before .before .before .before .before .loop in (
+      rw (ran-length (l .inv .ran)) (plan-sized (a .args .segments) (a .args .slots) (a .args .plan) (now (a .args .image)) (a .pre .0 .plan)),
+      targets-apart (a .args .segments) (a .args .slots) (a .args .plan) (now (a .args .image)) (a .pre .0 .plan) (a .pre .0 .bytes) (a .pre .0 .fresh) (a .pre .1) (l .i) _ _ (c .before .before .before .after .ensures) (c .before .after2 .ensures),
+    )
 
 add-i : tie.Need-add-i Inv-loop μ-loop
 add-i c =

@@ -25,10 +25,11 @@ old-slot-requires c κs =
     let x = c .before .before .before .before .before .before .before .before .before .before in
     let a = x .args in
     let d = c .before .before .before .before .before .before .make-room .ensures in
-    let l = c .before .before .if1 .left in
-    (room-sized (a .segments) (a .slots) (a .plan) (a .found) (a .block .0) (now (a .contents)) (now (a .image)) (x .pre) (a .budget) _ _ d l,
-    room-number (a .segments) (a .slots) (a .plan) (a .found) (a .block .0) (now (a .contents)) (now (a .image)) (x .pre) (a .budget) _ _ d l,
-    found-still (a .segments) (a .slots) (a .plan) (a .found) (a .block .0) (now (a .contents)) (now (a .image)) (x .pre) (a .budget) _ _ d l)
+    let l = c .before .before .if1 .left in (
+      room-sized (a .segments) (a .slots) (a .plan) (a .found) (a .block .0) (now (a .contents)) (now (a .image)) (x .pre) (a .budget) _ _ d l,
+      room-number (a .segments) (a .slots) (a .plan) (a .found) (a .block .0) (now (a .contents)) (now (a .image)) (x .pre) (a .budget) _ _ d l,
+      found-still (a .segments) (a .slots) (a .plan) (a .found) (a .block .0) (now (a .contents)) (now (a .image)) (x .pre) (a .budget) _ _ d l,
+    )
 
 write-block-requires : tie.Need-write-block-requires
 write-block-requires c κs =

@@ -48,8 +48,11 @@ mark-dead-requires : tie.Need-mark-dead-requires
 mark-dead-requires c κs =
     let x = c .before .before .before .before .before .before .before .before .before .before .before in
     let a = x .args in
-    omega (arith, old-inside (a .segments) (a .slots) (a .room) (a .old) (a .block .0) (now (a .contents)) (a .budget) (now (a .image)) (x .pre) _ _ (c .before .before .old .given .1),
-    write-size (a .segments) (a .slots) (a .room) (a .old) (a .block .0) (now (a .contents)) (a .budget) (now (a .image)) (x .pre) _ _ _ (c .before .before .before .before .before .before .before .before .free-place .ensures) (c .before .before .before .before .before .before .write-slot .ensures))
+    omega (
+      arith,
+      old-inside (a .segments) (a .slots) (a .room) (a .old) (a .block .0) (now (a .contents)) (a .budget) (now (a .image)) (x .pre) _ _ (c .before .before .old .given .1),
+      write-size (a .segments) (a .slots) (a .room) (a .old) (a .block .0) (now (a .contents)) (a .budget) (now (a .image)) (x .pre) _ _ _ (c .before .before .before .before .before .before .before .before .free-place .ensures) (c .before .before .before .before .before .before .write-slot .ensures),
+    )
 
 add-finished : tie.Need-add-finished
 add-finished c = search needs
@@ -58,8 +61,12 @@ finished-requires-2 : tie.Need-finished-requires-2
 finished-requires-2 c κs =
     let x = c .before .before .before .before .before .before .before .before .before .before .before .before .before .before in
     let a = x .args in
-    omega (arith, x .pre .left, write-left (a .segments) (a .slots) (a .room) (a .old) (a .block .0) (now (a .contents)) (a .budget) (now (a .image)) (x .pre) _ _ _ (c .before .before .before .before .before .before .before .before .before .before .before .free-place .ensures) (c .before .before .before .before .before .before .before .before .before .write-slot .ensures),
-    mark-left (a .segments) (a .slots) (a .room) (a .old) (a .block .0) (now (a .contents)) (a .budget) (now (a .image)) (x .pre) _ _ _ (c .before .before .before .before .before .before .before .before .before .before .before .free-place .ensures) (c .before .before .before .before .before .before .before .before .before .write-slot .ensures) _ _ (c .before .before .before .before .before .old .given .1) _ (c .before .before .mark-dead .ensures))
+    omega (
+      arith,
+      x .pre .left,
+      write-left (a .segments) (a .slots) (a .room) (a .old) (a .block .0) (now (a .contents)) (a .budget) (now (a .image)) (x .pre) _ _ _ (c .before .before .before .before .before .before .before .before .before .before .before .free-place .ensures) (c .before .before .before .before .before .before .before .before .before .write-slot .ensures),
+      mark-left (a .segments) (a .slots) (a .room) (a .old) (a .block .0) (now (a .contents)) (a .budget) (now (a .image)) (x .pre) _ _ _ (c .before .before .before .before .before .before .before .before .before .before .before .free-place .ensures) (c .before .before .before .before .before .before .before .before .before .write-slot .ensures) _ _ (c .before .before .before .before .before .old .given .1) _ (c .before .before .mark-dead .ensures),
+    )
 
 same-length-2 : tie.Need-same-length-2
 same-length-2 c = search needs
