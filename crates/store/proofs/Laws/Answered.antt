@@ -1,15 +1,15 @@
 -- A request's outcome as one equation: it was refused; it takes no step; or its list was performed as far as the budget went.
-use Prim.Native.Nat.{ℕ, zero, suc, _+_, _-_, _≤_, _<_, min}
-use mathlib.Core.Path.{_≡_, refl, sym, ap, _∙_}
+use Prim.Native.Nat.{ℕ, zero, suc, _+_, _-_, _<_}
+use mathlib.Core.Path.{_≡_, refl, _∙_}
 use mathlib.Core.Bool.{Bool, true, false, cond, not}
-use mathlib.Core.List.{List, [], _∷_, _++_}
+use mathlib.Core.List.{List, [], _++_}
 use native.Mathlib.Omega.{arith}
 use lib.ListN.{length, take, length-append, length-take}
 use lib.Dec.{leb, ltb, eqb}
-use borrow.Author.Tests.{le-leb, lt-leb, lt-ltb, le-ltb, leb-true, leb-false, eq-eqb}
-use Rattle.model.specs.Chip.{Image, Step, rightSize, run}
+use borrow.Author.Tests.{le-leb, lt-ltb, le-ltb, leb-true, leb-false}
+use Rattle.model.specs.Chip.{Image, Step, run}
 use Rattle.model.specs.State.{segmentsOf}
-use Rattle.model.specs.Answers.{codeOf, Request, format, put, delete, read, readOr, recover, firstOf, absentRefusals, refusals, stepsFor, workOn, workOf, codeUnder, performed, Outcome, outcomeOf}
+use Rattle.model.specs.Answers.{codeOf, Request, stepsFor, workOn, workOf, codeUnder, performed, Outcome, outcomeOf}
 use Rattle.model.specs.declared.Answer.{Answer}
 use Rattle.model.specs.declared.Performed.{Performed}
 use Rattle.bridge.specs.Accepted.{refusal}

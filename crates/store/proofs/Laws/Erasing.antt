@@ -1,5 +1,5 @@
 -- Laws of segments erased one after the other.
-use Prim.Native.Nat.{ℕ, suc, _+_, _*_, _≤_, _<_}
+use Prim.Native.Nat.{ℕ, _+_, _*_, _≤_, _<_}
 use mathlib.Core.Path.{_≡_, _∙_, subst}
 use mathlib.Core.List.{[], _∷_}
 use native.Mathlib.Nat.{suc-mul, mul-le-mul-right}

@@ -3,12 +3,12 @@ use Prim.Native.Nat.{ℕ, suc, _+_, _-_, _≤_}
 use mathlib.Core.Path.{_≡_, refl, ap, _∙_}
 use mathlib.Core.List.{List, [], _∷_, _++_}
 use native.Mathlib.Omega.{arith}
-use lib.ListN.{length, take, drop, length-append, length-take, length-drop}
+use lib.ListN.{length, take, length-append}
 use lib.Seq.{take-at}
-use Rattle.model.specs.Chip.{Image, Step, program, erase, run, erased}
-use Rattle.model.specs.Header.{opened, noOldSegment, numberBytes, inverted, headerPage}
+use Rattle.model.specs.Chip.{Image, Step, program, erase, erased}
+use Rattle.model.specs.Header.{numberBytes, inverted, headerPage}
 use Rattle.model.specs.Slot.{mostContents, slotPage}
-use Rattle.model.specs.Steps.{programs, programPart, onPage, markDead, markPlace, writeSlot, openSegment, settle}
+use Rattle.model.specs.Steps.{programs, programPart, onPage, markDead, writeSlot, openSegment, settle}
 use Rattle.model.specs.Laws.Chip.{run-length}
 use Rattle.flash.specs.Ran.{Ran}
 

@@ -1,5 +1,5 @@
 -- Laws of a recovery: each state of an unfinished image and the steps that mend it.
-use Prim.Native.Nat.{ℕ, zero, suc, _+_, _-_, _*_, _%_, _≤_, _<_, max}
+use Prim.Native.Nat.{ℕ, suc, _+_, _-_, _*_, _%_, _≤_, _<_}
 use mathlib.Core.Path.{_≡_, refl, sym, ap, _∙_, subst}
 use mathlib.Core.Bool.{Bool, true, false, cond, _||_, _&&_, not}
 use mathlib.Core.List.{List, [], _∷_, _++_, map}
@@ -11,7 +11,7 @@ use lib.Dec.{eqb, ltb}
 use borrow.Author.Tests.{eqb-true, lt-ltb}
 use Rattle.model.specs.Chip.{Image, Page, Step, erase, imageLength, rightSize}
 use Rattle.model.specs.Slot.{Slot, empty, live, slotOf, isTorn}
-use Rattle.model.specs.State.{Segment, blank, invalid, inUse, segmentsOf, isInUse, isInvalid, isOwing, numberAfter, slotsIn, nextNumber, topIndex, nextIndex, topSlots, usedCount, firstNumber, slotsFrom, viewOf, entriesIn, holds, isClean, nextBlanked, isA, topSettled, isB, lastSlot, lastKind, tornMarked, isC, Place, placeFrom, placeOf, lastBlock, copies, older, olderMarked, isD, Exception, caseA, caseB, caseC, caseD, State, clean, unfinished, damaged, stateOf, state}
+use Rattle.model.specs.State.{Segment, blank, invalid, inUse, segmentsOf, isInUse, isInvalid, isOwing, numberAfter, slotsIn, nextNumber, topIndex, nextIndex, topSlots, usedCount, firstNumber, viewOf, entriesIn, holds, isClean, nextBlanked, isA, topSettled, isB, lastSlot, lastKind, tornMarked, isC, Place, placeFrom, placeOf, lastBlock, copies, older, olderMarked, isD, Exception, caseA, caseB, caseC, caseD, clean, unfinished, damaged, stateOf, state}
 use Rattle.model.specs.Steps.{onPage, slotAt, markDead, markPlace, settle, eraseUnlessBlank, mendSteps, recoverSteps}
 use Rattle.model.specs.Answers.{codeOf, recover, stepsFor, performed, outcomeOf}
 use Rattle.model.specs.declared.Answer.the-variants.{Done, Damaged}

@@ -1,20 +1,19 @@
 -- Laws of an accepted put: the image once room was made, and the whole list.
-use Prim.Native.Nat.{ℕ, suc, _+_, _-_, _≤_, _<_}
-use mathlib.Core.Path.{_≡_, refl, sym, ap, ap₂, _∙_, subst}
+use Prim.Native.Nat.{ℕ, _+_, _-_, _≤_, _<_}
+use mathlib.Core.Path.{_≡_, refl, sym, ap, _∙_}
 use mathlib.Core.Bool.{Bool, true, false, cond, _&&_, not}
-use mathlib.Core.List.{List, [], _∷_, _++_}
+use mathlib.Core.List.{List, _++_}
 use native.Mathlib.Omega.{arith}
-use lib.ListN.{length, take, length-append}
+use lib.ListN.{length, length-append}
 use lib.Dec.{ltb, leb}
 use borrow.Author.Tests.{lt-ltb, ltb-true, leb-false}
-use Rattle.model.specs.Chip.{Image, Bytes, Step, numberLimit, mostSegments, rightSize, run}
-use Rattle.model.specs.State.{segmentsOf, View, viewOf, view, clean, state}
+use Rattle.model.specs.Chip.{Image, numberLimit, mostSegments, run}
+use Rattle.model.specs.State.{segmentsOf, View, view, clean, state}
 use Rattle.model.specs.Steps.{onPage, slotAt, writeSlot, writeAtTop, markOld, topRow, topNumber, hasRoom, firstEmpty, Room, roomFor, compactions, newNumbers, isWorn, putSteps}
-use Rattle.model.specs.Answers.{codeOf, put, stepsFor, performed, outcomeOf}
+use Rattle.model.specs.Answers.{put, stepsFor, performed, outcomeOf}
 use Rattle.model.specs.declared.Performed.{Performed}
-use Rattle.model.specs.Laws.Chip.{size-facts, run-size}
+use Rattle.model.specs.Laws.Chip.{size-facts}
 use Rattle.bridge.specs.Accepted.{refusal}
-use Rattle.bridge.specs.Predicted.{CleanView}
 use Rattle.bridge.specs.Held.{Held, clean-of-held}
 use Rattle.bridge.specs.Requests.{held-below, room-held}
 use Rattle.bridge.specs.Views.Room.{Made, room-made}
@@ -26,7 +25,7 @@ use Rattle.page.specs.Pages.{Sized}
 use Rattle.page.proofs.Laws.Writes.{sized}
 use Rattle.store.specs.declared.room.Plan.{Plan}
 use Rattle.store.specs.declared.room.Room as rooms
-use Rattle.store.specs.Finish.{Finished, Carried}
+use Rattle.store.specs.Finish.{Finished}
 use Rattle.store.specs.Room.{Planned, Roomed}
 use Rattle.store.specs.Writing.{Accepted, Ready, lastSteps, Wrote}
 use Rattle.store.proofs.Laws.Lengths.{write-length, ran-left}

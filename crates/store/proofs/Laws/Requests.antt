@@ -1,16 +1,16 @@
 -- Each request's outcome, from what its parts did.
-use Prim.Native.Nat.{ℕ, _+_, _-_, _≤_, _<_}
+use Prim.Native.Nat.{ℕ, _+_, _≤_}
 use mathlib.Core.Path.{_≡_, refl, sym, ap, _∙_}
-use mathlib.Core.Bool.{Bool, true, false, cond, not}
-use mathlib.Core.List.{List, [], _∷_, _++_}
+use mathlib.Core.Bool.{true, false, not}
+use mathlib.Core.List.{List, []}
 use native.Mathlib.Omega.{arith}
 use lib.ListN.{length, take, drop}
 use borrow.Author.Tests.{ne-eqb}
-use Rattle.model.specs.Chip.{Image, Step, rightSize, run}
+use Rattle.model.specs.Chip.{Image, rightSize}
 use Rattle.model.specs.Slot.{numberOk}
-use Rattle.model.specs.State.{segmentsOf, viewOf, clean, state, view, placeOf}
+use Rattle.model.specs.State.{clean, state, view, placeOf}
 use Rattle.model.specs.Steps.{onPage, slotAt, markDead, markPlace, openSegment, eraseFirst, formatSteps, deleteSteps}
-use Rattle.model.specs.Answers.{codeOf, Request, format, put, delete, read, stepsFor, workOn, workOf, performed, outcomeOf, ReadOutcome, contentsAt, readOutcome, pieceRead, pieceOr}
+use Rattle.model.specs.Answers.{codeOf, Request, format, put, delete, stepsFor, workOn, workOf, performed, outcomeOf, ReadOutcome, contentsAt, readOutcome, pieceRead, pieceOr}
 use Rattle.model.specs.declared.Answer.{Answer}
 use Rattle.model.specs.declared.Answer.the-variants.{Size}
 use Rattle.model.specs.declared.Performed.{Performed}

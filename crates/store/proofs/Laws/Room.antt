@@ -1,19 +1,19 @@
 -- Laws of room for a put: the top has an empty slot or not, the numbers stay small, and the loop of compactions does the steps of the definition.
-use Prim.Native.Nat.{ℕ, zero, suc, _+_, _-_, _*_, _%_, _≤_, _<_}
-use mathlib.Core.Path.{_≡_, refl, sym, ap, ap₂, _∙_, subst}
+use Prim.Native.Nat.{ℕ, zero, suc, _+_, _-_, _%_, _≤_, _<_}
+use mathlib.Core.Path.{_≡_, refl, sym, ap, ap₂, _∙_}
 use mathlib.Core.Bool.{Bool, true, false, cond, _&&_, not}
-use mathlib.Core.List.{List, [], _∷_, _++_, map}
+use mathlib.Core.List.{List, [], _∷_}
 use native.Mathlib.Nat.{mod-lt}
 use native.Mathlib.Numerals.{add-one}
 use native.Mathlib.Omega.{arith}
-use lib.ListN.{length, getD, take, drop, replicate, length-append}
+use lib.ListN.{length, getD, replicate, length-append}
 use lib.Seq.{take-all}
-use lib.Dec.{ltb, leb}
-use borrow.Author.Tests.{lt-ltb, le-ltb, ltb-true, ltb-false, leb-false, not-true, not-false}
+use lib.Dec.{ltb}
+use borrow.Author.Tests.{lt-ltb, le-ltb, ltb-true, ltb-false, leb-false}
 use Rattle.model.specs.Lists.{all}
-use Rattle.model.specs.Chip.{Image, Bytes, Step, numberLimit, leastSegments, mostSegments, rightSize, run}
-use Rattle.model.specs.Slot.{Slot, empty, isEmpty, slotOf, Entry}
-use Rattle.model.specs.State.{blank, segmentsOf, View, entries, clean, state, view}
+use Rattle.model.specs.Chip.{Image, Bytes, Step, numberLimit, mostSegments, run}
+use Rattle.model.specs.Slot.{Slot, empty, isEmpty}
+use Rattle.model.specs.State.{View, entries, clean, state, view}
 use Rattle.model.specs.Steps.{topRow, topNumber, hasRoom, firstEmpty, openSegment, compact, copied, openNext, compactOldest, roomFor, compactions, newNumbers, isWorn}
 use Rattle.model.specs.Laws.Chip.{size-facts}
 use Rattle.model.specs.Laws.Ring.{apart-before}

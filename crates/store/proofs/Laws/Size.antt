@@ -6,8 +6,8 @@ use native.Mathlib.Nat.{mul-le-mul-right, mul-le-mul-left, le-trans}
 use native.Mathlib.Omega.{arith}
 use mathlib.Core.List.{List, [], _∷_}
 use lib.ListN.{length, getD}
-use lib.Dec.{leb, ltb, eqb}
-use borrow.Author.Tests.{le-leb, lt-leb, lt-ltb, ne-eqb, not-true, not-false}
+use lib.Dec.{ltb, eqb}
+use borrow.Author.Tests.{le-leb, lt-leb, lt-ltb, not-true, not-false}
 use Rattle.model.specs.Chip.{Image, Bytes, leastSegments, mostSegments, leastSlots, mostSlots, inRange, imageLength, rightSize}
 use Rattle.model.specs.Slot.{numberOk}
 

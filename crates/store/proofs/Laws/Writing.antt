@@ -11,7 +11,7 @@ use types.Run.{OneOf}
 use lib.ListN.{length}
 use lib.Dec.{ltb, leb, eqb}
 use borrow.Author.Tests.{lt-ltb, le-ltb}
-use Rattle.model.specs.Chip.{Image, numberLimit, leastSegments, mostSegments, leastSlots, mostSlots}
+use Rattle.model.specs.Chip.{Image, numberLimit, mostSegments}
 use Rattle.model.specs.State.{View, entriesIn, holds, capacity, state, view}
 use Rattle.model.specs.Steps.{topNumber, newNumbers, isWorn}
 use Rattle.model.specs.Answers.{codeOf, put, isFull}

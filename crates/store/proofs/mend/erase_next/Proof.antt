@@ -1,7 +1,6 @@
 -- `store::mend::erase_next` erases the segment after the top, unless it is told to be blank. Assumes nothing.
 use Prim.Native.Nat.{_+_, _%_}
 use native.Mathlib.Nat.{mod-lt}
-use native.Mathlib.Omega.{arith}
 use Rattle.flash.proofs.Laws.{ran-none}
 use Rattle.store.proofs.Laws.Erasing.{segment-inside}
 use borrow.Author.Needs.{needs}

@@ -1,7 +1,6 @@
 -- `store::writing::free_place` is the offset of the definition. Assumes nothing.
 use Prim.Native.Nat.{_+_, _-_}
 use native.Mathlib.Omega.{arith}
-use mathlib.Core.Path.{ap}
 use Rattle.model.specs.Steps.{slotAt}
 use Rattle.page.proofs.Laws.Writes.{header-small}
 use borrow.Author.Needs.{needs}

@@ -1,5 +1,4 @@
 -- `store::writing::is_full` is the test of the definition, from a plan and a search. Assumes nothing.
-use mathlib.Core.Path.{ap}
 use Rattle.store.specs.Writing.{fullBy}
 use borrow.Author.Needs.{needs}
 use Rattle.store.proofs.writing.is_full.Statement.{statement}

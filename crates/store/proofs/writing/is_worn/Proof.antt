@@ -1,5 +1,4 @@
 -- `store::writing::is_worn` is the test of the definition, from a plan. Assumes nothing.
-use native.Mathlib.Omega.{arith}
 use Rattle.store.proofs.Laws.Writing.{worn-room, worn-open, worn-compact}
 use borrow.Author.Needs.{needs}
 use Rattle.store.proofs.writing.is_worn.Statement.{statement}
