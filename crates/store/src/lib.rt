@@ -16,7 +16,7 @@ use model::SegmentNumber;
 use room::Plan;
 use scan::Surveyed;
 ghost use mathlib.Core.Path.{_≡_};
-ghost use Rattle.model.specs.Answers.{performed, outcomeOf, format, put, delete, recover, located, readOutcome, pieceOr};
+ghost use Rattle.model.specs.Answers.{codeOf, performed, outcomeOf, format, put, delete, recover, located, readOutcome, pieceOr};
 
 // The number of the answer that a block is not stored.
 const ABSENT: u8 = 6;
@@ -157,4 +157,11 @@ pub fn recover(image: &mut [u8], segments: usize, slots: usize, budget: u64) -> 
     }
     let surveyed = scan::survey(&image[..], segments, slots);
     mend::mend(image, segments, slots, surveyed, budget)
+}
+
+// The number of an answer in document 01's table.
+pub fn code(answer: Answer) -> u8
+    ensures { λ r. ⌜ r ≡ codeOf answer ⌝ }
+{
+    finish::code_of(answer)
 }
