@@ -11,7 +11,7 @@ use Rattle.model.specs.Steps.{eraseFirst}
 use Rattle.flash.specs.Ran.{Ran}
 use Rattle.flash.proofs.Laws.{_then_}
 use Rattle.page.specs.Pages.{Sized}
-use Rattle.store.proofs.Laws.Lengths.{ran-length}
+use Rattle.compact.proofs.Laws.{ran-length}
 
 pub segment-inside : (N B i bytes : ℕ) → Sized N B bytes → i < N → (i * (B + 1) + (B + 1)) * 256 ≤ bytes
 segment-inside N B i bytes z h = omega (arith, z .whole, mul-le-mul-right (B + 1) h, suc-mul i (B + 1))

@@ -22,7 +22,8 @@ use Rattle.page.proofs.Laws.Writes.{sized}
 use Rattle.store.specs.declared.room.Room.{Room}
 use Rattle.store.specs.Finish.{Finished}
 use Rattle.store.specs.Writing.{Ready, lastSteps, Wrote}
-use Rattle.store.proofs.Laws.Lengths.{write-length, mark-length, ran-left, ran-length}
+use Rattle.compact.proofs.Laws.{ran-length}
+use Rattle.store.proofs.Laws.Lengths.{write-length, mark-length, ran-left}
 
 module _ (N B : ℕ) (r : Room) (f : Found) (b : ℕ) (c : List ℕ) (budget : ℕ) (t : Image) (k : Ready N B r f b c budget t) where
   abbrev v : View

@@ -9,7 +9,6 @@ use Rattle.model.specs.Chip.{Image, Step, program, erase, erased}
 use Rattle.model.specs.Header.{numberBytes, inverted, headerPage}
 use Rattle.model.specs.Slot.{mostContents, slotPage}
 use Rattle.model.specs.Steps.{programs, programPart, onPage, markDead, writeSlot, openSegment, settle}
-use Rattle.model.specs.Laws.Chip.{run-length}
 use Rattle.flash.specs.Ran.{Ran}
 
 pub programs-length : (at : ℕ) (bs : List ℕ) → length (programs at bs) ≡ length bs
@@ -45,6 +44,3 @@ settle-length N B n = page-length _ _
 
 pub ran-left : {xs : List Step} {B n m : ℕ} {s t : Image} → Ran xs B n m s t → m ≤ n
 ran-left d = omega (arith, d .rest)
-
-pub ran-length : {xs : List Step} {B n m : ℕ} {s t : Image} → Ran xs B n m s t → length t ≡ length s
-ran-length {xs} {B} {n} {m} {s} {t} d = ap length (d .image) ∙ run-length B _ s

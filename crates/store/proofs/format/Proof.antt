@@ -4,7 +4,8 @@ use denote.Ref.{now}
 use Rattle.model.specs.Answers.{format}
 use Rattle.page.proofs.Laws.Writes.{sized}
 use Rattle.store.proofs.Laws.Size.{wrong-size, right-size}
-use Rattle.store.proofs.Laws.Lengths.{ran-left, ran-length}
+use Rattle.compact.proofs.Laws.{ran-length}
+use Rattle.store.proofs.Laws.Lengths.{ran-left}
 use Rattle.store.proofs.Laws.Requests.{size-refused, format-done}
 use borrow.Author.Needs.{needs}
 use Rattle.store.proofs.format.Statement.{statement}
