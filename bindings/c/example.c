@@ -1,0 +1,57 @@
+/* The store from C: a rewrite loses its power half way, and the acknowledged contents stand.
+ *
+ *     rt staticlib qanbillox                                        (at the root of the repository)
+ *     cc -Wall -Wextra -Werror -Iinclude bindings/c/example.c target/staticlib/libqanbillox.a -o target/example
+ *     target/example
+ */
+#include "qanbillox.h"
+
+#include <stdio.h>
+#include <string.h>
+
+/* The smallest chip: two segments of two slots, which hold one block. */
+enum { SEGMENTS = 2, SLOTS = 2, BLOCK = 7 };
+
+static uint8_t image[SEGMENTS * (SLOTS + 1) * QBX_PAGE];
+
+static const uint64_t unlimited = UINT64_MAX;
+
+/* Says what a writing request gave; returns 0 if that is what was expected. */
+static int told(const char *request, uint64_t result, enum qbx_answer answer, uint64_t steps)
+{
+    printf("%-28s answer %d, %llu steps\n", request, (int)qbx_answer_of(result),
+           (unsigned long long)qbx_steps_of(result));
+    return qbx_answer_of(result) != answer || qbx_steps_of(result) != steps;
+}
+
+static uint64_t put(const char *contents, uint64_t budget)
+{
+    return qbx_put(image, sizeof image, SEGMENTS, SLOTS, BLOCK, (const uint8_t *)contents, strlen(contents), budget);
+}
+
+/* Says what a read shows; returns 0 if those are the contents. */
+static int shows(const char *contents)
+{
+    uint64_t result = qbx_read(image, sizeof image, SEGMENTS, SLOTS, BLOCK);
+    const uint8_t *found = image + qbx_offset_of(result);
+    size_t length = qbx_length_of(result);
+
+    printf("%-28s answer %d, '%.*s'\n", "read", (int)qbx_answer_of(result), (int)length, (const char *)found);
+    return qbx_answer_of(result) != QBX_DONE || length != strlen(contents) || memcmp(found, contents, length) != 0;
+}
+
+int main(void)
+{
+    int wrong = 0;
+
+    wrong += told("format", qbx_format(image, sizeof image, SEGMENTS, SLOTS, unlimited), QBX_DONE, 19);
+    wrong += told("put", put("A", unlimited), QBX_DONE, 6);
+    wrong += told("put again", put("B", unlimited), QBX_DONE, 7);
+    wrong += told("put, cut after 24 steps", put("C", 24), QBX_CUT, 24);
+    wrong += told("recover", qbx_recover(image, sizeof image, SEGMENTS, SLOTS, unlimited), QBX_DONE, 2);
+    wrong += shows("B");
+    wrong += told("put", put("C", unlimited), QBX_DONE, 7);
+    wrong += shows("C");
+    wrong += told("an image that is too short", qbx_format(image, sizeof image - 1, SEGMENTS, SLOTS, unlimited), QBX_SIZE, 0);
+    return wrong != 0;
+}
