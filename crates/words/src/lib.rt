@@ -1,10 +1,13 @@
 // The words of the command line and of what it says. Nothing is read or written here.
+mod commands;
 mod lines;
 mod numbers;
 mod say;
 
 use model::BlockNumber;
 
+pub use commands::command_of;
+pub use commands::is;
 pub use say::say_complaint;
 pub use say::say_performed;
 pub use say::say_report;
