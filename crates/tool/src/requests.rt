@@ -1,0 +1,1 @@
+// The store asked, on the image alone.
