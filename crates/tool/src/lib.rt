@@ -25,10 +25,14 @@ fn print(fd: i32, line: Line)
     io::write_all(fd, &bytes[..n]);
 }
 
-// Says what could not be done with a file.
+// Says what could not be done with a file, on standard error with the system's reason.
 fn fail(fd: i32, what: &[u8], path: &[u8]) {
     io::write_all(fd, b"qbx: cannot ");
     io::write_all(fd, what);
+    if fd == libc::STDERR_FILENO {
+        os::fail(path);
+        return;
+    }
     io::write_all(fd, path);
     io::write_all(fd, b"\n");
 }

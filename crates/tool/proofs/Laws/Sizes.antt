@@ -9,7 +9,7 @@ use lib.Dec.{leb}
 use borrow.Author.Tests.{leb-true}
 use Rattle.model.specs.Chip.{leastSegments, mostSegments, leastSlots, mostSlots, inRange}
 use Rattle.model.specs.Laws.Lists.{and-left, and-right}
-use lib.ListN.{length, take, drop, replicate, length-drop, drop-of-length-le}
+use lib.ListN.{length, take, drop, replicate, length-replicate, length-drop, drop-of-length-le}
 use lib.Seq.{take-all, take-nil}
 
 -- an image has at most 64 segments of 256 pages
@@ -38,3 +38,7 @@ piece-whole s at count = let e : at + count - at ≡ count = omega arith in rw e
 -- filled up to the end
 pub filled : (s : List ℕ) (i : ℕ) → i ≡ length s → replicate i 255 ++ drop i s ≡ replicate (length s) 255
 filled s i e = let l : length s ≤ i = omega arith in rw (drop-of-length-le s l, append-nil) (ap (λ (k : ℕ). replicate k 255) e)
+
+-- so many bytes alike; over any count, so that none is counted out
+pub as-many : (n v : ℕ) → n ≡ length (replicate n v)
+as-many n v = sym (length-replicate n v)
