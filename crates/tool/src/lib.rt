@@ -91,7 +91,7 @@ fn change(image: &mut [u8], path: &[u8], command: Command, contents: &[u8], out:
     print(out, words::say_performed(performed));
 }
 
-// The contents alone go out.
+// The contents alone go out. Where the answer goes there too, a line end keeps them apart.
 fn get(image: &[u8], command: Command, out: i32, err: i32) {
     let block = command.block;
     let found = store::read(image, command.segments as usize, command.slots as usize, block);
@@ -99,6 +99,11 @@ fn get(image: &[u8], command: Command, out: i32, err: i32) {
     let at = found.offset;
     let count = found.length;
     io::write_all(out, requests::piece(image, at, count));
+    if out == err {
+        if count > 0 {
+            io::write_all(out, b"\n");
+        }
+    }
     print(err, words::say_performed(Performed { answer, steps: 0 }));
 }
 
