@@ -1,0 +1,8 @@
+pub mod Enums
+pub mod Rows
+pub mod Tables
+pub mod Heads
+pub mod Frames
+pub mod Gather
+pub mod Find
+pub mod Surveys

@@ -1,0 +1,320 @@
+// The state of an image and what requests need of it, decided in one pass; and the search for a block.
+mod headers;
+mod rows;
+mod sums;
+
+use model::BlockNumber;
+use model::SegmentNumber;
+use model::SlotKind;
+use model::SlotPlace;
+ghost use mathlib.Core.Path.{_≡_};
+ghost use mathlib.Core.Bool.{true, false};
+ghost use Prim.Native.Nat.{_-_, _*_, _<_, _≤_};
+ghost use lib.ListN.{length, getD};
+ghost use Rattle.model.specs.State.{blank, isInvalid, isOwing, numbersFrom, segmentsOf, slotsFrom, topIndex, nextIndex, capacity};
+ghost use Rattle.model.specs.Steps.{slotAt};
+ghost use Rattle.page.specs.Pages.{Sized};
+ghost use Rattle.scan.specs.Surveys.{surveyOf, cleanIn, oldIn, Shown};
+ghost use Rattle.model.specs.Chip.{rightSize};
+ghost use Rattle.scan.specs.Heads.{heads};
+ghost use Rattle.scan.specs.Find.{foundIn};
+
+// What a segment's header and a blank test tell: blank; neither in use nor blank; in use; in use with the old segment still to be erased.
+enum SegmentState {
+    Blank,
+    Invalid,
+    InUse,
+    Owing,
+}
+
+// How a row of slots ends: every slot written; empty ones last; the last written slot torn; or live with a number
+// that was met before; or against the rules.
+enum Ending {
+    Full,
+    Room,
+    TornLast,
+    TwinLast,
+    Bad,
+}
+
+// The slots of one segment, looked at in order: counts, how they end, and the block of the last live one.
+struct Row {
+    live: u16,
+    dead: u16,
+    written: u16,
+    ending: Ending,
+    block: BlockNumber,
+}
+
+// One segment (document 01: summary).
+struct Summary {
+    state: SegmentState,
+    number: SegmentNumber,
+    row: Row,
+}
+
+// The segments in use: the smallest number, how many, and whether conditions 1 to 4 of document 01's Clean hold.
+struct Frame {
+    first: usize,
+    used: usize,
+    fine: bool,
+}
+
+// Rows added up: live slots; of the last row, how many are written, how it ends behind the others and its last live
+// block; and how many rows there are up to the first with a dead slot.
+struct Sum {
+    live: usize,
+    written: usize,
+    compactions: usize,
+    dead: bool,
+    ending: Ending,
+    block: BlockNumber,
+}
+
+// ---- the search for a block
+
+// Where a block's live slot is, and the length of its contents.
+pub enum Found {
+    At(SlotPlace, usize),
+    Nothing,
+}
+
+// The first live slot of a block, in the segments in use from the oldest on. Leaves both walks at the first hit.
+pub fn find(
+    image: &[u8],
+    segments: usize,
+    slots: usize,
+    first: SegmentNumber,
+    used: usize,
+    block: BlockNumber,
+) -> Found
+    requires { ⌜ Sized segments slots (length (now image)) × (used ≤ 255) × (numbersFrom segments (segmentsOf segments slots (now image)) used (first .0) ≡ true) ⌝ }
+    ensures { λ r. ⌜ r ≡ foundIn segments slots (block .0) (record { first = first .0; slots = slotsFrom segments (segmentsOf segments slots (now (image .entry))) used (first .0) }) ⌝ }
+{
+    let mut found = Found::Nothing;
+    let number = first.0 as usize;
+    let mut i: usize = 0;
+    'segments: while i < used {
+        let index = (number + i) % segments;
+        let mut j: usize = 0;
+        while j < slots {
+            let at = (index * (slots + 1) + 1 + j) * 256;
+            let end = at + 256;
+            let kind = page::slot::slot_kind(&image[at..end]);
+            let SlotKind::Live {
+                length,
+                block: held,
+            } = kind
+            else {
+                j += 1;
+                continue;
+            };
+            if held.0 == block.0 {
+                found = Found::At(SlotPlace(at), length);
+                break 'segments;
+            }
+            j += 1;
+        }
+        i += 1;
+    }
+    found
+}
+
+// ---- the survey
+
+// The segments in use that a table of summaries shows, and their rows added up.
+struct Exam {
+    first: usize,
+    used: usize,
+    sum: Sum,
+}
+
+// The state of an image, with what a request needs in that state.
+pub enum Surveyed {
+    // The smallest number in use, how many segments are, how many slots are live, the top's first empty slot, or as
+    // many as it has, and how many compactions make room when there is none.
+    Clean {
+        first: SegmentNumber,
+        used: usize,
+        live: usize,
+        free: usize,
+        compactions: usize,
+    },
+    // (a): the segment after the top is neither in use nor blank.
+    TornSegment {
+        top: SegmentNumber,
+    },
+    // (b): the top is owing; whether its old segment is blank already.
+    ErasePending {
+        top: SegmentNumber,
+        blank: bool,
+    },
+    // (c): the top's last written slot is torn.
+    TornSlot {
+        place: SlotPlace,
+    },
+    // (d): the older of two live slots with one block.
+    OldSlot {
+        place: SlotPlace,
+    },
+    Damaged,
+}
+
+// The most live slots (document 01: the capacity C).
+fn capacity(segments: usize, slots: usize) -> usize
+    requires { ⌜ (2 ≤ segments) × (segments ≤ 64) × (2 ≤ slots) × (slots ≤ 255) ⌝ }
+    ensures { λ r. ⌜ (r ≡ capacity segments slots) × (r ≤ 1000000) ⌝ }
+{
+    (segments - 1) * slots - 1
+}
+
+// The number before the next one.
+fn top_number(next: usize) -> SegmentNumber
+    requires { ⌜ next ≤ 4294967296 ⌝ }
+    ensures { λ r. ⌜ r .0 ≡ next - 1 ⌝ }
+{
+    SegmentNumber(headers::less(next, 1) as u32)
+}
+
+// The place of a slot of the segment with a number.
+fn slot_place(segments: usize, slots: usize, number: usize, slot: usize) -> SlotPlace
+    requires { ⌜ (0 < segments) × (segments ≤ 64) × (slots ≤ 255) × (slot ≤ 65535) ⌝ }
+    ensures { λ r. ⌜ r .0 ≡ slotAt segments slots number slot * 256 ⌝ }
+{
+    SlotPlace((number % segments * (slots + 1) + 1 + slot) * 256)
+}
+
+// The survey where the top is owing: all is fine once its old segment, the one after it, is taken for erased.
+fn survey_owing(
+    image: &[u8],
+    segments: usize,
+    slots: usize,
+    table: [Summary; 64],
+    next: usize,
+) -> Surveyed
+    requires { ⌜ Shown segments slots (now image) table next × (isOwing (getD (heads segments table) (topIndex segments (heads segments table)) blank) ≡ true) ⌝ }
+    ensures { λ r. ⌜ r ≡ surveyOf segments slots (segmentsOf segments slots (now (image .entry))) ⌝ }
+{
+    let exam = sums::examine(
+        image,
+        segments,
+        slots,
+        headers::top_settled(table, segments, next),
+    );
+    let sum = exam.sum;
+    if exam.used + 1 != segments {
+        return Surveyed::Damaged;
+    }
+    if sums::orderly(sum, capacity(segments, slots)) {
+        let after = next % segments;
+        let top = top_number(next);
+        return Surveyed::ErasePending {
+            top,
+            blank: headers::shows_blank(table[after]),
+        };
+    }
+    Surveyed::Damaged
+}
+
+// The survey where the segment after the top is neither in use nor blank: all is fine once it is taken for blank.
+fn survey_torn(
+    image: &[u8],
+    segments: usize,
+    slots: usize,
+    table: [Summary; 64],
+    next: usize,
+) -> Surveyed
+    requires { ⌜ Shown segments slots (now image) table next × (isOwing (getD (heads segments table) (topIndex segments (heads segments table)) blank) ≡ false) × (isInvalid (getD (heads segments table) (nextIndex segments (heads segments table)) blank) ≡ true) ⌝ }
+    ensures { λ r. ⌜ r ≡ surveyOf segments slots (segmentsOf segments slots (now (image .entry))) ⌝ }
+{
+    let exam = sums::examine(
+        image,
+        segments,
+        slots,
+        headers::next_blanked(table, segments, next),
+    );
+    let sum = exam.sum;
+    if sums::orderly(sum, capacity(segments, slots)) {
+        let top = top_number(next);
+        return Surveyed::TornSegment { top };
+    }
+    Surveyed::Damaged
+}
+
+// The survey of a clean image.
+fn clean_survey(exam: Exam) -> Surveyed
+    requires { ⌜ exam .first < 4294967296 ⌝ }
+    ensures { λ r. ⌜ r ≡ cleanIn exam ⌝ }
+{
+    let sum = exam.sum;
+    let first = SegmentNumber(exam.first as u32);
+    Surveyed::Clean {
+        first,
+        used: exam.used,
+        live: sum.live,
+        free: sum.written,
+        compactions: sum.compactions,
+    }
+}
+
+// The survey where the block of the slot written last has an older live slot, which is searched.
+fn old_slot(image: &[u8], segments: usize, slots: usize, exam: Exam) -> Surveyed
+    requires { ⌜ Sized segments slots (length (now image)) × (exam .used ≤ 64) × (exam .first < 4294967296) × (numbersFrom segments (segmentsOf segments slots (now image)) (exam .used) (exam .first) ≡ true) ⌝ }
+    ensures { λ r. ⌜ r ≡ oldIn (foundIn segments slots (exam .sum .block .0) (record { first = exam .first; slots = slotsFrom segments (segmentsOf segments slots (now (image .entry))) (exam .used) (exam .first) })) ⌝ }
+{
+    let sum = exam.sum;
+    let block = sum.block;
+    let first = SegmentNumber(exam.first as u32);
+    let found = find(image, segments, slots, first, exam.used, block);
+    match found {
+        Found::At(place, _) => Surveyed::OldSlot { place },
+        Found::Nothing => Surveyed::Damaged,
+    }
+}
+
+// The survey where the top is not owing and the segment after it is blank or in use: the slots decide.
+fn survey_slots(
+    image: &[u8],
+    segments: usize,
+    slots: usize,
+    table: [Summary; 64],
+    next: usize,
+) -> Surveyed
+    requires { ⌜ Shown segments slots (now image) table next × (isOwing (getD (heads segments table) (topIndex segments (heads segments table)) blank) ≡ false) × (isInvalid (getD (heads segments table) (nextIndex segments (heads segments table)) blank) ≡ false) ⌝ }
+    ensures { λ r. ⌜ r ≡ surveyOf segments slots (segmentsOf segments slots (now (image .entry))) ⌝ }
+{
+    let exam = sums::examine(image, segments, slots, table);
+    let sum = exam.sum;
+    let most = capacity(segments, slots);
+    if sums::orderly(sum, most) {
+        return clean_survey(exam);
+    }
+    if sums::torn_within(sum, most) {
+        let number = headers::less(next, 1);
+        let place = slot_place(segments, slots, number, headers::less(sum.written, 1));
+        return Surveyed::TornSlot { place };
+    }
+    if sums::twin_within(sum, most + 1) {
+        return old_slot(image, segments, slots, exam);
+    }
+    Surveyed::Damaged
+}
+
+// The state of an image of a right size, and what a request needs in that state. Headers first, since the slots of the
+// segment after an owing top are not looked at; then each slot once, oldest segment first.
+pub fn survey(image: &[u8], segments: usize, slots: usize) -> Surveyed
+    requires { ⌜ rightSize segments slots (now image) ≡ true ⌝ }
+    ensures { λ r. ⌜ r ≡ surveyOf segments slots (segmentsOf segments slots (now (image .entry))) ⌝ }
+{
+    let table = headers::see_headers(image, segments, slots);
+    let next = headers::next_number(table, segments);
+    let top = headers::less(next, 1) % segments;
+    if headers::is_owing(table[top]) {
+        return survey_owing(image, segments, slots, table, next);
+    }
+    let after = next % segments;
+    if headers::is_invalid(table[after]) {
+        return survey_torn(image, segments, slots, table, next);
+    }
+    survey_slots(image, segments, slots, table, next)
+}

@@ -1,0 +1,200 @@
+// The rows of the segments in use, oldest first, gathered and added up.
+use crate::Ending;
+use crate::Exam;
+use crate::Row;
+use crate::Sum;
+use crate::Summary;
+use model::BlockNumber;
+ghost use mathlib.Core.Path.{_≡_};
+ghost use mathlib.Core.List.{map};
+ghost use Prim.Native.Nat.{_≤_};
+ghost use lib.ListN.{length, take};
+ghost use Rattle.page.specs.Pages.{Sized};
+ghost use Rattle.scan.specs.Endings.{inOrder, endsTorn, endsTwin};
+ghost use Rattle.scan.specs.Verdict.{orderly, tornWithin, twinWithin};
+ghost use Rattle.scan.specs.Surveys.{examOf, Bounded};
+ghost use Rattle.scan.specs.Heads.{heads};
+ghost use Rattle.scan.specs.Parts.{rowsOn};
+ghost use Rattle.scan.specs.Tally.{noneMet, tallies, rowOf, addRow, addRows, noSum, Few};
+
+fn with_row(s: Summary, row: Row) -> Summary
+    ensures { λ r. ⌜ (r .state ≡ s .state) × (r .number ≡ s .number) × (rowOf r ≡ row) ⌝ }
+{
+    let state = s.state;
+    let number = s.number;
+    Summary { state, number, row }
+}
+
+// The summaries of the segments in use, oldest first, with their rows, each looked at behind those before.
+fn gather(
+    image: &[u8],
+    segments: usize,
+    slots: usize,
+    table: [Summary; 64],
+    first: usize,
+    used: usize,
+) -> [Summary; 64]
+    requires { ⌜ Sized segments slots (length (now image)) × (segments ≤ 64) × (first ≤ 4294967296) × (used ≤ 64) ⌝ }
+    ensures { λ r. ⌜ (map rowOf (take used r) ≡ tallies (rowsOn (now (image .entry)) segments slots used first) noneMet) ⌝ }
+{
+    let mut seen = [0u64; 1024];
+    let mut ring = table;
+    let mut i: usize = 0;
+    while i < used {
+        let index = (first + i) % segments;
+        let at = (index * (slots + 1) + 1) * 256;
+        ring[i] = with_row(
+            table[index],
+            crate::rows::scan_row(image, at, slots, &mut seen),
+        );
+        i += 1;
+    }
+    ring
+}
+
+fn add_row(sum: Sum, row: Row) -> Sum
+    requires { ⌜ Few sum 1000 ⌝ }
+    ensures { λ r. ⌜ (r ≡ addRow sum row) × (row .live ≤ 65535) × (row .written ≤ 65535) ⌝ }
+{
+    let block = row.block;
+    let before = sum.ending;
+    let then = row.ending;
+    let live = sum.live + crate::rows::wide(row.live);
+    let written = crate::rows::wide(row.written);
+    let ending = crate::rows::behind(before, then);
+    if sum.dead {
+        return Sum {
+            live,
+            written,
+            compactions: sum.compactions,
+            dead: true,
+            ending,
+            block,
+        };
+    }
+    Sum {
+        live,
+        written,
+        compactions: sum.compactions + 1,
+        dead: row.dead > 0,
+        ending,
+        block,
+    }
+}
+
+fn sum_rows(ring: [Summary; 64], used: usize) -> Sum
+    requires { ⌜ used ≤ 64 ⌝ }
+    ensures { λ r. ⌜ (r ≡ addRows (map rowOf (take used ring)) noSum) × (r .written ≤ 65535) ⌝ }
+{
+    let mut sum = Sum {
+        live: 0,
+        written: 0,
+        compactions: 0,
+        dead: false,
+        ending: Ending::Full,
+        block: BlockNumber(0),
+    };
+    let mut i: usize = 0;
+    while i < used {
+        let s = ring[i];
+        let row = s.row;
+        sum = add_row(sum, row);
+        i += 1;
+    }
+    sum
+}
+
+fn in_order(ending: Ending) -> bool
+    ensures { λ r. ⌜ r ≡ inOrder ending ⌝ }
+{
+    match ending {
+        Ending::Full => true,
+        Ending::Room => true,
+        Ending::TornLast => false,
+        Ending::TwinLast => false,
+        Ending::Bad => false,
+    }
+}
+
+fn ends_torn(ending: Ending) -> bool
+    ensures { λ r. ⌜ r ≡ endsTorn ending ⌝ }
+{
+    match ending {
+        Ending::Full => false,
+        Ending::Room => false,
+        Ending::TornLast => true,
+        Ending::TwinLast => false,
+        Ending::Bad => false,
+    }
+}
+
+fn ends_twin(ending: Ending) -> bool
+    ensures { λ r. ⌜ r ≡ endsTwin ending ⌝ }
+{
+    match ending {
+        Ending::Full => false,
+        Ending::Room => false,
+        Ending::TornLast => false,
+        Ending::TwinLast => true,
+        Ending::Bad => false,
+    }
+}
+
+// Whether conditions 5 to 8 hold.
+pub fn orderly(sum: Sum, most: usize) -> bool
+    ensures { λ r. ⌜ r ≡ orderly most sum ⌝ }
+{
+    let ending = sum.ending;
+    if in_order(ending) {
+        sum.live <= most
+    } else {
+        false
+    }
+}
+
+// Whether they hold but for a torn slot, written last.
+pub fn torn_within(sum: Sum, most: usize) -> bool
+    ensures { λ r. ⌜ r ≡ tornWithin most sum ⌝ }
+{
+    let ending = sum.ending;
+    if ends_torn(ending) {
+        sum.live <= most
+    } else {
+        false
+    }
+}
+
+// Whether they hold but for a live slot, written last, whose block was met before.
+pub fn twin_within(sum: Sum, most: usize) -> bool
+    ensures { λ r. ⌜ r ≡ twinWithin most sum ⌝ }
+{
+    let ending = sum.ending;
+    if ends_twin(ending) {
+        sum.live <= most
+    } else {
+        false
+    }
+}
+
+// A table examined: the frame, and the rows if it is fine.
+pub fn examine(image: &[u8], segments: usize, slots: usize, table: [Summary; 64]) -> Exam
+    requires { ⌜ Sized segments slots (length (now image)) × (segments ≤ 64) ⌝ }
+    ensures { λ r. ⌜ (r ≡ examOf segments slots (now (image .entry)) (heads segments table)) × Bounded r ⌝ }
+{
+    let f = crate::headers::see_frame(table, segments);
+    let first = f.first;
+    let used = f.used;
+    if f.fine {
+        let sum = sum_rows(gather(image, segments, slots, table, first, used), used);
+        return Exam { first, used, sum };
+    }
+    let sum = Sum {
+        live: 0,
+        written: 0,
+        compactions: 0,
+        dead: false,
+        ending: Ending::Bad,
+        block: BlockNumber(0),
+    };
+    Exam { first, used, sum }
+}
