@@ -1,44 +1,45 @@
 -- One request by its refusals: what an accepted one passed, and that a refused one takes no step.
 use Prim.Native.Nat.{ℕ, suc, _≤_}
-use mathlib.Core.Path.{_≡_, refl, ap, _∙_}
+use mathlib.Core.Path.{_≡_, refl, sym, ap, _∙_}
 use mathlib.Core.Bool.{Bool, true, false, cond, _||_, _&&_, not}
 use mathlib.Core.List.{List, [], _∷_}
 use native.Mathlib.Omega.{arith}
 use lib.ListN.{length}
 use lib.Dec.{ltb, leb, eqb}
-use borrow.Author.Tests.{leb-false, ltb-false, lt-ltb, not-false, eqb-true, eqb-false}
-use Rattle.model.specs.Chip.{Image, Bytes, Step, rightSize}
+use borrow.Author.Tests.{leb-false, ltb-false, lt-ltb, not-false, eqb-true}
+use Rattle.model.specs.Chip.{Image, rightSize}
 use Rattle.model.specs.Slot.{mostContents, numberOk}
 use Rattle.model.specs.State.{segmentsOf, View, viewOf, view, entriesIn, holds, capacity, state, clean}
 use Rattle.model.specs.Steps.{recoverSteps, isWorn}
-use Rattle.model.specs.Answers.{Request, format, put, delete, read, recover, Refusal, firstOf, isFull, absentRefusals, refusals, stepsFor, Work, workOn, workOf}
+use Rattle.model.specs.Answers.{Request, format, put, delete, read, readOr, recover, Refusal, firstOf, isFull, absentRefusals, refusals, stepsFor, Work, workOn, workOf}
 use Rattle.bridge.specs.Predicted.{Fits}
 
--- ---- the list of an answer
-
-abbrev answered : Bool → ℕ → List Step → Work
-answered t c xs = cond t (record { code = 0; steps = xs }) (record { code = c; steps = [] })
-
-refused-steps : (t : Bool) (c : ℕ) (xs : List Step) → eqb (answered t c xs .code) 0 ≡ false → answered t c xs .steps ≡ []
-refused-steps true c xs h = cc
-refused-steps false c xs h = refl
-
-accepted-steps : (t : Bool) (c : ℕ) (xs : List Step) → eqb c 0 ≡ t → answered t c xs .code ≡ 0 → (answered t c xs .steps ≡ xs) × (c ≡ 0)
-accepted-steps true c xs e h = (refl, eqb-true c 0 e)
-accepted-steps false c xs e h = absurd (eqb-false c 0 e h)
+-- ---- the code and the list
 
 module _ (N B : ℕ) (s : Image) where
   -- the smallest number that applies to a request
   abbrev pub refusal : Request → ℕ
   refusal r = firstOf (refusals N B (rightSize N B s) (segmentsOf N B s) r)
 
+  abbrev work : Bool → Request → Work
+  work t r = cond t (record { code = 0; steps = stepsFor N B (segmentsOf N B s) r }) (record { code = refusal r; steps = [] })
+
+  -- it is the code
+  pub code-of : (r : Request) → workOf N B s r .code ≡ refusal r
+  unfolding workOf workOn
+  code-of r = go (eqb (refusal r) 0) refl
+    where
+      go : (t : Bool) → eqb (refusal r) 0 ≡ t → work t r .code ≡ refusal r
+      go true e = sym (eqb-true (refusal r) 0 e)
+      go false e = refl
+
   pub refused-none : (r : Request) → eqb (workOf N B s r .code) 0 ≡ false → workOf N B s r .steps ≡ []
   unfolding workOf workOn
-  refused-none r h = refused-steps (eqb (refusal r) 0) (refusal r) (stepsFor N B (segmentsOf N B s) r) h
+  refused-none r h = let e : eqb (refusal r) 0 ≡ false = ap (λ (y : ℕ). eqb y 0) (sym (code-of r)) ∙ h in rw e
 
   pub accepted : (r : Request) → workOf N B s r .code ≡ 0 → (workOf N B s r .steps ≡ stepsFor N B (segmentsOf N B s) r) × (refusal r ≡ 0)
   unfolding workOf workOn
-  accepted r h = accepted-steps (eqb (refusal r) 0) (refusal r) (stepsFor N B (segmentsOf N B s) r) refl h
+  accepted r h = let e : refusal r ≡ 0 = sym (code-of r) ∙ h in (rw e, e)
 
   -- a request whose list is empty once it is accepted takes no step
   pub quiet-none : (r : Request) → stepsFor N B (segmentsOf N B s) r ≡ [] → workOf N B s r .steps ≡ []
@@ -84,11 +85,12 @@ put-passed N B s b c h =
     let contents = passed 2 (ltb mostContents (length c)) _ (number .1) in
     let damage = passed 3 _ _ (contents .1) .1 in
     let whole = passed 4 _ _ damage .1 in
-    let full = passed 6 (isFull N B b v) _ whole in record
-    { number = not-false (numberOk b) (number .0)
-    ; short = ltb-false mostContents (length c) (contents .0)
-    ; fit = not-full N B b v (full .0)
-    ; fresh = passed 7 (isWorn N v) _ (full .1) .0 }
+    let full = passed 6 (isFull N B b v) _ whole in record {
+      number = not-false (numberOk b) (number .0);
+      short = ltb-false mostContents (length c) (contents .0);
+      fit = not-full N B b v (full .0);
+      fresh = passed 7 (isWorn N v) _ (full .1) .0;
+    }
 
 -- a delete or a read
 absent-passed : (N B : ℕ) (s : Image) (b : ℕ) → firstOf (absentRefusals N B (rightSize N B s) (segmentsOf N B s) b) ≡ 0 → holds b (entriesIn (view N B s)) ≡ true
@@ -107,6 +109,16 @@ delete-passed N B s b h = absent-passed N B s b h
 pub read-passed : (N B : ℕ) (s : Image) (b : ℕ) → refusal N B s (read b) ≡ 0 → holds b (entriesIn (view N B s)) ≡ true
 unfolding refusals
 read-passed N B s b h = absent-passed N B s b h
+
+-- every request's first row is the size
+pub size-passed : (N B : ℕ) (s : Image) (r : Request) → refusal N B s r ≡ 0 → rightSize N B s ≡ true
+unfolding refusals absentRefusals
+size-passed N B s format h = not-false (rightSize N B s) (passed 0 (not (rightSize N B s)) _ h .0)
+size-passed N B s (put b c) h = not-false (rightSize N B s) (passed 0 (not (rightSize N B s)) _ h .0)
+size-passed N B s (delete b) h = not-false (rightSize N B s) (passed 0 (not (rightSize N B s)) _ h .0)
+size-passed N B s (read b) h = not-false (rightSize N B s) (passed 0 (not (rightSize N B s)) _ h .0)
+size-passed N B s (readOr b f) h = not-false (rightSize N B s) (passed 0 (not (rightSize N B s)) _ h .0)
+size-passed N B s recover h = not-false (rightSize N B s) (passed 0 (not (rightSize N B s)) _ h .0)
 
 pub format-passed : (N B : ℕ) (s : Image) → refusal N B s format ≡ 0 → rightSize N B s ≡ true
 unfolding refusals

@@ -1,26 +1,26 @@
 -- Each list of steps of a put or a delete, done whole, leaves the ring and the predicted view.
-use Prim.Native.Nat.{ℕ, zero, suc, _+_, _-_, _*_, _/_, _%_, _≤_, _<_}
-use mathlib.Core.Path.{_≡_, refl, sym, ap, ap₂, _∙_, subst}
+use Prim.Native.Nat.{ℕ, suc, _+_, _-_, _%_, _≤_, _<_}
+use mathlib.Core.Path.{_≡_, refl, sym, ap, ap₂, _∙_}
 use mathlib.Core.Logic.{_≢_}
-use mathlib.Core.Bool.{Bool, true, false, cond}
 use mathlib.Core.List.{List, [], _∷_, _++_}
 use native.Mathlib.Omega.{arith}
-use native.Mathlib.Nat.{mod-lt, mod-add-mod, add-mod-right}
-use lib.ListN.{length, getD, drop, set, replicate, length-set}
+use native.Mathlib.Nat.{mod-lt}
+use lib.ListN.{length, getD, drop, set, replicate}
 use lib.Seq.{set-set, set-comm, getD-set-same, getD-set-other}
-use Rattle.model.specs.Chip.{Image, Bytes, numberLimit, rightSize, step, run, Step, erase}
+use Rattle.model.specs.Chip.{Image, numberLimit, imageLength, step, run, Step, erase}
 use Rattle.model.specs.Header.{opened, erasePending, compacted}
 use Rattle.model.specs.Slot.{Slot, empty, dead, live, Entry}
-use Rattle.model.specs.State.{Segment, blank, inUse, segmentsOf, nextNumber, nextIndex, usedCount, firstNumber, View, viewOf, view, entries, withSlot, Place}
-use Rattle.model.specs.Steps.{onPage, slotAt, writeSlot, markDead, markPlace, openSegment, copyOut, settle, compact, topRow, topNumber, firstEmpty, copied, openNext, compactOldest, writeAtTop}
+use Rattle.model.specs.State.{Segment, blank, inUse, segmentsOf, nextNumber, nextIndex, usedCount, firstNumber, View, view, withSlot}
+use Rattle.model.specs.Steps.{onPage, slotAt, writeSlot, markDead, openSegment, copyOut, settle, compact, topNumber, copied, openNext}
+use Rattle.model.specs.Laws.Lists.{mod-inj}
 use Rattle.model.specs.Laws.Chip.{SizeFacts, size-facts, run-size, run-append, run-length, step-length}
-use Rattle.model.specs.Laws.SlotPage.{Valid, Markable, live-markable}
+use Rattle.model.specs.Laws.HeaderPage.{old-index}
+use Rattle.model.specs.Laws.SlotPage.{Valid, live-markable}
 use Rattle.model.specs.Laws.Effects.{mark-effect, write-effect, slot-kind, slotPageAt, erase-effect, open-effect, settle-effect}
 use Rattle.model.specs.Laws.CopyOut.{Valids, copy-out-effect}
-use Rattle.model.specs.Laws.Clean.{RingFacts, used-next, index-inside, next-blank, next-apart}
+use Rattle.model.specs.Laws.Clean.{index-inside, next-blank}
 use Rattle.model.specs.Laws.View.{slotChanged, slot-ring, slot-view, taken-ring, taken-view, moved-ring, moved-view}
-use Rattle.bridge.specs.Predicted.{written, marked}
-use Rattle.bridge.specs.Held.{Held, two-segments, slots-byte, held-first, held-rows, held-count, held-next, held-top, held-row, row-valid}
+use Rattle.bridge.specs.Held.{Held, held-first, held-count, held-next, held-top, held-row}
 
 module _ (N B : ℕ) (s : Image) (v : View) (h : Held N B s v) where
   abbrev l : List Segment
@@ -28,9 +28,6 @@ module _ (N B : ℕ) (s : Image) (v : View) (h : Held N B s v) where
 
   abbrev size : SizeFacts N B s
   size = size-facts N B s (h .size)
-
-  two : 2 ≤ N
-  two = two-segments N B s (h .size)
 
   -- ---- one slot changed
 
@@ -40,10 +37,11 @@ module _ (N B : ℕ) (s : Image) (v : View) (h : Held N B s v) where
   unfolding view
   slot-held n j x xs lo hi e =
       let f = held-first N B s v h in
-      let low : firstNumber l ≤ n = omega arith in record
-      { size = run-size N B xs s ∙ h .size
-      ; ring = rw e (slot-ring N l (h .ring) n j x low hi)
-      ; view = rw e (slot-view N l (h .ring) n j x low hi ∙ ap (λ y. slotChanged n j x y) (h .view)) }
+      let low : firstNumber l ≤ n = omega arith in record {
+        size = run-size N B xs s ∙ h .size;
+        ring = rw e (slot-ring N l (h .ring) n j x low hi);
+        view = rw e (slot-view N l (h .ring) n j x low hi ∙ ap (λ y. slotChanged n j x y) (h .view));
+      }
 
   module _ (k j : ℕ) (inRow : k < length (v .slots)) (inSlot : j < B) where
     abbrev n : ℕ
@@ -59,16 +57,18 @@ module _ (N B : ℕ) (s : Image) (v : View) (h : Held N B s v) where
     pub mark-held : (b : ℕ) (c : List ℕ) → getD (getD (v .slots) k []) j empty ≡ live b c → Held N B (run B (onPage (slotAt N B (v .first + k) j) markDead) s) (slotChanged (v .first + k) j dead v)
     mark-held b c e =
         let r = held-row N B s v h k inRow in
-        let kind = slot-kind N B two s (size .whole) n j (r .0) n (getD (v .slots) k []) inSlot (r .1) in
+        let kind = slot-kind N B (size .two) s (size .whole) n j (r .0) n (getD (v .slots) k []) inSlot (r .1) in
         slot-held n j dead (onPage (slotAt N B n j) markDead) low high
-          (mark-effect N B two s (size .whole) n j (r .0) n (getD (v .slots) k []) inSlot (r .1) (live-markable (slotPageAt N B two s (size .whole) n j (r .0) n (getD (v .slots) k []) inSlot (r .1)) b c (kind ∙ e)))
+        (mark-effect N B (size .two) s (size .whole) n j (r .0) n (getD (v .slots) k []) inSlot (r .1)
+        (live-markable (slotPageAt N B (size .two) s (size .whole) n j (r .0) n (getD (v .slots) k []) inSlot (r .1)) b c (kind ∙ e)))
 
     -- an empty slot written
-    pub write-held : (b : ℕ) (c : List ℕ) → Valid b c → getD (getD (v .slots) k []) j empty ≡ empty → Held N B (run B (onPage (slotAt N B (v .first + k) j) (writeSlot b c)) s) (slotChanged (v .first + k) j (live b c) v)
+    pub write-held : (b : ℕ) (c : List ℕ) → Valid b c → getD (getD (v .slots) k []) j empty ≡ empty
+        → Held N B (run B (onPage (slotAt N B (v .first + k) j) (writeSlot b c)) s) (slotChanged (v .first + k) j (live b c) v)
     write-held b c w e =
         let r = held-row N B s v h k inRow in
         slot-held n j (live b c) (onPage (slotAt N B n j) (writeSlot b c)) low high
-          (write-effect N B two s (size .whole) n j (r .0) n (getD (v .slots) k []) inSlot (r .1) b c w e)
+        (write-effect N B (size .two) s (size .whole) n j (r .0) n (getD (v .slots) k []) inSlot (r .1) b c w e)
 
   -- ---- one more segment
 
@@ -79,86 +79,85 @@ module _ (N B : ℕ) (s : Image) (v : View) (h : Held N B s v) where
   next-is : next ≡ nextNumber l
   next-is = held-top N B s v h
 
-  free : getD l (next % N) blank ≡ blank
-  free = ap (λ (y : ℕ). getD l (y % N) blank) next-is ∙ (unfold nextIndex in next-blank N l (h .ring))
+  pub next-free : getD l (suc (topNumber v) % N) blank ≡ blank
+  next-free = ap (λ (y : ℕ). getD l (y % N) blank) next-is ∙ (unfold nextIndex in next-blank N l (h .ring))
+
+  -- the segments with that one in use
+  abbrev pub taken : ℕ → List Slot → List Segment
+  taken st ks = set (segmentsOf N B s) (suc (topNumber v) % N) (inUse st (suc (topNumber v)) ks)
+
+  taken-is : (st : ℕ) (ks : List Slot) → taken st ks ≡ set l (nextIndex N l) (inUse st (nextNumber l) ks)
+  unfolding nextIndex
+  taken-is st ks = ap (λ (y : ℕ). set l (y % N) (inUse st y ks)) next-is
 
   module _ (below : suc (topNumber v) < numberLimit N) where
     pub open-held : length (v .slots) < N - 1 → Held N B (run B (openNext N B v .steps) s) (openNext N B v .result)
-    unfolding openNext view nextIndex
+    unfolding openNext view
     open-held few =
-        let e : segmentsOf N B (run B (openSegment N B next) s) ≡ set l (nextNumber l % N) (inUse opened (nextNumber l) (replicate B empty)) =
-              open-effect N B two (size .most) (slots-byte N B s (h .size)) s (size .whole) next below free
-              ∙ ap (λ (y : ℕ). set l (y % N) (inUse opened y (replicate B empty))) next-is in record
-        { size = run-size N B (openSegment N B next) s ∙ h .size
-        ; ring = rw e (taken-ring N l (h .ring) opened (replicate B empty) (omega (arith, held-count N B s v h)) refl)
-        ; view = rw e (taken-view N l (h .ring) opened (replicate B empty) ∙ ap (λ (y : View). record { first = y .first; slots = y .slots ++ (replicate B empty ∷ []) }) (h .view)) }
+        let e : segmentsOf N B (run B (openSegment N B next) s) ≡ set l (nextIndex N l) (inUse opened (nextNumber l) (replicate B empty)) =
+        open-effect N B (size .two) (size .most) (size .mostB) s (size .whole) next below next-free ∙ taken-is opened (replicate B empty) in record {
+          size = run-size N B (openSegment N B next) s ∙ h .size;
+          ring = rw e (taken-ring N l (h .ring) opened (replicate B empty) (omega (arith, held-count N B s v h)) refl);
+          view = rw e (taken-view N l (h .ring) opened (replicate B empty) ∙ ap (λ (y : View). record { first = y .first; slots = y .slots ++ (replicate B empty ∷ []) }) (h .view));
+        }
 
     -- ---- a compaction
 
-    module _ (bytes : Bytes s) (full : length (v .slots) ≡ N - 1) (es : List Entry) (valid : Valids es) (fit : length es ≤ B) where
+    module _ (full : length (v .slots) ≡ N - 1) (es : List Entry) (valid : Valids es) (fit : length es ≤ B) where
+      -- the old segment's number
       abbrev o : ℕ
       o = v .first
 
-      pub ring-closed : o + N ≡ next + 1
+      pub ring-closed : v .first + N ≡ suc (suc (topNumber v))
       unfolding topNumber
-      ring-closed = omega (arith, full, two)
+      ring-closed = omega (arith, full, size .two)
 
-      old-after : o % N ≡ (next % N + 1) % N
-      old-after = sym (add-mod-right o N) ∙ (ap (λ (y : ℕ). y % N) ring-closed ∙ sym (mod-add-mod next N 1))
+      pub old-after : v .first % N ≡ (suc (topNumber v) % N + 1) % N
+      old-after = sym (old-index N o next (sym ring-closed))
 
-      abbrev pub copiedTo : Image
-      copiedTo = run B (copyOut N B (v .first) (suc (topNumber v)) es) s
+      pub old-apart : v .first % N ≢ suc (topNumber v) % N
+      old-apart e = let q : o ≡ next = mod-inj N o next (omega (arith, ring-closed, size .two)) (omega (arith, ring-closed)) e in omega (arith, ring-closed, size .two)
 
-      pub copied-segments : segmentsOf N B copiedTo ≡ set l (nextIndex N l) (inUse erasePending (nextNumber l) (copied B es))
-      unfolding nextIndex
-      copied-segments = copy-out-effect N B two (size .most) (slots-byte N B s (h .size)) s (size .whole) o next below old-after es valid fit free
-          ∙ ap (λ (y : ℕ). set l (y % N) (inUse erasePending y (copied B es))) next-is
+      abbrev pub owing : List Segment
+      owing = taken erasePending (copied B es)
 
-      copied-length : length copiedTo ≡ length s
-      copied-length = run-length B (copyOut N B o next es) s
+      -- up to and with the owing mark
+      pub copied-segments : segmentsOf N B (run B (copyOut N B (v .first) (suc (topNumber v)) es) s) ≡ owing
+      copied-segments = copy-out-effect N B (size .two) (size .most) (size .mostB) s (size .whole) o next below old-after es valid fit next-free
 
-      abbrev erasedOld : Image
-      erasedOld = step B (erase (o % N)) copiedTo
-
-      abbrev owing : List Segment
-      owing = set l (nextIndex N l) (inUse erasePending (nextNumber l) (copied B es))
-
-      erased-segments : segmentsOf N B erasedOld ≡ set owing (firstNumber l % N) blank
-      erased-segments =
-          let p : 0 < N = omega (arith, two) in
-          erase-effect N B two copiedTo (copied-length ∙ size .whole) (o % N) (mod-lt o p)
-          ∙ ap₂ (λ (x : List Segment) (y : ℕ). set x (y % N) blank) copied-segments (held-first N B s v h)
-
-      apart : nextIndex N l ≢ firstNumber l % N
-      apart e = next-apart N l (h .ring) (firstNumber l) (omega arith) (omega (arith, h .ring .some)) (sym e)
-
-      settled-segments : segmentsOf N B (run B (settle N B next) erasedOld) ≡ set (set l (nextIndex N l) (inUse compacted (nextNumber l) (copied B es))) (firstNumber l % N) blank
-      unfolding nextIndex
-      settled-segments =
-          let i = nextNumber l % N in
-          let j = firstNumber l % N in
-          let pending = inUse erasePending (nextNumber l) (copied B es) in
-          let there : getD (segmentsOf N B erasedOld) (next % N) blank ≡ inUse erasePending next (copied B es) =
-                ap₂ (λ (x : List Segment) (y : ℕ). getD x (y % N) blank) erased-segments next-is
-                ∙ (getD-set-other owing j i blank blank apart
-                ∙ (getD-set-same l i pending blank (index-inside N l (h .ring) (nextNumber l)) ∙ ap (λ (y : ℕ). inUse erasePending y (copied B es)) (sym next-is))) in
-          settle-effect N B two (size .most) (slots-byte N B s (h .size)) erasedOld (step-length B (erase (o % N)) copiedTo ∙ (copied-length ∙ size .whole)) next below (copied B es) there
-          ∙ (ap₂ (λ (x : List Segment) (y : ℕ). set x (y % N) (inUse compacted y (copied B es))) erased-segments next-is
-          ∙ (set-comm owing j i blank (inUse compacted (nextNumber l) (copied B es)) (λ e. apart (sym e))
-          ∙ ap (λ (x : List Segment). set x j blank) (set-set l i pending (inUse compacted (nextNumber l) (copied B es)))))
+      abbrev pub moved : List Segment
+      moved = set (taken compacted (copied B es)) (v .first % N) blank
 
       abbrev whole : List Step
       whole = compact N B (v .first) (suc (topNumber v)) es
 
-      whole-run : run B whole s ≡ run B (settle N B next) erasedOld
+      pub compact-segments : segmentsOf N B (run B (compact N B (v .first) (suc (topNumber v)) es) s) ≡ moved
       unfolding compact run
-      whole-run = run-append B (copyOut N B o next es) (erase (o % N) ∷ settle N B next) s
+      compact-segments =
+          let copiedTo = run B (copyOut N B o next es) s in
+          let erasedOld = step B (erase (o % N)) copiedTo in
+          let j = o % N in
+          let i = next % N in
+          let p : 0 < N = omega (arith, size .two) in
+          let whole-copied : length copiedTo ≡ imageLength N B = run-length B (copyOut N B o next es) s ∙ size .whole in
+          let erased-segments : segmentsOf N B erasedOld ≡ set owing j blank =
+          erase-effect N B (size .two) copiedTo whole-copied j (mod-lt o p) ∙ ap (λ (x : List Segment). set x j blank) copied-segments in
+          let there : getD (segmentsOf N B erasedOld) i blank ≡ inUse erasePending next (copied B es) =
+          ap (λ (x : List Segment). getD x i blank) erased-segments
+          ∙ (getD-set-other owing j i blank blank (λ e. old-apart (sym e)) ∙ getD-set-same l i (inUse erasePending next (copied B es)) blank (index-inside N l (h .ring) next)) in
+          ap (λ y. segmentsOf N B y) (run-append B (copyOut N B o next es) (erase j ∷ settle N B next) s)
+          ∙ (settle-effect N B (size .two) (size .most) (size .mostB) erasedOld (step-length B (erase j) copiedTo ∙ whole-copied) next below (copied B es) there
+          ∙ (ap (λ (x : List Segment). set x i (inUse compacted next (copied B es))) erased-segments
+          ∙ (set-comm owing j i blank (inUse compacted next (copied B es)) old-apart
+          ∙ ap (λ (x : List Segment). set x j blank) (set-set l i (inUse erasePending next (copied B es)) (inUse compacted next (copied B es))))))
 
       pub compact-held : Held N B (run B (compact N B (v .first) (suc (topNumber v)) es) s) (record { first = suc (v .first); slots = drop 1 (v .slots) ++ (copied B es ∷ []) })
       unfolding view
       compact-held =
-          let e : segmentsOf N B (run B whole s) ≡ set (set l (nextIndex N l) (inUse compacted (nextNumber l) (copied B es))) (firstNumber l % N) blank = ap (λ y. segmentsOf N B y) whole-run ∙ settled-segments in
-          let used : usedCount l ≡ N - 1 = sym (held-count N B s v h) ∙ full in record
-          { size = run-size N B whole s ∙ h .size
-          ; ring = rw e (moved-ring N l (h .ring) compacted (copied B es) used refl)
-          ; view = rw e (moved-view N l (h .ring) compacted (copied B es) used ∙ ap (λ (y : View). record { first = suc (y .first); slots = drop 1 (y .slots) ++ (copied B es ∷ []) }) (h .view)) }
+          let e : segmentsOf N B (run B whole s) ≡ set (set l (nextIndex N l) (inUse compacted (nextNumber l) (copied B es))) (firstNumber l % N) blank =
+          compact-segments ∙ ap₂ (λ (x : List Segment) (y : ℕ). set x (y % N) blank) (taken-is compacted (copied B es)) (held-first N B s v h) in
+          let used : usedCount l ≡ N - 1 = sym (held-count N B s v h) ∙ full in record {
+            size = run-size N B whole s ∙ h .size;
+            ring = rw e (moved-ring N l (h .ring) compacted (copied B es) used refl);
+            view = rw e (moved-view N l (h .ring) compacted (copied B es) used ∙ ap (λ (y : View). record { first = suc (y .first); slots = drop 1 (y .slots) ++ (copied B es ∷ []) }) (h .view));
+          }

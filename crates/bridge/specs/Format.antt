@@ -1,21 +1,20 @@
 -- A finished format, of any image of a right size: an image of bytes, clean, with one empty segment.
-use Prim.Native.Nat.{ℕ, zero, suc, _+_, _-_, _*_, _%_, max, _≤_, _<_}
+use Prim.Native.Nat.{ℕ, zero, suc, _+_, _-_, _*_, _%_, _≤_, _<_}
 use mathlib.Core.Path.{_≡_, refl, sym, ap, ap₂, _∙_}
-use mathlib.Core.Bool.{Bool, true, false, cond, not}
+use mathlib.Core.Bool.{true, not}
 use mathlib.Core.List.{List, [], _∷_, _++_, append-nil, flatten, flatMap}
 use native.Mathlib.Omega.{arith}
 use native.Mathlib.Nat.{mod-eq-of-lt}
 use lib.ListN.{length, getD, take, drop, set, replicate, length-take, length-replicate, length-set, getD-replicate, drop-of-length-le}
 use lib.Seq.{take-all, take-append-add, take-at, set-append-seam, drop-cons, getD-set-same}
-use lib.Dec.{leb}
 use borrow.Author.Tests.{le-leb}
 use Rattle.model.specs.Lists.{all, count}
-use Rattle.model.specs.Chip.{Image, Bytes, numberLimit, imageLength, rightSize, Step, erase, erased, withSegment, step, run}
+use Rattle.model.specs.Chip.{Image, Bytes, numberLimit, imageLength, rightSize, erase, erased, withSegment, step, run}
 use Rattle.model.specs.Header.{opened}
-use Rattle.model.specs.Slot.{Slot, empty, isEmpty, isWrong, isTorn}
-use Rattle.model.specs.State.{Segment, blank, inUse, isInUse, isInvalid, isOwing, numberAfter, slotsIn, segmentsOf, nextNumber, usedCount, firstNumber, slotsFrom, numbersFrom, View, viewOf, view, entries, entriesIn, distinct, capacity, noneOwing, othersBlank, state, clean}
+use Rattle.model.specs.Slot.{Slot, empty}
+use Rattle.model.specs.State.{Segment, blank, inUse, isInUse, isInvalid, isOwing, numberAfter, slotsIn, segmentsOf, nextNumber, usedCount, firstNumber, slotsFrom, numbersFrom, viewOf, view, entries, entriesIn, distinct, capacity, noneOwing, othersBlank, state, clean}
 use Rattle.model.specs.Steps.{openSegment, eraseFirst, formatSteps}
-use Rattle.model.specs.Laws.Lists.{all-set}
+use Rattle.model.specs.Laws.Lists.{all-set, all-replicate}
 use Rattle.model.specs.Laws.Chip.{run-append, run-length, size-facts, run-size}
 use Rattle.model.specs.Laws.Bytes.{bytes-append, run-bytes, erased-bytes}
 use Rattle.model.specs.Laws.Segments.{segments-length}
@@ -23,9 +22,9 @@ use Rattle.model.specs.Laws.Effects.{erase-effect, open-effect}
 use Rattle.model.specs.Laws.Ring.{used-more, next-raised}
 use Rattle.model.specs.Laws.Clean.{RingFacts}
 use Rattle.bridge.specs.Predicted.{fresh, CleanView}
-use Rattle.bridge.specs.Views.Shape.{shape-clean, added-shape, added-entries, rowAdded}
 use Rattle.bridge.specs.Views.Slots.{copied-none}
-use Rattle.bridge.specs.Held.{Held, two-segments, two-slots, slots-byte, clean-of-held}
+use Rattle.bridge.specs.Views.Shape.{shape-clean, added-shape, added-entries, rowAdded}
+use Rattle.bridge.specs.Held.{Held, clean-of-held}
 
 -- ---- bytes
 
@@ -35,18 +34,23 @@ unfolding eraseFirst run step withSegment erased
 first-bytes B zero s h = let e : 0 * ((B + 1) * 256) ≡ 0 = omega arith in rw e tt
 first-bytes B (suc k) s h = rw (run-append B (eraseFirst k) (erase k ∷ []) s, le-leb ((k * (B + 1) + (B + 1)) * 256) (length u) (omega (arith, run-length B (eraseFirst k) s)), total)
     (rw (take-append-add (take before u) (replicate size 255 ++ rest) size, take-at (replicate size 255) rest size (length-replicate size 255))
-      (bytes-append (take before u) (replicate size 255) (rw same (first-bytes B k s (omega arith))) (erased-bytes size)))
+    (bytes-append (take before u) (replicate size 255) (rw same (first-bytes B k s (omega arith))) (erased-bytes size)))
   where
     u : Image
     u = run B (eraseFirst k) s
+
     size : ℕ
     size = (B + 1) * 256
+
     before : ℕ
     before = k * (B + 1) * 256
+
     rest : List ℕ
     rest = drop ((k * (B + 1) + (B + 1)) * 256) u
+
     same : before ≡ k * ((B + 1) * 256)
     same = omega arith
+
     total : suc k * ((B + 1) * 256) ≡ length (take before u) + size
     total = omega (arith, length-take before u, run-length B (eraseFirst k) s)
 
@@ -68,7 +72,7 @@ erased-first N B (suc k) s z h =
     let l = segmentsOf N B s in
     let len = segments-length N B s in
     ap (λ y. segmentsOf N B y) (run-append B (eraseFirst k) (erase k ∷ []) s)
-    ∙ (erase-effect N B (two-segments N B s z) u (run-length B (eraseFirst k) s ∙ size-facts N B s z .whole) k (omega arith)
+    ∙ (erase-effect N B (size-facts N B s z .two) u (run-length B (eraseFirst k) s ∙ size-facts N B s z .whole) k (omega arith)
     ∙ (ap (λ (y : List Segment). set y k blank) (erased-first N B k s z (omega arith) ∙ ap (λ (y : List Segment). replicate k blank ++ y) (drop-cons l k blank (omega arith)))
     ∙ (ap (λ (y : ℕ). set (replicate k blank ++ (getD l k blank ∷ drop (suc k) l)) y blank) (sym (length-replicate k blank))
     ∙ (set-append-seam (replicate k blank) (getD l k blank) (drop (suc k) l) blank ∙ one-more k (drop (suc k) l)))))
@@ -87,14 +91,14 @@ opened-segments : (N B : ℕ) (s : Image) → rightSize N B s ≡ true → segme
 unfolding formatSteps numberLimit
 opened-segments N B s z =
     let u = run B (eraseFirst N) s in
-    let two = two-segments N B s z in
+    let two = size-facts N B s z .two in
     let p : 0 < N = omega arith in
     let zero-index : 0 % N ≡ 0 = mod-eq-of-lt p in
     let size = size-facts N B s z in
     let l = all-erased N B s z in
     ap (λ y. segmentsOf N B y) (run-append B (eraseFirst N) (openSegment N B 0) s)
-    ∙ (open-effect N B two (size .most) (slots-byte N B s z) u (run-length B (eraseFirst N) s ∙ size .whole) 0 (omega arith)
-        (ap₂ (λ (x : List Segment) (y : ℕ). getD x y blank) l zero-index ∙ getD-replicate N 0 blank blank p)
+    ∙ (open-effect N B two (size .most) (size-facts N B s z .mostB) u (run-length B (eraseFirst N) s ∙ size .whole) 0 (omega arith)
+    (ap₂ (λ (x : List Segment) (y : ℕ). getD x y blank) l zero-index ∙ getD-replicate N 0 blank blank p)
     ∙ ap₂ (λ (x : List Segment) (y : ℕ). set x y (inUse opened 0 (replicate B empty))) l zero-index)
 
 -- ---- one empty segment
@@ -134,20 +138,16 @@ module _ (N B : ℕ) (two : 2 ≤ N) where
   here : getD l (0 % N) blank ≡ inUse opened 0 (replicate B empty)
   here = rw zero-index (getD-set-same (replicate N blank) 0 (inUse opened 0 (replicate B empty)) blank inside)
 
-  blanks : (f : Segment → Bool) → f blank ≡ true → (c : ℕ) → all f (replicate c blank) ≡ true
-  unfolding all
-  blanks f h zero = refl
-  blanks f h (suc c) = rw (h, blanks f h c)
-
   fresh-ring : RingFacts N l
   unfolding numbersFrom noneOwing othersBlank isOwing isInvalid numberAfter
-  fresh-ring = record
-    { size = length-set (replicate N blank) 0 (inUse opened 0 (replicate B empty)) ∙ length-replicate N blank
-    ; some = rw one-used (omega arith)
-    ; spare = rw one-used (omega arith)
-    ; chain = rw (one-used, first-zero, here) refl
-    ; paid = all-set (λ x. not (isOwing x)) (replicate N blank) 0 (inUse opened 0 (replicate B empty)) (blanks (λ x. not (isOwing x)) refl N) refl
-    ; others = all-set (λ x. not (isInvalid x)) (replicate N blank) 0 (inUse opened 0 (replicate B empty)) (blanks (λ x. not (isInvalid x)) refl N) refl }
+  fresh-ring = record {
+    size = length-set (replicate N blank) 0 (inUse opened 0 (replicate B empty)) ∙ length-replicate N blank;
+    some = rw one-used (omega arith);
+    spare = rw one-used (omega arith);
+    chain = rw (one-used, first-zero, here) refl;
+    paid = all-set (λ x. not (isOwing x)) (replicate N blank) 0 (inUse opened 0 (replicate B empty)) (all-replicate (λ x. not (isOwing x)) blank refl N) refl;
+    others = all-set (λ x. not (isInvalid x)) (replicate N blank) 0 (inUse opened 0 (replicate B empty)) (all-replicate (λ x. not (isInvalid x)) blank refl N) refl;
+  }
 
   fresh-view : viewOf N l ≡ fresh B
   unfolding viewOf slotsFrom slotsIn fresh
@@ -166,11 +166,12 @@ fresh-table B = ap (λ (y : List Slot). entriesIn (record { first = 0; slots = y
 
 pub format-held : (N B : ℕ) (s : Image) → rightSize N B s ≡ true → Held N B (run B (formatSteps N B) s) (fresh B)
 unfolding view
-format-held N B s z = record
-  { size = run-size N B (formatSteps N B) s ∙ z
-  ; ring = rw (opened-segments N B s z) (fresh-ring N B (two-segments N B s z))
-  ; view = rw (opened-segments N B s z) (fresh-view N B (two-segments N B s z)) }
+format-held N B s z = record {
+  size = run-size N B (formatSteps N B) s ∙ z;
+  ring = rw (opened-segments N B s z) (fresh-ring N B (size-facts N B s z .two));
+  view = rw (opened-segments N B s z) (fresh-view N B (size-facts N B s z .two));
+}
 
 pub format-done : (N B : ℕ) (s : Image) → rightSize N B s ≡ true → (state N B (run B (formatSteps N B) s) ≡ clean) × (view N B (run B (formatSteps N B) s) ≡ fresh B)
 format-done N B s z = let h = format-held N B s z in
-    (clean-of-held N B _ (fresh B) h (fresh-clean N B (two-segments N B s z) (two-slots N B s z)), h .view)
+    (clean-of-held N B _ (fresh B) h (fresh-clean N B (size-facts N B s z .two) (size-facts N B s z .slots)), h .view)

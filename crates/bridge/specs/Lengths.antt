@@ -2,7 +2,7 @@
 use Prim.Native.Nat.{ℕ, zero, suc, _+_, _-_, _*_, _%_, _≤_, _<_}
 use mathlib.Core.Path.{_≡_, refl, sym, ap, ap₂, _∙_, subst}
 use mathlib.Core.Bool.{Bool, true, false, cond, _||_}
-use mathlib.Core.List.{List, [], _∷_, _++_, map, flatMap}
+use mathlib.Core.List.{List, [], _∷_, _++_, map, flatMap, flatten}
 use native.Mathlib.Omega.{arith}
 use native.Mathlib.Nat.{mul-le-mul-right, mul-le-mul-left, mul-le-mul, mod-lt}
 use native.Mathlib.Decide.{decLt}
@@ -12,15 +12,17 @@ use borrow.Author.Tests.{eqb-true}
 use Rattle.model.specs.Chip.{Image, Page, Step, program, erase, mostSegments, mostSlots, rightSize}
 use Rattle.model.specs.Header.{headerPage, headerStatus, headerNumber, headerInUse, allBlank}
 use Rattle.model.specs.Slot.{Slot, empty, torn, dead, wrong, live, slotPage, slotOf, mostContents, Entry, entryOf, holding}
-use Rattle.model.specs.State.{Segment, blank, invalid, inUse, isInUse, isInvalid, slotsIn, segmentOf, segmentsOf, nextNumber, nextIndex, usedCount, firstNumber, slotsFrom, View, viewOf, entries, entriesIn, holds, lastSlot, Place, placeOf, older, Exception, caseA, caseB, caseC, caseD, State, clean, unfinished, damaged, stateOf}
+use Rattle.model.specs.State.{Segment, blank, invalid, inUse, isInUse, isInvalid, slotsIn, segmentOf, segmentsOf, nextNumber, nextIndex, usedCount, firstNumber, slotsFrom, View, viewOf, entries, entriesIn, holds, lastSlot, Place, placeOf, placeFrom, view, older, Exception, caseA, caseB, caseC, caseD, State, clean, unfinished, damaged, stateOf}
 use Rattle.model.specs.Steps.{topRow, topNumber, firstEmpty, programs, programPart, onPage, headerAt, slotAt, writeSlot, markDead, markPlace, openSegment, copyEntries, copyOut, settle, compact, copied, Room, hasRoom, openNext, compactOldest, compactUntilRoom, roomFor, markOld, writeAtTop, putSteps, deleteSteps, eraseFirst, formatSteps, eraseUnlessBlank, mendSteps, recoverSteps}
-use Rattle.model.specs.Answers.{Request, format, put, delete, read, readOr, recover, stepsFor, workOf}
+use Rattle.model.specs.Table.{present, lookup, contentsFound}
+use Rattle.model.specs.Answers.{Request, format, put, delete, read, readOr, recover, stepsFor, workOf, outcomeOf, ReadOutcome, readOutcome, contentsAt}
 use Rattle.model.specs.Laws.Lists.{map-length}
 use Rattle.model.specs.Laws.Chip.{size-facts}
 use Rattle.model.specs.Laws.SlotPage.{live-facts}
 use Rattle.model.specs.Laws.Segments.{partOf, part-size, segment-at, segments-length}
-use Rattle.bridge.specs.Accepted.{refused-none, accepted, put-passed}
-use Rattle.bridge.specs.Views.Slots.{copied-entries}
+use Rattle.bridge.specs.Accepted.{refused-none, accepted, put-passed, read-passed, size-passed}
+use Rattle.bridge.specs.Views.Slots.{entries-append, copied-entries}
+use Rattle.bridge.specs.Views.Places.{first-live}
 
 -- ---- steps within a page
 
@@ -64,9 +66,16 @@ copy-length N B n j (e ∷ es) s =
 open-length : (N B n : ℕ) → length (openSegment N B n) ≤ 17
 unfolding openSegment
 open-length N B n = let h = headerPage N B 0x3F n 255 in
-    omega (arith, page-length (headerAt N B n) (program 5 0x7F ∷ (programPart h 0 5 ++ (programPart h 6 2 ++ (programPart h 8 8 ++ (program 5 0x3F ∷ []))))),
-      length-append (programPart h 0 5) (programPart h 6 2 ++ (programPart h 8 8 ++ (program 5 0x3F ∷ []))), length-append (programPart h 6 2) (programPart h 8 8 ++ (program 5 0x3F ∷ [])),
-      length-append (programPart h 8 8) (program 5 0x3F ∷ []), part-length h 0 5, part-length h 6 2, part-length h 8 8)
+    omega (
+      arith,
+      page-length (headerAt N B n) (program 5 0x7F ∷ (programPart h 0 5 ++ (programPart h 6 2 ++ (programPart h 8 8 ++ (program 5 0x3F ∷ []))))),
+      length-append (programPart h 0 5) (programPart h 6 2 ++ (programPart h 8 8 ++ (program 5 0x3F ∷ []))),
+      length-append (programPart h 6 2) (programPart h 8 8 ++ (program 5 0x3F ∷ [])),
+      length-append (programPart h 8 8) (program 5 0x3F ∷ []),
+      part-length h 0 5,
+      part-length h 6 2,
+      part-length h 8 8,
+    )
 
 compact-length : (N B o n : ℕ) (es : List Entry) → Short es → length (compact N B o n es) ≤ 20 + 253 * length es
 unfolding compact copyOut settle
@@ -78,9 +87,23 @@ compact-length N B o n es s =
     let b = copyEntries N B n 0 es in
     let c = onPage (headerAt N B n) last in
     let d = erase (o % N) ∷ onPage (headerAt N B n) (program 5 0x8F ∷ []) in
-    omega (arith, length-append (a ++ (b ++ c)) d, length-append a (b ++ c), length-append b c, page-length (headerAt N B n) first, page-length (headerAt N B n) last, page-length (headerAt N B n) (program 5 0x8F ∷ []),
-      length-append (programPart h 0 5) (programPart h 6 2 ++ programPart h 16 1), length-append (programPart h 6 2) (programPart h 16 1), length-append (programPart h 8 8) (program 5 0x9F ∷ []),
-      part-length h 0 5, part-length h 6 2, part-length h 16 1, part-length h 8 8, copy-length N B n 0 es s)
+    omega (
+      arith,
+      length-append (a ++ (b ++ c)) d,
+      length-append a (b ++ c),
+      length-append b c,
+      page-length (headerAt N B n) first,
+      page-length (headerAt N B n) last,
+      page-length (headerAt N B n) (program 5 0x8F ∷ []),
+      length-append (programPart h 0 5) (programPart h 6 2 ++ programPart h 16 1),
+      length-append (programPart h 6 2) (programPart h 16 1),
+      length-append (programPart h 8 8) (program 5 0x9F ∷ []),
+      part-length h 0 5,
+      part-length h 6 2,
+      part-length h 16 1,
+      part-length h 8 8,
+      copy-length N B n 0 es s,
+    )
 
 entries-length : (ks : List Slot) → length (entries ks) ≤ length ks
 unfolding entries flatMap
@@ -118,6 +141,7 @@ segment-row N B i ps h = go (headerInUse N B i (getD ps 0 [])) (allBlank ps)
   where
     used : Segment
     used = inUse (headerStatus (getD ps 0 [])) (headerNumber (getD ps 0 [])) (map slotOf (drop 1 ps))
+
     go : (t u : Bool) → Short (entries (slotsIn (cond t used (cond u blank invalid)))) × (length (slotsIn (cond t used (cond u blank invalid))) ≤ B)
     go true u = unfold slotsIn in (short-pages (drop 1 ps), omega (arith, map-length slotOf (drop 1 ps), length-drop 1 ps))
     go false true = unfold slotsIn entries flatMap in (tt, omega arith)
@@ -125,9 +149,10 @@ segment-row N B i ps h = go (headerInUse N B i (getD ps 0 [])) (allBlank ps)
 
 image-row : (N B i : ℕ) (s : Image) → Short (entries (slotsIn (getD (segmentsOf N B s) i blank))) × (length (slotsIn (getD (segmentsOf N B s) i blank)) ≤ B)
 unfolding slotsIn entries flatMap
-image-row N B i s = elim (decLt i N)
-  [ yes h ↦ rw (segment-at N B i s h) (segment-row N B i (partOf N B i s) (part-size N B i s h))
-  | no h ↦ rw (List·getD-eq-default (segmentsOf N B s) blank (beyond h)) (tt, omega arith) ]
+image-row N B i s = elim (decLt i N) [
+  | yes h ↦ rw (segment-at N B i s h) (segment-row N B i (partOf N B i s) (part-size N B i s h))
+  | no h ↦ rw (List·getD-eq-default (segmentsOf N B s) blank (beyond h)) (tt, omega arith)
+]
   where
     beyond : ¬ (i < N) → length (segmentsOf N B s) ≤ i
     beyond h = omega (arith, segments-length N B s)
@@ -171,8 +196,10 @@ until-length N B (suc k) v r = go (hasRoom v) (until-length N B k (compactOldest
   where
     w : View
     w = compactOldest N B v .result
+
     steps : Bool → List Step
     steps t = (cond {A = Room} t (record { steps = []; result = v }) (record { steps = compactOldest N B v .steps ++ compactUntilRoom N B k w .steps; result = compactUntilRoom N B k w .result })) .steps
+
     go : (t : Bool) → length (compactUntilRoom N B k w .steps) ≤ k * most B → length (steps t) ≤ suc k * most B
     go true h = omega arith
     go false h = omega (arith, length-append (compactOldest N B v .steps) (compactUntilRoom N B k w .steps), one-length N B v r .0)
@@ -183,6 +210,7 @@ room-length N B v r = go (hasRoom v) (ltb (length (v .slots)) (N - 1))
   where
     steps : Bool → Bool → List Step
     steps t u = (cond {A = Room} t (record { steps = []; result = v }) (cond u (openNext N B v) (compactUntilRoom N B (N - 1) v))) .steps
+
     go : (t u : Bool) → length (steps t u) ≤ 17 + (N - 1) * most B
     go true u = omega arith
     go false true = omega (arith, open-length N B (suc (topNumber v)))
@@ -218,8 +246,12 @@ mend-length N B l caseA = omega arith
 mend-length N B l caseB =
     let i = nextIndex N l in
     let x = getD l i blank in
-    omega (arith, length-append (cond (isInUse x || isInvalid x) (erase i ∷ []) []) (onPage (headerAt N B (nextNumber l - 1)) (program 5 0x8F ∷ [])), page-length (headerAt N B (nextNumber l - 1)) (program 5 0x8F ∷ []),
-      first (isInUse x || isInvalid x) i)
+    omega (
+      arith,
+      length-append (cond (isInUse x || isInvalid x) (erase i ∷ []) []) (onPage (headerAt N B (nextNumber l - 1)) (program 5 0x8F ∷ [])),
+      page-length (headerAt N B (nextNumber l - 1)) (program 5 0x8F ∷ []),
+      first (isInUse x || isInvalid x) i,
+    )
   where
     first : (t : Bool) (i : ℕ) → length (cond t (erase i ∷ []) []) ≤ 1
     first true i = omega arith
@@ -240,7 +272,7 @@ module _ (N B : ℕ) (s : Image) (z : rightSize N B s ≡ true) where
   room-bound =
       let f = size-facts N B s z in
       let n : N ≤ 64 = f .most in
-      let b : B ≤ 255 = f .mostB in
+      let b = f .mostB in
       let x : N - 1 ≤ 63 = omega arith in
       let y : most B ≤ 64535 = omega arith in
       mul-le-mul x y
@@ -257,9 +289,83 @@ module _ (N B : ℕ) (s : Image) (z : rightSize N B s ≡ true) where
   accepted-length recover e = omega (arith, recover-length N B (segmentsOf N B s) (stateOf N B (segmentsOf N B s)))
 
 -- every request's list has at most 4,194,304 steps
-pub few-steps : (N B : ℕ) (s : Image) (r : Request) → rightSize N B s ≡ true → length (workOf N B s r .steps) ≤ 4194304
-few-steps N B s r z = go (eqb (workOf N B s r .code) 0) refl
+pub few-steps : (N B : ℕ) (s : Image) (r : Request) → length (workOf N B s r .steps) ≤ 4194304
+few-steps N B s r = go (eqb (workOf N B s r .code) 0) refl
   where
     go : (t : Bool) → eqb (workOf N B s r .code) 0 ≡ t → length (workOf N B s r .steps) ≤ 4194304
-    go true e = let c = eqb-true (workOf N B s r .code) 0 e in rw (accepted N B s r c .0) (accepted-length N B s z r c)
+    go true e =
+        let c = eqb-true (workOf N B s r .code) 0 e in
+        let a = accepted N B s r c in
+        rw (a .0) (accepted-length N B s (size-passed N B s r (a .1)) r c)
     go false e = rw (refused-none N B s r e) (omega arith)
+
+-- and so has what is done of it
+pub few-done : (N B : ℕ) (s : Image) (allowance : ℕ) (r : Request) → outcomeOf N B s allowance r .count ≤ 4194304
+unfolding outcomeOf
+few-done N B s allowance r = omega (arith, few-steps N B s r, length-take allowance (workOf N B s r .steps))
+
+-- ---- reading
+
+found-short : (b : ℕ) (es : List Entry) → Short es → length (contentsFound (lookup b es)) ≤ 248
+unfolding lookup contentsFound
+found-short b [] s = omega arith
+found-short b (e ∷ es) s = go (eqb b (e .block)) (found-short b es (s .1))
+  where
+    go : (t : Bool) → length (contentsFound (lookup b es)) ≤ 248 → length (contentsFound (cond t (present (e .contents)) (lookup b es))) ≤ 248
+    go true h = s .0
+    go false h = h
+
+short-join : (es fs : List Entry) → Short es → Short fs → Short (es ++ fs)
+short-join [] fs p q = q
+short-join (e ∷ es) fs p q = (p .0, short-join es fs (p .1) q)
+
+rows-short : (B : ℕ) (l : List (List Slot)) → RowsOk B l → Short (entries (flatten l))
+unfolding flatten
+rows-short B [] r = unfold entries flatMap in tt
+rows-short B (x ∷ l) r = rw (entries-append x (flatten l)) (short-join (entries x) (entries (flatten l)) (r .0) (rows-short B l (r .2)))
+
+-- the slot of a block found in rows of at most B slots
+slot-short : (B b n : ℕ) (l : List (List Slot)) → RowsOk B l → holds b (entries (flatten l)) ≡ true → placeFrom b n l .slot < B
+slot-short B b n l r h =
+    let f = first-live b n l h in
+    let g = f .gap in
+    let row = g .before ++ (live b (f .contents) ∷ g .after) in
+    rw (f .place) (omega (arith, length-append (g .before) (live b (f .contents) ∷ g .after), row-in (g .rowsBefore) row (g .rowsAfter) (rw (f .split) at r)))
+  where
+    row-in : (x : List (List Slot)) (y : List Slot) (z : List (List Slot)) → RowsOk B (x ++ (y ∷ z)) → length y ≤ B
+    row-in [] y z q = q .1
+    row-in (w ∷ x) y z q = row-in x y z (q .2)
+
+-- a read's offset and length are small
+pub read-small : (N B : ℕ) (s : Image) (b : ℕ) → (readOutcome N B s b .offset ≤ 4194304) × (readOutcome N B s b .length ≤ 248)
+unfolding readOutcome contentsAt slotAt view viewOf entriesIn placeOf mostSegments
+read-small N B s b = go (eqb (workOf N B s (read b) .code) 0) refl
+  where
+    l : List Segment
+    l = segmentsOf N B s
+
+    rows : List (List Slot)
+    rows = slotsFrom N l (usedCount l) (firstNumber l)
+
+    out : Bool → ReadOutcome
+    out t = cond t (record { code = 0; offset = (placeFrom b (firstNumber l) rows .number % N * (B + 1) + suc (placeFrom b (firstNumber l) rows .slot)) * 256 + 8; length = length (contentsFound (lookup b (entries (flatten rows)))) })
+        (record { code = workOf N B s (read b) .code; offset = 0; length = 0 })
+
+    go : (t : Bool) → eqb (workOf N B s (read b) .code) 0 ≡ t → (out t .offset ≤ 4194304) × (out t .length ≤ 248)
+    go true e =
+        let a = accepted N B s (read b) (eqb-true (workOf N B s (read b) .code) 0 e) in
+        let z = size-facts N B s (size-passed N B s (read b) (a .1)) in
+        let ok = image-rows N B s (usedCount l) (firstNumber l) in
+        let two = z .two in
+        let most64 : N ≤ 64 = z .most in
+        let few = z .mostB in
+        let n = placeFrom b (firstNumber l) rows .number in
+        let p : 0 < N = omega arith in
+        let i : n % N ≤ 63 = omega (arith, mod-lt n p) in
+        let m : n % N * (B + 1) ≤ 63 * 256 = mul-le-mul i (le-suc few) in
+        let j = slot-short B b (firstNumber l) rows ok (read-passed N B s b (a .1)) in
+        (omega arith, found-short b (entries (flatten rows)) (rows-short B rows ok))
+      where
+        le-suc : B < 256 → B + 1 ≤ 256
+        le-suc h = omega arith
+    go false e = (omega arith, omega arith)

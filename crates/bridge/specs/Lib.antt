@@ -1,12 +1,11 @@
 -- From bytes to views.
 pub mod Predicted
-pub mod Interface
 pub mod Views
 pub mod Held
 pub mod Done
 pub mod Accepted
+pub mod Allowance
 pub mod Requests
 pub mod TimesDone
 pub mod Lengths
 pub mod Format
-pub mod Bridge

@@ -1,8 +1,8 @@
 -- The view after a request, predicted from the view before; and what a clean view is.
-use Prim.Native.Nat.{ℕ, zero, suc, _+_, _-_, _*_, _≤_, _<_}
+use Prim.Native.Nat.{ℕ, _-_, _≤_}
 use mathlib.Core.Path.{_≡_}
-use mathlib.Core.Bool.{Bool, true, false, cond, _||_}
-use mathlib.Core.List.{List, [], _∷_, _++_}
+use mathlib.Core.Bool.{true, cond, _||_}
+use mathlib.Core.List.{List, [], _∷_}
 use lib.ListN.{length, replicate}
 use lib.Dec.{ltb}
 use Rattle.model.specs.Slot.{Slot, empty, dead, live}
@@ -20,9 +20,12 @@ written b c v = slotChanged (topNumber v) (firstEmpty (topRow (v .slots))) (live
 unfoldable pub marked : Place → View → View
 marked p v = slotChanged (p .number) (p .slot) dead v
 
+-- a block put where there is room: its slot written, and then the old one, if it has one, marked
+abbrev pub putInto : ℕ → List ℕ → View → View
+putInto b c r = cond (holds b (entriesIn r)) (marked (placeOf b r) (written b c r)) (written b c r)
+
 unfoldable pub afterPut : ℕ → ℕ → ℕ → List ℕ → View → View
-afterPut N B b c v = let r = roomFor N B v .result in
-    cond (holds b (entriesIn r)) (marked (placeOf b r) (written b c r)) (written b c r)
+afterPut N B b c v = putInto b c (roomFor N B v .result)
 
 unfoldable pub afterDelete : ℕ → View → View
 afterDelete b v = marked (placeOf b v) v

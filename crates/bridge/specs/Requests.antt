@@ -1,67 +1,36 @@
 -- Accepted puts and deletes, done whole: a clean image with the predicted view.
-use Prim.Native.Nat.{ℕ, zero, suc, _+_, _-_, _*_, _%_, _≤_, _<_}
-use mathlib.Core.Path.{_≡_, refl, sym, ap, ap₂, _∙_, subst}
+use Prim.Native.Nat.{ℕ, zero, suc, _+_, _-_, _%_, _≤_, _<_}
+use mathlib.Core.Path.{_≡_, refl, _∙_, subst}
 use mathlib.Core.Bool.{Bool, true, false, cond}
 use mathlib.Core.List.{List, [], _∷_, _++_}
 use native.Mathlib.Omega.{arith}
+use native.Mathlib.Nat.{mod-lt}
 use lib.ListN.{length, getD, drop, length-append}
-use lib.Seq.{getD-append-seam}
 use lib.Dec.{ltb}
 use borrow.Author.Tests.{ltb-true, ltb-false}
-use Rattle.model.specs.Chip.{Image, Bytes, numberLimit, rightSize, run, Step}
-use Rattle.model.specs.Header.{headerNumber}
-use Rattle.model.specs.Slot.{Slot, empty, dead, live, Entry}
-use Rattle.model.specs.State.{blank, segmentsOf, nextNumber, View, view, entries, entriesIn, holds, Place, placeOf, noneWrongOrTorn, state, clean}
-use Rattle.model.specs.Steps.{onPage, slotAt, writeSlot, markDead, markPlace, topRow, topNumber, firstEmpty, hasRoom, Room, openNext, compactOldest, compactUntilRoom, roomFor, writeAtTop, markOld, putSteps, deleteSteps}
+use Rattle.model.specs.Chip.{Image, Bytes, numberLimit, rightSize, run}
+use Rattle.model.specs.Slot.{Slot, empty, live}
+use Rattle.model.specs.State.{segmentsOf, View, view, entries, entriesIn, holds, Place, placeOf, noneWrongOrTorn, state, clean}
+use Rattle.model.specs.Steps.{markPlace, topNumber, hasRoom, Room, openNext, compactOldest, compactUntilRoom, roomFor, newNumbers, writeAtTop, markOld, putSteps, deleteSteps}
+use Rattle.model.specs.Table.{Agree, store}
 use Rattle.model.specs.Answers.{put, delete, stepsFor, workOf}
 use Rattle.model.specs.Laws.Lists.{all-row}
 use Rattle.model.specs.Laws.Chip.{run-append, size-facts}
 use Rattle.model.specs.Laws.Bytes.{run-bytes}
 use Rattle.model.specs.Laws.SlotPage.{Valid}
-use Rattle.model.specs.Laws.HeaderPage.{in-use-facts}
-use Rattle.model.specs.Laws.Segments.{partOf, segment-at}
-use Rattle.model.specs.Laws.Effects.{in-use-parts}
-use Rattle.bridge.specs.Predicted.{written, marked, afterPut, afterDelete, CleanView, Fits, Rows}
-use Rattle.bridge.specs.Interface.{ViewLaws}
-use Rattle.bridge.specs.Views.Tables.{holds-append}
+use Rattle.model.specs.Laws.Effects.{numbered-at}
+use Rattle.model.specs.Laws.Clean.{numbered}
+use Rattle.bridge.specs.Predicted.{written, marked, putInto, afterPut, afterDelete, CleanView, Rows}
 use Rattle.bridge.specs.Views.Slots.{slots-counted, sound}
-use Rattle.bridge.specs.Views.Places.{Gap, fill, fill-length, FirstLive, TopGap, written-place, written-entries}
+use Rattle.bridge.specs.Views.Places.{in-view, TopGap, written-place, written-holds}
 use Rattle.bridge.specs.Views.Shape.{clean-shape, shape-gap, first-live-in, opened-top}
-use Rattle.bridge.specs.Views.Room.{Tidied, tidied}
-use Rattle.bridge.specs.Views.Requests.{view-laws}
-use Rattle.bridge.specs.Held.{Held, two-segments, two-slots, held-of-clean, clean-view, clean-of-held, held-row, held-lengths, row-valid, held-next}
+use Rattle.bridge.specs.Views.Room.{tidied, Made, room-made}
+use Rattle.bridge.specs.Views.Requests.{room-numbered, put-keeps-clean, put-stores, delete-keeps-clean}
+use Rattle.bridge.specs.Held.{Held, held-first, held-of-clean, clean-view, clean-of-held, held-lengths, row-valid, held-next}
 use Rattle.bridge.specs.Done.{mark-held, write-held, open-held, compact-held}
 use Rattle.bridge.specs.Accepted.{PutPassed, put-passed, delete-passed, accepted}
 
--- ---- a slot among the rows
-
-module _ (B : ℕ) (g : Gap) (k : Slot) where
-  gap-row : getD (fill g k) (length (g .rowsBefore)) [] ≡ g .before ++ (k ∷ g .after)
-  gap-row = getD-append-seam (g .rowsBefore) (g .before ++ (k ∷ g .after)) (g .rowsAfter) []
-
-  gap-inside : length (g .rowsBefore) < length (fill g k)
-  gap-inside = omega (arith, fill-length g k)
-
-  gap-slot : getD (getD (fill g k) (length (g .rowsBefore)) []) (length (g .before)) empty ≡ k
-  gap-slot = ap (λ (y : List Slot). getD y (length (g .before)) empty) gap-row ∙ getD-append-seam (g .before) k (g .after) empty
-
-  gap-short : Rows B (fill g k) → length (g .before) < B
-  gap-short r = let e : length (g .before ++ (k ∷ g .after)) ≡ B = ap length (sym gap-row) ∙ row (fill g k) (length (g .rowsBefore)) gap-inside r in
-      omega (arith, length-append (g .before) (k ∷ g .after))
-    where
-      row : (l : List (List Slot)) (i : ℕ) → i < length l → Rows B l → length (getD l i []) ≡ B
-      row [] i h r = absurd (omega arith)
-      row (x ∷ l) zero h r = r .0
-      row (x ∷ l) (suc i) h r = row l i (omega arith) (r .1)
-
--- where a slot stands in a view with B slots to a row
-pub record InView (B : ℕ) (v : View) (g : Gap) (k : Slot) : Type 0 where
-  pub row : length (g .rowsBefore) < length (v .slots)
-  pub short : length (g .before) < B
-  pub kind : getD (getD (v .slots) (length (g .rowsBefore)) []) (length (g .before)) empty ≡ k
-
-pub in-view : (B : ℕ) (v : View) (g : Gap) (k : Slot) → v .slots ≡ fill g k → Rows B (v .slots) → InView B v g k
-in-view B v g k e r = record { row = rw e (gap-inside B g k); short = gap-short B g k (rw e at r); kind = rw e (gap-slot B g k) }
+-- ---- one slot marked or written
 
 module _ (N B : ℕ) (s : Image) (v : View) (h : Held N B s v) where
   -- the first live slot of a block marked
@@ -83,29 +52,40 @@ module _ (N B : ℕ) (s : Image) (v : View) (h : Held N B s v) where
   pub held-below : CleanView N B v → topNumber v < numberLimit N
   unfolding topNumber
   held-below c =
-      let k = length (v .slots) - 1 in
-      let some = c .some in
-      let r = held-row N B s v h k (omega arith) in
-      let p : 0 < N = omega (arith, two-segments N B s (h .size)) in
-      let n = v .first + k in
-      let i = native.Mathlib.Nat.mod-lt n p in
-      let u = in-use-parts N B (n % N) (partOf N B (n % N) s) (r .0) n (getD (v .slots) k []) (sym (segment-at N B (n % N) s i) ∙ r .1) in
-      let f = in-use-facts N B (n % N) (getD (partOf N B (n % N) s) 0 []) (u .header) in
-      omega (arith, f .below, u .number)
+      let n = v .first + length (v .slots) - 1 in
+      let p : 0 < N = omega (arith, size-facts N B s (h .size) .two) in
+      numbered-at N B s (n % N) n (mod-lt n p) (numbered N (segmentsOf N B s) (h .ring) n (omega (arith, held-first N B s v h, c .some)) (omega (arith, held-next N B s v h, c .some))) .1
+
+-- a slot written, and then the old one marked, where it was
+module _ (N B : ℕ) (s : Image) (v : View) (h : Held N B s v) (b : ℕ) (c : List ℕ) (valid : Valid b c) (gap : TopGap v) where
+  abbrev wrote : Image
+  wrote = run B (writeAtTop N B b c v) s
+
+  pub put-held : Held N B (run B (markOld N B b v) (run B (writeAtTop N B b c v) s)) (putInto b c v)
+  unfolding markOld
+  put-held = go (holds b (entriesIn v)) refl
+    where
+      written-held : Held N B wrote (written b c v)
+      written-held = write-top-held N B s v h b c valid gap
+
+      go : (t : Bool) → holds b (entriesIn v) ≡ t → Held N B (run B (cond t (markPlace N B (placeOf b v)) []) wrote) (cond t (marked (placeOf b v) (written b c v)) (written b c v))
+      go false q = unfold run in written-held
+      go true q = subst (λ (p : Place). Held N B (run B (markPlace N B p) wrote) (marked p (written b c v))) (written-place b b c v gap q)
+          (mark-place-held N B wrote (written b c v) written-held b (written-holds b c v gap q))
 
 -- ---- making room
 
 -- one step of the loop: nothing where there is room, else a compaction and the rest
-until-room : (N B k : ℕ) (v : View) → hasRoom v ≡ true → compactUntilRoom N B (suc k) v ≡ record { steps = []; result = v }
+pub until-room : (N B k : ℕ) (v : View) → hasRoom v ≡ true → compactUntilRoom N B (suc k) v ≡ record { steps = []; result = v }
 unfolding compactUntilRoom
 until-room N B k v e = rw e
 
-until-more : (N B k : ℕ) (v : View) → hasRoom v ≡ false → compactUntilRoom N B (suc k) v
+pub until-more : (N B k : ℕ) (v : View) → hasRoom v ≡ false → compactUntilRoom N B (suc k) v
     ≡ record { steps = compactOldest N B v .steps ++ compactUntilRoom N B k (compactOldest N B v .result) .steps; result = compactUntilRoom N B k (compactOldest N B v .result) .result }
 unfolding compactUntilRoom
 until-more N B k v e = rw e
 
-top-rises : (N B k : ℕ) (v : View) → CleanView N B v → topNumber v ≤ topNumber (compactUntilRoom N B k v .result)
+pub top-rises : (N B k : ℕ) (v : View) → CleanView N B v → topNumber v ≤ topNumber (compactUntilRoom N B k v .result)
 top-rises N B zero v c = unfold compactUntilRoom in omega arith
 top-rises N B (suc k) v c = go (hasRoom v) refl (λ d. top-rises N B k (compactOldest N B v .result) d)
   where
@@ -115,7 +95,7 @@ top-rises N B (suc k) v c = go (hasRoom v) refl (λ d. top-rises N B k (compactO
     go false e ih = let t = tidied N B v c e in rw (until-more N B k v e) (omega (arith, ih (t .clean), t .number))
 
 -- the entries of a row fit in a row
-row-fits : (B : ℕ) (v : View) → Rows B (v .slots) → noneWrongOrTorn v ≡ true → 1 ≤ length (v .slots) → length (entries (getD (v .slots) 0 [])) ≤ B
+pub row-fits : (B : ℕ) (v : View) → Rows B (v .slots) → noneWrongOrTorn v ≡ true → 1 ≤ length (v .slots) → length (entries (getD (v .slots) 0 [])) ≤ B
 unfolding noneWrongOrTorn
 row-fits B v r w h = go (v .slots) r h (all-row _ (v .slots) 0 w)
   where
@@ -127,7 +107,7 @@ pub one-compaction : (N B : ℕ) (s : Image) (v : View) → Held N B s v → Byt
     → Held N B (run B (compactOldest N B v .steps) s) (compactOldest N B v .result)
 unfolding compactOldest
 one-compaction N B s v h bs c full below =
-    compact-held N B s v h below bs full (entries (getD (v .slots) 0 [])) (row-valid N B s v h bs 0 (c .some)) (row-fits B v (held-lengths N B s v h) (c .sound) (c .some))
+    compact-held N B s v h below full (entries (getD (v .slots) 0 [])) (row-valid N B s v h bs 0 (c .some)) (row-fits B v (held-lengths N B s v h) (c .sound) (c .some))
 
 pub compacted-rows : (N B : ℕ) (v : View) → 1 ≤ length (v .slots) → length (compactOldest N B v .result .slots) ≡ length (v .slots)
 unfolding compactOldest
@@ -143,12 +123,10 @@ compactions-held N B zero s v h bs c full below = unfold compactUntilRoom run in
 compactions-held N B (suc k) s v h bs c full below =
     go (hasRoom v) refl below (λ t ht bt ct ft bl. compactions-held N B k t (compactOldest N B v .result) ht bt ct ft bl)
   where
-    w : View
-    w = compactOldest N B v .result
     go : (t : Bool) → hasRoom v ≡ t → topNumber (compactUntilRoom N B (suc k) v .result) < numberLimit N
         → ((t : Image) → Held N B t (compactOldest N B v .result) → Bytes t → CleanView N B (compactOldest N B v .result) → length (compactOldest N B v .result .slots) ≡ N - 1
-            → topNumber (compactUntilRoom N B k (compactOldest N B v .result) .result) < numberLimit N
-            → Held N B (run B (compactUntilRoom N B k (compactOldest N B v .result) .steps) t) (compactUntilRoom N B k (compactOldest N B v .result) .result))
+        → topNumber (compactUntilRoom N B k (compactOldest N B v .result) .result) < numberLimit N
+        → Held N B (run B (compactUntilRoom N B k (compactOldest N B v .result) .steps) t) (compactUntilRoom N B k (compactOldest N B v .result) .result))
         → Held N B (run B (compactUntilRoom N B (suc k) v .steps) s) (compactUntilRoom N B (suc k) v .result)
     go true e bl ih = rw (until-room N B k v e) (unfold run in h)
     go false e bl ih =
@@ -157,7 +135,7 @@ compactions-held N B (suc k) s v h bs c full below =
         let low : suc (topNumber v) < numberLimit N = omega (arith, top-rises N B k (compactOldest N B v .result) (t .clean), t .number, bl2) in
         let xs = compactOldest N B v .steps in
         rw (until-more N B k v e, run-append B xs (compactUntilRoom N B k (compactOldest N B v .result) .steps) s)
-          (ih (run B xs s) (one-compaction N B s v h bs c full low) (run-bytes B xs s bs) (t .clean) (compacted-rows N B v (c .some) ∙ full) bl2)
+        (ih (run B xs s) (one-compaction N B s v h bs c full low) (run-bytes B xs s bs) (t .clean) (compacted-rows N B v (c .some) ∙ full) bl2)
 
 pub room-held : (N B : ℕ) (s : Image) (v : View) → Held N B s v → Bytes s → CleanView N B v → topNumber (roomFor N B v .result) < numberLimit N
     → Held N B (run B (roomFor N B v .steps) s) (roomFor N B v .result)
@@ -166,6 +144,7 @@ room-held N B s v h bs c below = go (hasRoom v) (ltb (length (v .slots)) (N - 1)
   where
     chosen : Bool → Bool → Room
     chosen t u = cond t (record { steps = []; result = v }) (cond u (openNext N B v) (compactUntilRoom N B (N - 1) v))
+
     go : (t u : Bool) → ltb (length (v .slots)) (N - 1) ≡ u → topNumber (chosen t u .result) < numberLimit N → Held N B (run B (chosen t u .steps) s) (chosen t u .result)
     go true u e bl = unfold run in h
     go false true e bl = open-held N B s v h (omega (arith, bl, opened-top N B v (c .some))) (ltb-true (length (v .slots)) (N - 1) e)
@@ -183,8 +162,11 @@ module _ (N B : ℕ) (s : Image) (z : rightSize N B s ≡ true) (cl : state N B 
   cv : CleanView N B v
   cv = clean-view N B s z cl
 
-  laws : ViewLaws N B
-  laws = view-laws N B (two-segments N B s z) (two-slots N B s z)
+  two : 2 ≤ N
+  two = size-facts N B s z .two
+
+  slots : 2 ≤ B
+  slots = size-facts N B s z .slots
 
   pub delete-done : (b : ℕ) → workOf N B s (delete b) .code ≡ 0
       → (state N B (run B (workOf N B s (delete b) .steps) s) ≡ clean) × (view N B (run B (workOf N B s (delete b) .steps) s) ≡ afterDelete b v)
@@ -193,7 +175,7 @@ module _ (N B : ℕ) (s : Image) (z : rightSize N B s ≡ true) (cl : state N B 
       let a = accepted N B s (delete b) e in
       let held = delete-passed N B s b (a .1) in
       let m = mark-place-held N B s v h b held in
-      rw (a .0) (clean-of-held N B _ (marked (placeOf b v) v) m (laws .delete-clean v b cv held), m .view)
+      rw (a .0) (clean-of-held N B _ (marked (placeOf b v) v) m (delete-keeps-clean N B v b cv held), m .view)
 
   module _ (b : ℕ) (c : List ℕ) (bs : Bytes s) (bc : Bytes c) (e : workOf N B s (put b c) .code ≡ 0) where
     passes : PutPassed N B b c v
@@ -205,47 +187,42 @@ module _ (N B : ℕ) (s : Image) (z : rightSize N B s ≡ true) (cl : state N B 
     abbrev r : View
     r = roomFor N B v .result
 
+    made : Made N B v r (newNumbers N v)
+    made = room-made N B two slots v cv
+
     -- room made
     abbrev pub roomed : Image
     roomed = run B (roomFor N B v .steps) s
 
+    pub roomed-below : topNumber (roomFor N B (view N B s) .result) < numberLimit N
+    roomed-below = room-numbered N B two slots v cv (passes .fresh) (held-below N B s v h cv)
+
     pub roomed-held : Held N B roomed r
-    roomed-held = room-held N B s v h bs cv (laws .room-number v b cv (passes .fit) (passes .fresh) (held-below N B s v h cv))
+    roomed-held = room-held N B s v h bs cv roomed-below
 
     pub roomed-clean : CleanView N B r
-    roomed-clean = laws .room-clean v b cv (passes .fit)
+    roomed-clean = made .clean
 
     pub roomed-gap : TopGap r
-    roomed-gap = shape-gap (clean-shape roomed-clean) (laws .room-found v b cv (passes .fit))
+    roomed-gap = shape-gap (clean-shape roomed-clean) (made .room)
 
-    -- the slot written
-    abbrev pub wrote : Image
-    wrote = run B (writeAtTop N B b c r) roomed
+    pub roomed-table : Agree (entriesIn (roomFor N B (view N B s) .result)) (entriesIn (view N B s))
+    roomed-table = made .table
 
-    pub wrote-held : Held N B wrote (written b c r)
-    wrote-held = write-top-held N B roomed r roomed-held b c put-valid roomed-gap
+    pub after-clean : CleanView N B (afterPut N B b c (view N B s))
+    after-clean = put-keeps-clean N B two slots v b c cv (passes .fit)
 
-    -- the old one marked, where it was
-    marked-held : Held N B (run B (markOld N B b r) wrote) (afterPut N B b c v)
-    unfolding markOld afterPut
-    marked-held = go (holds b (entriesIn r)) refl
-      where
-        go : (t : Bool) → holds b (entriesIn r) ≡ t → Held N B (run B (cond t (markPlace N B (placeOf b r)) []) wrote) (cond t (marked (placeOf b r) (written b c r)) (written b c r))
-        go false q = unfold run in wrote-held
-        go true q =
-            let stays = written-place b b c r roomed-gap q in
-            let there : holds b (entriesIn (written b c r)) ≡ true = still (entriesIn r) q in
-            subst (λ (p : Place). Held N B (run B (markPlace N B p) wrote) (marked p (written b c r))) stays (mark-place-held N B wrote (written b c r) wrote-held b there)
-          where
-            still : (t : List Entry) → holds b t ≡ true → holds b (entriesIn (written b c r)) ≡ true
-            still t p = ap (λ (y : List Entry). holds b y) (written-entries b c r roomed-gap) ∙ (holds-append b (entriesIn r) (record { block = b; contents = c } ∷ []) ∙ rw q)
+    pub after-table : Agree (entriesIn (afterPut N B b c (view N B s))) (store b c (entriesIn (view N B s)))
+    after-table = put-stores N B two slots v b c cv
 
     pub put-steps : workOf N B s (put b c) .steps ≡ roomFor N B v .steps ++ (writeAtTop N B b c r ++ markOld N B b r)
     unfolding stepsFor putSteps view
     put-steps = accepted N B s (put b c) e .0
 
-    pub put-run : run B (workOf N B s (put b c) .steps) s ≡ run B (markOld N B b r) wrote
-    put-run = ap (λ (y : List Step). run B y s) put-steps ∙ (run-append B (roomFor N B v .steps) (writeAtTop N B b c r ++ markOld N B b r) s ∙ run-append B (writeAtTop N B b c r) (markOld N B b r) roomed)
+    after-held : Held N B (run B (workOf N B s (put b c) .steps) s) (afterPut N B b c v)
+    unfolding afterPut
+    after-held = rw (put-steps, run-append B (roomFor N B v .steps) (writeAtTop N B b c r ++ markOld N B b r) s, run-append B (writeAtTop N B b c r) (markOld N B b r) roomed)
+        (put-held N B roomed r roomed-held b c put-valid roomed-gap)
 
     pub put-done : (state N B (run B (workOf N B s (put b c) .steps) s) ≡ clean) × (view N B (run B (workOf N B s (put b c) .steps) s) ≡ afterPut N B b c v)
-    put-done = rw put-run (clean-of-held N B _ (afterPut N B b c v) marked-held (laws .put-clean v b c cv (passes .fit)), marked-held .view)
+    put-done = (clean-of-held N B _ (afterPut N B b c v) after-held after-clean, after-held .view)

@@ -28,4 +28,4 @@ module _ (N B : ℕ) (s : Image) (v : View) (h : Held N B s v) (bs : Bytes s) (n
       let w = compactTimes N B i v .result in
       let t = run B (compactTimes N B i v .steps) s in
       rw (run-append B (compactTimes N B i v .steps) (compactOldest N B w .steps) s)
-        (one-compaction N B t w (times-held i (omega arith)) (run-bytes B (compactTimes N B i v .steps) s bs) (a .clean) (a .rows ∙ full) (omega (arith, times-number i (omega arith))))
+      (one-compaction N B t w (times-held i (omega arith)) (run-bytes B (compactTimes N B i v .steps) s bs) (a .clean) (a .rows ∙ full) (omega (arith, times-number i (omega arith))))

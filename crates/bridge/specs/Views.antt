@@ -1,5 +1,4 @@
 -- Laws of views.
-pub mod Tables
 pub mod Slots
 pub mod Places
 pub mod Shape

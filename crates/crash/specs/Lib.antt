@@ -3,34 +3,26 @@ pub mod Machine
 pub mod Demand2
 pub mod Reading
 pub mod ReadingRuns
-
 -- the invariant that is closed under power cuts, and the induction over histories
 pub mod Sound
-pub mod TableLaws
-pub mod ByteImage
 pub mod Requests
 pub mod Skeleton
-
 -- recovery, delete and read
-pub mod RecoverCases
+pub mod States
 pub mod RecoverMarks
 pub mod RecoverErase
 pub mod RecoverOwing
 pub mod Recover
 pub mod Read
 pub mod Delete
-
 -- put: making room, the slot written, the old one marked
-pub mod PutStates
-pub mod PutClean
-pub mod WriteSlots
-pub mod WriteTop
 pub mod RoomTorn
-pub mod RoomDone
 pub mod RoomOwing
 pub mod RoomCuts
 pub mod RoomMade
+pub mod WriteTop
 pub mod PutCut
-
--- the theorem
+-- the theorem, the customer's sentences, and bench examples 7 and 8 as instances
 pub mod Theorem
+pub mod Sentences
+pub mod Examples

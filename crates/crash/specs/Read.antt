@@ -1,44 +1,25 @@
 -- A read of a stored block on a clean image hands back its contents: they stand in the page of its live slot.
 use Prim.Native.Nat.{ℕ, zero, suc, _+_, _-_, _*_, _%_, _≤_, _<_}
 use mathlib.Core.Path.{_≡_, refl, sym, ap, _∙_}
-use mathlib.Core.Bool.{Bool, true, false, cond}
+use mathlib.Core.Bool.{true}
 use mathlib.Core.List.{List, [], _∷_}
 use native.Mathlib.Omega.{arith}
 use lib.ListN.{length, getD, take, drop}
 use lib.Seq.{take-at, take-take, drop-drop}
-use lib.Dec.{eqb}
 use Rattle.model.specs.Chip.{Image, erased, pagesOf, rightSize}
-use Rattle.model.specs.Slot.{mostContents, numberOk, slotPage}
-use Rattle.model.specs.State.{segmentsOf, viewOf, entriesIn, holds, placeOf, view}
+use Rattle.model.specs.Slot.{mostContents, slotPage}
+use Rattle.model.specs.State.{segmentsOf, viewOf, entriesIn, placeOf, view}
 use Rattle.model.specs.Steps.{slotAt}
 use Rattle.model.specs.Table.{lookup, present, contentsFound, tableOf}
-use Rattle.model.specs.Answers.{delete, read, contentsAt, readOutcome, pieceRead}
+use Rattle.model.specs.Answers.{read, contentsAt, readOutcome, pieceRead}
 use Rattle.model.specs.Laws.Chunk.{chunk-part}
-use Rattle.model.specs.Laws.Segments.{partOf, part-page, page-in}
-use Rattle.model.specs.Laws.SlotPage.{LiveFacts, live-facts}
-use Rattle.model.specs.Laws.Effects.{index}
 use Rattle.model.specs.Laws.Chip.{size-facts}
-use Rattle.crash.specs.Machine.{malformed, codeOnTable, plainCode}
+use Rattle.model.specs.Laws.SlotPage.{LiveFacts, live-facts}
+use Rattle.model.specs.Laws.Segments.{partOf, part-page, page-in}
+use Rattle.model.specs.Laws.Effects.{index}
+use Rattle.bridge.specs.Accepted.{accepted, read-passed}
 use Rattle.crash.specs.Sound.{Clean, Accepted}
-use Rattle.crash.specs.Requests.{code-clean}
-use Rattle.crash.specs.RecoverCases.{two-segments}
 use Rattle.crash.specs.RecoverMarks.{LivePlace, live-place, live-marks, slot-inside, page-kind}
-
--- ---- a read or a delete is accepted only of a stored block
-
-stored : (number held : Bool) → cond {A = ℕ} (eqb (cond number 0 2) 0) (cond held 0 6) (cond number 0 2) ≡ 0 → held ≡ true
-stored true true e = refl
-stored true false e = absurd (omega arith)
-stored false held e = absurd (omega arith)
-
-module _ (N B : ℕ) (s : Image) (b : ℕ) (z : rightSize N B s ≡ true) (h : Clean N B s) where
-  pub read-stored : Accepted N B s (read b) → holds b (tableOf N B s) ≡ true
-  unfolding plainCode malformed codeOnTable
-  read-stored a = stored (numberOk b) (holds b (tableOf N B s)) (sym (code-clean N B s z h (read b) tt) ∙ a)
-
-  pub delete-stored : Accepted N B s (delete b) → holds b (tableOf N B s) ≡ true
-  unfolding plainCode malformed codeOnTable
-  delete-stored a = stored (numberOk b) (holds b (tableOf N B s)) (sym (code-clean N B s z h (delete b) tt) ∙ a)
 
 -- ---- the contents in a page, and in the image
 
@@ -58,25 +39,35 @@ unfolding pieceRead readOutcome contentsAt tableOf view contentsFound slotAt
 read-done N B s b z h a = rw (a, found) bytes
   where
     l : LivePlace N (segmentsOf N B s) b
-    l = live-place N (segmentsOf N B s) b (read-stored N B s b z h a)
+    l = live-place N (segmentsOf N B s) b (unfold view in read-passed N B s b (accepted N B s (read b) a .1))
+
     c : List ℕ
     c = l .contents
+
     n : ℕ
     n = placeOf b (viewOf N (segmentsOf N B s)) .number
+
     j : ℕ
     j = placeOf b (viewOf N (segmentsOf N B s)) .slot
+
     p : ℕ
     p = n % N * (B + 1) + suc j
+
     here : n % N < N
-    here = index N B (two-segments N B s z) s (size-facts N B s z .whole) n
+    here = index N B (size-facts N B s z .two) s (size-facts N B s z .whole) n
+
     inside : j < B
     inside = slot-inside N B s z n j (live-marks l)
+
     facts : LiveFacts (getD (partOf N B (n % N) s) (suc j) []) b c
     facts = live-facts (getD (partOf N B (n % N) s) (suc j) []) b c (page-kind N B s z n j (live-marks l) ∙ l .slot)
+
     page : slotPage b c ≡ take 256 (drop (p * 256) s)
     page = sym (facts .page) ∙ (part-page N B (n % N) (suc j) s here (omega (arith, inside)) ∙ (unfold pagesOf in chunk-part 256 (N * (B + 1)) p s (page-in N B (n % N) (suc j) here (omega (arith, inside)))))
+
     found : lookup b (entriesIn (viewOf N (segmentsOf N B s))) ≡ present c
     found = l .found
+
     bytes : take (length c) (drop (p * 256 + 8) s) ≡ c
     bytes = ap (λ y. take (length c) y) (sym (drop-drop 8 (p * 256) s))
         ∙ (sym (take-inside (length c) 8 256 (drop (p * 256) s) (unfold mostContents in omega (arith, facts .short)))

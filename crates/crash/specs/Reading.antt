@@ -13,8 +13,8 @@ use Rattle.model.specs.State.{holds}
 use Rattle.model.specs.Table.{Table, present, lookup, contentsFound}
 use Rattle.model.specs.Answers.{Request, format, put, delete, read, readOr, recover}
 use Rattle.model.specs.Histories.{Reply, Seen, answered, lost}
+use Rattle.model.specs.Laws.Tables.{lookup-store-same}
 use Rattle.crash.specs.Machine.{malformed, codeOnTable, plainCode, plainBytes, plain, made, next, Promise, settled, interrupted, unknown, refused, IsCut, OnTable, WantsRecovery, Holds, Moves, answers, answers-again, asks-recovery, refuses-malformed, not-begun, wholly-done, formats, format-cut, no-promise}
-use Rattle.crash.specs.TableLaws.{lookup-store-same}
 use Rattle.crash.specs.Requests.{malformed-small}
 
 -- ---- what the table answers
@@ -89,9 +89,11 @@ plain-small C worn t r = go (eqb (malformed r) 0) (malformed-small r) (on-table 
     put-small true true = omega arith
     put-small true false = omega arith
     put-small false w = omega arith
+
     absent-small : (x : Bool) → cond x 0 6 ≤ 8
     absent-small true = omega arith
     absent-small false = omega arith
+
     on-table : (a : Request) → codeOnTable C worn t a ≤ 8
     on-table format = omega arith
     on-table (put b c) = put-small (holds b t || ltb (length t) C) worn
@@ -99,6 +101,7 @@ plain-small C worn t r = go (eqb (malformed r) 0) (malformed-small r) (on-table 
     on-table (read b) = absent-small (holds b t)
     on-table (readOr b f) = absent-small (holds b t)
     on-table recover = omega arith
+
     go : (x : Bool) → malformed r ≤ 3 → codeOnTable C worn t r ≤ 8 → cond x (codeOnTable C worn t r) (malformed r) ≤ 8
     go true p q = q
     go false p q = omega arith

@@ -1,4 +1,4 @@
--- The customer's sentences over whole histories: a block never shows contents that were not put under its number since the last format,
+-- The customer's sentences over whole histories of the plain table: a block never shows contents that were not put under its number since the last format,
 -- and acknowledged contents are read back until the block is written or deleted, through every power cut.
 use Prim.Native.Nat.{ℕ, suc}
 use mathlib.Core.Path.{_≡_, refl, sym, ap, ap₂, _∙_, subst}
@@ -9,18 +9,16 @@ use native.Mathlib.Omega.{arith}
 use native.Mathlib.Decide.{ℕ-discrete}
 use lib.Dec.{eqb}
 use borrow.Author.Tests.{eqb-true, eqb-false}
-use Rattle.model.specs.Chip.{Image, rightSize}
 use Rattle.model.specs.Slot.{numberOk}
-use Rattle.model.specs.State.{holds, capacity}
+use Rattle.model.specs.State.{holds}
 use Rattle.model.specs.Table.{Table, Found, absent, present, lookup, contentsFound}
 use Rattle.model.specs.Answers.{Request, format, put, delete, read, readOr, recover}
-use Rattle.model.specs.Histories.{Reply, Seen, answered, Event, History}
+use Rattle.model.specs.Histories.{Reply, Seen, answered, Event}
+use Rattle.model.specs.Laws.Tables.{lookup-held, found-held, absent-free, lookup-without-same, lookup-without-other, lookup-store-same, lookup-store-other}
 use Rattle.crash.specs.Machine.{malformed, codeOnTable, plainCode, plainBytes, plain, made, next, Promise, settled, interrupted, unknown, refused, OnTable, Holds, Moves, answers, answers-again, asks-recovery, refuses-malformed, not-begun, wholly-done, formats, format-cut, no-promise, PlainRuns}
-use Rattle.crash.specs.Demand2.{Demand2}
-use Rattle.crash.specs.TableLaws.{found, found-held, absent-free, lookup-without-same, lookup-without-other, lookup-store-same, lookup-store-other}
 use Rattle.crash.specs.Reading.{codeSeen, cut-code, not-format, format-starts, read-exact, readOr-exact}
 
--- what is found of a block, by a promise
+-- what is lookup-held of a block, by a promise
 abbrev pub Shows : Promise → ℕ → Found → Type 0
 Shows (settled t) b z = lookup b t ≡ z
 Shows (interrupted t) b z = lookup b t ≡ z
@@ -43,11 +41,15 @@ made-from : (r : Request) (t : Table) (b : ℕ) (c : List ℕ) → lookup b (mad
 unfolding made lookup
 made-from format t b c h = absurd (never c h)
 made-from (put a d) t b c h =
-    elim (ℕ-discrete b a) [ yes e ↦ inr (ap₂ put (sym e) (cc (lookup-store-same b d t, h, e)))
-      | no n ↦ inl (sym (lookup-store-other b a d t n) ∙ h) ]
+    elim (ℕ-discrete b a) [
+      | yes e ↦ inr (ap₂ put (sym e) (cc (lookup-store-same b d t, h, e)))
+      | no n ↦ inl (sym (lookup-store-other b a d t n) ∙ h)
+    ]
 made-from (delete a) t b c h =
-    elim (ℕ-discrete b a) [ yes e ↦ absurd (never c (sym (lookup-without-same b t) ∙ rw (← e) at h))
-      | no n ↦ inl (sym (lookup-without-other b a t n) ∙ h) ]
+    elim (ℕ-discrete b a) [
+      | yes e ↦ absurd (never c (sym (lookup-without-same b t) ∙ rw (← e) at h))
+      | no n ↦ inl (sym (lookup-without-other b a t n) ∙ h)
+    ]
 made-from (read a) t b c h = inl h
 made-from (readOr a f) t b c h = inl h
 made-from recover t b c h = inl h
@@ -119,7 +121,7 @@ pub runs-known : (C : ℕ) (es : List Event) (x y : Promise) → PlainRuns C x e
 runs-known C [] x y e f h = subst Known (sym e) h
 runs-known C (e ∷ es) x y (z, m, rest) f h = runs-known C es z y rest (f .1) (move-known m (f .0) h)
 
-runs-append : (C : ℕ) (es ds : List Event) (x y : Promise) → PlainRuns C x (es ++ ds) y → (z : Promise) × PlainRuns C x es z × PlainRuns C z ds y
+pub runs-append : (C : ℕ) (es ds : List Event) (x y : Promise) → PlainRuns C x (es ++ ds) y → (z : Promise) × PlainRuns C x es z × PlainRuns C z ds y
 runs-append C [] ds x y r = (x, refl, r)
 runs-append C (e ∷ es) ds x y (z, m, rest) = let a = runs-append C es ds z y rest in (a .0, (z, m, a .1), a .2)
 
@@ -163,11 +165,11 @@ plain-gives C w t (delete a) b c q h = absurd q
 plain-gives C w t (read a) b c q h =
     let code = ap (λ (v : Reply). v .code) h in
     let bytes = ap (λ (v : Reply). v .bytes) h in
-    rw (← q) (found a t (stored-if-done (cond (numberOk a) 0 2) (holds a t) code) ∙ ap present (rw code at bytes))
+    rw (← q) (lookup-held a t (stored-if-done (cond (numberOk a) 0 2) (holds a t) code) ∙ ap present (rw code at bytes))
 plain-gives C w t (readOr a f) b c q h =
     let code = ap (λ (v : Reply). v .code) h in
     let bytes = ap (λ (v : Reply). v .bytes) h in
-    rw (← q) (found a t (stored-if-done (cond (numberOk a) 0 2) (holds a t) code) ∙ ap present (rw code at bytes))
+    rw (← q) (lookup-held a t (stored-if-done (cond (numberOk a) 0 2) (holds a t) code) ∙ ap present (rw code at bytes))
 plain-gives C w t recover b c q h = absurd q
 
 -- what a read gives is what the promise shows
@@ -192,13 +194,6 @@ shows-only-what-was-put C x y past es f e b c runs done none q g =
     let empty : fresh ≡ settled [] = format-starts formatting (done .request) (done .seen) in
     let known : Known last = runs-known C es fresh last since none (subst Known (sym empty) tt) in
     ⊎-elim (λ old. absurd (never c (subst (λ (v : Promise). Shows v b (present c)) empty old))) (λ new. new) (runs-from C es fresh last since b c (read-shows reading b c known q g))
-
--- and so of every history of the store
-pub store-shows-only-what-was-put : Demand2 → (N B : ℕ) (s u : Image) (past es : List Event) (f e : Event) (b : ℕ) (c : List ℕ) → rightSize N B s ≡ true
-    → History N B s (past ++ (f ∷ (es ++ (e ∷ [])))) u → FinishedFormat f → NoFormat es → Reads b (e .request) → e .seen ≡ answered (gives c) → PutAmong b c es
-store-shows-only-what-was-put demand2 N B s u past es f e b c z h done none q g =
-    let (x, runs, keeps) = demand2 N B s u (past ++ (f ∷ (es ++ (e ∷ [])))) z h in
-    shows-only-what-was-put (capacity N B) unknown x past es f e b c runs done none q g
 
 -- ---- acknowledged contents stay
 
@@ -226,6 +221,7 @@ next-keeps C w t r b q = go (eqb (plainCode C w t r) 0) (made-keeps r q)
     made-keeps (read a) h = refl
     made-keeps (readOr a f) h = refl
     made-keeps recover h = refl
+
     go : (x : Bool) → lookup b (made t r) ≡ lookup b t → lookup b (cond x (made t r) t) ≡ lookup b t
     go true h = h
     go false h = refl
@@ -263,7 +259,7 @@ move-done {r = r} (formats f e) b z i h n makes = absurd (not-format r i f)
 move-done {r = r} (format-cut f e) b z i h n makes = absurd (not-format r i f)
 move-done (no-promise k) b z i h n makes = absurd h
 
--- what a read replies when this is found, with the factory record or none
+-- what a read replies when this is lookup-held, with the factory record or none
 abbrev pub replied : List ℕ → Found → Reply
 replied f absent = record { code = 6; bytes = f }
 replied f (present c) = gives c
@@ -303,7 +299,7 @@ read-back (formats i e) b z h q n cut asks = absurd (subst (λ (v : Request). Re
 read-back (format-cut i e) b z h q n cut asks = absurd (subst (λ (v : Request). Reads b v) i q)
 read-back (no-promise k) b z h q n cut asks = absurd h
 
--- what an acknowledged put or delete leaves to be found
+-- what an acknowledged put or delete leaves to be lookup-held
 abbrev pub Leaves : ℕ → Found → Request → Type 0
 Leaves b absent r = r ≡ delete b
 Leaves b (present c) r = r ≡ put b c
@@ -321,16 +317,3 @@ acknowledged-stays C x y es d e b z (v, doing, rest) known leaves done spare q n
     let (made-by, makes) = leaves-made b z (d .request) leaves in
     let (last, since, (end, reading, nothing)) = runs-append C es (e ∷ []) v y rest in
     read-back reading b z (runs-keep C es v last since b z spare (move-done doing b z made-by known done makes)) q n cut asks
-
--- and so in every history of the store with a finished format and no other since
-pub store-acknowledged-stays : Demand2 → (N B : ℕ) (s u : Image) (past before es : List Event) (f d e : Event) (b : ℕ) (z : Found) → rightSize N B s ≡ true
-    → History N B s (past ++ (f ∷ (before ++ (d ∷ (es ++ (e ∷ [])))))) u → FinishedFormat f → NoFormat before
-    → Leaves b z (d .request) → codeSeen (d .seen) ≡ 0 → AllSpare b es → Reads b (e .request) → numberOk b ≡ true
-    → codeSeen (e .seen) ≢ 9 → codeSeen (e .seen) ≢ 5 → e .seen ≡ answered (replied (factoryOf (e .request)) z)
-store-acknowledged-stays demand2 N B s u past before es f d e b z size h done none leaves acknowledged spare q n cut asks =
-    let C = capacity N B in
-    let (y, runs, keeps) = demand2 N B s u (past ++ (f ∷ (before ++ (d ∷ (es ++ (e ∷ [])))))) size h in
-    let (start, formatted, (fresh, formatting, rest)) = runs-append C past (f ∷ (before ++ (d ∷ (es ++ (e ∷ []))))) unknown y runs in
-    let (x, since, doing) = runs-append C before (d ∷ (es ++ (e ∷ []))) fresh y rest in
-    let known : Known x = runs-known C before fresh x since none (subst Known (sym (format-starts formatting (done .request) (done .seen))) tt) in
-    acknowledged-stays C x y es d e b z doing known leaves acknowledged spare q n cut asks

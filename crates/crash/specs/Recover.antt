@@ -1,15 +1,19 @@
 -- A finished recovery leaves a clean image. A cut one leaves an image that a recovery can be run on again, and that shows the same table.
 use Prim.Native.Nat.{ℕ}
-use mathlib.Core.Path.{_≡_, refl, sym, subst}
+use mathlib.Core.Path.{_≡_, refl, sym, ap, _∙_, subst}
 use mathlib.Core.Bool.{true}
+use mathlib.Core.List.{List}
 use Rattle.model.specs.Chip.{Image, rightSize}
-use Rattle.model.specs.State.{segmentsOf, Exception, caseA, caseB, caseC, caseD, State, clean, unfinished, damaged, state}
-use Rattle.model.specs.Table.{Agree}
-use Rattle.model.specs.Answers.{recover}
+use Rattle.model.specs.State.{Segment, segmentsOf, viewOf, entriesIn, Exception, caseA, caseB, caseC, caseD, State, clean, unfinished, damaged, state}
+use Rattle.model.specs.Steps.{mendSteps}
+use Rattle.model.specs.Answers.{recover, workOf}
 use Rattle.model.specs.Histories.{recovered, shown}
+use Rattle.model.specs.Laws.Tables.{agree-of}
+use Rattle.model.specs.Laws.Segments.{segments-length}
+use Rattle.bridge.specs.Accepted.{recover-none}
 use Rattle.crash.specs.Sound.{SoundAs, Sound, Clean, CutOf}
-use Rattle.crash.specs.Requests.{recovered-clean, recover-idle, idle-cut}
-use Rattle.crash.specs.RecoverCases.{Kept, kept-same, Mended, done}
+use Rattle.crash.specs.Requests.{recovered-clean, idle-cut}
+use Rattle.crash.specs.States.{isCase, mended, state-case, recover-steps, SoundWith, Kept, kept-same, Mended, mended-shown, done}
 use Rattle.crash.specs.RecoverMarks.{mended-c, mended-d, cut-c, cut-d}
 use Rattle.crash.specs.RecoverErase.{mended-a, cut-a}
 use Rattle.crash.specs.RecoverOwing.{mended-b, cut-b}
@@ -21,6 +25,21 @@ recovery-mends N B s z caseB e = mended-b N B s z e
 recovery-mends N B s z caseC e = mended-c N B s z e
 recovery-mends N B s z caseD e = mended-d N B s z e
 
+-- an image that passes the test of a case is in that state, and shows the table of its mended segments
+module _ (N B : ℕ) (u : Image) (x : Exception) (z : rightSize N B u ≡ true) (h : isCase N B (segmentsOf N B u) x ≡ true) where
+  case-state : state N B u ≡ unfinished x
+  unfolding state
+  case-state = state-case N B (segmentsOf N B u) x (segments-length N B u) h
+
+  pub case-steps : workOf N B u recover .steps ≡ mendSteps N B (segmentsOf N B u) x
+  case-steps = recover-steps N B u x z case-state
+
+  pub case-shows : (m : List Segment) → mended N (segmentsOf N B u) x ≡ m → SoundAs N B u (segmentsOf N B u) (unfinished x) → SoundWith N B u (entriesIn (viewOf N m))
+  case-shows m e k = (
+    subst (λ y. SoundAs N B u (segmentsOf N B u) y) (sym case-state) k,
+    agree-of (shown N B u) (entriesIn (viewOf N m)) (mended-shown N B u x case-state (recovery-mends N B u z x case-state) ∙ ap (λ y. entriesIn (viewOf N y)) e),
+  )
+
 pub recover-done : (N B : ℕ) (s : Image) → rightSize N B s ≡ true → Sound N B s → Clean N B (recovered N B s)
 recover-done N B s z h = go (state N B s) refl h
   where
@@ -29,7 +48,7 @@ recover-done N B s z h = go (state N B s) refl h
     go (unfinished x) e k = done N B s x e (recovery-mends N B s z x e)
     go damaged e k = absurd k
 
-pub recover-cut : (N B : ℕ) (s u : Image) → rightSize N B s ≡ true → Sound N B s → CutOf N B s recover u → Sound N B u × Agree (shown N B u) (shown N B s)
+pub recover-cut : (N B : ℕ) (s u : Image) → rightSize N B s ≡ true → Sound N B s → CutOf N B s recover u → Kept N B s u
 recover-cut N B s u z h c = go (state N B s) refl h
   where
     case : (x : Exception) → state N B s ≡ unfinished x → Kept N B s u
@@ -37,7 +56,8 @@ recover-cut N B s u z h c = go (state N B s) refl h
     case caseB e = cut-b N B s z e h u c
     case caseC e = cut-c N B s z u e h c
     case caseD e = cut-d N B s z u e h c
+
     go : (x : State) → state N B s ≡ x → SoundAs N B s (segmentsOf N B s) x → Kept N B s u
-    go clean e k = kept-same N B s u h (idle-cut N B s u recover (recover-idle N B s e) c)
+    go clean e k = kept-same N B s u h (idle-cut N B s u recover (recover-none N B s e) c)
     go (unfinished x) e k = case x e
     go damaged e k = absurd k

@@ -2,7 +2,7 @@
 use Prim.Native.Nat.{ℕ, _+_, _*_, _/_, _%_, _<_}
 use mathlib.Core.Path.{_≡_, refl, sym, ap, _∙_, subst}
 use mathlib.Core.Logic.{_⊎_, inl, inr, ⊎-elim}
-use mathlib.Core.Bool.{Bool, true, false, cond}
+use mathlib.Core.Bool.{Bool, true, false, cond, false≢true}
 use mathlib.Core.List.{List, [], _∷_, _++_}
 use native.Mathlib.Omega.{arith}
 use lib.ListN.{length, getD, take, drop, set, List·getD-append}
@@ -13,14 +13,14 @@ use Rattle.model.specs.Header.{allBlank}
 use Rattle.model.specs.State.{Segment, blank, invalid, inUse, segmentOf, segmentsOf, isInvalid, nextNumber, nextIndex, isClean, nextBlanked, isA, caseA, unfinished, stateOf, state}
 use Rattle.model.specs.Steps.{headerAt, mendSteps}
 use Rattle.model.specs.Answers.{recover, workOf}
-use Rattle.model.specs.Laws.Lists.{and-left, false-true}
-use Rattle.model.specs.Laws.Bytes.{raised-get, bit-6-kept}
+use Rattle.model.specs.Laws.Lists.{and-left}
 use Rattle.model.specs.Laws.Chip.{size-facts, raised-length, cut-size}
-use Rattle.model.specs.Laws.Segments.{partOf, only-part, only-segments, replaced-parts, page-byte, segment-fits, segment-bytes-length}
+use Rattle.model.specs.Laws.Bytes.{raised-get, bit-6-kept}
 use Rattle.model.specs.Laws.HeaderPage.{bit-6-unused}
+use Rattle.model.specs.Laws.Segments.{partOf, only-part, only-segments, replaced-parts, page-byte, segment-fits, segment-bytes-length}
 use Rattle.model.specs.Laws.Effects.{index, erase-effect}
 use Rattle.crash.specs.Sound.{SoundAs, Sound, CutOf}
-use Rattle.crash.specs.RecoverCases.{two-segments, isCase, mended, case-of, recover-steps, recovered-run, Kept, kept-same, Mended, kept-clean, kept-case}
+use Rattle.crash.specs.States.{isCase, mended, case-of, recover-steps, recovered-run, Kept, kept-same, Mended, kept-clean, kept-case}
 
 -- ---- a segment's bytes replaced, and an erase cut inside
 
@@ -74,16 +74,16 @@ module _ (N B : ℕ) (s : Image) (z : rightSize N B s ≡ true) (e : state N B s
   size = size-facts N B s z .whole
 
   inside : i < N
-  inside = index N B (two-segments N B s z) s size (nextNumber l)
+  inside = index N B (size-facts N B s z .two) s size (nextNumber l)
 
   torn-segment : getD l i blank ≡ invalid
   unfolding state isCase isA nextIndex
   torn-segment = is-invalid (getD l i blank) (and-left (isInvalid (getD l i blank)) (isClean N B (nextBlanked N l)) (case-of N B l caseA e))
     where
       is-invalid : (x : Segment) → isInvalid x ≡ true → x ≡ invalid
-      is-invalid blank q = absurd (false-true (unfold isInvalid in q))
+      is-invalid blank q = absurd (false≢true (unfold isInvalid in q))
       is-invalid invalid q = refl
-      is-invalid (inUse st n ks) q = absurd (false-true (unfold isInvalid in q))
+      is-invalid (inUse st n ks) q = absurd (false≢true (unfold isInvalid in q))
 
   steps-a : mendSteps N B l caseA ≡ erase i ∷ []
   unfolding mendSteps nextIndex
@@ -95,7 +95,7 @@ module _ (N B : ℕ) (s : Image) (z : rightSize N B s ≡ true) (e : state N B s
 
   pub mended-a : Mended N B s caseA
   unfolding run
-  mended-a = ap (λ y. segmentsOf N B y) (recovered-run N B s caseA z e ∙ ap (λ y. run B y s) steps-a) ∙ (erase-effect N B (two-segments N B s z) s size i inside ∙ sym mended-is)
+  mended-a = ap (λ y. segmentsOf N B y) (recovered-run N B s caseA z e ∙ ap (λ y. run B y s) steps-a) ∙ (erase-effect N B (size-facts N B s z .two) s size i inside ∙ sym mended-is)
 
   bit-a : Sound N B s → getD s (i * (B + 1) * 256 + 5) 0 / 64 % 2 ≡ 1
   unfolding headerAt
@@ -108,19 +108,23 @@ unfolding state headerAt
 same-segments N B s u z zu e q b =
     let f : state N B u ≡ unfinished caseA = ap (λ y. stateOf N B y) q ∙ e in
     kept-case N B s u caseA e (mended-a N B s z e) f (mended-a N B u zu f) (ap (λ y. mended N y caseA) q)
-      (subst (λ (y : List Segment). getD u (nextNumber y % N * (B + 1) * 256 + 5) 0 / 64 % 2 ≡ 1) (sym q) b)
+    (subst (λ (y : List Segment). getD u (nextNumber y % N * (B + 1) * 256 + 5) 0 / 64 % 2 ≡ 1) (sym q) b)
 
 pub cut-a : (N B : ℕ) (s u : Image) → rightSize N B s ≡ true → state N B s ≡ unfinished caseA → Sound N B s → CutOf N B s recover u → Kept N B s u
 cut-a N B s u z e h c = go (rw (recover-steps N B s caseA z e ∙ steps-a N B s z e) at c)
   where
     l′ : List Segment
     l′ = segmentsOf N B s
+
     k : ℕ
     k = nextNumber (segmentsOf N B s) % N
+
     zu : rightSize N B u ≡ true
     zu = cut-size N B (workOf N B s recover .steps) s u c ∙ z
+
     blanked : segmentsOf N B u ≡ set l′ k blank → Kept N B s u
     blanked q = kept-clean N B s caseA e (mended-a N B s z e) u (q ∙ sym (mended-is N B s z e))
+
     go : Cut B (erase k ∷ []) s u → Kept N B s u
     go (inl q) = kept-same N B s u h q
     go (inr (inl (v, r, q))) = ⊎-elim
@@ -131,8 +135,9 @@ cut-a N B s u z e h c = go (rw (recover-steps N B s caseA z e ∙ steps-a N B s 
         bit : getD u (k * (B + 1) * 256 + 5) 0 / 64 % 2 ≡ 1
         bit = bit-6-kept (getD s (k * (B + 1) * 256 + 5) 0) (getD u (k * (B + 1) * 256 + 5) 0)
             (subst (λ (y : Image). clear (getD s (k * (B + 1) * 256 + 5) 0) (getD y (k * (B + 1) * 256 + 5) 0) ≡ getD s (k * (B + 1) * 256 + 5) 0) (sym q)
-              (raised-byte N B k (inside N B s z e) s (size N B s z e) v r 5 (omega arith)))
+            (raised-byte N B k (inside N B s z e) s (size N B s z e) v r 5 (omega arith)))
             (bit-a N B s z e h)
+
         new : segmentsOf N B u ≡ set l′ k (segmentOf N B k (partOf N B k u))
         new = subst (λ (y : Image). segmentsOf N B y ≡ set l′ k (segmentOf N B k (partOf N B k y))) (sym q) (raised-segments N B k (inside N B s z e) s (size N B s z e) v r)
-    go (inr (inr q)) = blanked (ap (λ y. segmentsOf N B y) q ∙ erase-effect N B (two-segments N B s z) s (size N B s z e) k (inside N B s z e))
+    go (inr (inr q)) = blanked (ap (λ y. segmentsOf N B y) q ∙ erase-effect N B (size-facts N B s z .two) s (size N B s z e) k (inside N B s z e))

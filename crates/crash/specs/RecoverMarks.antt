@@ -1,34 +1,33 @@
 -- One slot marked dead: the recovery of (c) and of (d), and a delete. It is one step with no inside, so that a cut does it or not.
-use Prim.Native.Nat.{ℕ, suc, _+_, _-_, _*_, _%_, _≤_, _<_}
+use Prim.Native.Nat.{ℕ, suc, _+_, _-_, _*_, _%_, _<_}
 use mathlib.Core.Path.{_≡_, refl, sym, ap, _∙_, subst}
-use mathlib.Core.Logic.{_⊎_, inl, inr, ⊎-elim}
-use mathlib.Core.Bool.{true, _&&_}
-use mathlib.Core.List.{List, [], _∷_, _++_, flatten}
+use mathlib.Core.Logic.{_⊎_, ⊎-elim}
+use mathlib.Core.Bool.{true, _&&_, false≢true}
+use mathlib.Core.List.{List, [], _++_, flatten}
 use native.Mathlib.Omega.{arith}
 use native.Mathlib.Decide.{decLt}
 use lib.ListN.{length, getD, set, List·getD-eq-default}
-use lib.Seq.{getD-at}
 use lib.Dec.{ltb, eqb}
 use borrow.Author.Tests.{eqb-true, eq-eqb, lt-ltb}
-use Rattle.model.specs.Chip.{Image, Page, clear, leastSlots, imageLength, run, rightSize, Cut}
+use Rattle.model.specs.Chip.{Image, Page, clear, run, rightSize, Cut}
 use Rattle.model.specs.Slot.{Slot, empty, torn, dead, wrong, live, slotOf, isTorn, entryOf}
 use Rattle.model.specs.State.{Segment, blank, invalid, inUse, segmentsOf, slotsIn, nextNumber, topIndex, topSlots, usedCount, firstNumber, slotsFrom, viewOf, entries, entriesIn, holds, isClean, withSlot, lastSlot, lastKind, tornMarked, isC, Place, placeOf, lastBlock, copies, older, olderMarked, isD, Exception, caseC, caseD, unfinished, state}
 use Rattle.model.specs.Steps.{onPage, slotAt, markDead, markPlace, mendSteps}
 use Rattle.model.specs.Table.{present, lookup}
 use Rattle.model.specs.Answers.{recover}
 use Rattle.model.specs.Histories.{recovered}
-use Rattle.model.specs.Laws.Lists.{and-left, and-right, false-true}
-use Rattle.model.specs.Laws.Bytes.{OneBit, live-dead-bit, torn-dead-bit}
-use Rattle.model.specs.Laws.Chip.{size-facts}
+use Rattle.model.specs.Laws.Lists.{and-left, and-right}
+use Rattle.model.specs.Laws.Chip.{SizeFacts, size-facts}
+use Rattle.model.specs.Laws.Bytes.{OneBit}
+use Rattle.model.specs.Laws.SlotPage.{Markable, live-markable, torn-markable}
+use Rattle.model.specs.Laws.PageCuts.{one-bit-cut, mark-bit}
+use Rattle.model.specs.Laws.Tables.{holds-copies, lookup-append}
 use Rattle.model.specs.Laws.Segments.{partOf, page-byte}
-use Rattle.model.specs.Laws.SlotPage.{Markable, live-markable, torn-markable, clear-live, clear-torn}
 use Rattle.model.specs.Laws.Effects.{index, slot-kind, slot-count, mark-effect}
-use Rattle.model.specs.Laws.PageCuts.{one-bit-cut}
 use Rattle.model.specs.Laws.Ring.{slots-get, slots-length}
-use Rattle.bridge.specs.Views.Tables.{holds-copies, lookup-append}
-use Rattle.bridge.specs.Views.Places.{Gap, earlier, later, fill-entries, fill-length, FirstLive, first-live}
+use Rattle.bridge.specs.Views.Places.{Gap, earlier, later, fill-entries, fill-length, FirstLive, first-live, gap-slot}
 use Rattle.crash.specs.Sound.{Sound, CutOf}
-use Rattle.crash.specs.RecoverCases.{two-segments, isCase, mended, case-of, recover-steps, recovered-run, Kept, kept-same, Mended, kept-clean}
+use Rattle.crash.specs.States.{isCase, mended, case-of, recover-steps, recovered-run, Kept, kept-same, Mended, kept-clean}
 
 -- ---- slots that can be marked
 
@@ -49,66 +48,48 @@ marks-page p m = go (slotOf p) refl m
     go wrong e h = absurd h
     go (live b c) e h = live-markable p b c e
 
-mark-bit : (a : ℕ) → Markable a → OneBit (clear a 0xDF) a
-mark-bit a (inl e) = rw (e, clear-live) live-dead-bit
-mark-bit a (inr e) = rw (e, clear-torn) torn-dead-bit
-
 -- a slot that can be marked is one of a segment in use
-record InUse (x : Segment) : Type 0 where
-  status : ℕ
-  number : ℕ
-  slots : List Slot
-  same : x ≡ inUse status number slots
-
-marks-in-use : (x : Segment) (j : ℕ) → Marks (getD (slotsIn x) j empty) → InUse x
+marks-in-use : (x : Segment) (j : ℕ) → Marks (getD (slotsIn x) j empty) → (st : ℕ) × (n : ℕ) × (x ≡ inUse st n (slotsIn x))
 unfolding slotsIn
 marks-in-use blank j m = absurd m
 marks-in-use invalid j m = absurd m
-marks-in-use (inUse st n ks) j m = record { status = st; number = n; slots = ks; same = refl }
+marks-in-use (inUse st n ks) j m = (st, n, refl)
 
 marks-inside : (ks : List Slot) (j : ℕ) → Marks (getD ks j empty) → j < length ks
 marks-inside ks j m = elim (decLt j (length ks)) [ yes p ↦ p | no p ↦ absurd (subst Marks (List·getD-eq-default ks empty (omega arith)) m) ]
 
 module _ (N B : ℕ) (s : Image) (z : rightSize N B s ≡ true) (k j : ℕ) (m : Marks (getD (slotsIn (getD (segmentsOf N B s) (k % N) blank)) j empty)) where
-  two : 2 ≤ N
-  two = two-segments N B s z
+  size : SizeFacts N B s
+  size = size-facts N B s z
 
-  size : length s ≡ imageLength N B
-  size = size-facts N B s z .whole
+  abbrev row : List Slot
+  row = slotsIn (getD (segmentsOf N B s) (k % N) blank)
 
-  used : InUse (getD (segmentsOf N B s) (k % N) blank)
+  used : (st : ℕ) × (n : ℕ) × (getD (segmentsOf N B s) (k % N) blank ≡ inUse st n row)
   used = marks-in-use (getD (segmentsOf N B s) (k % N) blank) j m
 
   -- a segment in use has B slots, and this is one of them
-  marks : Marks (getD (used .slots) j empty)
-  unfolding slotsIn
-  marks = subst (λ y. Marks (getD (slotsIn y) j empty)) (used .same) m
-
-  some-slots : 0 < B
-  unfolding leastSlots
-  some-slots = let h : 2 ≤ B = size-facts N B s z .slots in omega arith
-
   pub slot-inside : j < B
-  slot-inside = omega (arith, marks-inside (used .slots) j marks, slot-count N B two s size k 0 (used .status) (used .number) (used .slots) some-slots (used .same))
+  slot-inside = omega (arith, marks-inside row j m, slot-count N B (size .two) s (size .whole) k 0 (used .0) (used .1) row (omega (arith, size .slots)) (used .2))
 
   -- its page has that kind
   pub page-kind : slotOf (getD (partOf N B (k % N) s) (suc j) []) ≡ getD (slotsIn (getD (segmentsOf N B s) (k % N) blank)) j empty
-  unfolding slotsIn
-  page-kind = slot-kind N B two s size k j (used .status) (used .number) (used .slots) slot-inside (used .same) ∙ ap (λ y. getD (slotsIn y) j empty) (sym (used .same))
+  page-kind = slot-kind N B (size .two) s (size .whole) k j (used .0) (used .1) row slot-inside (used .2)
 
   markable : Markable (getD (getD (partOf N B (k % N) s) (suc j) []) 0 0)
   markable = marks-page (getD (partOf N B (k % N) s) (suc j) []) (subst Marks (sym page-kind) m)
 
   pub mark-segments : segmentsOf N B (run B (markPlace N B (record { number = k; slot = j })) s) ≡ set (segmentsOf N B s) (k % N) (withSlot j dead (getD (segmentsOf N B s) (k % N) blank))
   unfolding markPlace
-  mark-segments = mark-effect N B two s size k j (used .status) (used .number) (used .slots) slot-inside (used .same) markable
+  mark-segments = mark-effect N B (size .two) s (size .whole) k j (used .0) (used .1) row slot-inside (used .2) markable
 
   pub mark-whole : (u : Image) → Cut B (markPlace N B (record { number = k; slot = j })) s u → (u ≡ s) ⊎ (u ≡ run B (markPlace N B (record { number = k; slot = j })) s)
   unfolding markPlace onPage markDead slotAt
   mark-whole u c = one-bit-cut B ((k % N * (B + 1) + suc j) * 256 + 0) 0xDF s u one-bit c
     where
       byte : getD (getD (partOf N B (k % N) s) (suc j) []) 0 0 ≡ getD s ((k % N * (B + 1) + suc j) * 256 + 0) 0
-      byte = page-byte N B (k % N) (suc j) 0 s (index N B two s size k) (omega (arith, slot-inside)) (omega arith)
+      byte = page-byte N B (k % N) (suc j) 0 s (index N B (size .two) s (size .whole) k) (omega (arith, slot-inside)) (omega arith)
+
       one-bit : OneBit (clear (getD s ((k % N * (B + 1) + suc j) * 256 + 0) 0) 0xDF) (getD s ((k % N * (B + 1) + suc j) * 256 + 0) 0)
       one-bit = mark-bit (getD s ((k % N * (B + 1) + suc j) * 256 + 0) 0) (subst Markable byte markable)
 
@@ -126,19 +107,23 @@ live-place N l b h = record { contents = f .contents; slot = at; found = looked 
   where
     rows : List (List Slot)
     rows = slotsFrom N l (usedCount l) (firstNumber l)
+
     f : FirstLive b (firstNumber l) rows
     f = first-live b (firstNumber l) rows h
+
     g : Gap
     g = f .gap
-    row : slotsIn (getD l ((firstNumber l + length (g .rowsBefore)) % N) blank) ≡ g .before ++ (live b (f .contents) ∷ g .after)
+
+    row : getD rows (length (g .rowsBefore)) [] ≡ slotsIn (getD l ((firstNumber l + length (g .rowsBefore)) % N) blank)
     row =
         let e : length rows ≡ length (g .rowsBefore) + suc (length (g .rowsAfter)) = ap length (f .split) ∙ fill-length g (live b (f .contents)) in
-        sym (slots-get N l (usedCount l) (firstNumber l) (length (g .rowsBefore)) (omega (arith, e, slots-length N l (usedCount l) (firstNumber l))))
-        ∙ (ap (λ (y : List (List Slot)). getD y (length (g .rowsBefore)) []) (f .split)
-        ∙ getD-at (g .rowsBefore) (g .before ++ (live b (f .contents) ∷ g .after)) (g .rowsAfter) [] (length (g .rowsBefore)) refl)
+        slots-get N l (usedCount l) (firstNumber l) (length (g .rowsBefore)) (omega (arith, e, slots-length N l (usedCount l) (firstNumber l)))
+
     at : getD (slotsIn (getD l (placeOf b (viewOf N l) .number % N) blank)) (placeOf b (viewOf N l) .slot) empty ≡ live b (f .contents)
     at = ap (λ (p : Place). getD (slotsIn (getD l (p .number % N) blank)) (p .slot) empty) (f .place)
-        ∙ (ap (λ (y : List Slot). getD y (length (g .before)) empty) row ∙ getD-at (g .before) (live b (f .contents)) (g .after) empty (length (g .before)) refl)
+        ∙ (ap (λ (y : List Slot). getD y (length (g .before)) empty) (sym row)
+        ∙ (ap (λ (y : List (List Slot)). getD (getD y (length (g .rowsBefore)) []) (length (g .before)) empty) (f .split) ∙ gap-slot g (live b (f .contents))))
+
     looked : lookup b (entries (flatten rows)) ≡ present (f .contents)
     looked = ap (λ (y : List (List Slot)). lookup b (entries (flatten y))) (f .split)
         ∙ (ap (λ y. lookup b y) (fill-entries g (live b (f .contents)))
@@ -159,17 +144,18 @@ record OneMark (N B : ℕ) (l : List Segment) (x : Exception) : Type 0 where
 
 mark-c : (N B : ℕ) (l : List Segment) → isCase N B l caseC ≡ true → OneMark N B l caseC
 unfolding isCase isC lastKind topSlots topIndex mended tornMarked mendSteps
-mark-c N B l h = record
-  { place = record { number = nextNumber l - 1; slot = lastSlot N l }
-  ; marks = torn-marks (lastKind N l) (and-left (isTorn (lastKind N l)) (isClean N B (tornMarked N l)) h)
-  ; steps = refl
-  ; same = refl }
+mark-c N B l h = record {
+  place = record { number = nextNumber l - 1; slot = lastSlot N l };
+  marks = torn-marks (lastKind N l) (and-left (isTorn (lastKind N l)) (isClean N B (tornMarked N l)) h);
+  steps = refl;
+  same = refl;
+}
   where
     torn-marks : (k : Slot) → isTorn k ≡ true → Marks k
-    torn-marks empty e = absurd (false-true (unfold isTorn in e))
+    torn-marks empty e = absurd (false≢true (unfold isTorn in e))
     torn-marks torn e = tt
-    torn-marks dead e = absurd (false-true (unfold isTorn in e))
-    torn-marks wrong e = absurd (false-true (unfold isTorn in e))
+    torn-marks dead e = absurd (false≢true (unfold isTorn in e))
+    torn-marks wrong e = absurd (false≢true (unfold isTorn in e))
     torn-marks (live b c) e = tt
 
 mark-d : (N B : ℕ) (l : List Segment) → isCase N B l caseD ≡ true → OneMark N B l caseD
@@ -178,11 +164,12 @@ mark-d N B l h =
     let b = lastBlock N l in
     let q = and-right (ltb 0 b) (eqb (copies b (entriesIn (viewOf N l))) 2 && isClean N B (olderMarked N l)) h in
     let c : copies b (entriesIn (viewOf N l)) ≡ 2 = eqb-true (copies b (entriesIn (viewOf N l))) 2 (and-left (eqb (copies b (entriesIn (viewOf N l))) 2) (isClean N B (olderMarked N l)) q) in
-    record
-      { place = older N l
-      ; marks = live-marks (live-place N l b (holds-copies b (entriesIn (viewOf N l)) ∙ lt-ltb 0 (copies b (entriesIn (viewOf N l))) (omega arith)))
-      ; steps = refl
-      ; same = refl }
+    record {
+      place = older N l;
+      marks = live-marks (live-place N l b (holds-copies b (entriesIn (viewOf N l)) ∙ lt-ltb 0 (copies b (entriesIn (viewOf N l))) (omega arith)));
+      steps = refl;
+      same = refl;
+    }
 
 module _ (N B : ℕ) (s : Image) (z : rightSize N B s ≡ true) (x : Exception) (e : state N B s ≡ unfinished x) (o : OneMark N B (segmentsOf N B s) x) where
   one-recovered : recovered N B s ≡ run B (markPlace N B (o .place)) s

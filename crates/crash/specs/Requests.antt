@@ -1,60 +1,30 @@
 -- What the definitions say of one request: refused it takes no step; it ends, or stops at its allowance; its code and bytes on a clean image and on an unfinished one.
 use Prim.Native.Nat.{ℕ, suc, _≤_, _<_}
 use mathlib.Core.Path.{_≡_, refl, sym, ap, ap₂, _∙_, subst}
-use mathlib.Core.Logic.{_⊎_, inl, inr, _≢_}
-use mathlib.Core.Bool.{Bool, true, false, cond, _||_, _&&_, not, false≢true}
+use mathlib.Core.Logic.{_⊎_, inl, inr, ⊎-elim, _≢_}
+use mathlib.Core.Bool.{Bool, true, false, cond, _||_, _&&_, not}
 use mathlib.Core.List.{List, [], _∷_}
 use native.Mathlib.Omega.{arith}
 use lib.ListN.{length}
-use lib.Seq.{take-all}
 use lib.Dec.{ltb, leb, eqb}
 use borrow.Author.Tests.{leb-true, leb-false, ltb-true, ltb-false, lt-leb, le-leb, lt-ltb, le-ltb, ne-eqb, eqb-true}
-use Rattle.model.specs.Lists.{all}
-use Rattle.model.specs.Chip.{Image, rightSize, Step, run}
+use Rattle.model.specs.Chip.{Image, rightSize, run}
 use Rattle.model.specs.Slot.{mostContents, numberOk}
-use Rattle.model.specs.State.{Segment, segmentsOf, View, viewOf, entriesIn, holds, distinct, capacity, someInUse, consecutive, noneOwing, othersBlank, noneWrongOrTorn, blocksDistinct, emptySlotsLast, withinCapacity, conditions, isClean, isA, isB, isC, isD, placeOf, caseA, caseB, caseC, caseD, State, clean, unfinished, damaged, stateOf, state, view}
-use Rattle.model.specs.Steps.{isWorn, formatSteps, recoverSteps}
+use Rattle.model.specs.State.{Exception, segmentsOf, viewOf, entriesIn, holds, distinct, capacity, placeOf, unfinished, state, view}
+use Rattle.model.specs.Steps.{isWorn, formatSteps}
 use Rattle.model.specs.Table.{Table, lookup, Agree, contentsFound, tableOf}
-use Rattle.model.specs.Answers.{Request, format, put, delete, read, readOr, recover, _when_, firstOf, isDamaged, isUnfinished, isFull, absentRefusals, refusals, stepsFor, Work, workOn, workOf, codeUnder, outcomeOf, ReadOutcome, contentsAt, readOutcome, pieceRead, pieceOr}
+use Rattle.model.specs.Answers.{Request, format, put, delete, read, readOr, recover, _when_, firstOf, isDamaged, isUnfinished, isFull, absentRefusals, refusals, stepsFor, Work, workOn, workOf, outcomeOf, ReadOutcome, contentsAt, readOutcome, pieceRead, pieceOr}
 use Rattle.model.specs.Histories.{Reply, bytesRead, replyOf, wears, recovered, shown}
-use Rattle.model.specs.Laws.Chip.{prefix-cut}
+use Rattle.model.specs.Laws.Tables.{agree-of, agree-holds, agree-without, agree-store, distinct-without, distinct-store}
+use Rattle.bridge.specs.Accepted.{code-of, refused-none, quiet-none, recover-none}
+use Rattle.bridge.specs.Allowance.{ends-or-stops}
 use Rattle.crash.specs.Machine.{malformed, codeOnTable, plainCode, made, OnTable, WantsRecovery}
-use Rattle.crash.specs.TableLaws.{agree-of, agree-holds, agree-without, agree-store, distinct-without, distinct-store}
 use Rattle.crash.specs.Sound.{SoundAs, Sound, Clean, finished, CutOf}
 
--- ---- the code is that of the first refusal, and a refused request has no steps
-
-abbrev chosen : ℕ → List Step → Bool → Work
-chosen n xs t = cond t (record { code = 0; steps = xs }) (record { code = n; steps = [] })
-
-pub code-of : (N B : ℕ) (s : Image) (r : Request) → workOf N B s r .code ≡ firstOf (refusals N B (rightSize N B s) (segmentsOf N B s) r)
-unfolding workOf workOn
-code-of N B s r = go (firstOf (refusals N B (rightSize N B s) (segmentsOf N B s) r)) (stepsFor N B (segmentsOf N B s) r)
-  where
-    by-test : (n : ℕ) (xs : List Step) (t : Bool) → eqb n 0 ≡ t → chosen n xs t .code ≡ n
-    by-test n xs true e = sym (eqb-true n 0 e)
-    by-test n xs false e = refl
-    go : (n : ℕ) (xs : List Step) → chosen n xs (eqb n 0) .code ≡ n
-    go n xs = by-test n xs (eqb n 0) refl
+-- ---- a request without steps
 
 pub refused-idle : (N B : ℕ) (s : Image) (r : Request) (n : ℕ) → workOf N B s r .code ≡ suc n → workOf N B s r .steps ≡ []
-unfolding workOf workOn
-refused-idle N B s r n e = go (firstOf (refusals N B (rightSize N B s) (segmentsOf N B s) r)) (stepsFor N B (segmentsOf N B s) r) e
-  where
-    by-test : (m : ℕ) (xs : List Step) (t : Bool) → chosen m xs t .code ≡ suc n → chosen m xs t .steps ≡ []
-    by-test m xs true h = absurd (omega (arith, h))
-    by-test m xs false h = refl
-    go : (m : ℕ) (xs : List Step) → chosen m xs (eqb m 0) .code ≡ suc n → chosen m xs (eqb m 0) .steps ≡ []
-    go m xs h = by-test m xs (eqb m 0) h
-
--- nor has one whose list is empty
-pub empty-idle : (N B : ℕ) (s : Image) (r : Request) → stepsFor N B (segmentsOf N B s) r ≡ [] → workOf N B s r .steps ≡ []
-unfolding workOf workOn
-empty-idle N B s r e = go (eqb (firstOf (refusals N B (rightSize N B s) (segmentsOf N B s) r)) 0)
-  where
-    go : (t : Bool) → chosen (firstOf (refusals N B (rightSize N B s) (segmentsOf N B s) r)) (stepsFor N B (segmentsOf N B s) r) t .steps ≡ []
-    go true = e
-    go false = refl
+refused-idle N B s r n e = refused-none N B s r (ap (λ (y : ℕ). eqb y 0) e ∙ ne-eqb (suc n) 0 (λ z. omega arith))
 
 pub idle-finished : (N B : ℕ) (s : Image) (r : Request) → workOf N B s r .steps ≡ [] → finished N B s r ≡ s
 unfolding run
@@ -65,7 +35,7 @@ idle-cut N B s u r e c = rw e at c
 
 pub read-idle : (N B : ℕ) (s : Image) (b : ℕ) → workOf N B s (read b) .steps ≡ []
 unfolding stepsFor
-read-idle N B s b = empty-idle N B s (read b) refl
+read-idle N B s b = quiet-none N B s (read b) refl
 
 -- both forms of reading have the same work
 pub readOr-work : (N B : ℕ) (s : Image) (b : ℕ) (f : List ℕ) → workOf N B s (readOr b f) ≡ workOf N B s (read b)
@@ -74,17 +44,13 @@ readOr-work N B s b f = refl
 
 pub readOr-idle : (N B : ℕ) (s : Image) (b : ℕ) (f : List ℕ) → workOf N B s (readOr b f) .steps ≡ []
 unfolding stepsFor
-readOr-idle N B s b f = empty-idle N B s (readOr b f) refl
-
-pub recover-idle : (N B : ℕ) (s : Image) → Clean N B s → workOf N B s recover .steps ≡ []
-unfolding stepsFor recoverSteps state
-recover-idle N B s h = empty-idle N B s recover (rw h)
+readOr-idle N B s b f = quiet-none N B s (readOr b f) refl
 
 -- ---- a clean image
 
 pub recovered-clean : (N B : ℕ) (s : Image) → Clean N B s → recovered N B s ≡ s
 unfolding recovered
-recovered-clean N B s h = idle-finished N B s recover (recover-idle N B s h)
+recovered-clean N B s h = idle-finished N B s recover (recover-none N B s h)
 
 pub shown-clean : (N B : ℕ) (s : Image) → Clean N B s → shown N B s ≡ tableOf N B s
 unfolding shown
@@ -102,6 +68,7 @@ read-code N B s b = go (workOf N B s (read b) .code) (contentsAt N B (placeOf b 
     by-test : (n at k : ℕ) (t : Bool) → eqb n 0 ≡ t → (cond {A = ReadOutcome} t (record { code = 0; offset = at; length = k }) (record { code = n; offset = 0; length = 0 })) .code ≡ n
     by-test n at k true e = sym (eqb-true n 0 e)
     by-test n at k false e = refl
+
     go : (n at k : ℕ) → (cond {A = ReadOutcome} (eqb n 0) (record { code = 0; offset = at; length = k }) (record { code = n; offset = 0; length = 0 })) .code ≡ n
     go n at k = by-test n at k (eqb n 0) refl
 
@@ -132,11 +99,11 @@ bytes-refused N B s recover n e k = refl
 unfoldable pub ended : ℕ → ℕ → Image → Request → Reply
 ended N B s r = record { code = workOf N B s r .code; bytes = bytesRead N B s r }
 
-pub record Ends (N B : ℕ) (s : Image) (allowance : ℕ) (r : Request) : Type 0 where
+pub record Ended (N B : ℕ) (s : Image) (allowance : ℕ) (r : Request) : Type 0 where
   pub reply : replyOf N B s allowance r ≡ ended N B s r
   pub image : outcomeOf N B s allowance r .image ≡ finished N B s r
 
-pub record Stops (N B : ℕ) (s : Image) (allowance : ℕ) (r : Request) : Type 0 where
+pub record Stopped (N B : ℕ) (s : Image) (allowance : ℕ) (r : Request) : Type 0 where
   pub reply : replyOf N B s allowance r ≡ record { code = 9; bytes = [] }
   pub image : CutOf N B s r (outcomeOf N B s allowance r .image)
 
@@ -150,15 +117,12 @@ bytes-stopped N B s (read b) k h = absurd (let e : length (workOf N B s (read b)
 bytes-stopped N B s (readOr b f) k h = absurd (let e : length (workOf N B s (readOr b f) .steps) ≡ 0 = ap length (readOr-idle N B s b f) in omega arith)
 bytes-stopped N B s recover k h = refl
 
-pub ends-or-stops : (N B : ℕ) (s : Image) (allowance : ℕ) (r : Request) → Ends N B s allowance r ⊎ Stops N B s allowance r
-unfolding replyOf outcomeOf codeUnder ended
-ends-or-stops N B s allowance r = go (leb (length xs) allowance) refl
-  where
-    xs : List Step
-    xs = workOf N B s r .steps
-    go : (t : Bool) → leb (length xs) allowance ≡ t → Ends N B s allowance r ⊎ Stops N B s allowance r
-    go true e = inl (record { reply = rw e; image = ap (λ y. run B y s) (take-all allowance xs (leb-true (length xs) allowance e)) })
-    go false e = inr (record { reply = rw (e, bytes-stopped N B s r allowance (leb-false (length xs) allowance e)); image = prefix-cut B allowance xs s })
+pub ended-or-stopped : (N B : ℕ) (s : Image) (allowance : ℕ) (r : Request) → Ended N B s allowance r ⊎ Stopped N B s allowance r
+unfolding replyOf ended
+ended-or-stopped N B s allowance r = ⊎-elim
+    (λ e. inl (record { reply = rw (e .code); image = e .image }))
+    (λ e. inr (record { reply = rw (e .code, bytes-stopped N B s r allowance (e .short)); image = e .image }))
+    (ends-or-stops N B s allowance r)
 
 -- ---- codes on a clean image: 2, 3, 6, 7, 8 and 0, exactly
 
@@ -179,7 +143,7 @@ not-ltb a b = go (ltb b a) refl
 -- the rows of a put and of a delete or a read, with sized, damaged and unfinished decided
 put-codes : (number short stored room worn : Bool)
     → firstOf ((1 when false) ∷ (2 when not number) ∷ (3 when not short) ∷ (4 when false) ∷ (5 when false) ∷ (7 when not stored && not room) ∷ (8 when worn) ∷ [])
-      ≡ cond (eqb (cond number (cond short 0 3) 2) 0) (cond (stored || room) (cond worn 8 0) 7) (cond number (cond short 0 3) 2)
+    ≡ cond (eqb (cond number (cond short 0 3) 2) 0) (cond (stored || room) (cond worn 8 0) 7) (cond number (cond short 0 3) 2)
 unfolding firstOf
 put-codes false short stored room worn = refl
 put-codes true false stored room worn = refl
@@ -204,7 +168,7 @@ module _ (N B : ℕ) (s : Image) (z : rightSize N B s ≡ true) (h : Clean N B s
   code-clean format o = absurd o
   code-clean (put b c) o = code-of N B s (put b c)
       ∙ rw (z, h, not-leb mostContents (length c), not-ltb (capacity N B) (length (entriesIn (view N B s))))
-        (put-codes (numberOk b) (leb (length c) mostContents) (holds b (entriesIn (view N B s))) (ltb (length (entriesIn (view N B s))) (capacity N B)) (isWorn N (view N B s)))
+      (put-codes (numberOk b) (leb (length c) mostContents) (holds b (entriesIn (view N B s))) (ltb (length (entriesIn (view N B s))) (capacity N B)) (isWorn N (view N B s)))
   code-clean (delete b) o = code-of N B s (delete b) ∙ absent-clean b
   code-clean (read b) o = code-of N B s (read b) ∙ absent-clean b
   code-clean (readOr b f) o = code-of N B s (readOr b f) ∙ absent-clean b
@@ -212,14 +176,12 @@ module _ (N B : ℕ) (s : Image) (z : rightSize N B s ≡ true) (h : Clean N B s
 
 -- ---- codes on an unfinished image: put, delete and read ask for a recovery
 
-abbrev pub Unfinished : State → Type 0
-Unfinished clean = ⊥
-Unfinished (unfinished x) = Unit {0}
-Unfinished damaged = ⊥
+abbrev pub Unfinished : ℕ → ℕ → Image → Type 0
+Unfinished N B s = (x : Exception) × (state N B s ≡ unfinished x)
 
 put-unfinished : (number short full worn : Bool)
     → firstOf ((1 when false) ∷ (2 when not number) ∷ (3 when not short) ∷ (4 when false) ∷ (5 when true) ∷ (7 when full) ∷ (8 when worn) ∷ [])
-      ≡ cond (eqb (cond number (cond short 0 3) 2) 0) 5 (cond number (cond short 0 3) 2)
+    ≡ cond (eqb (cond number (cond short 0 3) 2) 0) 5 (cond number (cond short 0 3) 2)
 unfolding firstOf
 put-unfinished false short full worn = refl
 put-unfinished true false full worn = refl
@@ -231,43 +193,25 @@ unfolding firstOf
 absent-unfinished false stored = refl
 absent-unfinished true stored = refl
 
-module _ (N B : ℕ) (s : Image) (z : rightSize N B s ≡ true) (h : Unfinished (state N B s)) where
-  not-damaged : isDamaged (stateOf N B (segmentsOf N B s)) ≡ false
-  unfolding isDamaged state
-  not-damaged = go (stateOf N B (segmentsOf N B s)) h
-    where
-      go : (x : State) → Unfinished x → isDamaged x ≡ false
-      go clean k = absurd k
-      go (unfinished x) k = refl
-      go damaged k = absurd k
-
-  is-unfinished : isUnfinished (stateOf N B (segmentsOf N B s)) ≡ true
-  unfolding isUnfinished state
-  is-unfinished = go (stateOf N B (segmentsOf N B s)) h
-    where
-      go : (x : State) → Unfinished x → isUnfinished x ≡ true
-      go clean k = absurd k
-      go (unfinished x) k = refl
-      go damaged k = absurd k
-
+module _ (N B : ℕ) (s : Image) (z : rightSize N B s ≡ true) (h : Unfinished N B s) where
   absent-wants : (b : ℕ) → firstOf (absentRefusals N B (rightSize N B s) (segmentsOf N B s) b) ≡ cond (eqb (cond (numberOk b) 0 2) 0) 5 (cond (numberOk b) 0 2)
-  unfolding absentRefusals
-  absent-wants b = rw (z, not-damaged, is-unfinished) (absent-unfinished (numberOk b) (holds b (entriesIn (viewOf N (segmentsOf N B s)))))
+  unfolding absentRefusals isDamaged isUnfinished state
+  absent-wants b = rw (z, h .1) (absent-unfinished (numberOk b) (holds b (entriesIn (viewOf N (segmentsOf N B s)))))
 
   pub code-unfinished : (r : Request) → WantsRecovery r → workOf N B s r .code ≡ cond (eqb (malformed r) 0) 5 (malformed r)
-  unfolding malformed refusals
+  unfolding malformed refusals isDamaged isUnfinished state
   code-unfinished format o = absurd o
   code-unfinished (put b c) o = code-of N B s (put b c)
-      ∙ rw (z, not-damaged, is-unfinished, not-leb mostContents (length c))
-        (put-unfinished (numberOk b) (leb (length c) mostContents) (isFull N B b (viewOf N (segmentsOf N B s))) (isWorn N (viewOf N (segmentsOf N B s))))
+      ∙ rw (z, h .1, not-leb mostContents (length c))
+      (put-unfinished (numberOk b) (leb (length c) mostContents) (isFull N B b (viewOf N (segmentsOf N B s))) (isWorn N (viewOf N (segmentsOf N B s))))
   code-unfinished (delete b) o = code-of N B s (delete b) ∙ absent-wants b
   code-unfinished (read b) o = code-of N B s (read b) ∙ absent-wants b
   code-unfinished (readOr b f) o = code-of N B s (readOr b f) ∙ absent-wants b
   code-unfinished recover o = absurd o
 
   pub code-recover : workOf N B s recover .code ≡ 0
-  unfolding refusals firstOf
-  code-recover = code-of N B s recover ∙ rw (z, not-damaged)
+  unfolding refusals firstOf isDamaged state
+  code-recover = code-of N B s recover ∙ rw (z, h .1)
 
 pub code-format : (N B : ℕ) (s : Image) → rightSize N B s ≡ true → workOf N B s format .code ≡ 0
 unfolding refusals firstOf
@@ -327,34 +271,3 @@ distinct-made t (delete b) q = distinct-without b t q
 distinct-made t (read b) q = q
 distinct-made t (readOr b f) q = q
 distinct-made t recover q = q
-
--- ---- the table of a clean image has each block once
-
-clean-test : (N B : ℕ) (l : List Segment) → stateOf N B l ≡ clean → isClean N B l ≡ true
-unfolding stateOf
-clean-test N B l h = go (isClean N B l) (isA N B l) (isB N B l) (isC N B l) (isD N B l) h
-  where
-    go : (t a b c d : Bool) → cond t clean (cond a (unfinished caseA) (cond b (unfinished caseB) (cond c (unfinished caseC) (cond d (unfinished caseD) damaged)))) ≡ clean → t ≡ true
-    go true a b c d e = refl
-    go false true b c d e = cc
-    go false false true c d e = cc
-    go false false false true d e = cc
-    go false false false false true e = cc
-    go false false false false false e = cc
-
-pub clean-distinct : (N B : ℕ) (s : Image) → Clean N B s → distinct (tableOf N B s) ≡ true
-unfolding state view tableOf isClean conditions all blocksDistinct
-clean-distinct N B s h = sixth (someInUse N l) (consecutive N l) (noneOwing l) (othersBlank l) (noneWrongOrTorn v) (distinct (entriesIn v)) (emptySlotsLast v && (withinCapacity N B v && true)) (clean-test N B l h)
-  where
-    l : List Segment
-    l = segmentsOf N B s
-    v : View
-    v = viewOf N (segmentsOf N B s)
-    sixth : (c1 c2 c3 c4 c5 c6 rest : Bool) → c1 && (c2 && (c3 && (c4 && (c5 && (c6 && rest))))) ≡ true → c6 ≡ true
-    sixth true true true true true true rest e = refl
-    sixth true true true true true false rest e = e
-    sixth true true true true false c6 rest e = absurd (false≢true e)
-    sixth true true true false c5 c6 rest e = absurd (false≢true e)
-    sixth true true false c4 c5 c6 rest e = absurd (false≢true e)
-    sixth true false c3 c4 c5 c6 rest e = absurd (false≢true e)
-    sixth false c2 c3 c4 c5 c6 rest e = absurd (false≢true e)

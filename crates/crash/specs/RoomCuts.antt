@@ -1,43 +1,43 @@
 -- Cuts of an opening, and of a compaction up to the owing mark and beyond: the image is sound, with the old table.
 use Prim.Native.Nat.{ℕ, suc, _+_, _-_, _*_, _%_, _≤_, _<_}
-use mathlib.Core.Path.{_≡_, sym, ap, _∙_}
+use mathlib.Core.Path.{_≡_, refl, sym, ap, _∙_}
 use mathlib.Core.Logic.{⊎-elim}
 use mathlib.Core.Bool.{true, false}
 use mathlib.Core.List.{List, [], _∷_, _++_}
 use native.Mathlib.Omega.{arith}
 use lib.ListN.{length, getD, set}
 use lib.Seq.{getD-set-same, getD-set-other}
-use Rattle.model.specs.Chip.{Image, Page, Bytes, Step, erase, rightSize, run, numberLimit, imageLength, erased, Cut}
+use Rattle.model.specs.Chip.{Image, Page, Step, erase, rightSize, run, numberLimit, imageLength, erased, Cut}
 use Rattle.model.specs.Slot.{Entry}
-use Rattle.model.specs.State.{Segment, segmentOf, segmentsOf, nextNumber, firstNumber, View, viewOf, entriesIn}
-use Rattle.model.specs.Steps.{hasRoom, onPage, headerAt, slotAt, writeSlot, copyEntries, copyOut, settle, openNext, compactOldest}
-use Rattle.model.specs.Table.{Agree, tableOf}
-use Rattle.model.specs.Answers.{recover}
+use Rattle.model.specs.State.{segmentOf, segmentsOf, View, entries, entriesIn}
+use Rattle.model.specs.Steps.{topNumber, hasRoom, onPage, headerAt, slotAt, writeSlot, copyEntries, copyOut, compact, settle, openNext, compactOldest}
+use Rattle.model.specs.Table.{tableOf}
 use Rattle.model.specs.Histories.{shown}
-use Rattle.model.specs.Laws.Chip.{run-append, run-length, run-size, cut-append, cut-size, whole-cut}
+use Rattle.model.specs.Laws.Chip.{run-append, run-length, run-size, cut-append, cut-size, whole-cut, SizeFacts, size-facts}
 use Rattle.model.specs.Laws.Pages.{InPage}
-use Rattle.model.specs.Laws.Segments.{partOf, part-size, Only, only-segments, only-trans, only-cut, part-run, part-cut}
-use Rattle.model.specs.Laws.HeaderPage.{openingHeader, compactionHeader, pendingHeader, open-segment-page, copy-out-pages, opening-in-page, compaction-in-page, pending-in-page, begunPage, opening-run, compaction-run, pending-run}
+use Rattle.model.specs.Laws.HeaderPage.{openingHeader, compactionHeader, pendingHeader, open-segment-page, copy-out-pages, opening-in-page, compaction-in-page, pending-in-page, begunPage, opening-run, pending-run}
 use Rattle.model.specs.Laws.SlotPage.{write-in-page}
 use Rattle.model.specs.Laws.PageCuts.{opening-cut, compaction-cut, begun-bit-6, pending-cut}
+use Rattle.model.specs.Laws.Tables.{agree-trans}
+use Rattle.model.specs.Laws.Segments.{partOf, part-size, Only, only-segments, only-trans, only-cut, part-run, part-cut}
 use Rattle.model.specs.Laws.Effects.{index, blank-page, header-only, header-run, few}
-use Rattle.model.specs.Laws.CopyOut.{Valids, copy-in-segment}
+use Rattle.model.specs.Laws.CopyOut.{Valids, copy-in-segment, begun}
+use Rattle.bridge.specs.Predicted.{CleanView}
 use Rattle.bridge.specs.Views.Shape.{opened-entries}
-use Rattle.crash.specs.Sound.{Sound, Clean, CutOf}
-use Rattle.crash.specs.TableLaws.{agree-of, agree-trans}
-use Rattle.crash.specs.Requests.{shown-clean, sound-clean}
-use Rattle.crash.specs.PutStates.{table-of}
-use Rattle.crash.specs.PutClean.{Sized, sized}
+use Rattle.bridge.specs.Views.Room.{opened-clean}
+use Rattle.bridge.specs.Held.{Held, clean-of-held, held-table}
+use Rattle.bridge.specs.Done.{next-free, open-held, old-after, copied-segments}
+use Rattle.crash.specs.States.{SoundWith, segments-show}
+use Rattle.crash.specs.Recover.{recover-cut}
 use Rattle.crash.specs.RoomTorn.{next-torn}
-use Rattle.crash.specs.RoomDone.{oldEntries, next-number, next-free, opened-image, open-segments, old-inside, copy-valid, copy-fits, copy-segments, compact-steps}
-use Rattle.crash.specs.RoomOwing.{Owing, owing-left}
+use Rattle.crash.specs.RoomOwing.{Full, old-valid, old-fits, Owing, owing-left}
 
 -- ---- steps in a header page
 
 same-part : (N B i : ℕ) (s u w : Image) → Only N B i s u → Only N B i s w → partOf N B i u ≡ partOf N B i w → segmentsOf N B u ≡ segmentsOf N B w
 same-part N B i s u w o p e = only-segments N B i s u o ∙ (ap (λ y. set (segmentsOf N B s) i (segmentOf N B i y)) e ∙ sym (only-segments N B i s w p))
 
-module _ (N B : ℕ) (s : Image) (d : Sized N B s) (n : ℕ) (below : n < numberLimit N) (xs : List Step) (p : InPage xs) (u : Image) (c : Cut B (onPage (headerAt N B n) xs) s u) where
+module _ (N B : ℕ) (s : Image) (d : SizeFacts N B s) (n : ℕ) (below : n < numberLimit N) (xs : List Step) (p : InPage xs) (u : Image) (c : Cut B (onPage (headerAt N B n) xs) s u) where
   pub header-touched : Only N B (n % N) s u
   header-touched = header-only N B (d .two) (d .most) (d .mostB) s (d .whole) n below xs p u c
 
@@ -68,170 +68,164 @@ unfolding copyEntries slotAt
 copy-header N B two n [] j s u z v h c = ap (λ y. getD (partOf N B (n % N) y) 0 []) c
 copy-header N B two n (e ∷ es) j s u z v h c =
     ⊎-elim
-      (λ d. let x = part-cut N B i (suc j) (index N B two s z n) (omega arith) ws p s z u d in
-        ap (λ (y : List Page). getD y 0 []) (x .2) ∙ getD-set-other (partOf N B i s) (suc j) 0 (x .0) [] (λ q. omega arith))
-      (λ d. copy-header N B two n es (suc j) t u (run-length B xs s ∙ z) (v .1) (omega arith) d
-        ∙ (ap (λ (y : List Page). getD y 0 []) (part-run N B i (suc j) (index N B two s z n) (omega arith) ws p s z)
-        ∙ getD-set-other (partOf N B i s) (suc j) 0 (run B ws (getD (partOf N B i s) (suc j) [])) [] (λ q. omega arith)))
-      (cut-append B xs (copyEntries N B n (suc j) es) s u c)
+    (λ d. let x = part-cut N B i (suc j) (index N B two s z n) (omega arith) ws p s z u d in
+    ap (λ (y : List Page). getD y 0 []) (x .2) ∙ getD-set-other (partOf N B i s) (suc j) 0 (x .0) [] (λ q. omega arith))
+    (λ d. copy-header N B two n es (suc j) t u (run-length B xs s ∙ z) (v .1) (omega arith) d
+    ∙ (ap (λ (y : List Page). getD y 0 []) (part-run N B i (suc j) (index N B two s z n) (omega arith) ws p s z)
+    ∙ getD-set-other (partOf N B i s) (suc j) 0 (run B ws (getD (partOf N B i s) (suc j) [])) [] (λ q. omega arith)))
+    (cut-append B xs (copyEntries N B n (suc j) es) s u c)
   where
     i : ℕ
     i = n % N
+
     ws : List Step
     ws = writeSlot (e .block) (e .contents)
+
     xs : List Step
     xs = onPage (n % N * (B + 1) + suc j) (writeSlot (e .block) (e .contents))
+
     t : Image
     t = run B xs s
+
     p : InPage (writeSlot (e .block) (e .contents))
     p = write-in-page (e .block) (e .contents) (v .0 .short)
 
-module _ (N B : ℕ) (s : Image) (z : rightSize N B s ≡ true) (h : Clean N B s) (full : hasRoom (viewOf N (segmentsOf N B s)) ≡ false) where
-  size : Sized N B s
-  size = sized N B s z
+-- ---- opening
 
-  abbrev segments : List Segment
-  segments = segmentsOf N B s
+module _ (N B : ℕ) (s : Image) (v : View) (h : Held N B s v) where
+  size : SizeFacts N B s
+  size = size-facts N B s (h .size)
 
-  abbrev seen : View
-  seen = viewOf N (segmentsOf N B s)
+  pub free-page : getD (partOf N B (suc (topNumber v) % N) s) 0 [] ≡ erased 256
+  free-page = blank-page N B (size .two) s (size .whole) (suc (topNumber v) % N) 0 (index N B (size .two) s (size .whole) (suc (topNumber v))) (omega arith) (next-free N B s v h)
 
-  abbrev n : ℕ
-  n = nextNumber segments
-
-  abbrev i : ℕ
-  i = nextNumber segments % N
-
-  -- sound, with the old table
-  abbrev Kept : Image → Type 0
-  Kept u = Sound N B u × Agree (shown N B u) (tableOf N B s)
-
-  free-page : getD (partOf N B i s) 0 [] ≡ erased 256
-  free-page = blank-page N B (size .two) s (size .whole) i 0 (index N B (size .two) s (size .whole) n) (omega arith) (next-free N B s z h full)
-
-  -- ---- opening
-
-  open-steps : openNext N B seen .steps ≡ onPage (headerAt N B n) (openingHeader N B n)
+  open-steps : openNext N B v .steps ≡ onPage (headerAt N B (suc (topNumber v))) (openingHeader N B (suc (topNumber v)))
   unfolding openNext
-  open-steps = rw (next-number N B s z h full) (open-segment-page N B n)
+  open-steps = open-segment-page N B (suc (topNumber v))
 
-  pub open-cut : length (seen .slots) < N - 1 → n < numberLimit N → (u : Image) → Cut B (openNext N B seen .steps) s u → Kept u
-  open-cut few-used below u c =
+  pub open-cut : CleanView N B v → hasRoom v ≡ false → length (v .slots) < N - 1 → suc (topNumber v) < numberLimit N → (u : Image) → Cut B (openNext N B v .steps) s u → SoundWith N B u (entriesIn v)
+  open-cut c full few-used below u cut =
+      let n = suc (topNumber v) in
       let xs = openingHeader N B n in
       let p = opening-in-page N B n in
-      let k = rw open-steps at c in
+      let k = rw open-steps at cut in
       let small : N < 256 = few N B (size .two) (size .most) (size .mostB) s (size .whole) n below in
       ⊎-elim
-        (λ six. next-torn N B s z h u (cut-size N B (openNext N B seen .steps) s u c ∙ z) (header-touched N B s size n below xs p u k) six)
-        (λ e. let whole = header-whole N B s size n below xs p u k (e ∙ sym (ap (λ (y : Page). run B xs y) free-page ∙ opening-run N B n small (size .mostB))) in
-          let r = opened-image N B s z h full few-used u (whole ∙ (ap (λ y. segmentsOf N B (run B y s)) (sym open-steps) ∙ open-segments N B s z h full below)) in
-          (sound-clean N B u (r .0), agree-of (shown N B u) (tableOf N B s) (shown-clean N B u (r .0) ∙ (table-of N B u ∙ (ap entriesIn (r .1) ∙ (opened-entries N B seen ∙ sym (table-of N B s)))))))
-        (opening-cut N B n (getD (partOf N B i u) 0 []) small (size .mostB) (header-cut N B s size n below xs p u k (erased 256) free-page))
+      (λ six. next-torn N B s v h c u (cut-size N B (openNext N B v .steps) s u cut ∙ h .size) (header-touched N B s size n below xs p u k) six)
+      (λ e. let whole = header-whole N B s size n below xs p u k (e ∙ sym (ap (λ (y : Page). run B xs y) free-page ∙ opening-run N B n small (size .mostB))) in
+      let w = run B (openNext N B v .steps) s in
+      let r = open-held N B s v h below few-used in
+      let t : tableOf N B w ≡ entriesIn v = held-table N B w (openNext N B v .result) r ∙ opened-entries N B v in
+      rw t at (segments-show N B w u (clean-of-held N B w (openNext N B v .result) r (opened-clean c full few-used)) (whole ∙ ap (λ y. segmentsOf N B (run B y s)) (sym open-steps))))
+      (opening-cut N B n (getD (partOf N B (n % N) u) 0 []) small (size .mostB) (header-cut N B s size n below xs p u k (erased 256) free-page))
 
-  -- ---- compaction
+-- ---- compaction
 
-  module _ (all : length (seen .slots) ≡ N - 1) (y : Bytes s) (below : n < numberLimit N) where
-    abbrev o : ℕ
-    o = firstNumber segments
+module _ (N B : ℕ) (s : Image) (v : View) (f : Full N B s v) where
+  h : Held N B s v
+  h = f .held
 
-    abbrev es : List Entry
-    es = oldEntries N segments
+  d : SizeFacts N B s
+  d = size-facts N B s (h .size)
 
-    small : N < 256
-    small = few N B (size .two) (size .most) (size .mostB) s (size .whole) n below
+  abbrev n : ℕ
+  n = suc (topNumber v)
 
-    old-byte : o % N < 256
-    old-byte = omega (arith, old-inside N B s z h full all, small)
+  abbrev i : ℕ
+  i = suc (topNumber v) % N
 
-    -- the header begun
-    abbrev begin : List Step
-    begin = onPage (headerAt N B n) (compactionHeader N B n (o % N))
+  abbrev o : ℕ
+  o = v .first
 
-    abbrev s1 : Image
-    s1 = run B begin s
+  abbrev es : List Entry
+  es = entries (getD (v .slots) 0 [])
 
-    size1 : Sized N B s1
-    size1 = sized N B s1 (run-size N B begin s ∙ z)
+  -- the header begun
+  abbrev begin : List Step
+  begin = onPage (headerAt N B n) (compactionHeader N B n (o % N))
 
-    touched1 : Only N B i s s1
-    touched1 = header-touched N B s size n below (compactionHeader N B n (o % N)) (compaction-in-page N B n (o % N)) s1 (whole-cut B begin s)
+  abbrev s1 : Image
+  s1 = run B begin s
 
-    page1 : getD (partOf N B i s1) 0 [] ≡ begunPage N B (o % N)
-    page1 =
-        let r = header-run N B (size .two) (size .most) (size .mostB) s (size .whole) n below (compactionHeader N B n (o % N)) (compaction-in-page N B n (o % N)) in
-        let w = run B (compactionHeader N B n (o % N)) (getD (partOf N B i s) 0 []) in
-        ap (λ (x : List Page). getD x 0 []) (r .1) ∙ (getD-set-same (partOf N B i s) 0 w [] (omega (arith, part-size N B i s (index N B (size .two) s (size .whole) n)))
-        ∙ (ap (λ (x : Page). run B (compactionHeader N B n (o % N)) x) free-page ∙ compaction-run N B n small (size .mostB) (o % N) old-byte))
+  size1 : SizeFacts N B s1
+  size1 = size-facts N B s1 (run-size N B begin s ∙ h .size)
 
-    begin-cut : (u : Image) → rightSize N B u ≡ true → Cut B begin s u → Kept u
-    begin-cut u zu c = let xs = compactionHeader N B n (o % N) in let p = compaction-in-page N B n (o % N) in
-        next-torn N B s z h u zu (header-touched N B s size n below xs p u c)
-          (compaction-cut N B n (o % N) (getD (partOf N B i u) 0 []) (header-cut N B s size n below xs p u c (erased 256) free-page))
+  begun-header : Only N B i s s1 × (partOf N B i s1 ≡ set (partOf N B i s) 0 (begunPage N B (o % N)))
+  begun-header = begun N B (d .two) (d .most) (d .mostB) s (d .whole) o n (f .below) (old-after N B s v h (f .below) (f .all) es (old-valid N B s v f) (old-fits N B s v f))
+      es (old-valid N B s v f) (old-fits N B s v f) (next-free N B s v h)
 
-    -- the slots copied
-    abbrev copying : List Step
-    copying = copyEntries N B n 0 es
+  page1 : getD (partOf N B i s1) 0 [] ≡ begunPage N B (o % N)
+  page1 = ap (λ (x : List Page). getD x 0 []) (begun-header .1)
+      ∙ getD-set-same (partOf N B i s) 0 (begunPage N B (o % N)) [] (omega (arith, part-size N B i s (index N B (d .two) s (d .whole) n)))
 
-    copied-fit : 0 + length es ≤ B
-    copied-fit = omega (arith, copy-fits N B s z h full all)
+  begin-cut : (u : Image) → rightSize N B u ≡ true → Cut B begin s u → SoundWith N B u (entriesIn v)
+  begin-cut u z c = let xs = compactionHeader N B n (o % N) in let p = compaction-in-page N B n (o % N) in
+      next-torn N B s v h (f .clean) u z (header-touched N B s d n (f .below) xs p u c)
+      (compaction-cut N B n (o % N) (getD (partOf N B i u) 0 []) (header-cut N B s d n (f .below) xs p u c (erased 256) (free-page N B s v h)))
 
-    copy-page : (u : Image) → Cut B copying s1 u → getD (partOf N B i u) 0 [] ≡ begunPage N B (o % N)
-    copy-page u c = copy-header N B (size .two) n es 0 s1 u (size1 .whole) (copy-valid N B s z h full all y) copied-fit c ∙ page1
+  -- the slots copied
+  abbrev copying : List Step
+  copying = copyEntries N B n 0 es
 
-    copy-touched : (u : Image) → Cut B copying s1 u → Only N B i s u
-    copy-touched u c = only-trans N B i s s1 u touched1
-        (only-cut N B i copying s1 u (index N B (size .two) s (size .whole) n) (copy-in-segment N B (size .two) n es 0 (copy-valid N B s z h full all y) copied-fit) c)
+  copied-fit : 0 + length es ≤ B
+  copied-fit = omega (arith, old-fits N B s v f)
 
-    copy-cut : (u : Image) → rightSize N B u ≡ true → Cut B copying s1 u → Kept u
-    copy-cut u zu c = next-torn N B s z h u zu (copy-touched u c) (rw (copy-page u c) (begun-bit-6 N B (o % N)))
+  copy-page : (u : Image) → Cut B copying s1 u → getD (partOf N B i u) 0 [] ≡ begunPage N B (o % N)
+  copy-page u c = copy-header N B (d .two) n es 0 s1 u (size1 .whole) (old-valid N B s v f) copied-fit c ∙ page1
 
-    -- the number and the owing mark
-    abbrev s2 : Image
-    s2 = run B copying s1
+  copy-touched : (u : Image) → Cut B copying s1 u → Only N B i s u
+  copy-touched u c = only-trans N B i s s1 u (begun-header .0)
+      (only-cut N B i copying s1 u (index N B (d .two) s (d .whole) n) (copy-in-segment N B (d .two) n es 0 (old-valid N B s v f) copied-fit) c)
 
-    size2 : Sized N B s2
-    size2 = sized N B s2 (run-size N B copying s1 ∙ (run-size N B begin s ∙ z))
+  copy-cut : (u : Image) → rightSize N B u ≡ true → Cut B copying s1 u → SoundWith N B u (entriesIn v)
+  copy-cut u z c = next-torn N B s v h (f .clean) u z (copy-touched u c) (rw (copy-page u c) (begun-bit-6 N B (o % N)))
 
-    abbrev finish : List Step
-    finish = onPage (headerAt N B n) (pendingHeader N B n (o % N))
+  -- the number and the owing mark
+  abbrev s2 : Image
+  s2 = run B copying s1
 
-    the-run : run B (copyOut N B o n es) s ≡ run B finish s2
-    the-run = ap (λ (x : List Step). run B x s) (copy-out-pages N B o n es) ∙ (run-append B begin (copying ++ finish) s ∙ run-append B copying finish s1)
+  size2 : SizeFacts N B s2
+  size2 = size-facts N B s2 (run-size N B copying s1 ∙ (run-size N B begin s ∙ h .size))
 
-    finish-cut : (u : Image) → rightSize N B u ≡ true → Cut B finish s2 u → Kept u
-    finish-cut u zu c =
-        let xs = pendingHeader N B n (o % N) in
-        let p = pending-in-page N B n (o % N) in
-        let page2 = copy-page s2 (whole-cut B copying s1) in
-        let touched : Only N B i s u = only-trans N B i s s2 u (copy-touched s2 (whole-cut B copying s1)) (header-touched N B s2 size2 n below xs p u c) in
-        ⊎-elim
-          (λ six. next-torn N B s z h u zu touched six)
-          (λ e. let whole = header-whole N B s2 size2 n below xs p u c (e ∙ sym (ap (λ (x : Page). run B xs x) page2 ∙ pending-run N B n (o % N))) in
-            let r = owing-left N B s z h full all u zu below touched (whole ∙ (ap (λ x. segmentsOf N B x) (sym the-run) ∙ copy-segments N B s z h full all y below)) in
-            (r .sound, r .table))
-          (pending-cut N B n (o % N) (getD (partOf N B i u) 0 []) (header-cut N B s2 size2 n below xs p u c (begunPage N B (o % N)) page2))
+  abbrev finish : List Step
+  finish = onPage (headerAt N B n) (pendingHeader N B n (o % N))
 
-    pub copy-out-cut : (u : Image) → Cut B (copyOut N B o n es) s u → Kept u
-    copy-out-cut u c =
-        let zu = cut-size N B (copyOut N B o n es) s u c ∙ z in
-        ⊎-elim (λ d. begin-cut u zu d) (λ d. ⊎-elim (λ k. copy-cut u zu k) (λ k. finish-cut u zu k) (cut-append B copying finish s1 u d))
-          (cut-append B begin (copying ++ finish) s u (rw (copy-out-pages N B o n es) at c))
+  the-run : run B (copyOut N B o n es) s ≡ run B finish s2
+  the-run = ap (λ (x : List Step). run B x s) (copy-out-pages N B o n es) ∙ (run-append B begin (copying ++ finish) s ∙ run-append B copying finish s1)
 
-    -- the whole of it, then the old segment erased: the recovery of state (b)
-    pub copy-out-owing : Owing N B s z h full all (run B (copyOut N B o n es) s)
-    copy-out-owing =
-        let t = run B (copyOut N B o n es) s in
-        let touched : Only N B i s t = rw the-run (only-trans N B i s s2 (run B finish s2) (copy-touched s2 (whole-cut B copying s1))
-              (header-touched N B s2 size2 n below (pendingHeader N B n (o % N)) (pending-in-page N B n (o % N)) (run B finish s2) (whole-cut B finish s2))) in
-        owing-left N B s z h full all t (run-size N B (copyOut N B o n es) s ∙ z) below touched (copy-segments N B s z h full all y below)
+  touched2 : (u : Image) → Cut B finish s2 u → Only N B i s u
+  touched2 u c = only-trans N B i s s2 u (copy-touched s2 (whole-cut B copying s1)) (header-touched N B s2 size2 n (f .below) (pendingHeader N B n (o % N)) (pending-in-page N B n (o % N)) u c)
 
-    pub compact-cut : ((a u : Image) → rightSize N B a ≡ true → Sound N B a → CutOf N B a recover u → Sound N B u × Agree (shown N B u) (shown N B a))
-        → (u : Image) → Cut B (compactOldest N B seen .steps) s u → Kept u
-    compact-cut recover-cut u c =
-        let t = run B (copyOut N B o n es) s in
-        let w = copy-out-owing in
-        ⊎-elim
-          (λ d. copy-out-cut u d)
-          (λ d. let r = recover-cut t u (run-size N B (copyOut N B o n es) s ∙ z) (w .sound) (rw (w .steps) d) in
-            (r .0, agree-trans (shown N B u) (shown N B t) (tableOf N B s) (r .1) (w .table)))
-          (cut-append B (copyOut N B o n es) (erase (o % N) ∷ settle N B n) s u (rw (compact-steps N B s z h full all) at c))
+  -- with the segments of the whole of it, the image owes the erase
+  owes : (u : Image) → rightSize N B u ≡ true → Only N B i s u → segmentsOf N B u ≡ segmentsOf N B (run B (copyOut N B o n es) s) → Owing N B s v f u
+  owes u z touched e = owing-left N B s v f u z touched (e ∙ copied-segments N B s v h (f .below) (f .all) es (old-valid N B s v f) (old-fits N B s v f))
+
+  finish-cut : (u : Image) → rightSize N B u ≡ true → Cut B finish s2 u → SoundWith N B u (entriesIn v)
+  finish-cut u z c =
+      let xs = pendingHeader N B n (o % N) in
+      let p = pending-in-page N B n (o % N) in
+      let page2 = copy-page s2 (whole-cut B copying s1) in
+      ⊎-elim
+      (λ six. next-torn N B s v h (f .clean) u z (touched2 u c) six)
+      (λ e. let whole = header-whole N B s2 size2 n (f .below) xs p u c (e ∙ sym (ap (λ (x : Page). run B xs x) page2 ∙ pending-run N B n (o % N))) in
+      owes u z (touched2 u c) (whole ∙ ap (λ x. segmentsOf N B x) (sym the-run)) .shows)
+      (pending-cut N B n (o % N) (getD (partOf N B i u) 0 []) (header-cut N B s2 size2 n (f .below) xs p u c (begunPage N B (o % N)) page2))
+
+  copy-out-cut : (u : Image) → Cut B (copyOut N B o n es) s u → SoundWith N B u (entriesIn v)
+  copy-out-cut u c =
+      let z = cut-size N B (copyOut N B o n es) s u c ∙ h .size in
+      ⊎-elim (λ k. begin-cut u z k) (λ k. ⊎-elim (λ r. copy-cut u z r) (λ r. finish-cut u z r) (cut-append B copying finish s1 u k))
+      (cut-append B begin (copying ++ finish) s u (rw (copy-out-pages N B o n es) at c))
+
+  -- the rest, the old segment erased and the status after it, is the recovery of state (b)
+  pub compact-cut : (u : Image) → Cut B (compactOldest N B v .steps) s u → SoundWith N B u (entriesIn v)
+  unfolding compactOldest compact
+  compact-cut u c =
+      let t = run B (copyOut N B o n es) s in
+      let z = run-size N B (copyOut N B o n es) s ∙ h .size in
+      let w = owes t z (rw the-run (touched2 (run B finish s2) (whole-cut B finish s2))) refl in
+      ⊎-elim
+      (λ k. copy-out-cut u k)
+      (λ k. let r = recover-cut N B t u z (w .shows .0) (rw (w .steps) k) in
+      (r .0, agree-trans (shown N B u) (shown N B t) (entriesIn v) (r .1) (w .shows .1)))
+      (cut-append B (copyOut N B o n es) (erase (o % N) ∷ settle N B n) s u c)

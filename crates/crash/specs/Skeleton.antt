@@ -2,7 +2,7 @@
 use Prim.Native.Nat.{ℕ, zero, suc}
 use mathlib.Core.Path.{_≡_, refl, sym, ap, ap₂, _∙_, subst}
 use mathlib.Core.Logic.{_⊎_, inl, inr, ⊎-elim}
-use mathlib.Core.Bool.{Bool, true, false, cond, _&&_}
+use mathlib.Core.Bool.{Bool, true, false, cond}
 use mathlib.Core.List.{List, [], _∷_}
 use native.Mathlib.Omega.{arith}
 use lib.ListN.{length}
@@ -14,13 +14,19 @@ use Rattle.model.specs.Steps.{formatSteps}
 use Rattle.model.specs.Table.{Table, lookup, Agree, contentsFound, tableOf}
 use Rattle.model.specs.Answers.{Request, format, put, delete, read, readOr, recover, workOf, pieceRead}
 use Rattle.model.specs.Histories.{Reply, bytesRead, Seen, answered, lost, Proper, Does, wears, Event, History, recovered, shown}
+use Rattle.model.specs.Laws.Lists.{and-left}
 use Rattle.model.specs.Laws.Chip.{cut-size, run-size}
+use Rattle.model.specs.Laws.Bytes.{cut-bytes, run-bytes}
+use Rattle.model.specs.Laws.Tables.{agree-of, agree-trans, agree-size}
+use Rattle.bridge.specs.Views.Shape.{clean-distinct}
+use Rattle.bridge.specs.Held.{clean-view}
+use Rattle.bridge.specs.Accepted.{recover-none}
+use Rattle.bridge.specs.Format.{format-bytes}
 use Rattle.crash.specs.Machine.{malformed, plainCode, plainBytes, plain, made, next, codeOnTable, Promise, settled, interrupted, unknown, IsCut, OnTable, WantsRecovery, Holds, Moves, answers, answers-again, asks-recovery, refuses-malformed, not-begun, wholly-done, formats, format-cut, no-promise, PlainRuns}
 use Rattle.crash.specs.Demand2.{Keeps, Demand2}
-use Rattle.crash.specs.TableLaws.{agree-of, agree-trans, agree-size}
+use Rattle.crash.specs.Reading
 use Rattle.crash.specs.Sound.{SoundAs, Sound, Clean, finished, CutOf, DoneWith, LeftWith, RequestLaws}
-use Rattle.crash.specs.ByteImage.{bytes-cut, bytes-run, bytes-format}
-use Rattle.crash.specs.Requests.{refused-idle, idle-finished, idle-cut, read-idle, readOr-idle, readOr-work, recover-idle, shown-clean, sound-clean, read-refused, readOr-bytes, bytes-refused, ended, ends-or-stops, code-clean, Unfinished, code-unfinished, code-recover, code-format, steps-format, malformed-small, code-agree, agree-made, distinct-made, clean-distinct}
+use Rattle.crash.specs.Requests.{refused-idle, idle-finished, idle-cut, read-idle, readOr-idle, readOr-work, shown-clean, sound-clean, read-refused, readOr-bytes, bytes-refused, ended, ended-or-stopped, code-clean, Unfinished, code-unfinished, code-recover, code-format, steps-format, malformed-small, code-agree, agree-made, distinct-made}
 
 -- ---- the table after a request with this code
 
@@ -91,7 +97,7 @@ module _ (N B : ℕ) (laws : RequestLaws N B) where
   clean-done s (delete b) o p z y h zero e = laws .delete-done s b z h e
   clean-done s (read b) o p z y h zero e = idle-done s (read b) (tableOf N B s) h (read-idle N B s b) refl
   clean-done s (readOr b f) o p z y h zero e = idle-done s (readOr b f) (tableOf N B s) h (readOr-idle N B s b f) refl
-  clean-done s recover o p z y h zero e = idle-done s recover (tableOf N B s) h (recover-idle N B s h) refl
+  clean-done s recover o p z y h zero e = idle-done s recover (tableOf N B s) h (recover-none N B s h) refl
 
   clean-cut : (s u : Image) (r : Request) → OnTable r → Proper r → rightSize N B s ≡ true → Bytes s → Clean N B s → CutOf N B s r u → (n : ℕ) → workOf N B s r .code ≡ n
       → LeftWith N B u (tableOf N B s) (after (tableOf N B s) n r)
@@ -102,7 +108,7 @@ module _ (N B : ℕ) (laws : RequestLaws N B) where
   clean-cut s u (delete b) o p z y h c zero e = laws .delete-cut s u b z h e c
   clean-cut s u (read b) o p z y h c zero e = idle-left s u (read b) (tableOf N B s) h (read-idle N B s b) c
   clean-cut s u (readOr b f) o p z y h c zero e = idle-left s u (readOr b f) (tableOf N B s) h (readOr-idle N B s b f) c
-  clean-cut s u recover o p z y h c zero e = idle-left s u recover (tableOf N B s) h (recover-idle N B s h) c
+  clean-cut s u recover o p z y h c zero e = idle-left s u recover (tableOf N B s) h (recover-none N B s h) c
 
   -- the bytes that a read hands back are the table's
   read-bytes : (s : Image) (t : Table) (b : ℕ) → rightSize N B s ≡ true → Clean N B s → Agree (tableOf N B s) t → (n : ℕ) → workOf N B s (read b) .code ≡ n
@@ -129,8 +135,9 @@ module _ (N B : ℕ) (laws : RequestLaws N B) where
 
   module _ (s m : Image) (t : Table) (r : Request) (o : OnTable r) (p : Proper r) (z : rightSize N B s ≡ true) (k : Stores N B s t) where
     plain-code : workOf N B s r .code ≡ plainCode (capacity N B) (wears N B s) t r
+    unfolding tableOf
     plain-code = code-clean N B s z (k .clean) r o
-        ∙ code-agree (capacity N B) (wears N B s) (tableOf N B s) t (k .table) (agree-size (tableOf N B s) t (clean-distinct N B s (k .clean)) (k .once) (k .table)) r
+        ∙ code-agree (capacity N B) (wears N B s) (tableOf N B s) t (k .table) (agree-size (tableOf N B s) t (clean-distinct (clean-view N B s z (k .clean))) (k .once) (k .table)) r
 
     plain-reply : ended N B s r ≡ plain (capacity N B) (wears N B s) t r
     unfolding ended plain
@@ -147,57 +154,70 @@ module _ (N B : ℕ) (laws : RequestLaws N B) where
     stored-next e =
         let n = workOf N B s r .code in
         let d = clean-done s r o p z (k .bytes) (k .clean) n refl in
-        rw (e, ← plain-next) (record
-          { clean = d .0
-          ; table = agree-trans (tableOf N B (finished N B s r)) (after (tableOf N B s) n r) (after t n r) (d .1) (agree-after (tableOf N B s) t n r (k .table))
-          ; once = distinct-after t n r (k .once)
-          ; bytes = bytes-run B (workOf N B s r .steps) s (k .bytes) })
+        rw (e, ← plain-next) (record {
+          clean = d .0;
+          table = agree-trans (tableOf N B (finished N B s r)) (after (tableOf N B s) n r) (after t n r) (d .1) (agree-after (tableOf N B s) t n r (k .table));
+          once = distinct-after t n r (k .once);
+          bytes = run-bytes B (workOf N B s r .steps) s (k .bytes);
+        })
 
     clean-interrupted : (x : Promise) → Holds x t → (u : Seen) → IsCut u → CutOf N B s r m → Follows N B (wears N B s) r u x m
     clean-interrupted x held u i c =
         let n = workOf N B s r .code in
         let d = clean-cut s m r o p z (k .bytes) (k .clean) c n refl in
         let zm = cut-size N B (workOf N B s r .steps) s m c ∙ z in
-        let ym = bytes-cut B (workOf N B s r .steps) s m c (k .bytes) in
+        let ym = cut-bytes B (workOf N B s r .steps) s m c (k .bytes) in
         ⊎-elim
-          (λ old. (interrupted t, not-begun t held o i,
-            (zm, record { sound = d .0; table = agree-trans (shown N B m) (tableOf N B s) t old (k .table); once = k .once; bytes = ym })))
-          (λ new. (interrupted (next (capacity N B) (wears N B s) t r), wholly-done t held o i,
-            (zm, rw (← plain-next) (record
-              { sound = d .0
-              ; table = agree-trans (shown N B m) (after (tableOf N B s) n r) (after t n r) new (agree-after (tableOf N B s) t n r (k .table))
-              ; once = distinct-after t n r (k .once)
-              ; bytes = ym }))))
-          (d .1)
+        (λ old. (
+          interrupted t,
+          not-begun t held o i,
+          (zm, record { sound = d .0; table = agree-trans (shown N B m) (tableOf N B s) t old (k .table); once = k .once; bytes = ym }),
+        ))
+        (λ new. (
+          interrupted (next (capacity N B) (wears N B s) t r),
+          wholly-done t held o i,
+          (
+            zm,
+            rw (← plain-next) (record {
+              sound = d .0;
+              table = agree-trans (shown N B m) (after (tableOf N B s) n r) (after t n r) new (agree-after (tableOf N B s) t n r (k .table));
+              once = distinct-after t n r (k .once);
+              bytes = ym;
+            }),
+          ),
+        ))
+        (d .1)
 
   -- ---- an event on an image that will show t
 
   -- clean, or unfinished
-  clean-or-unfinished : (s : Image) → Sound N B s → Clean N B s ⊎ Unfinished (state N B s)
+  clean-or-unfinished : (s : Image) → Sound N B s → Clean N B s ⊎ Unfinished N B s
   clean-or-unfinished s h = go (state N B s) refl h
     where
-      go : (y : State) → state N B s ≡ y → SoundAs N B s (segmentsOf N B s) y → Clean N B s ⊎ Unfinished (state N B s)
+      go : (y : State) → state N B s ≡ y → SoundAs N B s (segmentsOf N B s) y → Clean N B s ⊎ Unfinished N B s
       go clean e k = inl e
-      go (unfinished x) e k = inr (rw e tt)
+      go (unfinished x) e k = inr (x, e)
       go damaged e k = absurd k
 
   stores-clean : (s : Image) (t : Table) → Clean N B s → WillShow N B s t → Stores N B s t
-  stores-clean s t h k = record
-    { clean = h
-    ; table = agree-trans (tableOf N B s) (shown N B s) t (agree-of (tableOf N B s) (shown N B s) (sym (shown-clean N B s h))) (k .table)
-    ; once = k .once
-    ; bytes = k .bytes }
+  stores-clean s t h k = record {
+    clean = h;
+    table = agree-trans (tableOf N B s) (shown N B s) t (agree-of (tableOf N B s) (shown N B s) (sym (shown-clean N B s h))) (k .table);
+    once = k .once;
+    bytes = k .bytes;
+  }
 
   -- refused as malformed, on any image: nothing changes
   refuses : (s m : Image) (t : Table) (r : Request) (n : ℕ) → rightSize N B s ≡ true → WillShow N B s t → malformed r ≡ suc n → workOf N B s r .code ≡ suc n
       → (w : Bool) (u : Seen) → u ≡ answered (ended N B s r) → m ≡ finished N B s r → Follows N B w r u (interrupted t) m
   unfolding ended
-  refuses s m t r n z k f e w u i d =
-      (interrupted t,
-       refuses-malformed n f (i ∙ rw (e, bytes-refused N B s r n e (λ six. omega (arith, malformed-small r)))),
-       rw (d, idle-finished N B s r (refused-idle N B s r n e)) (z, k))
+  refuses s m t r n z k f e w u i d = (
+    interrupted t,
+    refuses-malformed n f (i ∙ rw (e, bytes-refused N B s r n e (λ six. omega (arith, malformed-small r)))),
+    rw (d, idle-finished N B s r (refused-idle N B s r n e)) (z, k),
+  )
 
-  module _ (s m : Image) (t : Table) (z : rightSize N B s ≡ true) (k : WillShow N B s t) (h : Unfinished (state N B s)) where
+  module _ (s m : Image) (t : Table) (z : rightSize N B s ≡ true) (k : WillShow N B s t) (h : Unfinished N B s) where
     wants-code : (r : Request) → WantsRecovery r → (n : ℕ) → malformed r ≡ n → workOf N B s r .code ≡ cond (eqb n 0) 5 n
     wants-code r q n e = code-unfinished N B s z h r q ∙ ap (λ (y : ℕ). cond (eqb y 0) 5 y) e
 
@@ -224,20 +244,31 @@ module _ (N B : ℕ) (laws : RequestLaws N B) where
 
     recover-interrupted : (w : Bool) (u : Seen) → IsCut u → CutOf N B s recover m → Follows N B w recover u (interrupted t) m
     recover-interrupted w u i c =
-        let d = laws .recover-cut s m z (k .sound) c in
-        (interrupted t, not-begun t refl tt i,
-          (cut-size N B (workOf N B s recover .steps) s m c ∙ z, record
-            { sound = d .0
-            ; table = agree-trans (shown N B m) (shown N B s) t (d .1) (k .table)
-            ; once = k .once
-            ; bytes = bytes-cut B (workOf N B s recover .steps) s m c (k .bytes) }))
+        let d = laws .recover-cut s m z (k .sound) c in (
+          interrupted t,
+          not-begun t refl tt i,
+          (
+            cut-size N B (workOf N B s recover .steps) s m c ∙ z,
+            record {
+              sound = d .0;
+              table = agree-trans (shown N B m) (shown N B s) t (d .1) (k .table);
+              once = k .once;
+              bytes = cut-bytes B (workOf N B s recover .steps) s m c (k .bytes);
+            },
+          ),
+        )
 
     recover-ends : (w : Bool) (u : Seen) → u ≡ answered (ended N B s recover) → m ≡ finished N B s recover → Follows N B w recover u (interrupted t) m
     unfolding malformed recovered shown ended plain plainCode codeOnTable plainBytes bytesRead next made
-    recover-ends w u i e =
-        (settled t, answers-again {t = t} tt refl (i ∙ rw (code-recover N B s z h)),
-          (size-finished N B s m recover z e, rw e (record
-            { clean = laws .recover-done s z (k .sound); table = k .table; once = k .once; bytes = bytes-run B (workOf N B s recover .steps) s (k .bytes) })))
+    recover-ends w u i e = (
+      settled t,
+      answers-again {t = t} tt refl (i ∙ rw (code-recover N B s z h)),
+      (
+        size-finished N B s m recover z e,
+        rw e (record
+            { clean = laws .recover-done s z (k .sound); table = k .table; once = k .once; bytes = run-bytes B (workOf N B s recover .steps) s (k .bytes) }),
+      ),
+    )
 
   -- ---- one event, whatever the promise
 
@@ -247,7 +278,7 @@ module _ (N B : ℕ) (laws : RequestLaws N B) where
   request-cut s m (interrupted t) r o p (z, k) u i c =
       ⊎-elim (λ h. clean-interrupted s m t r o p z (stores-clean s t h k) (interrupted t) refl u i c) (λ h. by-request r o h c) (clean-or-unfinished s (k .sound))
     where
-      by-request : (a : Request) → OnTable a → Unfinished (state N B s) → CutOf N B s a m → Follows N B (wears N B s) a u (interrupted t) m
+      by-request : (a : Request) → OnTable a → Unfinished N B s → CutOf N B s a m → Follows N B (wears N B s) a u (interrupted t) m
       by-request format oa h d = absurd oa
       by-request (put b v) oa h d = wants-interrupted s m t z k h (put b v) tt tt (wears N B s) u i d
       by-request (delete b) oa h d = wants-interrupted s m t z k h (delete b) tt tt (wears N B s) u i d
@@ -268,7 +299,8 @@ module _ (N B : ℕ) (laws : RequestLaws N B) where
       still-clean zero f q =
           (settled (next (capacity N B) (wears N B s) t r), answers-again o f (i ∙ ap answered (plain-reply s m t r o p z q)), (size-finished N B s m r z e, stored-next s m t r o p z q e))
       still-clean (suc n) f q = refuses s m t r n z k f (plain-code s m t r o p z q ∙ rw (f, ne-eqb (suc n) 0 (λ y. omega arith))) (wears N B s) u i e
-      by-request : (a : Request) → OnTable a → Unfinished (state N B s) → u ≡ answered (ended N B s a) → m ≡ finished N B s a → Follows N B (wears N B s) a u (interrupted t) m
+
+      by-request : (a : Request) → OnTable a → Unfinished N B s → u ≡ answered (ended N B s a) → m ≡ finished N B s a → Follows N B (wears N B s) a u (interrupted t) m
       by-request format oa h ia d = absurd oa
       by-request (put b v) oa h ia d = wants-ends s m t z k h (put b v) tt (wears N B s) u ia d
       by-request (delete b) oa h ia d = wants-ends s m t z k h (delete b) tt (wears N B s) u ia d
@@ -284,10 +316,15 @@ module _ (N B : ℕ) (laws : RequestLaws N B) where
   unfolding ended bytesRead distinct
   format-ends s m x z w u i e =
       let d = laws .format-done s z in
-      let v : m ≡ run B (formatSteps N B) s = e ∙ ap (λ y. run B y s) (steps-format N B s z) in
-      (settled [], formats refl (i ∙ rw (code-format N B s z)),
-        (size-finished N B s m format z e, rw v (record
-          { clean = d .0; table = agree-of (tableOf N B (run B (formatSteps N B) s)) [] (d .1); once = refl; bytes = bytes-format N B s z })))
+      let v : m ≡ run B (formatSteps N B) s = e ∙ ap (λ y. run B y s) (steps-format N B s z) in (
+        settled [],
+        formats refl (i ∙ rw (code-format N B s z)),
+        (
+          size-finished N B s m format z e,
+          rw v (record
+              { clean = d .0; table = agree-of (tableOf N B (run B (formatSteps N B) s)) [] (d .1); once = refl; bytes = format-bytes N B s z }),
+        ),
+      )
 
   -- ended, stopped at the allowance, or lost
   on-table : (s m : Image) (x : Promise) (r : Request) → OnTable r → Proper r → Invariant N B s x → (u : Seen) → Does N B r u s m → Follows N B (wears N B s) r u x m
@@ -295,14 +332,14 @@ module _ (N B : ℕ) (laws : RequestLaws N B) where
   on-table s m x r o p k (answered y) (allowance, e, f) = ⊎-elim
       (λ ends. request-ends s m x r o p k (answered y) (ap answered (e ∙ ends .reply)) (f ∙ ends .image))
       (λ stops. request-cut s m x r o p k (answered y) (inr (ap answered (e ∙ stops .reply))) (rw f (stops .image)))
-      (ends-or-stops N B s allowance r)
+      (ended-or-stopped N B s allowance r)
 
   on-format : (s m : Image) (x : Promise) → rightSize N B s ≡ true → (u : Seen) → Does N B format u s m → Follows N B (wears N B s) format u x m
   on-format s m x z lost c = format-interrupted s m x z (wears N B s) lost (inl refl) c
   on-format s m x z (answered y) (allowance, e, f) = ⊎-elim
       (λ ends. format-ends s m x z (wears N B s) (answered y) (ap answered (e ∙ ends .reply)) (f ∙ ends .image))
       (λ stops. format-interrupted s m x z (wears N B s) (answered y) (inr (ap answered (e ∙ stops .reply))) (rw f (stops .image)))
-      (ends-or-stops N B s allowance format)
+      (ended-or-stopped N B s allowance format)
 
   one-event : (s m : Image) (x : Promise) (r : Request) → Proper r → Invariant N B s x → (u : Seen) → Does N B r u s m → Follows N B (wears N B s) r u x m
   one-event s m x format p k u d = on-format s m x (k .0) u d
@@ -326,16 +363,8 @@ module _ (N B : ℕ) (laws : RequestLaws N B) where
   keeps s (interrupted t) (z, k) = ((λ e. subst (λ y. SoundAs N B s (segmentsOf N B s) y) e (k .sound)), laws .recover-done s z (k .sound), k .table)
   keeps s unknown k = tt
 
-range-of : (N B : ℕ) (s : Image) → rightSize N B s ≡ true → inRange N B ≡ true
-unfolding rightSize
-range-of N B s z = go (inRange N B) z
-  where
-    go : (t : Bool) → t && eqb (length s) (imageLength N B) ≡ true → t ≡ true
-    go true e = refl
-    go false e = e
-
 pub demand2-from : ((N B : ℕ) → inRange N B ≡ true → RequestLaws N B) → Demand2
 demand2-from laws N B s u es z runs =
-    let l = laws N B (range-of N B s z) in
+    let l = laws N B (and-left (inRange N B) (eqb (length s) (imageLength N B)) (unfold rightSize in z)) in
     let a = history N B l es s u unknown (z, tt) runs in
     (a .0, a .1, keeps N B l u (a .0) (a .2))

@@ -1,59 +1,70 @@
--- A slot written at the top's first empty place, on a clean image with room: what a cut leaves, and what the whole leaves.
+-- A block put where there is room, cut anywhere: its slot written at the top's first empty place, and then the old one marked, which is the recovery of state (d).
 use Prim.Native.Nat.{ℕ, suc, _+_, _-_, _%_, _≤_, _<_}
-use mathlib.Core.Path.{_≡_, refl, sym, ap, ap₂, _∙_, subst}
+use mathlib.Core.Path.{_≡_, refl, sym, ap, ap₂, _∙_}
 use mathlib.Core.Logic.{inl, inr, ⊎-elim}
-use mathlib.Core.Bool.{Bool, true, false, cond, _||_, not}
+use mathlib.Core.Bool.{Bool, true, false, cond, _&&_, and-false}
 use mathlib.Core.List.{List, [], _∷_, _++_, flatten}
 use native.Mathlib.Omega.{arith}
-use lib.ListN.{length, getD, set, length-append}
+use lib.ListN.{length, getD, set}
 use lib.Seq.{set-set, set-getD, set-at, getD-at, getD-set-same}
 use lib.Dec.{ltb}
+use Rattle.model.specs.Lists.{all}
 use Rattle.model.specs.Chip.{Image, rightSize, run, Cut}
 use Rattle.model.specs.Slot.{Slot, empty, torn, dead, live, isEmpty, isTorn, isWrong, entryOf, numberOk}
-use Rattle.model.specs.State.{Segment, blank, inUse, segmentsOf, slotsIn, nextNumber, topIndex, topSlots, usedCount, firstNumber, View, viewOf, entries, entriesIn, holds, distinct, isClean, withSlot, filled, lastSlot, lastKind, tornMarked, isC, emptySlotsLast, noneWrongOrTorn, placeOf, blockIn, lastBlock, copies, older, olderMarked, isD, caseC, caseD, unfinished, stateOf, state}
-use Rattle.model.specs.Steps.{topRow, topNumber, firstEmpty, hasRoom, onPage, slotAt, writeSlot, markPlace, mendSteps, roomFor, writeAtTop}
-use Rattle.model.specs.Table.{Agree, store, tableOf}
+use Rattle.model.specs.State.{Segment, blank, inUse, segmentsOf, slotsIn, numberAfter, nextNumber, topIndex, topSlots, firstNumber, View, viewOf, view, entries, entriesIn, holds, distinct, isClean, withSlot, filled, lastSlot, lastKind, tornMarked, isC, placeOf, blockIn, lastBlock, copies, older, olderMarked, isD, caseC, caseD}
+use Rattle.model.specs.Steps.{topRow, topNumber, firstEmpty, onPage, slotAt, writeSlot, markPlace, markOld, mendSteps, writeAtTop}
 use Rattle.model.specs.Answers.{recover, workOf}
 use Rattle.model.specs.Histories.{shown}
 use Rattle.model.specs.Laws.Lists.{and-left, and-both}
-use Rattle.model.specs.Laws.Chip.{cut-size}
-use Rattle.model.specs.Laws.Segments.{segments-length}
-use Rattle.model.specs.Laws.Clean.{RingFacts, index-inside, view-length}
-use Rattle.model.specs.Laws.View.{slot-ring, slot-view}
+use Rattle.model.specs.Laws.Chip.{SizeFacts, size-facts, cut-append, cut-size}
 use Rattle.model.specs.Laws.SlotPage.{Valid, write-in-page}
 use Rattle.model.specs.Laws.PageCuts.{write-cut-kind}
-use Rattle.model.specs.Laws.Effects.{slot-count, slot-cut, empty-page, write-effect}
-use Rattle.bridge.specs.Predicted.{slotChanged, written, marked, afterPut, CleanView, Fits}
-use Rattle.bridge.specs.Views.Tables.{holds-append, copies-append, copies-cons-same, copies-none, held-copies, distinct-copies}
-use Rattle.bridge.specs.Views.Places.{fill, fill-entries, fill-all, fill-length, fill-rows, fill-empty-last, fill-changed, TopGap, written-at, written-entries, written-place}
-use Rattle.bridge.specs.Views.Shape.{Shape, clean-shape, shape-clean, clean-distinct, clean-within, written-shape, shape-gap}
-use Rattle.bridge.specs.Views.Requests.{put-keeps-clean, put-stores}
-use Rattle.crash.specs.Sound.{SoundAs, Sound, Clean, LeftWith}
-use Rattle.crash.specs.TableLaws.{agree-of, agree-trans}
-use Rattle.crash.specs.Requests.{shown-clean, sound-clean}
-use Rattle.crash.specs.PutStates.{state-c, state-d, image-clean, table-of, recover-steps, shown-as, same-segments}
-use Rattle.crash.specs.PutClean.{sized, row-segment, CleanFacts, clean-facts, segments-clean, top-next}
-use Rattle.crash.specs.WriteSlots.{filled-at, mark-segments, Placed, placed}
+use Rattle.model.specs.Laws.Tables.{copies-append, copies-cons-same, copies-none, held-copies, distinct-copies, agree-trans}
+use Rattle.model.specs.Laws.Effects.{slot-cut, empty-page, write-effect}
+use Rattle.model.specs.Laws.Ring.{next-kept}
+use Rattle.model.specs.Laws.Clean.{index-inside}
+use Rattle.model.specs.Laws.View.{slotChanged, slot-ring, slot-view}
+use Rattle.bridge.specs.Predicted.{written, putInto, CleanView}
+use Rattle.bridge.specs.Views.Places.{fill, fill-entries, fill-changed, TopGap, written-entries, written-place, written-holds, gap-row, InView, in-view}
+use Rattle.bridge.specs.Views.Shape.{clean-shape, shape-clean, clean-distinct, clean-within, filled-shape}
+use Rattle.bridge.specs.Held.{Held, held-first, held-top, held-row, held-clean, segments-clean, clean-of-held, held-table}
+use Rattle.bridge.specs.Requests.{write-top-held, put-held}
+use Rattle.crash.specs.Sound.{LeftWith}
+use Rattle.crash.specs.States.{isCase, mended, SoundWith, segments-show}
+use Rattle.crash.specs.RecoverMarks.{Marks, live-place, live-marks, mark-segments}
+use Rattle.crash.specs.Recover.{case-steps, case-shows, recover-cut}
 
-module _ (N B : ℕ) (s : Image) (z : rightSize N B s ≡ true) (h : Clean N B s) (room : hasRoom (viewOf N (segmentsOf N B s)) ≡ true) where
-  facts : CleanFacts N B s
-  facts = clean-facts N B s z h
+-- ---- the last slot that is not empty
 
+all-empty-filled : (y : List Slot) → all isEmpty y ≡ true → filled y ≡ 0
+unfolding filled
+all-empty-filled [] h = refl
+all-empty-filled (k ∷ y) h = rw h
+
+filled-at : (x : List Slot) (k : Slot) (y : List Slot) → isEmpty k ≡ false → all isEmpty y ≡ true → filled (x ++ (k ∷ y)) ≡ suc (length x)
+unfolding filled all
+filled-at [] k y e h = rw (e, all-empty-filled y h)
+filled-at (a ∷ x) k y e h = rw (some x, and-false (isEmpty a), filled-at x k y e h)
+  where
+    some : (w : List Slot) → all isEmpty (w ++ (k ∷ y)) ≡ false
+    some [] = rw e
+    some (m ∷ w) = ap (λ t. isEmpty m && t) (some w) ∙ and-false (isEmpty m)
+
+-- ---- another slot at the top's first empty place
+
+module _ (N B : ℕ) (s : Image) (v : View) (h : Held N B s v) (clean : CleanView N B v) (gap : TopGap v) where
   abbrev segments : List Segment
   segments = segmentsOf N B s
 
-  abbrev seen : View
-  seen = viewOf N (segmentsOf N B s)
-
-  gap : TopGap seen
-  gap = shape-gap (clean-shape (facts .seen)) room
+  size : SizeFacts N B s
+  size = size-facts N B s (h .size)
 
   -- the number of the top, and the place of its first empty slot
   abbrev n : ℕ
-  n = topNumber seen
+  n = topNumber v
 
   abbrev j : ℕ
-  j = firstEmpty (topRow (seen .slots))
+  j = firstEmpty (topRow (v .slots))
 
   -- the top's row, and the segments, with another slot there
   abbrev row : Slot → List Slot
@@ -62,34 +73,23 @@ module _ (N B : ℕ) (s : Image) (z : rightSize N B s ≡ true) (h : Clean N B s
   abbrev changed : Slot → List Segment
   changed k = set segments (n % N) (withSlot j k (getD segments (n % N) blank))
 
-  ring : RingFacts N segments
-  ring = facts .ring
+  place : InView B v (gap .gap) empty
+  place = in-view B v (gap .gap) empty (gap .split) (clean .rows)
 
-  first-number : seen .first ≡ firstNumber segments
-  unfolding viewOf
-  first-number = refl
-
-  rows-before : length (gap .gap .rowsBefore) < usedCount segments
-  rows-before = omega (arith, sym (view-length N segments ring) ∙ (ap length (gap .split) ∙ fill-length (gap .gap) empty))
+  inside : j < B
+  inside = rw (gap .slot) (place .short)
 
   top-segment : (st : ℕ) × (getD segments (n % N) blank ≡ inUse st n (row empty))
   top-segment =
-      let q = length (gap .gap .rowsBefore) in
-      let e : firstNumber segments + q ≡ n = sym (gap .number ∙ ap (λ (y : ℕ). y + q) first-number) in
-      let r : getD (seen .slots) q [] ≡ row empty = ap (λ (y : List (List Slot)). getD y q []) (gap .split) ∙ getD-at (gap .gap .rowsBefore) (row empty) (gap .gap .rowsAfter) [] q refl in
-      let x = row-segment N segments ring q rows-before in
-      (x .0, rw (e, r) at (x .1))
+      let x = held-row N B s v h (length (gap .gap .rowsBefore)) (place .row) in
+      let r : getD (v .slots) (length (gap .gap .rowsBefore)) [] ≡ row empty = ap (λ (y : List (List Slot)). getD y (length (gap .gap .rowsBefore)) []) (gap .split) ∙ gap-row (gap .gap) empty in
+      (x .0, rw (← (gap .number), r) at (x .1))
 
   row-at : (k : Slot) → getD (row k) j empty ≡ k
   row-at k = getD-at (gap .gap .before) k (gap .gap .after) empty j (sym (gap .slot))
 
-  inside : j < B
-  inside =
-      let c = slot-count N B (facts .size .two) s (facts .size .whole) n 0 (top-segment .0) n (row empty) (omega (arith, facts .size .slots)) (top-segment .1) in
-      omega (arith, c, length-append (gap .gap .before) (empty ∷ gap .gap .after), gap .slot)
-
   top-inside : n % N < length segments
-  top-inside = index-inside N segments ring n
+  top-inside = index-inside N segments (h .ring) n
 
   with-slot : (k m : Slot) (st : ℕ) → withSlot j k (inUse st n (row m)) ≡ inUse st n (row k)
   unfolding withSlot
@@ -111,50 +111,22 @@ module _ (N B : ℕ) (s : Image) (z : rightSize N B s ≡ true) (h : Clean N B s
   changed-same = changed-as empty ∙ (ap (λ (y : Segment). set segments (n % N) y) (sym (top-segment .1)) ∙ set-getD segments (n % N) blank)
 
   low : firstNumber segments ≤ n
-  low = omega (arith, gap .number, first-number)
+  low = omega (arith, gap .number, held-first N B s v h)
 
   high : n < nextNumber segments
-  high = omega (arith, top-next N segments ring)
+  high = omega (arith, held-top N B s v h)
 
-  changed-ring : (k : Slot) → RingFacts N (changed k)
-  changed-ring k = slot-ring N segments ring n j k low high
-
-  changed-view : (k : Slot) → viewOf N (changed k) ≡ record { first = seen .first; slots = fill (gap .gap) k }
-  changed-view k = slot-view N segments ring n j k low high ∙ fill-changed seen (gap .gap) empty k n j (gap .split) (gap .number) (gap .slot)
+  changed-view : (k : Slot) → viewOf N (changed k) ≡ record { first = v .first; slots = fill (gap .gap) k }
+  unfolding view
+  changed-view k = slot-view N segments (h .ring) n j k low high
+      ∙ (ap (λ y. slotChanged n j k y) (h .view) ∙ fill-changed v (gap .gap) empty k n j (gap .split) (gap .number) (gap .slot))
 
   changed-next : (k : Slot) → nextNumber (changed k) ≡ suc n
-  changed-next k = sym (top-next N (changed k) (changed-ring k)) ∙ ap suc (ap topNumber (changed-view k) ∙ same)
-    where
-      same : topNumber (record { first = seen .first; slots = fill (gap .gap) k }) ≡ n
-      same = unfold topNumber in (omega (arith, fill-length (gap .gap) k, ap length (gap .split), fill-length (gap .gap) empty))
+  unfolding numberAfter
+  changed-next k = ap nextNumber (changed-as k)
+      ∙ (next-kept segments (n % N) (inUse (top-segment .0) n (row k)) (ap numberAfter (sym (top-segment .1))) ∙ sym (held-top N B s v h))
 
-  -- ---- torn: state (c), with the old table
-
-  abbrev deadView : View
-  deadView = record { first = seen .first; slots = fill (gap .gap) dead }
-
-  -- a dead slot holds no more than an empty one
-  dead-entries : entriesIn deadView ≡ entriesIn seen
-  unfolding entriesIn entryOf
-  dead-entries = fill-entries (gap .gap) dead ∙ sym (ap (λ (y : List (List Slot)). entries (flatten y)) (gap .split) ∙ fill-entries (gap .gap) empty)
-
-  dead-clean : CleanView N B deadView
-  unfolding noneWrongOrTorn emptySlotsLast isWrong isTorn isEmpty
-  dead-clean =
-      let k = clean-shape (facts .seen) in
-      let w : Shape N B (record { first = seen .first; slots = fill (gap .gap) (live 0 []) }) = rw (written-at 0 [] seen gap) at (written-shape 0 [] k gap) in
-      shape-clean (record
-        { some = omega (arith, w .some, fill-length (gap .gap) dead, fill-length (gap .gap) (live 0 []))
-        ; spare = omega (arith, w .spare, fill-length (gap .gap) dead, fill-length (gap .gap) (live 0 []))
-        ; rows = fill-rows B (gap .gap) (live 0 []) dead (w .rows)
-        ; sound = fill-all (λ x. not (isWrong x || isTorn x)) (gap .gap) (live 0 []) dead refl (w .sound)
-        ; last = sym (fill-empty-last (gap .gap) (live 0 []) dead refl) ∙ w .last })
-        (ap distinct dead-entries ∙ clean-distinct (facts .seen)) (omega (arith, ap length dead-entries, clean-within (facts .seen)))
-
-  dead-segments : isClean N B (changed dead) ≡ true
-  dead-segments = segments-clean N B (changed dead) (changed-ring dead) (rw (changed-view dead) dead-clean)
-
-  -- the written slot is the last of the top that is not empty
+  -- it is the last of the top that is not empty
   changed-index : (k : Slot) → topIndex N (changed k) ≡ n % N
   unfolding topIndex
   changed-index k = let e : suc n - 1 ≡ n = omega arith in rw (changed-next k, e)
@@ -171,160 +143,134 @@ module _ (N B : ℕ) (s : Image) (z : rightSize N B s ≡ true) (h : Clean N B s
   unfolding lastKind
   changed-last k e = ap₂ (λ (x : List Slot) (y : ℕ). getD x y empty) (changed-slots k) (changed-place k e) ∙ row-at k
 
-  torn-marked : tornMarked N (changed torn) ≡ changed dead
-  unfolding tornMarked isEmpty
-  torn-marked = rw (changed-index torn, changed-place torn refl) (changed-twice torn dead)
+  -- ---- torn: state (c), with the old table
 
-  torn-test : isC N B (changed torn) ≡ true
-  unfolding isC isEmpty isTorn
-  torn-test = and-both (isTorn (lastKind N (changed torn))) (isClean N B (tornMarked N (changed torn))) (ap isTorn (changed-last torn refl)) (ap (λ y. isClean N B y) torn-marked ∙ dead-segments)
+  abbrev deadView : View
+  deadView = record { first = v .first; slots = fill (gap .gap) dead }
 
-  torn-steps : mendSteps N B (changed torn) caseC ≡ markPlace N B (record { number = n; slot = j })
-  unfolding mendSteps isEmpty
-  torn-steps = ap₂ (λ (a b : ℕ). markPlace N B (record { number = a; slot = b })) (ap (λ (y : ℕ). y - 1) (changed-next torn) ∙ omega arith) (changed-place torn refl)
+  -- a dead slot holds no more than an empty one
+  dead-entries : entriesIn deadView ≡ entriesIn v
+  unfolding entriesIn entryOf
+  dead-entries = fill-entries (gap .gap) dead ∙ sym (ap (λ (y : List (List Slot)). entries (flatten y)) (gap .split) ∙ fill-entries (gap .gap) empty)
 
-  pub torn-left : (u : Image) → rightSize N B u ≡ true → segmentsOf N B u ≡ changed torn → Sound N B u × Agree (shown N B u) (tableOf N B s)
-  torn-left u zu e =
-      let st : state N B u ≡ unfinished caseC = (unfold state in (ap (λ y. stateOf N B y) e ∙ state-c N B (changed torn) (ap length (sym e) ∙ segments-length N B u) torn-test)) in
-      let marks : segmentsOf N B (run B (markPlace N B (record { number = n; slot = j })) u) ≡ changed dead =
-            mark-segments N B u (sized N B u zu) n j (top-segment .0) n (row torn) inside (ap (λ (y : List Segment). getD y (n % N) blank) e ∙ changed-top torn) (inl (row-at torn))
-            ∙ (ap (λ (y : List Segment). set y (n % N) (withSlot j dead (getD y (n % N) blank))) e ∙ changed-twice torn dead) in
-      ( subst (λ y. SoundAs N B u (segmentsOf N B u) y) (sym st) tt
-      , agree-of (shown N B u) (tableOf N B s) (shown-as N B u zu caseC st (markPlace N B (record { number = n; slot = j })) (changed dead) (ap (λ y. mendSteps N B y caseC) e ∙ torn-steps) marks
-          ∙ (ap entriesIn (changed-view dead) ∙ (dead-entries ∙ sym (table-of N B s)))) )
+  dead-clean : CleanView N B deadView
+  unfolding isWrong isTorn isEmpty
+  dead-clean = shape-clean (filled-shape dead refl refl (clean-shape clean) gap)
+      (ap distinct dead-entries ∙ clean-distinct clean) (omega (arith, ap length dead-entries, clean-within clean))
 
-  -- ---- live, with a block that was not stored: clean, with the new table
+  torn-mended : mended N (changed torn) caseC ≡ changed dead
+  unfolding mended tornMarked isEmpty
+  torn-mended = rw (changed-index torn, changed-place torn refl) (changed-twice torn dead)
 
-  module _ (b : ℕ) (c : List ℕ) (valid : Valid b c) (fits : Fits N B b seen) where
-    put-view : afterPut N B b c seen ≡ cond (holds b (entriesIn seen)) (marked (placeOf b seen) (written b c seen)) (written b c seen)
-    unfolding afterPut roomFor
-    put-view = rw room
+  torn-case : isCase N B (changed torn) caseC ≡ true
+  unfolding isCase isC isEmpty isTorn mended
+  torn-case = and-both (isTorn (lastKind N (changed torn))) (isClean N B (tornMarked N (changed torn))) (ap isTorn (changed-last torn refl))
+      (ap (λ y. isClean N B y) torn-mended ∙ segments-clean N B (changed dead) (slot-ring N segments (h .ring) n j dead low high) (rw (changed-view dead) dead-clean))
 
-    live-view : viewOf N (changed (live b c)) ≡ written b c seen
-    live-view = changed-view (live b c) ∙ sym (written-at b c seen gap)
+  torn-left : (u : Image) → rightSize N B u ≡ true → segmentsOf N B u ≡ changed torn → SoundWith N B u (entriesIn v)
+  torn-left u z e = rw (ap entriesIn (changed-view dead) ∙ dead-entries) at (case-shows N B u caseC z (rw e torn-case) (changed dead) (rw e torn-mended) tt)
 
-    put-seen : CleanView N B (afterPut N B b c seen)
-    put-seen = put-keeps-clean N B (facts .size .two) (facts .size .slots) seen b c (facts .seen) fits
+  -- ---- live: clean if the block was not stored, and state (d) if it was, with the new table
 
-    put-table : Agree (entriesIn (afterPut N B b c seen)) (store b c (tableOf N B s))
-    put-table = rw (table-of N B s) (put-stores N B (facts .size .two) (facts .size .slots) seen b c (facts .seen))
+  module _ (b : ℕ) (c : List ℕ) (valid : Valid b c) (after : CleanView N B (putInto b c v)) where
+    abbrev wrote : Image
+    wrote = run B (writeAtTop N B b c v) s
 
-    pub new-left : holds b (entriesIn seen) ≡ false → (u : Image) → segmentsOf N B u ≡ changed (live b c) → Clean N B u × Agree (tableOf N B u) (store b c (tableOf N B s))
-    new-left absent u e =
-        let w : afterPut N B b c seen ≡ written b c seen = put-view ∙ rw absent in
-        let v : viewOf N (segmentsOf N B u) ≡ afterPut N B b c seen = ap (λ y. viewOf N y) e ∙ (live-view ∙ sym w) in
-        ( image-clean N B u (rw e (segments-clean N B (changed (live b c)) (changed-ring (live b c)) (rw (live-view, ← w) put-seen)))
-        , agree-trans (tableOf N B u) (entriesIn (afterPut N B b c seen)) (store b c (tableOf N B s)) (agree-of (tableOf N B u) (entriesIn (afterPut N B b c seen)) (table-of N B u ∙ ap entriesIn v)) put-table )
+    wrote-held : Held N B wrote (written b c v)
+    wrote-held = write-top-held N B s v h b c valid gap
 
-    -- ---- live, with a stored block: state (d), with the new table
+    wrote-segments : segmentsOf N B wrote ≡ changed (live b c)
+    unfolding writeAtTop
+    wrote-segments = write-effect N B (size .two) s (size .whole) n j (top-segment .0) n (row empty) inside (top-segment .1) b c valid (row-at empty)
 
-    module _ (stored : holds b (entriesIn seen) ≡ true) where
+    new-left : holds b (entriesIn v) ≡ false → (u : Image) → segmentsOf N B u ≡ segmentsOf N B wrote → SoundWith N B u (entriesIn (putInto b c v))
+    new-left absent u e = rw absent
+        (rw (held-table N B wrote (written b c v) wrote-held) at (segments-show N B wrote u (clean-of-held N B wrote (written b c v) wrote-held (rw absent at after)) e))
+
+    module _ (stored : holds b (entriesIn v) ≡ true) where
       abbrev both : List Segment
-      both = changed (live b c)
+      both = segmentsOf N B wrote
 
-      both-ring : RingFacts N both
-      both-ring = changed-ring (live b c)
+      both-view : viewOf N both ≡ written b c v
+      unfolding view
+      both-view = wrote-held .view
 
-      both-entries : entriesIn (viewOf N both) ≡ entriesIn seen ++ (record { block = b; contents = c } ∷ [])
-      both-entries = ap entriesIn live-view ∙ written-entries b c seen gap
-
-      both-place : placeOf b (viewOf N both) ≡ placeOf b seen
-      both-place = ap (λ y. placeOf b y) live-view ∙ written-place b b c seen gap stored
-
-      both-held : holds b (entriesIn (viewOf N both)) ≡ true
-      both-held = ap (λ y. holds b y) both-entries ∙ (holds-append b (entriesIn seen) (record { block = b; contents = c } ∷ []) ∙ rw stored)
-
-      old-slot : Placed N b both (placeOf b seen)
-      old-slot = rw both-place at (placed N both both-ring b both-held)
+      both-place : placeOf b (viewOf N both) ≡ placeOf b v
+      both-place = ap (λ y. placeOf b y) both-view ∙ written-place b b c v gap stored
 
       last-block : lastBlock N both ≡ b
       unfolding lastBlock blockIn entryOf isEmpty
-      last-block = ap (λ y. blockIn (entryOf y)) (changed-last (live b c) refl)
+      last-block = ap (λ y. blockIn (entryOf (lastKind N y))) wrote-segments ∙ ap (λ y. blockIn (entryOf y)) (changed-last (live b c) refl)
 
-      older-place : older N both ≡ placeOf b seen
+      older-place : older N both ≡ placeOf b v
       unfolding older
       older-place = ap (λ (y : ℕ). placeOf y (viewOf N both)) last-block ∙ both-place
 
-      -- the segments with the older slot dead
-      abbrev onlyNew : List Segment
-      onlyNew = set both (placeOf b seen .number % N) (withSlot (placeOf b seen .slot) dead (getD both (placeOf b seen .number % N) blank))
+      -- the older slot marked: clean, with the new view
+      abbrev onlyNew : Image
+      onlyNew = run B (markPlace N B (placeOf b v)) wrote
 
-      older-marked : olderMarked N both ≡ onlyNew
-      unfolding olderMarked
-      older-marked = rw older-place
+      new-held : Held N B onlyNew (putInto b c v)
+      unfolding markOld
+      new-held = rw stored (rw stored at (put-held N B s v h b c valid gap))
 
-      new-view : viewOf N onlyNew ≡ afterPut N B b c seen
-      new-view = slot-view N both both-ring (placeOf b seen .number) (placeOf b seen .slot) dead (old-slot .low) (old-slot .high)
-          ∙ (ap (λ y. slotChanged (placeOf b seen .number) (placeOf b seen .slot) dead y) live-view ∙ sym after)
-        where
-          after : afterPut N B b c seen ≡ slotChanged (placeOf b seen .number) (placeOf b seen .slot) dead (written b c seen)
-          after = put-view ∙ (unfold marked in (rw stored))
+      marks : Marks (getD (slotsIn (getD both (placeOf b v .number % N) blank)) (placeOf b v .slot) empty)
+      marks = rw both-place at (live-marks (live-place N both b (ap (λ (y : View). holds b (entriesIn y)) both-view ∙ written-holds b c v gap stored)))
 
-      new-segments : isClean N B onlyNew ≡ true
-      new-segments = segments-clean N B onlyNew (slot-ring N both both-ring (placeOf b seen .number) (placeOf b seen .slot) dead (old-slot .low) (old-slot .high)) (rw new-view put-seen)
+      older-mended : mended N both caseD ≡ segmentsOf N B onlyNew
+      unfolding mended olderMarked
+      older-mended = rw older-place (sym (mark-segments N B wrote (wrote-held .size) (placeOf b v .number) (placeOf b v .slot) marks))
 
       twice : copies b (entriesIn (viewOf N both)) ≡ 2
       twice =
-          let e = ap (λ y. copies b y) both-entries ∙ copies-append b (entriesIn seen) (record { block = b; contents = c } ∷ []) in
-          omega (arith, e, copies-cons-same b (record { block = b; contents = c }) [] refl, copies-none b, held-copies b (entriesIn seen) stored, distinct-copies (entriesIn seen) (clean-distinct (facts .seen)) b)
+          let e = ap (λ (y : View). copies b (entriesIn y)) both-view ∙ (ap (λ y. copies b y) (written-entries b c v gap) ∙ copies-append b (entriesIn v) (record { block = b; contents = c } ∷ [])) in
+          omega (arith, e, copies-cons-same b (record { block = b; contents = c }) [] refl, copies-none b, held-copies b (entriesIn v) stored, distinct-copies (entriesIn v) (clean-distinct clean) b)
 
-      both-test : isD N B both ≡ true
-      unfolding isD numberOk
-      both-test = rw (last-block, older-marked, twice, new-segments) (and-both (ltb 0 b) true (and-left (ltb 0 b) (ltb b 65535) (valid .number)) refl)
+      both-case : isCase N B both caseD ≡ true
+      unfolding isCase isD numberOk mended
+      both-case = rw (last-block, older-mended, twice, held-clean N B onlyNew (putInto b c v) new-held after) (and-both (ltb 0 b) true (and-left (ltb 0 b) (ltb b 65535) (valid .number)) refl)
 
-      both-steps : mendSteps N B both caseD ≡ markPlace N B (placeOf b seen)
+      stored-steps : workOf N B wrote recover .steps ≡ markPlace N B (placeOf b v)
       unfolding mendSteps
-      both-steps = ap (λ y. markPlace N B y) older-place
+      stored-steps = case-steps N B wrote caseD (wrote-held .size) both-case ∙ ap (λ y. markPlace N B y) older-place
 
-      pub record Twice (u : Image) : Type 0 where
-        pub state : state N B u ≡ unfinished caseD
-        pub steps : workOf N B u recover .steps ≡ markPlace N B (placeOf b seen)
-        pub table : Agree (shown N B u) (store b c (tableOf N B s))
+      stored-left : (u : Image) → rightSize N B u ≡ true → segmentsOf N B u ≡ segmentsOf N B wrote → SoundWith N B u (entriesIn (putInto b c v))
+      unfolding view
+      stored-left u z e = rw (new-held .view) at (case-shows N B u caseD z (rw e both-case) (segmentsOf N B onlyNew) (rw e older-mended) tt)
 
-      pub stored-left : (u : Image) → rightSize N B u ≡ true → segmentsOf N B u ≡ both → Twice u
-      stored-left u zu e =
-          let d = sized N B u zu in
-          let p = placeOf b seen in
-          let st : state N B u ≡ unfinished caseD = (unfold state in (ap (λ y. stateOf N B y) e ∙ state-d N B both (ap length (sym e) ∙ segments-length N B u) both-test)) in
-          let steps : mendSteps N B (segmentsOf N B u) caseD ≡ markPlace N B p = ap (λ y. mendSteps N B y caseD) e ∙ both-steps in
-          let used : getD (segmentsOf N B u) (p .number % N) blank ≡ inUse (old-slot .status) (p .number) (old-slot .slots) = ap (λ (y : List Segment). getD y (p .number % N) blank) e ∙ old-slot .used in
-          let count = slot-count N B (d .two) u (d .whole) (p .number) 0 (old-slot .status) (p .number) (old-slot .slots) (omega (arith, d .slots)) used in
-          let marks : segmentsOf N B (run B (markPlace N B p) u) ≡ onlyNew =
-                mark-segments N B u d (p .number) (p .slot) (old-slot .status) (p .number) (old-slot .slots) (omega (arith, old-slot .inside)) used (inr (b, old-slot .contents, old-slot .holds))
-                ∙ ap (λ (y : List Segment). set y (p .number % N) (withSlot (p .slot) dead (getD y (p .number % N) blank))) e in
-          record
-          { state = st
-          ; steps = recover-steps N B u zu caseD st ∙ steps
-          ; table = agree-trans (shown N B u) (entriesIn (afterPut N B b c seen)) (store b c (tableOf N B s))
-              (agree-of (shown N B u) (entriesIn (afterPut N B b c seen)) (shown-as N B u zu caseD st (markPlace N B p) onlyNew steps marks ∙ ap entriesIn new-view)) put-table }
-
-    -- ---- live, stored or not
-
-    pub live-left : (u : Image) → rightSize N B u ≡ true → segmentsOf N B u ≡ changed (live b c) → Sound N B u × Agree (shown N B u) (store b c (tableOf N B s))
-    live-left u zu e = go (holds b (entriesIn seen)) refl
+    live-left : (u : Image) → rightSize N B u ≡ true → segmentsOf N B u ≡ segmentsOf N B wrote → SoundWith N B u (entriesIn (putInto b c v))
+    live-left u z e = go (holds b (entriesIn v)) refl
       where
-        go : (t : Bool) → holds b (entriesIn seen) ≡ t → Sound N B u × Agree (shown N B u) (store b c (tableOf N B s))
-        go true k = let r = stored-left k u zu e in (subst (λ y. SoundAs N B u (segmentsOf N B u) y) (sym (r .state)) tt, r .table)
-        go false k = let r = new-left k u e in
-            (sound-clean N B u (r .0), agree-trans (shown N B u) (tableOf N B u) (store b c (tableOf N B s)) (agree-of (shown N B u) (tableOf N B u) (shown-clean N B u (r .0))) (r .1))
+        go : (t : Bool) → holds b (entriesIn v) ≡ t → SoundWith N B u (entriesIn (putInto b c v))
+        go true k = stored-left k u z e
+        go false k = new-left k u e
 
-    -- ---- the write, cut and whole
+    -- ---- cut in writing the slot, or in marking the old one
 
-    pub write-cut : (u : Image) → Cut B (writeAtTop N B b c seen) s u → LeftWith N B u (tableOf N B s) (store b c (tableOf N B s))
+    write-cut : (u : Image) → Cut B (writeAtTop N B b c v) s u → LeftWith N B u (entriesIn v) (entriesIn (putInto b c v))
     unfolding writeAtTop
     write-cut u k =
-        let zu = cut-size N B (onPage (slotAt N B n j) (writeSlot b c)) s u k ∙ z in
-        let d = facts .size in
-        let x = slot-cut N B (d .two) s (d .whole) n j (top-segment .0) n (row empty) inside (top-segment .1) (writeSlot b c) (write-in-page b c (valid .short)) u k in
-        let p = rw (empty-page N B (d .two) s (d .whole) n j (top-segment .0) n (row empty) inside (top-segment .1) (row-at empty)) at (x .1) in
+        let z = cut-size N B (onPage (slotAt N B n j) (writeSlot b c)) s u k ∙ h .size in
+        let x = slot-cut N B (size .two) s (size .whole) n j (top-segment .0) n (row empty) inside (top-segment .1) (writeSlot b c) (write-in-page b c (valid .short)) u k in
+        let p = rw (empty-page N B (size .two) s (size .whole) n j (top-segment .0) n (row empty) inside (top-segment .1) (row-at empty)) at (x .1) in
         ⊎-elim
-          (λ e. let r = same-segments N B s u h ((rw e at (x .2)) ∙ changed-same) in (r .0, inl (r .1)))
-          (λ q. ⊎-elim
-            (λ e. let r = torn-left u zu (rw e at (x .2)) in (r .0, inl (r .1)))
-            (λ e. let r = live-left u zu (rw e at (x .2)) in (r .0, inr (r .1)))
-            q)
-          (write-cut-kind B b c (x .0) valid p)
+        (λ e. let r = rw (held-table N B s v h) at (segments-show N B s u (clean-of-held N B s v h clean) ((rw e at (x .2)) ∙ changed-same)) in (r .0, inl (r .1)))
+        (λ q. ⊎-elim
+        (λ e. let r = torn-left u z (rw e at (x .2)) in (r .0, inl (r .1)))
+        (λ e. let r = live-left u z ((rw e at (x .2)) ∙ sym wrote-segments) in (r .0, inr (r .1)))
+        q)
+        (write-cut-kind B b c (x .0) valid p)
 
-    pub write-segments : segmentsOf N B (run B (writeAtTop N B b c seen) s) ≡ changed (live b c)
-    unfolding writeAtTop
-    write-segments = write-effect N B (facts .size .two) s (facts .size .whole) n j (top-segment .0) n (row empty) inside (top-segment .1) b c valid (row-at empty)
+    mark-cut : (u : Image) → Cut B (markOld N B b v) wrote u → SoundWith N B u (entriesIn (putInto b c v))
+    unfolding markOld
+    mark-cut u k = go (holds b (entriesIn v)) refl k
+      where
+        go : (t : Bool) → holds b (entriesIn v) ≡ t → Cut B (cond t (markPlace N B (placeOf b v)) []) wrote u → SoundWith N B u (entriesIn (putInto b c v))
+        go true e d =
+            let w = stored-left e wrote (wrote-held .size) refl in
+            let r = recover-cut N B wrote u (wrote-held .size) (w .0) (rw (stored-steps e) d) in
+            (r .0, agree-trans (shown N B u) (shown N B wrote) (entriesIn (putInto b c v)) (r .1) (w .1))
+        go false e d = new-left e u (ap (λ y. segmentsOf N B y) d)
+
+    pub put-into-cut : (u : Image) → Cut B (writeAtTop N B b c v ++ markOld N B b v) s u → LeftWith N B u (entriesIn v) (entriesIn (putInto b c v))
+    put-into-cut u k = ⊎-elim (λ d. write-cut u d) (λ d. let r = mark-cut u d in (r .0, inr (r .1))) (cut-append B (writeAtTop N B b c v) (markOld N B b v) s u k)

@@ -43,7 +43,6 @@ pub record Refusal : Type 0 where
   pub applies : Bool
 
 infix 5 _when_
-
 abbrev pub _when_ : ℕ → Bool → Refusal
 n when t = record { number = n; applies = t }
 

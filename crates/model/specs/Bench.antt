@@ -31,10 +31,11 @@ pub record Bench : Type 0 where
   pub seen : ℕ → ℕ → List Call → List Observed
 
 unfoldable pub bench : Bench
-bench = record
-  { pages = λ N B xs. pagesOf N B (play N B (formatted N B) xs)
-  ; work = λ N B xs r. workOf N B (play N B (formatted N B) xs) r
-  ; seen = λ N B xs. observed N B (formatted N B) xs }
+bench = record {
+  pages = λ N B xs. pagesOf N B (play N B (formatted N B) xs);
+  work = λ N B xs r. workOf N B (play N B (formatted N B) xs) r;
+  seen = λ N B xs. observed N B (formatted N B) xs;
+}
 
 -- ---- what an example can say
 
@@ -110,7 +111,7 @@ examples =
     ∷ begins 4 15 [] 0 (0x53 ∷ 0x4C ∷ 0x54 ∷ 0x01 ∷ 0x00 ∷ 0x3F ∷ 0x0F ∷ 0x04 ∷ 0x00 ∷ 0x00 ∷ 0x00 ∷ 0x00 ∷ 0xFF ∷ 0xFF ∷ 0xFF ∷ 0xFF ∷ 0xFF ∷ [])
     -- 3: three full segments of fifteen slots, and the put that tidies the first to segment 3
     ∷ begins 4 15 (putEach (upFrom 1 44) ++ (whole (put 1 []) ∷ whole (put 1 []) ∷ [])) (3 * 16)
-        (0x53 ∷ 0x4C ∷ 0x54 ∷ 0x01 ∷ 0x00 ∷ 0x8F ∷ 0x0F ∷ 0x04 ∷ 0x03 ∷ 0x00 ∷ 0x00 ∷ 0x00 ∷ 0xFC ∷ 0xFF ∷ 0xFF ∷ 0xFF ∷ 0x00 ∷ [])
+    (0x53 ∷ 0x4C ∷ 0x54 ∷ 0x01 ∷ 0x00 ∷ 0x8F ∷ 0x0F ∷ 0x04 ∷ 0x03 ∷ 0x00 ∷ 0x00 ∷ 0x00 ∷ 0xFC ∷ 0xFF ∷ 0xFF ∷ 0xFF ∷ 0x00 ∷ [])
     -- 4
     ∷ begins 4 15 (whole (put 7 (0x41 ∷ 0x31 ∷ [])) ∷ []) 1 (0x3F ∷ 0x02 ∷ 0x07 ∷ 0x00 ∷ 0xFF ∷ 0xFF ∷ 0xFF ∷ 0xFF ∷ 0x41 ∷ 0x31 ∷ replicate 246 0xFF)
     ∷ answers 4 15 [] (put 7 (0x41 ∷ 0x31 ∷ [])) 0 7 0

@@ -7,13 +7,13 @@ pub mod Chip
 pub mod Bytes
 pub mod Pages
 pub mod Programs
-
 -- one page
 pub mod AnyByte
 pub mod HeaderPage
 pub mod SlotPage
 pub mod PageCuts
-
+-- tables
+pub mod Tables
 -- the segments, the view, and the state
 pub mod Segments
 pub mod Effects
@@ -23,8 +23,6 @@ pub mod Clean
 pub mod View
 pub mod ImageView
 pub mod Exclusive
-pub mod Requests
-
 -- the bench table
 pub mod Bench
 pub mod Counts

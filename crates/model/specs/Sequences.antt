@@ -34,10 +34,11 @@ pub record Observed : Type 0 where
   pub erases : List ℕ
 
 unfoldable pub observe : ℕ → ℕ → Image → Call → Observed
-observe N B s x = record
-  { request = x .request
-  ; code = outcomeOf N B s (x .allowance) (x .request) .code
-  ; erases = erasesIn (workOf N B s (x .request) .steps) }
+observe N B s x = record {
+  request = x .request;
+  code = outcomeOf N B s (x .allowance) (x .request) .code;
+  erases = erasesIn (workOf N B s (x .request) .steps);
+}
 
 unfoldable pub observed : ℕ → ℕ → Image → List Call → List Observed
 observed N B s [] = []
@@ -104,11 +105,12 @@ start = record { stored = []; largest = 0; replaced = 0; erased = [] }
 
 unfoldable pub tallied : Observed → Tally → Tally
 tallied o t =
-    let stored = cond (eqb (o .code) 0) (storedAfter (o .request) (t .stored)) (t .stored) in record
-    { stored = stored
-    ; largest = max (t .largest) (length stored)
-    ; replaced = t .replaced + cond (eqb (o .code) 0) (replaces (o .request) (t .stored)) 0
-    ; erased = t .erased ++ o .erases }
+    let stored = cond (eqb (o .code) 0) (storedAfter (o .request) (t .stored)) (t .stored) in record {
+      stored = stored;
+      largest = max (t .largest) (length stored);
+      replaced = t .replaced + cond (eqb (o .code) 0) (replaces (o .request) (t .stored)) 0;
+      erased = t .erased ++ o .erases;
+    }
 
 unfoldable pub tally : List Observed → Tally → Tally
 tally [] t = t

@@ -101,15 +101,17 @@ pub record Room : Type 0 where
   pub result : View
 
 unfoldable pub openNext : ℕ → ℕ → View → Room
-openNext N B v = record
-  { steps = openSegment N B (suc (topNumber v))
-  ; result = record { first = v .first; slots = v .slots ++ (replicate B empty ∷ []) } }
+openNext N B v = record {
+  steps = openSegment N B (suc (topNumber v));
+  result = record { first = v .first; slots = v .slots ++ (replicate B empty ∷ []) };
+}
 
 -- the old segment is the in-use one with the smallest number, the target is the blank one after the top
 unfoldable pub compactOldest : ℕ → ℕ → View → Room
-compactOldest N B v = let es = entries (getD (v .slots) 0 []) in record
-  { steps = compact N B (v .first) (suc (topNumber v)) es
-  ; result = record { first = suc (v .first); slots = drop 1 (v .slots) ++ (copied B es ∷ []) } }
+compactOldest N B v = let es = entries (getD (v .slots) 0 []) in record {
+  steps = compact N B (v .first) (suc (topNumber v)) es;
+  result = record { first = suc (v .first); slots = drop 1 (v .slots) ++ (copied B es ∷ []) };
+}
 
 -- tidy until the top has an empty slot, at most k times
 unfoldable pub compactUntilRoom : ℕ → ℕ → ℕ → View → Room

@@ -1,7 +1,7 @@
 -- The state of an image by cases: conditions 1 to 4 with (a) and (b) look at headers, 5 to 8 with (c) and (d) at the view.
 use Prim.Native.Nat.{ℕ, zero, suc, _+_, _-_, _%_, _≤_, _<_}
 use mathlib.Core.Path.{_≡_, refl, sym, ap, ap₂, _∙_, subst}
-use mathlib.Core.Bool.{Bool, true, false, cond, _||_, _&&_, not}
+use mathlib.Core.Bool.{Bool, true, false, cond, _||_, _&&_, not, false≢true}
 use mathlib.Core.List.{List, [], _∷_}
 use native.Mathlib.Omega.{arith}
 use native.Mathlib.Nat.{mod-lt}
@@ -12,14 +12,14 @@ use Rattle.model.specs.Lists.{all}
 use Rattle.model.specs.Slot.{Slot, empty, dead, live, isTorn, entryOf}
 use Rattle.model.specs.State.{Segment, blank, invalid, inUse, isInUse, isInvalid, isOwing, numberAfter, slotsIn, nextNumber, topIndex, nextIndex, topSlots, usedCount, firstNumber, View, viewOf, entriesIn, someInUse, numbersFrom, consecutive, noneOwing, othersBlank, noneWrongOrTorn, blocksDistinct, emptySlotsLast, withinCapacity, conditions, isClean, nextBlanked, isA, topSettled, isB, withSlot, filled, lastSlot, lastKind, tornMarked, isC, Place, placeOf, blockIn, lastBlock, copies, older, olderMarked, isD, Exception, caseA, caseB, caseC, caseD, State, clean, unfinished, damaged, stateOf}
 use Rattle.model.specs.Steps.{topRow, topNumber}
-use Rattle.model.specs.Laws.Lists.{and-left, and-right, false-true}
+use Rattle.model.specs.Laws.Lists.{and-left, and-right}
 use Rattle.model.specs.Laws.Ring.{next-kept, used-kept, get-kept, numbers-kept, slots-get}
 use Rattle.model.specs.Laws.Clean.{RingFacts, used-next, index-inside, view-length}
-use Rattle.model.specs.Laws.View.{slotSet, slot-view, withSlot-owing}
+use Rattle.model.specs.Laws.View.{slotChanged, slot-view, withSlot-owing}
 use Rattle.model.specs.Laws.Exclusive.{no-owing, no-invalid}
-use Rattle.bridge.specs.Views.Tables.{holds-copies}
 use Rattle.bridge.specs.Views.Places.{FirstLive, fill-length}
 use Rattle.bridge.specs.Views.Shape.{first-live-in}
+use Rattle.model.specs.Laws.Tables.{holds-copies}
 
 -- ---- definitions
 
@@ -36,7 +36,7 @@ unfoldable pub lastWritten : View → Slot
 lastWritten v = getD (topRow (v .slots)) (filled (topRow (v .slots)) - 1) empty
 
 unfoldable pub lastMarked : View → View
-lastMarked v = slotSet (topNumber v) (filled (topRow (v .slots)) - 1) dead v
+lastMarked v = slotChanged (topNumber v) (filled (topRow (v .slots)) - 1) dead v
 
 unfoldable pub tornLast : ℕ → ℕ → View → Bool
 tornLast N B v = isTorn (lastWritten v) && fine N B (lastMarked v)
@@ -46,7 +46,7 @@ unfoldable pub twinBlock : View → ℕ
 twinBlock v = blockIn (entryOf (lastWritten v))
 
 unfoldable pub twinMarked : View → View
-twinMarked v = let p = placeOf (twinBlock v) v in slotSet (p .number) (p .slot) dead v
+twinMarked v = let p = placeOf (twinBlock v) v in slotChanged (p .number) (p .slot) dead v
 
 unfoldable pub twinLast : ℕ → ℕ → View → Bool
 twinLast N B v = ltb 0 (twinBlock v) && (eqb (copies (twinBlock v) (entriesIn v)) 2 && fine N B (twinMarked v))
@@ -169,7 +169,7 @@ module _ (N B : ℕ) (l : List Segment) (size : length l ≡ N) where
       paid : (x : Segment) → isInvalid x ≡ true → isOwing blank ≡ isOwing x
       paid blank q = refl
       paid invalid q = unfold isOwing in refl
-      paid (inUse st n ks) q = absurd (false-true (unfold isInvalid in q))
+      paid (inUse st n ks) q = absurd (false≢true (unfold isInvalid in q))
 
   owing-rest : isOwing (getD l (topIndex N l) blank) ≡ true → (isClean N B l ≡ false) × (isA N B l ≡ false) × (isC N B l ≡ false) × (isD N B l ≡ false)
   unfolding isA isC isD tornMarked olderMarked
@@ -224,7 +224,7 @@ module _ (N B : ℕ) (l : List Segment) (r : RingFacts N l) (f : frame N l ≡ t
 
   -- a slot of a segment in use marked
   marked-clean : (k j : ℕ) → firstNumber l ≤ k → k < nextNumber l → k % N < length l
-      → isClean N B (set l (k % N) (withSlot j dead (getD l (k % N) blank))) ≡ fine N B (slotSet k j dead (viewOf N l))
+      → isClean N B (set l (k % N) (withSlot j dead (getD l (k % N) blank))) ≡ fine N B (slotChanged k j dead (viewOf N l))
   marked-clean k j lo hi i = clean-split N B (set l (k % N) (withSlot j dead (getD l (k % N) blank)))
       ∙ rw (frame-kept N l (k % N) j dead i, f, slot-view N l r k j dead lo hi)
 

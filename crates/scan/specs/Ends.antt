@@ -13,10 +13,9 @@ use Rattle.model.specs.Lists.{all}
 use Rattle.model.specs.Slot.{Slot, empty, torn, dead, wrong, live, isEmpty, isTorn, isWrong, Entry, entryOf}
 use Rattle.model.specs.State.{View, entries, entriesIn, holds, distinct, emptyLast, onlyTopEmpty, noneWrongOrTorn, blocksDistinct, emptySlotsLast, capacity, withinCapacity, placeOf, blockIn, copies}
 use Rattle.model.specs.Table.{Table}
-use Rattle.model.specs.Laws.View.{slotSet}
+use Rattle.model.specs.Laws.View.{slotChanged}
 use Rattle.bridge.specs.Predicted.{slotChanged, marked}
-use Rattle.bridge.specs.Views.Slots.{full, sound, all-parts, flatten-last, entries-append, full-then, first-empty, all-empty-last}
-use Rattle.bridge.specs.Views.Tables.{copies-append, copies-cons-same, copies-cons-other, copies-none, copies-cons, holds-copies, held-copies, distinct-copies, copies-distinct, withoutFirst}
+use Rattle.bridge.specs.Views.Slots.{full, sound, entries-append, full-then, first-empty, all-empty-last}
 use Rattle.bridge.specs.Views.Places.{Gap, FirstLive, fill, fill-all, fill-empty-last, marked-at, marked-entries}
 use Rattle.bridge.specs.Views.Shape.{first-live-in}
 use Rattle.scan.specs.declared.Ending.{Ending}
@@ -25,6 +24,8 @@ use Rattle.scan.specs.Endings.{behind, leaveRoom, turn, judge, ring, isF
 use Rattle.scan.specs.Cases.{fine, lastWritten, lastMarked, tornLast, twinBlock, twinMarked, twinLast}
 use Rattle.scan.specs.Judged.{Plain, Stop, Judged, distinct-front, plain-full, stop-judge, judged, ring-snoc, rows-full, full-rows, not-full}
 use Rattle.scan.specs.Ordered.{ordered, rowsWith, before-top, Ordered, ordered-facts, facts-ordered, ordered-rows, top-entries, ordered-ending, ending-plain, Last, find-last, last-written, last-marked, none-written}
+use Rattle.model.specs.Laws.Lists.{all-parts, flatten-last}
+use Rattle.model.specs.Laws.Tables.{copies-append, copies-cons-same, copies-cons-other, copies-none, copies-cons, holds-copies, held-copies, distinct-copies, copies-distinct, withoutFirst}
 
 -- ---- two tests that imply each other are equal
 

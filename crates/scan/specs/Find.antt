@@ -12,10 +12,10 @@ use Rattle.model.specs.State.{View, entries, entriesIn, holds, slotFrom, placeF
 use Rattle.model.specs.Steps.{slotAt}
 use Rattle.model.specs.Table.{Table, present, lookup, contentsFound}
 use Rattle.bridge.specs.Views.Slots.{entries-append, entries-cons}
-use Rattle.bridge.specs.Views.Tables.{holds-append, lookup-append}
 use Rattle.scan.specs.declared.Found.{Found}
 use Rattle.scan.specs.declared.Found.the-variants.{At, Nothing}
 use Rattle.scan.specs.Parts.{slotsOffset}
+use Rattle.model.specs.Laws.Tables.{holds-append, lookup-append}
 
 -- where a view has a block, and the length of its contents
 unfoldable pub foundIn : ℕ → ℕ → ℕ → View → Found

@@ -10,11 +10,12 @@ use Rattle.model.specs.Lists.{all}
 use Rattle.model.specs.Slot.{Slot, empty, torn, dead, wrong, live, isEmpty, isTorn, isWrong, Entry, entryOf}
 use Rattle.model.specs.State.{entries, holds, distinct, copies}
 use Rattle.model.specs.Table.{Table}
-use Rattle.bridge.specs.Views.Slots.{full, sound, all-append, all-join, all-parts, entries-append, entries-cons}
-use Rattle.bridge.specs.Views.Tables.{copies-append, copies-cons-same, copies-cons-other, copies-more, copies-none, held-copies, absent-copies, copies-absent, distinct-copies, copies-distinct}
+use Rattle.bridge.specs.Views.Slots.{full, sound, entries-append, entries-cons}
 use Rattle.scan.specs.declared.Ending.{Ending}
 use Rattle.scan.specs.declared.Ending.the-variants.{Full, Room, TornLast, TwinLast, Bad}
 use Rattle.scan.specs.Endings.{behind, leaveRoom, turn, judge, ring, isFull, isBad}
+use Rattle.model.specs.Laws.Lists.{all-append, all-join, all-parts}
+use Rattle.model.specs.Laws.Tables.{copies-append, copies-cons-same, copies-cons-other, copies-more, copies-none, held-copies, absent-copies, copies-absent, distinct-copies, copies-distinct}
 
 -- ---- tables of distinct blocks
 

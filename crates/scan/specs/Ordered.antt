@@ -10,9 +10,9 @@ use Rattle.model.specs.Lists.{all}
 use Rattle.model.specs.Slot.{Slot, empty, torn, dead, wrong, live, isEmpty, isTorn, isWrong, Entry, entryOf}
 use Rattle.model.specs.State.{View, entries, entriesIn, distinct, emptyLast, onlyTopEmpty, noneWrongOrTorn, blocksDistinct, emptySlotsLast, filled, blockIn}
 use Rattle.model.specs.Steps.{topRow, topNumber}
-use Rattle.model.specs.Laws.Lists.{all-get}
-use Rattle.model.specs.Laws.View.{slotSet}
-use Rattle.bridge.specs.Views.Slots.{full, sound, all-append, all-join, all-parts, all-flatten, flatten-last, entries-append, entries-cons, all-empty-entries, all-empty-last, full-then, top-row, only-top-empty}
+use Rattle.model.specs.Laws.Lists.{all-get, all-append, all-join, all-parts, all-flatten, flatten-last}
+use Rattle.model.specs.Laws.View.{slotChanged}
+use Rattle.bridge.specs.Views.Slots.{full, sound, entries-append, entries-cons, all-empty-entries, all-empty-last, full-then, top-row, only-top-empty}
 use Rattle.scan.specs.Cases.{lastWritten, lastMarked, twinBlock}
 use Rattle.scan.specs.Judged.{Plain, distinct-front}
 
@@ -163,7 +163,7 @@ module _ (n : ℕ) (l : List (List Slot)) (x : List Slot) (k : Slot) (y : List S
   last-written = rw (place, top-row l (x ++ (k ∷ y))) (getD-at x k y empty (length x) refl)
 
   pub last-marked : lastMarked (rowsWith n l (x ++ (k ∷ y))) ≡ rowsWith n l (x ++ (dead ∷ y))
-  unfolding lastMarked slotSet topNumber
+  unfolding lastMarked slotChanged topNumber
   last-marked =
       let m = length-append l ((x ++ (k ∷ y)) ∷ []) in
       let i : length l ≡ n + length (l ++ ((x ++ (k ∷ y)) ∷ [])) - 1 - n = omega arith in

@@ -16,7 +16,6 @@ use Rattle.model.specs.Table.{lookup, contentsFound}
 use Rattle.model.specs.Laws.Ring.{slots-length}
 use Rattle.model.specs.Laws.Clean.{RingFacts, used-next}
 use Rattle.model.specs.Laws.Segments.{segments-length}
-use Rattle.bridge.specs.Views.Tables.{holds-copies}
 use Rattle.scan.specs.declared.Sum.{Sum}
 use Rattle.scan.specs.declared.Exam.{Exam}
 use Rattle.scan.specs.declared.Found.{Found}
@@ -31,6 +30,7 @@ use Rattle.scan.specs.Verdict.{orderly, tornWithin, twinWithin, verdict,
 use Rattle.scan.specs.Find.{foundIn}
 use Rattle.scan.specs.Surveys.{surveyIn, mendIn, surveyOf, sumOn, examOf}
 use Rattle.scan.specs.SurveyLaws.{Within, within-same, within-blanked, within-settled, exam-told, exam-sum, exam-orderly, exam-verdict}
+use Rattle.model.specs.Laws.Tables.{holds-copies}
 
 module _ (N B : ℕ) (s : Image) (some : 0 < N) where
   abbrev l : List Segment

@@ -13,8 +13,7 @@ use Rattle.model.specs.Slot.{Slot, empty, torn, dead, wrong, live, isEmpty, isD
 use Rattle.model.specs.State.{entries, holds, filled}
 use Rattle.model.specs.Steps.{compactions, firstEmpty}
 use Rattle.model.specs.declared.BlockNumber.{BlockNumber}
-use Rattle.bridge.specs.Views.Slots.{noneDead, entries-append, none-count, some-count}
-use Rattle.bridge.specs.Views.Tables.{holds-append}
+use Rattle.bridge.specs.Views.Slots.{noneDead, entries-append}
 use Rattle.scan.specs.declared.Ending.{Ending}
 use Rattle.scan.specs.declared.Ending.the-variants.{Full, Room, TornLast, TwinLast, Bad}
 use Rattle.scan.specs.declared.Row.{Row}
@@ -24,6 +23,8 @@ use Rattle.scan.specs.BitLaws.{in-same, in-other, in-none}
 use Rattle.scan.specs.Endings.{behind, turn, judge, ring}
 use Rattle.scan.specs.Rows.{Pass, pass, see, seeAll, noRow}
 use Rattle.scan.specs.Tally.{noneMet, tallies, addRow, addRows, noSum}
+use Rattle.model.specs.Laws.Lists.{none-count, some-count}
+use Rattle.model.specs.Laws.Tables.{holds-append}
 
 -- block numbers are not 0 and have 16 bits
 abbrev pub Narrow : List Slot → Type 0

@@ -13,9 +13,8 @@ use Rattle.model.specs.Lists.{all}
 use Rattle.model.specs.Slot.{Slot, empty, torn, dead, wrong, live, isEmpty, isTorn, isWrong, Entry, entryOf}
 use Rattle.model.specs.State.{View, entries, entriesIn, holds, distinct, onlyTopEmpty, noneWrongOrTorn, blocksDistinct, emptySlotsLast, capacity, placeOf, blockIn, copies}
 use Rattle.model.specs.Table.{Table}
-use Rattle.model.specs.Laws.View.{slotSet}
-use Rattle.bridge.specs.Predicted.{slotChanged, marked}
-use Rattle.bridge.specs.Views.Tables.{copies-append, copies-cons-same, copies-cons-other, copies-none, copies-cons, holds-copies, held-copies, distinct-copies, copies-distinct, withoutFirst}
+use Rattle.model.specs.Laws.View.{slotChanged}
+use Rattle.bridge.specs.Predicted.{marked}
 use Rattle.bridge.specs.Views.Places.{FirstLive, fill, fill-all, fill-empty-last, marked-at, marked-entries}
 use Rattle.bridge.specs.Views.Shape.{first-live-in}
 use Rattle.scan.specs.declared.Ending.{Ending}
@@ -25,6 +24,7 @@ use Rattle.scan.specs.Cases.{fine, lastWritten, twinBlock, twinMarked, t
 use Rattle.scan.specs.Judged.{Plain, Stop, Judged, stop-judge}
 use Rattle.scan.specs.Ordered.{ordered, rowsWith, before-top, Ordered, ordered-facts, facts-ordered, ordered-rows, top-entries, ordered-ending, ending-plain, Last, find-last, last-written, last-block, none-written}
 use Rattle.scan.specs.Ends.{both-ways, fine-ordered, stop-twin, ending, rows-then, rows-plain, entries-of, swap-sound, swap-last}
+use Rattle.model.specs.Laws.Tables.{copies-append, copies-cons-same, copies-cons-other, copies-none, copies-cons, holds-copies, held-copies, distinct-copies, copies-distinct, withoutFirst}
 
 -- ---- the first entry of a block taken out
 
@@ -76,10 +76,10 @@ module _ (b : ℕ) (x : Table) (e : Entry) (same : b ≡ e .block) where
 
 module _ (b : ℕ) (v : View) (h : holds b (entriesIn v) ≡ true) where
   abbrev twinless : View
-  twinless = slotSet (placeOf b v .number) (placeOf b v .slot) dead v
+  twinless = slotChanged (placeOf b v .number) (placeOf b v .slot) dead v
 
   is-marked : twinless ≡ marked (placeOf b v) v
-  unfolding slotSet marked slotChanged
+  unfolding slotChanged marked
   is-marked = refl
 
   pub twinless-entries : entriesIn twinless ≡ withoutFirst b (entriesIn v)

@@ -12,8 +12,7 @@ use Rattle.model.specs.Lists.{all, count}
 use Rattle.model.specs.Slot.{Slot, empty, torn, dead, wrong, live, isEmpty, Entry, entryOf}
 use Rattle.model.specs.State.{View, entries, entriesIn, holds, emptyLast, capacity, filled, blockIn, Exception, caseC, caseD, State, clean, unfinished, damaged}
 use Rattle.model.specs.Steps.{topRow, firstEmpty, compactions}
-use Rattle.bridge.specs.Views.Slots.{full, flatten-last, entries-append, find-top, top-row}
-use Rattle.bridge.specs.Views.Tables.{holds-append, count-append}
+use Rattle.bridge.specs.Views.Slots.{full, entries-append, find-top, top-row}
 use Rattle.scan.specs.declared.Ending.{Ending}
 use Rattle.scan.specs.declared.Ending.the-variants.{Full, Room, TornLast, TwinLast, Bad}
 use Rattle.scan.specs.declared.Sum.{Sum}
@@ -25,6 +24,8 @@ use Rattle.scan.specs.Ends.{ending, fine-ending, torn-ending, ending-ord
 use Rattle.scan.specs.Twins.{twin-ending}
 use Rattle.scan.specs.Tally.{noneMet, tallies, addRows, noSum}
 use Rattle.scan.specs.TallyLaws.{Narrow, NarrowRows, agree-none, lastLive, isWritten, sum-live, sum-ending, sum-compactions, sum-top}
+use Rattle.model.specs.Laws.Lists.{flatten-last, count-append}
+use Rattle.model.specs.Laws.Tables.{holds-append}
 
 -- ---- the state of the slots, by how they end and whether few enough are live
 

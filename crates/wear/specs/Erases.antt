@@ -16,6 +16,7 @@ use Rattle.model.specs.Slot.{Entry}
 use Rattle.model.specs.State.{View, entriesIn, holds, Place, placeOf}
 use Rattle.model.specs.Steps.{programs, programPart, onPage, writeSlot, markDead, markPlace, openSegment, copyEntries, copyOut, settle, compact, markOld, writeAtTop, deleteSteps}
 use Rattle.model.specs.Sequences.{erasesIn}
+use Rattle.model.specs.Laws.Lists.{count-append}
 
 -- ---- the erase steps of lists
 
@@ -89,27 +90,13 @@ turns-length N (suc e) = omega (arith, length-append (turns N e) (e % N ∷ []),
 abbrev erasesAt : ℕ → ℕ → ℕ → ℕ
 erasesAt N e i = count (λ x. eqb i x) (turns N e)
 
-count-snoc : (f : ℕ → Bool) (xs : List ℕ) (y : ℕ) → count f (xs ++ (y ∷ [])) ≡ cond (f y) 1 0 + count f xs
-unfolding count
-count-snoc f [] y = go (f y)
-  where
-    go : (t : Bool) → cond t 1 0 ≡ cond t 1 0 + 0
-    go true = refl
-    go false = refl
-count-snoc f (x ∷ xs) y = go (f x) (count-snoc f xs y)
-  where
-    go : (t : Bool) → count f (xs ++ (y ∷ [])) ≡ cond (f y) 1 0 + count f xs
-        → cond t (suc (count f (xs ++ (y ∷ [])))) (count f (xs ++ (y ∷ []))) ≡ cond (f y) 1 0 + cond t (suc (count f xs)) (count f xs)
-    go true h = omega arith
-    go false h = h
-
 one-more : (N e i w : ℕ) → e % N ≡ w → i ≡ w → erasesAt N (suc e) i ≡ suc (erasesAt N e i)
-unfolding turns
-one-more N e i w m h = rw (count-snoc (λ x. eqb i x) (turns N e) (e % N), eq-eqb i (e % N) (h ∙ sym m)) (omega arith)
+unfolding turns count
+one-more N e i w m h = rw (count-append (λ x. eqb i x) (turns N e) (e % N ∷ []), eq-eqb i (e % N) (h ∙ sym m)) (omega arith)
 
 no-more : (N e i w : ℕ) → e % N ≡ w → (i ≡ w → ⊥) → erasesAt N (suc e) i ≡ erasesAt N e i
-unfolding turns
-no-more N e i w m h = rw (count-snoc (λ x. eqb i x) (turns N e) (e % N), ne-eqb i (e % N) (λ p. h (p ∙ m))) (omega arith)
+unfolding turns count
+no-more N e i w m h = rw (count-append (λ x. eqb i x) (turns N e) (e % N ∷ []), ne-eqb i (e % N) (λ p. h (p ∙ m))) (omega arith)
 
 -- after q rounds over all N and w more, index i has q erases, and one more if i < w
 record Even (N e : ℕ) : Type 0 where
@@ -131,18 +118,34 @@ even N (suc e) h = go (even N e h)
         let sm = v .small in
         let m : e % N ≡ v .w = rw (v .split) (mul-add-mod-self-right (v .q) N (v .w) ∙ mod-eq-of-lt (v .small)) in
         ⊎-elim
-          (λ full. record { q = suc (v .q); w = 0; split = omega arith; small = h; low = λ i z. absurd (omega arith)
-                   ; high = λ i a b. elim (decLt i (v .w)) [ yes lt ↦ no-more N e i (v .w) m (λ p. omega arith) ∙ v .low i lt
-                                                          | no ge ↦ one-more N e i (v .w) m (omega arith) ∙ ap suc (v .high i (omega arith) b) ] })
-          (λ more. record { q = v .q; w = suc (v .w); split = omega arith; small = more
-                   ; low = λ i z. elim (decLt i (v .w)) [ yes lt ↦ no-more N e i (v .w) m (λ p. omega arith) ∙ v .low i lt
-                                                        | no ge ↦ one-more N e i (v .w) m (omega arith) ∙ ap suc (v .high i (omega arith) (omega arith)) ]
-                   ; high = λ i a b. no-more N e i (v .w) m (λ p. omega arith) ∙ v .high i (omega arith) b })
-          (eq-or-lt-of-le (v .small))
+        (λ full. record {
+          q = suc (v .q);
+          w = 0;
+          split = omega arith;
+          small = h;
+          low = λ i z. absurd (omega arith);
+          high = λ i a b. elim (decLt i (v .w)) [
+            | yes lt ↦ no-more N e i (v .w) m (λ p. omega arith) ∙ v .low i lt
+            | no ge ↦ one-more N e i (v .w) m (omega arith) ∙ ap suc (v .high i (omega arith) b)
+          ];
+        })
+        (λ more. record {
+          q = v .q;
+          w = suc (v .w);
+          split = omega arith;
+          small = more;
+          low = λ i z. elim (decLt i (v .w)) [
+            | yes lt ↦ no-more N e i (v .w) m (λ p. omega arith) ∙ v .low i lt
+            | no ge ↦ one-more N e i (v .w) m (omega arith) ∙ ap suc (v .high i (omega arith) (omega arith))
+          ];
+          high = λ i a b. no-more N e i (v .w) m (λ p. omega arith) ∙ v .high i (omega arith) b;
+        })
+        (eq-or-lt-of-le (v .small))
 
 pub balanced : (N e i j : ℕ) → i < N → j < N → erasesAt N e i ≤ suc (erasesAt N e j)
 balanced N e i j hi hj =
     let v = even N e (omega arith) in
-    elim (decLt i (v .w))
-      [ yes a ↦ elim (decLt j (v .w)) [ yes b ↦ omega (arith, v .low i a, v .low j b) | no b ↦ omega (arith, v .low i a, v .high j (omega arith) hj) ]
-      | no a ↦ elim (decLt j (v .w)) [ yes b ↦ omega (arith, v .high i (omega arith) hi, v .low j b) | no b ↦ omega (arith, v .high i (omega arith) hi, v .high j (omega arith) hj) ] ]
+    elim (decLt i (v .w)) [
+      | yes a ↦ elim (decLt j (v .w)) [ yes b ↦ omega (arith, v .low i a, v .low j b) | no b ↦ omega (arith, v .low i a, v .high j (omega arith) hj) ]
+      | no a ↦ elim (decLt j (v .w)) [ yes b ↦ omega (arith, v .high i (omega arith) hi, v .low j b) | no b ↦ omega (arith, v .high i (omega arith) hi, v .high j (omega arith) hj) ]
+    ]

@@ -5,6 +5,5 @@ pub mod Erases
 pub mod Room
 pub mod Stored
 pub mod Requests
-pub mod Calls
 pub mod Sequence
 pub mod Instances

@@ -2,23 +2,28 @@
 use Prim.Native.Nat.{ℕ, _+_, _-_, _*_, _/_, max, _≤_}
 use mathlib.Core.Path.{_≡_, refl, ap, _∙_}
 use mathlib.Core.Bool.{Bool, true, false, cond}
-use mathlib.Core.List.{List, [], _++_, append-nil, flatten}
+use mathlib.Core.List.{List, [], _++_, append-nil}
 use native.Mathlib.Omega.{arith}
 use native.Mathlib.Nat.{mul-le-mul-right, div-le-of-le-mul}
 use lib.ListN.{length, replicate}
 use lib.Dec.{eqb}
 use Rattle.model.specs.Slot.{empty, dead, live, isDead}
-use Rattle.model.specs.State.{View, entriesIn, holds, noneWrongOrTorn, blocksDistinct, emptySlotsLast, Place, placeOf}
+use Rattle.model.specs.State.{View, entriesIn, holds, blocksDistinct, Place, placeOf}
 use Rattle.model.specs.Steps.{topRow, topNumber, firstEmpty, roomFor, putSteps, writeAtTop, markOld, deleteSteps}
 use Rattle.model.specs.Answers.{put, delete}
 use Rattle.model.specs.Sequences.{Observed, erasesIn, among, removed, inserted, storedAfter, replaces, Tally, start, tallied, eraseCount, erasesOf}
-use Rattle.bridge.specs.Predicted.{slotChanged, written, marked, afterPut, afterDelete, fresh, CleanView, Fits}
-use Rattle.bridge.specs.Interface.{ViewLaws}
+use Rattle.model.specs.Laws.Lists.{one}
+use Rattle.model.specs.Laws.Tables.{agree-holds}
+use Rattle.bridge.specs.Predicted.{slotChanged, written, marked, afterPut, afterDelete, fresh, CleanView}
+use Rattle.bridge.specs.Views.Slots.{copied-none}
+use Rattle.bridge.specs.Views.Room.{room-made}
+use Rattle.bridge.specs.Views.Requests.{put-stores, delete-removes}
+use Rattle.bridge.specs.Format.{fresh-table}
 use Rattle.wear.specs.Demand3.{ErasesPaid, Balanced}
-use Rattle.wear.specs.Counting.{one, deads, set-slot, lives, lives-entries, Packed, clean-packed, empties-dead, empties-entries}
+use Rattle.wear.specs.Counting.{deads-behind, drop-behind, set-slot, copied-dead}
 use Rattle.wear.specs.Erases.{erases-append, written-none, delete-none, turns, turns-length, balanced}
 use Rattle.wear.specs.Room.{Paid, paid-after, Moved, room-moved}
-use Rattle.wear.specs.Stored.{agree-holds, Stored, stored-none, stored-length, stored-put, stored-delete}
+use Rattle.wear.specs.Stored.{Stored, stored-none, stored-length, stored-put, stored-delete}
 
 -- the count belongs to the view
 pub record Tracks (N B : ℕ) (v : View) (t : Tally) : Type 0 where
@@ -45,12 +50,13 @@ tracks-balanced N B v t h = λ i j hi hj. rw (h .inTurn) (omega (arith, balanced
 
 module _ (N B : ℕ) where
   pub tracks-start : 2 ≤ N → Tracks N B (fresh B) start
-  unfolding start fresh turns entriesIn flatten deads
-  tracks-start h = record
-    { inTurn = refl
-    ; stored = rw (append-nil (replicate B empty), empties-entries B) stored-none
-    ; most = omega arith
-    ; paid = record { k = 0; p = 0; boundary = omega arith; part = omega arith; paid = omega (arith, empties-dead B) } }
+  unfolding start fresh turns
+  tracks-start h = record {
+    inTurn = refl;
+    stored = rw (fresh-table B) stored-none;
+    most = omega arith;
+    paid = record { k = 0; p = 0; boundary = omega arith; part = omega arith; paid = omega (arith, drop-behind 0 [] (replicate B empty) (rw (copied-none B) (copied-dead B [])), deads-behind []) };
+  }
 
   -- the blocks stored, m replaced more, these erases
   counted : List ℕ → ℕ → List ℕ → Tally → Tally
@@ -59,11 +65,12 @@ module _ (N B : ℕ) where
   tracks-counted : (v : View) (t : Tally) (xs : List ℕ) (m : ℕ) (es : List ℕ) → t .erased ++ es ≡ turns N (v .first) → Stored xs (entriesIn v)
       → Paid (N - 1) ((N - 1) * B - t .largest) (v .first) (v .slots) (t .replaced + m) → Tracks N B v (counted xs m es t)
   unfolding counted
-  tracks-counted v t xs m es e s p = record
-    { inTurn = e
-    ; stored = s
-    ; most = omega arith
-    ; paid = paid-after ((N - 1) * B - max (t .largest) (length xs)) (t .replaced + m) 0 (v .slots) (omega arith) (omega arith) (λ p. omega arith) p }
+  tracks-counted v t xs m es e s p = record {
+    inTurn = e;
+    stored = s;
+    most = omega arith;
+    paid = paid-after ((N - 1) * B - max (t .largest) (length xs)) (t .replaced + m) 0 (v .slots) (omega arith) (omega arith) (λ p. omega arith) p;
+  }
 
   -- a request that erases nothing and neither stores nor removes a block
   pub tracks-still : (v : View) (t : Tally) (o : Observed) → Tracks N B v t → o .erases ≡ []
@@ -74,7 +81,7 @@ module _ (N B : ℕ) where
   tracks-still v t o h e s r =
       let p = h .paid in
       rw (e, s, r) (tracks-counted v t (t .stored) 0 [] (append-nil (t .erased) ∙ h .inTurn) (h .stored)
-        (paid-after ((N - 1) * B - t .largest) (t .replaced + 0) 0 (v .slots) (omega arith) (omega arith) (λ q. omega arith) p))
+      (paid-after ((N - 1) * B - t .largest) (t .replaced + 0) 0 (v .slots) (omega arith) (omega arith) (λ q. omega arith) p))
 
   -- a slot marked dead, and one written
   paid-marked : {X E R : ℕ} (S : ℕ) (p : Place) (v : View) → R + 1 ≤ S → Paid (N - 1) X E (v .slots) R → Paid (N - 1) X E (marked p v .slots) S
@@ -106,16 +113,12 @@ module _ (N B : ℕ) where
       go true = paid-marked (R + 1) (placeOf b r) (written b c r) (omega arith) (paid-written R b c r (omega arith) h)
       go false = paid-written (R + 0) b c r (omega arith) h
 
-  packed : (v : View) → CleanView N B v → Packed B (v .slots)
-  unfolding noneWrongOrTorn emptySlotsLast
-  packed v c = clean-packed B (v .slots) (c .rows) (c .sound) (c .last)
-
-  few-live : (v : View) (t : Tally) → CleanView N B v → Tracks N B v t → lives (v .slots) ≤ t .largest
-  unfolding blocksDistinct entriesIn
-  few-live v t c h = omega (arith, lives-entries (v .slots), stored-length (t .stored) (entriesIn v) (h .stored) (c .once), h .most)
+  few-live : (v : View) (t : Tally) → CleanView N B v → Tracks N B v t → length (entriesIn v) ≤ t .largest
+  unfolding blocksDistinct
+  few-live v t c h = omega (arith, stored-length (t .stored) (entriesIn v) (h .stored) (c .once), h .most)
 
   put-moved : (v : View) (t : Tally) → CleanView N B v → Tracks N B v t → Moved N B (t .largest) (t .replaced) (N - 1) v (roomFor N B v)
-  put-moved v t c h = room-moved N B (t .largest) (t .replaced) v (c .spare) (packed v c) (few-live v t c h) (h .paid)
+  put-moved v t c h = room-moved N B (t .largest) (t .replaced) v c (few-live v t c h) (h .paid)
 
   put-erases : (v : View) (b : ℕ) (c : List ℕ) → erasesIn (putSteps N B b c v) ≡ erasesIn (roomFor N B v .steps)
   unfolding putSteps
@@ -126,19 +129,18 @@ module _ (N B : ℕ) where
   pub put-few : (v : View) (t : Tally) (b : ℕ) (c : List ℕ) → CleanView N B v → Tracks N B v t → length (erasesIn (putSteps N B b c v)) ≤ N - 1
   put-few v t b c cv h = rw (put-erases v b c) (put-moved v t cv h .few)
 
-  module _ (laws : ViewLaws N B) where
-    pub tracks-put : (v : View) (t : Tally) (b : ℕ) (c : List ℕ) → CleanView N B v → Fits N B b v → Tracks N B v t
-        → Tracks N B (afterPut N B b c v) (tallied (record { request = put b c; code = 0; erases = erasesIn (putSteps N B b c v) }) t)
-    unfolding tallied storedAfter replaces counted
-    tracks-put v t b c cv fits h = tracks-counted (afterPut N B b c v) t (inserted b (t .stored)) (cond (among b (t .stored)) 1 0) (erasesIn (putSteps N B b c v))
-        (rw (h .inTurn, put-erases v b c, put-first v b c) (put-moved v t cv h .inTurn))
-        (stored-put (t .stored) (entriesIn v) (entriesIn (afterPut N B b c v)) b c (h .stored) (laws .put-table v b c cv fits))
-        (rw (h .stored .same b, ← agree-holds _ _ (laws .room-table v b cv fits) b) (put-paid v b c (put-moved v t cv h .paid)))
+  pub tracks-put : 2 ≤ N → 2 ≤ B → (v : View) (t : Tally) (b : ℕ) (c : List ℕ) → CleanView N B v → Tracks N B v t
+      → Tracks N B (afterPut N B b c v) (tallied (record { request = put b c; code = 0; erases = erasesIn (putSteps N B b c v) }) t)
+  unfolding tallied storedAfter replaces counted
+  tracks-put two slots v t b c cv h = tracks-counted (afterPut N B b c v) t (inserted b (t .stored)) (cond (among b (t .stored)) 1 0) (erasesIn (putSteps N B b c v))
+      (rw (h .inTurn, put-erases v b c, put-first v b c) (put-moved v t cv h .inTurn))
+      (stored-put (t .stored) (entriesIn v) (entriesIn (afterPut N B b c v)) b c (h .stored) (put-stores N B two slots v b c cv))
+      (rw (h .stored .same b, ← agree-holds _ _ (room-made N B two slots v cv .table) b) (put-paid v b c (put-moved v t cv h .paid)))
 
-    pub tracks-delete : (v : View) (t : Tally) (b : ℕ) → CleanView N B v → holds b (entriesIn v) ≡ true → Tracks N B v t
-        → Tracks N B (afterDelete b v) (tallied (record { request = delete b; code = 0; erases = erasesIn (deleteSteps N B b v) }) t)
-    unfolding tallied storedAfter replaces counted afterDelete marked slotChanged
-    tracks-delete v t b cv held h = tracks-counted (afterDelete b v) t (removed b (t .stored)) 1 (erasesIn (deleteSteps N B b v))
-        (rw (delete-none N B b v) (append-nil (t .erased) ∙ h .inTurn))
-        (stored-delete (t .stored) (entriesIn v) (entriesIn (afterDelete b v)) b (h .stored) (laws .delete-table v b cv held))
-        (paid-marked (t .replaced + 1) (placeOf b v) v (omega arith) (h .paid))
+  pub tracks-delete : (v : View) (t : Tally) (b : ℕ) → CleanView N B v → holds b (entriesIn v) ≡ true → Tracks N B v t
+      → Tracks N B (afterDelete b v) (tallied (record { request = delete b; code = 0; erases = erasesIn (deleteSteps N B b v) }) t)
+  unfolding tallied storedAfter replaces counted afterDelete marked slotChanged
+  tracks-delete v t b cv held h = tracks-counted (afterDelete b v) t (removed b (t .stored)) 1 (erasesIn (deleteSteps N B b v))
+      (rw (delete-none N B b v) (append-nil (t .erased) ∙ h .inTurn))
+      (stored-delete (t .stored) (entriesIn v) (entriesIn (afterDelete b v)) b (h .stored) (delete-removes N B v b cv held))
+      (paid-marked (t .replaced + 1) (placeOf b v) v (omega arith) (h .paid))

@@ -14,17 +14,16 @@ use Rattle.model.specs.State.{view, clean, state}
 use Rattle.model.specs.Steps.{formatSteps}
 use Rattle.model.specs.Answers.{Request, format, put, delete, read, readOr, recover, stepsFor, workOf, outcomeOf}
 use Rattle.model.specs.Sequences.{Call, play, erasesIn, observe, observed, InSequence, Uncut, storedAfter, replaces, Tally, start, tallied, tally}
-use Rattle.model.specs.Laws.Chip.{run-size}
+use Rattle.model.specs.Laws.Chip.{size-facts, run-size}
 use Rattle.model.specs.Laws.Bytes.{run-bytes}
-use Rattle.bridge.specs.Views.Requests.{view-laws}
-use Rattle.bridge.specs.Held.{two-segments, two-slots, clean-view}
-use Rattle.bridge.specs.Accepted.{refused-none, accepted, quiet-none, recover-none, put-passed, delete-passed, format-passed}
-use Rattle.bridge.specs.Format.{format-bytes, format-done}
+use Rattle.bridge.specs.Held.{clean-view}
+use Rattle.bridge.specs.Accepted.{refused-none, accepted, quiet-none, recover-none, delete-passed, format-passed}
+use Rattle.bridge.specs.Allowance.{Ends, ends}
 use Rattle.bridge.specs.Requests.{put-done, delete-done}
+use Rattle.bridge.specs.Format.{format-bytes, format-done}
 use Rattle.wear.specs.Demand3.{FewErases, Demand3}
 use Rattle.wear.specs.Erases.{delete-none}
 use Rattle.wear.specs.Requests.{Tracks, tracks-paid, tracks-balanced, tracks-start, tracks-still, put-few, tracks-put, tracks-delete}
-use Rattle.wear.specs.Calls.{Finished, finished}
 
 -- the image is clean, and the count belongs to its view
 pub record Sequenced (N B : ℕ) (s : Image) (t : Tally) : Type 0 where
@@ -34,25 +33,30 @@ pub record Sequenced (N B : ℕ) (s : Image) (t : Tally) : Type 0 where
   pub tracks : Tracks N B (view N B s) t
 
 module _ (N B : ℕ) where
-
   -- a call kept the image clean and the count with it, and did not erase too often
   abbrev Kept : Image → Tally → Call → Type 0
   Kept s t x = Sequenced N B (outcomeOf N B s (x .allowance) (x .request) .image) (tallied (observe N B s x) t) × (length (observe N B s x .erases) ≤ N - 1)
 
   -- a call by its work, all of it done
-  kept : (s : Image) (t : Tally) (x : Call) → Sequenced N B s t → Finished N B s (x .allowance) (x .request)
+  kept : (s : Image) (t : Tally) (x : Call) → Sequenced N B s t → Ends N B s (x .allowance) (x .request)
       → let w = workOf N B s (x .request) in
-        state N B (run B (w .steps) s) ≡ clean
+      state N B (run B (w .steps) s) ≡ clean
       → Tracks N B (view N B (run B (w .steps) s)) (tallied (record { request = x .request; code = w .code; erases = erasesIn (w .steps) }) t)
       → length (erasesIn (w .steps)) ≤ N - 1
       → Kept s t x
   unfolding observe
-  kept s t x g f c k few =
-      ( record { size = rw (f .image) (run-size N B (workOf N B s (x .request) .steps) s ∙ g .size); bytes = rw (f .image) (run-bytes B (workOf N B s (x .request) .steps) s (g .bytes)); clean = rw (f .image) c; tracks = rw (f .image, f .code) k }
-      , few )
+  kept s t x g f c k few = (
+    record {
+      size = rw (f .image) (run-size N B (workOf N B s (x .request) .steps) s ∙ g .size);
+      bytes = rw (f .image) (run-bytes B (workOf N B s (x .request) .steps) s (g .bytes));
+      clean = rw (f .image) c;
+      tracks = rw (f .image, f .code) k;
+    },
+    few,
+  )
 
   -- one that takes no step, and neither stores nor removes a block
-  still : (s : Image) (t : Tally) (x : Call) → Sequenced N B s t → Finished N B s (x .allowance) (x .request) → workOf N B s (x .request) .steps ≡ []
+  still : (s : Image) (t : Tally) (x : Call) → Sequenced N B s t → Ends N B s (x .allowance) (x .request) → workOf N B s (x .request) .steps ≡ []
       → cond (eqb (workOf N B s (x .request) .code) 0) (storedAfter (x .request) (t .stored)) (t .stored) ≡ t .stored
       → cond (eqb (workOf N B s (x .request) .code) 0) (replaces (x .request) (t .stored)) 0 ≡ 0
       → Kept s t x
@@ -61,32 +65,31 @@ module _ (N B : ℕ) where
       let same : run B (workOf N B s (x .request) .steps) s ≡ s = ap (λ xs. run B xs s) none in
       kept s t x g f (rw same (g .clean)) (rw same (tracks-still N B (view N B s) t _ (g .tracks) (rw none) stays free)) (rw none (omega arith))
 
-  done-put : (s : Image) (t : Tally) (b : ℕ) (c : List ℕ) (allowance : ℕ) → Sequenced N B s t → Finished N B s allowance (put b c) → Bytes c → workOf N B s (put b c) .code ≡ 0
+  done-put : (s : Image) (t : Tally) (b : ℕ) (c : List ℕ) (allowance : ℕ) → Sequenced N B s t → Ends N B s allowance (put b c) → Bytes c → workOf N B s (put b c) .code ≡ 0
       → Kept s t (record { request = put b c; allowance = allowance })
   unfolding stepsFor view
   done-put s t b c allowance g f bytes e =
       let a = accepted N B s (put b c) e in
       let d = put-done N B s (g .size) (g .clean) b c (g .bytes) bytes e in
       let cv = clean-view N B s (g .size) (g .clean) in
-      let laws = view-laws N B (two-segments N B s (g .size)) (two-slots N B s (g .size)) in
+      let size = size-facts N B s (g .size) in
       kept s t (record { request = put b c; allowance = allowance }) g f (d .0)
-        (rw (d .1, e, a .0) (tracks-put N B laws (view N B s) t b c cv (put-passed N B s b c (a .1) .fit) (g .tracks)))
-        (rw (a .0) (put-few N B (view N B s) t b c cv (g .tracks)))
+      (rw (d .1, e, a .0) (tracks-put N B (size .two) (size .slots) (view N B s) t b c cv (g .tracks)))
+      (rw (a .0) (put-few N B (view N B s) t b c cv (g .tracks)))
 
-  done-delete : (s : Image) (t : Tally) (b allowance : ℕ) → Sequenced N B s t → Finished N B s allowance (delete b) → workOf N B s (delete b) .code ≡ 0
+  done-delete : (s : Image) (t : Tally) (b allowance : ℕ) → Sequenced N B s t → Ends N B s allowance (delete b) → workOf N B s (delete b) .code ≡ 0
       → Kept s t (record { request = delete b; allowance = allowance })
   unfolding stepsFor view
   done-delete s t b allowance g f e =
       let a = accepted N B s (delete b) e in
       let d = delete-done N B s (g .size) (g .clean) b e in
       let cv = clean-view N B s (g .size) (g .clean) in
-      let laws = view-laws N B (two-segments N B s (g .size)) (two-slots N B s (g .size)) in
       kept s t (record { request = delete b; allowance = allowance }) g f (d .0)
-        (rw (d .1, e, a .0) (tracks-delete N B laws (view N B s) t b cv (delete-passed N B s b (a .1)) (g .tracks)))
-        (rw (a .0, delete-none N B b (view N B s)) (omega arith))
+      (rw (d .1, e, a .0) (tracks-delete N B (view N B s) t b cv (delete-passed N B s b (a .1)) (g .tracks)))
+      (rw (a .0, delete-none N B b (view N B s)) (omega arith))
 
   -- refused, or done
-  decided : (s : Image) (t : Tally) (x : Call) → Sequenced N B s t → Finished N B s (x .allowance) (x .request) → (workOf N B s (x .request) .code ≡ 0 → Kept s t x) → Kept s t x
+  decided : (s : Image) (t : Tally) (x : Call) → Sequenced N B s t → Ends N B s (x .allowance) (x .request) → (workOf N B s (x .request) .code ≡ 0 → Kept s t x) → Kept s t x
   decided s t x g f done = go (eqb (workOf N B s (x .request) .code) 0) refl
     where
       go : (u : Bool) → eqb (workOf N B s (x .request) .code) 0 ≡ u → Kept s t x
@@ -94,7 +97,7 @@ module _ (N B : ℕ) where
       go false e = still s t x g f (refused-none N B s (x .request) e) (rw e) (rw e)
 
   -- a request that neither stores nor removes a block, whatever its answer
-  quiet : (s : Image) (t : Tally) (x : Call) → Sequenced N B s t → Finished N B s (x .allowance) (x .request) → workOf N B s (x .request) .steps ≡ []
+  quiet : (s : Image) (t : Tally) (x : Call) → Sequenced N B s t → Ends N B s (x .allowance) (x .request) → workOf N B s (x .request) .steps ≡ []
       → storedAfter (x .request) (t .stored) ≡ t .stored → replaces (x .request) (t .stored) ≡ 0 → Kept s t x
   quiet s t x g f none stays free =
       let u = eqb (workOf N B s (x .request) .code) 0 in
@@ -108,17 +111,17 @@ module _ (N B : ℕ) where
   unfolding stepsFor storedAfter replaces
   call s t format allowance g i n = absurd i
   call s t (put b c) allowance g i n =
-      let f = finished N B s allowance (put b c) n in
+      let f = ends N B s allowance (put b c) n in
       decided s t (record { request = put b c; allowance = allowance }) g f (λ e. done-put s t b c allowance g f i e)
   call s t (delete b) allowance g i n =
-      let f = finished N B s allowance (delete b) n in
+      let f = ends N B s allowance (delete b) n in
       decided s t (record { request = delete b; allowance = allowance }) g f (λ e. done-delete s t b allowance g f e)
   call s t (read b) allowance g i n =
-      quiet s t (record { request = read b; allowance = allowance }) g (finished N B s allowance (read b) n) (quiet-none N B s (read b) refl) refl refl
+      quiet s t (record { request = read b; allowance = allowance }) g (ends N B s allowance (read b) n) (quiet-none N B s (read b) refl) refl refl
   call s t (readOr b c) allowance g i n =
-      quiet s t (record { request = readOr b c; allowance = allowance }) g (finished N B s allowance (readOr b c) n) (quiet-none N B s (readOr b c) refl) refl refl
+      quiet s t (record { request = readOr b c; allowance = allowance }) g (ends N B s allowance (readOr b c) n) (quiet-none N B s (readOr b c) refl) refl refl
   call s t recover allowance g i n =
-      quiet s t (record { request = recover; allowance = allowance }) g (finished N B s allowance recover n) (recover-none N B s (g .clean)) refl refl
+      quiet s t (record { request = recover; allowance = allowance }) g (ends N B s allowance recover n) (recover-none N B s (g .clean)) refl refl
 
   -- ---- a sequence: each call works on what the one before left
 
@@ -150,18 +153,18 @@ module _ (N B : ℕ) where
   formatted : (s : Image) (allowance : ℕ) → outcomeOf N B s allowance format .code ≡ 0 → Sequenced N B (outcomeOf N B s allowance format .image) start
   unfolding stepsFor
   formatted s allowance e =
-      let f = finished N B s allowance format (λ p. omega arith) in
+      let f = ends N B s allowance format (λ p. omega arith) in
       let a = accepted N B s format (sym (f .code) ∙ e) in
       let size = format-passed N B s (a .1) in
       let d = format-done N B s size in
       let image : outcomeOf N B s allowance format .image ≡ run B (formatSteps N B) s = f .image ∙ ap (λ xs. run B xs s) (a .0) in
-      rw image (record { size = run-size N B (formatSteps N B) s ∙ size; bytes = format-bytes N B s size; clean = d .0; tracks = rw (d .1) (tracks-start N B (two-segments N B s size)) })
+      rw image (record { size = run-size N B (formatSteps N B) s ∙ size; bytes = format-bytes N B s size; clean = d .0; tracks = rw (d .1) (tracks-start N B (size-facts N B s size .two)) })
 
 -- after each call of a sequence
 pub all-kept : (N B : ℕ) (s : Image) (allowance : ℕ) (xs : List Call) → outcomeOf N B s allowance format .code ≡ 0
     → Uncut (observed N B (outcomeOf N B s allowance format .image) xs)
     → FewErases N (observed N B (outcomeOf N B s allowance format .image) xs)
-      × ((k : ℕ) → Sequenced N B (play N B (outcomeOf N B s allowance format .image) (take k xs)) (tally (take k (observed N B (outcomeOf N B s allowance format .image) xs)) start))
+    × ((k : ℕ) → Sequenced N B (play N B (outcomeOf N B s allowance format .image) (take k xs)) (tally (take k (observed N B (outcomeOf N B s allowance format .image) xs)) start))
 all-kept N B s allowance xs e u =
     sequence N B (outcomeOf N B s allowance format .image) start xs (formatted N B s allowance e) u
 

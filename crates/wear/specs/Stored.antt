@@ -1,16 +1,16 @@
 -- The blocks stored, by the answers, are the blocks that the live slots hold; and so they are equally many.
 use Prim.Native.Nat.{ℕ, suc, _≤_, _<_}
 use mathlib.Core.Path.{_≡_, refl, sym, ap, _∙_}
-use mathlib.Core.Bool.{Bool, true, false, cond, _||_, _&&_, not}
+use mathlib.Core.Bool.{Bool, true, false, cond, _||_, _&&_, not, false≢true, and-false, and-eq-true-iff}
 use mathlib.Core.List.{List, [], _∷_}
 use native.Mathlib.Omega.{arith}
 use lib.ListN.{length}
 use lib.Dec.{eqb}
 use borrow.Author.Tests.{eqb-true, eq-eqb, not-true}
 use Rattle.model.specs.State.{holds, distinct}
-use Rattle.model.specs.Table.{Table, Found, absent, present, lookup, without, store, Agree}
+use Rattle.model.specs.Table.{Table, without, store, Agree}
 use Rattle.model.specs.Sequences.{among, removed, inserted}
-use Rattle.wear.specs.Counting.{both-true}
+use Rattle.model.specs.Laws.Tables.{agree-holds}
 
 -- ---- lists of block numbers
 
@@ -20,11 +20,7 @@ Distinct (x ∷ xs) = (among x xs ≡ false) × Distinct xs
 
 among-removed : (a b : ℕ) (xs : List ℕ) → among a (removed b xs) ≡ (not (eqb a b) && among a xs)
 unfolding among removed
-among-removed a b [] = none (eqb a b)
-  where
-    none : (t : Bool) → false ≡ (not t && false)
-    none true = refl
-    none false = refl
+among-removed a b [] = sym (and-false (not (eqb a b)))
 among-removed a b (x ∷ xs) = go (eqb b x) (eqb a b) (eqb a x) refl refl refl (among-removed a b xs)
   where
     go : (t u w : Bool) → eqb b x ≡ t → eqb a b ≡ u → eqb a x ≡ w → among a (removed b xs) ≡ (not u && among a xs) → among a (cond t (removed b xs) (x ∷ removed b xs)) ≡ (not u && (w || among a xs))
@@ -41,13 +37,9 @@ unfolding removed
 removed-distinct b [] d = tt
 removed-distinct b (x ∷ xs) d = go (eqb b x) (removed-distinct b xs (d .1))
   where
-    gone : (u : Bool) → (u && false) ≡ false
-    gone true = refl
-    gone false = refl
-
     go : (t : Bool) → Distinct (removed b xs) → Distinct (cond t (removed b xs) (x ∷ removed b xs))
     go true h = h
-    go false h = (among-removed x b xs ∙ rw (d .0) (gone (not (eqb x b))), h)
+    go false h = (among-removed x b xs ∙ rw (d .0) (and-false (not (eqb x b))), h)
 
 inserted-distinct : (b : ℕ) (xs : List ℕ) → Distinct xs → Distinct (inserted b xs)
 unfolding inserted
@@ -64,7 +56,7 @@ removed-most b (x ∷ xs) = go (eqb b x) (removed-most b xs)
 
 removed-fewer : (b : ℕ) (xs : List ℕ) → among b xs ≡ true → length (removed b xs) < length xs
 unfolding removed among
-removed-fewer b [] h = let z : _≡_ {A = ℕ} 0 1 = cc in absurd (omega arith)
+removed-fewer b [] h = absurd (false≢true h)
 removed-fewer b (x ∷ xs) h = go (eqb b x) h (λ m. removed-fewer b xs m)
   where
     go : (t : Bool) → (t || among b xs) ≡ true → (among b xs ≡ true → length (removed b xs) < length xs) → length (cond t (removed b xs) (x ∷ removed b xs)) < suc (length xs)
@@ -112,26 +104,8 @@ blocks-distinct : (t : Table) → distinct t ≡ true → Distinct (blocks t)
 unfolding blocks distinct
 blocks-distinct [] h = tt
 blocks-distinct (e ∷ t) h =
-    let p = both-true (not (holds (e .block) t)) (distinct t) h in
+    let p = and-eq-true-iff (not (holds (e .block) t)) (distinct t) .0 h in
     (sym (holds-blocks (e .block) t) ∙ not-true (holds (e .block) t) (p .0), blocks-distinct t (p .1))
-
--- ---- tables that agree hold the same blocks
-
-isPresent : Found → Bool
-isPresent absent = false
-isPresent (present c) = true
-
-holds-lookup : (b : ℕ) (t : Table) → holds b t ≡ isPresent (lookup b t)
-unfolding holds lookup isPresent
-holds-lookup b [] = refl
-holds-lookup b (e ∷ t) = go (eqb b (e .block)) (holds-lookup b t)
-  where
-    go : (u : Bool) → holds b t ≡ isPresent (lookup b t) → (u || holds b t) ≡ isPresent (cond u (present (e .contents)) (lookup b t))
-    go true h = refl
-    go false h = h
-
-pub agree-holds : (t u : Table) → Agree t u → (b : ℕ) → holds b t ≡ holds b u
-agree-holds t u h b = holds-lookup b t ∙ ap isPresent (h b) ∙ sym (holds-lookup b u)
 
 -- ---- the blocks stored
 
@@ -145,9 +119,12 @@ stored-none = record { same = λ b. refl; once = tt }
 
 pub stored-length : (xs : List ℕ) (t : Table) → Stored xs t → distinct t ≡ true → length xs ≡ length t
 stored-length xs t s d =
-    omega (arith, blocks-length t
-          , no-more xs (blocks t) (s .once) (λ a m. sym (s .same a ∙ holds-blocks a t) ∙ m)
-          , no-more (blocks t) xs (blocks-distinct t d) (λ a m. s .same a ∙ holds-blocks a t ∙ m))
+    omega (
+      arith,
+      blocks-length t,
+      no-more xs (blocks t) (s .once) (λ a m. sym (s .same a ∙ holds-blocks a t) ∙ m),
+      no-more (blocks t) xs (blocks-distinct t d) (λ a m. s .same a ∙ holds-blocks a t ∙ m),
+    )
 
 same-without : (xs : List ℕ) (t : Table) → Stored xs t → (b a : ℕ) → among a (removed b xs) ≡ holds a (without b t)
 same-without xs t s b a =
@@ -160,5 +137,7 @@ stored-delete xs t u b s h = record { same = λ a. same-without xs t s b a ∙ s
 pub stored-put : (xs : List ℕ) (t u : Table) (b : ℕ) (c : List ℕ) → Stored xs t → Agree u (store b c t) → Stored (inserted b xs) u
 unfolding inserted store among holds
 stored-put xs t u b c s h =
-    record { same = λ a. ap (λ y. eqb a b || y) (same-without xs t s b a) ∙ sym (agree-holds u (store b c t) h a)
-           ; once = inserted-distinct b xs (s .once) }
+    record {
+      same = λ a. ap (λ y. eqb a b || y) (same-without xs t s b a) ∙ sym (agree-holds u (store b c t) h a);
+      once = inserted-distinct b xs (s .once);
+    }

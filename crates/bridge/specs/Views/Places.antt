@@ -1,20 +1,21 @@
 -- One slot of a view among the others: what changing it changes, and where the first live slot of a block and the top's first empty slot are.
-use Prim.Native.Nat.{ℕ, suc, _+_, _-_, _≤_}
+use Prim.Native.Nat.{ℕ, zero, suc, _+_, _-_, _≤_, _<_}
 use mathlib.Core.Path.{_≡_, refl, sym, ap, _∙_}
 use mathlib.Core.Bool.{Bool, true, false, cond, _||_, _&&_, false≢true, and-eq-true-iff}
 use mathlib.Core.List.{List, [], _∷_, _++_, flatMap, flatten, append-assoc, append-nil}
 use native.Mathlib.Omega.{arith}
-use lib.ListN.{length, length-append}
-use lib.Seq.{set-at, getD-at}
+use lib.ListN.{length, getD, length-append}
+use lib.Seq.{getD-append-seam, set-at, getD-at}
 use lib.Dec.{eqb}
 use borrow.Author.Tests.{eqb-true, not-true}
 use Rattle.model.specs.Lists.{all}
 use Rattle.model.specs.Slot.{Slot, empty, torn, dead, wrong, live, isEmpty, entryOf}
 use Rattle.model.specs.State.{View, entries, entriesIn, holds, emptyLast, onlyTopEmpty, slotFrom, placeFrom, placeOf}
 use Rattle.model.specs.Steps.{topRow, topNumber, hasRoom, firstEmpty}
+use Rattle.model.specs.Laws.Lists.{all-append, flatten-append}
+use Rattle.model.specs.Laws.Tables.{holds-append, withoutFirst, without-first-at}
 use Rattle.bridge.specs.Predicted.{slotChanged, written, marked, Rows}
-use Rattle.bridge.specs.Views.Tables.{holds-append, withoutFirst, without-first-at}
-use Rattle.bridge.specs.Views.Slots.{full, all-append, flatten-append, entries-append, entries-cons, all-empty-entries, first-empty, top-row, find-top, only-top-empty}
+use Rattle.bridge.specs.Views.Slots.{full, entries-append, entries-cons, all-empty-entries, first-empty, top-row, find-top, only-top-empty}
 
 -- ---- rows with one slot left out
 
@@ -75,12 +76,15 @@ fill-empty-last g k m h = go (g .rowsBefore)
         empties : (z : List Slot) → all isEmpty (z ++ (k ∷ g .after)) ≡ all isEmpty (z ++ (m ∷ g .after))
         empties [] = rw h
         empties (y ∷ z) = rw (empties z)
+
     fulls : (x : List Slot) → full (x ++ (k ∷ g .after)) ≡ full (x ++ (m ∷ g .after))
     fulls [] = rw h
     fulls (y ∷ x) = rw (fulls x)
+
     here : (r : List (List Slot)) → onlyTopEmpty ((g .before ++ (k ∷ g .after)) ∷ r) ≡ onlyTopEmpty ((g .before ++ (m ∷ g .after)) ∷ r)
     here [] = inRow (g .before)
     here (t ∷ r) = rw (fulls (g .before))
+
     go : (l : List (List Slot)) → onlyTopEmpty (l ++ ((g .before ++ (k ∷ g .after)) ∷ g .rowsAfter)) ≡ onlyTopEmpty (l ++ ((g .before ++ (m ∷ g .after)) ∷ g .rowsAfter))
     go [] = here (g .rowsAfter)
     go (s ∷ []) = ap (λ y. full s && y) (here (g .rowsAfter))
@@ -92,9 +96,42 @@ pub fill-changed : (v : View) (g : Gap) (k m : Slot) (n j : ℕ) → v .slots �
 unfolding slotChanged
 fill-changed v g k m n j h p q =
     let i : length (g .rowsBefore) ≡ n - v .first = omega arith in
-    rw (h, getD-at (g .rowsBefore) (g .before ++ (k ∷ g .after)) (g .rowsAfter) [] (n - v .first) i,
-        set-at (g .before) k (g .after) m j (sym q),
-        set-at (g .rowsBefore) (g .before ++ (k ∷ g .after)) (g .rowsAfter) (g .before ++ (m ∷ g .after)) (n - v .first) i)
+    rw (
+      h,
+      getD-at (g .rowsBefore) (g .before ++ (k ∷ g .after)) (g .rowsAfter) [] (n - v .first) i,
+      set-at (g .before) k (g .after) m j (sym q),
+      set-at (g .rowsBefore) (g .before ++ (k ∷ g .after)) (g .rowsAfter) (g .before ++ (m ∷ g .after)) (n - v .first) i,
+    )
+
+-- ---- where it stands, by row and place
+
+module _ (g : Gap) (k : Slot) where
+  pub gap-row : getD (fill g k) (length (g .rowsBefore)) [] ≡ g .before ++ (k ∷ g .after)
+  gap-row = getD-append-seam (g .rowsBefore) (g .before ++ (k ∷ g .after)) (g .rowsAfter) []
+
+  gap-inside : length (g .rowsBefore) < length (fill g k)
+  gap-inside = omega (arith, fill-length g k)
+
+  pub gap-slot : getD (getD (fill g k) (length (g .rowsBefore)) []) (length (g .before)) empty ≡ k
+  gap-slot = ap (λ (y : List Slot). getD y (length (g .before)) empty) gap-row ∙ getD-append-seam (g .before) k (g .after) empty
+
+  gap-short : (B : ℕ) → Rows B (fill g k) → length (g .before) < B
+  gap-short B r = let e : length (g .before ++ (k ∷ g .after)) ≡ B = ap length (sym gap-row) ∙ row (fill g k) (length (g .rowsBefore)) gap-inside r in
+      omega (arith, length-append (g .before) (k ∷ g .after))
+    where
+      row : (l : List (List Slot)) (i : ℕ) → i < length l → Rows B l → length (getD l i []) ≡ B
+      row [] i h r = absurd (omega arith)
+      row (x ∷ l) zero h r = r .0
+      row (x ∷ l) (suc i) h r = row l i (omega arith) (r .1)
+
+-- where a slot stands in a view with B slots to a row
+pub record InView (B : ℕ) (v : View) (g : Gap) (k : Slot) : Type 0 where
+  pub row : length (g .rowsBefore) < length (v .slots)
+  pub short : length (g .before) < B
+  pub kind : getD (getD (v .slots) (length (g .rowsBefore)) []) (length (g .before)) empty ≡ k
+
+pub in-view : (B : ℕ) (v : View) (g : Gap) (k : Slot) → v .slots ≡ fill g k → Rows B (v .slots) → InView B v g k
+in-view B v g k e r = record { row = rw e (gap-inside g k); short = gap-short g k B (rw e at r); kind = rw e (gap-slot g k) }
 
 -- ---- the first live slot of a block
 
@@ -113,9 +150,15 @@ in-row b j [] h = absurd (false≢true h)
 in-row b j (k ∷ s) h = go k h (λ p. in-row b (suc j) s p)
   where
     next : (k : Slot) → holds b (entryOf k) ≡ false → InRow b (suc j) s → InRow b j (k ∷ s)
-    next k n r = record { left = k ∷ r .left; contents = r .contents; right = r .right; split = ap {B = List Slot} (λ y. k ∷ y) (r .split)
-      ; place = rw n (r .place ∙ omega arith)
-      ; first = holds-append b (entryOf k) (entries (r .left)) ∙ rw (n, r .first) }
+    next k n r = record {
+      left = k ∷ r .left;
+      contents = r .contents;
+      right = r .right;
+      split = ap {B = List Slot} (λ y. k ∷ y) (r .split);
+      place = rw n (r .place ∙ omega arith);
+      first = holds-append b (entryOf k) (entries (r .left)) ∙ rw (n, r .first);
+    }
+
     go : (k : Slot) → holds b (entries (k ∷ s)) ≡ true → (holds b (entries s) ≡ true → InRow b (suc j) s) → InRow b j (k ∷ s)
     go empty p ih = next empty refl (ih p)
     go torn p ih = next torn refl (ih p)
@@ -124,8 +167,14 @@ in-row b j (k ∷ s) h = go k h (λ p. in-row b (suc j) s p)
     go (live a c) p ih = one (eqb b a) refl p
       where
         one : (t : Bool) → eqb b a ≡ t → (t || holds b (entries s)) ≡ true → InRow b j (live a c ∷ s)
-        one true e q = record { left = []; contents = c; right = s; split = ap {B = List Slot} (λ y. live y c ∷ s) (sym (eqb-true b a e))
-          ; place = rw e (omega arith); first = refl }
+        one true e q = record {
+          left = [];
+          contents = c;
+          right = s;
+          split = ap {B = List Slot} (λ y. live y c ∷ s) (sym (eqb-true b a e));
+          place = rw e (omega arith);
+          first = refl;
+        }
         one false e q = next (live a c) (rw e) (ih q)
 
 -- a block among slots of which the first come apart
@@ -152,19 +201,23 @@ first-live b n (s ∷ l) h =
         let r = in-row b 0 s e in
         let z : n ≡ n + 0 = omega arith in
         let y : slotFrom b 0 s ≡ length (r .left) = r .place ∙ omega arith in
-        record { gap = record { rowsBefore = []; before = r .left; after = r .right; rowsAfter = l }
-          ; contents = r .contents
-          ; split = ap {B = List (List Slot)} (λ x. x ∷ l) (r .split)
-          ; place = rw (e, y, ← z)
-          ; first = r .first }
+        record {
+          gap = record { rowsBefore = []; before = r .left; after = r .right; rowsAfter = l };
+          contents = r .contents;
+          split = ap {B = List (List Slot)} (λ x. x ∷ l) (r .split);
+          place = rw (e, y, ← z);
+          first = r .first;
+        }
     go false e p ih =
         let r = ih (rw e at p) in
         let z : suc n + length (r .gap .rowsBefore) ≡ n + suc (length (r .gap .rowsBefore)) = omega arith in
-        record { gap = record { rowsBefore = s ∷ r .gap .rowsBefore; before = r .gap .before; after = r .gap .after; rowsAfter = r .gap .rowsAfter }
-          ; contents = r .contents
-          ; split = ap {B = List (List Slot)} (λ x. s ∷ x) (r .split)
-          ; place = rw (e, r .place, z)
-          ; first = held-join b s (flatten (r .gap .rowsBefore)) (r .gap .before) ∙ rw (e, r .first) }
+        record {
+          gap = record { rowsBefore = s ∷ r .gap .rowsBefore; before = r .gap .before; after = r .gap .after; rowsAfter = r .gap .rowsAfter };
+          contents = r .contents;
+          split = ap {B = List (List Slot)} (λ x. s ∷ x) (r .split);
+          place = rw (e, r .place, z);
+          first = held-join b s (flatten (r .gap .rowsBefore)) (r .gap .before) ∙ rw (e, r .first);
+        }
 
 -- what stands after a live slot of the block makes no difference
 pub place-earlier : (b n : ℕ) (g : Gap) (k m : Slot) → holds b (entries (earlier g)) ≡ true → placeFrom b n (fill g k) ≡ placeFrom b n (fill g m)
@@ -181,10 +234,13 @@ place-earlier b n g k m h = rows n (g .rowsBefore) h
             → cond (holds b (entryOf a)) j (slotFrom b (suc j) (x ++ y)) ≡ cond (holds b (entryOf a)) j (slotFrom b (suc j) (x ++ z))
         go true e q ih = rw e
         go false e q ih = rw e (ih (rw e at q))
+
     held : (x y : List Slot) → holds b (entries x) ≡ true → holds b (entries (x ++ y)) ≡ true
     held x y p = ap (holds b) (entries-append x y) ∙ (holds-append b (entries x) (entries y) ∙ rw p)
+
     with-row : Slot → List (List Slot) → List (List Slot)
     with-row x l = l ++ ((g .before ++ (x ∷ g .after)) ∷ g .rowsAfter)
+
     rows : (n : ℕ) (l : List (List Slot)) → holds b (entries (flatten l ++ g .before)) ≡ true → placeFrom b n (with-row k l) ≡ placeFrom b n (with-row m l)
     rows n [] p = rw (held (g .before) (k ∷ g .after) p, held (g .before) (m ∷ g .after) p, inRow 0 (g .before) (k ∷ g .after) (m ∷ g .after) p)
     rows n (s ∷ l) p = go (holds b (entries s)) refl (sym (held-join b s (flatten l) (g .before)) ∙ p) (λ q. rows (suc n) l q)
@@ -228,14 +284,16 @@ top-gap v s e h =
     let q : full (t .top) ≡ false = ap (λ x. full x) (sym u) ∙ not-true (full (topRow (v .slots))) h in
     let f = first-empty (t .top) (p .1) q in
     let n : length (v .slots) ≡ length (t .others) + 1 = ap length (t .split) ∙ length-append (t .others) (t .top ∷ []) in
-    record { gap = record { rowsBefore = t .others; before = f .left; after = f .right; rowsAfter = [] }
-      ; split = t .split ∙ ap {B = List (List Slot)} (λ x. t .others ++ (x ∷ [])) (f .split)
-      ; isTop = refl
-      ; number = omega arith
-      ; slot = ap firstEmpty u ∙ f .place
-      ; fullRows = p .0
-      ; fullBefore = f .fullLeft
-      ; emptyAfter = f .emptyRight }
+    record {
+      gap = record { rowsBefore = t .others; before = f .left; after = f .right; rowsAfter = [] };
+      split = t .split ∙ ap {B = List (List Slot)} (λ x. t .others ++ (x ∷ [])) (f .split);
+      isTop = refl;
+      number = omega arith;
+      slot = ap firstEmpty u ∙ f .place;
+      fullRows = p .0;
+      fullBefore = f .fullLeft;
+      emptyAfter = f .emptyRight;
+    }
 
 pub none-after-top : {v : View} (g : TopGap v) → entries (later (g .gap)) ≡ []
 unfolding later flatten
@@ -261,3 +319,6 @@ written-entries b c v g = rw (all-before-top g, written-at b c v g) (shown (g .g
 pub written-place : (a b : ℕ) (c : List ℕ) (v : View) → TopGap v → holds a (entriesIn v) ≡ true → placeOf a (written b c v) ≡ placeOf a v
 unfolding placeOf
 written-place a b c v g h = rw (written-at b c v g, g .split) (place-earlier a (v .first) (g .gap) (live b c) empty (ap (holds a) (sym (all-before-top g)) ∙ h))
+
+pub written-holds : (b : ℕ) (c : List ℕ) (v : View) → TopGap v → holds b (entriesIn v) ≡ true → holds b (entriesIn (written b c v)) ≡ true
+written-holds b c v g h = ap (holds b) (written-entries b c v g) ∙ (holds-append b (entriesIn v) (record { block = b; contents = c } ∷ []) ∙ rw h)

@@ -1,4 +1,4 @@
--- A put and a delete keep a view clean and make the table that they should; with room for a put these are the laws of views.
+-- A put and a delete keep a view clean and make the table that they should.
 use Prim.Native.Nat.{ℕ, suc, _+_, _≤_, _<_}
 use mathlib.Core.Path.{_≡_, refl, ap, _∙_}
 use mathlib.Core.Bool.{Bool, true, false, cond, _||_, _&&_, not}
@@ -11,10 +11,9 @@ use Rattle.model.specs.Chip.{numberLimit}
 use Rattle.model.specs.State.{View, entriesIn, holds, distinct, capacity, placeOf}
 use Rattle.model.specs.Steps.{topNumber, hasRoom, roomFor, newNumbers, isWorn}
 use Rattle.model.specs.Table.{lookup, without, store, Agree}
-use Rattle.bridge.specs.Predicted.{written, marked, afterPut, afterDelete, CleanView, Fits}
-use Rattle.bridge.specs.Interface.{ViewLaws}
-use Rattle.bridge.specs.Views.Tables.{holds-append, agree-holds, agree-store, without-absent, distinct-without, without-length, without-first, without-first-append, storedLast, stored-last-agree, stored-last-distinct, stored-last-length}
-use Rattle.bridge.specs.Views.Places.{FirstLive, TopGap, marked-entries, written-entries, written-place}
+use Rattle.model.specs.Laws.Tables.{agree-holds, agree-store, without-absent, distinct-without, without-length, without-first, without-first-append, storedLast, stored-last-agree, stored-last-distinct, stored-last-length}
+use Rattle.bridge.specs.Predicted.{written, marked, putInto, afterPut, afterDelete, CleanView, Fits}
+use Rattle.bridge.specs.Views.Places.{FirstLive, TopGap, marked-entries, written-entries, written-place, written-holds}
 use Rattle.bridge.specs.Views.Shape.{Shape, clean-shape, shape-clean, clean-distinct, clean-within, written-shape, marked-shape, shape-gap, first-live-in}
 use Rattle.bridge.specs.Views.Room.{Made, room-made}
 
@@ -25,24 +24,28 @@ pub record Stored (N B b : ℕ) (c : List ℕ) (r w : View) : Type 0 where
   pub entries : entriesIn w ≡ storedLast b c (entriesIn r)
 
 pub stored : (N B b : ℕ) (c : List ℕ) (r : View) → CleanView N B r → hasRoom r ≡ true
-    → Stored N B b c r (cond (holds b (entriesIn r)) (marked (placeOf b r) (written b c r)) (written b c r))
+    → Stored N B b c r (putInto b c r)
 unfolding storedLast
 stored N B b c r k h = go (holds b (entriesIn r)) refl
   where
     g : TopGap r
     g = shape-gap (clean-shape k) h
+
     s : Shape N B (written b c r)
     s = written-shape b c (clean-shape k) g
+
     e : entriesIn (written b c r) ≡ entriesIn r ++ (record { block = b; contents = c } ∷ [])
     e = written-entries b c r g
+
     go : (t : Bool) → holds b (entriesIn r) ≡ t → Stored N B b c r (cond t (marked (placeOf b r) (written b c r)) (written b c r))
     go true p =
-        let q : holds b (entriesIn (written b c r)) ≡ true = ap (holds b) e ∙ (holds-append b (entriesIn r) (record { block = b; contents = c } ∷ []) ∙ rw p) in
+        let q : holds b (entriesIn (written b c r)) ≡ true = written-holds b c r g p in
         let f : FirstLive b (written b c r .first) (written b c r .slots) = first-live-in b (written b c r) q in
-        rw (← (written-place b b c r g p)) (record
-          { shape = marked-shape b s f
-          ; entries = marked-entries b (written b c r) f
-              ∙ rw (e, without-first-append b (entriesIn r) (record { block = b; contents = c } ∷ []) p, without-first b (entriesIn r) (clean-distinct k)) })
+        rw (← (written-place b b c r g p)) (record {
+          shape = marked-shape b s f;
+          entries = marked-entries b (written b c r) f
+              ∙ rw (e, without-first-append b (entriesIn r) (record { block = b; contents = c } ∷ []) p, without-first b (entriesIn r) (clean-distinct k));
+        })
     go false p = record { shape = s; entries = e ∙ rw (without-absent b (entriesIn r) p) }
 
 -- ---- the requests
@@ -58,7 +61,7 @@ module _ (N B : ℕ) (n : 2 ≤ N) (m : 2 ≤ B) where
       let s = put-stored v b c k in
       let d = clean-distinct (r .clean) in
       shape-clean (s .shape) (ap distinct (s .entries) ∙ stored-last-distinct b c (entriesIn (roomFor N B v .result)) d)
-        (within (roomFor N B v .result) r (holds b (entriesIn v)) refl f (ap length (s .entries) ∙ stored-last-length b c (entriesIn (roomFor N B v .result)) d))
+      (within (roomFor N B v .result) r (holds b (entriesIn v)) refl f (ap length (s .entries) ∙ stored-last-length b c (entriesIn (roomFor N B v .result)) d))
     where
       within : (w : View) → Made N B v w (newNumbers N v) → (t : Bool) → holds b (entriesIn v) ≡ t → (t || ltb (length (entriesIn v)) (capacity N B)) ≡ true
           → length (entriesIn (afterPut N B b c v)) ≡ cond (holds b (entriesIn w)) (length (entriesIn w)) (suc (length (entriesIn w))) → length (entriesIn (afterPut N B b c v)) ≤ capacity N B
@@ -90,15 +93,7 @@ module _ (N B : ℕ) where
       let e = deleted-entries v b k h in
       let d = clean-distinct k in
       shape-clean (marked-shape b (clean-shape k) (first-live-in b v h)) (ap distinct e ∙ distinct-without b (entriesIn v) d)
-        (omega (arith, ap length e, without-length b (entriesIn v) d h, clean-within k))
+      (omega (arith, ap length e, without-length b (entriesIn v) d h, clean-within k))
 
-pub view-laws : (N B : ℕ) → 2 ≤ N → 2 ≤ B → ViewLaws N B
-view-laws N B n m = record
-  { room-clean = λ v b k f. room-made N B n m v k .clean
-  ; room-found = λ v b k f. room-made N B n m v k .room
-  ; room-table = λ v b k f. room-made N B n m v k .table
-  ; room-number = λ v b k f w l. room-numbered N B n m v k w l
-  ; put-clean = put-keeps-clean N B n m
-  ; put-table = λ v b c k f. put-stores N B n m v b c k
-  ; delete-clean = delete-keeps-clean N B
-  ; delete-table = λ v b k h a. ap (lookup a) (deleted-entries N B v b k h) }
+  pub delete-removes : (v : View) (b : ℕ) → CleanView N B v → holds b (entriesIn v) ≡ true → Agree (entriesIn (afterDelete b v)) (without b (entriesIn v))
+  delete-removes v b k h a = ap (lookup a) (deleted-entries v b k h)

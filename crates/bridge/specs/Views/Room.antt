@@ -1,5 +1,5 @@
 -- Room for a put: a clean view with no room gets some by one opening or by as many tidyings as `compactions` says, and keeps its table.
-use Prim.Native.Nat.{ℕ, zero, suc, _+_, _-_, _*_, _≤_}
+use Prim.Native.Nat.{ℕ, zero, suc, _+_, _-_, _*_, _≤_, _<_}
 use mathlib.Core.Path.{_≡_, refl, sym, ap, _∙_}
 use mathlib.Core.Bool.{Bool, true, false, cond, _||_, _&&_, not, true≢false, and-eq-true-iff}
 use mathlib.Core.List.{List, [], _∷_, _++_, flatten}
@@ -8,14 +8,15 @@ use native.Mathlib.Nat.{mul-le-mul-right}
 use lib.ListN.{length, length-append}
 use lib.Dec.{ltb}
 use borrow.Author.Tests.{ltb-true, ltb-false, lt-ltb, le-ltb, not-true, not-false}
-use Rattle.model.specs.Lists.{all}
+use Rattle.model.specs.Lists.{all, count}
 use Rattle.model.specs.Slot.{Slot, isEmpty, isDead, isTorn, isWrong}
 use Rattle.model.specs.State.{View, entries, entriesIn, distinct, noneWrongOrTorn, capacity}
 use Rattle.model.specs.Steps.{topNumber, hasRoom, copied, openNext, compactOldest, compactUntilRoom, roomFor, compactions, newNumbers}
 use Rattle.model.specs.Table.{lookup, Agree}
+use Rattle.model.specs.Laws.Lists.{all-append, all-parts, all-flatten, none-count, some-count, flatten-last}
+use Rattle.model.specs.Laws.Tables.{distinct-swap, agree-swap}
 use Rattle.bridge.specs.Predicted.{CleanView}
-use Rattle.bridge.specs.Views.Tables.{distinct-swap, agree-swap}
-use Rattle.bridge.specs.Views.Slots.{full, noneDead, sound, all-append, all-parts, all-flatten, none-count, some-count, flatten-last, entries-append, rows-length, full-counted}
+use Rattle.bridge.specs.Views.Slots.{full, noneDead, sound, entries-append, rows-length, full-counted}
 use Rattle.bridge.specs.Views.Shape.{clean-shape, shape-clean, clean-distinct, clean-within, rowAdded, added-entries, added-room, added-top, all-full, opened-shape, opened-entries, opened-room, opened-top, tidied-view, tidied-shape}
 
 -- ---- the count of tidyings
@@ -76,33 +77,39 @@ module _ (N B : ℕ) where
       go : (n : ℕ) (l : List (List Slot)) → CleanView N B (record { first = n; slots = l }) → hasRoom (record { first = n; slots = l }) ≡ false
           → Tidied N B (record { first = n; slots = l }) (compactOldest N B (record { first = n; slots = l }) .result)
       go n [] c h = absurd (omega (arith, c .some))
-      go n (s ∷ l) c h = record
-          { clean = shape-clean (tidied-shape (clean-shape c) h) (ap distinct now ∙ distinct-swap (entries s) (entries (flatten l)) was)
-              (omega (arith, ap length now, length-append (entries (flatten l)) (entries s), counted, clean-within c))
-          ; table = λ b. ap (lookup b) now ∙ (agree-swap (entries s) (entries (flatten l)) was b ∙ ap (lookup b) (sym (entries-append s (flatten l))))
-          ; size = omega (arith, ap length now, length-append (entries (flatten l)) (entries s), counted)
-          ; number = ap topNumber (tidied-view N B n s l) ∙ (added-top B (suc n) l (entries s) ∙ omega arith)
-          ; done = λ p. rw (not-true (noneDead s) (sym room ∙ p))
-          ; further = λ p q. later (not-false (noneDead s) (sym room ∙ p)) (sym (all-append (λ k. not (isDead k)) s (flatten l)) ∙ q) }
+      go n (s ∷ l) c h = record {
+        clean = shape-clean (tidied-shape (clean-shape c) h) (ap distinct now ∙ distinct-swap (entries s) (entries (flatten l)) was)
+            (omega (arith, ap length now, length-append (entries (flatten l)) (entries s), counted, clean-within c));
+        table = λ b. ap (lookup b) now ∙ (agree-swap (entries s) (entries (flatten l)) was b ∙ ap (lookup b) (sym (entries-append s (flatten l))));
+        size = omega (arith, ap length now, length-append (entries (flatten l)) (entries s), counted);
+        number = ap topNumber (tidied-view N B n s l) ∙ (added-top B (suc n) l (entries s) ∙ omega arith);
+        done = λ p. rw (not-true (noneDead s) (sym room ∙ p));
+        further = λ p q. later (not-false (noneDead s) (sym room ∙ p)) (sym (all-append (λ k. not (isDead k)) s (flatten l)) ∙ q);
+      }
         where
           now : entriesIn (compactOldest N B (record { first = n; slots = s ∷ l }) .result) ≡ entries (flatten l) ++ entries s
           now = ap entriesIn (tidied-view N B n s l) ∙ added-entries B (suc n) l (entries s)
+
           was : distinct (entries s ++ entries (flatten l)) ≡ true
           was = ap distinct (sym (entries-append s (flatten l))) ∙ clean-distinct c
+
           counted : length (entries (s ++ flatten l)) ≡ length (entries s) + length (entries (flatten l))
           counted = ap length (entries-append s (flatten l)) ∙ length-append (entries s) (entries (flatten l))
+
           room : hasRoom (compactOldest N B (record { first = n; slots = s ∷ l }) .result) ≡ not (noneDead s)
           room = ap hasRoom (tidied-view N B n s l) ∙ (added-room B (suc n) l (entries s)
               ∙ row-room B s (c .rows .0) (all-parts (λ k. not (isWrong k || isTorn k)) s (flatten l) (c .sound) .0)
-                  (and-eq-true-iff (full s) (all (λ x. full x) l) .0 (all-full (clean-shape c) h) .0))
+              (and-eq-true-iff (full s) (all (λ x. full x) l) .0 (all-full (clean-shape c) h) .0))
+
           later : noneDead s ≡ true → (noneDead s && noneDead (flatten l)) ≡ false
               → (noneDead (flatten (compactOldest N B (record { first = n; slots = s ∷ l }) .result .slots)) ≡ false)
               × (cond (noneDead s) (suc (compactions l)) 1 ≡ suc (compactions (compactOldest N B (record { first = n; slots = s ∷ l }) .result .slots)))
           later e q =
               let d : noneDead (flatten l) ≡ false = rw e at q in
-              let z : compactOldest N B (record { first = n; slots = s ∷ l }) .result .slots ≡ l ++ (copied B (entries s) ∷ []) = ap (λ y. y .slots) (tidied-view N B n s l) in
-              ( rw (z, flatten-last l (copied B (entries s)), all-append (λ k. not (isDead k)) (flatten l) (copied B (entries s)), d)
-              , rw (z, e, compactions-append l (copied B (entries s) ∷ []) d) )
+              let z : compactOldest N B (record { first = n; slots = s ∷ l }) .result .slots ≡ l ++ (copied B (entries s) ∷ []) = ap (λ y. y .slots) (tidied-view N B n s l) in (
+                rw (z, flatten-last l (copied B (entries s)), all-append (λ k. not (isDead k)) (flatten l) (copied B (entries s)), d),
+                rw (z, e, compactions-append l (copied B (entries s) ∷ []) d),
+              )
 
   -- ---- as many as it takes
 
@@ -137,23 +144,32 @@ module _ (N B : ℕ) where
           let i = ih (x .clean) e (f .0) (omega arith) in
           record { clean = i .clean; room = i .room; table = λ b. i .table b ∙ x .table b; size = i .size ∙ x .size; number = omega (arith, i .number, x .number) }
 
--- ---- a dead slot where all segments but one are in use and full
+-- ---- no room: every slot is live or dead
 
+pub full-view : {N B : ℕ} {v : View} → CleanView N B v → hasRoom v ≡ false → length (entriesIn v) + count isDead (flatten (v .slots)) ≡ length (v .slots) * B
+unfolding noneWrongOrTorn entriesIn
+full-view {N} {B} {v} c h =
+    full-counted (flatten (v .slots)) (c .sound) (all-flatten (λ x. not (isEmpty x)) (v .slots) ∙ all-full (clean-shape c) h) ∙ rows-length B (v .slots) (c .rows)
+
+-- some are dead, where all segments but one are in use
 pub some-dead : (N B : ℕ) → 2 ≤ N → 2 ≤ B → (v : View) → CleanView N B v → hasRoom v ≡ false → N - 1 ≤ length (v .slots) → noneDead (flatten (v .slots)) ≡ false
-unfolding noneWrongOrTorn entriesIn capacity
+unfolding capacity
 some-dead N B n m v c h k = go (noneDead (flatten (v .slots))) refl
   where
     go : (t : Bool) → noneDead (flatten (v .slots)) ≡ t → t ≡ false
     go false e = refl
     go true e =
-        let f : full (flatten (v .slots)) ≡ true = all-flatten (λ x. not (isEmpty x)) (v .slots) ∙ all-full (clean-shape c) h in
         let q : length (v .slots) ≡ N - 1 = omega (arith, c .spare) in
-        let r : length (flatten (v .slots)) ≡ (N - 1) * B = rw q at (rows-length B (v .slots) (c .rows)) in
-        let w : length (entries (flatten (v .slots))) ≤ (N - 1) * B - 1 = clean-within c in
+        let r : length (entriesIn v) + count isDead (flatten (v .slots)) ≡ (N - 1) * B = rw q at (full-view c h) in
+        let w : length (entriesIn v) ≤ (N - 1) * B - 1 = clean-within c in
         let z : 1 * B ≤ (N - 1) * B = mul-le-mul-right B (omega arith) in
-        absurd (omega (arith, full-counted (flatten (v .slots)) (c .sound) f, none-count isDead (flatten (v .slots)) e))
+        absurd (omega (arith, none-count isDead (flatten (v .slots)) e))
 
 -- ---- room for a put
+
+pub opened-clean : {N B : ℕ} {v : View} → CleanView N B v → hasRoom v ≡ false → length (v .slots) < N - 1 → CleanView N B (openNext N B v .result)
+opened-clean {N} {B} {v} c e k = let x = opened-entries N B v in
+    shape-clean (opened-shape (clean-shape c) e k) (ap distinct x ∙ clean-distinct c) (omega (arith, ap length x, clean-within c))
 
 pub room-made : (N B : ℕ) → 2 ≤ N → 2 ≤ B → (v : View) → CleanView N B v → Made N B v (roomFor N B v .result) (newNumbers N v)
 unfolding roomFor newNumbers
@@ -165,11 +181,13 @@ room-made N B n m v c = go (hasRoom v) (ltb (length (v .slots)) (N - 1)) refl re
     go false true e f =
         let k = ltb-true (length (v .slots)) (N - 1) f in
         let x = opened-entries N B v in
-        record { clean = shape-clean (opened-shape (clean-shape c) e k) (ap distinct x ∙ clean-distinct c) (omega (arith, ap length x, clean-within c))
-          ; room = opened-room N B v (omega arith)
-          ; table = λ b. ap (lookup b) x
-          ; size = ap length x
-          ; number = opened-top N B v (c .some) ∙ omega arith }
+        record {
+          clean = opened-clean c e k;
+          room = opened-room N B v (omega arith);
+          table = λ b. ap (lookup b) x;
+          size = ap length x;
+          number = opened-top N B v (c .some) ∙ omega arith;
+        }
     go false false e f =
         let k = ltb-false (length (v .slots)) (N - 1) f in
         room-after-tidying N B (N - 1) v c e (some-dead N B n m v c e k) (omega (arith, compactions-length (v .slots), c .spare))

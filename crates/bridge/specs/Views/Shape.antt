@@ -11,8 +11,9 @@ use Rattle.model.specs.Lists.{all}
 use Rattle.model.specs.Slot.{Slot, empty, dead, live, isEmpty, isTorn, isWrong, Entry}
 use Rattle.model.specs.State.{View, entries, entriesIn, holds, distinct, noneWrongOrTorn, blocksDistinct, emptyLast, onlyTopEmpty, emptySlotsLast, capacity, withinCapacity, placeOf}
 use Rattle.model.specs.Steps.{topRow, topNumber, hasRoom, copied, openNext, compactOldest}
+use Rattle.model.specs.Laws.Lists.{all-append, all-join, all-parts, flatten-last}
 use Rattle.bridge.specs.Predicted.{Rows, CleanView, written, marked}
-use Rattle.bridge.specs.Views.Slots.{full, sound, all-append, all-join, all-parts, flatten-last, entries-append, entries-length, rows-append, full-then, all-empty-last, top-row, find-top, only-top-empty, copied-entries, copied-length, copied-sound, copied-empty-last, copied-full, copied-none}
+use Rattle.bridge.specs.Views.Slots.{full, sound, entries-append, entries-length, rows-append, full-then, all-empty-last, top-row, find-top, only-top-empty, copied-entries, copied-length, copied-sound, copied-empty-last, copied-full, copied-none}
 use Rattle.bridge.specs.Views.Places.{Gap, fill, fill-all, fill-length, fill-rows, fill-empty-last, FirstLive, first-live, marked-at, TopGap, top-gap, written-at}
 
 -- conditions 1, 5 and 7
@@ -29,8 +30,15 @@ clean-shape c = record { some = c .some; spare = c .spare; rows = c .rows; sound
 -- conditions 6 and 8 look at the entries alone
 pub shape-clean : {N B : ℕ} {v : View} → Shape N B v → distinct (entriesIn v) ≡ true → length (entriesIn v) ≤ capacity N B → CleanView N B v
 unfolding blocksDistinct withinCapacity
-shape-clean {N} {B} {v} s d h = record { some = s .some; spare = s .spare; rows = s .rows; sound = s .sound; once = d; last = s .last
-    ; within = le-leb (length (entriesIn v)) (capacity N B) h }
+shape-clean {N} {B} {v} s d h = record {
+  some = s .some;
+  spare = s .spare;
+  rows = s .rows;
+  sound = s .sound;
+  once = d;
+  last = s .last;
+  within = le-leb (length (entriesIn v)) (capacity N B) h;
+}
 
 pub clean-distinct : {N B : ℕ} {v : View} → CleanView N B v → distinct (entriesIn v) ≡ true
 unfolding blocksDistinct
@@ -48,18 +56,25 @@ changed-shape : (N B : ℕ) (v : View) (g : Gap) (k m : Slot) → v .slots ≡ f
 unfolding noneWrongOrTorn emptySlotsLast
 changed-shape N B v g k m h p e s =
     let n : length (v .slots) ≡ length (fill g m) = ap length h ∙ (fill-length g k ∙ sym (fill-length g m)) in
-    record { some = rw (← n) (s .some); spare = rw (← n) (s .spare)
-      ; rows = fill-rows B g k m (rw h at (s .rows))
-      ; sound = fill-all (λ x. not (isWrong x || isTorn x)) g k m p (rw h at (s .sound))
-      ; last = e }
+    record {
+      some = rw (← n) (s .some);
+      spare = rw (← n) (s .spare);
+      rows = fill-rows B g k m (rw h at (s .rows));
+      sound = fill-all (λ x. not (isWrong x || isTorn x)) g k m p (rw h at (s .sound));
+      last = e;
+    }
+
+-- a sound slot at the top's first empty place
+pub filled-shape : {N B : ℕ} {v : View} (k : Slot) → not (isWrong k || isTorn k) ≡ true → isEmpty k ≡ false → Shape N B v → (g : TopGap v) → Shape N B (record { first = v .first; slots = fill (g .gap) k })
+filled-shape {N} {B} {v} k p q s g = changed-shape N B v (g .gap) empty k (g .split) p (ends (g .gap) (g .isTop) (g .fullRows) (g .fullBefore) (g .emptyAfter)) s
+  where
+    ends : (p : Gap) → p .rowsAfter ≡ [] → all (λ x. full x) (p .rowsBefore) ≡ true → full (p .before) ≡ true → all isEmpty (p .after) ≡ true → onlyTopEmpty (fill p k) ≡ true
+    ends p z f l r = rw (z, only-top-empty (p .rowsBefore) (p .before ++ (k ∷ p .after)), f, full-then (p .before) (k ∷ p .after) l)
+        (unfold emptyLast in (rw q (all-empty-last (p .after) r)))
 
 pub written-shape : {N B : ℕ} {v : View} (b : ℕ) (c : List ℕ) → Shape N B v → TopGap v → Shape N B (written b c v)
-unfolding isWrong isTorn
-written-shape {N} {B} {v} b c s g = rw (written-at b c v g) (changed-shape N B v (g .gap) empty (live b c) (g .split) refl (ends (g .gap) (g .isTop) (g .fullRows) (g .fullBefore) (g .emptyAfter)) s)
-  where
-    ends : (p : Gap) → p .rowsAfter ≡ [] → all (λ x. full x) (p .rowsBefore) ≡ true → full (p .before) ≡ true → all isEmpty (p .after) ≡ true → onlyTopEmpty (fill p (live b c)) ≡ true
-    ends p z f l r = rw (z, only-top-empty (p .rowsBefore) (p .before ++ (live b c ∷ p .after)), f, full-then (p .before) (live b c ∷ p .after) l)
-        (unfold emptyLast isEmpty in all-empty-last (p .after) r)
+unfolding isWrong isTorn isEmpty
+written-shape {N} {B} {v} b c s g = rw (written-at b c v g) (filled-shape (live b c) refl refl s g)
 
 pub marked-shape : {N B : ℕ} {v : View} (b : ℕ) → Shape N B v → FirstLive b (v .first) (v .slots) → Shape N B (marked (placeOf b v) v)
 unfolding isWrong isTorn isEmpty emptySlotsLast
@@ -84,10 +99,13 @@ pub added-shape : (N B n : ℕ) (l : List (List Slot)) (es : List Entry) → suc
 unfolding noneWrongOrTorn emptySlotsLast rowAdded
 added-shape N B n l es m r s f h =
     let k = length-append l (copied B es ∷ []) in
-    record { some = omega arith; spare = omega arith
-      ; rows = rows-append B l (copied B es ∷ []) r (copied-length B es h, tt)
-      ; sound = rw (flatten-last l (copied B es)) (all-join (λ x. not (isWrong x || isTorn x)) (flatten l) (copied B es) s (copied-sound B es))
-      ; last = rw (only-top-empty l (copied B es), f) (copied-empty-last B es) }
+    record {
+      some = omega arith;
+      spare = omega arith;
+      rows = rows-append B l (copied B es ∷ []) r (copied-length B es h, tt);
+      sound = rw (flatten-last l (copied B es)) (all-join (λ x. not (isWrong x || isTorn x)) (flatten l) (copied B es) s (copied-sound B es));
+      last = rw (only-top-empty l (copied B es), f) (copied-empty-last B es);
+    }
 
 pub added-entries : (B n : ℕ) (l : List (List Slot)) (es : List Entry) → entriesIn (rowAdded B n l es) ≡ entries (flatten l) ++ es
 unfolding entriesIn rowAdded

@@ -11,6 +11,7 @@ use Rattle.model.specs.Lists.{all, count}
 use Rattle.model.specs.Slot.{Slot, empty, torn, dead, wrong, live, isEmpty, isTorn, isDead, isWrong, Entry, entryOf, holding}
 use Rattle.model.specs.State.{entries, emptyLast, onlyTopEmpty}
 use Rattle.model.specs.Steps.{topRow, firstEmpty, copied}
+use Rattle.model.specs.Laws.Lists.{all-join, all-append, all-replicate, none-count}
 use Rattle.bridge.specs.Predicted.{Rows}
 
 -- ---- tests on every slot
@@ -24,54 +25,7 @@ noneDead s = all (λ k. not (isDead k)) s
 abbrev pub sound : List Slot → Bool
 sound s = all (λ k. not (isWrong k || isTorn k)) s
 
-pub all-append : {A : Type 0} (f : A → Bool) (x y : List A) → all f (x ++ y) ≡ (all f x && all f y)
-unfolding all
-all-append f [] y = refl
-all-append f (k ∷ x) y = ap (λ t. f k && t) (all-append f x y) ∙ sym (and-assoc (f k) (all f x) (all f y))
-
-pub all-join : {A : Type 0} (f : A → Bool) (x y : List A) → all f x ≡ true → all f y ≡ true → all f (x ++ y) ≡ true
-all-join f x y p q = rw (all-append f x y, p) q
-
-pub all-parts : {A : Type 0} (f : A → Bool) (x y : List A) → all f (x ++ y) ≡ true → (all f x ≡ true) × (all f y ≡ true)
-all-parts f x y h = and-eq-true-iff (all f x) (all f y) .0 (sym (all-append f x y) ∙ h)
-
-pub all-flatten : {A : Type 0} (f : A → Bool) (l : List (List A)) → all f (flatten l) ≡ all (λ s. all f s) l
-unfolding all flatten
-all-flatten f [] = refl
-all-flatten f (s ∷ l) = all-append f s (flatten l) ∙ ap (λ t. all f s && t) (all-flatten f l)
-
--- none passes a test if the count is 0, and only then
-pub none-count : {A : Type 0} (f : A → Bool) (s : List A) → all (λ k. not (f k)) s ≡ true → count f s ≡ 0
-unfolding all count
-none-count f [] h = refl
-none-count f (k ∷ s) h = go (f k) h (λ p. none-count f s p)
-  where
-    go : (t : Bool) → (not t && all (λ x. not (f x)) s) ≡ true → (all (λ x. not (f x)) s ≡ true → count f s ≡ 0) → cond t (suc (count f s)) (count f s) ≡ 0
-    go true p ih = absurd (false≢true p)
-    go false p ih = ih p
-
-pub some-count : {A : Type 0} (f : A → Bool) (s : List A) → all (λ k. not (f k)) s ≡ false → 1 ≤ count f s
-unfolding all count
-some-count f [] h = absurd (true≢false h)
-some-count f (k ∷ s) h = go (f k) h (λ p. some-count f s p)
-  where
-    go : (t : Bool) → (not t && all (λ x. not (f x)) s) ≡ false → (all (λ x. not (f x)) s ≡ false → 1 ≤ count f s) → 1 ≤ cond t (suc (count f s)) (count f s)
-    go true p ih = omega arith
-    go false p ih = ih p
-
 -- ---- rows joined
-
-pub flatten-append : {A : Type 0} (a b : List (List A)) → flatten (a ++ b) ≡ flatten a ++ flatten b
-unfolding flatten
-flatten-append [] b = refl
-flatten-append (s ∷ a) b = rw (flatten-append a b) (sym (append-assoc s (flatten a) (flatten b)))
-
-pub flatten-one : {A : Type 0} (s : List A) → flatten (s ∷ []) ≡ s
-unfolding flatten
-flatten-one s = append-nil s
-
-pub flatten-last : {A : Type 0} (a : List (List A)) (t : List A) → flatten (a ++ (t ∷ [])) ≡ flatten a ++ t
-flatten-last a t = flatten-append a (t ∷ []) ∙ rw (flatten-one t)
 
 pub entries-append : (x y : List Slot) → entries (x ++ y) ≡ entries x ++ entries y
 unfolding entries flatMap
@@ -155,8 +109,15 @@ first-empty [] h f = absurd (true≢false f)
 first-empty (k ∷ s) h f = go k h f (λ p q. first-empty s p q)
   where
     next : (k : Slot) → isEmpty k ≡ false → FirstEmpty s → FirstEmpty (k ∷ s)
-    next k e r = record { left = k ∷ r .left; right = r .right; split = ap {B = List Slot} (λ y. k ∷ y) (r .split)
-      ; place = rw (e, r .place); fullLeft = rw (e, r .fullLeft); emptyRight = r .emptyRight }
+    next k e r = record {
+      left = k ∷ r .left;
+      right = r .right;
+      split = ap {B = List Slot} (λ y. k ∷ y) (r .split);
+      place = rw (e, r .place);
+      fullLeft = rw (e, r .fullLeft);
+      emptyRight = r .emptyRight;
+    }
+
     go : (k : Slot) → emptyLast (k ∷ s) ≡ true → full (k ∷ s) ≡ false → (emptyLast s ≡ true → full s ≡ false → FirstEmpty s) → FirstEmpty (k ∷ s)
     go empty p q ih = record { left = []; right = s; split = refl; place = refl; fullLeft = refl; emptyRight = p }
     go torn p q ih = next torn refl (ih p q)
@@ -201,11 +162,6 @@ pub all-holding : (f : Slot → Bool) → ((b : ℕ) (c : List ℕ) → f (live 
 unfolding all holding
 all-holding f h [] = refl
 all-holding f h (e ∷ es) = rw (h (e .block) (e .contents)) (all-holding f h es)
-
-pub all-replicate : {A : Type 0} (f : A → Bool) (a : A) → f a ≡ true → (n : ℕ) → all f (replicate n a) ≡ true
-unfolding all
-all-replicate f a h zero = refl
-all-replicate f a h (suc n) = rw h (all-replicate f a h n)
 
 -- every live and empty slot passes a test
 pub all-copied : (f : Slot → Bool) → ((b : ℕ) (c : List ℕ) → f (live b c) ≡ true) → f empty ≡ true → (B : ℕ) (es : List Entry) → all f (copied B es) ≡ true

@@ -53,12 +53,16 @@ module _ (N B : ℕ) where
     where
       w : View
       w = compactOldest N B v .result
+
       t : Tidied N B v w
       t = tidied N B v (n .clean) (n .none)
+
       joined : compactUntilRoom N B (suc k) v ≡ record { steps = compactOldest N B v .steps ++ compactUntilRoom N B k w .steps; result = compactUntilRoom N B k w .result }
       joined = rw (n .none)
+
       after : (m : ℕ) → compactUntilRoom N B k w ≡ compactTimes N B m w → compactions (v .slots) ≡ suc m → compactUntilRoom N B (suc k) v ≡ compactTimes N B (compactions (v .slots)) v
       after m e c = joined ∙ (ap (λ (r : Room). record { steps = compactOldest N B v .steps ++ r .steps; result = r .result }) e ∙ (sym (times-first m v) ∙ ap (λ (y : ℕ). compactTimes N B y v) (sym c)))
+
       go : (b : Bool) → hasRoom w ≡ b → (Needs w → compactions (w .slots) ≤ k → compactUntilRoom N B k w ≡ compactTimes N B (compactions (w .slots)) w)
           → compactUntilRoom N B (suc k) v ≡ compactTimes N B (compactions (v .slots)) v
       go true e ih = after 0 (room-idle k w e) (t .done e)
@@ -96,26 +100,29 @@ module _ (N B : ℕ) where
 
   pub after-times : (v : View) → Needs v → (i : ℕ) → i ≤ compactions (v .slots) → After v i
   unfolding compactTimes
-  after-times v n zero h = record
-    { clean = n .clean
-    ; first = omega arith
-    ; rows = refl
-    ; left = λ j b. ap (λ (y : ℕ). getD (v .slots) y []) (omega arith)
-    ; more = λ b. (n, omega arith) }
+  after-times v n zero h = record {
+    clean = n .clean;
+    first = omega arith;
+    rows = refl;
+    left = λ j b. ap (λ (y : ℕ). getD (v .slots) y []) (omega arith);
+    more = λ b. (n, omega arith);
+  }
   after-times v n (suc i) h = go (after-times v n i (omega arith))
     where
       w : View
       w = compactTimes N B i v .result
+
       go : After v i → After v (suc i)
       go a =
           let m = a .more (omega arith) in
           let t = tidied N B w (a .clean) (m .0 .none) in
-          let some = n .clean .some in record
-          { clean = t .clean
-          ; first = ap (λ (y : View). y .first) (compacted-view w) ∙ omega (arith, a .first)
-          ; rows = ap (λ (y : View). length (y .slots)) (compacted-view w) ∙ (same-rows (w .slots) _ (omega (arith, a .rows)) ∙ a .rows)
-          ; left = λ j b. ap (λ (y : View). getD (y .slots) j []) (compacted-view w) ∙ (shifted (w .slots) _ j (omega (arith, a .rows)) ∙ (a .left (suc j) (omega arith) ∙ ap (λ (y : ℕ). getD (v .slots) y []) (omega arith)))
-          ; more = λ b. still t m b (hasRoom (compactOldest N B w .result)) refl }
+          let some = n .clean .some in record {
+            clean = t .clean;
+            first = ap (λ (y : View). y .first) (compacted-view w) ∙ omega (arith, a .first);
+            rows = ap (λ (y : View). length (y .slots)) (compacted-view w) ∙ (same-rows (w .slots) _ (omega (arith, a .rows)) ∙ a .rows);
+            left = λ j b. ap (λ (y : View). getD (y .slots) j []) (compacted-view w) ∙ (shifted (w .slots) _ j (omega (arith, a .rows)) ∙ (a .left (suc j) (omega arith) ∙ ap (λ (y : ℕ). getD (v .slots) y []) (omega arith)));
+            more = λ b. still t m b (hasRoom (compactOldest N B w .result)) refl;
+          }
         where
           still : Tidied N B w (compactOldest N B w .result) → Needs w × (compactions (w .slots) + i ≡ compactions (v .slots)) → suc i < compactions (v .slots) → (x : Bool) → hasRoom (compactOldest N B w .result) ≡ x
               → Needs (compactOldest N B w .result) × (compactions (compactOldest N B w .result .slots) + suc i ≡ compactions (v .slots))

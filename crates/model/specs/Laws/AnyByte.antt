@@ -1,19 +1,15 @@
 -- Any byte of a header changed, or its place, and it is not in use; any byte of a live slot but its contents and number, and it is not live. Computed on one page of each.
-use Prim.Native.Nat.{ℕ, zero, suc, _-_}
+use Prim.Native.Nat.{ℕ, _-_}
 use mathlib.Core.Path.{_≡_, refl}
 use mathlib.Core.Bool.{Bool, true, false, _||_, _&&_, not}
-use mathlib.Core.List.{List, [], _∷_, _++_}
-use lib.ListN.{length, getD, set}
+use mathlib.Core.List.{[], _∷_}
+use lib.ListN.{getD, set}
 use lib.Dec.{eqb}
 use Rattle.model.specs.Lists.{same}
 use Rattle.model.specs.Chip.{Page, erased, numberLimit}
 use Rattle.model.specs.Header.{compacted, numberBytes, inverted, value, statusInUse, headerPage, headerStatus, headerNumber, oldIndex, headerInUse, isBlank}
 use Rattle.model.specs.Slot.{Slot, empty, torn, dead, wrong, live, mostContents, numberOk, slotPage, pageBlock, pageContents, slotFits, slotOf}
-
--- a test of each of the numbers below n
-below : (ℕ → Bool) → ℕ → Bool
-below f zero = true
-below f (suc n) = f n && below f n
+use Rattle.model.specs.Laws.Bytes.{allBelow}
 
 -- every bit of byte k inverted
 flipped : Page → ℕ → Page
@@ -23,12 +19,12 @@ flipped p k = set p k (255 - getD p k 0)
 header : Page
 header = headerPage 4 15 compacted 3 0
 
-header-bytes-count : headerInUse 4 15 3 header && below (λ k. not (headerInUse 4 15 3 (flipped header k))) 256 ≡ true
-unfolding below flipped header same erased numberLimit numberBytes inverted value statusInUse headerPage headerStatus headerNumber oldIndex headerInUse
+header-bytes-count : headerInUse 4 15 3 header && allBelow (λ k. not (headerInUse 4 15 3 (flipped header k))) 256 ≡ true
+unfolding allBelow flipped header same erased numberLimit numberBytes inverted value statusInUse headerPage headerStatus headerNumber oldIndex headerInUse
 header-bytes-count = refl
 
-header-place-counts : below (λ i. headerInUse 4 15 i header || not (eqb i 3)) 4 && not (headerInUse 4 15 2 header) ≡ true
-unfolding below header same erased numberLimit numberBytes inverted value statusInUse headerPage headerStatus headerNumber oldIndex headerInUse
+header-place-counts : allBelow (λ i. headerInUse 4 15 i header || not (eqb i 3)) 4 && not (headerInUse 4 15 2 header) ≡ true
+unfolding allBelow header same erased numberLimit numberBytes inverted value statusInUse headerPage headerStatus headerNumber oldIndex headerInUse
 header-place-counts = refl
 
 isLive : Slot → Bool
@@ -42,6 +38,6 @@ isLive (live b c) = true
 slot : Page
 slot = slotPage 7 (0x41 ∷ 0x31 ∷ [])
 
-slot-bytes-count : isLive (slotOf slot) && below (λ k. not (isLive (slotOf (flipped slot k))) || (eqb k 8 || (eqb k 9 || (eqb k 2 || eqb k 3)))) 256 ≡ true
-unfolding below flipped isLive slot same erased isBlank mostContents numberOk slotPage pageBlock pageContents slotFits slotOf
+slot-bytes-count : isLive (slotOf slot) && allBelow (λ k. not (isLive (slotOf (flipped slot k))) || (eqb k 8 || (eqb k 9 || (eqb k 2 || eqb k 3)))) 256 ≡ true
+unfolding allBelow flipped isLive slot same erased isBlank mostContents numberOk slotPage pageBlock pageContents slotFits slotOf
 slot-bytes-count = refl

@@ -1,14 +1,12 @@
 -- Every bench example holds: computed over pages, and carried to the image by the law that joins the two.
-use Prim.Native.Nat.{ℕ, zero, suc, _+_, _-_, _*_}
-use mathlib.Core.Path.{_≡_, refl, sym, ap, ap₂, _∙_}
-use mathlib.Core.Bool.{Bool, true, false, cond, _&&_}
+use Prim.Native.Nat.{ℕ, suc, _+_, _-_, _*_}
+use mathlib.Core.Path.{_≡_, refl, ap, ap₂, _∙_}
+use mathlib.Core.Bool.{and-true}
 use mathlib.Core.List.{List, [], _∷_, _++_, flatMap, flatten}
-use native.Mathlib.Omega.{arith}
 use lib.ListN.{length, take, replicate, length-replicate}
-use lib.Dec.{eqb}
 use borrow.Author.Tests.{eq-eqb}
 use Rattle.model.specs.Lists.{same, all, count, chunk}
-use Rattle.model.specs.Chip.{Image, Page, Step, leastSegments, mostSegments, leastSlots, mostSlots, numberLimit, imageLength, inRange, rightSize, pagesOf, bySegment, clear, erased, run}
+use Rattle.model.specs.Chip.{Image, Page, leastSegments, mostSegments, leastSlots, mostSlots, numberLimit, imageLength, inRange, rightSize, pagesOf, bySegment, clear, erased}
 use Rattle.model.specs.Header.{numberBytes, inverted, value, statusInUse, headerPage, headerStatus, headerNumber, oldIndex, headerInUse, isBlank, allBlank}
 use Rattle.model.specs.Slot.{mostContents, numberOk, slotPage, pageBlock, pageContents, slotFits, slotOf, isEmpty, isTorn, isDead, isWrong, entryOf, holding}
 use Rattle.model.specs.State.{segmentOf, segmentsFrom, segmentsOn, segmentsOf, isInUse, isInvalid, isOwing, numberAfter, slotsIn, nextNumber, topIndex, nextIndex, topSlots, usedCount, firstNumber, slotsFrom, viewOf, entries, entriesIn, someInUse, numbersFrom, consecutive, noneOwing, othersBlank, noneWrongOrTorn, holds, distinct, blocksDistinct, emptyLast, onlyTopEmpty, emptySlotsLast, capacity, withinCapacity, conditions, isClean, nextBlanked, isA, settled, topSettled, isB, withSlot, filled, lastSlot, lastKind, tornMarked, isC, slotFrom, placeFrom, placeOf, blockIn, lastBlock, copies, older, olderMarked, isD, stateOf}
@@ -18,8 +16,8 @@ use Rattle.model.specs.Answers.{Request, format, recover, Work, firstOf,
 use Rattle.model.specs.Sequences.{Call, play, erasesIn, Observed, observe, observed, among, removed, inserted, storedAfter, replaces, start, tallied, tally, eraseCount}
 use Rattle.model.specs.Pages.{programPage, stepPages, runPages}
 use Rattle.model.specs.Bench.{Bench, Example, sizes, begins, answers, counts, cuts, call, whole, formatted, bench, contentsIn, isCleanIn, cutHolds, exampleHolds, failing, upFrom, putEach, examples}
-use Rattle.model.specs.Laws.Chip.{run-length}
 use Rattle.model.specs.Laws.Chunk.{chunk-replicate}
+use Rattle.model.specs.Laws.Chip.{run-length}
 use Rattle.model.specs.Laws.Pages.{pages-run}
 
 -- every definition unfolds where this name does
@@ -46,20 +44,17 @@ formattedPages : ℕ → ℕ → List Page
 formattedPages N B = playPages N B (replicate (N * (B + 1)) (replicate 256 0)) (whole format ∷ [])
 
 benchPages : Bench
-benchPages = record
-  { pages = λ N B xs. playPages N B (formattedPages N B) xs
-  ; work = λ N B xs r. workPages N B (playPages N B (formattedPages N B) xs) r
-  ; seen = λ N B xs. seenPages N B (formattedPages N B) xs }
+benchPages = record {
+  pages = λ N B xs. playPages N B (formattedPages N B) xs;
+  work = λ N B xs r. workPages N B (playPages N B (formattedPages N B) xs) r;
+  seen = λ N B xs. seenPages N B (formattedPages N B) xs;
+}
 
 computed : failing benchPages 0 examples ≡ []
 unfolding evaluate workPages playPages seenPages formattedPages benchPages
 computed = refl
 
 -- ---- the bench over pages is the bench over the image
-
-and-true : (t : Bool) → t && true ≡ t
-and-true true = refl
-and-true false = refl
 
 work-pages : (N B : ℕ) (s : Image) (r : Request) → length s ≡ imageLength N B → workOf N B s r ≡ workPages N B (pagesOf N B s) r
 unfolding workOf workPages rightSize segmentsOf
@@ -97,7 +92,7 @@ seen-pages N B [] s h = refl
 seen-pages N B (x ∷ xs) s h =
     ap₂ {C = List Observed} (λ y ys. y ∷ ys) (observe-pages N B s x h)
     (seen-pages N B xs (outcomeOf N B s (x .allowance) (x .request) .image) (outcome-length N B s (x .allowance) (x .request) h)
-      ∙ ap (λ y. seenPages N B y xs) (outcome-pages N B s x h))
+    ∙ ap (λ y. seenPages N B y xs) (outcome-pages N B s x h))
 
 zeros : ℕ → ℕ → Image
 zeros N B = replicate (imageLength N B) 0

@@ -2,13 +2,13 @@
 use Prim.Native.Nat.{ℕ, zero, suc, _+_, _*_, _/_, _%_, _^_, min, _≤_, _<_}
 use mathlib.Core.Path.{_≡_, refl, sym, ap, ap₂, _∙_, subst}
 use mathlib.Core.Logic.{_⊎_, inl, inr}
-use mathlib.Core.Bool.{Bool, true, false, cond, _||_, _&&_, not}
+use mathlib.Core.Bool.{Bool, true, false, cond, _||_, _&&_, not, false≢true}
 use mathlib.Core.List.{List, [], _∷_, _++_}
 use native.Mathlib.Omega.{arith}
 use native.Mathlib.Nat.{min-le-right, mod-eq-of-lt}
 use native.Mathlib.Decide.{decLt}
 use lib.ListN.{length, getD, take, drop, set, length-replicate, getD-replicate, replicate-append-replicate}
-use lib.Bits.{and-comm, and-mask, and-le-l, and-le-r, and-self, and-zero-l, and-shr, and-step}
+use lib.Bits.{and-comm, and-mask, and-le-l, and-le-r, and-zero-l, and-shr, and-step}
 use lib.Dec.{eqb, leb}
 use borrow.Author.Tests.{eq-eqb, eqb-true}
 use Rattle.model.specs.Lists.{same, chunk}
@@ -25,10 +25,6 @@ clear-byte v = and-comm 255 v ∙ and-mask v 8
 
 pub clear-erased : (v : ℕ) → v < 256 → clear 255 v ≡ v
 clear-erased v h = clear-byte v ∙ mod-eq-of-lt h
-
-pub clear-self : (a : ℕ) → clear a a ≡ a
-unfolding clear
-clear-self a = and-self a
 
 pub clear-le : (a v : ℕ) → clear a v ≤ a
 unfolding clear
@@ -65,24 +61,23 @@ raised-get (a ∷ s) [] r j = absurd r
 raised-get (a ∷ s) (x ∷ t) r zero = r .0 .0
 raised-get (a ∷ s) (x ∷ t) r (suc j) = raised-get s t (r .1) j
 
-pub raised-le : (s t : List ℕ) → Raised s t → (j : ℕ) → getD s j 0 ≤ getD t j 0
-raised-le s t r j = within-le (getD s j 0) (getD t j 0) (raised-get s t r j)
-
 -- ---- bytes one bit apart have nothing between them
 
 abbrev pub OneBit : ℕ → ℕ → Type 0
 OneBit lo hi = (x : ℕ) → Between lo x hi → (x ≡ lo) ⊎ (x ≡ hi)
 
-allBelow : (ℕ → Bool) → ℕ → Bool
+-- a test of each of the numbers below n
+unfoldable pub allBelow : (ℕ → Bool) → ℕ → Bool
 allBelow f zero = true
 allBelow f (suc n) = f n && allBelow f n
 
 below : (f : ℕ → Bool) (n : ℕ) → allBelow f n ≡ true → (x : ℕ) → x < n → f x ≡ true
 unfolding allBelow
 below f zero t x h = absurd (omega arith)
-below f (suc n) t x h = elim (decLt x n)
-  [ yes l ↦ below f n (and-right (f n) (allBelow f n) t) x l
-  | no g ↦ (let e : n ≡ x = omega arith in rw (← e) (and-left (f n) (allBelow f n) t)) ]
+below f (suc n) t x h = elim (decLt x n) [
+  | yes l ↦ below f n (and-right (f n) (allBelow f n) t) x l
+  | no g ↦ (let e : n ≡ x = omega arith in rw (← e) (and-left (f n) (allBelow f n) t))
+]
 
 endsOnly : ℕ → ℕ → ℕ → Bool
 endsOnly lo hi x = not (eqb (clear lo x) lo && eqb (clear x hi) x) || (eqb x lo || eqb x hi)
@@ -96,7 +91,7 @@ one-bit lo hi h law x c =
     go : (a : Bool) → eqb x lo ≡ a → (b : Bool) → eqb x hi ≡ b → (a || b) ≡ true → (x ≡ lo) ⊎ (x ≡ hi)
     go true e b f t = inl (eqb-true x lo e)
     go false e true f t = inr (eqb-true x hi f)
-    go false e false f t = absurd (let y : _≡_ {A = ℕ} 0 1 = cc in omega arith)
+    go false e false f t = absurd (false≢true t)
 
 -- FF to 7F, 7F to 3F: a slot written, a segment opened
 pub begun-bit : OneBit writeBegun 255
@@ -182,17 +177,14 @@ bytes-set (y ∷ s) (suc i) x p h = (p .0, bytes-set s i x (p .1) h)
 pub same-eq : (a b : List ℕ) → same a b ≡ true → a ≡ b
 unfolding same
 same-eq [] [] h = refl
-same-eq [] (y ∷ b) h = absurd (let y : _≡_ {A = ℕ} 0 1 = cc in omega arith)
-same-eq (x ∷ a) [] h = absurd (let y : _≡_ {A = ℕ} 0 1 = cc in omega arith)
+same-eq [] (y ∷ b) h = absurd (false≢true h)
+same-eq (x ∷ a) [] h = absurd (false≢true h)
 same-eq (x ∷ a) (y ∷ b) h = ap₂ {C = List ℕ} (λ p q. p ∷ q) (eqb-true x y (and-left (eqb x y) (same a b) h)) (same-eq a b (and-right (eqb x y) (same a b) h))
 
 pub same-refl : (s : List ℕ) → same s s ≡ true
 unfolding same
 same-refl [] = refl
 same-refl (x ∷ s) = and-both (eqb x x) (same s s) (eq-eqb x x refl) (same-refl s)
-
-pub eq-same : (a b : List ℕ) → a ≡ b → same a b ≡ true
-eq-same a b e = ap (λ y. same a y) (sym e) ∙ same-refl a
 
 -- ---- erased bytes
 
@@ -226,9 +218,6 @@ pub blank-erased : (p : List ℕ) → isBlank p ≡ true → p ≡ erased (lengt
 unfolding isBlank erased
 blank-erased [] h = refl
 blank-erased (x ∷ p) h = ap₂ {C = List ℕ} (λ a b. a ∷ b) (eqb-true x 255 (and-left (eqb x 255) (isBlank p) h)) (blank-erased p (and-right (eqb x 255) (isBlank p) h))
-
-pub erased-is-blank : (p : List ℕ) → p ≡ erased (length p) → isBlank p ≡ true
-erased-is-blank p e = ap isBlank e ∙ erased-blank (length p)
 
 -- ---- an image of bytes stays one, through steps and cuts
 

@@ -1,14 +1,14 @@
 -- Laws of steps and cuts: an append, the first k steps, the length of the image.
 use Prim.Native.Nat.{ℕ, zero, suc, _+_, _-_, _*_, _≤_, _<_}
-use mathlib.Core.Path.{_≡_, refl, sym, ap, ap₂, _∙_}
+use mathlib.Core.Path.{_≡_, refl, ap, _∙_}
 use mathlib.Core.Logic.{_⊎_, inl, inr, ⊎-elim}
 use mathlib.Core.Bool.{Bool, true, false, cond, _&&_}
 use mathlib.Core.List.{List, [], _∷_, _++_}
 use native.Mathlib.Omega.{arith}
-use lib.ListN.{length, getD, take, drop, set, length-set, length-append, length-take, length-drop, length-replicate}
+use lib.ListN.{length, getD, take, length-set, length-append, length-take, length-drop, length-replicate}
 use lib.Dec.{leb, eqb}
 use borrow.Author.Tests.{leb-true, eqb-true}
-use Rattle.model.specs.Chip.{Image, Step, program, erase, clear, erased, withSegment, segmentBytes, step, run, runFirst, Between, Raised, Inside, Cut, leastSegments, mostSegments, leastSlots, mostSlots, imageLength, inRange, rightSize}
+use Rattle.model.specs.Chip.{Image, Step, program, erase, clear, erased, withSegment, segmentBytes, step, run, runFirst, Raised, Inside, Cut, leastSegments, mostSegments, leastSlots, mostSlots, imageLength, inRange, rightSize}
 use Rattle.model.specs.Laws.Lists.{and-left, and-right}
 
 -- ---- lists of steps
@@ -103,20 +103,21 @@ cut-append B (x ∷ xs) ys s t (inr (inr c)) = ⊎-elim (λ d. inl (inr (inr d))
 -- ---- a right size, taken apart
 
 pub record SizeFacts (N B : ℕ) (s : Image) : Type 0 where
-  pub segments : leastSegments ≤ N
+  pub two : 2 ≤ N
   pub most : N ≤ mostSegments
-  pub slots : leastSlots ≤ B
-  pub mostB : B ≤ mostSlots
+  pub slots : 2 ≤ B
+  pub mostB : B < 256
   pub whole : length s ≡ imageLength N B
 
 pub size-facts : (N B : ℕ) (s : Image) → rightSize N B s ≡ true → SizeFacts N B s
-unfolding rightSize inRange
+unfolding rightSize inRange leastSegments leastSlots mostSlots
 size-facts N B s z =
     let a = and-left (inRange N B) (eqb (length s) (imageLength N B)) z in
-    let b = and-right (leb leastSegments N) (leb N mostSegments && (leb leastSlots B && leb B mostSlots)) a in
-    let c = and-right (leb N mostSegments) (leb leastSlots B && leb B mostSlots) b in record
-    { segments = leb-true leastSegments N (and-left (leb leastSegments N) (leb N mostSegments && (leb leastSlots B && leb B mostSlots)) a)
-    ; most = leb-true N mostSegments (and-left (leb N mostSegments) (leb leastSlots B && leb B mostSlots) b)
-    ; slots = leb-true leastSlots B (and-left (leb leastSlots B) (leb B mostSlots) c)
-    ; mostB = leb-true B mostSlots (and-right (leb leastSlots B) (leb B mostSlots) c)
-    ; whole = eqb-true (length s) (imageLength N B) (and-right (inRange N B) (eqb (length s) (imageLength N B)) z) }
+    let b = and-right (leb 2 N) (leb N mostSegments && (leb 2 B && leb B 255)) a in
+    let c = and-right (leb N mostSegments) (leb 2 B && leb B 255) b in record {
+      two = leb-true 2 N (and-left (leb 2 N) (leb N mostSegments && (leb 2 B && leb B 255)) a);
+      most = leb-true N mostSegments (and-left (leb N mostSegments) (leb 2 B && leb B 255) b);
+      slots = leb-true 2 B (and-left (leb 2 B) (leb B 255) c);
+      mostB = omega (arith, leb-true B 255 (and-right (leb 2 B) (leb B 255) c));
+      whole = eqb-true (length s) (imageLength N B) (and-right (inRange N B) (eqb (length s) (imageLength N B)) z);
+    }

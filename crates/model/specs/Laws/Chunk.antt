@@ -3,7 +3,7 @@ use Prim.Native.Nat.{ℕ, zero, suc, _+_, _-_, _*_, _≤_, _<_}
 use mathlib.Core.Path.{_≡_, refl, sym, ap, _∙_}
 use mathlib.Core.List.{List, [], _∷_, _++_, append-assoc}
 use native.Mathlib.Omega.{arith}
-use lib.ListN.{length, getD, take, drop, set, replicate, length-take, length-drop, length-append, length-replicate, replicate-append-replicate}
+use lib.ListN.{length, getD, take, drop, set, replicate, length-take, length-drop, length-replicate, replicate-append-replicate}
 use lib.Seq.{take-set-lt, drop-set-lt, take-set-le, drop-set-add, getD-take, getD-drop, take-at, drop-at, length-take-le, take-add, drop-drop}
 use Rattle.model.specs.Lists.{chunk}
 
@@ -74,8 +74,14 @@ module _ {A : Type 0} (z : ℕ) where
       let lu : length (take z u) ≡ z = length-take-le z u (omega arith) in
       let f : u ≡ take z u ++ drop z u = sym (lib.ListN.take-append-drop z u) in
       let g : u ++ drop (z + m * z) s ≡ take z u ++ (drop z u ++ drop (z + m * z) s) = ap (λ (y : List A). y ++ drop (z + m * z) s) f ∙ append-assoc (take z u) (drop z u) (drop (z + m * z) s) in
-      rw (e, g, ← (drop-drop (m * z) z s), take-at (take z u) (drop z u ++ drop (m * z) (drop z s)) z lu, drop-at (take z u) (drop z u ++ drop (m * z) (drop z s)) z lu,
-          replace-front c m (drop z u) (drop z s) (omega arith) (omega (arith, length-drop z u)) (omega (arith, length-drop z s)))
+      rw (
+        e,
+        g,
+        ← (drop-drop (m * z) z s),
+        take-at (take z u) (drop z u ++ drop (m * z) (drop z s)) z lu,
+        drop-at (take z u) (drop z u ++ drop (m * z) (drop z s)) z lu,
+        replace-front c m (drop z u) (drop z s) (omega arith) (omega (arith, length-drop z u)) (omega (arith, length-drop z s)),
+      )
 
   pub chunk-replace : (c a m : ℕ) (u s : List A) → a + m ≤ c → length u ≡ m * z → (a + m) * z ≤ length s
       → chunk c z (take (a * z) s ++ (u ++ drop ((a + m) * z) s)) ≡ take a (chunk c z s) ++ (chunk m z u ++ drop (a + m) (chunk c z s))
@@ -88,15 +94,30 @@ module _ {A : Type 0} (z : ℕ) where
       let e : suc a * z ≡ z + a * z = omega arith in
       let f : (suc a + m) * z ≡ z + (a + m) * z = omega arith in
       let g : suc a + m ≡ suc (a + m) = omega arith in
-      rw (e, f, take-add z (a * z) s, append-assoc, ← (drop-drop ((a + m) * z) z s), chunk-cons c z (take z s) _ (length-take-le z s (omega arith)),
-          chunk-replace c a m u (drop z s) (omega arith) l (omega (arith, length-drop z s)), g, chunk-suc c z s)
+      rw (
+        e,
+        f,
+        take-add z (a * z) s,
+        append-assoc,
+        ← (drop-drop ((a + m) * z) z s),
+        chunk-cons c z (take z s) _ (length-take-le z s (omega arith)),
+        chunk-replace c a m u (drop z s) (omega arith) l (omega (arith, length-drop z s)),
+        g,
+        chunk-suc c z s,
+      )
 
 -- one element repeated
 pub chunk-replicate : {A : Type 0} (c z : ℕ) (x : A) → chunk c z (replicate (c * z) x) ≡ replicate c (replicate z x)
 unfolding chunk
 chunk-replicate zero z x = refl
 chunk-replicate (suc c) z x = let e : suc c * z ≡ z + c * z = omega arith in
-    rw (e, ← (replicate-append-replicate z (c * z) x), take-at (replicate z x) (replicate (c * z) x) z (length-replicate z x), drop-at (replicate z x) (replicate (c * z) x) z (length-replicate z x), chunk-replicate c z x)
+    rw (
+      e,
+      ← (replicate-append-replicate z (c * z) x),
+      take-at (replicate z x) (replicate (c * z) x) z (length-replicate z x),
+      drop-at (replicate z x) (replicate (c * z) x) z (length-replicate z x),
+      chunk-replicate c z x,
+    )
 
 -- a replaced part, by index
 pub replace-part : {A : Type 0} (l : List A) (i : ℕ) (x : A) → i < length l → take i l ++ ((x ∷ []) ++ drop (i + 1) l) ≡ set l i x

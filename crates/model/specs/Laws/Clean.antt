@@ -1,18 +1,18 @@
 -- Clean, taken apart: conditions 1 to 4 make the segments in use a ring, and 5 to 8 speak of the view.
-use Prim.Native.Nat.{ℕ, zero, suc, _+_, _-_, _*_, _/_, _%_, max, _≤_, _<_}
-use mathlib.Core.Path.{_≡_, refl, sym, ap, ap₂, _∙_, subst}
+use Prim.Native.Nat.{ℕ, zero, suc, _+_, _-_, _%_, _≤_, _<_}
+use mathlib.Core.Path.{_≡_, refl, ap}
 use mathlib.Core.Logic.{_≢_}
-use mathlib.Core.Bool.{Bool, true, false, cond, _&&_, not}
-use mathlib.Core.List.{List, [], _∷_, _++_}
+use mathlib.Core.Bool.{Bool, true, false, cond, not, true≢false}
+use mathlib.Core.List.{List}
 use native.Mathlib.Omega.{arith}
 use native.Mathlib.Nat.{mod-lt}
-use lib.ListN.{length, getD, set, length-set}
+use lib.ListN.{length, getD}
 use lib.Dec.{leb}
 use borrow.Author.Tests.{leb-true, le-leb, not-true}
 use Rattle.model.specs.Lists.{all}
-use Rattle.model.specs.State.{Segment, blank, invalid, inUse, isInUse, isInvalid, isOwing, numberAfter, slotsIn, nextNumber, topIndex, nextIndex, usedCount, firstNumber, slotsFrom, View, viewOf, someInUse, numbersFrom, consecutive, noneOwing, othersBlank, noneWrongOrTorn, blocksDistinct, emptySlotsLast, withinCapacity, conditions, isClean, isA, isB, isC, isD, caseA, caseB, caseC, caseD, State, clean, unfinished, damaged, stateOf}
-use Rattle.model.specs.Laws.Lists.{and-left, and-right, and-both, all-get, mod-inj}
-use Rattle.model.specs.Laws.Ring.{next-ge, numbers-get, number-in-use, only-numbered, Apart, apart-before, slots-length}
+use Rattle.model.specs.State.{Segment, blank, invalid, inUse, isInUse, isInvalid, numberAfter, slotsIn, nextNumber, nextIndex, usedCount, firstNumber, View, viewOf, someInUse, numbersFrom, consecutive, noneOwing, othersBlank, noneWrongOrTorn, blocksDistinct, emptySlotsLast, withinCapacity, conditions, isClean, isA, isB, isC, isD, caseA, caseB, caseC, caseD, clean, unfinished, damaged, stateOf}
+use Rattle.model.specs.Laws.Lists.{and-left, and-right, all-get}
+use Rattle.model.specs.Laws.Ring.{next-ge, numbers-get, only-numbered, Apart, apart-before, slots-length}
 
 -- conditions 1 to 4
 pub record RingFacts (N : ℕ) (l : List Segment) : Type 0 where
@@ -37,21 +37,23 @@ condition N B l i h b = all-get (λ t. t) (conditions N B l) i true h (unfold co
 pub clean-ring : (N B : ℕ) (l : List Segment) → length l ≡ N → isClean N B l ≡ true → RingFacts N l
 unfolding conditions someInUse consecutive
 clean-ring N B l e h =
-    let one : someInUse N l ≡ true = condition N B l 0 h (omega arith) in record
-    { size = e
-    ; some = leb-true 1 (usedCount l) (and-left (leb 1 (usedCount l)) (leb (usedCount l) (N - 1)) one)
-    ; spare = leb-true (usedCount l) (N - 1) (and-right (leb 1 (usedCount l)) (leb (usedCount l) (N - 1)) one)
-    ; chain = condition N B l 1 h (omega arith)
-    ; paid = condition N B l 2 h (omega arith)
-    ; others = condition N B l 3 h (omega arith) }
+    let one : someInUse N l ≡ true = condition N B l 0 h (omega arith) in record {
+      size = e;
+      some = leb-true 1 (usedCount l) (and-left (leb 1 (usedCount l)) (leb (usedCount l) (N - 1)) one);
+      spare = leb-true (usedCount l) (N - 1) (and-right (leb 1 (usedCount l)) (leb (usedCount l) (N - 1)) one);
+      chain = condition N B l 1 h (omega arith);
+      paid = condition N B l 2 h (omega arith);
+      others = condition N B l 3 h (omega arith);
+    }
 
 pub clean-slots : (N B : ℕ) (l : List Segment) → isClean N B l ≡ true → SlotFacts N B (viewOf N l)
 unfolding conditions
-clean-slots N B l h = record
-  { sound = condition N B l 4 h (omega arith)
-  ; once = condition N B l 5 h (omega arith)
-  ; last = condition N B l 6 h (omega arith)
-  ; within = condition N B l 7 h (omega arith) }
+clean-slots N B l h = record {
+  sound = condition N B l 4 h (omega arith);
+  once = condition N B l 5 h (omega arith);
+  last = condition N B l 6 h (omega arith);
+  within = condition N B l 7 h (omega arith);
+}
 
 -- and together again
 pub ring-clean : (N B : ℕ) (l : List Segment) → RingFacts N l → SlotFacts N B (viewOf N l) → isClean N B l ≡ true
@@ -65,11 +67,11 @@ state-clean N B l h = go (isClean N B l) (isA N B l) (isB N B l) (isC N B l) (is
   where
     go : (p a b c d : Bool) → cond p clean (cond a (unfinished caseA) (cond b (unfinished caseB) (cond c (unfinished caseC) (cond d (unfinished caseD) damaged)))) ≡ clean → p ≡ true
     go true a b c d q = refl
-    go false true b c d q = absurd (let y : _≡_ {A = ℕ} 0 1 = cc in omega arith)
-    go false false true c d q = absurd (let y : _≡_ {A = ℕ} 0 1 = cc in omega arith)
-    go false false false true d q = absurd (let y : _≡_ {A = ℕ} 0 1 = cc in omega arith)
-    go false false false false true q = absurd (let y : _≡_ {A = ℕ} 0 1 = cc in omega arith)
-    go false false false false false q = absurd (let y : _≡_ {A = ℕ} 0 1 = cc in omega arith)
+    go false true b c d q = cc
+    go false false true c d q = cc
+    go false false false true d q = cc
+    go false false false false true q = cc
+    go false false false false false q = cc
 
 pub clean-state : (N B : ℕ) (l : List Segment) → isClean N B l ≡ true → stateOf N B l ≡ clean
 unfolding stateOf
@@ -112,14 +114,13 @@ module _ (N : ℕ) (l : List Segment) (r : RingFacts N l) where
 
   pub next-blank : getD l (nextIndex N l) blank ≡ blank
   unfolding nextIndex othersBlank
-  next-blank = go (getD l (nextIndex N l) blank) next-unused (not-true (isInvalid (getD l (nextIndex N l) blank)) (all-get (λ x. not (isInvalid x)) l (nextIndex N l) blank (r .others) (index-inside (nextNumber l))))
+  next-blank = go (getD l (nextIndex N l) blank) next-unused
+      (not-true (isInvalid (getD l (nextIndex N l) blank)) (all-get (λ x. not (isInvalid x)) l (nextIndex N l) blank (r .others) (index-inside (nextNumber l))))
     where
-      no : true ≡ false → ⊥
-      no q = let y : _≡_ {A = ℕ} 0 1 = cc in omega arith
       go : (x : Segment) → isInUse x ≡ false → isInvalid x ≡ false → x ≡ blank
       go blank p q = refl
-      go invalid p q = absurd (no (unfold isInvalid in q))
-      go (inUse st n ks) p q = absurd (no (unfold isInUse in p))
+      go invalid p q = absurd (true≢false (unfold isInvalid in q))
+      go (inUse st n ks) p q = absurd (true≢false (unfold isInUse in p))
 
   -- the view has a row for each segment in use
   pub view-length : length (viewOf N l .slots) ≡ usedCount l

@@ -1,24 +1,21 @@
 -- What copying entries to a blank segment makes of it: in use and owing, with those entries in its first slots.
-use Prim.Native.Nat.{ℕ, zero, suc, _+_, _-_, _*_, _/_, _%_, _≤_, _<_}
-use mathlib.Core.Path.{_≡_, refl, sym, ap, ap₂, _∙_, subst}
-use mathlib.Core.Logic.{_≢_}
-use mathlib.Core.Bool.{Bool, true, false}
+use Prim.Native.Nat.{ℕ, zero, suc, _+_, _-_, _*_, _%_, _≤_, _<_}
+use mathlib.Core.Path.{_≡_, refl, sym, ap, ap₂, _∙_}
 use mathlib.Core.List.{List, [], _∷_, _++_, map}
 use native.Mathlib.Omega.{arith}
 use native.Mathlib.Nat.{mod-lt}
 use lib.ListN.{length, getD, drop, set, replicate, length-set}
-use lib.Seq.{set-set, getD-set-same, getD-set-other, sets, length-sets}
-use Rattle.model.specs.Chip.{Image, Page, Step, erased, run, mostSegments, numberLimit, imageLength, Cut}
+use lib.Seq.{getD-set-same, getD-set-other, sets, length-sets}
+use Rattle.model.specs.Chip.{Image, Page, Step, erased, run, mostSegments, numberLimit, imageLength}
 use Rattle.model.specs.Header.{erasePending, headerPage, oldIndex}
 use Rattle.model.specs.Slot.{Slot, empty, slotPage, slotOf, Entry, holding}
 use Rattle.model.specs.State.{Segment, blank, inUse, segmentOf, segmentsOf}
 use Rattle.model.specs.Steps.{onPage, headerAt, slotAt, writeSlot, copyEntries, copyOut, copied}
 use Rattle.model.specs.Laws.Chip.{run-append, run-length}
-use Rattle.model.specs.Laws.Pages.{InPage}
-use Rattle.model.specs.Laws.Segments.{partOf, part-size, Only, only-refl, only-trans, only-segments, only-run, page-in-segment, InSegment, in-segment-append, part-run}
 use Rattle.model.specs.Laws.HeaderPage.{compactionHeader, pendingHeader, copy-out-pages, compaction-in-page, pending-in-page, begunPage, compaction-run, pending-run}
 use Rattle.model.specs.Laws.SlotPage.{Valid, slot-live, write-in-page, write-run}
-use Rattle.model.specs.Laws.Effects.{blank-page, blank-slots, headed, header-run, pending-status, pending-old, place, few}
+use Rattle.model.specs.Laws.Segments.{partOf, part-size, Only, only-trans, only-segments, only-run, page-in-segment, InSegment, in-segment-append, part-run}
+use Rattle.model.specs.Laws.Effects.{blank-page, blank-slots, headed, header-run, pending-status, pending-old, few}
 
 abbrev pub Valids : List Entry → Type 0
 Valids [] = Unit {0}
@@ -46,13 +43,13 @@ entry-slots : (es : List Entry) (qs : List Page) (c : ℕ) → Valids es → map
 unfolding entryPages copied holding
 entry-slots [] qs c v e h = let z : c - 0 ≡ c = omega arith in rw z e
 entry-slots (x ∷ es) [] zero v e h = absurd (omega arith)
-entry-slots (x ∷ es) [] (suc c) v e h = absurd (let y : _≡_ {A = ℕ} 0 1 = cc in omega arith)
+entry-slots (x ∷ es) [] (suc c) v e h = cc
 entry-slots (x ∷ es) (q ∷ qs) zero v e h = absurd (omega arith)
 entry-slots (x ∷ es) (q ∷ qs) (suc c) v e h =
     let d : suc c - suc (length es) ≡ c - length es = omega arith in
     let r : map slotOf qs ≡ replicate c empty = ap (λ (y : List Slot). drop 1 y) e in
     rw d (ap (λ y. map slotOf y) (sets-cons (slotPage (x .block) (x .contents)) qs 0 (entryPages es))
-      ∙ ap₂ {C = List Slot} (λ a b. a ∷ b) (slot-live (x .block) (x .contents) (v .0 .number) (v .0 .short)) (entry-slots es qs c (v .1) r (omega arith)))
+    ∙ ap₂ {C = List Slot} (λ a b. a ∷ b) (slot-live (x .block) (x .contents) (v .0 .number) (v .0 .short)) (entry-slots es qs c (v .1) r (omega arith)))
 
 -- ---- the copying
 
@@ -78,11 +75,12 @@ module _ (N B : ℕ) (two : 2 ≤ N) (n : ℕ) where
       let t = run B xs s in
       let page = slotPage (x .block) (x .contents) in
       let here : partOf N B i t ≡ set (partOf N B i s) (suc j) page =
-            part-run N B i (suc j) target (omega arith) (writeSlot (x .block) (x .contents)) (write-in-page (x .block) (x .contents) (v .0 .short)) s z
-            ∙ ap (λ (y : Page). set (partOf N B i s) (suc j) y) (ap (λ (y : Page). run B (writeSlot (x .block) (x .contents)) y) (e (suc j) (omega arith) (omega arith)) ∙ write-run B (x .block) (x .contents) (v .0)) in
+      part-run N B i (suc j) target (omega arith) (writeSlot (x .block) (x .contents)) (write-in-page (x .block) (x .contents) (v .0 .short)) s z
+      ∙ ap (λ (y : Page). set (partOf N B i s) (suc j) y)
+      (ap (λ (y : Page). run B (writeSlot (x .block) (x .contents)) y) (e (suc j) (omega arith) (omega arith)) ∙ write-run B (x .block) (x .contents) (v .0)) in
       ap (λ y. partOf N B i y) (run-append B xs (copyEntries N B n (suc j) es) s)
       ∙ (copy-run es (suc j) t (run-length B xs s ∙ z) (v .1) (omega arith)
-          (λ q lo hi. ap (λ (y : List Page). getD y q []) here ∙ (getD-set-other (partOf N B i s) (suc j) q page [] (λ w. omega arith) ∙ e q (omega arith) (omega arith)))
+      (λ q lo hi. ap (λ (y : List Page). getD y q []) here ∙ (getD-set-other (partOf N B i s) (suc j) q page [] (λ w. omega arith) ∙ e q (omega arith) (omega arith)))
       ∙ ap (λ (y : List Page). sets y (suc (suc j)) (entryPages es)) here)
 
 module _ (N B : ℕ) (two : 2 ≤ N) (most : N ≤ mostSegments) (mostB : B < 256) (s : Image) (z : length s ≡ imageLength N B) (o n : ℕ) (below : n < numberLimit N)
@@ -105,11 +103,14 @@ module _ (N B : ℕ) (two : 2 ≤ N) (most : N ≤ mostSegments) (mostB : B < 25
   z1 : length s1 ≡ imageLength N B
   z1 = run-length B begin s ∙ z
 
-  begun : (Only N B i s s1) × (partOf N B i s1 ≡ set ps 0 (begunPage N B (o % N)))
+  -- the header begun
+  pub begun : (Only N B i s s1) × (partOf N B i s1 ≡ set ps 0 (begunPage N B (o % N)))
   begun =
-      let r = header-run N B two most mostB s z n below (compactionHeader N B n (o % N)) (compaction-in-page N B n (o % N)) in
-      (r .0, r .1 ∙ ap (λ (y : Page). set ps 0 y) (ap (λ (y : Page). run B (compactionHeader N B n (o % N)) y) (blank-page N B two s z i 0 (target N B two n) (omega arith) free)
-        ∙ compaction-run N B n (few N B two most mostB s z n below) mostB (o % N) old-byte))
+      let r = header-run N B two most mostB s z n below (compactionHeader N B n (o % N)) (compaction-in-page N B n (o % N)) in (
+        r .0,
+        r .1 ∙ ap (λ (y : Page). set ps 0 y) (ap (λ (y : Page). run B (compactionHeader N B n (o % N)) y) (blank-page N B two s z i 0 (target N B two n) (omega arith) free)
+            ∙ compaction-run N B n (few N B two most mostB s z n below) mostB (o % N) old-byte),
+      )
 
   abbrev copying : List Step
   copying = copyEntries N B n 0 es
@@ -121,11 +122,12 @@ module _ (N B : ℕ) (two : 2 ≤ N) (most : N ≤ mostSegments) (mostB : B < 25
   z2 = run-length B copying s1 ∙ z1
 
   copied-pages : (Only N B i s1 s2) × (partOf N B i s2 ≡ sets (set ps 0 (begunPage N B (o % N))) 1 (entryPages es))
-  copied-pages =
-      (only-run N B i copying s1 (target N B two n) (copy-in-segment N B two n es 0 valid (omega arith))
-      , copy-run N B two n es 0 s1 z1 valid (omega arith) (λ q lo hi. ap (λ (y : List Page). getD y q []) (begun .1)
-          ∙ (getD-set-other ps 0 q (begunPage N B (o % N)) [] (λ w. omega arith) ∙ blank-page N B two s z i q (target N B two n) (omega arith) free))
-        ∙ ap (λ (y : List Page). sets y 1 (entryPages es)) (begun .1))
+  copied-pages = (
+    only-run N B i copying s1 (target N B two n) (copy-in-segment N B two n es 0 valid (omega arith)),
+    copy-run N B two n es 0 s1 z1 valid (omega arith) (λ q lo hi. ap (λ (y : List Page). getD y q []) (begun .1)
+        ∙ (getD-set-other ps 0 q (begunPage N B (o % N)) [] (λ w. omega arith) ∙ blank-page N B two s z i q (target N B two n) (omega arith) free))
+        ∙ ap (λ (y : List Page). sets y 1 (entryPages es)) (begun .1),
+  )
 
   abbrev pages2 : List Page
   pages2 = sets (set ps 0 (begunPage N B (o % N))) 1 (entryPages es)
@@ -148,10 +150,12 @@ module _ (N B : ℕ) (two : 2 ≤ N) (most : N ≤ mostSegments) (mostB : B < 25
 
   finished : (Only N B i s2 s3) × (partOf N B i s3 ≡ set pages2 0 (headerPage N B erasePending n (oldIndex N i erasePending)))
   finished =
-      let r = header-run N B two most mostB s2 z2 n below (pendingHeader N B n (o % N)) (pending-in-page N B n (o % N)) in
-      (r .0, r .1 ∙ ap (λ (y : List Page). set y 0 (run B (pendingHeader N B n (o % N)) (getD y 0 []))) (copied-pages .1)
-        ∙ ap (λ (y : Page). set pages2 0 y) (ap (λ (y : Page). run B (pendingHeader N B n (o % N)) y) head2 ∙ (pending-run N B n (o % N)
-          ∙ ap (λ (y : ℕ). headerPage N B erasePending n y) (ring ∙ sym (pending-old N i)))))
+      let r = header-run N B two most mostB s2 z2 n below (pendingHeader N B n (o % N)) (pending-in-page N B n (o % N)) in (
+        r .0,
+        r .1 ∙ ap (λ (y : List Page). set y 0 (run B (pendingHeader N B n (o % N)) (getD y 0 []))) (copied-pages .1)
+            ∙ ap (λ (y : Page). set pages2 0 y) (ap (λ (y : Page). run B (pendingHeader N B n (o % N)) y) head2 ∙ (pending-run N B n (o % N)
+            ∙ ap (λ (y : ℕ). headerPage N B erasePending n y) (ring ∙ sym (pending-old N i)))),
+      )
 
   the-run : run B (copyOut N B o n es) s ≡ s3
   the-run = ap (λ (y : List Step). run B y s) (copy-out-pages N B o n es) ∙ (run-append B begin (copying ++ finish) s ∙ run-append B copying finish s1)
@@ -161,5 +165,6 @@ module _ (N B : ℕ) (two : 2 ≤ N) (most : N ≤ mostSegments) (mostB : B < 25
       ap (λ y. segmentsOf N B y) the-run
       ∙ (only-segments N B i s s3 (only-trans N B i s s2 s3 (only-trans N B i s s1 s2 (begun .0) (copied-pages .0)) (finished .0))
       ∙ ap (λ (y : Segment). set (segmentsOf N B s) i y) (ap (λ y. segmentOf N B i y) (finished .1)
-        ∙ (headed N B erasePending n pages2 most pending-status below (omega (arith, length-sets (set ps 0 (begunPage N B (o % N))) 1 (entryPages es), length-set ps 0 (begunPage N B (o % N)), part-size N B i s (target N B two n)))
-        ∙ ap (λ y. inUse erasePending n y) slots2)))
+      ∙ (headed N B erasePending n pages2 most pending-status below
+      (omega (arith, length-sets (set ps 0 (begunPage N B (o % N))) 1 (entryPages es), length-set ps 0 (begunPage N B (o % N)), part-size N B i s (target N B two n)))
+      ∙ ap (λ y. inUse erasePending n y) slots2)))

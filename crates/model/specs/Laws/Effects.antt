@@ -1,28 +1,25 @@
 -- What each list of steps makes of the segments: a slot written or marked, a segment opened, copied to, settled or erased.
-use Prim.Native.Nat.{ℕ, zero, suc, _+_, _-_, _*_, _/_, _%_, _≤_, _<_}
-use mathlib.Core.Path.{_≡_, refl, sym, ap, ap₂, _∙_, subst}
-use mathlib.Core.Logic.{_⊎_, inl, inr}
-use mathlib.Core.Bool.{Bool, true, false, cond, _&&_}
-use mathlib.Core.List.{List, [], _∷_, _++_, map}
+use Prim.Native.Nat.{ℕ, zero, suc, _+_, _-_, _*_, _%_, _≤_, _<_}
+use mathlib.Core.Path.{_≡_, refl, sym, ap, ap₂, _∙_}
+use mathlib.Core.Bool.{Bool, true, false, cond, false≢true}
+use mathlib.Core.List.{List, [], _∷_, map}
 use native.Mathlib.Omega.{arith}
 use native.Mathlib.Nat.{mod-lt}
-use lib.ListN.{length, getD, take, drop, set, replicate, length-set, length-append, length-drop, length-replicate}
-use lib.Seq.{set-set, getD-set-same, getD-set-other, getD-drop, sets, sets-eq, length-sets}
-use lib.Dec.{eqb}
+use lib.ListN.{length, getD, drop, set, replicate, length-drop}
+use lib.Seq.{getD-drop}
 use Rattle.model.specs.Lists.{all, chunk}
-use Rattle.model.specs.Chip.{Image, Page, Bytes, Step, program, erase, erased, withSegment, step, run, mostSegments, numberLimit, imageLength, Cut}
+use Rattle.model.specs.Chip.{Image, Page, Step, erase, erased, withSegment, step, run, mostSegments, numberLimit, imageLength, Cut}
 use Rattle.model.specs.Header.{opened, erasePending, compacted, noOldSegment, statusInUse, headerPage, headerStatus, headerNumber, oldIndex, headerInUse, isBlank, allBlank}
-use Rattle.model.specs.Slot.{Slot, empty, torn, dead, live, slotPage, slotOf, Entry, holding, mostContents}
-use Rattle.model.specs.State.{Segment, blank, invalid, inUse, segmentOf, segmentsOf, isInUse, slotsIn, withSlot, Place}
-use Rattle.model.specs.Steps.{onPage, headerAt, slotAt, writeSlot, markDead, markPlace, openSegment, copyEntries, copyOut, settle, copied}
-use Rattle.model.specs.Laws.Lists.{false-true, and-left, and-right, all-get, map-set, map-length, map-get}
-use Rattle.model.specs.Laws.Chip.{run-append, run-length, step-length}
+use Rattle.model.specs.Slot.{Slot, empty, dead, live, slotOf}
+use Rattle.model.specs.State.{Segment, blank, invalid, inUse, segmentOf, segmentsOf, numberAfter, withSlot}
+use Rattle.model.specs.Steps.{onPage, headerAt, slotAt, writeSlot, markDead, openSegment, settle}
+use Rattle.model.specs.Laws.Lists.{all-get, map-set, map-length, map-get}
 use Rattle.model.specs.Laws.Chunk.{chunk-replicate}
-use Rattle.model.specs.Laws.Pages.{InPage}
-use Rattle.model.specs.Laws.Segments.{parts, partOf, parts-length, part-size, page-size, segment-at, segments-length, Only, only-segments, only-refl, only-trans, only-part, page-in-segment, only-run, only-cut, InSegment, in-segment-append, part-run, part-cut, replaced-parts, erased-image}
 use Rattle.model.specs.Laws.Bytes.{blank-erased, erased-blank, erased-length}
-use Rattle.model.specs.Laws.HeaderPage.{header-status, header-number, header-in-use, number-fits, in-use-facts, InUseFacts, openingHeader, compactionHeader, pendingHeader, settledHeader, open-segment-page, copy-out-pages, settle-page, opening-in-page, compaction-in-page, pending-in-page, settled-in-page, opening-run, compaction-run, pending-run, begunPage, settled-run, erased-unused}
+use Rattle.model.specs.Laws.Pages.{InPage}
+use Rattle.model.specs.Laws.HeaderPage.{header-status, header-number, header-in-use, number-fits, in-use-facts, openingHeader, settledHeader, open-segment-page, settle-page, opening-in-page, settled-in-page, opening-run, settled-run, erased-unused}
 use Rattle.model.specs.Laws.SlotPage.{Valid, slot-live, erased-empty, empty-erased, Markable, marked-dead, mark-in-page, write-in-page, write-run}
+use Rattle.model.specs.Laws.Segments.{partOf, part-size, page-size, segment-at, Only, only-segments, only-part, page-in-segment, only-run, only-cut, part-run, part-cut, replaced-parts, erased-image}
 
 -- ---- a segment, taken apart
 
@@ -44,8 +41,22 @@ in-use-parts N B i ps st n ks e = go (headerInUse N B i (getD ps 0 [])) refl (al
         → cond t (inUse (headerStatus (getD ps 0 [])) (headerNumber (getD ps 0 [])) (map slotOf (drop 1 ps))) (cond b blank invalid) ≡ inUse st n ks → InUseParts N B i ps st n ks
     go true h b q = let r = in-use-only (headerStatus (getD ps 0 [])) (headerNumber (getD ps 0 [])) (map slotOf (drop 1 ps)) st n ks q in
         record { header = h; status = r .0; number = r .1; slots = r .2 }
-    go false h true q = absurd (let y : _≡_ {A = ℕ} 0 1 = cc in omega arith)
-    go false h false q = absurd (let y : _≡_ {A = ℕ} 0 1 = cc in omega arith)
+    go false h true q = absurd (false≢true cc)
+    go false h false q = absurd (false≢true cc)
+
+-- a segment in use has a number below the limit, and the index of that number
+pub numbered-at : (N B : ℕ) (s : Image) (i n : ℕ) → i < N → numberAfter (getD (segmentsOf N B s) i blank) ≡ suc n → (n % N ≡ i) × (n < numberLimit N)
+unfolding numberAfter
+numbered-at N B s i n h e = go (getD (segmentsOf N B s) i blank) refl e
+  where
+    go : (x : Segment) → getD (segmentsOf N B s) i blank ≡ x → numberAfter x ≡ suc n → (n % N ≡ i) × (n < numberLimit N)
+    go blank q d = absurd (omega arith)
+    go invalid q d = absurd (omega arith)
+    go (inUse st m ks) q d =
+        let u = in-use-parts N B i (partOf N B i s) st m ks (sym (segment-at N B i s h) ∙ q) in
+        let f = in-use-facts N B i (getD (partOf N B i s) 0 []) (u .header) in
+        let w : headerNumber (getD (partOf N B i s) 0 []) ≡ n = u .number ∙ omega arith in
+        (rw w at (f .place), rw w at (f .below))
 
 -- a header in use
 pub segment-in-use : (N B i : ℕ) (ps : List Page) → headerInUse N B i (getD ps 0 []) ≡ true
@@ -59,8 +70,8 @@ blank-parts N B i ps e = go (headerInUse N B i (getD ps 0 [])) (allBlank ps) ref
   where
     go : (t b : Bool) → allBlank ps ≡ b → cond t (inUse (headerStatus (getD ps 0 [])) (headerNumber (getD ps 0 [])) (map slotOf (drop 1 ps))) (cond b blank invalid) ≡ blank → allBlank ps ≡ true
     go t true h q = h
-    go true false h q = absurd (let y : _≡_ {A = ℕ} 0 1 = cc in omega arith)
-    go false false h q = absurd (let y : _≡_ {A = ℕ} 0 1 = cc in omega arith)
+    go true false h q = cc
+    go false false h q = cc
 
 pages-blank : (c : ℕ) → all isBlank (replicate c (erased 256)) ≡ true
 unfolding all
@@ -75,6 +86,7 @@ slot-part N B i j ps x h = rw (header ps, h, slots ps)
     header : (qs : List Page) → getD (set qs (suc j) x) 0 [] ≡ getD qs 0 []
     header [] = refl
     header (q ∷ qs) = refl
+
     slots : (qs : List Page) → map slotOf (drop 1 (set qs (suc j) x)) ≡ set (map slotOf (drop 1 qs)) j (slotOf x)
     slots [] = refl
     slots (q ∷ qs) = map-set slotOf qs j x
@@ -138,7 +150,7 @@ module _ (N B : ℕ) (two : 2 ≤ N) (s : Image) (z : length s ≡ imageLength N
         → segmentsOf N B u ≡ set (segmentsOf N B s) (k % N) (withSlot j (slotOf x) (getD (segmentsOf N B s) (k % N) blank))
     slot-only xs p u o x e = only-segments N B (k % N) s u o
         ∙ ap (λ (y : Segment). set (segmentsOf N B s) (k % N) y) (ap (λ y. segmentOf N B (k % N) y) e
-          ∙ (slot-part N B (k % N) j (partOf N B (k % N) s) x (used-parts .header) ∙ ap (λ y. withSlot j (slotOf x) y) (sym (segment-at N B (k % N) s (index k)))))
+        ∙ (slot-part N B (k % N) j (partOf N B (k % N) s) x (used-parts .header) ∙ ap (λ y. withSlot j (slotOf x) y) (sym (segment-at N B (k % N) s (index k)))))
 
     pub slot-run : (xs : List Step) → InPage xs
         → segmentsOf N B (run B (onPage (slotAt N B k j) xs) s) ≡ set (segmentsOf N B s) (k % N) (withSlot j (slotOf (run B xs slotPageAt)) (getD (segmentsOf N B s) (k % N) blank))
@@ -166,7 +178,7 @@ module _ (N B : ℕ) (two : 2 ≤ N) (s : Image) (z : length s ≡ imageLength N
         → segmentsOf N B (run B (onPage (slotAt N B k j) (writeSlot b c)) s) ≡ set (segmentsOf N B s) (k % N) (withSlot j (live b c) (getD (segmentsOf N B s) (k % N) blank))
     write-effect b c v e = slot-run (writeSlot b c) (write-in-page b c (v .short))
         ∙ ap (λ (y : Slot). set (segmentsOf N B s) (k % N) (withSlot j y (getD (segmentsOf N B s) (k % N) blank)))
-          (ap (λ (y : Page). slotOf (run B (writeSlot b c) y)) (empty-page e) ∙ (ap slotOf (write-run B b c v) ∙ slot-live b c (v .number) (v .short)))
+        (ap (λ (y : Page). slotOf (run B (writeSlot b c) y)) (empty-page e) ∙ (ap slotOf (write-run B b c v) ∙ slot-live b c (v .number) (v .short)))
 
   -- ---- an erase
 
@@ -178,9 +190,11 @@ module _ (N B : ℕ) (two : 2 ≤ N) (s : Image) (z : length s ≡ imageLength N
     where
       pages : chunk (B + 1) 256 (erased ((B + 1) * 256)) ≡ replicate (B + 1) (erased 256)
       pages = unfold erased in chunk-replicate (B + 1) 256 255
+
       first : (c : ℕ) → 0 < c → getD (replicate c (erased 256)) 0 [] ≡ erased 256
       first zero q = absurd (omega arith)
       first (suc c) q = refl
+
       is-blank : segmentOf N B i (replicate (B + 1) (erased 256)) ≡ blank
       is-blank = unfold segmentOf allBlank in rw (first (B + 1) (omega arith), erased-unused N B i, pages-blank (B + 1))
 
@@ -248,12 +262,13 @@ module _ (N B : ℕ) (two : 2 ≤ N) (most : N ≤ mostSegments) (mostB : B < 25
       let ps = partOf N B (n % N) s in
       let r = header-run (openingHeader N B n) (opening-in-page N B n) in
       let page : run B (openingHeader N B n) (getD ps 0 []) ≡ headerPage N B opened n (oldIndex N (n % N) opened) =
-            ap (λ (y : Page). run B (openingHeader N B n) y) (blank-page N B two s z (n % N) 0 place (omega arith) e) ∙ (opening-run N B n few mostB ∙ ap (λ (y : ℕ). headerPage N B opened n y) (sym (open-old N (n % N)))) in
+      ap (λ (y : Page). run B (openingHeader N B n) y) (blank-page N B two s z (n % N) 0 place (omega arith) e)
+      ∙ (opening-run N B n few mostB ∙ ap (λ (y : ℕ). headerPage N B opened n y) (sym (open-old N (n % N)))) in
       ap (λ (y : List Step). segmentsOf N B (run B y s)) (open-segment-page N B n)
       ∙ (only-segments N B (n % N) s (run B (onPage (headerAt N B n) (openingHeader N B n)) s) (r .0)
       ∙ ap (λ (y : Segment). set (segmentsOf N B s) (n % N) y)
-        (ap (λ y. segmentOf N B (n % N) y) (r .1 ∙ ap (λ (y : Page). set ps 0 y) page)
-        ∙ (headed N B opened n ps most open-status below (omega (arith, part-size N B (n % N) s place)) ∙ ap (λ y. inUse opened n y) (blank-slots N B two s z (n % N) place e))))
+      (ap (λ y. segmentOf N B (n % N) y) (r .1 ∙ ap (λ (y : Page). set ps 0 y) page)
+      ∙ (headed N B opened n ps most open-status below (omega (arith, part-size N B (n % N) s place)) ∙ ap (λ y. inUse opened n y) (blank-slots N B two s z (n % N) place e))))
 
   -- the old segment erased: an owing segment settled
   pub settle-effect : (ks : List Slot) → getD (segmentsOf N B s) (n % N) blank ≡ inUse erasePending n ks → segmentsOf N B (run B (settle N B n) s) ≡ set (segmentsOf N B s) (n % N) (inUse compacted n ks)
@@ -264,11 +279,11 @@ module _ (N B : ℕ) (two : 2 ≤ N) (most : N ≤ mostSegments) (mostB : B < 25
       let f = in-use-facts N B (n % N) h (u .header) in
       let r = header-run settledHeader settled-in-page in
       let page : h ≡ headerPage N B erasePending n ((n % N + 1) % N) =
-            f .page ∙ ap₂ (λ a b. headerPage N B a b (oldIndex N (n % N) a)) (u .status) (u .number) ∙ ap (λ (y : ℕ). headerPage N B erasePending n y) (pending-old N (n % N)) in
+      f .page ∙ ap₂ (λ a b. headerPage N B a b (oldIndex N (n % N) a)) (u .status) (u .number) ∙ ap (λ (y : ℕ). headerPage N B erasePending n y) (pending-old N (n % N)) in
       let page2 : run B settledHeader h ≡ headerPage N B compacted n (oldIndex N (n % N) compacted) =
-            ap (λ (y : Page). run B settledHeader y) page ∙ (settled-run N B n ((n % N + 1) % N) ∙ ap (λ (y : ℕ). headerPage N B compacted n y) (sym (compacted-old N (n % N)))) in
+      ap (λ (y : Page). run B settledHeader y) page ∙ (settled-run N B n ((n % N + 1) % N) ∙ ap (λ (y : ℕ). headerPage N B compacted n y) (sym (compacted-old N (n % N)))) in
       ap (λ (y : List Step). segmentsOf N B (run B y s)) (settle-page N B n)
       ∙ (only-segments N B (n % N) s (run B (onPage (headerAt N B n) settledHeader) s) (r .0)
       ∙ ap (λ (y : Segment). set (segmentsOf N B s) (n % N) y)
-        (ap (λ y. segmentOf N B (n % N) y) (r .1 ∙ ap (λ (y : Page). set ps 0 y) page2)
-        ∙ (headed N B compacted n ps most compacted-status below (omega (arith, part-size N B (n % N) s place)) ∙ ap (λ y. inUse compacted n y) (u .slots))))
+      (ap (λ y. segmentOf N B (n % N) y) (r .1 ∙ ap (λ (y : Page). set ps 0 y) page2)
+      ∙ (headed N B compacted n ps most compacted-status below (omega (arith, part-size N B (n % N) s place)) ∙ ap (λ y. inUse compacted n y) (u .slots))))

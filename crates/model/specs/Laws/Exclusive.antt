@@ -1,48 +1,26 @@
 -- The state's five cases exclude each other: clean, (a), (b), (c) and (d). So the order in which stateOf asks does not matter.
-use Prim.Native.Nat.{ℕ, zero, suc, _+_, _-_, _*_, _%_, _≤_, _<_}
-use mathlib.Core.Path.{_≡_, refl, sym, ap, ap₂, _∙_, subst}
+use Prim.Native.Nat.{ℕ, _+_, _-_, _%_, _≤_, _<_}
+use mathlib.Core.Path.{_≡_, refl, sym, ap, _∙_}
 use mathlib.Core.Logic.{_≢_}
-use mathlib.Core.Bool.{Bool, true, false, cond, _||_, _&&_, not}
-use mathlib.Core.List.{List, [], _∷_, _++_, flatten}
+use mathlib.Core.Bool.{Bool, true, false, _||_, _&&_, not, false≢true}
+use mathlib.Core.List.{List, [], _∷_}
 use native.Mathlib.Omega.{arith}
-use native.Mathlib.Nat.{mod-lt}
 use native.Mathlib.Decide.{decLt}
 use lib.ListN.{length, getD, set, length-set, List·getD-eq-default}
 use lib.Dec.{ltb, eqb}
-use borrow.Author.Tests.{not-true, eqb-true, eqb-false, ltb-true}
+use borrow.Author.Tests.{eqb-true, ltb-true}
 use Rattle.model.specs.Lists.{all, count}
-use Rattle.model.specs.Slot.{Slot, empty, torn, dead, wrong, live, isEmpty, isTorn, isWrong, Entry, entryOf}
-use Rattle.model.specs.State.{Segment, blank, invalid, inUse, isInUse, isInvalid, isOwing, numberAfter, slotsIn, nextNumber, topIndex, nextIndex, topSlots, usedCount, firstNumber, slotsFrom, View, viewOf, entriesIn, noneOwing, othersBlank, noneWrongOrTorn, holds, distinct, blocksDistinct, isClean, nextBlanked, isA, settled, topSettled, isB, withSlot, filled, lastSlot, lastKind, tornMarked, isC, blockIn, lastBlock, copies, older, olderMarked, isD}
-use Rattle.model.specs.Laws.Lists.{and-left, and-right, false-true, all-row, all-get, all-fails}
-use Rattle.model.specs.Laws.Ring.{next-kept, used-kept, get-kept, slots-kept, slots-get, slots-length}
-use Rattle.model.specs.Laws.Clean.{RingFacts, SlotFacts, clean-ring, clean-slots, used-next}
+use Rattle.model.specs.Slot.{Slot, empty, torn, dead, wrong, live, isTorn, isWrong, entryOf}
+use Rattle.model.specs.State.{Segment, blank, invalid, inUse, isInUse, isInvalid, isOwing, numberAfter, slotsIn, nextNumber, topIndex, nextIndex, topSlots, usedCount, firstNumber, viewOf, entriesIn, noneOwing, othersBlank, noneWrongOrTorn, blocksDistinct, isClean, nextBlanked, isA, topSettled, isB, withSlot, lastSlot, lastKind, tornMarked, isC, blockIn, lastBlock, copies, older, olderMarked, isD}
+use Rattle.model.specs.Laws.Lists.{and-left, and-right, all-row, all-fails}
+use Rattle.model.specs.Laws.Tables.{distinct-copies}
+use Rattle.model.specs.Laws.Ring.{next-kept, get-kept, slots-get}
+use Rattle.model.specs.Laws.Clean.{clean-ring, clean-slots, used-next}
 use Rattle.model.specs.Laws.View.{withSlot-owing, erased-unused-view}
 
 -- a test that a default element fails passes only inside the list
 pub inside : {A : Type 0} (f : A → Bool) (l : List A) (i : ℕ) (d : A) → f d ≡ false → f (getD l i d) ≡ true → i < length l
-inside f l i d e h = elim (decLt i (length l)) [ yes p ↦ p | no p ↦ absurd (false-true (sym e ∙ (ap f (sym (List·getD-eq-default l d (omega arith))) ∙ h))) ]
-
--- ---- entries with one block number
-
-copies-absent : (b : ℕ) (t : List Entry) → holds b t ≡ false → copies b t ≡ 0
-unfolding copies count holds
-copies-absent b [] q = refl
-copies-absent b (e ∷ t) q = go (eqb b (e .block)) q (λ r. copies-absent b t r)
-  where
-    go : (x : Bool) → x || holds b t ≡ false → (holds b t ≡ false → copies b t ≡ 0) → cond x (suc (count (λ e. eqb b (e .block)) t)) (count (λ e. eqb b (e .block)) t) ≡ 0
-    go true r ih = absurd (false-true (sym r))
-    go false r ih = unfold copies in ih r
-
-pub copies-once : (b : ℕ) (t : List Entry) → distinct t ≡ true → copies b t ≤ 1
-unfolding copies count distinct
-copies-once b [] q = omega arith
-copies-once b (e ∷ t) q = go (eqb b (e .block)) refl (copies-once b t (and-right (not (holds (e .block) t)) (distinct t) q))
-  where
-    alone : holds (e .block) t ≡ false
-    alone = not-true (holds (e .block) t) (and-left (not (holds (e .block) t)) (distinct t) (unfold distinct in q))
-    go : (x : Bool) → eqb b (e .block) ≡ x → copies b t ≤ 1 → cond x (suc (count (λ e. eqb b (e .block)) t)) (count (λ e. eqb b (e .block)) t) ≤ 1
-    go true y ih = let z : count (λ e. eqb b (e .block)) t ≡ 0 = (unfold copies in copies-absent b t (ap (λ (z : ℕ). holds z t) (eqb-true b (e .block) y) ∙ alone)) in omega arith
-    go false y ih = unfold copies in ih
+inside f l i d e h = elim (decLt i (length l)) [ yes p ↦ p | no p ↦ absurd (false≢true (sym e ∙ (ap f (sym (List·getD-eq-default l d (omega arith))) ∙ h))) ]
 
 -- ---- what is never clean
 
@@ -51,13 +29,13 @@ module _ (N B : ℕ) (l : List Segment) (size : length l ≡ N) (h : isClean N B
   unfolding noneOwing
   no-owing i o =
       let b = inside isOwing l i blank (unfold isOwing in refl) o in
-      false-true (sym (all-fails (λ x. not (isOwing x)) l i blank b (ap not o)) ∙ clean-ring N B l size h .paid)
+      false≢true (sym (all-fails (λ x. not (isOwing x)) l i blank b (ap not o)) ∙ clean-ring N B l size h .paid)
 
   pub no-invalid : (i : ℕ) → isInvalid (getD l i blank) ≡ true → ⊥
   unfolding othersBlank
   no-invalid i o =
       let b = inside isInvalid l i blank (unfold isInvalid in refl) o in
-      false-true (sym (all-fails (λ x. not (isInvalid x)) l i blank b (ap not o)) ∙ clean-ring N B l size h .others)
+      false≢true (sym (all-fails (λ x. not (isInvalid x)) l i blank b (ap not o)) ∙ clean-ring N B l size h .others)
 
   -- the top's slots are the view's last row
   pub top-row : topSlots N l ≡ getD (viewOf N l .slots) (usedCount l - 1) []
@@ -73,9 +51,9 @@ module _ (N B : ℕ) (l : List Segment) (size : length l ≡ N) (h : isClean N B
       let r = clean-ring N B l size h in
       let rows = viewOf N l .slots in
       let top : all (λ k. not (isWrong k || isTorn k)) (topSlots N l) ≡ true =
-            ap (λ (y : List Slot). all (λ k. not (isWrong k || isTorn k)) y) top-row ∙ all-row (λ k. not (isWrong k || isTorn k)) rows (usedCount l - 1) (clean-slots N B l h .sound) in
+      ap (λ (y : List Slot). all (λ k. not (isWrong k || isTorn k)) y) top-row ∙ all-row (λ k. not (isWrong k || isTorn k)) rows (usedCount l - 1) (clean-slots N B l h .sound) in
       let b = inside isTorn (topSlots N l) (lastSlot N l) empty (unfold isTorn in refl) t in
-      false-true (sym (all-fails (λ k. not (isWrong k || isTorn k)) (topSlots N l) (lastSlot N l) empty b (bad (getD (topSlots N l) (lastSlot N l) empty) t)) ∙ top)
+      false≢true (sym (all-fails (λ k. not (isWrong k || isTorn k)) (topSlots N l) (lastSlot N l) empty b (bad (getD (topSlots N l) (lastSlot N l) empty) t)) ∙ top)
     where
       bad : (k : Slot) → isTorn k ≡ true → not (isWrong k || isTorn k) ≡ false
       bad k q = go (isWrong k) (isTorn k) q
@@ -86,7 +64,7 @@ module _ (N B : ℕ) (l : List Segment) (size : length l ≡ N) (h : isClean N B
 
   pub no-twins : (b : ℕ) → copies b (entriesIn (viewOf N l)) ≤ 1
   unfolding blocksDistinct
-  no-twins b = copies-once b (entriesIn (viewOf N l)) (clean-slots N B l h .once)
+  no-twins b = distinct-copies (entriesIn (viewOf N l)) (clean-slots N B l h .once) b
 
 -- ---- of five tests that exclude each other, at most one holds
 
@@ -130,18 +108,19 @@ module _ (N B : ℕ) (l : List Segment) (size : length l ≡ N) where
   d-facts : isD N B l ≡ true → (0 < lastBlock N l) × (copies (lastBlock N l) (entriesIn (viewOf N l)) ≡ 2) × (isClean N B (olderMarked N l) ≡ true)
   unfolding isD
   d-facts h =
-      let r = and-right (ltb 0 (lastBlock N l)) (eqb (copies (lastBlock N l) (entriesIn (viewOf N l))) 2 && isClean N B (olderMarked N l)) h in
-      (ltb-true 0 (lastBlock N l) (and-left (ltb 0 (lastBlock N l)) (eqb (copies (lastBlock N l) (entriesIn (viewOf N l))) 2 && isClean N B (olderMarked N l)) h)
-      , eqb-true (copies (lastBlock N l) (entriesIn (viewOf N l))) 2 (and-left (eqb (copies (lastBlock N l) (entriesIn (viewOf N l))) 2) (isClean N B (olderMarked N l)) r)
-      , and-right (eqb (copies (lastBlock N l) (entriesIn (viewOf N l))) 2) (isClean N B (olderMarked N l)) r)
+      let r = and-right (ltb 0 (lastBlock N l)) (eqb (copies (lastBlock N l) (entriesIn (viewOf N l))) 2 && isClean N B (olderMarked N l)) h in (
+        ltb-true 0 (lastBlock N l) (and-left (ltb 0 (lastBlock N l)) (eqb (copies (lastBlock N l) (entriesIn (viewOf N l))) 2 && isClean N B (olderMarked N l)) h),
+        eqb-true (copies (lastBlock N l) (entriesIn (viewOf N l))) 2 (and-left (eqb (copies (lastBlock N l) (entriesIn (viewOf N l))) 2) (isClean N B (olderMarked N l)) r),
+        and-right (eqb (copies (lastBlock N l) (entriesIn (viewOf N l))) 2) (isClean N B (olderMarked N l)) r,
+      )
 
   -- a segment that is neither in use nor blank may as well be blank: the top and the view are the same
   module _ (i : isInvalid (getD l (nextIndex N l) blank) ≡ true) where
     unused : (x : Segment) → isInvalid x ≡ true → (isInUse x ≡ false) × (numberAfter blank ≡ numberAfter x) × (slotsIn blank ≡ slotsIn x)
     unfolding isInvalid isInUse numberAfter slotsIn
-    unused blank q = absurd (false-true q)
+    unused blank q = absurd (false≢true q)
     unused invalid q = (refl, refl, refl)
-    unused (inUse st n ks) q = absurd (false-true q)
+    unused (inUse st n ks) q = absurd (false≢true q)
 
     blanked-next : nextNumber (nextBlanked N l) ≡ nextNumber l
     unfolding nextBlanked
@@ -155,7 +134,7 @@ module _ (N B : ℕ) (l : List Segment) (size : length l ≡ N) where
     unfolding lastKind lastSlot topSlots topIndex
     blanked-last =
         let e : slotsIn (getD (nextBlanked N l) ((nextNumber l - 1) % N) blank) ≡ slotsIn (getD l ((nextNumber l - 1) % N) blank) =
-              (unfold nextBlanked in get-kept slotsIn l (nextIndex N l) blank (unused (getD l (nextIndex N l) blank) i .2) ((nextNumber l - 1) % N)) in
+        (unfold nextBlanked in get-kept slotsIn l (nextIndex N l) blank (unused (getD l (nextIndex N l) blank) i .2) ((nextNumber l - 1) % N)) in
         rw (blanked-next, e)
 
   clean-a : isClean N B l ≡ true → isA N B l ≡ true → ⊥
@@ -183,7 +162,7 @@ module _ (N B : ℕ) (l : List Segment) (size : length l ≡ N) where
           paid : (x : Segment) → isInvalid x ≡ true → isOwing blank ≡ isOwing x
           paid blank q = refl
           paid invalid q = unfold isOwing in refl
-          paid (inUse st n ks) q = absurd (false-true (unfold isInvalid in q))
+          paid (inUse st n ks) q = absurd (false≢true (unfold isInvalid in q))
 
   a-c : isA N B l ≡ true → isC N B l ≡ true → ⊥
   a-c h k = no-torn N B (nextBlanked N l) blanked-size (a-facts h .1) (ap isTorn (blanked-last (a-facts h .0)) ∙ c-facts k .0)
@@ -214,7 +193,7 @@ module _ (N B : ℕ) (l : List Segment) (size : length l ≡ N) where
       none torn q = unfold entryOf blockIn in refl
       none dead q = unfold entryOf blockIn in refl
       none wrong q = unfold entryOf blockIn in refl
-      none (live b c) q = absurd (false-true (unfold isTorn in q))
+      none (live b c) q = absurd (false≢true (unfold isTorn in q))
 
   -- at most one of the five holds
   pub exclusive : count (λ t. t) (isClean N B l ∷ isA N B l ∷ isB N B l ∷ isC N B l ∷ isD N B l ∷ []) ≤ 1

@@ -2,23 +2,21 @@
 use Prim.Native.Nat.{ℕ, suc, _+_, _-_, _/_, _%_, _≤_, _<_}
 use mathlib.Core.Path.{_≡_, refl, sym, ap, _∙_}
 use mathlib.Core.Bool.{true, false, _&&_}
-use mathlib.Core.List.{List, [], _∷_, _++_, append-assoc}
+use mathlib.Core.List.{List, [], _∷_, _++_}
 use native.Mathlib.Omega.{arith}
 use native.Mathlib.Nat.{mod-eq-of-lt, mod-add-mod, add-mod-right}
-use lib.ListN.{length, getD, drop, length-append, List·getD-append}
-use lib.Seq.{getD-drop}
+use lib.ListN.{getD}
 use lib.Dec.{ltb, eqb}
 use borrow.Author.Tests.{eq-eqb, ne-eqb, eqb-true, lt-ltb, ltb-true}
 use Rattle.model.specs.Lists.{same}
-use Rattle.model.specs.Chip.{Page, Bytes, Step, program, erased, clear, step, run, mostSegments, numberLimit}
-use Rattle.model.specs.Header.{numberBytes, inverted, value, openingBegun, opened, compactionBegun, erasePending, compacted, noOldSegment}
-use Rattle.model.specs.Header.{statusInUse, headerPage, headerStatus, headerNumber, oldIndex, headerInUse}
+use Rattle.model.specs.Chip.{Page, Step, program, erased, clear, step, run, mostSegments, numberLimit}
+use Rattle.model.specs.Header.{numberBytes, inverted, value, openingBegun, opened, compactionBegun, erasePending, compacted, noOldSegment, statusInUse, headerPage, headerStatus, headerNumber, oldIndex, headerInUse}
 use Rattle.model.specs.Slot.{Entry}
 use Rattle.model.specs.Steps.{programs, programPart, onPage, headerAt, openSegment, copyEntries, copyOut, settle}
-use Rattle.model.specs.Laws.AnyByte
-use Rattle.model.specs.Laws.Pages.{InPage, in-append, in-part}
 use Rattle.model.specs.Laws.Lists.{and-left, and-right}
-use Rattle.model.specs.Laws.Bytes.{clear-byte, number-value, number-length, number-bytes, inverted-length, inverted-bytes, bytes-append, same-eq, same-refl, erased-get, erased-bytes}
+use Rattle.model.specs.Laws.Bytes.{clear-byte, number-value, same-eq, same-refl, erased-get}
+use Rattle.model.specs.Laws.Pages.{InPage, in-append, in-part}
+use Rattle.model.specs.Laws.AnyByte
 
 -- ---- the fields of an encoded page
 
@@ -29,16 +27,6 @@ header-status N B st n old = refl
 pub header-number : (N B st n old : ℕ) → n < 4294967296 → headerNumber (headerPage N B st n old) ≡ n
 unfolding headerNumber headerPage numberBytes
 header-number N B st n old h = number-value n h
-
-pub header-length : (N B st n old : ℕ) → length (headerPage N B st n old) ≡ 256
-unfolding headerPage numberBytes inverted erased
-header-length N B st n old = refl
-
-pub header-bytes : (N B st n old : ℕ) → N < 256 → B < 256 → st < 256 → old < 256 → Bytes (headerPage N B st n old)
-unfolding headerPage
-header-bytes N B st n old hN hB hs ho =
-    (omega arith, (omega arith, (omega arith, (omega arith, (omega arith, (hs, (hB, (hN,
-    bytes-append (numberBytes n) _ (number-bytes n) (bytes-append (inverted (numberBytes n)) _ (inverted-bytes (numberBytes n)) (ho, erased-bytes 239))))))))))
 
 -- numbers below the limit fit in four bytes
 pub number-fits : (N n : ℕ) → N ≤ mostSegments → n < numberLimit N → n < 4294967296
@@ -54,21 +42,9 @@ header-in-use N B st n hN hs hn =
     let h = headerPage N B st n (oldIndex N (n % N) st) in
     rw (header-status N B st n (oldIndex N (n % N) st), header-number N B st n (oldIndex N (n % N) st) (number-fits N n hN hn), hs, lt-ltb n (numberLimit N) hn, eq-eqb (n % N) (n % N) refl) (same-refl h)
 
-pub opened-in-use : (N B n : ℕ) → N ≤ mostSegments → n < numberLimit N → headerInUse N B (n % N) (headerPage N B opened n noOldSegment) ≡ true
-unfolding statusInUse oldIndex
-opened-in-use N B n hN hn = header-in-use N B opened n hN refl hn
-
 -- the old segment of number o, when all but one are in use: its index comes after the target's
-old-index : (N o n : ℕ) → suc n ≡ o + N → (n % N + 1) % N ≡ o % N
+pub old-index : (N o n : ℕ) → suc n ≡ o + N → (n % N + 1) % N ≡ o % N
 old-index N o n e = let q : n + 1 ≡ o + N = omega arith in mod-add-mod n N 1 ∙ (ap (λ (y : ℕ). y % N) q ∙ add-mod-right o N)
-
-pub pending-in-use : (N B o n : ℕ) → N ≤ mostSegments → n < numberLimit N → suc n ≡ o + N → headerInUse N B (n % N) (headerPage N B erasePending n (o % N)) ≡ true
-unfolding statusInUse oldIndex
-pending-in-use N B o n hN hn e = rw (old-index N o n e) at (header-in-use N B erasePending n hN refl hn)
-
-pub compacted-in-use : (N B o n : ℕ) → N ≤ mostSegments → n < numberLimit N → suc n ≡ o + N → headerInUse N B (n % N) (headerPage N B compacted n (o % N)) ≡ true
-unfolding statusInUse oldIndex
-compacted-in-use N B o n hN hn e = rw (old-index N o n e) at (header-in-use N B compacted n hN refl hn)
 
 pub record InUseFacts (N B i : ℕ) (h : Page) : Type 0 where
   pub status : statusInUse (headerStatus h) ≡ true
@@ -85,14 +61,12 @@ in-use-facts N B i h e =
     let p = headerPage N B (headerStatus h) (headerNumber h) (oldIndex N i (headerStatus h)) in
     let e1 = and-right a (b && (c && same h p)) e in
     let e2 = and-right b (c && same h p) e1 in
-    record
-      { status = and-left a (b && (c && same h p)) e
-      ; below = ltb-true (headerNumber h) (numberLimit N) (and-left b (c && same h p) e1)
-      ; place = eqb-true (headerNumber h % N) i (and-left c (same h p) e2)
-      ; page = same-eq h p (and-right c (same h p) e2) }
-
-pub in-use-length : (N B i : ℕ) (h : Page) → headerInUse N B i h ≡ true → length h ≡ 256
-in-use-length N B i h e = ap length (in-use-facts N B i h e .page) ∙ header-length N B (headerStatus h) (headerNumber h) (oldIndex N i (headerStatus h))
+    record {
+      status = and-left a (b && (c && same h p)) e;
+      below = ltb-true (headerNumber h) (numberLimit N) (and-left b (c && same h p) e1);
+      place = eqb-true (headerNumber h % N) i (and-left c (same h p) e2);
+      page = same-eq h p (and-right c (same h p) e2);
+    }
 
 -- ---- not in use
 
@@ -130,27 +104,13 @@ unfolding headerPage numberBytes inverted
 number-raised N B i h n hN hn u low =
     let f = in-use-facts N B i h u in
     same-number (headerNumber h) n (number-fits N (headerNumber h) hN (f .below)) hn
-      (digit _ (n % 256) (getD h 8 0) (getD h 12 0) (omega arith) (omega arith) (get 8) (get 12) (low 0 (omega arith)) (low 4 (omega arith)))
-      (digit _ (n / 256 % 256) (getD h 9 0) (getD h 13 0) (omega arith) (omega arith) (get 9) (get 13) (low 1 (omega arith)) (low 5 (omega arith)))
-      (digit _ (n / 256 / 256 % 256) (getD h 10 0) (getD h 14 0) (omega arith) (omega arith) (get 10) (get 14) (low 2 (omega arith)) (low 6 (omega arith)))
-      (digit _ (n / 256 / 256 / 256 % 256) (getD h 11 0) (getD h 15 0) (omega arith) (omega arith) (get 11) (get 15) (low 3 (omega arith)) (low 7 (omega arith)))
+    (digit _ (n % 256) (getD h 8 0) (getD h 12 0) (omega arith) (omega arith) (get 8) (get 12) (low 0 (omega arith)) (low 4 (omega arith)))
+    (digit _ (n / 256 % 256) (getD h 9 0) (getD h 13 0) (omega arith) (omega arith) (get 9) (get 13) (low 1 (omega arith)) (low 5 (omega arith)))
+    (digit _ (n / 256 / 256 % 256) (getD h 10 0) (getD h 14 0) (omega arith) (omega arith) (get 10) (get 14) (low 2 (omega arith)) (low 6 (omega arith)))
+    (digit _ (n / 256 / 256 / 256 % 256) (getD h 11 0) (getD h 15 0) (omega arith) (omega arith) (get 11) (get 15) (low 3 (omega arith)) (low 7 (omega arith)))
   where
     get : (k : ℕ) → getD h k 0 ≡ getD (headerPage N B (headerStatus h) (headerNumber h) (oldIndex N i (headerStatus h))) k 0
     get k = ap (λ y. getD y k 0) (in-use-facts N B i h u .page)
-
--- a header in use, none of whose bytes is less than that of another in use, has the same number
-pub number-kept : (N B i j : ℕ) (s h : Page) → N ≤ mostSegments → headerInUse N B i s ≡ true → headerInUse N B j h ≡ true
-    → ((k : ℕ) → getD s k 0 ≤ getD h k 0) → headerNumber h ≡ headerNumber s
-unfolding headerPage
-number-kept N B i j s h hN us uh low =
-    let f = in-use-facts N B i s us in
-    number-raised N B j h (headerNumber s) hN (number-fits N (headerNumber s) hN (f .below)) uh (λ k l. omega (arith, low (8 + k), byte k l))
-  where
-    byte : (k : ℕ) → k < 8 → getD s (8 + k) 0 ≡ getD (numberBytes (headerNumber s) ++ inverted (numberBytes (headerNumber s))) k 0
-    byte k l = let v = numberBytes (headerNumber s) in
-        sym (getD-drop 8 s k 0) ∙ ap (λ y. getD (drop 8 y) k 0) (in-use-facts N B i s us .page)
-        ∙ ap (λ y. getD y k 0) (sym (append-assoc v (inverted v) (oldIndex N i (headerStatus s) ∷ erased 239)))
-        ∙ List·getD-append (v ++ inverted v) (oldIndex N i (headerStatus s) ∷ erased 239) 0 k (omega (arith, length-append v (inverted v), number-length (headerNumber s), inverted-length v))
 
 -- ---- the steps within a header page
 
@@ -184,9 +144,11 @@ settle-page N B n = refl
 
 pub opening-in-page : (N B n : ℕ) → InPage (openingHeader N B n)
 unfolding openingHeader
-opening-in-page N B n = let h = headerPage N B opened n noOldSegment in
-    (omega arith, in-append (programPart h 0 5) _ (in-part h 0 5 (omega arith)) (in-append (programPart h 6 2) _ (in-part h 6 2 (omega arith))
-    (in-append (programPart h 8 8) _ (in-part h 8 8 (omega arith)) (omega arith, tt))))
+opening-in-page N B n = let h = headerPage N B opened n noOldSegment in (
+  omega arith,
+  in-append (programPart h 0 5) _ (in-part h 0 5 (omega arith)) (in-append (programPart h 6 2) _ (in-part h 6 2 (omega arith))
+      (in-append (programPart h 8 8) _ (in-part h 8 8 (omega arith)) (omega arith, tt))),
+)
 
 pub compaction-in-page : (N B n old : ℕ) → InPage (compactionHeader N B n old)
 unfolding compactionHeader
@@ -249,9 +211,6 @@ module _ (N B n : ℕ) (hN : N < 256) (hB : B < 256) where
         let eB : B % 256 ≡ B = mod-eq-of-lt hB in
         let eo : old % 256 ≡ old = mod-eq-of-lt ho in
         ap (λ y. run B (compactionHeader N B n old) y) front ∙ simp (clear-byte, eN, eB, eo)
-
-    pub compaction-pending-run : run B (pendingHeader N B n old) (run B (compactionHeader N B n old) (erased 256)) ≡ headerPage N B erasePending n old
-    compaction-pending-run = ap (λ y. run B (pendingHeader N B n old) y) compaction-run ∙ pending-run N B n old
 
 pub settled-run : (N B n old : ℕ) → run B settledHeader (headerPage N B erasePending n old) ≡ headerPage N B compacted n old
 unfolding settledHeader run step headerPage

@@ -7,14 +7,13 @@ use native.Mathlib.Omega.{arith}
 use lib.ListN.{length, getD, set}
 use lib.Seq.{set-getD, getD-set-same}
 use Rattle.model.specs.Chip.{Image, Page, Step, program, clear, erased, step, run, Cut}
-use Rattle.model.specs.Header.{openingBegun, opened, compactionBegun, erasePending, compacted, noOldSegment, headerPage}
+use Rattle.model.specs.Header.{openingBegun, opened, compactionBegun, erasePending, noOldSegment, headerPage}
 use Rattle.model.specs.Slot.{writeBegun, written, slotPage, empty, torn, live, slotOf}
-use Rattle.model.specs.Steps.{programPart, writeSlot, markDead}
-use Rattle.model.specs.Laws.Chip.{run-append, cut-append, cut-length}
-use Rattle.model.specs.Laws.Bytes.{clear-erased, erased-get, erased-length, OneBit, begun-bit, written-bit, live-dead-bit, torn-dead-bit, compaction-begun-bit, erase-pending-bit, compacted-bit}
+use Rattle.model.specs.Steps.{programPart, writeSlot}
+use Rattle.model.specs.Laws.Chip.{run-append, cut-append}
+use Rattle.model.specs.Laws.Bytes.{clear-erased, erased-get, erased-length, OneBit, begun-bit, written-bit, live-dead-bit, torn-dead-bit, compaction-begun-bit, erase-pending-bit}
 use Rattle.model.specs.Laws.Programs.{Spares, spares-append, spares-part, spared-run, spared-cut}
-use Rattle.model.specs.Laws.HeaderPage.{erased-bit-6, openingHeader, compactionHeader, pendingHeader, settledHeader, begunPage}
-use Rattle.model.specs.Laws.HeaderPage.{opening-run, pending-run, settled-run, clear-begun, clear-compaction, clear-pending}
+use Rattle.model.specs.Laws.HeaderPage.{erased-bit-6, openingHeader, compactionHeader, pendingHeader, begunPage, opening-run, pending-run, clear-begun, clear-compaction}
 use Rattle.model.specs.Laws.SlotPage.{Valid, slot-live, erased-empty, begun-torn, writeMiddle, write-parts, write-run, Markable, clear-live, clear-torn, clear-written}
 
 -- ---- a status of one bit, programmed first or last
@@ -33,9 +32,9 @@ pub begin-cut : (B at v : ℕ) (xs : List Step) (s t : Image) → at < length s 
 unfolding run step
 begin-cut B at v xs s t l one p c =
     ⊎-elim
-      (λ d. ⊎-elim (λ e. inl e) (λ e. inr (ap (λ y. getD y at 0) e ∙ new)) (one-bit-cut B at v s t one d))
-      (λ d. inr (spared-cut B at xs (run B (program at v ∷ []) s) t p d ∙ new))
-      (cut-append B (program at v ∷ []) xs s t c)
+    (λ d. ⊎-elim (λ e. inl e) (λ e. inr (ap (λ y. getD y at 0) e ∙ new)) (one-bit-cut B at v s t one d))
+    (λ d. inr (spared-cut B at xs (run B (program at v ∷ []) s) t p d ∙ new))
+    (cut-append B (program at v ∷ []) xs s t c)
   where
     new : getD (run B (program at v ∷ []) s) at 0 ≡ clear (getD s at 0) v
     new = getD-set-same s at (clear (getD s at 0) v) 0 l
@@ -45,9 +44,9 @@ pub finish-cut : (B at v : ℕ) (xs : List Step) (s t : Image) → OneBit (clear
     → Cut B (xs ++ (program at v ∷ [])) s t → (getD t at 0 ≡ getD s at 0) ⊎ (t ≡ run B (xs ++ (program at v ∷ [])) s)
 finish-cut B at v xs s t one p c =
     ⊎-elim
-      (λ d. inl (spared-cut B at xs s t p d))
-      (λ d. ⊎-elim (λ e. inl (ap (λ y. getD y at 0) e ∙ kept)) (λ e. inr (e ∙ sym (run-append B xs (program at v ∷ []) s))) (one-bit-cut B at v (run B xs s) t (rw kept one) d))
-      (cut-append B xs (program at v ∷ []) s t c)
+    (λ d. inl (spared-cut B at xs s t p d))
+    (λ d. ⊎-elim (λ e. inl (ap (λ y. getD y at 0) e ∙ kept)) (λ e. inr (e ∙ sym (run-append B xs (program at v ∷ []) s))) (one-bit-cut B at v (run B xs s) t (rw kept one) d))
+    (cut-append B xs (program at v ∷ []) s t c)
   where
     kept : getD (run B xs s) at 0 ≡ getD s at 0
     kept = spared-run B at xs s p
@@ -59,9 +58,9 @@ pub status-cut : (B at v w : ℕ) (xs : List Step) (s t : Image) → at < length
 unfolding run step
 status-cut B at v w xs s t l one two p c =
     ⊎-elim
-      (λ d. ⊎-elim (λ e. inl e) (λ e. inr (inl (ap (λ y. getD y at 0) e ∙ new))) (one-bit-cut B at v s t one d))
-      (λ d. inr (⊎-elim (λ e. inl (e ∙ new)) (λ e. inr e) (finish-cut B at w xs (set s at (clear (getD s at 0) v)) t (rw new two) p d)))
-      (cut-append B (program at v ∷ []) (xs ++ (program at w ∷ [])) s t c)
+    (λ d. ⊎-elim (λ e. inl e) (λ e. inr (inl (ap (λ y. getD y at 0) e ∙ new))) (one-bit-cut B at v s t one d))
+    (λ d. inr (⊎-elim (λ e. inl (e ∙ new)) (λ e. inr e) (finish-cut B at w xs (set s at (clear (getD s at 0) v)) t (rw new two) p d)))
+    (cut-append B (program at v ∷ []) (xs ++ (program at w ∷ [])) s t c)
   where
     new : getD (set s at (clear (getD s at 0) v)) at 0 ≡ clear (getD s at 0) v
     new = getD-set-same s at (clear (getD s at 0) v) 0 l
@@ -80,11 +79,8 @@ write-cut B b c u v k =
     let e : getD (erased 256) 0 0 ≡ 255 = erased-get 256 0 (omega arith) in
     let f : clear 255 writeBegun ≡ writeBegun = clear-erased writeBegun (omega arith) in
     ⊎-elim (λ h. inl h) (λ h. inr (⊎-elim (λ g. inl (rw (e, f) at g)) (λ g. inr (g ∙ (ap (λ y. run B y (erased 256)) (sym (write-parts b c)) ∙ write-run B b c v))) h))
-      (status-cut B 0 writeBegun written (writeMiddle b c) (erased 256) u (omega (arith, erased-length 256)) (rw (e, f) begun-bit) (rw (e, f, clear-written) written-bit)
-        (write-spares b c) (rw (write-parts b c) at k))
-
-pub write-cut-length : (B b : ℕ) (c : List ℕ) (u : Page) → Cut B (writeSlot b c) (erased 256) u → length u ≡ 256
-write-cut-length B b c u k = cut-length B (writeSlot b c) (erased 256) u k ∙ erased-length 256
+    (status-cut B 0 writeBegun written (writeMiddle b c) (erased 256) u (omega (arith, erased-length 256)) (rw (e, f) begun-bit) (rw (e, f, clear-written) written-bit)
+    (write-spares b c) (rw (write-parts b c) at k))
 
 pub write-cut-kind : (B b : ℕ) (c : List ℕ) (u : Page) → Valid b c → Cut B (writeSlot b c) (erased 256) u
     → (slotOf u ≡ empty) ⊎ ((slotOf u ≡ torn) ⊎ (slotOf u ≡ live b c))
@@ -92,10 +88,9 @@ write-cut-kind B b c u v k =
     ⊎-elim (λ e. inl (ap slotOf e ∙ erased-empty)) (λ h. inr (⊎-elim (λ e. inl (begun-torn u e)) (λ e. inr (ap slotOf e ∙ slot-live b c (v .number) (v .short))) h)) (write-cut B b c u v k)
 
 -- marked or not
-pub mark-cut : (B : ℕ) (p u : Page) → Markable (getD p 0 0) → Cut B markDead p u → (u ≡ p) ⊎ (u ≡ run B markDead p)
-unfolding markDead
-mark-cut B p u (inl e) k = one-bit-cut B 0 0xDF p u (rw (e, clear-live) live-dead-bit) k
-mark-cut B p u (inr e) k = one-bit-cut B 0 0xDF p u (rw (e, clear-torn) torn-dead-bit) k
+pub mark-bit : (a : ℕ) → Markable a → OneBit (clear a 0xDF) a
+mark-bit a (inl e) = rw (e, clear-live) live-dead-bit
+mark-bit a (inr e) = rw (e, clear-torn) torn-dead-bit
 
 -- ---- a header: finished, or bit 6 of its status is still set
 
@@ -111,7 +106,7 @@ opening-spares : (N B n : ℕ) → Spares 5 (openingMiddle N B n)
 unfolding openingMiddle
 opening-spares N B n = let h = headerPage N B opened n noOldSegment in
     spares-append 5 (programPart h 0 5) _ (spares-part 5 h 0 5 (inr (omega arith)))
-      (spares-append 5 (programPart h 6 2) _ (spares-part 5 h 6 2 (inl (omega arith))) (spares-part 5 h 8 8 (inl (omega arith))))
+    (spares-append 5 (programPart h 6 2) _ (spares-part 5 h 6 2 (inl (omega arith))) (spares-part 5 h 8 8 (inl (omega arith))))
 
 bit-6 : (st : ℕ) (u : Page) → getD u 5 0 ≡ st → st / 64 % 2 ≡ 1 → getD u 5 0 / 64 % 2 ≡ 1
 bit-6 st u e h = rw e h
@@ -128,9 +123,9 @@ opening-cut N B n u hN hB k =
     let e = erased-status in
     let f : clear 255 openingBegun ≡ openingBegun = clear-erased openingBegun (omega arith) in
     ⊎-elim (λ h. inl (unwritten u h))
-      (λ h. ⊎-elim (λ g. inl (bit-6 openingBegun u (rw (e, f) at g) refl)) (λ g. inr (g ∙ (ap (λ y. run B y (erased 256)) (sym (opening-parts N B n)) ∙ opening-run N B n hN hB))) h)
-      (status-cut B 5 openingBegun opened (openingMiddle N B n) (erased 256) u (omega (arith, erased-length 256)) (rw (e, f) begun-bit) (rw (e, f, clear-begun) written-bit)
-        (opening-spares N B n) (rw (opening-parts N B n) at k))
+    (λ h. ⊎-elim (λ g. inl (bit-6 openingBegun u (rw (e, f) at g) refl)) (λ g. inr (g ∙ (ap (λ y. run B y (erased 256)) (sym (opening-parts N B n)) ∙ opening-run N B n hN hB))) h)
+    (status-cut B 5 openingBegun opened (openingMiddle N B n) (erased 256) u (omega (arith, erased-length 256)) (rw (e, f) begun-bit) (rw (e, f, clear-begun) written-bit)
+    (opening-spares N B n) (rw (opening-parts N B n) at k))
 
 -- while slots are copied it is never finished
 pub compaction-cut : (N B n old : ℕ) (u : Page) → Cut B (compactionHeader N B n old) (erased 256) u → getD u 5 0 / 64 % 2 ≡ 1
@@ -140,9 +135,9 @@ compaction-cut N B n old u k =
     let e = erased-status in
     let f : clear 255 compactionBegun ≡ compactionBegun = clear-erased compactionBegun (omega arith) in
     ⊎-elim (λ g. unwritten u g) (λ g. bit-6 compactionBegun u (rw (e, f) at g) refl)
-      (begin-cut B 5 compactionBegun (programPart h 0 5 ++ (programPart h 6 2 ++ programPart h 16 1)) (erased 256) u (omega (arith, erased-length 256)) (rw (e, f) compaction-begun-bit)
-        (spares-append 5 (programPart h 0 5) _ (spares-part 5 h 0 5 (inr (omega arith)))
-          (spares-append 5 (programPart h 6 2) _ (spares-part 5 h 6 2 (inl (omega arith))) (spares-part 5 h 16 1 (inl (omega arith))))) k)
+    (begin-cut B 5 compactionBegun (programPart h 0 5 ++ (programPart h 6 2 ++ programPart h 16 1)) (erased 256) u (omega (arith, erased-length 256)) (rw (e, f) compaction-begun-bit)
+    (spares-append 5 (programPart h 0 5) _ (spares-part 5 h 0 5 (inr (omega arith)))
+    (spares-append 5 (programPart h 6 2) _ (spares-part 5 h 6 2 (inl (omega arith))) (spares-part 5 h 16 1 (inl (omega arith))))) k)
 
 begun-status : (N B old : ℕ) → getD (begunPage N B old) 5 0 ≡ compactionBegun
 unfolding begunPage
@@ -158,12 +153,4 @@ pending-cut N B n old u k =
     let h = headerPage N B erasePending n old in
     let e = begun-status N B old in
     ⊎-elim (λ g. inl (bit-6 compactionBegun u (g ∙ e) refl)) (λ g. inr (g ∙ pending-run N B n old))
-      (finish-cut B 5 erasePending (programPart h 8 8) (begunPage N B old) u (rw (e, clear-compaction) erase-pending-bit) (spares-part 5 h 8 8 (inl (omega arith))) k)
-
--- the last status of a compaction: programmed or not
-pub settled-cut : (N B n old : ℕ) (u : Page) → Cut B settledHeader (headerPage N B erasePending n old) u
-    → (u ≡ headerPage N B erasePending n old) ⊎ (u ≡ headerPage N B compacted n old)
-unfolding settledHeader
-settled-cut N B n old u k =
-    let e : getD (headerPage N B erasePending n old) 5 0 ≡ erasePending = unfold headerPage in refl in
-    ⊎-elim (λ g. inl g) (λ g. inr (g ∙ settled-run N B n old)) (one-bit-cut B 5 compacted (headerPage N B erasePending n old) u (rw (e, clear-pending) compacted-bit) k)
+    (finish-cut B 5 erasePending (programPart h 8 8) (begunPage N B old) u (rw (e, clear-compaction) erase-pending-bit) (spares-part 5 h 8 8 (inl (omega arith))) k)

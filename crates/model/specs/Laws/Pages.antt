@@ -1,22 +1,20 @@
 -- The pages of a run are the run of the pages. A step inside a page changes that page only; an erase, that segment only.
-use Prim.Native.Nat.{ℕ, zero, suc, _+_, _-_, _*_, _/_, _%_, _≤_, _<_}
-use mathlib.Core.Path.{_≡_, refl, sym, ap, ap₂, _∙_, subst}
-use mathlib.Core.Logic.{_⊎_, inl, inr}
-use mathlib.Core.Bool.{Bool, true, false, cond}
-use mathlib.Core.List.{List, [], _∷_, _++_, append-assoc}
+use Prim.Native.Nat.{ℕ, suc, _+_, _-_, _*_, _/_, _%_, _≤_, _<_}
+use mathlib.Core.Path.{_≡_, refl, sym, ap, _∙_}
+use mathlib.Core.Logic.{inl, inr}
+use mathlib.Core.List.{List, [], _∷_, _++_}
 use native.Mathlib.Omega.{arith}
-use native.Mathlib.Nat.{div-add-mod', mul-le-mul-right, suc-mul}
+use native.Mathlib.Nat.{div-add-mod'}
 use native.Mathlib.Decide.{decLt, decLe}
-use lib.ListN.{length, getD, take, drop, set, replicate, length-set, length-replicate, length-take, length-drop}
+use lib.ListN.{length, getD, take, drop, set, replicate, length-set, length-replicate, length-take}
 use lib.Seq.{set-out, set-set, set-getD, getD-set-same}
-use lib.Dec.{leb}
 use borrow.Author.Tests.{le-leb, lt-leb}
 use Rattle.model.specs.Lists.{chunk}
-use Rattle.model.specs.Chip.{Image, Page, Step, program, erase, clear, erased, withSegment, step, run, imageLength, pagesOf, Inside, Cut}
-use Rattle.model.specs.Pages.{programPage, stepPages, runPages}
+use Rattle.model.specs.Chip.{Image, Page, Step, program, erase, clear, erased, withSegment, step, run, imageLength, pagesOf, Cut}
 use Rattle.model.specs.Steps.{programs, programPart, onPage}
-use Rattle.model.specs.Laws.Chip.{step-length}
+use Rattle.model.specs.Pages.{programPage, stepPages, runPages}
 use Rattle.model.specs.Laws.Chunk.{chunk-length, chunk-set, chunk-get, chunk-replace, chunk-replicate}
+use Rattle.model.specs.Laws.Chip.{step-length}
 
 -- ---- the pages of a run
 
@@ -26,18 +24,21 @@ pages-program c at v s =
     let e = div-add-mod' at 256 in
     let l : at % 256 < 256 = omega arith in
     let g = chunk-set 256 c (at / 256) (at % 256) (clear (getD s at 0) v) s l in
-    elim (decLt (at / 256) c) [ yes p ↦ (rw e at g) ∙ rw (chunk-get 256 c (at / 256) (at % 256) 0 s p l, e)
-      | no p ↦ (rw e at g) ∙ (rw (set-out (chunk c 256 s) (at / 256) _ (omega (arith, chunk-length c 256 s)), set-out (chunk c 256 s) (at / 256) _ (omega (arith, chunk-length c 256 s)))) ]
+    elim (decLt (at / 256) c) [
+      | yes p ↦ (rw e at g) ∙ rw (chunk-get 256 c (at / 256) (at % 256) 0 s p l, e)
+      | no p ↦ (rw e at g) ∙ (rw (set-out (chunk c 256 s) (at / 256) _ (omega (arith, chunk-length c 256 s)), set-out (chunk c 256 s) (at / 256) _ (omega (arith, chunk-length c 256 s))))
+    ]
 
 pages-erase : (N B i : ℕ) (s : List ℕ) → length s ≡ N * (B + 1) * 256 → chunk (N * (B + 1)) 256 (step B (erase i) s) ≡ stepPages B (erase i) (chunk (N * (B + 1)) 256 s)
 unfolding step stepPages withSegment erased
 pages-erase N B i s h =
     let n = chunk-length (N * (B + 1)) 256 s in
-    elim (decLe (i * (B + 1) + (B + 1)) (N * (B + 1)))
-      [ yes p ↦ rw (le-leb ((i * (B + 1) + (B + 1)) * 256) (length s) (omega arith), le-leb (i * (B + 1) + (B + 1)) (length (chunk (N * (B + 1)) 256 s)) (omega arith))
+    elim (decLe (i * (B + 1) + (B + 1)) (N * (B + 1))) [
+      | yes p ↦ rw (le-leb ((i * (B + 1) + (B + 1)) * 256) (length s) (omega arith), le-leb (i * (B + 1) + (B + 1)) (length (chunk (N * (B + 1)) 256 s)) (omega arith))
           (chunk-replace 256 (N * (B + 1)) (i * (B + 1)) (B + 1) (replicate ((B + 1) * 256) 255) s p (length-replicate ((B + 1) * 256) 255) (omega arith)
           ∙ ap (λ (y : List Page). take (i * (B + 1)) (chunk (N * (B + 1)) 256 s) ++ (y ++ drop (i * (B + 1) + (B + 1)) (chunk (N * (B + 1)) 256 s))) (chunk-replicate (B + 1) 256 255))
-      | no p ↦ rw (lt-leb ((i * (B + 1) + (B + 1)) * 256) (length s) (omega arith), lt-leb (i * (B + 1) + (B + 1)) (length (chunk (N * (B + 1)) 256 s)) (omega arith)) ]
+      | no p ↦ rw (lt-leb ((i * (B + 1) + (B + 1)) * 256) (length s) (omega arith), lt-leb (i * (B + 1) + (B + 1)) (length (chunk (N * (B + 1)) 256 s)) (omega arith))
+    ]
 
 pub pages-step : (N B : ℕ) (x : Step) (s : Image) → length s ≡ imageLength N B → pagesOf N B (step B x s) ≡ stepPages B x (pagesOf N B s)
 unfolding step stepPages pagesOf imageLength
@@ -48,11 +49,6 @@ pub pages-run : (N B : ℕ) (xs : List Step) (s : Image) → length s ≡ imageL
 unfolding run runPages
 pages-run N B [] s h = refl
 pages-run N B (x ∷ xs) s h = pages-run N B xs (step B x s) (step-length B x s ∙ h) ∙ ap (λ y. runPages B xs y) (pages-step N B x s h)
-
-pub runPages-append : (B : ℕ) (xs ys : List Step) (ps : List Page) → runPages B (xs ++ ys) ps ≡ runPages B ys (runPages B xs ps)
-unfolding runPages
-runPages-append B [] ys ps = refl
-runPages-append B (x ∷ xs) ys ps = runPages-append B xs ys (stepPages B x ps)
 
 -- ---- steps inside one page
 
@@ -117,5 +113,5 @@ cut-on-page B c p (program at v ∷ xs) s t h i (inr (inr k)) =
     let q = chunk-set 256 c p at w s (i .0) in
     let r = cut-on-page B c p xs (set s (p * 256 + at) w) t h (i .1) k in
     let o : getD (chunk c 256 (set s (p * 256 + at) w)) p [] ≡ set (getD (chunk c 256 s) p []) at w =
-          rw q (getD-set-same (chunk c 256 s) p (set (getD (chunk c 256 s) p []) at w) [] (omega (arith, chunk-length c 256 s))) in
+    rw q (getD-set-same (chunk c 256 s) p (set (getD (chunk c 256 s) p []) at w) [] (omega (arith, chunk-length c 256 s))) in
     (r .0, inr (inr (rw g (rw o at (r .1)))), r .2 ∙ rw q (set-set (chunk c 256 s) p (set (getD (chunk c 256 s) p []) at w) (r .0)))

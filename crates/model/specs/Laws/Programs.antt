@@ -4,11 +4,11 @@ use mathlib.Core.Path.{_≡_, refl, sym, ap, _∙_}
 use mathlib.Core.Logic.{_⊎_, inl, inr, _≢_}
 use mathlib.Core.List.{List, [], _∷_, _++_, append-assoc}
 use native.Mathlib.Omega.{arith}
-use lib.ListN.{length, getD, take, drop, set, length-append, length-take, length-drop, take-append-drop}
-use lib.Seq.{getD-set-other, set-at, getD-at, drop-drop, length-take-le}
+use lib.ListN.{length, getD, take, drop, set, length-append, length-take}
+use lib.Seq.{getD-set-other, set-at, getD-at}
 use Rattle.model.specs.Chip.{Image, Page, Bytes, Step, program, erase, clear, erased, step, run, Cut}
 use Rattle.model.specs.Steps.{programs, programPart}
-use Rattle.model.specs.Laws.Bytes.{clear-erased, bytes-take, bytes-drop}
+use Rattle.model.specs.Laws.Bytes.{clear-erased}
 
 -- ---- a byte that is kept
 
@@ -56,12 +56,6 @@ spared-cut B i (program at v ∷ xs) s t p (inr (inr c)) =
     let w = clear (getD s at 0) v in
     spared-cut B i xs (set s at w) t (p .1) c ∙ getD-set-other s at i w 0 (p .0)
 
-pub programs-kept : (B i at : ℕ) (vs : List ℕ) (s : Image) → Outside i at (length vs) → getD (run B (programs at vs) s) i 0 ≡ getD s i 0
-programs-kept B i at vs s o = spared-run B i (programs at vs) s (spares-programs i at vs o)
-
-pub part-kept : (B i : ℕ) (p : Page) (at k : ℕ) (s : Image) → Outside i at k → getD (run B (programPart p at k) s) i 0 ≡ getD s i 0
-part-kept B i p at k s o = spared-run B i (programPart p at k) s (spares-part i p at k o)
-
 -- ---- erased bytes
 
 pub program-at : (B at v : ℕ) (before after : List ℕ) → length before ≡ at → v < 256 → step B (program at v) (before ++ (255 ∷ after)) ≡ before ++ (v ∷ after)
@@ -78,21 +72,3 @@ programs-between B at before (v ∷ vs) after h b =
     ap (λ y. run B (programs (suc at) vs) y) (program-at B at v before rest h (b .0) ∙ sym (append-assoc before (v ∷ []) rest))
     ∙ programs-between B (suc at) front vs after (omega (arith, length-append before (v ∷ []))) (b .1)
     ∙ append-assoc before (v ∷ []) (vs ++ after)
-
-split-three : (at k : ℕ) (s : List ℕ) → s ≡ take at s ++ (take k (drop at s) ++ drop (at + k) s)
-split-three at k s = sym (ap (λ y. take at s ++ (take k (drop at s) ++ y)) (sym (drop-drop k at s)) ∙ ap (λ y. take at s ++ y) (take-append-drop k (drop at s)) ∙ take-append-drop at s)
-
--- bytes programmed over an erased range are there, and the others are as before
-pub programs-erased : (B at : ℕ) (vs : List ℕ) (s : Page) → at ≤ length s → take (length vs) (drop at s) ≡ erased (length vs) → Bytes vs
-    → run B (programs at vs) s ≡ take at s ++ (vs ++ drop (at + length vs) s)
-programs-erased B at vs s h e b =
-    ap (λ y. run B (programs at vs) y) (split-three at (length vs) s ∙ ap (λ y. take at s ++ (y ++ drop (at + length vs) s)) e)
-    ∙ programs-between B at (take at s) vs (drop (at + length vs) s) (length-take-le at s h) b
-
--- the same of a part of a page
-pub part-erased : (B : ℕ) (p : Page) (at k : ℕ) (s : Page) → at + k ≤ length p → at ≤ length s → take k (drop at s) ≡ erased k → Bytes p
-    → run B (programPart p at k) s ≡ take at s ++ (take k (drop at p) ++ drop (at + k) s)
-unfolding programPart
-part-erased B p at k s l h e b =
-    let n : length (take k (drop at p)) ≡ k = length-take-le k (drop at p) (omega (arith, length-drop at p)) in
-    rw n at (programs-erased B at (take k (drop at p)) s h (rw n e) (bytes-take k (drop at p) (bytes-drop at p b)))

@@ -1,16 +1,15 @@
 -- The segments as a ring: how the numbers, the count and the slots of those in use change when one segment is replaced.
-use Prim.Native.Nat.{ℕ, zero, suc, _+_, _-_, _*_, _/_, _%_, max, _≤_, _<_}
+use Prim.Native.Nat.{ℕ, zero, suc, _+_, _-_, _%_, max, _≤_, _<_}
 use mathlib.Core.Path.{_≡_, refl, sym, ap, ap₂, _∙_, subst}
 use mathlib.Core.Logic.{_≢_}
-use mathlib.Core.Bool.{Bool, true, false, cond, _&&_, not}
+use mathlib.Core.Bool.{true, false, _&&_}
 use mathlib.Core.List.{List, [], _∷_, _++_}
 use native.Mathlib.Omega.{arith}
 use native.Mathlib.Nat.{mod-lt}
-use lib.ListN.{length, getD, set, length-set, length-append}
+use lib.ListN.{length, getD, set, length-set}
 use lib.Seq.{set-getD, set-set, getD-set-same, getD-set-other}
 use lib.Dec.{eqb}
 use borrow.Author.Tests.{eqb-true, eq-eqb}
-use Rattle.model.specs.Lists.{count}
 use Rattle.model.specs.Slot.{Slot}
 use Rattle.model.specs.State.{Segment, blank, invalid, inUse, isInUse, numberAfter, slotsIn, nextNumber, usedCount, slotsFrom, numbersFrom}
 use Rattle.model.specs.Laws.Lists.{and-left, and-right, and-both, one, count-set, count-none, mod-inj}
@@ -34,7 +33,8 @@ pub next-same : (l : List Segment) (i : ℕ) (y : Segment) → numberAfter (getD
 next-same l i y h g =
     let a = next-set-le l i y in
     let b : nextNumber l ≤ max (nextNumber (set l i y)) (numberAfter (getD l i blank)) =
-        subst (λ (v : List Segment). nextNumber v ≤ max (nextNumber (set l i y)) (numberAfter (getD l i blank))) (set-set l i y (getD l i blank) ∙ set-getD l i blank) (next-set-le (set l i y) i (getD l i blank)) in
+    subst (λ (v : List Segment). nextNumber v ≤ max (nextNumber (set l i y)) (numberAfter (getD l i blank)))
+    (set-set l i y (getD l i blank) ∙ set-getD l i blank) (next-set-le (set l i y) i (getD l i blank)) in
     omega arith
 
 -- the same number: nothing changes
@@ -91,14 +91,14 @@ unfolding slotsFrom
 slots-apart N i y l zero n h = refl
 slots-apart N i y l (suc u) n h =
     ap₂ {C = List (List Slot)} (λ a b. slotsIn a ∷ b) (getD-set-other l i (n % N) y blank (h n (omega arith) (omega arith)))
-      (slots-apart N i y l u (suc n) (apart-later N u n i h))
+    (slots-apart N i y l u (suc n) (apart-later N u n i h))
 
 pub numbers-apart : (N i : ℕ) (y : Segment) (l : List Segment) (u n : ℕ) → Apart N u n i → numbersFrom N (set l i y) u n ≡ numbersFrom N l u n
 unfolding numbersFrom
 numbers-apart N i y l zero n h = refl
 numbers-apart N i y l (suc u) n h =
     ap₂ (λ a b. eqb (numberAfter a) (suc n) && b) (getD-set-other l i (n % N) y blank (h n (omega arith) (omega arith)))
-      (numbers-apart N i y l u (suc n) (apart-later N u n i h))
+    (numbers-apart N i y l u (suc n) (apart-later N u n i h))
 
 -- what a replaced segment keeps, every place of the list keeps
 pub get-kept : {A : Type 0} (f : Segment → A) (l : List Segment) (i : ℕ) (y : Segment) → f y ≡ f (getD l i blank) → (q : ℕ) → f (getD (set l i y) q blank) ≡ f (getD l q blank)
@@ -130,7 +130,7 @@ unfolding numbersFrom
 numbers-snoc N l zero n h e = let f : n + 0 ≡ n = omega arith in and-both (eqb (numberAfter (getD l (n % N) blank)) (suc n)) true (eq-eqb _ _ (rw f at e)) refl
 numbers-snoc N l (suc u) n h e = let f : n + suc u ≡ suc n + u = omega arith in
     and-both (eqb (numberAfter (getD l (n % N) blank)) (suc n)) (numbersFrom N l (suc u) (suc n)) (and-left (eqb (numberAfter (getD l (n % N) blank)) (suc n)) (numbersFrom N l u (suc n)) h)
-      (numbers-snoc N l u (suc n) (and-right (eqb (numberAfter (getD l (n % N) blank)) (suc n)) (numbersFrom N l u (suc n)) h) (rw f at e))
+    (numbers-snoc N l u (suc n) (and-right (eqb (numberAfter (getD l (n % N) blank)) (suc n)) (numbersFrom N l u (suc n)) h) (rw f at e))
 
 pub slots-length : (N : ℕ) (l : List Segment) (u n : ℕ) → length (slotsFrom N l u n) ≡ u
 unfolding slotsFrom

@@ -1,20 +1,17 @@
 -- Steps inside one segment, whole or cut, change that segment only, and an erase does too.
 use Prim.Native.Nat.{ℕ, zero, suc, _+_, _-_, _*_, _/_, _%_, _≤_, _<_}
-use mathlib.Core.Path.{_≡_, refl, sym, ap, ap₂, _∙_, subst}
-use mathlib.Core.Logic.{_⊎_, inl, inr}
-use mathlib.Core.Bool.{Bool, true, false, cond}
-use mathlib.Core.List.{List, [], _∷_, _++_, append-nil}
+use mathlib.Core.Path.{_≡_, refl, sym, ap, _∙_, subst}
+use mathlib.Core.Logic.{inl, inr}
+use mathlib.Core.List.{List, [], _∷_, _++_}
 use native.Mathlib.Omega.{arith}
-use native.Mathlib.Nat.{div-add-mod', mul-le-mul-right, suc-mul, add-mul, mul-assoc}
-use lib.ListN.{length, getD, take, drop, set, length-set, length-take, length-drop, length-replicate}
-use lib.Seq.{set-set, set-getD, getD-set-same, getD-set-other}
-use lib.Dec.{leb}
+use native.Mathlib.Nat.{div-add-mod', mul-le-mul-right, suc-mul}
+use lib.ListN.{length, getD, take, drop, set, length-take, length-drop}
+use lib.Seq.{set-set, set-getD, getD-set-same}
 use borrow.Author.Tests.{le-leb}
 use Rattle.model.specs.Lists.{chunk}
-use Rattle.model.specs.Chip.{Image, Page, Step, program, erase, clear, erased, withSegment, segmentBytes, step, run, imageLength, pagesOf, bySegment, Raised, Inside, Cut}
-use Rattle.model.specs.State.{Segment, blank, segmentOf, segmentsFrom, segmentsOn, segmentsOf}
+use Rattle.model.specs.Chip.{Image, Page, Step, program, erase, clear, erased, withSegment, segmentBytes, step, run, imageLength, pagesOf, bySegment, Cut}
+use Rattle.model.specs.State.{blank, segmentOf, segmentsFrom, segmentsOn, segmentsOf}
 use Rattle.model.specs.Steps.{onPage}
-use Rattle.model.specs.Laws.Chip.{step-length, run-length, raised-length}
 use Rattle.model.specs.Laws.Chunk.{chunk-length, chunk-set, chunk-get, part-length, chunk-replace, replace-part}
 use Rattle.model.specs.Laws.Pages.{pages-run, InPage, run-on-page, cut-on-page}
 
@@ -110,7 +107,8 @@ byte-parts N B i q k v s h j l =
     let p = i * (B + 1) + q in
     let a : chunk (N * (B + 1)) 256 (set s (p * 256 + k) v) ≡ set (chunk (N * (B + 1)) 256 s) p (set (getD (chunk (N * (B + 1)) 256 s) p []) k v) = chunk-set 256 (N * (B + 1)) p k v s l in
     let b = chunk-set (B + 1) N i q (set (getD (chunk (N * (B + 1)) 256 s) p []) k v) (chunk (N * (B + 1)) 256 s) j in
-    ap (λ (y : List Page). chunk N (B + 1) y) a ∙ (b ∙ ap (λ (y : Page). set (chunk N (B + 1) (chunk (N * (B + 1)) 256 s)) i (set (getD (chunk N (B + 1) (chunk (N * (B + 1)) 256 s)) i []) q (set y k v))) (sym (part-page N B i q s h j)))
+    ap (λ (y : List Page). chunk N (B + 1) y) a
+    ∙ (b ∙ ap (λ (y : Page). set (chunk N (B + 1) (chunk (N * (B + 1)) 256 s)) i (set (getD (chunk N (B + 1) (chunk (N * (B + 1)) 256 s)) i []) q (set y k v))) (sym (part-page N B i q s h j)))
 
 -- an offset inside segment i
 abbrev pub Within : ℕ → ℕ → ℕ → Type 0
@@ -166,9 +164,11 @@ module _ (N B i q : ℕ) (h : i < N) (j : q < B + 1) (xs : List Step) (p : InPag
     where
       inside : i * (B + 1) + q < length (pagesOf N B s)
       inside = unfold pagesOf in omega (arith, page-in N B i q h j, chunk-length (N * (B + 1)) 256 s)
+
       new : pagesOf N B (run B (onPage (i * (B + 1) + q) xs) s) ≡ set (pagesOf N B s) (i * (B + 1) + q) (run B xs (getD (partOf N B i s) q []))
       new = pages-run N B (onPage (i * (B + 1) + q) xs) s z ∙ (run-on-page B (i * (B + 1) + q) xs (pagesOf N B s) inside p
           ∙ ap (λ (y : Page). set (pagesOf N B s) (i * (B + 1) + q) (run B xs y)) (sym (part-page N B i q s h j)))
+
       whole : parts N B (run B (onPage (i * (B + 1) + q) xs) s) ≡ set (parts N B s) i (set (partOf N B i s) q (run B xs (getD (partOf N B i s) q [])))
       whole = ap (λ y. bySegment N B y) new ∙ (unfold bySegment in chunk-set (B + 1) N i q (run B xs (getD (partOf N B i s) q [])) (pagesOf N B s) j)
 
@@ -179,6 +179,7 @@ module _ (N B i q : ℕ) (h : i < N) (j : q < B + 1) (xs : List Step) (p : InPag
     where
       r : (page : Page) × Cut B xs (getD (chunk (N * (B + 1)) 256 s) (i * (B + 1) + q) []) page × (chunk (N * (B + 1)) 256 u ≡ set (chunk (N * (B + 1)) 256 s) (i * (B + 1) + q) page)
       r = cut-on-page B (N * (B + 1)) (i * (B + 1) + q) xs s u (page-in N B i q h j) p c
+
       whole : parts N B u ≡ set (parts N B s) i (set (partOf N B i s) q (r .0))
       whole = unfold bySegment pagesOf in (ap (λ (y : List Page). chunk N (B + 1) y) (r .2) ∙ chunk-set (B + 1) N i q (r .0) (chunk (N * (B + 1)) 256 s) j)
 
@@ -200,12 +201,12 @@ module _ (N B i : ℕ) (h : i < N) (s : Image) (z : length s ≡ imageLength N B
       let ps = chunk (N * m) 256 s in
       let n : length ps ≡ N * m = chunk-length (N * m) 256 s in
       let a : chunk (N * m) 256 (take (i * m * 256) s ++ (u ++ drop ((i * m + m) * 256) s)) ≡ take (i * m) ps ++ (chunk m 256 u ++ drop (i * m + m) ps) =
-            chunk-replace 256 (N * m) (i * m) m u s (omega (arith, mul-le-mul-right m h, suc-mul i m)) k segment-fits in
+      chunk-replace 256 (N * m) (i * m) m u s (omega (arith, mul-le-mul-right m h, suc-mul i m)) k segment-fits in
       let e : (i + 1) * m ≡ i * m + m = omega arith in
       let b : chunk N m (take (i * m) ps ++ (chunk m 256 u ++ drop ((i + 1) * m) ps)) ≡ take i (chunk N m ps) ++ (chunk 1 m (chunk m 256 u) ++ drop (i + 1) (chunk N m ps)) =
-            chunk-replace m N i 1 (chunk m 256 u) ps (omega arith) (chunk-length m 256 u ∙ omega arith) (omega (arith, mul-le-mul-right m h, suc-mul i m)) in
+      chunk-replace m N i 1 (chunk m 256 u) ps (omega arith) (chunk-length m 256 u ∙ omega arith) (omega (arith, mul-le-mul-right m h, suc-mul i m)) in
       ap (λ (y : List Page). chunk N m y) a ∙ (rw e at b) ∙ ap (λ (y : List (List Page)). take i (chunk N m ps) ++ (y ++ drop (i + 1) (chunk N m ps))) (single (chunk m 256 u) (chunk-length m 256 u))
-        ∙ replace-part (chunk N m ps) i (chunk m 256 u) (omega (arith, chunk-length N m ps))
+      ∙ replace-part (chunk N m ps) i (chunk m 256 u) (omega (arith, chunk-length N m ps))
     where
       single : (x : List Page) → length x ≡ B + 1 → chunk 1 (B + 1) x ≡ x ∷ []
       single x q = unfold chunk in ap {B = List (List Page)} (λ (y : List Page). y ∷ []) (lib.Seq.take-all (B + 1) x (omega arith))

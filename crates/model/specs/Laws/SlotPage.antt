@@ -5,7 +5,7 @@ use mathlib.Core.Logic.{_⊎_, inl, inr}
 use mathlib.Core.Bool.{Bool, true, false, cond, _||_, _&&_}
 use mathlib.Core.List.{List, [], _∷_, _++_, append-assoc}
 use native.Mathlib.Omega.{arith}
-use lib.ListN.{length, getD, take, drop, length-append, length-take}
+use lib.ListN.{length, getD, take, drop, length-take}
 use lib.Seq.{take-append-seam}
 use lib.Dec.{leb, ltb, eqb}
 use borrow.Author.Tests.{eqb-true, le-leb, leb-true, ltb-true}
@@ -14,10 +14,10 @@ use Rattle.model.specs.Chip.{Page, Bytes, Step, program, clear, erased, 
 use Rattle.model.specs.Header.{isBlank}
 use Rattle.model.specs.Slot.{mostContents, numberOk, writeBegun, written, slotPage, pageBlock, pageContents, slotFits, Slot, empty, torn, dead, wrong, live, slotOf}
 use Rattle.model.specs.Steps.{programs, programPart, writeSlot, markDead}
-use Rattle.model.specs.Laws.Chip.{run-append}
-use Rattle.model.specs.Laws.Pages.{InPage, in-append, in-part}
 use Rattle.model.specs.Laws.Lists.{and-left, and-right}
-use Rattle.model.specs.Laws.Bytes.{clear-erased, bytes-append, bytes-take, bytes-drop, same-eq, same-refl, erased-suc, erased-length, erased-add, erased-bytes, blank-erased}
+use Rattle.model.specs.Laws.Chip.{run-append}
+use Rattle.model.specs.Laws.Bytes.{clear-erased, bytes-take, bytes-drop, same-eq, same-refl, erased-suc, erased-add, blank-erased}
+use Rattle.model.specs.Laws.Pages.{InPage, in-append, in-part}
 use Rattle.model.specs.Laws.Programs.{programs-between}
 
 -- a block number and contents that a slot can hold
@@ -31,16 +31,6 @@ unfolding numberOk
 number-below b h = ltb-true b 65535 (and-right (ltb 0 b) (ltb b 65535) h)
 
 -- ---- an encoded page
-
-pub slot-length : (b : ℕ) (c : List ℕ) → length c ≤ mostContents → length (slotPage b c) ≡ 256
-unfolding slotPage mostContents
-slot-length b c h = omega (arith, length-append c (erased (248 - length c)), erased-length (248 - length c))
-
-pub slot-bytes : (b : ℕ) (c : List ℕ) → Valid b c → Bytes (slotPage b c)
-unfolding slotPage mostContents
-slot-bytes b c v =
-    (omega arith, (omega (arith, v .short), (omega arith, (omega (arith, number-below b (v .number)), (omega arith, (omega arith, (omega arith, (omega arith,
-    bytes-append c (erased (248 - length c)) (v .bytes) (erased-bytes (248 - length c))))))))))
 
 slot-block : (b : ℕ) (c : List ℕ) → pageBlock (slotPage b c) ≡ b
 unfolding pageBlock slotPage
@@ -95,10 +85,11 @@ fits-facts p e =
     let b = numberOk (pageBlock p) in
     let q = slotPage (pageBlock p) (pageContents p) in
     let e1 = and-right a (b && same p q) e in
-    record
-      { number = and-left b (same p q) e1
-      ; short = omega (arith, length-take (getD p 1 0) (drop 8 p), leb-true (getD p 1 0) mostContents (and-left a (b && same p q) e))
-      ; page = same-eq p q (and-right b (same p q) e1) }
+    record {
+      number = and-left b (same p q) e1;
+      short = omega (arith, length-take (getD p 1 0) (drop 8 p), leb-true (getD p 1 0) mostContents (and-left a (b && same p q) e));
+      page = same-eq p q (and-right b (same p q) e1);
+    }
 
 module _ (p : Page) where
   abbrev st : ℕ
@@ -136,17 +127,11 @@ live-facts p b c e = rw e at (kind-facts p)
 pub torn-status : (p : Page) → slotOf p ≡ torn → getD p 0 0 ≡ writeBegun
 torn-status p e = rw e at (kind-facts p)
 
-pub dead-status : (p : Page) → slotOf p ≡ dead → (getD p 0 0 ≡ 0x1F) ⊎ (getD p 0 0 ≡ 0x5F)
-dead-status p e = rw e at (kind-facts p)
-
 pub empty-erased : (p : Page) → slotOf p ≡ empty → p ≡ erased (length p)
 empty-erased p e = rw e at (kind-facts p)
 
 pub live-status : (p : Page) (b : ℕ) (c : List ℕ) → slotOf p ≡ live b c → getD p 0 0 ≡ written
 live-status p b c e = ap (λ y. getD y 0 0) (live-facts p b c e .page) ∙ slot-status b c
-
-pub live-length : (p : Page) (b : ℕ) (c : List ℕ) → slotOf p ≡ live b c → length p ≡ 256
-live-length p b c e = let f = live-facts p b c e in ap length (f .page) ∙ slot-length b c (f .short)
 
 -- what a page of bytes holds can be copied
 pub live-valid : (p : Page) (b : ℕ) (c : List ℕ) → slotOf p ≡ live b c → Bytes p → Valid b c

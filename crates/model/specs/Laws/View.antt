@@ -1,20 +1,20 @@
 -- The view after one segment is replaced: a slot changed, a segment opened, erased, or compacted to another.
-use Prim.Native.Nat.{ℕ, zero, suc, _+_, _-_, _*_, _/_, _%_, max, _≤_, _<_}
-use mathlib.Core.Path.{_≡_, refl, sym, ap, ap₂, _∙_, subst}
+use Prim.Native.Nat.{ℕ, zero, suc, _+_, _-_, _%_, _≤_, _<_}
+use mathlib.Core.Path.{_≡_, refl, sym, ap, ap₂, _∙_}
 use mathlib.Core.Logic.{_≢_}
-use mathlib.Core.Bool.{Bool, true, false, cond, _&&_, not}
+use mathlib.Core.Bool.{Bool, true, false, not, true≢false}
 use mathlib.Core.List.{List, [], _∷_, _++_}
 use native.Mathlib.Omega.{arith}
 use native.Mathlib.Decide.{decLt}
 use lib.ListN.{length, getD, drop, set, length-set}
-use lib.Seq.{getD-set-same, getD-set-other, set-comm}
+use lib.Seq.{getD-set-same, getD-set-other}
 use lib.Dec.{eqb}
 use Rattle.model.specs.Lists.{all}
-use Rattle.model.specs.Header.{opened, erasePending, compacted}
+use Rattle.model.specs.Header.{erasePending}
 use Rattle.model.specs.Slot.{Slot}
 use Rattle.model.specs.State.{Segment, blank, invalid, inUse, isInUse, isInvalid, isOwing, numberAfter, slotsIn, nextNumber, nextIndex, usedCount, firstNumber, slotsFrom, numbersFrom, View, viewOf, noneOwing, othersBlank, withSlot}
 use Rattle.model.specs.Laws.Lists.{and-left, and-right, and-both, all-set, mod-inj}
-use Rattle.model.specs.Laws.Ring.{Apart, apart-after, apart-before, apart-later, next-kept, next-raised, next-same, used-kept, used-more, used-less, slots-apart, slots-kept, slots-get, slots-snoc, slots-length, numbers-apart, numbers-kept, numbers-snoc, number-in-use}
+use Rattle.model.specs.Laws.Ring.{Apart, apart-after, next-kept, next-raised, next-same, used-kept, used-more, used-less, slots-apart, slots-kept, slots-get, slots-snoc, slots-length, numbers-apart, numbers-kept, numbers-snoc, number-in-use}
 use Rattle.model.specs.Laws.Clean.{RingFacts, used-next, two-segments, index-inside, numbered, next-unused, next-apart}
 
 -- slot j of the segment with number n changed
@@ -59,7 +59,7 @@ all-kept f [] i y d e h = h
 all-kept f (x ∷ l) zero y d e h = rw e h
 all-kept f (x ∷ l) (suc i) y d e h =
     and-both (f x) (all f (set l i y)) (and-left (f x) (all f l) h)
-      (all-kept f l i y d e (and-right (f x) (all f l) h))
+    (all-kept f l i y d e (and-right (f x) (all f l) h))
 
 -- the row of number k replaced
 slots-at : (N : ℕ) (l : List Segment) (u n k : ℕ) (y : Segment) → u ≤ N → n ≤ k → k < n + u → k % N < length l
@@ -72,6 +72,7 @@ slots-at N l (suc u) n k y a b c d =
     here : n ≡ k → slotsFrom N (set l (k % N) y) (suc u) n ≡ set (slotsFrom N l (suc u) n) (k - n) (slotsIn y)
     here e = let z : k - k ≡ 0 = omega arith in
         rw (e, z, getD-set-same l (k % N) y blank d, slots-apart N (k % N) y l u (suc k) (apart-after N u k (omega arith)))
+
     later : n < k → slotsFrom N (set l (k % N) y) u (suc n) ≡ set (slotsFrom N l u (suc n)) (k - suc n) (slotsIn y)
         → slotsFrom N (set l (k % N) y) (suc u) n ≡ set (slotsFrom N l (suc u) n) (k - n) (slotsIn y)
     later lt ih =
@@ -95,23 +96,24 @@ module _ (N : ℕ) (l : List Segment) (r : RingFacts N l) (k j : ℕ) (x : Slot)
 
   pub slot-ring : RingFacts N (set l (k % N) (withSlot j x (getD l (k % N) blank)))
   unfolding changed firstNumber noneOwing othersBlank
-  slot-ring = record
-    { size = length-set l (k % N) changed ∙ r .size
-    ; some = rw slot-used (r .some)
-    ; spare = rw slot-used (r .spare)
-    ; chain = rw (slot-used, slot-next) (numbers-kept N (k % N) changed l (usedCount l) (nextNumber l - usedCount l) (withSlot-number j x (getD l (k % N) blank)) ∙ r .chain)
-    ; paid = all-kept (λ y. not (isOwing y)) l (k % N) changed blank (ap not (withSlot-owing j x (getD l (k % N) blank))) (r .paid)
-    ; others = all-kept (λ y. not (isInvalid y)) l (k % N) changed blank (ap not (withSlot-invalid j x (getD l (k % N) blank))) (r .others) }
+  slot-ring = record {
+    size = length-set l (k % N) changed ∙ r .size;
+    some = rw slot-used (r .some);
+    spare = rw slot-used (r .spare);
+    chain = rw (slot-used, slot-next) (numbers-kept N (k % N) changed l (usedCount l) (nextNumber l - usedCount l) (withSlot-number j x (getD l (k % N) blank)) ∙ r .chain);
+    paid = all-kept (λ y. not (isOwing y)) l (k % N) changed blank (ap not (withSlot-owing j x (getD l (k % N) blank))) (r .paid);
+    others = all-kept (λ y. not (isInvalid y)) l (k % N) changed blank (ap not (withSlot-invalid j x (getD l (k % N) blank))) (r .others);
+  }
 
   pub slot-view : viewOf N (set l (k % N) (withSlot j x (getD l (k % N) blank))) ≡ slotChanged k j x (viewOf N l)
   unfolding changed firstNumber viewOf slotChanged
   slot-view =
       let n = used-next N l r in
       let row : slotsIn changed ≡ set (getD (slotsFrom N l (usedCount l) (nextNumber l - usedCount l)) (k - (nextNumber l - usedCount l)) []) j x =
-            withSlot-slots j x (getD l (k % N) blank) ∙ ap (λ (y : List Slot). set y j x) (sym found) in
+      withSlot-slots j x (getD l (k % N) blank) ∙ ap (λ (y : List Slot). set y j x) (sym found) in
       rw (slot-used, slot-next) (ap (λ (y : List (List Slot)). record { first = nextNumber l - usedCount l; slots = y })
-        (slots-at N l (usedCount l) (nextNumber l - usedCount l) k changed (omega (arith, r .spare, two-segments N l r)) lo (omega arith) (index-inside N l r k)
-          ∙ ap (λ (y : List Slot). set (slotsFrom N l (usedCount l) (nextNumber l - usedCount l)) (k - (nextNumber l - usedCount l)) y) row))
+      (slots-at N l (usedCount l) (nextNumber l - usedCount l) k changed (omega (arith, r .spare, two-segments N l r)) lo (omega arith) (index-inside N l r k)
+      ∙ ap (λ (y : List Slot). set (slotsFrom N l (usedCount l) (nextNumber l - usedCount l)) (k - (nextNumber l - usedCount l)) y) row))
     where
       found : getD (slotsFrom N l (usedCount l) (nextNumber l - usedCount l)) (k - (nextNumber l - usedCount l)) [] ≡ slotsIn (getD l (k % N) blank)
       found =
@@ -152,7 +154,7 @@ module _ (N : ℕ) (l : List Segment) (r : RingFacts N l) (st : ℕ) (ks : List 
   taken-slots : slotsFrom N taken (suc (usedCount l)) (firstNumber l) ≡ slotsFrom N l (usedCount l) (firstNumber l) ++ (ks ∷ [])
   taken-slots = slots-snoc N taken (usedCount l) (firstNumber l)
       ∙ ap₂ {C = List (List Slot)} (λ a b. a ++ (b ∷ [])) (slots-apart N (nextIndex N l) (inUse st (nextNumber l) ks) l (usedCount l) (firstNumber l) (next-apart N l r))
-        (ap slotsIn taken-here ∙ (unfold slotsIn in refl))
+      (ap slotsIn taken-here ∙ (unfold slotsIn in refl))
 
   pub taken-view : viewOf N (set l (nextIndex N l) (inUse st (nextNumber l) ks)) ≡ record { first = viewOf N l .first; slots = viewOf N l .slots ++ (ks ∷ []) }
   unfolding viewOf
@@ -160,13 +162,14 @@ module _ (N : ℕ) (l : List Segment) (r : RingFacts N l) (st : ℕ) (ks : List 
 
   pub taken-ring : usedCount l < N - 1 → eqb st erasePending ≡ false → RingFacts N (set l (nextIndex N l) (inUse st (nextNumber l) ks))
   unfolding noneOwing othersBlank isOwing isInvalid
-  taken-ring few e = record
-    { size = length-set l (nextIndex N l) (inUse st (nextNumber l) ks) ∙ r .size
-    ; some = rw taken-used (omega arith)
-    ; spare = rw taken-used few
-    ; chain = rw (taken-used, taken-first) taken-chain
-    ; paid = all-set (λ y. not (isOwing y)) l (nextIndex N l) (inUse st (nextNumber l) ks) (r .paid) (rw e)
-    ; others = all-set (λ y. not (isInvalid y)) l (nextIndex N l) (inUse st (nextNumber l) ks) (r .others) refl }
+  taken-ring few e = record {
+    size = length-set l (nextIndex N l) (inUse st (nextNumber l) ks) ∙ r .size;
+    some = rw taken-used (omega arith);
+    spare = rw taken-used few;
+    chain = rw (taken-used, taken-first) taken-chain;
+    paid = all-set (λ y. not (isOwing y)) l (nextIndex N l) (inUse st (nextNumber l) ks) (r .paid) (rw e);
+    others = all-set (λ y. not (isInvalid y)) l (nextIndex N l) (inUse st (nextNumber l) ks) (r .others) refl;
+  }
 
 -- ---- a segment erased
 
@@ -175,18 +178,17 @@ pub erased-unused-view : (N : ℕ) (l : List Segment) (i : ℕ) → i < length l
 unfolding viewOf firstNumber
 erased-unused-view N l i h e =
     rw (used-kept l i blank h (unfold isInUse in sym e), next-kept l i blank (number (getD l i blank) e))
-      (ap (λ (y : List (List Slot)). record { first = nextNumber l - usedCount l; slots = y }) (slots-kept N i blank l (usedCount l) (nextNumber l - usedCount l) (slots (getD l i blank) e)))
+    (ap (λ (y : List (List Slot)). record { first = nextNumber l - usedCount l; slots = y }) (slots-kept N i blank l (usedCount l) (nextNumber l - usedCount l) (slots (getD l i blank) e)))
   where
-    no : true ≡ false → ⊥
-    no q = let y : _≡_ {A = ℕ} 0 1 = cc in omega arith
     number : (x : Segment) → isInUse x ≡ false → numberAfter blank ≡ numberAfter x
     number blank q = refl
     number invalid q = unfold numberAfter in refl
-    number (inUse st n ks) q = absurd (no (unfold isInUse in q))
+    number (inUse st n ks) q = absurd (true≢false (unfold isInUse in q))
+
     slots : (x : Segment) → isInUse x ≡ false → slotsIn blank ≡ slotsIn x
     slots blank q = refl
     slots invalid q = unfold slotsIn in refl
-    slots (inUse st n ks) q = absurd (no (unfold isInUse in q))
+    slots (inUse st n ks) q = absurd (true≢false (unfold isInUse in q))
 
 -- ---- a compaction: one more in use with the next number, and the oldest erased
 
@@ -242,7 +244,7 @@ module _ (N : ℕ) (l : List Segment) (r : RingFacts N l) (st : ℕ) (ks : List 
   unfolding slotsFrom
   moved-slots =
       let whole : drop 1 (slotsFrom N taken′ (suc (usedCount l)) (firstNumber l)) ≡ drop 1 (slotsFrom N l (usedCount l) (firstNumber l) ++ (ks ∷ [])) =
-            ap (λ (y : List (List Slot)). drop 1 y) (taken-slots N l r st ks) in
+      ap (λ (y : List (List Slot)). drop 1 y) (taken-slots N l r st ks) in
       slots-apart N oldest blank taken′ (usedCount l) (suc (firstNumber l)) moved-apart
       ∙ (whole ∙ shift (slotsFrom N l (usedCount l) (firstNumber l)) (omega (arith, slots-length N l (usedCount l) (firstNumber l), r .some)))
     where
@@ -257,10 +259,11 @@ module _ (N : ℕ) (l : List Segment) (r : RingFacts N l) (st : ℕ) (ks : List 
 
   pub moved-ring : eqb st erasePending ≡ false → RingFacts N (set (set l (nextIndex N l) (inUse st (nextNumber l) ks)) (firstNumber l % N) blank)
   unfolding noneOwing othersBlank isOwing isInvalid
-  moved-ring e = record
-    { size = length-set taken′ oldest blank ∙ (length-set l (nextIndex N l) (inUse st (nextNumber l) ks) ∙ r .size)
-    ; some = rw moved-used (r .some)
-    ; spare = rw moved-used (r .spare)
-    ; chain = rw (moved-used, moved-first) moved-chain
-    ; paid = all-set (λ y. not (isOwing y)) taken′ oldest blank (all-set (λ y. not (isOwing y)) l (nextIndex N l) (inUse st (nextNumber l) ks) (r .paid) (rw e)) refl
-    ; others = all-set (λ y. not (isInvalid y)) taken′ oldest blank (all-set (λ y. not (isInvalid y)) l (nextIndex N l) (inUse st (nextNumber l) ks) (r .others) refl) refl }
+  moved-ring e = record {
+    size = length-set taken′ oldest blank ∙ (length-set l (nextIndex N l) (inUse st (nextNumber l) ks) ∙ r .size);
+    some = rw moved-used (r .some);
+    spare = rw moved-used (r .spare);
+    chain = rw (moved-used, moved-first) moved-chain;
+    paid = all-set (λ y. not (isOwing y)) taken′ oldest blank (all-set (λ y. not (isOwing y)) l (nextIndex N l) (inUse st (nextNumber l) ks) (r .paid) (rw e)) refl;
+    others = all-set (λ y. not (isInvalid y)) taken′ oldest blank (all-set (λ y. not (isInvalid y)) l (nextIndex N l) (inUse st (nextNumber l) ks) (r .others) refl) refl;
+  }

@@ -1,0 +1,117 @@
+use core::error::Error;
+use core::fmt;
+
+/// What a request answers. The numbers are those of document 01, "What comes back"; where several
+/// apply, the store gives the smallest.
+#[derive(Clone, Copy, Debug, PartialEq, Eq, PartialOrd, Ord, Hash)]
+#[repr(u8)]
+pub enum Answer {
+    /// 0: the request is done.
+    Done = 0,
+    /// 1: the number of segments, the number of slots or the length of the image is out of range.
+    Size = 1,
+    /// 2: the block number is 0 or 65,535.
+    Number = 2,
+    /// 3: the contents of a put are over 248 bytes.
+    Length = 3,
+    /// 4: the image is damaged; only a format helps. A format never answers it.
+    Damaged = 4,
+    /// 5: a power cut left something unfinished; recover first.
+    Unfinished = 5,
+    /// 6: the block to be read or deleted is not stored.
+    Absent = 6,
+    /// 7: a put of a block that is not stored while [`Geometry::capacity`](crate::Geometry::capacity)
+    /// blocks are.
+    Full = 7,
+    /// 8: a put would erase a segment more often than the chip stands.
+    Worn = 8,
+    /// 9: the step budget ended before the request did. The image is as after a power cut: some
+    /// first steps of the request are done, and [`recover`](crate::Geometry::recover) comes next.
+    Cut = 9,
+}
+
+impl Answer {
+    /// All answers by rising number.
+    pub const ALL: [Answer; 10] = [
+        Answer::Done,
+        Answer::Size,
+        Answer::Number,
+        Answer::Length,
+        Answer::Damaged,
+        Answer::Unfinished,
+        Answer::Absent,
+        Answer::Full,
+        Answer::Worn,
+        Answer::Cut,
+    ];
+
+    /// The number of the answer in document 01.
+    ///
+    /// ```
+    /// assert_eq!(qanbillox::Answer::Full.number(), 7);
+    /// ```
+    pub const fn number(self) -> u8 {
+        self as u8
+    }
+
+    /// The answer with this number.
+    ///
+    /// ```
+    /// use qanbillox::Answer;
+    /// assert_eq!(Answer::from_number(7), Some(Answer::Full));
+    /// assert_eq!(Answer::from_number(10), None);
+    /// ```
+    pub fn from_number(number: u8) -> Option<Answer> {
+        Answer::ALL.get(usize::from(number)).copied()
+    }
+
+    /// Whether this is a refusal, 1 to 8. A refused request has changed no byte of the image.
+    pub const fn is_refusal(self) -> bool {
+        !matches!(self, Answer::Done | Answer::Cut)
+    }
+}
+
+impl fmt::Display for Answer {
+    fn fmt(&self, f: &mut fmt::Formatter<'_>) -> fmt::Result {
+        f.write_str(match self {
+            Answer::Done => "done",
+            Answer::Size => "geometry or image length out of range",
+            Answer::Number => "block number out of range",
+            Answer::Length => "contents too long",
+            Answer::Damaged => "image damaged",
+            Answer::Unfinished => "recovery needed first",
+            Answer::Absent => "block not stored",
+            Answer::Full => "store full",
+            Answer::Worn => "chip worn out",
+            Answer::Cut => "step budget spent",
+        })
+    }
+}
+
+impl Error for Answer {}
+
+#[cfg(test)]
+mod tests {
+    use super::Answer;
+
+    #[test]
+    fn numbers_and_answers_match() {
+        for number in 0..=u8::MAX {
+            match Answer::from_number(number) {
+                Some(answer) => assert_eq!(answer.number(), number),
+                None => assert!(number > 9),
+            }
+        }
+        assert!(Answer::ALL
+            .iter()
+            .enumerate()
+            .all(|(i, a)| usize::from(a.number()) == i));
+    }
+
+    #[test]
+    fn refusals_are_one_to_eight() {
+        for answer in Answer::ALL {
+            assert_eq!(answer.is_refusal(), (1..=8).contains(&answer.number()));
+        }
+    }
+}

@@ -1,0 +1,76 @@
+/// Bytes in a page.
+pub const PAGE: usize = 256;
+/// The longest contents of a block, in bytes.
+pub const MAX_CONTENTS: usize = 248;
+
+/// The shape of a chip: N segments of one header page and B slot pages each.
+///
+/// A segment is what one erase clears, and a slot holds one block. The store takes 2 to 64 segments
+/// of 2 to 255 slots, and answers [`Size`](crate::Answer::Size) to any other geometry.
+///
+/// ```
+/// use qanbillox::Geometry;
+///
+/// // A chip of 1 MiB: sixteen segments of 64 KiB.
+/// let chip = Geometry { segments: 16, slots: 255 };
+/// assert_eq!(chip.image_len(), Some(1_048_576));
+/// assert_eq!(chip.capacity(), Some(3_824));
+///
+/// assert_eq!(Geometry { segments: 65, slots: 255 }.image_len(), None);
+/// ```
+#[derive(Clone, Copy, Debug, PartialEq, Eq, Hash)]
+pub struct Geometry {
+    /// The number of segments, N.
+    pub segments: usize,
+    /// The number of slots in a segment, B.
+    pub slots: usize,
+}
+
+impl Geometry {
+    /// Whether the store takes this geometry.
+    pub const fn is_valid(self) -> bool {
+        2 <= self.segments && self.segments <= 64 && 2 <= self.slots && self.slots <= 255
+    }
+
+    /// The length in bytes that an image of this geometry has, or `None` for a geometry that the
+    /// store does not take.
+    pub const fn image_len(self) -> Option<usize> {
+        if self.is_valid() {
+            Some(self.segments * (self.slots + 1) * PAGE)
+        } else {
+            None
+        }
+    }
+
+    /// How many blocks the store holds at most, or `None` for a geometry that it does not take.
+    ///
+    /// One segment is kept free for compaction, and one slot for a rewrite.
+    pub const fn capacity(self) -> Option<usize> {
+        if self.is_valid() {
+            Some((self.segments - 1) * self.slots - 1)
+        } else {
+            None
+        }
+    }
+}
+
+#[cfg(test)]
+mod tests {
+    use super::Geometry;
+
+    #[test]
+    fn corners() {
+        let size = |segments, slots| Geometry { segments, slots }.image_len();
+        assert_eq!(size(2, 2), Some(1_536));
+        assert_eq!(size(64, 255), Some(4_194_304));
+        for (segments, slots) in [(1, 2), (65, 2), (2, 1), (2, 256), (0, 0)] {
+            assert_eq!(size(segments, slots), None);
+        }
+        assert_eq!(size(usize::MAX, usize::MAX), None);
+        let smallest = Geometry {
+            segments: 2,
+            slots: 2,
+        };
+        assert_eq!(smallest.capacity(), Some(1));
+    }
+}

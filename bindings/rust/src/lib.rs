@@ -1,0 +1,58 @@
+//! A record store on NOR flash that is proved to survive power cuts.
+//!
+//! The store keeps up to 65,534 numbered blocks of at most 248 bytes on an image of a flash chip.
+//! On such a chip programming only clears bits, and only erasing a whole segment sets them again.
+//! Whatever the image holds and whenever the power goes, the store shows the table that the
+//! acknowledged requests made, with the interrupted request wholly done or not begun.
+//!
+//! This crate is a thin, safe layer over the proved static library: it adds types, and takes
+//! nothing away. It holds no state, allocates nothing and has no dependency.
+//!
+//! - [`Geometry`] is the shape of the chip, and its methods are the requests:
+//!   [`format`](Geometry::format), [`put`](Geometry::put), [`delete`](Geometry::delete),
+//!   [`recover`](Geometry::recover), [`read`](Geometry::read) and [`read_or`](Geometry::read_or).
+//! - [`Answer`] is what comes back, with the numbers of document 01.
+//! - [`Outcome`] has the count of flash steps done, and [`Read`] the contents, borrowed from the
+//!   image.
+//!
+//! # Example
+//!
+#![cfg_attr(qbx_lib, doc = "```")]
+#![cfg_attr(not(qbx_lib), doc = "```no_run")]
+//! use qanbillox::{Answer, Block, Geometry, UNLIMITED};
+//!
+//! fn main() -> Result<(), Answer> {
+//!     let chip = Geometry { segments: 16, slots: 255 };
+//!     let mut image = vec![0xFF; chip.image_len().unwrap()];
+//!
+//!     chip.format(&mut image, UNLIMITED).into_result()?;
+//!     chip.put(&mut image, Block(12), b"tenant 12", UNLIMITED).into_result()?;
+//!     assert_eq!(chip.read(&image, Block(12)).into_result()?, b"tenant 12");
+//!
+//!     // A budget of flash steps plays a power cut: here after the fourth step.
+//!     let cut = chip.put(&mut image, Block(31), b"tenant 31", 4);
+//!     assert_eq!((cut.answer, cut.steps), (Answer::Cut, 4));
+//!
+//!     chip.recover(&mut image, UNLIMITED).into_result()?;
+//!     assert_eq!(chip.read(&image, Block(31)).answer, Answer::Absent);
+//!     assert_eq!(chip.read(&image, Block(12)).into_result()?, b"tenant 12");
+//!     Ok(())
+//! }
+//! ```
+//!
+//! # The static library
+//!
+//! `rt staticlib qanbillox` proves the store and writes `target/staticlib/libqanbillox.a`, where
+//! this crate's build script finds it; `QANBILLOX_LIB_DIR` names another directory.
+
+#![no_std]
+#![warn(missing_docs)]
+
+mod answer;
+mod geometry;
+mod request;
+mod sys;
+
+pub use answer::Answer;
+pub use geometry::{Geometry, MAX_CONTENTS, PAGE};
+pub use request::{Block, Outcome, Read, Request, UNLIMITED};

@@ -1,0 +1,56 @@
+//! The exports of the static library, as they are.
+//!
+//! A slice crosses as a pointer and then a length. None of the functions asks anything of its
+//! arguments but what a slice asks: the pointer is valid for that many bytes, and nobody else
+//! writes them during the call.
+
+extern "C" {
+    /// Answer + 256 × steps done.
+    pub fn qbx_format(
+        image: *mut u8,
+        image_len: usize,
+        segments: usize,
+        slots: usize,
+        budget: u64,
+    ) -> u64;
+
+    /// Answer + 256 × steps done.
+    pub fn qbx_put(
+        image: *mut u8,
+        image_len: usize,
+        segments: usize,
+        slots: usize,
+        block: u16,
+        contents: *const u8,
+        contents_len: usize,
+        budget: u64,
+    ) -> u64;
+
+    /// Answer + 256 × steps done.
+    pub fn qbx_delete(
+        image: *mut u8,
+        image_len: usize,
+        segments: usize,
+        slots: usize,
+        block: u16,
+        budget: u64,
+    ) -> u64;
+
+    /// Answer + 256 × steps done.
+    pub fn qbx_recover(
+        image: *mut u8,
+        image_len: usize,
+        segments: usize,
+        slots: usize,
+        budget: u64,
+    ) -> u64;
+
+    /// Answer + 256 × length + 65,536 × offset.
+    pub fn qbx_read(
+        image: *const u8,
+        image_len: usize,
+        segments: usize,
+        slots: usize,
+        block: u16,
+    ) -> u64;
+}

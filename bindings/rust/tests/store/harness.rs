@@ -1,0 +1,160 @@
+//! The store under test.
+//!
+//! Every request of every test goes through [`Store`]. It runs the reference implementation and,
+//! if the library is linked, the library on a copy of the same image, and compares answer, steps,
+//! offset, length and every byte of the image. It also holds each reply to what document 01 says
+//! of all requests. So each test is a property of the reference without the library, and a
+//! comparison with it.
+
+use crate::reference::{self, Geometry, ReadReply, Reply, Request, CUT, DONE};
+use std::cell::Cell;
+use std::io::Write;
+
+pub struct Store {
+    test: &'static str,
+    requests: Cell<u64>,
+}
+
+impl Store {
+    pub fn new(test: &'static str) -> Store {
+        Store {
+            test,
+            requests: Cell::new(0),
+        }
+    }
+
+    fn count(&self) {
+        self.requests.set(self.requests.get() + 1);
+    }
+
+    /// A request that writes.
+    pub fn perform(
+        &self,
+        image: &mut [u8],
+        g: Geometry,
+        request: &Request,
+        allowance: u64,
+    ) -> Reply {
+        self.count();
+        let before = image.to_vec();
+        let reply = reference::perform(image, g, request, allowance);
+        match reply.code {
+            DONE => assert!(reply.steps <= allowance),
+            CUT => assert_eq!(reply.steps, allowance, "a cut request does what is allowed"),
+            _ => {
+                assert_eq!(reply.steps, 0, "a refused request takes no step");
+                assert!(before == image, "a refused request changes no byte");
+            }
+        }
+        #[cfg(qbx_lib)]
+        library::compare(before, image, g, request, allowance, reply);
+        reply
+    }
+
+    /// A read, in both forms.
+    pub fn read(&self, image: &[u8], g: Geometry, block: u16) -> ReadReply {
+        self.count();
+        let reply = reference::read(image, g, block);
+        #[cfg(qbx_lib)]
+        library::compare_read(image, g, block, reply);
+        reply
+    }
+
+    /// A request that has to be done whole. Its steps.
+    pub fn done(&self, image: &mut [u8], g: Geometry, request: &Request) -> u64 {
+        let reply = self.perform(image, g, request, reference::UNLIMITED);
+        assert_eq!(reply.code, DONE, "{request:?}");
+        reply.steps
+    }
+}
+
+impl Drop for Store {
+    /// Written to standard error itself, so that it shows without `--nocapture`.
+    fn drop(&mut self) {
+        if !std::thread::panicking() {
+            let with = if cfg!(qbx_lib) {
+                "compared with the library"
+            } else {
+                "on the reference alone"
+            };
+            let requests = self.requests.get();
+            let _ = writeln!(
+                std::io::stderr(),
+                "{}: {requests} requests {with}",
+                self.test
+            );
+        }
+    }
+}
+
+#[cfg(qbx_lib)]
+mod library {
+    use crate::reference::{self, ReadReply, Reply};
+    use qanbillox::{Block, Geometry, Request};
+
+    fn geometry(g: reference::Geometry) -> Geometry {
+        Geometry {
+            segments: g.n,
+            slots: g.b,
+        }
+    }
+
+    /// Runs the library on the image as it was before, and compares.
+    pub fn compare(
+        mut image: Vec<u8>,
+        after: &[u8],
+        g: reference::Geometry,
+        request: &reference::Request,
+        allowance: u64,
+        reply: Reply,
+    ) {
+        let typed = match request {
+            reference::Request::Format => Request::Format,
+            reference::Request::Put { block, contents } => Request::Put {
+                block: Block(*block),
+                contents,
+            },
+            reference::Request::Delete { block } => Request::Delete {
+                block: Block(*block),
+            },
+            reference::Request::Recover => Request::Recover,
+        };
+        let outcome = geometry(g).perform(&mut image, typed, allowance);
+        let library = Reply {
+            code: outcome.answer.number(),
+            steps: outcome.steps,
+        };
+        assert_eq!(
+            library, reply,
+            "left the library, right the reference: {request:?} with allowance {allowance}, {g:?}"
+        );
+        if let Some(at) = (0..after.len()).find(|&at| image[at] != after[at]) {
+            panic!(
+                "byte {at}: the library has {:02X}, the reference {:02X}; \
+                 {request:?} with allowance {allowance}, {g:?}",
+                image[at], after[at]
+            );
+        }
+    }
+
+    /// Runs both forms of reading on the library, and compares.
+    pub fn compare_read(image: &[u8], g: reference::Geometry, block: u16, reply: ReadReply) {
+        let read = geometry(g).read(image, Block(block));
+        let library = ReadReply {
+            code: read.answer.number(),
+            offset: read.offset,
+            length: read.contents.len(),
+        };
+        assert_eq!(
+            library, reply,
+            "left the library, right the reference: read {block}, {g:?}"
+        );
+
+        // Not only equal bytes: the same piece of the same slice.
+        let factory = b"factory record";
+        let (answer, piece) = geometry(g).read_or(image, Block(block), factory);
+        let (code, expected) = reference::read_or(image, g, block, factory);
+        assert_eq!(answer.number(), code);
+        assert_eq!(piece.as_ptr_range(), expected.as_ptr_range());
+    }
+}

@@ -1,0 +1,227 @@
+//! The step lists of document 01, written out, and every allowance of a request.
+
+use crate::harness::Store;
+use crate::images::{self, formatted};
+use crate::prng::Rng;
+use crate::reference::*;
+
+const SMALLEST: Geometry = Geometry { n: 2, b: 2 };
+
+/// Program steps at one page: offset in the page and byte.
+fn at_page(page: usize, bytes: &[(usize, u8)]) -> Vec<Step> {
+    bytes
+        .iter()
+        .map(|&(at, value)| Step::Program {
+            at: page + at,
+            value,
+        })
+        .collect()
+}
+
+/// "Slot written: status 7F, length, two number bytes, the contents, status 3F."
+fn slot_list(page: usize, block: u16, contents: &[u8]) -> Vec<Step> {
+    let mut bytes = vec![
+        (0, 0x7F),
+        (1, contents.len() as u8),
+        (2, (block % 256) as u8),
+        (3, (block / 256) as u8),
+    ];
+    bytes.extend(contents.iter().enumerate().map(|(i, &byte)| (8 + i, byte)));
+    bytes.push((0, 0x3F));
+    at_page(page, &bytes)
+}
+
+/// Bytes 0-4, 6 and 7.
+fn mark(g: Geometry) -> Vec<(usize, u8)> {
+    let (b, n) = (g.b as u8, g.n as u8);
+    vec![
+        (0, 0x53),
+        (1, 0x4C),
+        (2, 0x54),
+        (3, 1),
+        (4, 0),
+        (6, b),
+        (7, n),
+    ]
+}
+
+/// Bytes 8-15 of numbers below 256.
+fn number(value: u8) -> Vec<(usize, u8)> {
+    vec![
+        (8, value),
+        (9, 0),
+        (10, 0),
+        (11, 0),
+        (12, !value),
+        (13, 0xFF),
+        (14, 0xFF),
+        (15, 0xFF),
+    ]
+}
+
+fn opening_list(g: Geometry, value: u8) -> Vec<Step> {
+    let bytes = [vec![(5, 0x7F)], mark(g), number(value), vec![(5, 0x3F)]].concat();
+    at_page(g.page(g.index(value.into()), 0), &bytes)
+}
+
+#[test]
+fn format_is_erases_and_an_opening() {
+    let g = Geometry { n: 3, b: 2 };
+    let erases: Vec<Step> = (0..3).map(|index| Step::Erase { index }).collect();
+    let expected = [erases, opening_list(g, 0)].concat();
+    assert_eq!(expected.len(), 3 + 17);
+    let image = vec![0; 3 * 3 * 256];
+    assert_eq!(steps_of(&image, g, &Request::Format), (DONE, expected));
+}
+
+#[test]
+fn put_opens_then_writes_then_marks() {
+    let g = Geometry { n: 3, b: 2 };
+    let mut image = formatted(g);
+    put(&mut image, g, 300, b"ab", UNLIMITED);
+    put(&mut image, g, 2, b"c", UNLIMITED);
+    let request = Request::Put {
+        block: 300,
+        contents: b"new".to_vec(),
+    };
+    let expected = [
+        opening_list(g, 1),
+        slot_list(g.page(1, 1), 300, b"new"),
+        at_page(g.page(0, 1), &[(0, 0xDF)]),
+    ]
+    .concat();
+    assert_eq!(steps_of(&image, g, &request), (DONE, expected));
+
+    let expected = at_page(g.page(0, 1), &[(0, 0xDF)]);
+    let delete = Request::Delete { block: 300 };
+    assert_eq!(steps_of(&image, g, &delete), (DONE, expected));
+}
+
+/// The third put of example 5: the old segment 0 holds the block dead and live.
+fn tidying_list(g: Geometry) -> Vec<Step> {
+    [
+        at_page(
+            g.page(1, 0),
+            &[vec![(5, 0xDF)], mark(g), vec![(16, 0)]].concat(),
+        ),
+        slot_list(g.page(1, 1), 7, b"b"),
+        at_page(g.page(1, 0), &[number(1), vec![(5, 0x9F)]].concat()),
+        vec![Step::Erase { index: 0 }],
+        at_page(g.page(1, 0), &[(5, 0x8F)]),
+    ]
+    .concat()
+}
+
+fn two_puts() -> Vec<u8> {
+    let mut image = formatted(SMALLEST);
+    put(&mut image, SMALLEST, 7, b"a", UNLIMITED);
+    put(&mut image, SMALLEST, 7, b"b", UNLIMITED);
+    image
+}
+
+fn third_put() -> Request {
+    Request::Put {
+        block: 7,
+        contents: b"c".to_vec(),
+    }
+}
+
+#[test]
+fn put_tidies_and_marks_where_tidying_left_the_block() {
+    let g = SMALLEST;
+    let expected = [
+        tidying_list(g),
+        slot_list(g.page(1, 2), 7, b"c"),
+        at_page(g.page(1, 1), &[(0, 0xDF)]),
+    ]
+    .concat();
+    assert_eq!(expected.len(), 33);
+    assert_eq!(steps_of(&two_puts(), g, &third_put()), (DONE, expected));
+}
+
+#[test]
+fn recovery_takes_what_each_cut_left() {
+    let g = SMALLEST;
+    let settle = at_page(g.page(1, 0), &[(5, 0x8F)]);
+    let list_after = |steps| {
+        let mut image = two_puts();
+        assert_eq!(put(&mut image, g, 7, b"c", steps).code, CUT);
+        steps_of(&image, g, &Request::Recover)
+    };
+    // nothing left
+    assert_eq!(list_after(0), (DONE, vec![]));
+    assert_eq!(list_after(26), (DONE, vec![]));
+    // (a)
+    for steps in [1, 9, 15, 23] {
+        assert_eq!(list_after(steps), (DONE, vec![Step::Erase { index: 1 }]));
+    }
+    // (b), with the old segment still there and erased
+    let both = [vec![Step::Erase { index: 0 }], settle.clone()].concat();
+    assert_eq!(list_after(24), (DONE, both));
+    assert_eq!(list_after(25), (DONE, settle));
+    // (c), then (d)
+    let torn = at_page(g.page(1, 2), &[(0, 0xDF)]);
+    assert_eq!(list_after(27), (DONE, torn.clone()));
+    assert_eq!(list_after(31), (DONE, torn));
+    let older = at_page(g.page(1, 1), &[(0, 0xDF)]);
+    assert_eq!(list_after(32), (DONE, older));
+}
+
+/// Each allowance leaves exactly the first steps of the list done.
+fn every_allowance(store: &Store, image: &[u8], g: Geometry, request: &Request) {
+    let (code, list) = steps_of(image, g, request);
+    let mut expected = image.to_vec();
+    for allowance in 0..=list.len() + 1 {
+        let mut copy = image.to_vec();
+        let reply = store.perform(&mut copy, g, request, allowance as u64);
+        let cut = allowance < list.len();
+        assert_eq!(reply.code, if cut { CUT } else { code });
+        assert_eq!(reply.steps, allowance.min(list.len()) as u64);
+        assert!(copy == expected, "the first {allowance} steps are done");
+        if let Some(step) = list.get(allowance) {
+            step.apply(g, &mut expected);
+        }
+    }
+}
+
+#[test]
+fn every_allowance_of_every_request() {
+    let store = Store::new("every allowance of a request");
+    let mut rng = Rng::new(0xA110);
+    for (n, b, images) in [
+        (2, 2, 120),
+        (2, 3, 60),
+        (3, 2, 80),
+        (4, 4, 30),
+        (5, 3, 30),
+        (8, 2, 20),
+        (64, 2, 1),
+        (2, 40, 3),
+    ] {
+        let g = Geometry { n, b };
+        for round in 0..images {
+            let shape = images::shape(&mut rng, g);
+            let mut image = images::clean(&mut rng, g, shape);
+            if round % 2 == 1 {
+                images::disturb(&mut rng, g, &mut image);
+            }
+            let stored = images::some_block(&mut rng, g, &image);
+            let requests = [
+                Request::Format,
+                Request::Put {
+                    block: stored,
+                    contents: images::contents(&mut rng),
+                },
+                Request::Put {
+                    block: 40_000,
+                    contents: rng.bytes(3),
+                },
+                Request::Delete { block: stored },
+                Request::Recover,
+            ];
+            for request in requests {
+                every_allowance(&store, &image, g, &request);
+            }
+        }
+    }
+}

@@ -1,0 +1,290 @@
+-- Laws of compaction: a page copied byte by byte; what a live slot, or any other, adds to the copying; the whole.
+use Prim.Native.Nat.{ℕ, zero, suc, _+_, _-_, _*_, _%_, _≤_, _<_}
+use mathlib.Core.Path.{_≡_, refl, sym, ap, _∙_, subst}
+use mathlib.Core.Logic.{⊎-elim}
+use mathlib.Core.List.{List, [], _∷_, _++_, append-nil, map, flatMap}
+use native.Mathlib.Nat.{zero-add, mul-le-mul-right, suc-mul, mod-lt, mod-mod, mod-eq-of-lt}
+use native.Mathlib.Numerals.{add-one}
+use native.Mathlib.Omega.{arith}
+use lib.ListN.{length, getD, take, drop, set, replicate, drop-of-length-le}
+use lib.Seq.{paste, paste-suc, take-all, drop-cons, take-append-seam, getD-set-other}
+use denote.Enum.Declared.{tagOf}
+use types.Run.{OneOf}
+use Rattle.model.specs.declared.BlockNumber.{BlockNumber}
+use Rattle.model.specs.declared.SlotKind.{SlotKind}
+use Rattle.model.specs.declared.SlotKind.the-variants.{Live}
+use Rattle.model.proofs.SlotKind.{the-type}
+use Rattle.model.specs.Chip.{Image, Page, Step, program, erase, erased, run, pagesOf}
+use Rattle.model.specs.Slot.{mostContents, slotPage, Slot, empty, torn, dead, wrong, live, slotOf, kindOf, Entry, entryOf}
+use Rattle.model.specs.State.{entries}
+use Rattle.model.specs.Steps.{onPage, headerAt, slotAt, writeSlot, copyEntries, settle}
+use Rattle.model.specs.Laws.Chunk.{chunk-part}
+use Rattle.model.specs.Laws.Chip.{run-length}
+use Rattle.model.specs.Laws.Pages.{InPage}
+use Rattle.model.specs.Laws.Segments.{parts, partOf, part-page, part-size, page-in, Only, only-run, InSegment, page-in-segment}
+use Rattle.model.specs.Laws.HeaderPage.{compactionHeader, compaction-in-page}
+use Rattle.model.specs.Laws.SlotPage.{live-facts, write-in-page}
+use Rattle.flash.specs.Ran.{Ran, Programmed}
+use Rattle.flash.proofs.Laws.{_then_, ran-none, ran-lent}
+use Rattle.page.specs.Pages.{OnPageAt, Sized, beginCompaction, finishCopy}
+use Rattle.page.proofs.Laws.Writes.{write-within}
+use Rattle.compact.specs.Compaction.{liveEntries, firstSlot, Apart, Copied, Compaction, compact-parts}
+
+-- ---- a page by value
+
+pub page-turn : (p s : List ℕ) (i : ℕ) → length p ≡ 256 → length s ≡ 256 → i < 256 → set (paste p 0 s i) i (getD s i 0) ≡ paste p 0 s (i + 1)
+page-turn p s i lp ls h =
+    ap (λ (k : ℕ). set (paste p 0 s i) k (getD s i 0)) (sym (zero-add i)) ∙ paste-suc p 0 s i 0 (omega arith) (omega arith) ∙ ap (paste p 0 s) (sym (add-one i))
+
+pub page-whole : (s : List ℕ) (i : ℕ) → length s ≡ 256 → i ≡ 256 → paste (replicate 256 255) 0 s i ≡ s
+page-whole s i l e = ap (paste (replicate 256 255) 0 s) e ∙ append-nil (take 256 s) ∙ take-all 256 s (omega arith)
+
+-- ---- the kinds that `let SlotKind::Live .. else` tells apart
+
+abbrev pub Other : SlotKind → Type 0
+Other k = OneOf (0 ∷ 1 ∷ 3 ∷ 4 ∷ []) (tagOf the-type k)
+
+no-live : (l : ℕ) (b : BlockNumber) → Other (Live l b) → ⊥
+no-live l b h = ⊎-elim (λ e. omega arith) (⊎-elim (λ e. omega arith) (⊎-elim (λ e. omega arith) (λ e. omega arith))) h
+
+-- a slot of another kind holds nothing
+other-holds : (k : Slot) → Other (kindOf k) → entryOf k ≡ []
+unfolding kindOf entryOf
+other-holds empty h = refl
+other-holds torn h = refl
+other-holds dead h = refl
+other-holds wrong h = refl
+other-holds (live b c) h = absurd (no-live (length c) (record { 0 = b }) h)
+
+kind-live : (k : Slot) (l : ℕ) (b : BlockNumber) → kindOf k ≡ Live l b → (c : List ℕ) × (k ≡ live (b .0) c) × (length c ≡ l)
+unfolding kindOf
+kind-live empty l b e = absurd (let z : _≡_ {A = ℕ} 0 1 = cc in omega arith)
+kind-live torn l b e = absurd (let z : _≡_ {A = ℕ} 0 1 = cc in omega arith)
+kind-live dead l b e = absurd (let z : _≡_ {A = ℕ} 0 1 = cc in omega arith)
+kind-live wrong l b e = absurd (let z : _≡_ {A = ℕ} 0 1 = cc in omega arith)
+kind-live (live n c) l b e = let f : _≡_ {A = BlockNumber} (record { 0 = n }) b = cc in (c, ap (λ (x : BlockNumber). live (x .0) c) f, cc)
+
+page-contents : (p : Page) (b l : ℕ) (c : List ℕ) → p ≡ slotPage b c → length c ≡ l → take l (drop 8 p) ≡ c
+unfolding slotPage
+page-contents p b l c e f =
+    let r : List ℕ = erased (mostContents - length c) in
+    ap (λ (y : Page). take l (drop 8 y)) e ∙ ap (λ (k : ℕ). take k (c ++ r)) (sym f) ∙ take-append-seam c r
+
+-- what a live slot holds is in its page
+pub record LivePage (p : Page) (l b : ℕ) : Type 0 where
+  pub holds : slotOf p ≡ live b (take l (drop 8 p))
+  pub short : l ≤ 248
+  pub long : length (take l (drop 8 p)) ≡ l
+
+pub live-page : (p : Page) (l : ℕ) (b : BlockNumber) {k : SlotKind} → k ≡ kindOf (slotOf p) → k ≡ Live l b → LivePage p l (b .0)
+unfolding mostContents
+live-page p l b d e = go (kind-live (slotOf p) l b (sym d ∙ e))
+  where
+    go : ((c : List ℕ) × (slotOf p ≡ live (b .0) c) × (length c ≡ l)) → LivePage p l (b .0)
+    go (c, h, k) =
+        let f = live-facts p (b .0) c h in
+        let g : take l (drop 8 p) ≡ c = page-contents p (b .0) l c (f .page) k in
+        record { holds = rw g h; short = omega (arith, f .short); long = rw g k }
+
+-- ---- what steps in one segment keep
+
+in-segment-take : (B t k : ℕ) (xs : List Step) → InSegment B t xs → InSegment B t (take k xs)
+in-segment-take B t zero xs h = tt
+in-segment-take B t (suc k) [] h = tt
+in-segment-take B t (suc k) (program at v ∷ xs) h = (h .0, in-segment-take B t k xs (h .1))
+in-segment-take B t (suc k) (erase i ∷ xs) h = h
+
+-- the pages of another segment, however far the budget went
+pub pages-kept : (N B i t : ℕ) {xs : List Step} {n r : ℕ} {s u : Image} → t < N → (i ≡ t → ⊥) → InSegment B t xs → Ran xs B n r s u → partOf N B i u ≡ partOf N B i s
+pages-kept N B i t {xs} {n} {r} {s} {u} h a w d =
+    let o : Only N B t s (run B (take n xs) s) = only-run N B t (take n xs) s h (in-segment-take B t n xs w) in
+    ap (λ (y : Image). partOf N B i y) (d .image) ∙ ap (λ (y : List (List Page)). getD y i []) o ∙ getD-set-other (parts N B s) t i (partOf N B t (run B (take n xs) s)) [] a
+
+pub ran-length : {xs : List Step} {B n r : ℕ} {s u : Image} → Ran xs B n r s u → length u ≡ length s
+ran-length {xs} {B} {n} {r} {s} d = ap length (d .image) ∙ run-length B (take n xs) s
+
+-- ---- the slots of the source, one after the other
+
+-- what the slots from a place on hold
+abbrev pub entriesFrom : ℕ → ℕ → ℕ → Image → ℕ → List Entry
+entriesFrom N B i s j = entries (map slotOf (drop (suc j) (partOf N B i s)))
+
+entries-next : (N B i j : ℕ) (s : Image) → i < N → j < B → entriesFrom N B i s j ≡ entryOf (slotOf (getD (partOf N B i s) (suc j) [])) ++ entriesFrom N B i s (j + 1)
+unfolding entries flatMap
+entries-next N B i j s h k = rw (add-one, drop-cons (partOf N B i s) (suc j) [] (omega (arith, part-size N B i s h)))
+
+entries-end : (N B i j : ℕ) (s : Image) → i < N → B ≤ j → entriesFrom N B i s j ≡ []
+unfolding entries flatMap
+entries-end N B i j s h k =
+    let e : drop (suc j) (partOf N B i s) ≡ [] = drop-of-length-le (partOf N B i s) {i = suc j} (omega (arith, part-size N B i s h)) in
+    rw e
+
+-- the page that is read for a slot
+slot-read : (N B i j : ℕ) (s : Image) (at : ℕ) → i < N → j < B → at ≡ firstSlot B i * 256 + j * 256 → take (at + 256 - at) (drop at s) ≡ getD (partOf N B i s) (suc j) []
+unfolding pagesOf
+slot-read N B i j s at h k e =
+    let f : at + 256 - at ≡ 256 = omega arith in
+    let g : at ≡ (i * (B + 1) + suc j) * 256 = omega arith in
+    rw (f, g) (sym (part-page N B i (suc j) s h (omega arith) ∙ chunk-part 256 (N * (B + 1)) (i * (B + 1) + suc j) s (page-in N B i (suc j) h (omega arith))))
+
+pub segment-inside : (N B i : ℕ) → i < N → (i * (B + 1) + (B + 1)) * 256 ≤ N * (B + 1) * 256
+segment-inside N B i h = omega (arith, mul-le-mul-right (B + 1) h, suc-mul i (B + 1))
+
+pub slots-inside : (N B i : ℕ) → i < N → firstSlot B i * 256 + B * 256 ≤ N * (B + 1) * 256
+slots-inside N B i h = omega (arith, segment-inside N B i h)
+
+-- ---- the loop that copies
+
+-- the loop's invariant, from segment i to segment t: whatever finishes the rest of the copying finishes the whole
+pub record Copying (N B i t budget : ℕ) (from s : Image) (left copied slot : ℕ) : Type 0 where
+  pub finish : (r : ℕ) (u : Image) → Programmed (copyEntries N B t copied (entriesFrom N B i from slot)) left r s u → Programmed (copyEntries N B t 0 (entriesFrom N B i from 0)) budget r from u
+  pub counted : copied + length (entriesFrom N B i from slot) ≡ length (entriesFrom N B i from 0)
+  pub source : i < N
+  pub target : t < N
+  pub apart : i ≡ t → ⊥
+  pub within : slot ≤ B
+  pub behind : copied ≤ slot
+  pub pages : partOf N B i s ≡ partOf N B i from
+  pub size : length s ≡ length from
+  pub reads : firstSlot B i * 256 + B * 256 ≤ length s
+  pub writes : firstSlot B t * 256 + B * 256 ≤ length s
+
+pub copying-start : (N B i t o n budget : ℕ) (s : Image) → Sized N B (length s) → i ≡ o % N → t ≡ n % N → Apart N o n → Copying N B i t budget s s budget 0 0
+copying-start N B i t o n budget s z e f a =
+    let p : 0 < N = z .some in
+    let h : i < N = omega (arith, mod-lt o {m = N} p) in
+    let k : t < N = omega (arith, mod-lt n {m = N} p) in
+    record {
+      finish = λ r u d. d;
+      counted = omega arith;
+      source = h;
+      target = k;
+      apart = λ w. a (sym e ∙ w ∙ f);
+      within = omega arith;
+      behind = omega arith;
+      pages = refl;
+      size = refl;
+      reads = omega (arith, z .whole, slots-inside N B i h);
+      writes = omega (arith, z .whole, slots-inside N B t k);
+    }
+
+module _ (N B i t budget : ℕ) (from s : Image) (left copied slot at : ℕ) (c : Copying N B i t budget from s left copied slot) (more : slot < B)
+    (page : Page) (here : at ≡ firstSlot B i * 256 + slot * 256) (read : page ≡ take (at + 256 - at) (drop at s)) where
+  -- what the slot that was read adds
+  slot-adds : entriesFrom N B i from slot ≡ entryOf (slotOf page) ++ entriesFrom N B i from (slot + 1)
+  slot-adds =
+      let e : page ≡ getD (partOf N B i from) (suc slot) [] = read ∙ slot-read N B i slot s at (c .source) more here ∙ ap (λ (y : List Page). getD y (suc slot) []) (c .pages) in
+      entries-next N B i slot from (c .source) more ∙ ap (λ (y : Page). entryOf (slotOf y) ++ entriesFrom N B i from (slot + 1)) (sym e)
+
+  pub copying-skip : (k : SlotKind) → k ≡ kindOf (slotOf page) → Other k → Copying N B i t budget from s left copied (slot + 1)
+  copying-skip k e o =
+      let a : entriesFrom N B i from slot ≡ entriesFrom N B i from (slot + 1) =
+      slot-adds ∙ ap (λ (y : List Entry). y ++ entriesFrom N B i from (slot + 1)) (other-holds (slotOf page) (subst Other e o)) in
+      record {
+        finish = λ r u d. c .finish r u (rw (← a) at d);
+        counted = omega (arith, ap length a, c .counted);
+        source = c .source;
+        target = c .target;
+        apart = c .apart;
+        within = omega arith;
+        behind = omega (arith, c .behind);
+        pages = c .pages;
+        size = c .size;
+        reads = c .reads;
+        writes = c .writes;
+      }
+
+  -- the image when the part with the target's slots comes back
+  abbrev Back : ℕ → List ℕ → Image
+  Back start q = take start s ++ (q ++ drop (start + B * 256 - start) (drop start s))
+
+  -- what was written in the part, said of the image
+  slot-written : (l b start r : ℕ) (q : List ℕ) → LivePage page l b → start ≡ firstSlot B t * 256
+      → OnPageAt (copied * 256) (writeSlot b (take (8 + l - 8) (drop 8 page))) left r (take (start + B * 256 - start) (drop start s)) q
+      → Programmed (onPage (slotAt N B t copied) (writeSlot b (take l (drop 8 page)))) left r s (Back start q)
+  unfolding slotAt
+  slot-written l b start r q v e d C =
+      let f : start + B * 256 - start ≡ B * 256 = omega arith in
+      let g : 8 + l - 8 ≡ l = omega arith in
+      let m : t % N ≡ t = mod-eq-of-lt (c .target) in
+      let h : firstSlot B t + copied ≡ t * (B + 1) + suc copied = omega arith in
+      let w = d copied refl C in
+      rw (m, ← h, f, e)
+      (ran-lent (firstSlot B t) (B * 256) copied s (writeSlot b (take l (drop 8 page))) (c .writes) (omega (arith, c .behind)) (write-within b (take l (drop 8 page)) (omega (arith, v .short, v .long)))
+      (rw (f, e, g) at w))
+
+  slot-in-target : (xs : List Step) → InPage xs → InSegment B t (onPage (slotAt N B t copied) xs)
+  unfolding slotAt
+  slot-in-target xs p =
+      let m : t % N ≡ t = mod-eq-of-lt (c .target) in
+      rw m (page-in-segment B t (suc copied) xs (omega (arith, c .behind)) p)
+
+  pub copying-turn : (k : SlotKind) (l : ℕ) (b : BlockNumber) (start r : ℕ) (q : List ℕ) → k ≡ kindOf (slotOf page) → k ≡ Live l b → start ≡ firstSlot B t * 256
+      → OnPageAt (copied * 256) (writeSlot (b .0) (take (8 + l - 8) (drop 8 page))) left r (take (start + B * 256 - start) (drop start s)) q
+      → Copying N B i t budget from (Back start q) r (copied + 1) (slot + 1)
+  unfolding mostContents entryOf copyEntries
+  copying-turn k l b start r q e f g d =
+      let v = live-page page l b e f in
+      let x : List ℕ = take l (drop 8 page) in
+      let a : entriesFrom N B i from slot ≡ record { block = b .0; contents = x } ∷ entriesFrom N B i from (slot + 1) =
+      slot-adds ∙ ap (λ (y : Slot). entryOf y ++ entriesFrom N B i from (slot + 1)) (v .holds) in
+      let w : Programmed (onPage (slotAt N B t copied) (writeSlot (b .0) x)) left r s (Back start q) = slot-written l (b .0) start r q v g d in
+      let y : length x ≤ mostContents = omega (arith, v .short, v .long) in
+      let z : length (Back start q) ≡ length s = ran-length (w B) in
+      record {
+        finish = λ m u h. c .finish m u (rw a (λ C. _then_ (w C) (rw (add-one copied) at (h C))));
+        counted = omega (arith, ap length a, c .counted);
+        source = c .source;
+        target = c .target;
+        apart = c .apart;
+        within = omega arith;
+        behind = omega (arith, c .behind);
+        pages = pages-kept N B i t (c .target) (c .apart) (slot-in-target (writeSlot (b .0) x) (write-in-page (b .0) x y)) (w B) ∙ c .pages;
+        size = z ∙ c .size;
+        reads = rw z (c .reads);
+        writes = rw z (c .writes);
+      }
+
+-- entries are written to the same slots for every number of a segment
+same-segment : (N B n j : ℕ) (es : List Entry) → copyEntries N B (n % N) j es ≡ copyEntries N B n j es
+unfolding copyEntries slotAt
+same-segment N B n j [] = refl
+same-segment N B n j (e ∷ es) = rw (mod-mod n N, same-segment N B n (suc j) es)
+
+pub copying-end : (N B i t o n budget : ℕ) {from s : Image} {left copied slot : ℕ} → Copying N B i t budget from s left copied slot → B ≤ slot → i ≡ o % N → t ≡ n % N
+    → Copied N B o n budget left copied from s
+unfolding copyEntries liveEntries
+copying-end N B i t o n budget {from} {s} {left} {copied} {slot} c h e f =
+    let z : entriesFrom N B i from slot ≡ [] = entries-end N B i slot from (c .source) h in
+    let a : entriesFrom N B i from 0 ≡ liveEntries N B o from = ap (λ (k : ℕ). entriesFrom N B k from 0) e in
+    let g : copyEntries N B t 0 (entriesFrom N B i from 0) ≡ copyEntries N B n 0 (liveEntries N B o from) =
+    ap (λ (k : ℕ). copyEntries N B k 0 (entriesFrom N B i from 0)) f ∙ same-segment N B n 0 (entriesFrom N B i from 0) ∙ ap (λ (es : List Entry). copyEntries N B n 0 es) a in
+    record {
+      ran = subst (λ (xs : List Step). Programmed xs budget left from s) g (c .finish left s (λ C. rw z (ran-none C left s)));
+      counted = omega (arith, c .counted, ap length z, ap length a);
+    }
+
+-- ---- the whole
+
+begin-in-target : (N B o n : ℕ) → InSegment B (n % N) (beginCompaction N B o n)
+unfolding beginCompaction compactionHeader headerAt
+begin-in-target N B o n =
+    let e : n % N * (B + 1) + 0 ≡ n % N * (B + 1) = omega arith in
+    rw e at (page-in-segment B (n % N) 0 (compactionHeader N B n (o % N)) (omega arith) (compaction-in-page N B n (o % N)))
+
+-- the old segment holds after the first steps what it held before
+same-entries : (N B o n : ℕ) {b r : ℕ} {s u : Image} → 0 < N → Apart N o n → Programmed (beginCompaction N B o n) b r s u → liveEntries N B o u ≡ liveEntries N B o s
+unfolding liveEntries
+same-entries N B o n p a d =
+    ap (λ (ps : List Page). entries (map slotOf (drop 1 ps))) (pages-kept N B (o % N) (n % N) (mod-lt n {m = N} p) a (begin-in-target N B o n) (d B))
+
+pub compaction-done : (N B o n i budget : ℕ) {b₁ b₂ b₃ b₄ left count : ℕ} {s s₁ s₂ s₃ s₄ u : Image} → Sized N B (length s) → Apart N o n → i ≡ o % N
+    → Programmed (beginCompaction N B o n) budget b₁ s s₁ → Copied N B o n b₁ b₂ count s₁ s₂ → Programmed (finishCopy N B o n) b₂ b₃ s₂ s₃
+    → Ran (erase i ∷ []) B b₃ b₄ s₃ s₄ → Programmed (settle N B n) b₄ left s₄ u → Compaction N B o n budget left count s u
+compaction-done N B o n i budget {s = s} {s₁ = s₁} z a h begun copy pending clears settled =
+    let es = liveEntries N B o s in
+    let e : liveEntries N B o s₁ ≡ es = same-entries N B o n (z .some) a begun in
+    record {
+      ran = rw (compact-parts N B o n es) (_then_ (begun B) (_then_ (rw e at (copy .ran B)) (_then_ (pending B) (_then_ (rw h at clears) (settled B)))));
+      counted = rw e at (copy .counted);
+    }

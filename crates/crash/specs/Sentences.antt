@@ -1,0 +1,36 @@
+-- The customer's sentences about every history of the store, from any image of a right size.
+use Prim.Native.Nat.{ℕ}
+use mathlib.Core.Path.{_≡_, sym, subst}
+use mathlib.Core.Logic.{_≢_}
+use mathlib.Core.Bool.{true}
+use mathlib.Core.List.{List, [], _∷_, _++_}
+use Rattle.model.specs.Chip.{Image, rightSize}
+use Rattle.model.specs.Slot.{numberOk}
+use Rattle.model.specs.State.{capacity}
+use Rattle.model.specs.Table.{Found}
+use Rattle.model.specs.Histories.{answered, Event, History}
+use Rattle.crash.specs.Machine.{unknown}
+use Rattle.crash.specs.Reading.{codeSeen, format-starts}
+use Rattle.crash.specs.ReadingRuns.{PutAmong, Known, NoFormat, FinishedFormat, runs-known, runs-append, Reads, factoryOf, gives, shows-only-what-was-put, AllSpare, replied, Leaves, acknowledged-stays}
+use Rattle.crash.specs.Theorem.{demand2}
+
+-- A block never shows contents that were not put under its number since the last format.
+pub store-shows-only-what-was-put : (N B : ℕ) (s u : Image) (past es : List Event) (f e : Event) (b : ℕ) (c : List ℕ) → rightSize N B s ≡ true
+    → History N B s (past ++ (f ∷ (es ++ (e ∷ [])))) u → FinishedFormat f → NoFormat es → Reads b (e .request) → e .seen ≡ answered (gives c) → PutAmong b c es
+store-shows-only-what-was-put N B s u past es f e b c z h done none q g =
+    let (x, runs, keeps) = demand2 N B s u (past ++ (f ∷ (es ++ (e ∷ [])))) z h in
+    shows-only-what-was-put (capacity N B) unknown x past es f e b c runs done none q g
+
+-- Once acknowledged, a put or a delete is what every read of that block shows until the block is put or deleted again, through every power cut and recovery;
+-- in a history with a finished format and no other since.
+pub store-acknowledged-stays : (N B : ℕ) (s u : Image) (past before es : List Event) (f d e : Event) (b : ℕ) (z : Found) → rightSize N B s ≡ true
+    → History N B s (past ++ (f ∷ (before ++ (d ∷ (es ++ (e ∷ [])))))) u → FinishedFormat f → NoFormat before
+    → Leaves b z (d .request) → codeSeen (d .seen) ≡ 0 → AllSpare b es → Reads b (e .request) → numberOk b ≡ true
+    → codeSeen (e .seen) ≢ 9 → codeSeen (e .seen) ≢ 5 → e .seen ≡ answered (replied (factoryOf (e .request)) z)
+store-acknowledged-stays N B s u past before es f d e b z size h done none leaves acknowledged spare q n cut asks =
+    let C = capacity N B in
+    let (y, runs, keeps) = demand2 N B s u (past ++ (f ∷ (before ++ (d ∷ (es ++ (e ∷ [])))))) size h in
+    let (start, formatted, (fresh, formatting, rest)) = runs-append C past (f ∷ (before ++ (d ∷ (es ++ (e ∷ []))))) unknown y runs in
+    let (x, since, doing) = runs-append C before (d ∷ (es ++ (e ∷ []))) fresh y rest in
+    let known : Known x = runs-known C before fresh x since none (subst Known (sym (format-starts formatting (done .request) (done .seen))) tt) in
+    acknowledged-stays C x y es d e b z doing known leaves acknowledged spare q n cut asks

@@ -1,0 +1,192 @@
+-- The state of an image by its segments. The four unfinished cases alike: each passes its test, is mended to clean segments, and shows their table.
+-- An image that is mended to the same shows the same.
+use Prim.Native.Nat.{ℕ, _-_, _≤_}
+use mathlib.Core.Path.{_≡_, refl, sym, ap, _∙_, subst}
+use mathlib.Core.Bool.{Bool, true, false, cond, _&&_}
+use mathlib.Core.List.{List, [], _∷_}
+use native.Mathlib.Omega.{arith}
+use lib.ListN.{length, getD}
+use lib.Dec.{ltb, eqb}
+use Rattle.model.specs.Lists.{count}
+use Rattle.model.specs.Chip.{Image, rightSize, run}
+use Rattle.model.specs.Slot.{isTorn}
+use Rattle.model.specs.State.{Segment, blank, isInvalid, isOwing, segmentsOf, nextIndex, topIndex, usedCount, viewOf, entriesIn, isClean, nextBlanked, isA, topSettled, isB, lastKind, tornMarked, isC, lastBlock, copies, olderMarked, isD, Exception, caseA, caseB, caseC, caseD, State, clean, unfinished, damaged, stateOf, state, view}
+use Rattle.model.specs.Steps.{mendSteps, recoverSteps}
+use Rattle.model.specs.Table.{Table, Agree, tableOf}
+use Rattle.model.specs.Answers.{recover, isDamaged, firstOf, refusals, stepsFor, workOn, workOf}
+use Rattle.model.specs.Histories.{recovered, shown}
+use Rattle.model.specs.Laws.Lists.{and-right}
+use Rattle.model.specs.Laws.Tables.{agree-of, agree-trans}
+use Rattle.model.specs.Laws.Clean.{clean-state}
+use Rattle.model.specs.Laws.Exclusive.{exclusive}
+use Rattle.crash.specs.Sound.{SoundAs, Sound, Clean, DoneWith}
+use Rattle.crash.specs.Requests.{shown-clean, sound-clean}
+
+-- ---- the cases
+
+-- the test of a case, and the segments that its recovery leaves
+unfoldable pub isCase : ℕ → ℕ → List Segment → Exception → Bool
+isCase N B l caseA = isA N B l
+isCase N B l caseB = isB N B l
+isCase N B l caseC = isC N B l
+isCase N B l caseD = isD N B l
+
+unfoldable pub mended : ℕ → List Segment → Exception → List Segment
+mended N l caseA = nextBlanked N l
+mended N l caseB = topSettled N l
+mended N l caseC = tornMarked N l
+mended N l caseD = olderMarked N l
+
+pub mended-clean : (N B : ℕ) (l : List Segment) (x : Exception) → isCase N B l x ≡ true → isClean N B (mended N l x) ≡ true
+unfolding isCase mended isA isB isC isD
+mended-clean N B l caseA h = and-right (isInvalid (getD l (nextIndex N l) blank)) (isClean N B (nextBlanked N l)) h
+mended-clean N B l caseB h = and-right (eqb (usedCount (topSettled N l)) (N - 1)) (isClean N B (topSettled N l))
+    (and-right (isOwing (getD l (topIndex N l) blank)) (eqb (usedCount (topSettled N l)) (N - 1) && isClean N B (topSettled N l)) h)
+mended-clean N B l caseC h = and-right (isTorn (lastKind N l)) (isClean N B (tornMarked N l)) h
+mended-clean N B l caseD h = and-right (eqb (copies (lastBlock N l) (entriesIn (viewOf N l))) 2) (isClean N B (olderMarked N l))
+    (and-right (ltb 0 (lastBlock N l)) (eqb (copies (lastBlock N l) (entriesIn (viewOf N l))) 2 && isClean N B (olderMarked N l)) h)
+
+-- the first of five tests that passes
+abbrev choice : Bool → Bool → Bool → Bool → Bool → State
+choice p a b c d = cond p clean (cond a (unfinished caseA) (cond b (unfinished caseB) (cond c (unfinished caseC) (cond d (unfinished caseD) damaged))))
+
+abbrev pick : Exception → Bool → Bool → Bool → Bool → Bool
+pick caseA a b c d = a
+pick caseB a b c d = b
+pick caseC a b c d = c
+pick caseD a b c d = d
+
+pub case-of : (N B : ℕ) (l : List Segment) (x : Exception) → stateOf N B l ≡ unfinished x → isCase N B l x ≡ true
+unfolding stateOf
+case-of N B l x h = passed x ∙ go (isClean N B l) (isA N B l) (isB N B l) (isC N B l) (isD N B l) h
+  where
+    passed : (y : Exception) → isCase N B l y ≡ pick y (isA N B l) (isB N B l) (isC N B l) (isD N B l)
+    passed caseA = unfold isCase in refl
+    passed caseB = unfold isCase in refl
+    passed caseC = unfold isCase in refl
+    passed caseD = unfold isCase in refl
+
+    go : (p a b c d : Bool) → choice p a b c d ≡ unfinished x → pick x a b c d ≡ true
+    go true a b c d e = cc
+    go false true b c d e = let y : caseA ≡ x = cc in subst (λ w. pick w true b c d ≡ true) y refl
+    go false false true c d e = let y : caseB ≡ x = cc in subst (λ w. pick w false true c d ≡ true) y refl
+    go false false false true d e = let y : caseC ≡ x = cc in subst (λ w. pick w false false true d ≡ true) y refl
+    go false false false false true e = let y : caseD ≡ x = cc in subst (λ w. pick w false false false true ≡ true) y refl
+    go false false false false false e = cc
+
+-- the cases exclude each other, so each is recognised by its test alone
+abbrev passing : List Bool → ℕ
+passing l = count (λ t. t) l
+
+later : (t : Bool) (l : List Bool) → passing l ≤ passing (t ∷ l)
+unfolding count
+later true l = omega arith
+later false l = omega arith
+
+only-a : (p b c d : Bool) → passing (p ∷ true ∷ b ∷ c ∷ d ∷ []) ≤ 1 → choice p true b c d ≡ unfinished caseA
+unfolding count
+only-a true b c d n = absurd (omega arith)
+only-a false b c d n = refl
+
+only-b : (p a c d : Bool) → passing (p ∷ a ∷ true ∷ c ∷ d ∷ []) ≤ 1 → choice p a true c d ≡ unfinished caseB
+unfolding count
+only-b true a c d n = absurd (omega (arith, later a (true ∷ c ∷ d ∷ [])))
+only-b false true c d n = absurd (omega arith)
+only-b false false c d n = refl
+
+only-c : (p a b d : Bool) → passing (p ∷ a ∷ b ∷ true ∷ d ∷ []) ≤ 1 → choice p a b true d ≡ unfinished caseC
+unfolding count
+only-c true a b d n = absurd (omega (arith, later a (b ∷ true ∷ d ∷ []), later b (true ∷ d ∷ [])))
+only-c false true b d n = absurd (omega (arith, later b (true ∷ d ∷ [])))
+only-c false false true d n = absurd (omega arith)
+only-c false false false d n = refl
+
+only-d : (p a b c : Bool) → passing (p ∷ a ∷ b ∷ c ∷ true ∷ []) ≤ 1 → choice p a b c true ≡ unfinished caseD
+unfolding count
+only-d true a b c n = absurd (omega (arith, later a (b ∷ c ∷ true ∷ []), later b (c ∷ true ∷ []), later c (true ∷ [])))
+only-d false true b c n = absurd (omega (arith, later b (c ∷ true ∷ []), later c (true ∷ [])))
+only-d false false true c n = absurd (omega (arith, later c (true ∷ [])))
+only-d false false false true n = absurd (omega arith)
+only-d false false false false n = refl
+
+pub state-case : (N B : ℕ) (l : List Segment) (x : Exception) → length l ≡ N → isCase N B l x ≡ true → stateOf N B l ≡ unfinished x
+unfolding stateOf isCase
+state-case N B l caseA e h = rw h (only-a (isClean N B l) (isB N B l) (isC N B l) (isD N B l) (rw h at (exclusive N B l e)))
+state-case N B l caseB e h = rw h (only-b (isClean N B l) (isA N B l) (isC N B l) (isD N B l) (rw h at (exclusive N B l e)))
+state-case N B l caseC e h = rw h (only-c (isClean N B l) (isA N B l) (isB N B l) (isD N B l) (rw h at (exclusive N B l e)))
+state-case N B l caseD e h = rw h (only-d (isClean N B l) (isA N B l) (isB N B l) (isC N B l) (rw h at (exclusive N B l e)))
+
+-- ---- recovery
+
+pub recover-steps : (N B : ℕ) (s : Image) (x : Exception) → rightSize N B s ≡ true → state N B s ≡ unfinished x → workOf N B s recover .steps ≡ mendSteps N B (segmentsOf N B s) x
+unfolding workOf workOn refusals firstOf stepsFor recoverSteps isDamaged state
+recover-steps N B s x z e = rw (z, e)
+
+pub recovered-run : (N B : ℕ) (s : Image) (x : Exception) → rightSize N B s ≡ true → state N B s ≡ unfinished x → recovered N B s ≡ run B (mendSteps N B (segmentsOf N B s) x) s
+unfolding recovered
+recovered-run N B s x z e = ap (λ y. run B y s) (recover-steps N B s x z e)
+
+-- ---- what an image will show
+
+-- sound, and a finished recovery shows this table
+abbrev pub SoundWith : ℕ → ℕ → Image → Table → Type 0
+SoundWith N B u t = Sound N B u × Agree (shown N B u) t
+
+-- what is promised of an image that a cut recovery left
+abbrev pub Kept : ℕ → ℕ → Image → Image → Type 0
+Kept N B s u = SoundWith N B u (shown N B s)
+
+pub kept-same : (N B : ℕ) (s u : Image) → Sound N B s → u ≡ s → Kept N B s u
+kept-same N B s u h e = subst (λ (y : Image). Kept N B s y) (sym e) (h, agree-of (shown N B s) (shown N B s) refl)
+
+-- a clean image with this table shows it
+pub clean-shows : (N B : ℕ) (u : Image) (t : Table) → DoneWith N B u t → SoundWith N B u t
+clean-shows N B u t d = (sound-clean N B u (d .0), agree-trans (shown N B u) (tableOf N B u) t (agree-of (shown N B u) (tableOf N B u) (shown-clean N B u (d .0))) (d .1))
+
+-- the state and the table are those of the segments
+pub segments-state : (N B : ℕ) (s u : Image) (x : State) → segmentsOf N B u ≡ segmentsOf N B s → state N B s ≡ x → state N B u ≡ x
+unfolding state
+segments-state N B s u x e h = ap (λ y. stateOf N B y) e ∙ h
+
+pub table-in : (N B : ℕ) (s : Image) (l : List Segment) → segmentsOf N B s ≡ l → tableOf N B s ≡ entriesIn (viewOf N l)
+unfolding tableOf view
+table-in N B s l e = ap (λ (y : List Segment). entriesIn (viewOf N y)) e
+
+-- an image with the segments of a clean one is clean, with its table
+pub segments-show : (N B : ℕ) (s u : Image) → Clean N B s → segmentsOf N B u ≡ segmentsOf N B s → SoundWith N B u (tableOf N B s)
+segments-show N B s u h e = clean-shows N B u (tableOf N B s)
+    (segments-state N B s u clean e h, agree-of (tableOf N B u) (tableOf N B s) (table-in N B u (segmentsOf N B s) e ∙ sym (table-in N B s (segmentsOf N B s) refl)))
+
+-- an image has been recovered to the mended segments of the case
+abbrev pub Mended : ℕ → ℕ → Image → Exception → Type 0
+Mended N B s x = segmentsOf N B (recovered N B s) ≡ mended N (segmentsOf N B s) x
+
+module _ (N B : ℕ) (s : Image) (x : Exception) (e : state N B s ≡ unfinished x) (m : Mended N B s x) where
+  pub mended-state : stateOf N B (mended N (segmentsOf N B s) x) ≡ clean
+  unfolding state
+  mended-state = clean-state N B (mended N (segmentsOf N B s) x) (mended-clean N B (segmentsOf N B s) x (case-of N B (segmentsOf N B s) x e))
+
+  pub mended-shown : shown N B s ≡ entriesIn (viewOf N (mended N (segmentsOf N B s) x))
+  unfolding shown
+  mended-shown = table-in N B (recovered N B s) (mended N (segmentsOf N B s) x) m
+
+  -- an image with the mended segments is clean, and shows the same
+  pub kept-clean : (u : Image) → segmentsOf N B u ≡ mended N (segmentsOf N B s) x → Kept N B s u
+  unfolding state
+  kept-clean u q =
+      clean-shows N B u (shown N B s) (
+        ap (λ (y : List Segment). stateOf N B y) q ∙ mended-state,
+        agree-of (tableOf N B u) (shown N B s) (table-in N B u (mended N (segmentsOf N B s) x) q ∙ sym mended-shown),
+      )
+
+  pub done : Clean N B (recovered N B s)
+  unfolding state
+  done = ap (λ (y : List Segment). stateOf N B y) m ∙ mended-state
+
+-- an image in the same case with the same mended segments shows the same
+pub kept-case : (N B : ℕ) (s u : Image) (x : Exception) → state N B s ≡ unfinished x → Mended N B s x → state N B u ≡ unfinished x → Mended N B u x
+    → mended N (segmentsOf N B u) x ≡ mended N (segmentsOf N B s) x → SoundAs N B u (segmentsOf N B u) (unfinished x) → Kept N B s u
+kept-case N B s u x e m f n q h = (
+  subst (λ y. SoundAs N B u (segmentsOf N B u) y) (sym f) h,
+  agree-of (shown N B u) (shown N B s) (mended-shown N B u x f n ∙ (ap (λ y. entriesIn (viewOf N y)) q ∙ sym (mended-shown N B s x e m))),
+)
