@@ -1,6 +1,6 @@
 // The work of the program qbx, with its words handed in: the image's file is read, the store asked, the file replaced and
 // the answer said.
-mod census;
+mod counting;
 mod files;
 mod requests;
 
@@ -15,6 +15,14 @@ ghost use Prim.Native.Nat.{_≤_};
 ghost use lib.ListN.{length};
 
 pub use files::fill;
+
+// Segments in use, and their slots by kind.
+struct Census {
+    segments: u64,
+    live: u64,
+    dead: u64,
+    empty: u64,
+}
 
 // Says a line.
 fn print(fd: i32, line: Line)
@@ -123,7 +131,7 @@ fn check(image: &[u8], command: Command, out: i32) {
         );
         return;
     }
-    print(out, words::say_report(census::report(image, segments, slots)));
+    print(out, words::say_report(counting::report_on(image, segments, slots)));
 }
 
 // A command on the image's bytes.

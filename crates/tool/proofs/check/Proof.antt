@@ -17,8 +17,8 @@ print-requires c κs = search needs
 returns : tie.Need-returns
 returns c = search needs
 
-report-requires : tie.Need-report-requires
-report-requires c κs = sym (c .before .right-size .ensures) ∙ not-false _ (c .if1 .left)
+report-on-requires : tie.Need-report-on-requires
+report-on-requires c κs = sym (c .before .right-size .ensures) ∙ not-false _ (c .if1 .left)
 
 say-report-requires : tie.Need-say-report-requires
 say-report-requires c κs = search needs
@@ -37,7 +37,7 @@ check-spec =
     say-performed-requires
     print-requires
     returns
-    report-requires
+    report-on-requires
     say-report-requires
     print-requires-2
     returns-2)
