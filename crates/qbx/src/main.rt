@@ -8,11 +8,26 @@ use words::Verb;
 ghost use Rattle.io.specs.Counts.{Counts};
 
 fn usage(fd: i32) {
-    io::write_all(fd, b"qbx: a record store on NOR flash, whose image is a file\n\n  qbx IMAGE N B VERB [BLOCK] [--budget STEPS]\n\n");
-    io::write_all(fd, b"IMAGE is the file, of N segments (2 to 64) with B slots each (2 to 255).\n\n");
-    io::write_all(fd, b"  format         erases all and starts an empty store; makes the file if there is none\n  put BLOCK      stores standard input, up to 248 bytes, under a number from 1 to 65534\n  get BLOCK      writes the contents to standard output, and the answer to standard error\n");
-    io::write_all(fd, b"  delete BLOCK   forgets the block\n  recover        mends what a power cut left unfinished\n  check          says the state of the image, the segments in use, and their slots\n\n");
-    io::write_all(fd, b"--budget STEPS stops a verb that writes after so many flash steps, as a power cut would.\nThe answer is said with its number and the steps done. The file is replaced whole or not at all.\n");
+    io::write_all(
+        fd,
+        b"qbx: a record store on NOR flash, whose image is a file\n\n  qbx IMAGE N B VERB [BLOCK] [--budget STEPS]\n\n",
+    );
+    io::write_all(
+        fd,
+        b"IMAGE is the file, of N segments (2 to 64) with B slots each (2 to 255).\n\n",
+    );
+    io::write_all(
+        fd,
+        b"  format         erases all and starts an empty store; makes the file if there is none\n  put BLOCK      stores standard input, up to 248 bytes, under a number from 1 to 65534\n  get BLOCK      writes the contents to standard output, and the answer to standard error\n",
+    );
+    io::write_all(
+        fd,
+        b"  delete BLOCK   forgets the block\n  recover        mends what a power cut left unfinished\n  check          says the state of the image, the segments in use, and their slots\n\n",
+    );
+    io::write_all(
+        fd,
+        b"--budget STEPS stops a verb that writes after so many flash steps, as a power cut would.\nThe answer is said with its number and the steps done. The file is replaced whole or not at all.\n",
+    );
 }
 
 // A word of the command line. Of one that is too long the start is given, with dots, so that it means nothing.
@@ -38,7 +53,14 @@ fn put(image: &mut [u8], path: &[u8], command: Command) {
         return;
     }
     let n = filled.count;
-    tool::obey(image, path, command, &contents[..n], STDOUT_FILENO, STDERR_FILENO);
+    tool::obey(
+        image,
+        path,
+        command,
+        &contents[..n],
+        STDOUT_FILENO,
+        STDERR_FILENO,
+    );
 }
 
 fn obey(image: &mut [u8], path: &[u8], command: Command) {

@@ -90,7 +90,13 @@ fn count_slots(image: &[u8], at: usize, slots: usize, census: Census) -> Census
 }
 
 // One segment more, if it is in use.
-fn count_segment(image: &[u8], segments: usize, slots: usize, index: usize, census: Census) -> Census
+fn count_segment(
+    image: &[u8],
+    segments: usize,
+    slots: usize,
+    index: usize,
+    census: Census,
+) -> Census
     requires { ⌜ Sized segments slots (length (now image)) × (index < segments) × (total census ≤ 90000) ⌝ }
     ensures { λ r. ⌜ (r ≡ countSegment census (getD (segmentsOf segments slots (now (image .entry))) index blank)) × (total r ≤ total census + 256) ⌝ }
 {

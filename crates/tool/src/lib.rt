@@ -13,7 +13,6 @@ use words::Line;
 use words::Verb;
 ghost use Prim.Native.Nat.{_≤_};
 ghost use lib.ListN.{length};
-
 pub use files::fill;
 
 // Segments in use, and their slots by kind.
@@ -102,7 +101,12 @@ fn change(image: &mut [u8], path: &[u8], command: Command, contents: &[u8], out:
 // The contents alone go out. Where the answer goes there too, a line end keeps them apart.
 fn get(image: &[u8], command: Command, out: i32, err: i32) {
     let block = command.block;
-    let found = store::read(image, command.segments as usize, command.slots as usize, block);
+    let found = store::read(
+        image,
+        command.segments as usize,
+        command.slots as usize,
+        block,
+    );
     let answer = found.answer;
     let at = found.offset;
     let count = found.length;
@@ -122,16 +126,17 @@ fn check(image: &[u8], command: Command, out: i32) {
     if !requests::right_size(image, segments, slots) {
         print(
             out,
-            words::say_performed(
-                Performed {
-                    answer: Answer::Size,
-                    steps: 0,
-                },
-            ),
+            words::say_performed(Performed {
+                answer: Answer::Size,
+                steps: 0,
+            }),
         );
         return;
     }
-    print(out, words::say_report(counting::report_on(image, segments, slots)));
+    print(
+        out,
+        words::say_report(counting::report_on(image, segments, slots)),
+    );
 }
 
 // A command on the image's bytes.

@@ -107,15 +107,13 @@ fn with_budget(command: Command, option: &[u8], steps: &[u8]) -> Reading
         return Reading::Wrong(Complaint::Budget);
     };
     let block = command.block;
-    Reading::Right(
-        Command {
-            segments: command.segments,
-            slots: command.slots,
-            verb,
-            block,
-            budget,
-        },
-    )
+    Reading::Right(Command {
+        segments: command.segments,
+        slots: command.slots,
+        verb,
+        block,
+        budget,
+    })
 }
 
 // The words after a verb that names a block.

@@ -4,10 +4,9 @@ mod lines;
 mod numbers;
 mod say;
 
-use model::BlockNumber;
-
 pub use commands::command_of;
 pub use commands::is;
+use model::BlockNumber;
 pub use say::say_complaint;
 pub use say::say_performed;
 pub use say::say_report;

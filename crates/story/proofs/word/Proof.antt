@@ -51,9 +51,11 @@ loop-again : tie.Need-loop-again Inv-loop μ-loop
 loop-again c =
     let k = c .before .before .before in
     let f = c .before .find in
-    let l = now (k .before .before .args .line) in
-    (omega (arith, f .ensures .1), omega arith,
-    sym (word-next l (k .loop .at) (f .result) (f .ensures .0) (omega (arith, f .ensures .0)) _ (k .loop .i) (c .before .before .loop-test .taken)) ∙ k .loop .inv .2)
+    let l = now (k .before .before .args .line) in (
+      omega (arith, f .ensures .1),
+      omega arith,
+      sym (word-next l (k .loop .at) (f .result) (f .ensures .0) (omega (arith, f .ensures .0)) _ (k .loop .i) (c .before .before .loop-test .taken)) ∙ k .loop .inv .2,
+    )
 
 find-requires-2 : tie.Need-find-requires-2 Inv-loop μ-loop
 find-requires-2 c κs = search needs

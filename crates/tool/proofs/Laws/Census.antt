@@ -82,10 +82,10 @@ module _ (N B i : ℕ) (s : Image) (h : i < N) (r : HeaderSeen)
   segment-used c st n q =
       let o : headerOffset B i + 256 ≡ slotsOffset B i = omega arith in
       ap (λ (k : ℕ). countKinds (oneMore c) (kindsAt s k B)) o ∙ (go (headerInUse N B i hd) (isBlank bs) (sym seen ∙ q) ∙ ap (countSegment c) (sym (segment-seen N B i s h))) where
-    go : (a t : Bool) → cond a (InUse (headerStatus hd) (record { 0 = headerNumber hd })) NotInUse ≡ InUse st n
-        → countKinds (oneMore c) (kindsAt s (slotsOffset B i) B) ≡ countSegment c (cond a (inUse (headerStatus hd) (headerNumber hd) (slotsAt s (slotsOffset B i) B)) (cond t blank invalid))
-    go true t w = refl
-    go false t w = absurd (let z : _≡_ {A = ℕ} 0 1 = cc in omega arith)
+        go : (a t : Bool) → cond a (InUse (headerStatus hd) (record { 0 = headerNumber hd })) NotInUse ≡ InUse st n
+            → countKinds (oneMore c) (kindsAt s (slotsOffset B i) B) ≡ countSegment c (cond a (inUse (headerStatus hd) (headerNumber hd) (slotsAt s (slotsOffset B i) B)) (cond t blank invalid))
+        go true t w = refl
+        go false t w = absurd (let z : _≡_ {A = ℕ} 0 1 = cc in omega arith)
 
 pub segments-next : (l : List Segment) (i : ℕ) (c : Census) → i < length l → countSegments c (drop i l) ≡ countSegments (countSegment c (getD l i blank)) (drop (i + 1) l)
 unfolding countSegments

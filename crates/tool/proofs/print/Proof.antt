@@ -8,12 +8,12 @@ use Rattle.tool.proofs.print.Statement.{statement}
 use Rattle.tool.proofs.print.Tie as tie
 
 array-share-prefix-bytes : tie.Need-array-share-prefix-bytes
-array-share-prefix-bytes c = 
+array-share-prefix-bytes c =
     let l : length (c .before .args .line .bytes) ≡ 160 = search needs in
     omega arith
 
 slice-aggregate-write-all : tie.Need-slice-aggregate-write-all
-slice-aggregate-write-all c = 
+slice-aggregate-write-all c =
     let k = c .before .before in
     let l : length (k .args .line .bytes) ≡ 160 = search needs in
     sym (length-take-le (k .args .line .count) (k .args .line .bytes) (omega (arith, k .pre)))

@@ -68,7 +68,7 @@ pub digits-decimal : (k r n : ℕ) → r ≤ suc k → Fewest 10 1 n r → digit
 unfolding decimalOf
 digits-decimal k zero n l f = absurd (omega arith)
 digits-decimal zero (suc zero) n l f = rw (glyph-digit (n % 10) (mod-lt n (omega arith)))
-digits-decimal (suc k) (suc zero) n l f = 
+digits-decimal (suc k) (suc zero) n l f =
     let h : n < 10 = f .1 in
     let m : n % 10 ≡ n = mod-eq-of-lt h in
     rw (lt-ltb n 10 h, m, glyph-digit n h)

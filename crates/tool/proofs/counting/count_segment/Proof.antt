@@ -45,7 +45,7 @@ add-t15 : tie.Need-add-t15
 add-t15 c = search needs
 
 count-slots-requires : tie.Need-count-slots-requires
-count-slots-requires c κs = 
+count-slots-requires c κs =
     let s = c .before .before .before .before .before .before in
     let i = segment-inside (s .args .segments) (s .args .slots) (s .args .index) (s .pre .1) in
     (omega (arith, s .pre), omega (arith, s .pre), omega (arith, s .pre))

@@ -38,9 +38,11 @@ loop-again c =
     let k = c .before .before in
     let a = k .before .before .args in
     let l = segmentsOf (a .segments) (a .slots) (now (a .image)) in
-    let n : k .loop .i < length l = omega (arith, segments-length (a .segments) (a .slots) (now (a .image)), c .before .loop-test .taken) in
-    (omega arith, omega (arith, c .count-segment .ensures .1, k .loop .inv .1),
-    ap (λ (x : Census). countSegments x (drop (k .loop .i + 1) l)) (c .count-segment .ensures .0) ∙ (sym (segments-next l (k .loop .i) (k .loop .census) n) ∙ k .loop .inv .2))
+    let n : k .loop .i < length l = omega (arith, segments-length (a .segments) (a .slots) (now (a .image)), c .before .loop-test .taken) in (
+      omega arith,
+      omega (arith, c .count-segment .ensures .1, k .loop .inv .1),
+      ap (λ (x : Census). countSegments x (drop (k .loop .i + 1) l)) (c .count-segment .ensures .0) ∙ (sym (segments-next l (k .loop .i) (k .loop .census) n) ∙ k .loop .inv .2),
+    )
 
 returns : tie.Need-returns Inv-loop μ-loop
 returns c =

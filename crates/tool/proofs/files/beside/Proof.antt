@@ -41,7 +41,7 @@ same-length : tie.Need-same-length
 same-length c = search needs
 
 returns-3 : tie.Need-returns-3
-returns-3 c = 
+returns-3 c =
     beside-made (now (c .before .before .before .before .before .before .before .before .before .before .before .before .before .args .path)) (now (c .before .before .before .before .before .before .before .before .before .before .before .before .before .args .name)) _ _ _ _ (omega arith)
     (c .before .before .before .before .before .before .before .copy .ensures .1) (c .before .before .copy2 .ensures .1)
 

@@ -12,21 +12,21 @@ in-range-requires : tie.Need-in-range-requires
 in-range-requires c κs = search needs
 
 add-result : tie.Need-add-result
-add-result c = 
+add-result c =
     let a = c .before .before .args in
     let b = in-bounds (a .segments) (a .slots) (sym (c .before .in-range .ensures) ∙ c .if1 .taken) in
     let m = most-pages (a .segments) (a .slots) (b .0) (b .1) in
     omega arith
 
 mul-result : tie.Need-mul-result
-mul-result c = 
+mul-result c =
     let a = c .before .before .args in
     let b = in-bounds (a .segments) (a .slots) (sym (c .before .in-range .ensures) ∙ c .if1 .taken) in
     let m = most-pages (a .segments) (a .slots) (b .0) (b .1) in
     omega arith
 
 mul-result-2 : tie.Need-mul-result-2
-mul-result-2 c = 
+mul-result-2 c =
     let a = c .before .before .args in
     let b = in-bounds (a .segments) (a .slots) (sym (c .before .in-range .ensures) ∙ c .if1 .taken) in
     let m = most-pages (a .segments) (a .slots) (b .0) (b .1) in
@@ -34,7 +34,7 @@ mul-result-2 c =
 
 returns : tie.Need-returns
 unfolding sizeOf imageLength
-returns c = 
+returns c =
     let a = c .before .before .args in
     let b = in-bounds (a .segments) (a .slots) (sym (c .before .in-range .ensures) ∙ c .if1 .taken) in
     let m = most-pages (a .segments) (a .slots) (b .0) (b .1) in

@@ -14,7 +14,7 @@ is-requires c κs = search needs
 
 returns : tie.Need-returns
 unfolding text verbOf
-returns c = 
+returns c =
     rw (sym (c .before .is .ensures) ∙ c .if1 .taken)
 
 slice-aggregate-is-2 : tie.Need-slice-aggregate-is-2
@@ -25,9 +25,11 @@ is-requires-2 c κs = search needs
 
 returns-2 : tie.Need-returns-2
 unfolding text verbOf
-returns-2 c = 
-    rw (sym (c .before .before .before .before .is .ensures) ∙ c .before .before .before .if1 .left,
-    sym (c .before .is2 .ensures) ∙ c .if2 .taken)
+returns-2 c =
+    rw (
+      sym (c .before .before .before .before .is .ensures) ∙ c .before .before .before .if1 .left,
+      sym (c .before .is2 .ensures) ∙ c .if2 .taken,
+    )
 
 slice-aggregate-is-3 : tie.Need-slice-aggregate-is-3
 slice-aggregate-is-3 c = search needs
@@ -37,10 +39,12 @@ is-requires-3 c κs = search needs
 
 returns-3 : tie.Need-returns-3
 unfolding text verbOf
-returns-3 c = 
-    rw (sym (c .before .before .before .before .before .before .before .is .ensures) ∙ c .before .before .before .before .before .before .if1 .left,
-    sym (c .before .before .before .before .is2 .ensures) ∙ c .before .before .before .if2 .left,
-    sym (c .before .is3 .ensures) ∙ c .if3 .taken)
+returns-3 c =
+    rw (
+      sym (c .before .before .before .before .before .before .before .is .ensures) ∙ c .before .before .before .before .before .before .if1 .left,
+      sym (c .before .before .before .before .is2 .ensures) ∙ c .before .before .before .if2 .left,
+      sym (c .before .is3 .ensures) ∙ c .if3 .taken,
+    )
 
 slice-aggregate-is-4 : tie.Need-slice-aggregate-is-4
 slice-aggregate-is-4 c = search needs
@@ -50,11 +54,13 @@ is-requires-4 c κs = search needs
 
 returns-4 : tie.Need-returns-4
 unfolding text verbOf
-returns-4 c = 
-    rw (sym (c .before .before .before .before .before .before .before .before .before .before .is .ensures) ∙ c .before .before .before .before .before .before .before .before .before .if1 .left,
-    sym (c .before .before .before .before .before .before .before .is2 .ensures) ∙ c .before .before .before .before .before .before .if2 .left,
-    sym (c .before .before .before .before .is3 .ensures) ∙ c .before .before .before .if3 .left,
-    sym (c .before .is4 .ensures) ∙ c .if4 .taken)
+returns-4 c =
+    rw (
+      sym (c .before .before .before .before .before .before .before .before .before .before .is .ensures) ∙ c .before .before .before .before .before .before .before .before .before .if1 .left,
+      sym (c .before .before .before .before .before .before .before .is2 .ensures) ∙ c .before .before .before .before .before .before .if2 .left,
+      sym (c .before .before .before .before .is3 .ensures) ∙ c .before .before .before .if3 .left,
+      sym (c .before .is4 .ensures) ∙ c .if4 .taken,
+    )
 
 slice-aggregate-is-5 : tie.Need-slice-aggregate-is-5
 slice-aggregate-is-5 c = search needs
@@ -64,12 +70,14 @@ is-requires-5 c κs = search needs
 
 returns-5 : tie.Need-returns-5
 unfolding text verbOf
-returns-5 c = 
-    rw (sym (c .before .before .before .before .before .before .before .before .before .before .before .before .before .is .ensures) ∙ c .before .before .before .before .before .before .before .before .before .before .before .before .if1 .left,
-    sym (c .before .before .before .before .before .before .before .before .before .before .is2 .ensures) ∙ c .before .before .before .before .before .before .before .before .before .if2 .left,
-    sym (c .before .before .before .before .before .before .before .is3 .ensures) ∙ c .before .before .before .before .before .before .if3 .left,
-    sym (c .before .before .before .before .is4 .ensures) ∙ c .before .before .before .if4 .left,
-    sym (c .before .is5 .ensures) ∙ c .if5 .taken)
+returns-5 c =
+    rw (
+      sym (c .before .before .before .before .before .before .before .before .before .before .before .before .before .is .ensures) ∙ c .before .before .before .before .before .before .before .before .before .before .before .before .if1 .left,
+      sym (c .before .before .before .before .before .before .before .before .before .before .is2 .ensures) ∙ c .before .before .before .before .before .before .before .before .before .if2 .left,
+      sym (c .before .before .before .before .before .before .before .is3 .ensures) ∙ c .before .before .before .before .before .before .if3 .left,
+      sym (c .before .before .before .before .is4 .ensures) ∙ c .before .before .before .if4 .left,
+      sym (c .before .is5 .ensures) ∙ c .if5 .taken,
+    )
 
 slice-aggregate-is-6 : tie.Need-slice-aggregate-is-6
 slice-aggregate-is-6 c = search needs
@@ -79,23 +87,27 @@ is-requires-6 c κs = search needs
 
 returns-6 : tie.Need-returns-6
 unfolding text verbOf
-returns-6 c = 
-    rw (sym (c .before .before .before .before .before .before .before .before .before .before .before .before .before .before .before .before .is .ensures) ∙ c .before .before .before .before .before .before .before .before .before .before .before .before .before .before .before .if1 .left,
-    sym (c .before .before .before .before .before .before .before .before .before .before .before .before .before .is2 .ensures) ∙ c .before .before .before .before .before .before .before .before .before .before .before .before .if2 .left,
-    sym (c .before .before .before .before .before .before .before .before .before .before .is3 .ensures) ∙ c .before .before .before .before .before .before .before .before .before .if3 .left,
-    sym (c .before .before .before .before .before .before .before .is4 .ensures) ∙ c .before .before .before .before .before .before .if4 .left,
-    sym (c .before .before .before .before .is5 .ensures) ∙ c .before .before .before .if5 .left,
-    sym (c .before .is6 .ensures) ∙ c .if6 .taken)
+returns-6 c =
+    rw (
+      sym (c .before .before .before .before .before .before .before .before .before .before .before .before .before .before .before .before .is .ensures) ∙ c .before .before .before .before .before .before .before .before .before .before .before .before .before .before .before .if1 .left,
+      sym (c .before .before .before .before .before .before .before .before .before .before .before .before .before .is2 .ensures) ∙ c .before .before .before .before .before .before .before .before .before .before .before .before .if2 .left,
+      sym (c .before .before .before .before .before .before .before .before .before .before .is3 .ensures) ∙ c .before .before .before .before .before .before .before .before .before .if3 .left,
+      sym (c .before .before .before .before .before .before .before .is4 .ensures) ∙ c .before .before .before .before .before .before .if4 .left,
+      sym (c .before .before .before .before .is5 .ensures) ∙ c .before .before .before .if5 .left,
+      sym (c .before .is6 .ensures) ∙ c .if6 .taken,
+    )
 
 returns-7 : tie.Need-returns-7
 unfolding text verbOf
-returns-7 c = 
-    rw (sym (c .before .before .before .before .before .before .before .before .before .before .before .before .before .before .before .before .is .ensures) ∙ c .before .before .before .before .before .before .before .before .before .before .before .before .before .before .before .if1 .left,
-    sym (c .before .before .before .before .before .before .before .before .before .before .before .before .before .is2 .ensures) ∙ c .before .before .before .before .before .before .before .before .before .before .before .before .if2 .left,
-    sym (c .before .before .before .before .before .before .before .before .before .before .is3 .ensures) ∙ c .before .before .before .before .before .before .before .before .before .if3 .left,
-    sym (c .before .before .before .before .before .before .before .is4 .ensures) ∙ c .before .before .before .before .before .before .if4 .left,
-    sym (c .before .before .before .before .is5 .ensures) ∙ c .before .before .before .if5 .left,
-    sym (c .before .is6 .ensures) ∙ c .if6 .left)
+returns-7 c =
+    rw (
+      sym (c .before .before .before .before .before .before .before .before .before .before .before .before .before .before .before .before .is .ensures) ∙ c .before .before .before .before .before .before .before .before .before .before .before .before .before .before .before .if1 .left,
+      sym (c .before .before .before .before .before .before .before .before .before .before .before .before .before .is2 .ensures) ∙ c .before .before .before .before .before .before .before .before .before .before .before .before .if2 .left,
+      sym (c .before .before .before .before .before .before .before .before .before .before .is3 .ensures) ∙ c .before .before .before .before .before .before .before .before .before .if3 .left,
+      sym (c .before .before .before .before .before .before .before .is4 .ensures) ∙ c .before .before .before .before .before .before .if4 .left,
+      sym (c .before .before .before .before .is5 .ensures) ∙ c .before .before .before .if5 .left,
+      sym (c .before .is6 .ensures) ∙ c .if6 .left,
+    )
 
 pub verb-of-spec : {M : Type 1} → statement M
 verb-of-spec =
