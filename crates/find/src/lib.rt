@@ -54,7 +54,7 @@ pub fn find(
     used: usize,
     block: BlockNumber,
 ) -> Found
-    requires { ⌜ Sized segments slots (length (now image)) × (first .0 + used ≤ 4294967295) ⌝ }
+    requires { ⌜ Sized segments slots (length (now image)) × (first .0 + used ≤ 4294967296) ⌝ }
     ensures { λ r. ⌜ r ≡ foundIn segments slots (first .0) (rowsAt segments slots (now (image .entry)) used (first .0)) (block .0) ⌝ }
 {
     let mut found = Found::Nothing;

@@ -4,5 +4,4 @@ pub mod Tables
 pub mod Heads
 pub mod Frames
 pub mod Gather
-pub mod Find
 pub mod Surveys

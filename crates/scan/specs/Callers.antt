@@ -1,4 +1,4 @@
--- Laws for callers: what `find` requires of a clean image and what it says of its view, and whether the top has room.
+-- Laws for callers: what a survey's numbers say of a clean image's view, and whether the top has room.
 use Prim.Native.Nat.{ℕ, zero, suc, _+_, _-_, _%_, _≤_, _<_}
 use mathlib.Core.Path.{_≡_, refl, sym, ap, _∙_}
 use mathlib.Core.Bool.{Bool, true, false, cond, not}
@@ -72,14 +72,14 @@ module _ (N B : ℕ) (s : Image) (some : 0 < N) (h : state N B s ≡ clean) wher
   unfolding view viewOf
   rows-used = slots-length N (segmentsOf N B s) (usedCount (segmentsOf N B s)) (firstNumber (segmentsOf N B s))
 
-  -- what `find` requires, for the first number and the count in use of a survey
+  -- the count in use of a survey
   pub clean-used : (1 ≤ length (view N B s .slots)) × (length (view N B s .slots) ≤ N - 1)
   clean-used = (omega (arith, rows-used, ring-facts .some), omega (arith, rows-used, ring-facts .spare))
 
   pub clean-chain : numbersFrom N (segmentsOf N B s) (length (view N B s .slots)) (view N B s .first) ≡ true
   clean-chain = ap (λ (u : ℕ). numbersFrom N (segmentsOf N B s) u (view N B s .first)) rows-used ∙ (unfold view viewOf in (ring-facts .chain))
 
-  -- and the view that its answer speaks of
+  -- the view by the survey's numbers
   pub clean-view : record { first = view N B s .first; slots = slotsFrom N (segmentsOf N B s) (length (view N B s .slots)) (view N B s .first) } ≡ view N B s
   clean-view = ap (λ (u : ℕ). record { first = view N B s .first; slots = slotsFrom N (segmentsOf N B s) u (view N B s .first) }) rows-used ∙ (unfold view viewOf in refl)
 

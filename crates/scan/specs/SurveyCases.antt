@@ -18,8 +18,8 @@ use Rattle.model.specs.Laws.Clean.{RingFacts, used-next}
 use Rattle.model.specs.Laws.Segments.{segments-length}
 use Rattle.scan.specs.declared.Sum.{Sum}
 use Rattle.scan.specs.declared.Exam.{Exam}
-use Rattle.scan.specs.declared.Found.{Found}
-use Rattle.scan.specs.declared.Found.the-variants.{At, Nothing}
+use Rattle.find.specs.declared.Found.{Found}
+use Rattle.find.specs.declared.Found.the-variants.{At, Nothing}
 use Rattle.scan.specs.declared.Surveyed.{Surveyed}
 use Rattle.scan.specs.declared.Surveyed.the-variants.{Clean, TornSegment, ErasePending, TornSlot, OldSlot, Damaged}
 use Rattle.scan.specs.Endings.{inOrder, endsTorn, endsTwin}

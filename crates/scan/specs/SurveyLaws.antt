@@ -23,7 +23,7 @@ use Rattle.model.specs.Laws.SlotPage.{LiveFacts, KindFacts, kind-facts, number-
 use Rattle.model.specs.Laws.Segments.{segments-length}
 use Rattle.scan.specs.declared.Sum.{Sum}
 use Rattle.scan.specs.declared.Exam.{Exam}
-use Rattle.scan.specs.declared.Found.{Found}
+use Rattle.find.specs.declared.Found.{Found}
 use Rattle.scan.specs.declared.Surveyed.{Surveyed}
 use Rattle.scan.specs.declared.Surveyed.the-variants.{Clean, TornSegment, ErasePending, TornSlot, OldSlot, Damaged}
 use Rattle.scan.specs.Endings.{inOrder, endsTorn, endsTwin}

@@ -11,8 +11,8 @@ use Rattle.page.specs.Pages.{Sized}
 use Rattle.scan.specs.declared.Sum.{Sum}
 use Rattle.scan.specs.declared.Summary.{Summary}
 use Rattle.scan.specs.declared.Exam.{Exam}
-use Rattle.scan.specs.declared.Found.{Found}
-use Rattle.scan.specs.declared.Found.the-variants.{At, Nothing}
+use Rattle.find.specs.declared.Found.{Found}
+use Rattle.find.specs.declared.Found.the-variants.{At, Nothing}
 use Rattle.scan.specs.declared.Surveyed.{Surveyed}
 use Rattle.scan.specs.declared.Surveyed.the-variants.{Clean, TornSegment, ErasePending, TornSlot, OldSlot, Damaged}
 use Rattle.scan.specs.Cases.{frame}

@@ -1,15 +1,15 @@
-// The state of an image and what requests need of it, decided in one pass; and the search for a block.
+// The state of an image and what requests need of it, decided in one pass.
 mod headers;
 mod rows;
 mod sums;
 
+use find::Found;
 use model::BlockNumber;
 use model::SegmentNumber;
-use model::SlotKind;
 use model::SlotPlace;
 ghost use mathlib.Core.Path.{_≡_};
 ghost use mathlib.Core.Bool.{true, false};
-ghost use Prim.Native.Nat.{_-_, _*_, _<_, _≤_};
+ghost use Prim.Native.Nat.{_+_, _-_, _*_, _<_, _≤_};
 ghost use lib.ListN.{length, getD};
 ghost use Rattle.model.specs.State.{blank, isInvalid, isOwing, numbersFrom, segmentsOf, slotsFrom, topIndex, nextIndex, capacity};
 ghost use Rattle.model.specs.Steps.{slotAt};
@@ -69,55 +69,6 @@ struct Sum {
     dead: bool,
     ending: Ending,
     block: BlockNumber,
-}
-
-// ---- the search for a block
-
-// Where a block's live slot is, and the length of its contents.
-pub enum Found {
-    At(SlotPlace, usize),
-    Nothing,
-}
-
-// The first live slot of a block, in the segments in use from the oldest on. Leaves both walks at the first hit.
-pub fn find(
-    image: &[u8],
-    segments: usize,
-    slots: usize,
-    first: SegmentNumber,
-    used: usize,
-    block: BlockNumber,
-) -> Found
-    requires { ⌜ Sized segments slots (length (now image)) × (used ≤ 255) × (numbersFrom segments (segmentsOf segments slots (now image)) used (first .0) ≡ true) ⌝ }
-    ensures { λ r. ⌜ r ≡ foundIn segments slots (block .0) (record { first = first .0; slots = slotsFrom segments (segmentsOf segments slots (now (image .entry))) used (first .0) }) ⌝ }
-{
-    let mut found = Found::Nothing;
-    let number = first.0 as usize;
-    let mut i: usize = 0;
-    'segments: while i < used {
-        let index = (number + i) % segments;
-        let mut j: usize = 0;
-        while j < slots {
-            let at = (index * (slots + 1) + 1 + j) * 256;
-            let end = at + 256;
-            let kind = page::slot::slot_kind(&image[at..end]);
-            let SlotKind::Live {
-                length,
-                block: held,
-            } = kind
-            else {
-                j += 1;
-                continue;
-            };
-            if held.0 == block.0 {
-                found = Found::At(SlotPlace(at), length);
-                break 'segments;
-            }
-            j += 1;
-        }
-        i += 1;
-    }
-    found
 }
 
 // ---- the survey
@@ -259,13 +210,13 @@ fn clean_survey(exam: Exam) -> Surveyed
 
 // The survey where the block of the slot written last has an older live slot, which is searched.
 fn old_slot(image: &[u8], segments: usize, slots: usize, exam: Exam) -> Surveyed
-    requires { ⌜ Sized segments slots (length (now image)) × (exam .used ≤ 64) × (exam .first < 4294967296) × (numbersFrom segments (segmentsOf segments slots (now image)) (exam .used) (exam .first) ≡ true) ⌝ }
+    requires { ⌜ Sized segments slots (length (now image)) × (exam .used ≤ 64) × (exam .first < 4294967296) × (numbersFrom segments (segmentsOf segments slots (now image)) (exam .used) (exam .first) ≡ true) × (exam .first + exam .used ≤ 4294967296) ⌝ }
     ensures { λ r. ⌜ r ≡ oldIn (foundIn segments slots (exam .sum .block .0) (record { first = exam .first; slots = slotsFrom segments (segmentsOf segments slots (now (image .entry))) (exam .used) (exam .first) })) ⌝ }
 {
     let sum = exam.sum;
     let block = sum.block;
     let first = SegmentNumber(exam.first as u32);
-    let found = find(image, segments, slots, first, exam.used, block);
+    let found = find::find(image, segments, slots, first, exam.used, block);
     match found {
         Found::At(place, _) => Surveyed::OldSlot { place },
         Found::Nothing => Surveyed::Damaged,

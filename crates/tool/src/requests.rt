@@ -7,7 +7,8 @@ ghost use mathlib.Core.Path.{_≡_};
 ghost use Prim.Native.Nat.{_≤_};
 ghost use lib.ListN.{length, take, drop, replicate};
 ghost use Rattle.model.specs.Chip.{inRange, rightSize};
-ghost use Rattle.tool.specs.Tool.{sizeOf};
+ghost use Rattle.model.specs.Answers.{codeOf, performed};
+ghost use Rattle.tool.specs.Tool.{sizeOf, performedBy};
 
 // Whether an image can have so many segments and slots.
 fn in_range(segments: usize, slots: usize) -> bool
@@ -69,8 +70,20 @@ pub fn piece(image: &[u8], at: usize, count: usize) -> &[u8]
     &image[at..end]
 }
 
+// Nothing done.
+fn idle() -> Performed
+    ensures { λ r. ⌜ (codeOf (r .answer) ≡ 0) × (r .steps ≡ 0) ⌝ }
+{
+    Performed {
+        answer: Answer::Done,
+        steps: 0,
+    }
+}
+
 // A request that writes. A verb that does not write does nothing.
-pub fn perform(image: &mut [u8], command: Command, contents: &[u8]) -> Performed {
+pub fn perform(image: &mut [u8], command: Command, contents: &[u8]) -> Performed
+    ensures { λ r. ⌜ performed r (now (image .exit)) ≡ performedBy (command .verb) command (now (contents .entry)) (now (image .entry)) ⌝ }
+{
     let segments = command.segments as usize;
     let slots = command.slots as usize;
     let budget = command.budget;
@@ -81,9 +94,8 @@ pub fn perform(image: &mut [u8], command: Command, contents: &[u8]) -> Performed
         Verb::Put => store::put(image, segments, slots, block, contents, budget),
         Verb::Delete => store::delete(image, segments, slots, block, budget),
         Verb::Recover => store::recover(image, segments, slots, budget),
-        Verb::Get | Verb::Check | Verb::Unknown => Performed {
-            answer: Answer::Done,
-            steps: 0,
-        },
+        Verb::Get => idle(),
+        Verb::Check => idle(),
+        Verb::Unknown => idle(),
     }
 }

@@ -7,3 +7,4 @@ pub mod Stored
 pub mod Requests
 pub mod Sequence
 pub mod Instances
+pub mod Examples

@@ -27,13 +27,14 @@ use Rattle.scan.specs.Parts.{rowsOn}
 use Rattle.scan.specs.Tally.{noneMet, tallies, addRows, noSum, badSum}
 use Rattle.scan.specs.Verdict.{orderly, tornWithin, twinWithin}
 use Rattle.scan.specs.Surveys.{surveyOf, sumOn, examOf, cleanIn, oldIn, Shown, Bounded}
+use Rattle.find.specs.Search
 use Rattle.scan.specs.Find.{foundIn}
 use Rattle.scan.specs.SurveyCases.{owing-few, owing-bad, owing-good, torn-bad, torn-good, framed-some, framed-orderly, framed-twin, framed-chain, exam-view, twin-held, slots-clean, slots-torn, slots-twin, slots-damaged}
 use Rattle.scan.proofs.Laws.Tables.{heads-get}
 
 -- a block that is there is found
 old-found : (N B b : ℕ) (v : View) → holds b (entriesIn v) ≡ true → oldIn (foundIn N B b v) ≡ OldSlot (record { 0 = slotAt N B (placeOf b v .number) (placeOf b v .slot) * 256 })
-unfolding foundIn oldIn
+unfolding foundIn Search.foundIn oldIn entriesIn placeOf
 old-found N B b v h = rw h
 
 -- ---- a table examined

@@ -1,5 +1,7 @@
 -- `scan::old_slot` shows the older slot that is found. Assumes nothing.
-use mathlib.Core.Path.{sym, ap, _∙_}
+use mathlib.Core.Path.{_≡_, sym, ap, _∙_}
+use denote.Ref.{now}
+use Rattle.scan.specs.Find.{numbered-found}
 use Rattle.scan.specs.Surveys.{oldIn}
 use borrow.Author.Needs.{needs}
 use Rattle.scan.proofs.old_slot.Statement.{statement}
@@ -19,11 +21,17 @@ enum-told c = search needs
 
 returns : tie.Need-returns
 unfolding oldIn
-returns c = ap oldIn (sym (c .before .found .given .1) ∙ c .before .before .before .find .ensures)
+returns c =
+    let a = c .before .before .before .before .before .before .before .before in
+    ap oldIn (sym (c .before .found .given .1) ∙ (c .before .before .before .find .ensures
+    ∙ numbered-found (a .args .segments) (a .args .slots) (a .args .exam .sum .block .0) (now (a .args .image)) (a .pre .0 .some) (a .args .exam .used) (a .args .exam .first) (a .pre .3)))
 
 returns-2 : tie.Need-returns-2
 unfolding oldIn
-returns-2 c = ap oldIn (sym (c .enum-told .given .1) ∙ c .before .before .find .ensures)
+returns-2 c =
+    let a = c .before .before .before .before .before .before .before in
+    ap oldIn (sym (c .enum-told .given .1) ∙ (c .before .before .find .ensures
+    ∙ numbered-found (a .args .segments) (a .args .slots) (a .args .exam .sum .block .0) (now (a .args .image)) (a .pre .0 .some) (a .args .exam .used) (a .args .exam .first) (a .pre .3)))
 
 pub old-slot-spec : {M : Type 1} → statement M
 old-slot-spec =

@@ -70,7 +70,7 @@ old-slot-requires c κs =
     let s = c .before .before .before .before .before .before .before .before .before .before in
     let x = c .before .before .before .before .before .before .before .before .examine .result in
     let wo : twinWithin (capacity (s .args .segments) (s .args .slots) + 1) (x .sum) ≡ c .before .twin-within .result = sym (c .before .twin-within .ensures ∙ ap (λ (y : ℕ). twinWithin (y + 1) (x .sum)) (c .before .before .before .before .before .before .capacity .ensures .0)) in
-    (s .pre .0 .size, c .before .before .before .before .before .before .before .before .examine .ensures .1 .used, twin-small (s .args .segments) (s .args .slots) (now (s .args .image)) (s .args .table) (s .args .next) (s .pre .0) (c .before .before .before .before .before .before .before .before .examine .result) (c .before .before .before .before .before .before .before .before .examine .ensures .0) (s .pre .1) (s .pre .2) (c .before .before .before .before .before .before .before .before .examine .ensures .1) (wo ∙ c .if3 .taken), twin-chain (s .args .segments) (s .args .slots) (now (s .args .image)) (s .args .table) (s .args .next) (s .pre .0) (c .before .before .before .before .before .before .before .before .examine .result) (c .before .before .before .before .before .before .before .before .examine .ensures .0) (s .pre .1) (s .pre .2) (wo ∙ c .if3 .taken))
+    (s .pre .0 .size, c .before .before .before .before .before .before .before .before .examine .ensures .1 .used, twin-small (s .args .segments) (s .args .slots) (now (s .args .image)) (s .args .table) (s .args .next) (s .pre .0) (c .before .before .before .before .before .before .before .before .examine .result) (c .before .before .before .before .before .before .before .before .examine .ensures .0) (s .pre .1) (s .pre .2) (c .before .before .before .before .before .before .before .before .examine .ensures .1) (wo ∙ c .if3 .taken), twin-chain (s .args .segments) (s .args .slots) (now (s .args .image)) (s .args .table) (s .args .next) (s .pre .0) (c .before .before .before .before .before .before .before .before .examine .result) (c .before .before .before .before .before .before .before .before .examine .ensures .0) (s .pre .1) (s .pre .2) (wo ∙ c .if3 .taken), c .before .before .before .before .before .before .before .before .examine .ensures .1 .whole)
 
 returns-3 : tie.Need-returns-3
 returns-3 c =

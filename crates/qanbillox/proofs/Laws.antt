@@ -1,0 +1,28 @@
+-- What the exports pack is small, and is what the definitions give.
+use Prim.Native.Nat.{ℕ, _+_, _*_, _≤_}
+use mathlib.Core.Path.{_≡_, ap, _∙_}
+use native.Mathlib.Omega.{arith}
+use Rattle.model.specs.Chip.{Image}
+use Rattle.model.specs.Answers.{Request, codeOf, performed, Outcome, outcomeOf, located, ReadOutcome, readOutcome}
+use Rattle.model.specs.declared.Performed.{Performed}
+use Rattle.model.specs.declared.Located.{Located}
+use Rattle.bridge.specs.Lengths.{few-done, read-small}
+use Rattle.qanbillox.specs.Packed.{packed, Gives, packedRead}
+
+pub few : (N B : ℕ) (t : Image) (budget : ℕ) (q : Request) (p : Performed) (s : Image) → performed p s ≡ outcomeOf N B t budget q → p .steps ≤ 4194304
+unfolding performed
+few N B t budget q p s e = omega (arith, few-done N B t budget q, ap (λ (o : Outcome). o .count) e)
+
+pub gives : (N B : ℕ) (t : Image) (budget : ℕ) (q : Request) (p : Performed) (s : Image) (r : ℕ) → performed p s ≡ outcomeOf N B t budget q
+    → r ≡ codeOf (p .answer) + 256 * p .steps → Gives (outcomeOf N B t budget q) r s
+unfolding performed packed
+gives N B t budget q p s r e h = record { number = h ∙ ap (λ (o : Outcome). o .code + 256 * o .count) e; image = ap (λ (o : Outcome). o .image) e }
+
+pub small : (N B : ℕ) (t : Image) (b : ℕ) (p : Located) → located p ≡ readOutcome N B t b → (p .offset ≤ 4194304) × (p .length ≤ 248)
+unfolding located
+small N B t b p e = let s = read-small N B t b in
+    (omega (arith, s .0, ap (λ (o : ReadOutcome). o .offset) e), omega (arith, s .1, ap (λ (o : ReadOutcome). o .length) e))
+
+pub tells : (N B : ℕ) (t : Image) (b : ℕ) (p : Located) (r : ℕ) → located p ≡ readOutcome N B t b → r ≡ codeOf (p .answer) + 256 * p .length + 65536 * p .offset → r ≡ packedRead (readOutcome N B t b)
+unfolding located packedRead
+tells N B t b p r e h = h ∙ ap (λ (o : ReadOutcome). o .code + 256 * o .length + 65536 * o .offset) e

@@ -1,0 +1,76 @@
+// The library's exports to C and Rust: the requests, with what comes back packed into one number.
+use model::BlockNumber;
+use model::Located;
+use model::Performed;
+ghost use mathlib.Core.Path.{_≡_};
+ghost use Prim.Native.Nat.{_+_, _*_, _≤_};
+ghost use Rattle.model.specs.Answers.{codeOf, outcomeOf, readOutcome, format, put, delete, recover};
+ghost use Rattle.qanbillox.specs.Packed.{Gives, packedRead};
+
+fn wide(x: u8) -> u64
+    ensures { λ r. ⌜ r ≡ x ⌝ }
+{
+    x as u64
+}
+
+// The answer, and 256 times the steps done: a list never has more than some four million.
+fn packed(p: Performed) -> u64
+    requires { ⌜ p .steps ≤ 4194304 ⌝ }
+    ensures { λ r. ⌜ r ≡ codeOf (p .answer) + 256 * p .steps ⌝ }
+{
+    let answer = p.answer;
+    wide(store::code(answer)) + 256 * p.steps
+}
+
+// The answer, 256 times the length and 65,536 times the offset.
+fn packed_read(p: Located) -> u64
+    requires { ⌜ (p .offset ≤ 4194304) × (p .length ≤ 248) ⌝ }
+    ensures { λ r. ⌜ r ≡ codeOf (p .answer) + 256 * p .length + 65536 * p .offset ⌝ }
+{
+    let answer = p.answer;
+    let length = p.length as u64;
+    let offset = p.offset as u64;
+    wide(store::code(answer)) + 256 * length + 65536 * offset
+}
+
+#[no_mangle]
+pub extern "C" fn qbx_format(image: &mut [u8], n: usize, b: usize, budget: u64) -> u64
+    ensures { λ r. ⌜ Gives (outcomeOf n b (now (image .entry)) budget format) r (now (image .exit)) ⌝ }
+{
+    packed(store::format(image, n, b, budget))
+}
+
+#[no_mangle]
+pub extern "C" fn qbx_put(
+    image: &mut [u8],
+    n: usize,
+    b: usize,
+    block: u16,
+    contents: &[u8],
+    budget: u64,
+) -> u64
+    ensures { λ r. ⌜ Gives (outcomeOf n b (now (image .entry)) budget (put block (now (contents .entry)))) r (now (image .exit)) ⌝ }
+{
+    packed(store::put(image, n, b, BlockNumber(block), contents, budget))
+}
+
+#[no_mangle]
+pub extern "C" fn qbx_delete(image: &mut [u8], n: usize, b: usize, block: u16, budget: u64) -> u64
+    ensures { λ r. ⌜ Gives (outcomeOf n b (now (image .entry)) budget (delete block)) r (now (image .exit)) ⌝ }
+{
+    packed(store::delete(image, n, b, BlockNumber(block), budget))
+}
+
+#[no_mangle]
+pub extern "C" fn qbx_recover(image: &mut [u8], n: usize, b: usize, budget: u64) -> u64
+    ensures { λ r. ⌜ Gives (outcomeOf n b (now (image .entry)) budget recover) r (now (image .exit)) ⌝ }
+{
+    packed(store::recover(image, n, b, budget))
+}
+
+#[no_mangle]
+pub extern "C" fn qbx_read(image: &[u8], n: usize, b: usize, block: u16) -> u64
+    ensures { λ r. ⌜ r ≡ packedRead (readOutcome n b (now (image .entry)) block) ⌝ }
+{
+    packed_read(store::read(image, n, b, BlockNumber(block)))
+}

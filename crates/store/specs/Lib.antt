@@ -1,0 +1,4 @@
+pub mod Finish
+pub mod Room
+pub mod Look
+pub mod Writing

@@ -1,0 +1,167 @@
+// The requests: each refuses, or plans and performs a list of flash steps under a budget. Nothing is required of a caller.
+mod check;
+mod erasing;
+mod finish;
+mod look;
+mod mend;
+mod room;
+mod writing;
+
+use look::Looked;
+use model::Answer;
+use model::BlockNumber;
+use model::Located;
+use model::Performed;
+use model::SegmentNumber;
+use room::Plan;
+use scan::Surveyed;
+ghost use mathlib.Core.Path.{_≡_};
+ghost use Rattle.model.specs.Answers.{codeOf, performed, outcomeOf, format, put, delete, recover, located, readOutcome, pieceOr};
+
+// The number of the answer that a block is not stored.
+const ABSENT: u8 = 6;
+
+// The most bytes of contents.
+const MOST_CONTENTS: usize = 248;
+
+// How many steps open a segment.
+const OPENING: u64 = 17;
+
+// Erases every segment and opens the first.
+pub fn format(image: &mut [u8], segments: usize, slots: usize, budget: u64) -> Performed
+    ensures { λ r. ⌜ performed r (now (image .exit)) ≡ outcomeOf segments slots (now (image .entry)) budget format ⌝ }
+{
+    if !check::right_size(image.len(), segments, slots) {
+        return finish::refused(Answer::Size);
+    }
+    let erased = erasing::erase_all(image, segments, slots, budget);
+    let left = page::header::open_header(image, segments, slots, SegmentNumber(0), erased);
+    finish::finished(budget, left, erased, OPENING)
+}
+
+// Stores contents under a block number, which has a slot of its own from then on.
+pub fn put(
+    image: &mut [u8],
+    segments: usize,
+    slots: usize,
+    block: BlockNumber,
+    contents: &[u8],
+    budget: u64,
+) -> Performed
+    ensures { λ r. ⌜ performed r (now (image .exit)) ≡ outcomeOf segments slots (now (image .entry)) budget (put (block .0) (now (contents .entry))) ⌝ }
+{
+    if !check::right_size(image.len(), segments, slots) {
+        return finish::refused(Answer::Size);
+    }
+    if !check::number_ok(block) {
+        return finish::refused(Answer::Number);
+    }
+    if MOST_CONTENTS < contents.len() {
+        return finish::refused(Answer::Length);
+    }
+    let surveyed = scan::survey(&image[..], segments, slots);
+    let Surveyed::Clean {
+        first,
+        used,
+        live,
+        free,
+        compactions,
+    } = surveyed
+    else {
+        return finish::refused(check::state_answer(surveyed));
+    };
+    let plan = Plan {
+        first,
+        used,
+        slot: free,
+        live,
+        compactions,
+    };
+    writing::put_clean(image, segments, slots, plan, block, contents, budget)
+}
+
+// Deletes a block: its slot is marked dead.
+pub fn delete(
+    image: &mut [u8],
+    segments: usize,
+    slots: usize,
+    block: BlockNumber,
+    budget: u64,
+) -> Performed
+    ensures { λ r. ⌜ performed r (now (image .exit)) ≡ outcomeOf segments slots (now (image .entry)) budget (delete (block .0)) ⌝ }
+{
+    let looked = look::look(&image[..], segments, slots, block);
+    match looked {
+        Looked::Refused(answer) => finish::refused(answer),
+        Looked::At(place, _) => mend::mark_slot(image, place, budget),
+    }
+}
+
+// Where a block's contents are in the image.
+pub fn read(image: &[u8], segments: usize, slots: usize, block: BlockNumber) -> Located
+    ensures { λ r. ⌜ located r ≡ readOutcome segments slots (now (image .entry)) (block .0) ⌝ }
+{
+    let looked = look::look(image, segments, slots, block);
+    match looked {
+        Looked::Refused(answer) => Located {
+            answer,
+            offset: 0,
+            length: 0,
+        },
+        Looked::At(place, length) => Located {
+            answer: Answer::Done,
+            offset: place.0 + 8,
+            length,
+        },
+    }
+}
+
+// Hands back a block's contents as a part of the image; or, if the block is not stored, the whole default record that is lent
+// beside it (document 01: factory record); or, if the read is refused for another reason, an empty part of the image.
+// Nothing is copied. The code of the answer is told beside it.
+pub fn read_or<'a>(
+    image: &'a [u8],
+    factory: &'a [u8],
+    segments: usize,
+    slots: usize,
+    block: BlockNumber,
+    code: &mut u8,
+) -> &'a [u8]
+    ensures { λ r. ⌜ (now r ≡ pieceOr segments slots (now (image .entry)) (block .0) (now (factory .entry))) × (now (code .exit) ≡ readOutcome segments slots (now (image .entry)) (block .0) .code) ⌝ }
+{
+    let looked = look::look(image, segments, slots, block);
+    match looked {
+        Looked::Refused(answer) => {
+            let number = finish::code_of(answer);
+            *code = number;
+            if number == ABSENT {
+                return factory;
+            }
+            &image[0..0]
+        }
+        Looked::At(place, length) => {
+            *code = 0;
+            let start = place.0 + 8;
+            let end = start + length;
+            &image[start..end]
+        }
+    }
+}
+
+// Finishes what a power cut has left unfinished.
+pub fn recover(image: &mut [u8], segments: usize, slots: usize, budget: u64) -> Performed
+    ensures { λ r. ⌜ performed r (now (image .exit)) ≡ outcomeOf segments slots (now (image .entry)) budget recover ⌝ }
+{
+    if !check::right_size(image.len(), segments, slots) {
+        return finish::refused(Answer::Size);
+    }
+    let surveyed = scan::survey(&image[..], segments, slots);
+    mend::mend(image, segments, slots, surveyed, budget)
+}
+
+// The number of an answer in document 01's table.
+pub fn code(answer: Answer) -> u8
+    ensures { λ r. ⌜ r ≡ codeOf answer ⌝ }
+{
+    finish::code_of(answer)
+}
