@@ -1,0 +1,128 @@
+// qbx IMAGE N B VERB [BLOCK] [--budget STEPS]: one request on a record store whose image is a file.
+use libc::STDERR_FILENO;
+use libc::STDIN_FILENO;
+use libc::STDOUT_FILENO;
+use words::Command;
+use words::Reading;
+use words::Verb;
+ghost use Rattle.io.specs.Counts.{Counts};
+
+fn usage(fd: i32) {
+    io::write_all(
+        fd,
+        b"qbx: a record store on NOR flash, whose image is a file\n\n  qbx IMAGE N B VERB [BLOCK] [--budget STEPS]\n\n",
+    );
+    io::write_all(
+        fd,
+        b"IMAGE is the file, of N segments (2 to 64) with B slots each (2 to 255).\n\n",
+    );
+    io::write_all(
+        fd,
+        b"  format         erases all and starts an empty store; makes the file if there is none\n  put BLOCK      stores standard input, up to 248 bytes, under a number from 1 to 65534\n  get BLOCK      writes the contents to standard output, and the answer to standard error\n",
+    );
+    io::write_all(
+        fd,
+        b"  delete BLOCK   forgets the block\n  recover        mends what a power cut left unfinished\n  check          says the state of the image, the segments in use, and their slots\n\n",
+    );
+    io::write_all(
+        fd,
+        b"--budget STEPS stops a verb that writes after so many flash steps, as a power cut would.\nThe answer is said with its number and the steps done. The file is replaced whole or not at all.\n",
+    );
+}
+
+// A word of the command line. Of one that is too long the start is given, with dots, so that it means nothing.
+fn word(i: usize, buf: &mut [u8; 64]) -> usize
+    ensures { λ r. ⌜ Counts r (now (buf .exit)) ⌝ }
+{
+    let n = os::arg(i, buf);
+    if os::errno() == libc::ENAMETOOLONG {
+        buf[61] = b'.';
+        buf[62] = b'.';
+        buf[63] = b'.';
+        return io::count(64, buf);
+    }
+    n
+}
+
+// The contents to put are on standard input. A byte more than fits is read, so that too many are seen.
+fn put(image: &mut [u8], path: &[u8], command: Command) {
+    let mut contents = [0u8; 249];
+    let filled = tool::fill(STDIN_FILENO, &mut contents);
+    if !filled.whole {
+        io::write_all(STDERR_FILENO, b"qbx: cannot read standard input\n");
+        return;
+    }
+    let n = filled.count;
+    tool::obey(
+        image,
+        path,
+        command,
+        &contents[..n],
+        STDOUT_FILENO,
+        STDERR_FILENO,
+    );
+}
+
+fn obey(image: &mut [u8], path: &[u8], command: Command) {
+    let verb = command.verb;
+    if let Verb::Put = verb {
+        put(image, path, command);
+    } else {
+        tool::obey(image, path, command, b"", STDOUT_FILENO, STDERR_FILENO);
+    }
+}
+
+fn read_words(image: &mut [u8], path: &[u8]) {
+    let mut segments = [0u8; 64];
+    let a = word(2, &mut segments);
+    let mut slots = [0u8; 64];
+    let b = word(3, &mut slots);
+    let mut verb = [0u8; 64];
+    let c = word(4, &mut verb);
+    let mut first = [0u8; 64];
+    let d = word(5, &mut first);
+    let mut second = [0u8; 64];
+    let e = word(6, &mut second);
+    let mut third = [0u8; 64];
+    let f = word(7, &mut third);
+    let reading = words::command_of(
+        &segments[..a],
+        &slots[..b],
+        &verb[..c],
+        &first[..d],
+        &second[..e],
+        &third[..f],
+    );
+    match reading {
+        Reading::Right(command) => obey(image, path, command),
+        Reading::Wrong(complaint) => tool::complain(complaint, STDERR_FILENO),
+    }
+}
+
+fn start(image: &mut [u8]) {
+    let mut path = io::buffer();
+    let n = os::arg(1, &mut path);
+    if words::is(&path[..n], b"--help") {
+        usage(STDOUT_FILENO);
+        return;
+    }
+    if n == 0 {
+        usage(STDERR_FILENO);
+        return;
+    }
+    if os::arg_count() < 5 {
+        usage(STDERR_FILENO);
+        return;
+    }
+    if os::arg_count() > 8 {
+        usage(STDERR_FILENO);
+        return;
+    }
+    read_words(image, &path[..n]);
+}
+
+// The largest image and a byte more, so that a larger file is seen to be one.
+fn main() {
+    let mut image = [255u8; 4194305];
+    start(&mut image);
+}
