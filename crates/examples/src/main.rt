@@ -3,6 +3,7 @@ use libc::STDOUT_FILENO;
 use model::BlockNumber;
 use model::Located;
 use model::Performed;
+ghost use mathlib.Core.Path.{_≡_};
 
 // Steps enough for any request here.
 const ENOUGH: u64 = 100000;
@@ -25,7 +26,9 @@ fn bytes(s: &[u8]) {
     }
 }
 
-fn wide(x: u8) -> u64 {
+fn wide(x: u8) -> u64
+    ensures { λ r. ⌜ r ≡ x ⌝ }
+{
     x as u64
 }
 

@@ -74,7 +74,7 @@ fn beside(path: &[u8], name: &mut [u8]) -> usize
     end
 }
 
-// Writes a whole file, and has it on the disk.
+// Writes a whole file, and has it on the disk. Whether that went well is the system's word, of which nothing is proved.
 fn write_out(fd: i32, bytes: &[u8]) -> bool {
     let is_written = io::write_all(fd, bytes);
     let is_synced = libc::fsync(fd) == 0;
@@ -82,7 +82,8 @@ fn write_out(fd: i32, bytes: &[u8]) -> bool {
     is_written && is_synced && is_closed
 }
 
-// Replaces a file whole or not at all: its successor is written beside it and takes its name.
+// Replaces a file whole or not at all: its successor is written beside it and takes its name. Whether it did is the
+// system's word too.
 pub fn replace(path: &[u8], bytes: &[u8]) -> bool {
     let mut name = io::buffer();
     let n = beside(path, &mut name);
