@@ -26,8 +26,9 @@ use Rattle.model.specs.Laws.HeaderPage.{compactionHeader, compaction-in-page}
 use Rattle.model.specs.Laws.SlotPage.{live-facts, write-in-page}
 use Rattle.flash.specs.Ran.{Ran, Programmed}
 use Rattle.flash.proofs.Laws.{_then_, ran-none, ran-lent}
-use Rattle.page.specs.Pages.{OnPageAt, Sized, beginCompaction, finishCopy}
-use Rattle.page.proofs.Laws.Writes.{write-within}
+use Rattle.flash.specs.Pages.{OnPageAt, Sized}
+use Rattle.header.specs.Parts.{beginCompaction, finishCopy}
+use Rattle.slot.proofs.Laws.Writes.{write-within}
 use Rattle.compact.specs.Compaction.{liveEntries, firstSlot, Apart, Copied, Compaction, compact-parts}
 
 -- ---- a page by value

@@ -5,7 +5,7 @@ use model::SlotPlace;
 ghost use mathlib.Core.Path.{_≡_};
 ghost use Prim.Native.Nat.{_*_, _%_, _<_, _≤_};
 ghost use lib.ListN.{length};
-ghost use Rattle.page.specs.Pages.{Sized};
+ghost use Rattle.flash.specs.Pages.{Sized};
 ghost use Rattle.compact.specs.Compaction.{firstSlot, Apart, Copied, Compaction};
 
 // What is left of the budget, and how many live slots the old segment has, copied or not for want of budget.
@@ -69,13 +69,13 @@ fn copy_live(
         let next = at + 256;
         let page = page_of(&image[at..next]);
         slot += 1;
-        let kind = page::slot::slot_kind(&page);
+        let kind = slot::slot_kind(&page);
         let SlotKind::Live { length, block } = kind else {
             continue;
         };
         let stop = 8 + length;
         let place = SlotPlace(copied * 256);
-        left = page::slot::write_slot(&mut image[start..end], place, block, &page[8..stop], left);
+        left = slot::write_slot(&mut image[start..end], place, block, &page[8..stop], left);
         copied += 1;
     }
     Compacted { left, copied }
@@ -94,11 +94,11 @@ pub fn compact_segment(
     requires { ⌜ Sized segments slots (length (now image)) × Apart segments (old .0) (number .0) ⌝ }
     ensures { λ r. ⌜ Compaction segments slots (old .0) (number .0) budget (r .left) (r .copied) (now (image .entry)) (now (image .exit)) ⌝ }
 {
-    let begun = page::header::begin_compaction(image, segments, slots, old, number, budget);
+    let begun = header::begin_compaction(image, segments, slots, old, number, budget);
     let copy = copy_live(image, segments, slots, old, number, begun);
-    let pending = page::header::finish_copy(image, segments, slots, old, number, copy.left);
+    let pending = header::finish_copy(image, segments, slots, old, number, copy.left);
     let erased = flash::erase_segment(image, index_of(segments, old), slots, pending);
-    let left = page::header::settle(image, segments, slots, number, erased);
+    let left = header::settle(image, segments, slots, number, erased);
     Compacted {
         left,
         copied: copy.copied,

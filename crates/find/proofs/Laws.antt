@@ -26,7 +26,7 @@ use Rattle.model.specs.Laws.Chunk.{chunk-part}
 use Rattle.model.specs.Laws.Segments.{partOf, part-page, part-size, page-in}
 use Rattle.model.specs.Laws.SlotPage.{live-facts}
 use Rattle.bridge.specs.Views.Slots.{entries-append, entries-cons}
-use Rattle.page.specs.Pages.{Sized}
+use Rattle.flash.specs.Pages.{Sized}
 use Rattle.find.specs.declared.Found.{Found}
 use Rattle.find.specs.declared.Found.the-variants.{At, Nothing}
 use Rattle.find.specs.Search.{mayHold, rowsAt, foundIn}

@@ -7,7 +7,7 @@ ghost use mathlib.Core.Path.{_≡_};
 ghost use Prim.Native.Nat.{_+_, _*_, _<_, _≤_};
 ghost use lib.ListN.{length};
 ghost use Rattle.model.specs.Steps.{slotAt};
-ghost use Rattle.page.specs.Pages.{Sized};
+ghost use Rattle.flash.specs.Pages.{Sized};
 ghost use Rattle.find.specs.Search.{mayHold, rowsAt, foundIn};
 
 // The status of a live slot.
@@ -71,7 +71,7 @@ pub fn find(
             if !may_hold(page, block) {
                 continue;
             }
-            let kind = page::slot::slot_kind(page);
+            let kind = slot::slot_kind(page);
             let SlotKind::Live {
                 length,
                 block: held,

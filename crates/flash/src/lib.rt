@@ -1,11 +1,11 @@
-// Flash steps under a budget. Each function takes the budget and returns what is left of it.
+// Flash steps under a budget. Each function that writes takes the budget and returns what is left of it.
 ghost use mathlib.Core.Path.{_≡_};
 ghost use mathlib.Core.List.{[], _∷_};
 ghost use Prim.Native.Nat.{_+_, _*_, _<_, _≤_};
 ghost use lib.ListN.{length};
 ghost use Rattle.model.specs.Chip.{program, erase};
 ghost use Rattle.model.specs.Header.{isBlank};
-ghost use Rattle.model.specs.Steps.{programs};
+ghost use Rattle.model.specs.Steps.{programs, programPart};
 ghost use Rattle.flash.specs.Ran.{Ran, Programmed};
 
 // Programs one byte.
@@ -37,6 +37,15 @@ pub fn program_run(image: &mut [u8], at: usize, bytes: &[u8], budget: u64) -> u6
         i += 1;
     }
     left
+}
+
+// Programs some bytes of a page that was made up, where they belong.
+pub fn program_part(page: &mut [u8], made: &[u8], at: usize, count: usize, budget: u64) -> u64
+    requires { ⌜ (at + count ≤ length (now made)) × (length (now made) ≡ length (now page)) ⌝ }
+    ensures { λ r. ⌜ Programmed (programPart (now (made .entry)) at count) budget r (now (page .entry)) (now (page .exit)) ⌝ }
+{
+    let end = at + count;
+    program_run(page, at, &made[at..end], budget)
 }
 
 // Erases the segment at an index, as one step.

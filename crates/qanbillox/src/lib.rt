@@ -19,7 +19,7 @@ fn packed(p: Performed) -> u64
     ensures { λ r. ⌜ r ≡ codeOf (p .answer) + 256 * p .steps ⌝ }
 {
     let answer = p.answer;
-    wide(store::code(answer)) + 256 * p.steps
+    wide(request::code_of(answer)) + 256 * p.steps
 }
 
 // The answer, 256 times the length and 65,536 times the offset.
@@ -30,7 +30,7 @@ fn packed_read(p: Located) -> u64
     let answer = p.answer;
     let length = p.length as u64;
     let offset = p.offset as u64;
-    wide(store::code(answer)) + 256 * length + 65536 * offset
+    wide(request::code_of(answer)) + 256 * length + 65536 * offset
 }
 
 #[no_mangle]

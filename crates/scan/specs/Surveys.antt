@@ -7,7 +7,7 @@ use lib.ListN.{length, getD}
 use Rattle.model.specs.Chip.{Image}
 use Rattle.model.specs.State.{Segment, blank, segmentsOf, isInUse, isInvalid, nextNumber, nextIndex, usedCount, firstNumber, viewOf, entriesIn, lastSlot, older, Exception, caseA, caseB, caseC, caseD, State, clean, unfinished, damaged, stateOf}
 use Rattle.model.specs.Steps.{slotAt, topRow, firstEmpty, compactions}
-use Rattle.page.specs.Pages.{Sized}
+use Rattle.flash.specs.Pages.{Sized}
 use Rattle.scan.specs.declared.Sum.{Sum}
 use Rattle.scan.specs.declared.Summary.{Summary}
 use Rattle.scan.specs.declared.Exam.{Exam}

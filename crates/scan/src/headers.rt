@@ -6,14 +6,14 @@ use crate::SegmentState;
 use crate::Summary;
 use model::BlockNumber;
 use model::SegmentNumber;
-use page::HeaderSeen;
+use header::HeaderSeen;
 ghost use mathlib.Core.Path.{_≡_};
 ghost use mathlib.Core.Bool.{not, _||_};
 ghost use mathlib.Core.List.{map};
 ghost use Prim.Native.Nat.{_-_, _<_, _≤_, max};
 ghost use lib.ListN.{length, getD};
 ghost use Rattle.model.specs.State.{blank, isInUse, isInvalid, isOwing, numberAfter, nextNumber, usedCount, numbersFrom, segmentsOf, nextBlanked, settled, topSettled};
-ghost use Rattle.page.specs.Pages.{Sized};
+ghost use Rattle.flash.specs.Pages.{Sized};
 ghost use Rattle.scan.specs.Heads.{bareOf, bare, outline, heads, stateSeen, allSettled, frameOf};
 ghost use Rattle.scan.specs.Tally.{Ranged};
 
@@ -48,7 +48,7 @@ fn see_segment(image: &[u8], segments: usize, slots: usize, index: usize) -> Sum
 {
     let at = index * (slots + 1) * 256;
     let first = at + 256;
-    let seen = page::header::see_header(&image[at..first], segments, slots, index);
+    let seen = header::see_header(&image[at..first], segments, slots, index);
     let HeaderSeen::InUse { status, number } = seen else {
         let end = at + (slots + 1) * 256;
         if flash::is_blank(&image[at..end]) {

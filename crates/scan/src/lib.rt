@@ -11,9 +11,9 @@ ghost use mathlib.Core.Path.{_≡_};
 ghost use mathlib.Core.Bool.{true, false};
 ghost use Prim.Native.Nat.{_+_, _-_, _*_, _<_, _≤_};
 ghost use lib.ListN.{length, getD};
-ghost use Rattle.model.specs.State.{blank, isInvalid, isOwing, numbersFrom, segmentsOf, slotsFrom, topIndex, nextIndex, capacity};
+ghost use Rattle.model.specs.State.{blank, isInvalid, isOwing, numbersFrom, segmentsOf, slotsFrom, topIndex, nextIndex};
 ghost use Rattle.model.specs.Steps.{slotAt};
-ghost use Rattle.page.specs.Pages.{Sized};
+ghost use Rattle.flash.specs.Pages.{Sized};
 ghost use Rattle.scan.specs.Surveys.{surveyOf, cleanIn, oldIn, Shown};
 ghost use Rattle.model.specs.Chip.{rightSize};
 ghost use Rattle.scan.specs.Heads.{heads};
@@ -111,14 +111,6 @@ pub enum Surveyed {
     Damaged,
 }
 
-// The most live slots (document 01: the capacity C).
-fn capacity(segments: usize, slots: usize) -> usize
-    requires { ⌜ (2 ≤ segments) × (segments ≤ 64) × (2 ≤ slots) × (slots ≤ 255) ⌝ }
-    ensures { λ r. ⌜ (r ≡ capacity segments slots) × (r ≤ 1000000) ⌝ }
-{
-    (segments - 1) * slots - 1
-}
-
 // The number before the next one.
 fn top_number(next: usize) -> SegmentNumber
     requires { ⌜ next ≤ 4294967296 ⌝ }
@@ -156,7 +148,7 @@ fn survey_owing(
     if exam.used + 1 != segments {
         return Surveyed::Damaged;
     }
-    if sums::orderly(sum, capacity(segments, slots)) {
+    if sums::orderly(sum, request::capacity(segments, slots)) {
         let after = next % segments;
         let top = top_number(next);
         return Surveyed::ErasePending {
@@ -185,7 +177,7 @@ fn survey_torn(
         headers::next_blanked(table, segments, next),
     );
     let sum = exam.sum;
-    if sums::orderly(sum, capacity(segments, slots)) {
+    if sums::orderly(sum, request::capacity(segments, slots)) {
         let top = top_number(next);
         return Surveyed::TornSegment { top };
     }
@@ -236,7 +228,7 @@ fn survey_slots(
 {
     let exam = sums::examine(image, segments, slots, table);
     let sum = exam.sum;
-    let most = capacity(segments, slots);
+    let most = request::capacity(segments, slots);
     if sums::orderly(sum, most) {
         return clean_survey(exam);
     }

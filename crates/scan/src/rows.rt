@@ -131,7 +131,7 @@ pub fn scan_row(image: &[u8], at: usize, slots: usize, seen: &mut [u64; 1024]) -
     while i < slots {
         let a = at + i * 256;
         let e = a + 256;
-        row = count(row, page::slot::slot_kind(&image[a..e]), seen);
+        row = count(row, slot::slot_kind(&image[a..e]), seen);
         i += 1;
     }
     row

@@ -9,7 +9,7 @@ ghost use mathlib.Core.Path.{_≡_};
 ghost use mathlib.Core.List.{map};
 ghost use Prim.Native.Nat.{_≤_};
 ghost use lib.ListN.{length, take};
-ghost use Rattle.page.specs.Pages.{Sized};
+ghost use Rattle.flash.specs.Pages.{Sized};
 ghost use Rattle.scan.specs.Endings.{inOrder, endsTorn, endsTwin};
 ghost use Rattle.scan.specs.Verdict.{orderly, tornWithin, twinWithin};
 ghost use Rattle.scan.specs.Surveys.{examOf, Bounded};

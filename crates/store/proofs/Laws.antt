@@ -1,4 +1,3 @@
-pub mod Size
 pub mod Lengths
 pub mod Erasing
 pub mod Answered

@@ -20,7 +20,7 @@ use Rattle.flash.specs.Ran.{Ran}
 use Rattle.store.specs.declared.room.Plan.{Plan}
 use Rattle.store.specs.declared.room.Room.{Room}
 use Rattle.store.specs.Room.{Planned}
-use Rattle.store.specs.Finish.{Finished}
+use Rattle.request.specs.Request.{Finished}
 
 -- ---- refusals, from the numbers of a plan
 

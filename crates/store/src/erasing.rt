@@ -3,7 +3,7 @@ ghost use Prim.Native.Nat.{_≤_};
 ghost use lib.ListN.{length};
 ghost use Rattle.model.specs.Steps.{eraseFirst};
 ghost use Rattle.flash.specs.Ran.{Ran};
-ghost use Rattle.page.specs.Pages.{Sized};
+ghost use Rattle.flash.specs.Pages.{Sized};
 
 // Erases every segment, in order.
 pub fn erase_all(image: &mut [u8], segments: usize, slots: usize, budget: u64) -> u64

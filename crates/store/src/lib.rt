@@ -1,11 +1,10 @@
 // The requests: each refuses, or plans and performs a list of flash steps under a budget. Nothing is required of a caller.
 //
-// Forms that document 01 names: the budget (its allowance) falls with each flash step, and `finish` counts the steps by it;
+// Forms that document 01 names: the budget (its allowance) falls with each flash step, and `request` counts the steps by it;
 // block numbers, segment numbers and slot places are the three tuple structs of `model`; `let .. else` takes the clean
 // survey or the slot that was found, and all else is a refusal; `read_or` returns a part of either of two slices.
 mod check;
 mod erasing;
-mod finish;
 mod look;
 mod mend;
 mod room;
@@ -20,7 +19,7 @@ use model::SegmentNumber;
 use room::Plan;
 use scan::Surveyed;
 ghost use mathlib.Core.Path.{_≡_};
-ghost use Rattle.model.specs.Answers.{codeOf, performed, outcomeOf, format, put, delete, recover, located, readOutcome, pieceOr};
+ghost use Rattle.model.specs.Answers.{performed, outcomeOf, format, put, delete, recover, located, readOutcome, pieceOr};
 
 // The number of the answer that a block is not stored.
 const ABSENT: u8 = 6;
@@ -35,12 +34,12 @@ const OPENING: u64 = 17;
 pub fn format(image: &mut [u8], segments: usize, slots: usize, budget: u64) -> Performed
     ensures { λ r. ⌜ performed r (now (image .exit)) ≡ outcomeOf segments slots (now (image .entry)) budget format ⌝ }
 {
-    if !check::right_size(image.len(), segments, slots) {
-        return finish::refused(Answer::Size);
+    if !request::right_size(image.len(), segments, slots) {
+        return request::refused(Answer::Size);
     }
     let erased = erasing::erase_all(image, segments, slots, budget);
-    let left = page::header::open_header(image, segments, slots, SegmentNumber(0), erased);
-    finish::finished(budget, left, erased, OPENING)
+    let left = header::open_header(image, segments, slots, SegmentNumber(0), erased);
+    request::finished(budget, left, erased, OPENING)
 }
 
 // Stores contents under a block number, which has a slot of its own from then on.
@@ -54,14 +53,14 @@ pub fn put(
 ) -> Performed
     ensures { λ r. ⌜ performed r (now (image .exit)) ≡ outcomeOf segments slots (now (image .entry)) budget (put (block .0) (now (contents .entry))) ⌝ }
 {
-    if !check::right_size(image.len(), segments, slots) {
-        return finish::refused(Answer::Size);
+    if !request::right_size(image.len(), segments, slots) {
+        return request::refused(Answer::Size);
     }
-    if !check::number_ok(block) {
-        return finish::refused(Answer::Number);
+    if !request::number_ok(block) {
+        return request::refused(Answer::Number);
     }
     if MOST_CONTENTS < contents.len() {
-        return finish::refused(Answer::Length);
+        return request::refused(Answer::Length);
     }
     let surveyed = scan::survey(&image[..], segments, slots);
     let Surveyed::Clean {
@@ -72,7 +71,7 @@ pub fn put(
         compactions,
     } = surveyed
     else {
-        return finish::refused(check::state_answer(surveyed));
+        return request::refused(check::state_answer(surveyed));
     };
     let plan = Plan {
         first,
@@ -96,7 +95,7 @@ pub fn delete(
 {
     let looked = look::look(&image[..], segments, slots, block);
     match looked {
-        Looked::Refused(answer) => finish::refused(answer),
+        Looked::Refused(answer) => request::refused(answer),
         Looked::At(place, _) => mend::mark_slot(image, place, budget),
     }
 }
@@ -136,7 +135,7 @@ pub fn read_or<'a>(
     let looked = look::look(image, segments, slots, block);
     match looked {
         Looked::Refused(answer) => {
-            let number = finish::code_of(answer);
+            let number = request::code_of(answer);
             *code = number;
             if number == ABSENT {
                 return factory;
@@ -156,16 +155,9 @@ pub fn read_or<'a>(
 pub fn recover(image: &mut [u8], segments: usize, slots: usize, budget: u64) -> Performed
     ensures { λ r. ⌜ performed r (now (image .exit)) ≡ outcomeOf segments slots (now (image .entry)) budget recover ⌝ }
 {
-    if !check::right_size(image.len(), segments, slots) {
-        return finish::refused(Answer::Size);
+    if !request::right_size(image.len(), segments, slots) {
+        return request::refused(Answer::Size);
     }
     let surveyed = scan::survey(&image[..], segments, slots);
     mend::mend(image, segments, slots, surveyed, budget)
-}
-
-// The number of an answer in document 01's table.
-pub fn code(answer: Answer) -> u8
-    ensures { λ r. ⌜ r ≡ codeOf answer ⌝ }
-{
-    finish::code_of(answer)
 }

@@ -34,10 +34,10 @@ fn look_clean(image: &[u8], segments: usize, slots: usize, plan: Plan, block: Bl
 pub fn look(image: &[u8], segments: usize, slots: usize, block: BlockNumber) -> Looked
     ensures { λ r. ⌜ Looks segments slots (now (image .entry)) (block .0) r ⌝ }
 {
-    if !check::right_size(image.len(), segments, slots) {
+    if !request::right_size(image.len(), segments, slots) {
         return Looked::Refused(Answer::Size);
     }
-    if !check::number_ok(block) {
+    if !request::number_ok(block) {
         return Looked::Refused(Answer::Number);
     }
     let surveyed = scan::survey(image, segments, slots);

@@ -1,5 +1,4 @@
 // The steps of a recovery; a delete has one of them too.
-use crate::finish;
 use model::Answer;
 use model::Performed;
 use model::SegmentNumber;
@@ -15,7 +14,7 @@ ghost use Rattle.model.specs.State.{segmentsOf};
 ghost use Rattle.model.specs.Steps.{settle};
 ghost use Rattle.model.specs.Answers.{performed, outcomeOf, recover};
 ghost use Rattle.flash.specs.Ran.{Ran};
-ghost use Rattle.page.specs.Pages.{Sized};
+ghost use Rattle.flash.specs.Pages.{Sized};
 ghost use Rattle.scan.specs.Surveys.{surveyOf};
 ghost use Rattle.store.specs.Finish.{Carried, PageAt, MarkedAt};
 
@@ -24,8 +23,8 @@ pub fn mark_slot(image: &mut [u8], place: SlotPlace, budget: u64) -> Performed
     requires { ⌜ PageAt (place .0) (length (now image)) ⌝ }
     ensures { λ r. ⌜ MarkedAt (place .0) budget r (now (image .entry)) (now (image .exit)) ⌝ }
 {
-    let left = page::slot::mark_dead(image, place, budget);
-    finish::finished(budget, left, budget, 1)
+    let left = slot::mark_dead(image, place, budget);
+    request::finished(budget, left, budget, 1)
 }
 
 // Erases the segment after the top, unless it is blank.
@@ -59,7 +58,7 @@ fn erase_torn(
     ensures { λ r. ⌜ Carried [] (erase ((top .0 + 1) % segments) ∷ []) slots budget r (now (image .entry)) (now (image .exit)) ⌝ }
 {
     let left = erase_next(image, segments, slots, top, false, budget);
-    finish::finished(budget, left, budget, 1)
+    request::finished(budget, left, budget, 1)
 }
 
 // Erases the segment after the top, unless it is blank, and then settles the top's status.
@@ -75,8 +74,8 @@ fn erase_pending(
     ensures { λ r. ⌜ Carried (cond blank [] (erase ((top .0 + 1) % segments) ∷ [])) (settle segments slots (top .0)) slots budget r (now (image .entry)) (now (image .exit)) ⌝ }
 {
     let erased = erase_next(image, segments, slots, top, blank, budget);
-    let left = page::header::settle(image, segments, slots, top, erased);
-    finish::finished(budget, left, erased, 1)
+    let left = header::settle(image, segments, slots, top, erased);
+    request::finished(budget, left, erased, 1)
 }
 
 // Mends an image as its survey says.
@@ -97,7 +96,7 @@ pub fn mend(
             live: _,
             free: _,
             compactions: _,
-        } => finish::refused(Answer::Done),
+        } => request::refused(Answer::Done),
         Surveyed::TornSegment { top } => erase_torn(image, segments, slots, top, budget),
         Surveyed::ErasePending { top, blank } => erase_pending(
             image,
@@ -109,6 +108,6 @@ pub fn mend(
         ),
         Surveyed::TornSlot { place } => mark_slot(image, place, budget),
         Surveyed::OldSlot { place } => mark_slot(image, place, budget),
-        Surveyed::Damaged => finish::refused(Answer::Damaged),
+        Surveyed::Damaged => request::refused(Answer::Damaged),
     }
 }

@@ -73,7 +73,7 @@ pub fn make_room(image: &mut [u8], segments: usize, slots: usize, plan: Plan, bu
         };
     }
     if used + 1 < segments {
-        let left = page::header::open_header(image, segments, slots, after(first, used), budget);
+        let left = header::open_header(image, segments, slots, after(first, used), budget);
         return Room {
             left,
             first,

@@ -1,5 +1,4 @@
 // A put on a clean image.
-use crate::finish;
 use crate::room;
 use crate::room::Plan;
 use crate::room::Room;
@@ -12,11 +11,10 @@ ghost use mathlib.Core.Path.{_≡_};
 ghost use mathlib.Core.Bool.{false};
 ghost use Prim.Native.Nat.{_+_, _-_, _*_, _≤_, _<_};
 ghost use lib.ListN.{length};
-ghost use Rattle.model.specs.State.{capacity};
 ghost use Rattle.model.specs.Steps.{slotAt};
 ghost use Rattle.model.specs.Answers.{performed, outcomeOf, put};
 ghost use Rattle.find.specs.Search.{rowsAt, foundIn};
-ghost use Rattle.page.specs.Pages.{Sized};
+ghost use Rattle.flash.specs.Pages.{Sized};
 ghost use Rattle.store.specs.Writing.{Ranged, wornBy, fullBy, answerFor, Puttable, Accepted, Ready, Wrote};
 
 // Segment numbers stay below this times the count of segments.
@@ -24,14 +22,6 @@ const NUMBERS_EACH: usize = 100000;
 
 // The steps that write a slot, besides one for each byte of contents.
 const SLOT_STEPS: u64 = 5;
-
-// The most live slots (document 01: the capacity C).
-fn capacity(segments: usize, slots: usize) -> usize
-    requires { ⌜ (2 ≤ segments) × (segments ≤ 64) × (2 ≤ slots) × (slots ≤ 255) ⌝ }
-    ensures { λ r. ⌜ r ≡ capacity segments slots ⌝ }
-{
-    (segments - 1) * slots - 1
-}
 
 // Whether room for a put would take a segment number of the limit or more. It is found out before the first step.
 fn is_worn(segments: usize, slots: usize, plan: Plan) -> bool
@@ -57,7 +47,7 @@ fn is_full(segments: usize, slots: usize, plan: Plan, found: Found) -> bool
     let Found::Nothing = found else {
         return false;
     };
-    capacity(segments, slots) <= plan.live
+    request::capacity(segments, slots) <= plan.live
 }
 
 // The answer of a put on a clean image, but for a cut.
@@ -119,12 +109,12 @@ fn write_block(
     let before = room.left;
     let steps = SLOT_STEPS + contents.len() as u64;
     let place = free_place(segments, slots, room);
-    let written = page::slot::write_slot(image, place, block, contents, before);
+    let written = slot::write_slot(image, place, block, contents, before);
     let Found::At(dead, _) = old else {
-        return finish::finished(budget, written, before, steps);
+        return request::finished(budget, written, before, steps);
     };
-    let left = page::slot::mark_dead(image, dead, written);
-    finish::finished(budget, left, before, steps + 1)
+    let left = slot::mark_dead(image, dead, written);
+    request::finished(budget, left, before, steps + 1)
 }
 
 // Makes room and writes the slot.
@@ -143,7 +133,7 @@ fn put_accepted(
 {
     let room = room::make_room(image, segments, slots, plan, budget);
     if room.left == 0 {
-        return finish::finished(budget, 0, 0, 1);
+        return request::finished(budget, 0, 0, 1);
     }
     let moved = slots <= plan.slot;
     let old = old_slot(&image[..], segments, slots, room, moved, found, block);
@@ -166,7 +156,7 @@ pub fn put_clean(
     let found = find::find(&image[..], segments, slots, plan.first, plan.used, block);
     let answer = put_answer(segments, slots, plan, found);
     let Answer::Done = answer else {
-        return finish::refused(answer);
+        return request::refused(answer);
     };
     put_accepted(image, segments, slots, plan, found, block, contents, budget)
 }

@@ -1,19 +1,15 @@
--- What the program computes beside its words: the size of an image, the name beside a file's, what a command does to an image.
+-- What the program computes beside its words: the name beside a file's, what a command does to an image.
 use Prim.Native.Nat.{ℕ, _+_}
 use mathlib.Core.Bool.{cond}
 use mathlib.Core.List.{List, [], _++_}
 use lib.ListN.{length}
 use lib.Dec.{leb}
-use Rattle.model.specs.Chip.{Image, inRange, imageLength}
+use Rattle.model.specs.Chip.{Image}
 use Rattle.model.specs.Answers.{Outcome, outcomeOf, format, put, delete, recover}
 use Rattle.words.specs.declared.Command.{Command}
 use Rattle.words.specs.declared.Verb.{Verb}
 use Rattle.words.specs.declared.Verb.the-variants.{Format, Put, Get, Delete, Recover, Check, Unknown}
 use Rattle.words.specs.Text.{text}
-
--- the bytes of an image with so many segments and slots; none if there is no such image
-unfoldable pub sizeOf : ℕ → ℕ → ℕ
-sizeOf N B = cond (inRange N B) (imageLength N B) 0
 
 -- the name under which a file's successor is written, if it is no longer than so many bytes
 unfoldable pub besideOf : ℕ → List ℕ → List ℕ

@@ -1,7 +1,7 @@
 // The state of an image, and what is in it, counted.
 use crate::Census;
 use model::SlotKind;
-use page::HeaderSeen;
+use header::HeaderSeen;
 use scan::Surveyed;
 use words::Condition;
 use words::Report;
@@ -11,7 +11,7 @@ ghost use Prim.Native.Nat.{_+_, _*_, _<_, _≤_};
 ghost use lib.ListN.{length, getD};
 ghost use Rattle.model.specs.Chip.{rightSize};
 ghost use Rattle.model.specs.State.{blank, segmentsOf, stateOf};
-ghost use Rattle.page.specs.Pages.{Sized};
+ghost use Rattle.flash.specs.Pages.{Sized};
 ghost use Rattle.scan.specs.Rows.{kindsAt};
 ghost use Rattle.tool.specs.Census.{conditionOf, total, counted, countKinds, countSegment, censusOf, reportOf};
 
@@ -83,7 +83,7 @@ fn count_slots(image: &[u8], at: usize, slots: usize, census: Census) -> Census
     while i < slots {
         let a = at + i * 256;
         let e = a + 256;
-        sum = count(sum, page::slot::slot_kind(&image[a..e]));
+        sum = count(sum, slot::slot_kind(&image[a..e]));
         i += 1;
     }
     sum
@@ -102,7 +102,7 @@ fn count_segment(
 {
     let at = index * (slots + 1) * 256;
     let first = at + 256;
-    let seen = page::header::see_header(&image[at..first], segments, slots, index);
+    let seen = header::see_header(&image[at..first], segments, slots, index);
     let HeaderSeen::InUse {
         status: _,
         number: _,

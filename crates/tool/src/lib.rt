@@ -69,7 +69,7 @@ fn absent(image: &mut [u8], command: Command, error: i32) -> Filled
             whole: false,
         };
     };
-    let count = requests::size_of(command.segments as usize, command.slots as usize);
+    let count = request::size_of(command.segments as usize, command.slots as usize);
     if error != libc::ENOENT {
         return Filled {
             count: 0,
@@ -123,7 +123,7 @@ fn get(image: &[u8], command: Command, out: i32, err: i32) {
 fn check(image: &[u8], command: Command, out: i32) {
     let segments = command.segments as usize;
     let slots = command.slots as usize;
-    if !requests::right_size(image, segments, slots) {
+    if !request::right_size(image.len(), segments, slots) {
         print(
             out,
             words::say_performed(Performed {

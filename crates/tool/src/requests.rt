@@ -4,46 +4,9 @@ use model::Performed;
 use words::Command;
 use words::Verb;
 ghost use mathlib.Core.Path.{_≡_};
-ghost use Prim.Native.Nat.{_≤_};
 ghost use lib.ListN.{length, take, drop, replicate};
-ghost use Rattle.model.specs.Chip.{inRange, rightSize};
 ghost use Rattle.model.specs.Answers.{codeOf, performed};
-ghost use Rattle.tool.specs.Tool.{sizeOf, performedBy};
-
-// Whether an image can have so many segments and slots.
-fn in_range(segments: usize, slots: usize) -> bool
-    ensures { λ r. ⌜ r ≡ inRange segments slots ⌝ }
-{
-    if segments < 2 {
-        return false;
-    }
-    if segments > 64 {
-        return false;
-    }
-    if slots < 2 {
-        return false;
-    }
-    slots <= 255
-}
-
-// The bytes of an image with so many segments and slots, or 0.
-pub fn size_of(segments: usize, slots: usize) -> usize
-    ensures { λ r. ⌜ (r ≡ sizeOf segments slots) × (r ≤ 4194304) ⌝ }
-{
-    if in_range(segments, slots) {
-        return segments * (slots + 1) * 256;
-    }
-    0
-}
-
-pub fn right_size(image: &[u8], segments: usize, slots: usize) -> bool
-    ensures { λ r. ⌜ r ≡ rightSize segments slots (now (image .entry)) ⌝ }
-{
-    if in_range(segments, slots) {
-        return image.len() == size_of(segments, slots);
-    }
-    false
-}
+ghost use Rattle.tool.specs.Tool.{performedBy};
 
 // A chip from the factory.
 pub fn blank(image: &mut [u8])

@@ -12,29 +12,16 @@ ghost use mathlib.Core.Path.{_≡_};
 ghost use mathlib.Core.List.{_++_};
 ghost use Prim.Native.Nat.{_+_, _≤_};
 ghost use lib.ListN.{length};
-ghost use Rattle.model.specs.Answers.{codeOf};
 ghost use Rattle.words.specs.Text.{said, Added};
 ghost use Rattle.words.specs.Number.{decimal};
 ghost use Rattle.words.specs.Said.{verdict, reason, stepsWord, answerText, performedText, complaintText, conditionText, slotsText, reportText};
 
 // ---- answers
 
-// The number of an answer.
-fn code(answer: Answer) -> u64
-    ensures { λ r. ⌜ r ≡ codeOf answer ⌝ }
+fn wide(x: u8) -> u64
+    ensures { λ r. ⌜ r ≡ x ⌝ }
 {
-    match answer {
-        Answer::Done => 0,
-        Answer::Size => 1,
-        Answer::Number => 2,
-        Answer::Length => 3,
-        Answer::Damaged => 4,
-        Answer::Unfinished => 5,
-        Answer::Absent => 6,
-        Answer::Full => 7,
-        Answer::Worn => 8,
-        Answer::Cut => 9,
-    }
+    x as u64
 }
 
 fn add_verdict(line: Line, code: u64) -> Line
@@ -72,7 +59,7 @@ fn add_reason(line: Line, answer: Answer) -> Line
 fn say_answer(answer: Answer) -> Line
     ensures { λ r. ⌜ (said r ≡ answerText answer) × (r .count ≤ 40) ⌝ }
 {
-    let number = code(answer);
+    let number = wide(request::code_of(answer));
     let begun = add_verdict(empty(), number);
     add_reason(add_number(begun, number), answer)
 }

@@ -169,6 +169,10 @@ bytes-get [] i p = omega arith
 bytes-get (x ∷ s) zero p = p .0
 bytes-get (x ∷ s) (suc i) p = bytes-get s i (p .1)
 
+pub bytes-known : (s : List ℕ) → ((i : ℕ) → getD s i 0 < 256) → Bytes s
+bytes-known [] h = tt
+bytes-known (x ∷ s) h = (h 0, bytes-known s (λ i. h (suc i)))
+
 pub bytes-set : (s : List ℕ) (i x : ℕ) → Bytes s → x < 256 → Bytes (set s i x)
 bytes-set [] i x p h = tt
 bytes-set (y ∷ s) zero x p h = (h, p .1)

@@ -15,9 +15,9 @@ use Rattle.model.specs.Slot.{Slot}
 use Rattle.model.specs.State.{Segment, blank, invalid, inUse, segmentsOf}
 use Rattle.model.specs.declared.SegmentNumber.{SegmentNumber}
 use Rattle.model.specs.Laws.Segments.{segments-length}
-use Rattle.page.specs.declared.HeaderSeen.{HeaderSeen}
-use Rattle.page.specs.declared.HeaderSeen.the-variants.{InUse, NotInUse}
-use Rattle.page.specs.Pages.{headerSeen}
+use Rattle.header.specs.declared.HeaderSeen.{HeaderSeen}
+use Rattle.header.specs.declared.HeaderSeen.the-variants.{InUse, NotInUse}
+use Rattle.header.specs.Parts.{headerSeen}
 use Rattle.scan.specs.declared.SegmentState.the-variants.{Blank, Invalid, Owing}
 use Rattle.scan.specs.declared.Summary.{Summary}
 use Rattle.scan.specs.Parts.{headerOffset, slotsOffset, segmentSeen, segment-seen}

@@ -11,7 +11,7 @@ use borrow.Author.Tests.{eq-eqb, ne-eqb, leb-true, eqb-true}
 use Rattle.model.specs.Chip.{Image, rightSize, inRange, imageLength, leastSegments, mostSegments, leastSlots, mostSlots}
 use Rattle.model.specs.State.{Segment, blank, segmentsOf, isInUse, isInvalid, isOwing, nextNumber, topIndex, nextIndex, usedCount, firstNumber, slotsFrom, numbersFrom, View, viewOf, entriesIn, holds, capacity, placeOf, nextBlanked, topSettled}
 use Rattle.model.specs.Steps.{slotAt}
-use Rattle.page.specs.Pages.{Sized}
+use Rattle.flash.specs.Pages.{Sized}
 use Rattle.model.specs.declared.SegmentNumber.{SegmentNumber}
 use Rattle.model.specs.declared.SlotPlace.{SlotPlace}
 use Rattle.scan.specs.declared.Row.{Row}

@@ -14,7 +14,8 @@ use Rattle.model.specs.declared.Answer.{Answer}
 use Rattle.model.specs.declared.Performed.{Performed}
 use Rattle.bridge.specs.Accepted.{refusal}
 use Rattle.flash.specs.Ran.{Ran}
-use Rattle.store.specs.Finish.{Refused, Finished, Carried}
+use Rattle.request.specs.Request.{Refused, Finished}
+use Rattle.store.specs.Finish.{Carried}
 
 -- ---- no step
 

@@ -10,7 +10,7 @@ use Rattle.model.specs.Chip.{Image, erase}
 use Rattle.model.specs.Steps.{eraseFirst}
 use Rattle.flash.specs.Ran.{Ran}
 use Rattle.flash.proofs.Laws.{_then_}
-use Rattle.page.specs.Pages.{Sized}
+use Rattle.flash.specs.Pages.{Sized}
 use Rattle.compact.proofs.Laws.{ran-length}
 
 pub segment-inside : (N B i bytes : ℕ) → Sized N B bytes → i < N → (i * (B + 1) + (B + 1)) * 256 ≤ bytes

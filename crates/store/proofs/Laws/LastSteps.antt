@@ -17,10 +17,10 @@ use Rattle.find.specs.declared.Found.the-variants.{At, Nothing}
 use Rattle.find.proofs.Callers.{Inside, found-inside, FoundAt, found-at, found-nothing}
 use Rattle.flash.specs.Ran.{Ran}
 use Rattle.flash.proofs.Laws.{_then_}
-use Rattle.page.specs.Pages.{Sized, OnPageAt}
-use Rattle.page.proofs.Laws.Writes.{sized}
+use Rattle.flash.specs.Pages.{Sized, OnPageAt}
+use Rattle.flash.proofs.Pages.{sized}
 use Rattle.store.specs.declared.room.Room.{Room}
-use Rattle.store.specs.Finish.{Finished}
+use Rattle.request.specs.Request.{Finished}
 use Rattle.store.specs.Writing.{Ready, lastSteps, Wrote}
 use Rattle.compact.proofs.Laws.{ran-length}
 use Rattle.store.proofs.Laws.Lengths.{write-length, mark-length, ran-left}

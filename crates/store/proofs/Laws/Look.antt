@@ -11,7 +11,7 @@ use Rattle.model.specs.Answers.{codeOf, read}
 use Rattle.model.specs.declared.Answer.{Answer}
 use Rattle.model.specs.declared.Answer.the-variants.{Size, Number, Absent}
 use Rattle.model.specs.declared.SlotPlace.{SlotPlace}
-use Rattle.page.specs.Pages.{Sized}
+use Rattle.flash.specs.Pages.{Sized}
 use Rattle.find.specs.declared.Found.{Found}
 use Rattle.find.specs.declared.Found.the-variants.{At, Nothing}
 use Rattle.find.specs.Search.{rowsAt, foundIn}

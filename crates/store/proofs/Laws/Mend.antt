@@ -25,7 +25,8 @@ use Rattle.model.specs.Laws.Ring.{next-ge, next-set-le, slots-get, slots-length
 use Rattle.model.specs.Laws.Clean.{clean-ring, used-next}
 use Rattle.bridge.specs.Views.Places.{fill-length}
 use Rattle.bridge.specs.Views.Shape.{first-live-in}
-use Rattle.store.specs.Finish.{Refused, Carried, PageAt, MarkedAt}
+use Rattle.request.specs.Request.{Refused}
+use Rattle.store.specs.Finish.{Carried, PageAt, MarkedAt}
 use Rattle.store.proofs.Laws.Lengths.{mark-length, settle-length}
 use Rattle.store.proofs.Laws.Answered.{refused-outcome, idle-outcome, carried-outcome}
 use Rattle.store.proofs.Laws.Refusals.{recover-clean, recover-damaged, recover-unfinished}

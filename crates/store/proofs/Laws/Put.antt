@@ -21,11 +21,11 @@ use Rattle.find.specs.declared.Found.{Found}
 use Rattle.find.specs.Search.{rowsAt, foundIn}
 use Rattle.flash.specs.Ran.{Ran}
 use Rattle.flash.proofs.Laws.{_then_, ran-spent}
-use Rattle.page.specs.Pages.{Sized}
-use Rattle.page.proofs.Laws.Writes.{sized}
+use Rattle.flash.specs.Pages.{Sized}
+use Rattle.flash.proofs.Pages.{sized}
 use Rattle.store.specs.declared.room.Plan.{Plan}
 use Rattle.store.specs.declared.room.Room as rooms
-use Rattle.store.specs.Finish.{Finished}
+use Rattle.request.specs.Request.{Finished}
 use Rattle.store.specs.Room.{Planned, Roomed}
 use Rattle.store.specs.Writing.{Accepted, Ready, lastSteps, Wrote}
 use Rattle.store.proofs.Laws.Lengths.{write-length, ran-left}

@@ -16,7 +16,8 @@ use Rattle.model.specs.declared.Answer.the-variants.{Size}
 use Rattle.model.specs.declared.Performed.{Performed}
 use Rattle.flash.specs.Ran.{Ran, Programmed}
 use Rattle.flash.proofs.Laws.{_then_}
-use Rattle.store.specs.Finish.{answerIn, Refused, Finished, PageAt, MarkedAt}
+use Rattle.request.specs.Request.{Refused, Finished}
+use Rattle.store.specs.Finish.{answerIn, PageAt, MarkedAt}
 use Rattle.store.specs.Look.{There, Kept}
 use Rattle.store.proofs.Laws.Refusals.{wrong-size-code, format-code, delete-code, put-unclean}
 use Rattle.store.proofs.Laws.Survey.{unclean-code}

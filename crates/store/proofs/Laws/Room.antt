@@ -28,8 +28,8 @@ use Rattle.bridge.specs.Views.Room.{compactions-some, compactions-length, room-
 use Rattle.bridge.specs.Views.Times.{compactTimes, Needs, after-times, room-times, copied-empty, times-top}
 use Rattle.flash.specs.Ran.{Ran, Programmed}
 use Rattle.flash.proofs.Laws.{ran-none}
-use Rattle.page.specs.Pages.{Sized}
-use Rattle.page.proofs.Laws.Writes.{sized}
+use Rattle.flash.specs.Pages.{Sized}
+use Rattle.flash.proofs.Pages.{sized}
 use Rattle.compact.specs.Compaction.{liveEntries, Apart, Compaction}
 use Rattle.compact.specs.Composed.{then-list-if-whole}
 use Rattle.store.specs.declared.room.Plan.{Plan}

@@ -4,7 +4,6 @@ use mathlib.Core.Path.{_≡_, refl, sym, ap, _∙_, subst}
 use mathlib.Core.Logic.{⊎-elim}
 use mathlib.Core.Bool.{Bool, true, false, cond, _&&_, not}
 use mathlib.Core.List.{List, [], _∷_}
-use native.Mathlib.Nat.{mul-le-mul-right}
 use native.Mathlib.Omega.{arith}
 use denote.Enum.Declared.{tagOf}
 use types.Run.{OneOf}
@@ -30,14 +29,6 @@ use Rattle.store.specs.Room.{Planned}
 use Rattle.store.specs.Writing.{Ranged, wornBy, fullBy, answerFor, Puttable, Accepted}
 use Rattle.store.proofs.Laws.Refusals.{put-full, put-worn}
 use Rattle.store.proofs.Laws.Room.{plan-held, room-test, small, top-is}
-
--- ---- small numbers
-
-pub capacity-fits : (N B : ℕ) → 2 ≤ N → N ≤ 64 → 2 ≤ B → B ≤ 255 → (1 ≤ (N - 1) * B) × ((N - 1) * B ≤ 16065)
-capacity-fits N B n m b k =
-    let lo : 1 * B ≤ (N - 1) * B = mul-le-mul-right B (omega arith) in
-    let hi : (N - 1) * B ≤ 63 * B = mul-le-mul-right B (omega arith) in
-    (omega arith, omega arith)
 
 -- ---- worn
 

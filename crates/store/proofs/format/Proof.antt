@@ -2,8 +2,8 @@
 use native.Mathlib.Omega.{arith}
 use denote.Ref.{now}
 use Rattle.model.specs.Answers.{format}
-use Rattle.page.proofs.Laws.Writes.{sized}
-use Rattle.store.proofs.Laws.Size.{wrong-size, right-size}
+use Rattle.flash.proofs.Pages.{sized}
+use Rattle.request.proofs.Laws.{wrong-size, right-size}
 use Rattle.compact.proofs.Laws.{ran-length}
 use Rattle.store.proofs.Laws.Lengths.{ran-left}
 use Rattle.store.proofs.Laws.Requests.{size-refused, format-done}

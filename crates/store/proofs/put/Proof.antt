@@ -6,7 +6,8 @@ use borrow.Author.Tests.{not-true, not-false}
 use Rattle.model.specs.Answers.{codeOf, put}
 use Rattle.model.specs.declared.Answer.the-variants.{Number, Length}
 use Rattle.store.specs.Finish.{answerIn}
-use Rattle.store.proofs.Laws.Size.{wrong-size, right-size, bytes-known}
+use Rattle.request.proofs.Laws.{wrong-size, right-size}
+use Rattle.model.specs.Laws.Bytes.{bytes-known}
 use Rattle.store.proofs.Laws.Answered.{refused-outcome}
 use Rattle.store.proofs.Laws.Refusals.{put-number, put-length}
 use Rattle.store.proofs.Laws.Survey.{survey-says, survey-other, survey-plan}

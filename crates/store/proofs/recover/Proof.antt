@@ -1,7 +1,7 @@
 -- `store::recover` is the request of the definition. Assumes nothing.
 use denote.Ref.{now}
 use Rattle.model.specs.Answers.{recover}
-use Rattle.store.proofs.Laws.Size.{wrong-size, right-size}
+use Rattle.request.proofs.Laws.{wrong-size, right-size}
 use Rattle.store.proofs.Laws.Requests.{size-refused}
 use borrow.Author.Needs.{needs}
 use Rattle.store.proofs.recover.Statement.{statement}

@@ -15,9 +15,9 @@ use Rattle.model.specs.State.{Segment, blank, invalid, inUse, stateOf, segments
 use Rattle.model.specs.declared.SegmentNumber.{SegmentNumber}
 use Rattle.model.specs.declared.SlotKind.{SlotKind}
 use Rattle.model.specs.declared.SlotKind.the-variants.{Empty, Torn, Live, Dead, Wrong}
-use Rattle.page.specs.declared.HeaderSeen.{HeaderSeen}
-use Rattle.page.specs.declared.HeaderSeen.the-variants.{InUse, NotInUse}
-use Rattle.page.specs.Pages.{headerSeen}
+use Rattle.header.specs.declared.HeaderSeen.{HeaderSeen}
+use Rattle.header.specs.declared.HeaderSeen.the-variants.{InUse, NotInUse}
+use Rattle.header.specs.Parts.{headerSeen}
 use Rattle.scan.specs.declared.Surveyed.{Surveyed}
 use Rattle.scan.specs.Surveys.{surveyOf, stateIn, survey-state}
 use Rattle.scan.specs.Rows.{kindsAt, slotsAt}

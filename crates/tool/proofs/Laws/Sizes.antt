@@ -1,4 +1,4 @@
--- The size of an image, and parts of it.
+-- Parts of an image.
 use Prim.Native.Nat.{ℕ, _+_, _-_, _*_, _<_, _≤_}
 use mathlib.Core.Path.{_≡_, refl, sym, _∙_, ap}
 use mathlib.Core.List.{List, [], _++_, append-nil}
@@ -11,18 +11,6 @@ use Rattle.model.specs.Chip.{leastSegments, mostSegments, leastSlots, mostSlots
 use Rattle.model.specs.Laws.Lists.{and-left, and-right}
 use lib.ListN.{length, take, drop, replicate, length-replicate, length-drop, drop-of-length-le}
 use lib.Seq.{take-all, take-nil}
-
--- an image has at most 64 segments of 256 pages
-pub most-pages : (N B : ℕ) → N ≤ 64 → B ≤ 255 → N * (B + 1) ≤ 16384
-most-pages N B n b = mul-le-mul n (let h : B + 1 ≤ 256 = omega arith in h)
-
--- what the test of the ranges tells
-pub in-bounds : (N B : ℕ) → inRange N B ≡ true → (N ≤ 64) × (B ≤ 255)
-unfolding inRange leastSegments mostSegments leastSlots mostSlots
-in-bounds N B e =
-    let t = and-right (leb 2 N) (leb N 64 && (leb 2 B && leb B 255)) e in
-    let u = and-right (leb N 64) (leb 2 B && leb B 255) t in
-    (leb-true N 64 (and-left (leb N 64) (leb 2 B && leb B 255) t), leb-true B 255 (and-right (leb 2 B) (leb B 255) u))
 
 pub piece-none : (s : List ℕ) (at count : ℕ) → length s < at → [] ≡ take count (drop at s)
 piece-none s at count h = let l : length s ≤ at = omega arith in rw (drop-of-length-le s l, take-nil {A = ℕ} count)

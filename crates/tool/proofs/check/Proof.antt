@@ -1,6 +1,6 @@
 -- `tool::check`: an image of the right size is reported on. Assumes nothing.
-use mathlib.Core.Path.{sym, _∙_}
-use borrow.Author.Tests.{not-false}
+use denote.Ref.{now}
+use Rattle.request.proofs.Laws.{right-size}
 use borrow.Author.Needs.{needs}
 use Rattle.tool.proofs.check.Statement.{statement}
 use Rattle.tool.proofs.check.Tie as tie
@@ -18,7 +18,9 @@ returns : tie.Need-returns
 returns c = search needs
 
 report-on-requires : tie.Need-report-on-requires
-report-on-requires c κs = sym (c .before .right-size .ensures) ∙ not-false _ (c .if1 .left)
+report-on-requires c κs =
+    let a = c .before .before .args in
+    right-size (a .command .segments) (a .command .slots) (now (a .image)) _ (c .before .right-size .ensures) (c .if1 .left)
 
 say-report-requires : tie.Need-say-report-requires
 say-report-requires c κs = search needs

@@ -3,7 +3,7 @@ use mathlib.Core.Path.{sym, subst}
 use Prim.Native.Nat.{ℕ}
 use denote.Ref.{now}
 use lib.ListN.{length}
-use Rattle.page.proofs.Laws.Writes.{sized}
+use Rattle.flash.proofs.Pages.{sized}
 use Rattle.store.specs.Finish.{PageAt}
 use Rattle.store.proofs.Laws.Survey.{survey-clean, survey-damaged, survey-torn-segment, survey-pending, survey-torn-slot, survey-old-slot}
 use Rattle.store.proofs.Laws.Mend.{torn-page, older-page, mend-clean, mend-damaged, mend-a, mend-b, mend-c, mend-d}

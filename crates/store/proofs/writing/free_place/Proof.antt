@@ -2,7 +2,7 @@
 use Prim.Native.Nat.{_+_, _-_}
 use native.Mathlib.Omega.{arith}
 use Rattle.model.specs.Steps.{slotAt}
-use Rattle.page.proofs.Laws.Writes.{header-small}
+use Rattle.flash.proofs.Pages.{header-small}
 use borrow.Author.Needs.{needs}
 use Rattle.store.proofs.writing.free_place.Statement.{statement}
 use Rattle.store.proofs.writing.free_place.Tie as tie

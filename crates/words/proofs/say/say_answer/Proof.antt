@@ -1,4 +1,5 @@
 -- `words::say::say_answer`: its parts, one after the other. Assumes nothing.
+use mathlib.Core.Path.{_∙_}
 use native.Mathlib.Omega.{arith}
 use Rattle.words.specs.Said.{answerText}
 use Rattle.words.proofs.Laws.Lines.{more}
@@ -6,8 +7,11 @@ use borrow.Author.Needs.{needs}
 use Rattle.words.proofs.say.say_answer.Statement.{statement}
 use Rattle.words.proofs.say.say_answer.Tie as tie
 
-code-requires : tie.Need-code-requires
-code-requires c κs = search needs
+code-of-requires : tie.Need-code-of-requires
+code-of-requires c κs = search needs
+
+wide-requires : tie.Need-wide-requires
+wide-requires c κs = search needs
 
 empty-requires : tie.Need-empty-requires
 empty-requires c κs = search needs
@@ -26,13 +30,14 @@ unfolding answerText
 returns c =
     let k = c .before .before .before in
     let whole = more (c .add-reason .ensures .0) (more (c .before .add-number .ensures .0) (more (c .before .before .add-verdict .ensures .0) (k .empty .ensures .0))) in
-    (rw (← k .before .code .ensures) whole, omega arith)
+    (rw (← (k .before .wide .ensures ∙ k .before .before .code-of .ensures)) whole, omega arith)
 
 pub say-answer-spec : {M : Type 1} → statement M
 say-answer-spec =
     tie.close
     (tie.spec
-    code-requires
+    code-of-requires
+    wide-requires
     empty-requires
     add-verdict-requires
     add-number-requires

@@ -1,0 +1,18 @@
+-- Pages in an image: steps done in one of them, and an image of whole segments.
+use Prim.Native.Nat.{ℕ, _+_, _*_, _≤_, _<_}
+use mathlib.Core.Path.{_≡_}
+use mathlib.Core.List.{List}
+use Rattle.model.specs.Chip.{Image, Step}
+use Rattle.model.specs.Steps.{onPage}
+use Rattle.flash.specs.Ran.{Programmed}
+
+-- steps that were done in the page at an offset
+abbrev pub OnPageAt : ℕ → List Step → ℕ → ℕ → Image → Image → Type 0
+OnPageAt at steps budget left from to = (p : ℕ) → at ≡ p * 256 → Programmed (onPage p steps) budget left from to
+
+-- N and B fit a byte each, and the image has N segments
+pub record Sized (N B bytes : ℕ) : Type 0 where
+  pub some : 0 < N
+  pub segments : N ≤ 255
+  pub slots : B ≤ 255
+  pub whole : bytes ≡ N * (B + 1) * 256

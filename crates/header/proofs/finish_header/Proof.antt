@@ -1,0 +1,21 @@
+-- `header::finish_header` does the last steps in a header, call by call. Assumes nothing.
+use Rattle.header.proofs.Laws.Writes.{header-finished}
+use borrow.Author.Needs.{needs}
+use Rattle.header.proofs.finish_header.Statement.{statement}
+use Rattle.header.proofs.finish_header.Tie as tie
+
+program-part-requires : tie.Need-program-part-requires
+program-part-requires c κs = search needs
+
+program-byte-requires : tie.Need-program-byte-requires
+program-byte-requires c κs = search needs
+
+same-length : tie.Need-same-length
+same-length c = search needs
+
+returns : tie.Need-returns
+returns c = search (needs, header-finished)
+
+pub finish-header-spec : {M : Type 1} → statement M
+finish-header-spec =
+    tie.close (tie.spec program-part-requires program-byte-requires same-length returns)

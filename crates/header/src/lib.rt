@@ -1,0 +1,284 @@
+// A header page taken apart, or made up and programmed under a budget.
+use model::SegmentNumber;
+ghost use mathlib.Core.Path.{_≡_};
+ghost use Prim.Native.Nat.{_+_, _*_, _%_, _<_, _≤_};
+ghost use lib.ListN.{length};
+ghost use Rattle.model.specs.Lists.{same};
+ghost use Rattle.model.specs.Header.{erasePending, headerPage, headerNumber, headerInUse, oldIndex, statusInUse};
+ghost use Rattle.model.specs.Steps.{headerAt, openSegment, settle};
+ghost use Rattle.flash.specs.Ran.{Programmed};
+ghost use Rattle.flash.specs.Pages.{Sized};
+ghost use Rattle.header.specs.Parts.{headerBegun, headerFinished, headerSeen, beginCompaction, finishCopy};
+
+// A header page: the status and number of a segment in use.
+pub enum HeaderSeen {
+    InUse { status: u8, number: SegmentNumber },
+    NotInUse,
+}
+
+// Status bytes, by the names of the model's definitions.
+const OPENING_BEGUN: u8 = 0x7F;
+
+const OPENED: u8 = 0x3F;
+
+const COMPACTION_BEGUN: u8 = 0xDF;
+
+const ERASE_PENDING: u8 = 0x9F;
+
+const COMPACTED: u8 = 0x8F;
+
+// The index of the old segment where there is none.
+const NO_OLD_SEGMENT: u8 = 255;
+
+// Segment numbers stay below this times the count of segments.
+const NUMBERS_EACH: usize = 100000;
+
+// ---- taken apart
+
+fn low_byte(x: u32) -> u8
+    ensures { λ r. ⌜ r ≡ x % 256 ⌝ }
+{
+    (x % 256) as u8
+}
+
+// Four bytes as a number, low byte first.
+fn long(a: u8, b: u8, c: u8, d: u8) -> u32
+    ensures { λ r. ⌜ r ≡ a + 256 * (b + 256 * (c + 256 * d)) ⌝ }
+{
+    a as u32 + 256 * (b as u32 + 256 * (c as u32 + 256 * (d as u32)))
+}
+
+// The number in a header page, in use or not.
+fn header_number(page: &[u8]) -> SegmentNumber
+    requires { ⌜ length (now page) ≡ 256 ⌝ }
+    ensures { λ r. ⌜ r .0 ≡ headerNumber (now (page .entry)) ⌝ }
+{
+    SegmentNumber(long(page[8], page[9], page[10], page[11]))
+}
+
+// A header page, made up among erased bytes.
+fn header_page(
+    segments: usize,
+    slots: usize,
+    status: u8,
+    number: SegmentNumber,
+    old: u8,
+) -> [u8; 256]
+    requires { ⌜ (segments ≤ 255) × (slots ≤ 255) ⌝ }
+    ensures { λ r. ⌜ r ≡ headerPage segments slots status (number .0) old ⌝ }
+{
+    let n = number.0;
+    let mut page = [255u8; 256];
+    page[0] = b'S';
+    page[1] = b'L';
+    page[2] = b'T';
+    page[3] = 1;
+    page[4] = 0;
+    page[5] = status;
+    page[6] = slots as u8;
+    page[7] = segments as u8;
+    page[8] = low_byte(n);
+    page[9] = low_byte(n / 256);
+    page[10] = low_byte(n / 256 / 256);
+    page[11] = low_byte(n / 256 / 256 / 256);
+    page[12] = 255 - page[8];
+    page[13] = 255 - page[9];
+    page[14] = 255 - page[10];
+    page[15] = 255 - page[11];
+    page[16] = old;
+    page
+}
+
+// Whether two pages are the same.
+fn same_bytes(a: &[u8], b: &[u8]) -> bool
+    requires { ⌜ length (now a) ≡ length (now b) ⌝ }
+    ensures { λ r. ⌜ r ≡ same (now (a .entry)) (now (b .entry)) ⌝ }
+{
+    let mut i = 0;
+    while i < a.len() {
+        if a[i] != b[i] {
+            return false;
+        }
+        i += 1;
+    }
+    true
+}
+
+// The index of the old segment in a header in use: the one after its own, or none.
+fn old_index(segments: usize, index: usize, status: u8) -> u8
+    requires { ⌜ (index < segments) × (segments ≤ 255) ⌝ }
+    ensures { λ r. ⌜ r ≡ oldIndex segments index status ⌝ }
+{
+    if status == OPENED {
+        return NO_OLD_SEGMENT;
+    }
+    ((index + 1) % segments) as u8
+}
+
+fn status_in_use(status: u8) -> bool
+    ensures { λ r. ⌜ r ≡ statusInUse status ⌝ }
+{
+    if status == OPENED {
+        return true;
+    }
+    if status == ERASE_PENDING {
+        return true;
+    }
+    status == COMPACTED
+}
+
+// Whether a header is that of a segment in use at an index.
+pub fn header_in_use(page: &[u8], segments: usize, slots: usize, index: usize) -> bool
+    requires { ⌜ (length (now page) ≡ 256) × (0 < segments) × (segments ≤ 255) × (slots ≤ 255) ⌝ }
+    ensures { λ r. ⌜ r ≡ headerInUse segments slots index (now (page .entry)) ⌝ }
+{
+    let status = page[5];
+    if !status_in_use(status) {
+        return false;
+    }
+    let number = header_number(page);
+    let n = number.0 as usize;
+    if n >= NUMBERS_EACH * segments {
+        return false;
+    }
+    if n % segments != index {
+        return false;
+    }
+    let fitting = header_page(
+        segments,
+        slots,
+        status,
+        number,
+        old_index(segments, index, status),
+    );
+    same_bytes(page, &fitting)
+}
+
+// The status and the number of a segment in use.
+pub fn see_header(page: &[u8], segments: usize, slots: usize, index: usize) -> HeaderSeen
+    requires { ⌜ (length (now page) ≡ 256) × (0 < segments) × (segments ≤ 255) × (slots ≤ 255) ⌝ }
+    ensures { λ r. ⌜ r ≡ headerSeen segments slots index (now (page .entry)) ⌝ }
+{
+    if header_in_use(page, segments, slots, index) {
+        return HeaderSeen::InUse {
+            status: page[5],
+            number: header_number(page),
+        };
+    }
+    HeaderSeen::NotInUse
+}
+
+// ---- made up and programmed
+
+// The offset of the header page of the segment with a number.
+fn header_place(segments: usize, slots: usize, number: SegmentNumber) -> usize
+    requires { ⌜ (0 < segments) × (segments ≤ 255) × (slots ≤ 255) ⌝ }
+    ensures { λ r. ⌜ r ≡ headerAt segments slots (number .0) * 256 ⌝ }
+{
+    number.0 as usize % segments * (slots + 1) * 256
+}
+
+// The header page of a compaction's target.
+fn compaction_page(
+    segments: usize,
+    slots: usize,
+    old: SegmentNumber,
+    number: SegmentNumber,
+) -> [u8; 256]
+    requires { ⌜ (0 < segments) × (segments ≤ 255) × (slots ≤ 255) ⌝ }
+    ensures { λ r. ⌜ r ≡ headerPage segments slots erasePending (number .0) (old .0 % segments) ⌝ }
+{
+    let index = old.0 as usize % segments;
+    header_page(segments, slots, ERASE_PENDING, number, index as u8)
+}
+
+// The first steps in a header: a status, then what every segment's header has.
+fn begin_header(header: &mut [u8], made: &[u8], status: u8, budget: u64) -> u64
+    requires { ⌜ (length (now header) ≡ 256) × (length (now made) ≡ 256) ⌝ }
+    ensures { λ r. ⌜ Programmed (headerBegun (now (made .entry)) status) budget r (now (header .entry)) (now (header .exit)) ⌝ }
+{
+    let begun = flash::program_byte(header, 5, status, budget);
+    let marked = flash::program_part(header, made, 0, 5, begun);
+    flash::program_part(header, made, 6, 2, marked)
+}
+
+// The last steps in a header: the number, then a status.
+fn finish_header(header: &mut [u8], made: &[u8], status: u8, budget: u64) -> u64
+    requires { ⌜ (length (now header) ≡ 256) × (length (now made) ≡ 256) ⌝ }
+    ensures { λ r. ⌜ Programmed (headerFinished (now (made .entry)) status) budget r (now (header .entry)) (now (header .exit)) ⌝ }
+{
+    let numbered = flash::program_part(header, made, 8, 8, budget);
+    flash::program_byte(header, 5, status, numbered)
+}
+
+// Opens the segment that a number belongs to.
+pub fn open_header(
+    image: &mut [u8],
+    segments: usize,
+    slots: usize,
+    number: SegmentNumber,
+    budget: u64,
+) -> u64
+    requires { ⌜ Sized segments slots (length (now image)) ⌝ }
+    ensures { λ r. ⌜ Programmed (openSegment segments slots (number .0)) budget r (now (image .entry)) (now (image .exit)) ⌝ }
+{
+    let made = header_page(segments, slots, OPENED, number, NO_OLD_SEGMENT);
+    let at = header_place(segments, slots, number);
+    let end = at + 256;
+    let header = &mut image[at..end];
+    let begun = begin_header(header, &made, OPENING_BEGUN, budget);
+    finish_header(header, &made, OPENED, begun)
+}
+
+// Begins to compact an old segment into the one that a number belongs to: the steps in the header before the slots are copied.
+pub fn begin_compaction(
+    image: &mut [u8],
+    segments: usize,
+    slots: usize,
+    old: SegmentNumber,
+    number: SegmentNumber,
+    budget: u64,
+) -> u64
+    requires { ⌜ Sized segments slots (length (now image)) ⌝ }
+    ensures { λ r. ⌜ Programmed (beginCompaction segments slots (old .0) (number .0)) budget r (now (image .entry)) (now (image .exit)) ⌝ }
+{
+    let made = compaction_page(segments, slots, old, number);
+    let at = header_place(segments, slots, number);
+    let end = at + 256;
+    let header = &mut image[at..end];
+    let begun = begin_header(header, &made, COMPACTION_BEGUN, budget);
+    flash::program_part(header, &made, 16, 1, begun)
+}
+
+// The steps in the header once the slots are copied: the segment is in use, and the old one is still to be erased.
+pub fn finish_copy(
+    image: &mut [u8],
+    segments: usize,
+    slots: usize,
+    old: SegmentNumber,
+    number: SegmentNumber,
+    budget: u64,
+) -> u64
+    requires { ⌜ Sized segments slots (length (now image)) ⌝ }
+    ensures { λ r. ⌜ Programmed (finishCopy segments slots (old .0) (number .0)) budget r (now (image .entry)) (now (image .exit)) ⌝ }
+{
+    let made = compaction_page(segments, slots, old, number);
+    let at = header_place(segments, slots, number);
+    let end = at + 256;
+    finish_header(&mut image[at..end], &made, ERASE_PENDING, budget)
+}
+
+// The last step of a compaction, once the old segment is erased.
+pub fn settle(
+    image: &mut [u8],
+    segments: usize,
+    slots: usize,
+    number: SegmentNumber,
+    budget: u64,
+) -> u64
+    requires { ⌜ Sized segments slots (length (now image)) ⌝ }
+    ensures { λ r. ⌜ Programmed (settle segments slots (number .0)) budget r (now (image .entry)) (now (image .exit)) ⌝ }
+{
+    let at = header_place(segments, slots, number);
+    flash::program_byte(image, at + 5, COMPACTED, budget)
+}

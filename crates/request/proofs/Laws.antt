@@ -1,0 +1,42 @@
+-- Laws of the tests that come before the image is looked at.
+use Prim.Native.Nat.{ℕ, _+_, _*_, _≤_, _<_}
+use mathlib.Core.Path.{_≡_, sym, _∙_}
+use mathlib.Core.Bool.{Bool, true, false, _&&_, not}
+use native.Mathlib.Nat.{mul-le-mul}
+use native.Mathlib.Omega.{arith}
+use lib.ListN.{length}
+use lib.Dec.{leb, ltb, eqb}
+use borrow.Author.Tests.{leb-true, lt-ltb, not-true, not-false}
+use Rattle.model.specs.Chip.{Image, leastSegments, mostSegments, leastSlots, mostSlots, inRange, imageLength, rightSize}
+use Rattle.model.specs.Slot.{numberOk}
+use Rattle.model.specs.Laws.Lists.{and-left, and-right}
+
+-- an image has at most 64 segments of 256 pages
+pub most-pages : (N B : ℕ) → N ≤ 64 → B ≤ 255 → N * (B + 1) ≤ 16384
+most-pages N B n b = mul-le-mul n (let h : B + 1 ≤ 256 = omega arith in h)
+
+-- what the test of the ranges tells
+pub in-bounds : (N B : ℕ) → inRange N B ≡ true → (N ≤ 64) × (B ≤ 255)
+unfolding inRange leastSegments mostSegments leastSlots mostSlots
+in-bounds N B e =
+    let t = and-right (leb 2 N) (leb N 64 && (leb 2 B && leb B 255)) e in
+    let u = and-right (leb N 64) (leb 2 B && leb B 255) t in
+    (leb-true N 64 (and-left (leb N 64) (leb 2 B && leb B 255) t), leb-true B 255 (and-right (leb 2 B) (leb B 255) u))
+
+pub number-zero : (b : ℕ) → b ≡ 0 → false ≡ numberOk b
+unfolding numberOk
+number-zero b e = rw e
+
+pub number-some : (b : ℕ) → (b ≡ 0 → ⊥) → ltb b 65535 ≡ numberOk b
+unfolding numberOk
+number-some b n = rw (lt-ltb 0 b (omega arith))
+
+-- the test of the size as the requests use it
+module _ (N B : ℕ) (s : Image) (r : Bool) (e : r ≡ (inRange N B && eqb (length s) (imageLength N B))) where
+  pub wrong-size : not r ≡ true → rightSize N B s ≡ false
+  unfolding rightSize
+  wrong-size h = sym e ∙ not-true r h
+
+  pub right-size : not r ≡ false → rightSize N B s ≡ true
+  unfolding rightSize
+  right-size h = sym e ∙ not-false r h

@@ -1,0 +1,51 @@
+-- `slot::write_slot` does the steps of the definition, in the slot's page. Assumes nothing.
+use native.Mathlib.Omega.{arith}
+use denote.Ref.{now}
+use Rattle.slot.proofs.Laws.Writes.{slot-written}
+use borrow.Author.Needs.{needs}
+use Rattle.slot.proofs.write_slot.Statement.{statement}
+use Rattle.slot.proofs.write_slot.Tie as tie
+
+slot-page-requires : tie.Need-slot-page-requires
+slot-page-requires c κs = search needs
+
+add-end : tie.Need-add-end
+add-end c = search needs
+
+sub-program-slot : tie.Need-sub-program-slot
+sub-program-slot c = search needs
+
+part-program-slot-start : tie.Need-part-program-slot-start
+part-program-slot-start c = search needs
+
+part-program-slot-end : tie.Need-part-program-slot-end
+part-program-slot-end c = search needs
+
+slice-aggregate-program-slot : tie.Need-slice-aggregate-program-slot
+slice-aggregate-program-slot c = search needs
+
+program-slot-requires : tie.Need-program-slot-requires
+program-slot-requires c κs = search needs
+
+same-length : tie.Need-same-length
+same-length c = search needs
+
+returns : tie.Need-returns
+returns c =
+    let a = c .before .before .before .before .before .before .before .before in
+    slot-written (a .args .place .0) (a .args .block .0) (now (a .args .contents)) (now (a .args .image)) _ (omega arith) (omega arith)
+    (c .before .before .before .before .before .slot-page .ensures) (c .before .before .program-slot .ensures)
+
+pub write-slot-spec : {M : Type 1} → statement M
+write-slot-spec =
+    tie.close
+    (tie.spec
+    slot-page-requires
+    add-end
+    sub-program-slot
+    part-program-slot-start
+    part-program-slot-end
+    slice-aggregate-program-slot
+    program-slot-requires
+    same-length
+    returns)
