@@ -2,9 +2,9 @@
 use libc::STDERR_FILENO;
 use libc::STDIN_FILENO;
 use libc::STDOUT_FILENO;
-use words::Command;
-use words::Reading;
-use words::Verb;
+use qbx_words::Command;
+use qbx_words::Reading;
+use qbx_words::Verb;
 ghost use Rattle.io.specs.Counts.{Counts};
 
 fn usage(fd: i32) {
@@ -47,13 +47,13 @@ fn word(i: usize, buf: &mut [u8; 64]) -> usize
 // The contents to put are on standard input. A byte more than fits is read, so that too many are seen.
 fn put(image: &mut [u8], path: &[u8], command: Command) {
     let mut contents = [0u8; 249];
-    let filled = tool::fill(STDIN_FILENO, &mut contents);
+    let filled = qbx_work::fill(STDIN_FILENO, &mut contents);
     if !filled.whole {
         io::write_all(STDERR_FILENO, b"qbx: cannot read standard input\n");
         return;
     }
     let n = filled.count;
-    tool::obey(
+    qbx_work::obey(
         image,
         path,
         command,
@@ -68,7 +68,7 @@ fn obey(image: &mut [u8], path: &[u8], command: Command) {
     if let Verb::Put = verb {
         put(image, path, command);
     } else {
-        tool::obey(image, path, command, b"", STDOUT_FILENO, STDERR_FILENO);
+        qbx_work::obey(image, path, command, b"", STDOUT_FILENO, STDERR_FILENO);
     }
 }
 
@@ -85,7 +85,7 @@ fn read_words(image: &mut [u8], path: &[u8]) {
     let e = word(6, &mut second);
     let mut third = [0u8; 64];
     let f = word(7, &mut third);
-    let reading = words::command_of(
+    let reading = qbx_words::command_of(
         &segments[..a],
         &slots[..b],
         &verb[..c],
@@ -95,14 +95,14 @@ fn read_words(image: &mut [u8], path: &[u8]) {
     );
     match reading {
         Reading::Right(command) => obey(image, path, command),
-        Reading::Wrong(complaint) => tool::complain(complaint, STDERR_FILENO),
+        Reading::Wrong(complaint) => qbx_work::complain(complaint, STDERR_FILENO),
     }
 }
 
 fn start(image: &mut [u8]) {
     let mut path = io::buffer();
     let n = os::arg(1, &mut path);
-    if words::is(&path[..n], b"--help") {
+    if qbx_words::is(&path[..n], b"--help") {
         usage(STDOUT_FILENO);
         return;
     }

@@ -1,5 +1,0 @@
-// Commands that are wrong or refused, each with what is said of it; the image stays as it was. The commands are in stdin.
-fn main() {
-    let mut image = [255u8; 4194305];
-    story::play(&mut image);
-}

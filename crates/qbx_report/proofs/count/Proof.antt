@@ -1,0 +1,67 @@
+-- `qbx_report::count` is the definition's. Assumes nothing.
+use Rattle.qbx_report.specs.Census.{counted}
+use borrow.Author.Needs.{needs}
+use Rattle.qbx_report.proofs.count.Statement.{statement}
+use Rattle.qbx_report.proofs.count.Tie as tie
+
+enum-told : tie.Need-enum-told
+enum-told c = search needs
+
+add-t8 : tie.Need-add-t8
+add-t8 c = search needs
+
+enum-told-2 : tie.Need-enum-told-2
+enum-told-2 c = search needs
+
+enum-told-3 : tie.Need-enum-told-3
+enum-told-3 c = search needs
+
+add-t9 : tie.Need-add-t9
+add-t9 c = search needs
+
+enum-told-4 : tie.Need-enum-told-4
+enum-told-4 c = search needs
+
+add-t10 : tie.Need-add-t10
+add-t10 c = search needs
+
+enum-told-5 : tie.Need-enum-told-5
+enum-told-5 c = search needs
+
+returns : tie.Need-returns
+unfolding counted
+returns c = rw (c .enum-told .given .1)
+
+returns-2 : tie.Need-returns-2
+unfolding counted
+returns-2 c = rw (c .enum-told2 .given .1)
+
+returns-3 : tie.Need-returns-3
+unfolding counted
+returns-3 c = rw (c .enum-told3 .given .1)
+
+returns-4 : tie.Need-returns-4
+unfolding counted
+returns-4 c = rw (c .enum-told4 .given .1)
+
+returns-5 : tie.Need-returns-5
+unfolding counted
+returns-5 c = rw (c .enum-told5 .given .1)
+
+pub count-spec : {M : Type 1} → statement M
+count-spec =
+    tie.close
+    (tie.spec
+    enum-told
+    add-t8
+    enum-told-2
+    enum-told-3
+    add-t9
+    enum-told-4
+    add-t10
+    enum-told-5
+    returns
+    returns-2
+    returns-3
+    returns-4
+    returns-5)

@@ -1,0 +1,54 @@
+-- What a check tells: the state of an image, the segments in use, and their slots by kind.
+use Prim.Native.Nat.{ℕ, _+_}
+use mathlib.Core.List.{List, [], _∷_, map}
+use Rattle.model.specs.Slot.{kindOf}
+use Rattle.model.specs.State.{Segment, blank, invalid, inUse, State, clean, unfinished, damaged, caseA, caseB, caseC, caseD, stateOf}
+use Rattle.model.specs.declared.SlotKind.{SlotKind}
+use Rattle.model.specs.declared.SlotKind.the-variants.{Empty, Torn, Live, Dead, Wrong}
+use Rattle.qbx_says.specs.declared.Condition.{Condition}
+use Rattle.qbx_says.specs.declared.Condition.the-variants.{Clean, UnfinishedA, UnfinishedB, UnfinishedC, UnfinishedD, Damaged}
+use Rattle.qbx_says.specs.declared.Report.{Report}
+use Rattle.qbx_report.specs.declared.Census.{Census}
+
+unfoldable pub conditionOf : State → Condition
+conditionOf clean = Clean
+conditionOf (unfinished caseA) = UnfinishedA
+conditionOf (unfinished caseB) = UnfinishedB
+conditionOf (unfinished caseC) = UnfinishedC
+conditionOf (unfinished caseD) = UnfinishedD
+conditionOf damaged = Damaged
+
+abbrev pub total : Census → ℕ
+total c = c .segments + c .live + c .dead + c .empty
+
+-- one slot more; torn and wrong ones are of none of the kinds that are told
+unfoldable pub counted : Census → SlotKind → Census
+counted c Empty = record { segments = c .segments; live = c .live; dead = c .dead; empty = c .empty + 1 }
+counted c Torn = c
+counted c (Live n b) = record { segments = c .segments; live = c .live + 1; dead = c .dead; empty = c .empty }
+counted c Dead = record { segments = c .segments; live = c .live; dead = c .dead + 1; empty = c .empty }
+counted c Wrong = c
+
+unfoldable pub countKinds : Census → List SlotKind → Census
+countKinds c [] = c
+countKinds c (k ∷ r) = countKinds (counted c k) r
+
+abbrev pub oneMore : Census → Census
+oneMore c = record { segments = c .segments + 1; live = c .live; dead = c .dead; empty = c .empty }
+
+-- one segment more; only those in use count, and their slots
+unfoldable pub countSegment : Census → Segment → Census
+countSegment c blank = c
+countSegment c invalid = c
+countSegment c (inUse st n ks) = countKinds (oneMore c) (map kindOf ks)
+
+unfoldable pub countSegments : Census → List Segment → Census
+countSegments c [] = c
+countSegments c (x ∷ r) = countSegments (countSegment c x) r
+
+unfoldable pub censusOf : List Segment → Census
+censusOf l = countSegments (record { segments = 0; live = 0; dead = 0; empty = 0 }) l
+
+unfoldable pub reportOf : ℕ → ℕ → List Segment → Report
+reportOf N B l = let c = censusOf l in
+    record { condition = conditionOf (stateOf N B l); segments = c .segments; live = c .live; dead = c .dead; empty = c .empty }

@@ -1,0 +1,162 @@
+// What `qbx check` tells of an image: its state, and what is in it, counted.
+use header::HeaderSeen;
+use model::SlotKind;
+use qbx_says::Condition;
+use qbx_says::Report;
+use scan::Surveyed;
+ghost use mathlib.Core.Path.{_≡_};
+ghost use mathlib.Core.Bool.{true};
+ghost use Prim.Native.Nat.{_+_, _*_, _<_, _≤_};
+ghost use lib.ListN.{length, getD};
+ghost use Rattle.model.specs.Chip.{rightSize};
+ghost use Rattle.model.specs.State.{blank, segmentsOf, stateOf};
+ghost use Rattle.flash.specs.Pages.{Sized};
+ghost use Rattle.scan.specs.Rows.{kindsAt};
+ghost use Rattle.qbx_report.specs.Census.{conditionOf, total, counted, countKinds, countSegment, censusOf, reportOf};
+
+// Segments in use, and their slots by kind.
+struct Census {
+    segments: u64,
+    live: u64,
+    dead: u64,
+    empty: u64,
+}
+
+// The state, as the survey finds it.
+fn condition_of(image: &[u8], segments: usize, slots: usize) -> Condition
+    requires { ⌜ rightSize segments slots (now image) ≡ true ⌝ }
+    ensures { λ r. ⌜ r ≡ conditionOf (stateOf segments slots (segmentsOf segments slots (now (image .entry)))) ⌝ }
+{
+    let surveyed = scan::survey(image, segments, slots);
+    match surveyed {
+        Surveyed::Clean {
+            first: _,
+            used: _,
+            live: _,
+            free: _,
+            compactions: _,
+        } => Condition::Clean,
+        Surveyed::TornSegment { top: _ } => Condition::UnfinishedA,
+        Surveyed::ErasePending { top: _, blank: _ } => Condition::UnfinishedB,
+        Surveyed::TornSlot { place: _ } => Condition::UnfinishedC,
+        Surveyed::OldSlot { place: _ } => Condition::UnfinishedD,
+        Surveyed::Damaged => Condition::Damaged,
+    }
+}
+
+// One slot more.
+fn count(census: Census, kind: SlotKind) -> Census
+    requires { ⌜ total census ≤ 1000000 ⌝ }
+    ensures { λ r. ⌜ r ≡ counted census kind ⌝ }
+{
+    let segments = census.segments;
+    let live = census.live;
+    let dead = census.dead;
+    let empty = census.empty;
+    match kind {
+        SlotKind::Empty => Census {
+            segments,
+            live,
+            dead,
+            empty: empty + 1,
+        },
+        SlotKind::Torn => census,
+        SlotKind::Live {
+            length: _,
+            block: _,
+        } => Census {
+            segments,
+            live: live + 1,
+            dead,
+            empty,
+        },
+        SlotKind::Dead => Census {
+            segments,
+            live,
+            dead: dead + 1,
+            empty,
+        },
+        SlotKind::Wrong => census,
+    }
+}
+
+// The slots of a segment, from the offset of the first one.
+fn count_slots(image: &[u8], at: usize, slots: usize, census: Census) -> Census
+    requires { ⌜ (at + slots * 256 ≤ length (now image)) × (slots ≤ 255) × (total census ≤ 100000) ⌝ }
+    ensures { λ r. ⌜ (r ≡ countKinds census (kindsAt (now (image .entry)) at slots)) × (total r ≤ total census + slots) ⌝ }
+{
+    let mut sum = census;
+    let mut i: usize = 0;
+    while i < slots {
+        let a = at + i * 256;
+        let e = a + 256;
+        sum = count(sum, slot::slot_kind(&image[a..e]));
+        i += 1;
+    }
+    sum
+}
+
+// One segment more, if it is in use.
+fn count_segment(
+    image: &[u8],
+    segments: usize,
+    slots: usize,
+    index: usize,
+    census: Census,
+) -> Census
+    requires { ⌜ Sized segments slots (length (now image)) × (index < segments) × (total census ≤ 90000) ⌝ }
+    ensures { λ r. ⌜ (r ≡ countSegment census (getD (segmentsOf segments slots (now (image .entry))) index blank)) × (total r ≤ total census + 256) ⌝ }
+{
+    let at = index * (slots + 1) * 256;
+    let first = at + 256;
+    let seen = header::see_header(&image[at..first], segments, slots, index);
+    let HeaderSeen::InUse {
+        status: _,
+        number: _,
+    } = seen
+    else {
+        return census;
+    };
+    let more = Census {
+        segments: census.segments + 1,
+        live: census.live,
+        dead: census.dead,
+        empty: census.empty,
+    };
+    count_slots(image, first, slots, more)
+}
+
+// Every segment.
+fn take_census(image: &[u8], segments: usize, slots: usize) -> Census
+    requires { ⌜ Sized segments slots (length (now image)) × (segments ≤ 64) ⌝ }
+    ensures { λ r. ⌜ r ≡ censusOf (segmentsOf segments slots (now (image .entry))) ⌝ }
+{
+    let mut census = Census {
+        segments: 0,
+        live: 0,
+        dead: 0,
+        empty: 0,
+    };
+    let mut i: usize = 0;
+    while i < segments {
+        census = count_segment(image, segments, slots, i, census);
+        i += 1;
+    }
+    census
+}
+
+// What a check tells of an image of a right size.
+pub fn report_on(image: &[u8], segments: usize, slots: usize) -> Report
+    requires { ⌜ rightSize segments slots (now image) ≡ true ⌝ }
+    ensures { λ r. ⌜ r ≡ reportOf segments slots (segmentsOf segments slots (now (image .entry))) ⌝ }
+{
+    let condition = condition_of(image, segments, slots);
+    let census = take_census(image, segments, slots);
+    Report {
+        condition,
+        segments: census.segments,
+        live: census.live,
+        dead: census.dead,
+        empty: census.empty,
+    }
+}

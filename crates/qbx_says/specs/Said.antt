@@ -1,0 +1,85 @@
+-- What the program says: an answer with its steps, what is wrong with a command, the state of an image.
+use Prim.Native.Nat.{ℕ}
+use mathlib.Core.Bool.{cond}
+use mathlib.Core.List.{List, [], _++_}
+use lib.Dec.{eqb}
+use Rattle.model.specs.declared.Answer.{Answer}
+use Rattle.model.specs.declared.Answer.the-variants.{Done, Size, Number, Length, Damaged as AnswerDamaged, Unfinished, Absent, Full, Worn, Cut}
+use Rattle.model.specs.Answers.{codeOf}
+use Rattle.model.specs.Chip.{inRange, imageLength}
+use Rattle.qbx_words.specs.Text.{text}
+use Rattle.qbx_says.specs.Decimal.{decimal}
+use Rattle.qbx_words.specs.declared.Complaint.{Complaint}
+use Rattle.qbx_words.specs.declared.Complaint.the-variants.{Segments, Slots, NoVerb, Block, NoOption, Budget}
+use Rattle.qbx_says.specs.declared.Condition.{Condition}
+use Rattle.qbx_says.specs.declared.Condition.the-variants.{Clean, UnfinishedA, UnfinishedB, UnfinishedC, UnfinishedD, Damaged}
+use Rattle.qbx_says.specs.declared.Report.{Report}
+
+-- ---- answers
+
+-- by its number
+unfoldable pub verdict : ℕ → List ℕ
+verdict n = cond (eqb n 0) (text "done: ") (cond (eqb n 9) (text "cut: ") (text "refused: "))
+
+-- the word of a refusal
+unfoldable pub reason : Answer → List ℕ
+reason Done = []
+reason Size = text " size"
+reason Number = text " number"
+reason Length = text " length"
+reason AnswerDamaged = text " damaged"
+reason Unfinished = text " unfinished"
+reason Absent = text " absent"
+reason Full = text " full"
+reason Worn = text " worn"
+reason Cut = []
+
+-- an answer, as "refused: 7 full"
+unfoldable pub answerText : Answer → List ℕ
+answerText a = verdict (codeOf a) ++ decimal (codeOf a) ++ reason a
+
+unfoldable pub stepsWord : ℕ → List ℕ
+stepsWord n = cond (eqb n 1) (text " step") (text " steps")
+
+-- an answer with the steps done, as "done: 0, 7 steps"
+unfoldable pub performedText : Answer → ℕ → List ℕ
+performedText a n = answerText a ++ text ", " ++ decimal n ++ stepsWord n
+
+unfoldable pub performedLine : Answer → ℕ → List ℕ
+performedLine a n = performedText a n ++ text "\n"
+
+-- what N and B ask for: so many bytes, or to be in their ranges
+unfoldable pub askedText : ℕ → ℕ → List ℕ
+askedText N B = cond (inRange N B) (text ": N and B ask for " ++ decimal (imageLength N B) ++ text " bytes") (text ": N is 2 to 64 and B is 2 to 255")
+
+-- a wrong size with both numbers, as "refused: 1 size, 0 steps: N and B ask for 1536 bytes; 1280 bytes are there"
+unfoldable pub sizeLine : ℕ → ℕ → ℕ → List ℕ
+sizeLine N B there = performedText Size 0 ++ askedText N B ++ (text "; " ++ decimal there) ++ text " bytes are there\n"
+
+-- ---- complaints
+
+unfoldable pub complaintText : Complaint → List ℕ
+complaintText Segments = text "qbx: N is not a number\n"
+complaintText Slots = text "qbx: B is not a number\n"
+complaintText NoVerb = text "qbx: the verb is none of format, put, get, delete, recover, check\n"
+complaintText Block = text "qbx: BLOCK is not a number up to 65535\n"
+complaintText NoOption = text "qbx: only --budget STEPS may follow, and only a verb that writes\n"
+complaintText Budget = text "qbx: STEPS is not a number\n"
+
+-- ---- the state of an image
+
+unfoldable pub conditionText : Condition → List ℕ
+conditionText Clean = text "clean"
+conditionText UnfinishedA = text "unfinished (a)"
+conditionText UnfinishedB = text "unfinished (b)"
+conditionText UnfinishedC = text "unfinished (c)"
+conditionText UnfinishedD = text "unfinished (d)"
+conditionText Damaged = text "damaged"
+
+unfoldable pub slotsText : ℕ → ℕ → ℕ → List ℕ
+slotsText live dead empty = (text ", slots live " ++ decimal live) ++ (text ", dead " ++ decimal dead) ++ (text ", empty " ++ decimal empty)
+
+-- as "clean: segments in use 2, slots live 5, dead 3, empty 22"
+unfoldable pub reportText : Report → List ℕ
+reportText r =
+    conditionText (r .condition) ++ (text ": segments in use " ++ decimal (r .segments)) ++ slotsText (r .live) (r .dead) (r .empty) ++ text "\n"

@@ -1,0 +1,46 @@
+// Lines of text, put together.
+use crate::Line;
+ghost use mathlib.Core.Path.{_≡_};
+ghost use mathlib.Core.List.{[]};
+ghost use Prim.Native.Nat.{_+_, _≤_};
+ghost use lib.ListN.{length};
+ghost use Rattle.qbx_says.specs.Lines.{said, Added};
+ghost use Rattle.qbx_says.specs.Decimal.{decimal};
+
+// A line that says nothing yet.
+pub fn empty() -> Line
+    ensures { λ r. ⌜ (said r ≡ []) × (r .count ≡ 0) ⌝ }
+{
+    Line {
+        bytes: [0u8; 160],
+        count: 0,
+    }
+}
+
+// More bytes at the end of a line.
+pub fn add(line: Line, text: &[u8]) -> Line
+    requires { ⌜ line .count + length (now text) ≤ 160 ⌝ }
+    ensures { λ r. ⌜ Added line (now (text .entry)) r ⌝ }
+{
+    let at = line.count;
+    let mut bytes = line.bytes;
+    let mut i = 0;
+    while i < text.len() {
+        bytes[at + i] = text[i];
+        i += 1;
+    }
+    Line {
+        bytes,
+        count: at + i,
+    }
+}
+
+// A number at the end of a line.
+pub fn add_number(line: Line, n: u64) -> Line
+    requires { ⌜ line .count + 20 ≤ 160 ⌝ }
+    ensures { λ r. ⌜ Added line (decimal n) r × (length (decimal n) ≤ 20) ⌝ }
+{
+    let mut digits = [0u8; 20];
+    let count = io::decimal(n, &mut digits);
+    add(line, &digits[..count])
+}

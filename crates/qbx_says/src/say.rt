@@ -1,0 +1,181 @@
+// What the program says, a line each.
+use crate::Condition;
+use crate::Line;
+use crate::Report;
+use crate::lines::add;
+use crate::lines::add_number;
+use crate::lines::empty;
+use model::Answer;
+use model::Performed;
+use qbx_words::Complaint;
+ghost use mathlib.Core.Path.{_≡_};
+ghost use mathlib.Core.List.{_++_};
+ghost use Prim.Native.Nat.{_+_, _≤_};
+ghost use lib.ListN.{length};
+ghost use Rattle.qbx_says.specs.Lines.{said, Added};
+ghost use Rattle.qbx_says.specs.Decimal.{decimal};
+ghost use Rattle.qbx_says.specs.Said.{verdict, reason, stepsWord, answerText, performedText, performedLine, askedText, sizeLine, complaintText, conditionText, slotsText, reportText};
+
+// ---- answers
+
+fn wide(x: u8) -> u64
+    ensures { λ r. ⌜ r ≡ x ⌝ }
+{
+    x as u64
+}
+
+fn add_verdict(line: Line, code: u64) -> Line
+    requires { ⌜ line .count ≤ 100 ⌝ }
+    ensures { λ r. ⌜ Added line (verdict code) r × (r .count ≤ line .count + 9) ⌝ }
+{
+    if code == 0 {
+        return add(line, b"done: ");
+    }
+    if code == 9 {
+        return add(line, b"cut: ");
+    }
+    add(line, b"refused: ")
+}
+
+fn add_reason(line: Line, answer: Answer) -> Line
+    requires { ⌜ line .count ≤ 100 ⌝ }
+    ensures { λ r. ⌜ Added line (reason answer) r × (r .count ≤ line .count + 11) ⌝ }
+{
+    match answer {
+        Answer::Done => add(line, b""),
+        Answer::Size => add(line, b" size"),
+        Answer::Number => add(line, b" number"),
+        Answer::Length => add(line, b" length"),
+        Answer::Damaged => add(line, b" damaged"),
+        Answer::Unfinished => add(line, b" unfinished"),
+        Answer::Absent => add(line, b" absent"),
+        Answer::Full => add(line, b" full"),
+        Answer::Worn => add(line, b" worn"),
+        Answer::Cut => add(line, b""),
+    }
+}
+
+// An answer, with no line end.
+fn say_answer(answer: Answer) -> Line
+    ensures { λ r. ⌜ (said r ≡ answerText answer) × (r .count ≤ 40) ⌝ }
+{
+    let number = wide(request::code_of(answer));
+    let begun = add_verdict(empty(), number);
+    add_reason(add_number(begun, number), answer)
+}
+
+fn add_steps_word(line: Line, steps: u64) -> Line
+    requires { ⌜ line .count ≤ 100 ⌝ }
+    ensures { λ r. ⌜ Added line (stepsWord steps) r × (r .count ≤ line .count + 6) ⌝ }
+{
+    if steps == 1 {
+        add(line, b" step")
+    } else {
+        add(line, b" steps")
+    }
+}
+
+// An answer and the steps done, with no line end.
+fn say_steps(answer: Answer, steps: u64) -> Line
+    ensures { λ r. ⌜ (said r ≡ performedText answer steps) × (r .count ≤ 68) ⌝ }
+{
+    let answered = add(say_answer(answer), b", ");
+    let counted = add_number(answered, steps);
+    add_steps_word(counted, steps)
+}
+
+// An answer and the steps done.
+pub fn say_performed(performed: Performed) -> Line
+    ensures { λ r. ⌜ (said r ≡ performedLine (performed .answer) (performed .steps)) × (r .count ≤ 160) ⌝ }
+{
+    let answer = performed.answer;
+    add(say_steps(answer, performed.steps), b"\n")
+}
+
+// A number behind its label.
+fn add_count(line: Line, label: &[u8], n: u64) -> Line
+    requires { ⌜ line .count + length (now label) + 20 ≤ 160 ⌝ }
+    ensures { λ r. ⌜ Added line (now (label .entry) ++ decimal n) r × (r .count ≤ line .count + length (now (label .entry)) + 20) ⌝ }
+{
+    add_number(add(line, label), n)
+}
+
+// What N and B ask for.
+fn add_asked(line: Line, segments: usize, slots: usize) -> Line
+    requires { ⌜ line .count ≤ 100 ⌝ }
+    ensures { λ r. ⌜ Added line (askedText segments slots) r × (r .count ≤ line .count + 44) ⌝ }
+{
+    if request::in_range(segments, slots) {
+        let bytes = request::size_of(segments, slots) as u64;
+        let asked = add_count(line, b": N and B ask for ", bytes);
+        return add(asked, b" bytes");
+    }
+    add(line, b": N is 2 to 64 and B is 2 to 255")
+}
+
+// A wrong size: beside the refusal what N and B ask for, and the bytes that are there.
+pub fn say_size(segments: usize, slots: usize, there: u64) -> Line
+    ensures { λ r. ⌜ (said r ≡ sizeLine segments slots there) × (r .count ≤ 160) ⌝ }
+{
+    let asked = add_asked(say_steps(Answer::Size, 0), segments, slots);
+    let counted = add_count(asked, b"; ", there);
+    add(counted, b" bytes are there\n")
+}
+
+// ---- complaints
+
+pub fn say_complaint(complaint: Complaint) -> Line
+    ensures { λ r. ⌜ (said r ≡ complaintText complaint) × (r .count ≤ 160) ⌝ }
+{
+    let line = empty();
+    match complaint {
+        Complaint::Segments => add(line, b"qbx: N is not a number\n"),
+        Complaint::Slots => add(line, b"qbx: B is not a number\n"),
+        Complaint::NoVerb => add(
+            line,
+            b"qbx: the verb is none of format, put, get, delete, recover, check\n",
+        ),
+        Complaint::Block => add(line, b"qbx: BLOCK is not a number up to 65535\n"),
+        Complaint::NoOption => add(
+            line,
+            b"qbx: only --budget STEPS may follow, and only a verb that writes\n",
+        ),
+        Complaint::Budget => add(line, b"qbx: STEPS is not a number\n"),
+    }
+}
+
+// ---- the state of an image
+
+fn say_condition(condition: Condition) -> Line
+    ensures { λ r. ⌜ (said r ≡ conditionText condition) × (r .count ≤ 14) ⌝ }
+{
+    let line = empty();
+    match condition {
+        Condition::Clean => add(line, b"clean"),
+        Condition::UnfinishedA => add(line, b"unfinished (a)"),
+        Condition::UnfinishedB => add(line, b"unfinished (b)"),
+        Condition::UnfinishedC => add(line, b"unfinished (c)"),
+        Condition::UnfinishedD => add(line, b"unfinished (d)"),
+        Condition::Damaged => add(line, b"damaged"),
+    }
+}
+
+fn add_slots(line: Line, live: u64, dead: u64, empty: u64) -> Line
+    requires { ⌜ line .count ≤ 60 ⌝ }
+    ensures { λ r. ⌜ Added line (slotsText live dead empty) r × (r .count ≤ line .count + 90) ⌝ }
+{
+    let lives = add_count(line, b", slots live ", live);
+    let deads = add_count(lives, b", dead ", dead);
+    add_count(deads, b", empty ", empty)
+}
+
+// The state of an image, with the segments in use and their slots.
+pub fn say_report(report: Report) -> Line
+    ensures { λ r. ⌜ (said r ≡ reportText report) × (r .count ≤ 160) ⌝ }
+{
+    let condition = report.condition;
+    let line = say_condition(condition);
+    let used = add_count(line, b": segments in use ", report.segments);
+    let line = add_slots(used, report.live, report.dead, report.empty);
+    add(line, b"\n")
+}

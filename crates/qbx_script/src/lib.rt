@@ -1,0 +1,89 @@
+// Plays a script of commands, one to a line, each as qbx would obey it: IMAGE N B VERB [BLOCK] [--budget STEPS] [< contents].
+// All that is said goes to standard output, so that a whole story is one output to compare.
+use libc::STDIN_FILENO;
+use libc::STDOUT_FILENO;
+use qbx_words::Reading;
+ghost use mathlib.Core.Path.{_≡_};
+ghost use Prim.Native.Nat.{_≤_};
+ghost use lib.ListN.{length};
+ghost use Rattle.qbx_script.specs.Script.{wordAt};
+
+// The word behind so many spaces; empty if there are not so many.
+fn word(line: &[u8], k: usize) -> &[u8]
+    ensures { λ r. ⌜ now r ≡ wordAt k (now (line .entry)) ⌝ }
+{
+    let mut at = 0;
+    let mut i = 0;
+    while i < k {
+        let end = bytes::scan::find(line, at, line.len(), b' ');
+        if end == line.len() {
+            return &line[end..end];
+        }
+        at = end + 1;
+        i += 1;
+    }
+    let end = bytes::scan::find(line, at, line.len(), b' ');
+    &line[at..end]
+}
+
+// The words of a command, and what stands behind '<'.
+fn obey(image: &mut [u8], line: &[u8], contents: &[u8]) {
+    let reading = qbx_words::command_of(
+        word(line, 1),
+        word(line, 2),
+        word(line, 3),
+        word(line, 4),
+        word(line, 5),
+        word(line, 6),
+    );
+    match reading {
+        Reading::Right(command) => qbx_work::obey(
+            image,
+            word(line, 0),
+            command,
+            contents,
+            STDOUT_FILENO,
+            STDOUT_FILENO,
+        ),
+        Reading::Wrong(complaint) => qbx_work::complain(complaint, STDOUT_FILENO),
+    }
+}
+
+fn step(image: &mut [u8], line: &[u8]) {
+    io::write_all(STDOUT_FILENO, b"$ qbx ");
+    io::write_all(STDOUT_FILENO, line);
+    io::write_all(STDOUT_FILENO, b"\n");
+    let end = bytes::scan::find(line, 0, line.len(), b'<');
+    if line.len() - end < 2 {
+        obey(image, line, b"");
+        return;
+    }
+    let start = end + 2;
+    obey(image, &line[..end], &line[start..]);
+}
+
+fn play_lines(image: &mut [u8], script: &[u8]) {
+    let mut at = 0;
+    while at < script.len() {
+        let end = bytes::scan::find(script, at, script.len(), b'\n');
+        step(image, &script[at..end]);
+        if end == script.len() {
+            return;
+        }
+        at = end + 1;
+    }
+}
+
+// The script is on standard input.
+fn play_on(image: &mut [u8]) {
+    let mut script = io::large_buffer();
+    let filled = qbx_work::fill(STDIN_FILENO, &mut script);
+    let n = filled.count;
+    play_lines(image, &script[..n]);
+}
+
+// The buffer holds the largest image and a byte more, as that of qbx does.
+pub fn play() {
+    let mut image = [255u8; 4194305];
+    play_on(&mut image);
+}

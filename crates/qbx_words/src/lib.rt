@@ -1,0 +1,47 @@
+// The words of the command line of qbx, read.
+mod commands;
+mod numbers;
+
+pub use commands::command_of;
+pub use commands::is;
+use model::BlockNumber;
+
+// A number read from a word.
+pub enum Parsed {
+    Number(u64),
+    NoNumber,
+}
+
+pub enum Verb {
+    Format,
+    Put,
+    Get,
+    Delete,
+    Recover,
+    Check,
+    Unknown,
+}
+
+// A command whose words were right. A verb that names no block has block 0.
+pub struct Command {
+    pub segments: u64,
+    pub slots: u64,
+    pub verb: Verb,
+    pub block: BlockNumber,
+    pub budget: u64,
+}
+
+// The word of a command that is wrong.
+pub enum Complaint {
+    Segments,
+    Slots,
+    NoVerb,
+    Block,
+    NoOption,
+    Budget,
+}
+
+pub enum Reading {
+    Right(Command),
+    Wrong(Complaint),
+}

@@ -1,0 +1,29 @@
+-- What the program computes beside its words: the name beside a file's, what a command does to an image.
+use Prim.Native.Nat.{ℕ, _+_}
+use mathlib.Core.Bool.{cond}
+use mathlib.Core.List.{List, [], _++_}
+use lib.ListN.{length}
+use lib.Dec.{leb}
+use Rattle.model.specs.Chip.{Image}
+use Rattle.model.specs.Answers.{Outcome, outcomeOf, format, put, delete, recover}
+use Rattle.qbx_words.specs.declared.Command.{Command}
+use Rattle.qbx_words.specs.declared.Verb.{Verb}
+use Rattle.qbx_words.specs.declared.Verb.the-variants.{Format, Put, Get, Delete, Recover, Check, Unknown}
+use Rattle.qbx_words.specs.Text.{text}
+
+-- the name under which a file's successor is written, if it is no longer than so many bytes
+unfoldable pub besideOf : ℕ → List ℕ → List ℕ
+besideOf most path = cond (leb (length path + 4) most) (path ++ text ".new") []
+
+abbrev pub untouched : Image → Outcome
+untouched s = record { code = 0; count = 0; image = s }
+
+-- what a command does to an image: the model's request, if its verb writes
+unfoldable pub performedBy : Verb → Command → List ℕ → Image → Outcome
+performedBy Format k c s = outcomeOf (k .segments) (k .slots) s (k .budget) format
+performedBy Put k c s = outcomeOf (k .segments) (k .slots) s (k .budget) (put (k .block .0) c)
+performedBy Get k c s = untouched s
+performedBy Delete k c s = outcomeOf (k .segments) (k .slots) s (k .budget) (delete (k .block .0))
+performedBy Recover k c s = outcomeOf (k .segments) (k .slots) s (k .budget) recover
+performedBy Check k c s = untouched s
+performedBy Unknown k c s = untouched s

@@ -1,0 +1,214 @@
+// The work of the program qbx, with its words handed in: the image's file is read, the store asked, the file replaced and
+// the answer said.
+mod files;
+mod requests;
+
+use model::Answer;
+use model::Performed;
+use qbx_says::Line;
+use qbx_words::Command;
+use qbx_words::Complaint;
+use qbx_words::Verb;
+ghost use Prim.Native.Nat.{_≤_};
+ghost use lib.ListN.{length};
+pub use files::fill;
+
+// The number of the answer to a wrong size.
+const SIZE: u8 = 1;
+
+// Says a line.
+fn print(fd: i32, line: Line)
+    requires { ⌜ line .count ≤ 160 ⌝ }
+{
+    let bytes = line.bytes;
+    let n = line.count;
+    io::write_all(fd, &bytes[..n]);
+}
+
+// Says what could not be done with a file, on standard error with the system's reason.
+fn fail(fd: i32, what: &[u8], path: &[u8]) {
+    io::write_all(fd, b"qbx: cannot ");
+    io::write_all(fd, what);
+    if fd == libc::STDERR_FILENO {
+        os::fail(path);
+        return;
+    }
+    io::write_all(fd, path);
+    io::write_all(fd, b"\n");
+}
+
+// The image's file, in the first bytes of the buffer: how many, whether they could be had, and how many the file has.
+struct ImageFile {
+    count: usize,
+    whole: bool,
+    there: u64,
+}
+
+// Has the image's file in the buffer: the file's own bytes, or a chip from the factory where format finds none.
+fn present(image: &mut [u8], path: &[u8], command: Command) -> ImageFile
+    ensures { λ r. ⌜ r .count ≤ length (now (image .exit)) ⌝ }
+{
+    let fd = os::open_read(path);
+    if fd < 0 {
+        return absent(image, command, os::errno());
+    }
+    let filled = files::fill(fd, image);
+    let there = files::length_of(fd, filled.count);
+    libc::close(fd);
+    ImageFile {
+        count: filled.count,
+        whole: filled.whole,
+        there,
+    }
+}
+
+// The file could not be opened.
+fn absent(image: &mut [u8], command: Command, error: i32) -> ImageFile
+    ensures { λ r. ⌜ r .count ≤ length (now (image .exit)) ⌝ }
+{
+    let none = ImageFile {
+        count: 0,
+        whole: false,
+        there: 0,
+    };
+    let verb = command.verb;
+    let Verb::Format = verb else {
+        return none;
+    };
+    let count = request::size_of(command.segments as usize, command.slots as usize);
+    if error != libc::ENOENT {
+        return none;
+    }
+    if image.len() < count {
+        return none;
+    }
+    requests::blank(&mut image[..count]);
+    ImageFile {
+        count,
+        whole: true,
+        there: 0,
+    }
+}
+
+// Says an answer and the steps done; beside a wrong size what N and B ask for, and the bytes that are there.
+fn tell(fd: i32, performed: Performed, command: Command, there: u64) {
+    let answer = performed.answer;
+    if request::code_of(answer) == SIZE {
+        print(
+            fd,
+            qbx_says::say_size(command.segments as usize, command.slots as usize, there),
+        );
+        return;
+    }
+    print(fd, qbx_says::say_performed(performed));
+}
+
+// A verb that writes. Steps that were done are in the file before they are said.
+fn change(
+    image: &mut [u8],
+    path: &[u8],
+    command: Command,
+    contents: &[u8],
+    there: u64,
+    out: i32,
+    err: i32,
+) {
+    let performed = requests::perform(image, command, contents);
+    if performed.steps > 0 {
+        if !files::replace(path, image) {
+            fail(err, b"write ", path);
+            return;
+        }
+    }
+    tell(out, performed, command, there);
+}
+
+// The contents alone go out. Where the answer goes there too, a line end keeps them apart.
+fn get(image: &[u8], command: Command, there: u64, out: i32, err: i32) {
+    let block = command.block;
+    let found = store::read(
+        image,
+        command.segments as usize,
+        command.slots as usize,
+        block,
+    );
+    let answer = found.answer;
+    let at = found.offset;
+    let count = found.length;
+    if !io::write_all(out, requests::piece(image, at, count)) {
+        fail(err, b"write ", b"standard output");
+        return;
+    }
+    if out == err {
+        if count > 0 {
+            io::write_all(out, b"\n");
+        }
+    }
+    tell(err, Performed { answer, steps: 0 }, command, there);
+}
+
+// The state of the image, or that it has not the right size.
+fn check(image: &[u8], command: Command, there: u64, out: i32) {
+    let segments = command.segments as usize;
+    let slots = command.slots as usize;
+    if !request::right_size(image.len(), segments, slots) {
+        let answer = Answer::Size;
+        tell(out, Performed { answer, steps: 0 }, command, there);
+        return;
+    }
+    print(
+        out,
+        qbx_says::say_report(qbx_report::report_on(image, segments, slots)),
+    );
+}
+
+// A command on the image's bytes.
+fn act(
+    image: &mut [u8],
+    path: &[u8],
+    command: Command,
+    contents: &[u8],
+    there: u64,
+    out: i32,
+    err: i32,
+) {
+    let verb = command.verb;
+    match verb {
+        Verb::Get => get(&image[..], command, there, out, err),
+        Verb::Check => check(&image[..], command, there, out),
+        Verb::Format | Verb::Put | Verb::Delete | Verb::Recover | Verb::Unknown => change(
+            image,
+            path,
+            command,
+            contents,
+            there,
+            out,
+            err,
+        ),
+    }
+}
+
+// A command on the image's file. What it says goes to the one descriptor, and what is wrong to the other, beside a read's
+// answer: its contents go out alone.
+pub fn obey(image: &mut [u8], path: &[u8], command: Command, contents: &[u8], out: i32, err: i32) {
+    let file = present(image, path, command);
+    if !file.whole {
+        fail(err, b"read ", path);
+        return;
+    }
+    let n = file.count;
+    act(
+        &mut image[..n],
+        path,
+        command,
+        contents,
+        file.there,
+        out,
+        err,
+    );
+}
+
+// What is wrong with a command's words.
+pub fn complain(complaint: Complaint, err: i32) {
+    print(err, qbx_says::say_complaint(complaint));
+}

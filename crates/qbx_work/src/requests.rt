@@ -1,0 +1,64 @@
+// The store asked, on the image alone.
+use model::Answer;
+use model::Performed;
+use qbx_words::Command;
+use qbx_words::Verb;
+ghost use mathlib.Core.Path.{_≡_};
+ghost use lib.ListN.{length, take, drop, replicate};
+ghost use Rattle.model.specs.Answers.{codeOf, performed};
+ghost use Rattle.qbx_work.specs.Work.{performedBy};
+
+// A chip from the factory.
+pub fn blank(image: &mut [u8])
+    ensures { λ _. ⌜ now (image .exit) ≡ replicate (length (now (image .entry))) 255 ⌝ }
+{
+    let mut i = 0;
+    while i < image.len() {
+        image[i] = 255;
+        i += 1;
+    }
+}
+
+// A part of an image, as far as the image goes.
+pub fn piece(image: &[u8], at: usize, count: usize) -> &[u8]
+    ensures { λ r. ⌜ now r ≡ take count (drop at (now (image .entry))) ⌝ }
+{
+    if image.len() < at {
+        return &image[0..0];
+    }
+    if image.len() - at < count {
+        return &image[at..];
+    }
+    let end = at + count;
+    &image[at..end]
+}
+
+// Nothing done.
+fn idle() -> Performed
+    ensures { λ r. ⌜ (codeOf (r .answer) ≡ 0) × (r .steps ≡ 0) ⌝ }
+{
+    Performed {
+        answer: Answer::Done,
+        steps: 0,
+    }
+}
+
+// A request that writes. A verb that does not write does nothing.
+pub fn perform(image: &mut [u8], command: Command, contents: &[u8]) -> Performed
+    ensures { λ r. ⌜ performed r (now (image .exit)) ≡ performedBy (command .verb) command (now (contents .entry)) (now (image .entry)) ⌝ }
+{
+    let segments = command.segments as usize;
+    let slots = command.slots as usize;
+    let budget = command.budget;
+    let block = command.block;
+    let verb = command.verb;
+    match verb {
+        Verb::Format => store::format(image, segments, slots, budget),
+        Verb::Put => store::put(image, segments, slots, block, contents, budget),
+        Verb::Delete => store::delete(image, segments, slots, block, budget),
+        Verb::Recover => store::recover(image, segments, slots, budget),
+        Verb::Get => idle(),
+        Verb::Check => idle(),
+        Verb::Unknown => idle(),
+    }
+}
