@@ -1,7 +1,7 @@
 // The state of an image, and what is in it, counted.
 use crate::Census;
-use model::SlotKind;
 use header::HeaderSeen;
+use model::SlotKind;
 use scan::Surveyed;
 use words::Condition;
 use words::Report;
@@ -12,7 +12,7 @@ ghost use lib.ListN.{length, getD};
 ghost use Rattle.model.specs.Chip.{rightSize};
 ghost use Rattle.model.specs.State.{blank, segmentsOf, stateOf};
 ghost use Rattle.flash.specs.Pages.{Sized};
-ghost use Rattle.scan.specs.Rows.{kindsAt};
+ghost use Rattle.judge.specs.Rows.{kindsAt};
 ghost use Rattle.tool.specs.Census.{conditionOf, total, counted, countKinds, countSegment, censusOf, reportOf};
 
 // The state, as the survey finds it.

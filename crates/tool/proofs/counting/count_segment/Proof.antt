@@ -2,7 +2,7 @@
 use mathlib.Core.Path.{_∙_}
 use native.Mathlib.Omega.{arith}
 use denote.Ref.{now}
-use Rattle.scan.proofs.Laws.Heads.{segment-inside}
+use Rattle.segments.proofs.Laws.Heads.{segment-inside}
 use Rattle.tool.proofs.Laws.Census.{segment-unused, segment-used}
 use borrow.Author.Needs.{needs}
 use Rattle.tool.proofs.counting.count_segment.Statement.{statement}
