@@ -20,9 +20,9 @@ use Rattle.header.specs.declared.HeaderSeen.the-variants.{InUse, NotInUse}
 use Rattle.header.specs.Parts.{headerSeen}
 use Rattle.scan.specs.declared.Surveyed.{Surveyed}
 use Rattle.scan.specs.Surveys.{surveyOf, stateIn, survey-state}
-use Rattle.scan.specs.Rows.{kindsAt, slotsAt}
-use Rattle.scan.specs.Parts.{headerOffset, slotsOffset, segmentSeen, segment-seen}
-use Rattle.scan.proofs.Laws.Rows.{kinds-next, page-part}
+use Rattle.judge.specs.Rows.{kindsAt, slotsAt}
+use Rattle.judge.specs.Parts.{headerOffset, slotsOffset, segmentSeen, segment-seen}
+use Rattle.rows.proofs.Laws.Rows.{kinds-next, page-part}
 use Rattle.qbx_report.specs.declared.Census.{Census}
 use Rattle.qbx_report.specs.Census.{conditionOf, total, counted, countKinds, oneMore, countSegment, countSegments}
 use Rattle.qbx_says.specs.declared.Condition.{Condition}

@@ -11,7 +11,7 @@ ghost use lib.ListN.{length, getD};
 ghost use Rattle.model.specs.Chip.{rightSize};
 ghost use Rattle.model.specs.State.{blank, segmentsOf, stateOf};
 ghost use Rattle.flash.specs.Pages.{Sized};
-ghost use Rattle.scan.specs.Rows.{kindsAt};
+ghost use Rattle.judge.specs.Rows.{kindsAt};
 ghost use Rattle.qbx_report.specs.Census.{conditionOf, total, counted, countKinds, countSegment, censusOf, reportOf};
 
 // Segments in use, and their slots by kind.

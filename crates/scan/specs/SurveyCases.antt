@@ -16,17 +16,17 @@ use Rattle.model.specs.Table.{lookup, contentsFound}
 use Rattle.model.specs.Laws.Ring.{slots-length}
 use Rattle.model.specs.Laws.Clean.{RingFacts, used-next}
 use Rattle.model.specs.Laws.Segments.{segments-length}
-use Rattle.scan.specs.declared.Sum.{Sum}
+use Rattle.judge.specs.declared.Sum.{Sum}
 use Rattle.scan.specs.declared.Exam.{Exam}
 use Rattle.find.specs.declared.Found.{Found}
 use Rattle.find.specs.declared.Found.the-variants.{At, Nothing}
 use Rattle.scan.specs.declared.Surveyed.{Surveyed}
 use Rattle.scan.specs.declared.Surveyed.the-variants.{Clean, TornSegment, ErasePending, TornSlot, OldSlot, Damaged}
-use Rattle.scan.specs.Endings.{inOrder, endsTorn, endsTwin}
-use Rattle.scan.specs.Cases.{frame, fine, slotState, twinLast, twinBlock, mendedState, stateBy, state-by, frame-ring, view-top, view-block}
-use Rattle.scan.specs.Heads.{outline, outline-used, outline-first}
-use Rattle.scan.specs.Tally.{badSum}
-use Rattle.scan.specs.Verdict.{orderly, tornWithin, twinWithin, verdict, Told}
+use Rattle.judge.specs.Endings.{inOrder, endsTorn, endsTwin}
+use Rattle.judge.specs.Cases.{frame, fine, slotState, twinLast, twinBlock, mendedState, stateBy, state-by, frame-ring, view-top, view-block}
+use Rattle.judge.specs.Heads.{outline, outline-used, outline-first}
+use Rattle.judge.specs.Tally.{badSum}
+use Rattle.judge.specs.Verdict.{orderly, tornWithin, twinWithin, verdict, Told}
 use Rattle.scan.specs.Find.{foundIn}
 use Rattle.scan.specs.Surveys.{surveyIn, mendIn, surveyOf, sumOn, examOf}
 use Rattle.scan.specs.SurveyLaws.{Within, within-same, within-blanked, within-settled, exam-told, exam-sum, exam-orderly, exam-verdict}

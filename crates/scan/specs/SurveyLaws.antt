@@ -21,19 +21,19 @@ use Rattle.model.specs.Laws.Ring.{slots-length, number-in-use}
 use Rattle.model.specs.Laws.Clean.{RingFacts, used-next}
 use Rattle.model.specs.Laws.SlotPage.{LiveFacts, KindFacts, kind-facts, number-below}
 use Rattle.model.specs.Laws.Segments.{segments-length}
-use Rattle.scan.specs.declared.Sum.{Sum}
+use Rattle.judge.specs.declared.Sum.{Sum}
 use Rattle.scan.specs.declared.Exam.{Exam}
 use Rattle.find.specs.declared.Found.{Found}
 use Rattle.scan.specs.declared.Surveyed.{Surveyed}
 use Rattle.scan.specs.declared.Surveyed.the-variants.{Clean, TornSegment, ErasePending, TornSlot, OldSlot, Damaged}
-use Rattle.scan.specs.Endings.{inOrder, endsTorn, endsTwin}
-use Rattle.scan.specs.Cases.{frame, fine, slotState, mendedState, stateBy, state-by, frame-ring, view-top, view-block, twinBlock}
-use Rattle.scan.specs.Rows.{slotsAt}
-use Rattle.scan.specs.Parts.{slotsOffset, rowsOn, used-rows}
-use Rattle.scan.specs.Heads.{outline, outline-frame, outline-used, outline-first}
-use Rattle.scan.specs.Tally.{noneMet, tallies, addRows, noSum, badSum}
-use Rattle.scan.specs.TallyLaws.{Narrow, NarrowRows}
-use Rattle.scan.specs.Verdict.{orderly, tornWithin, twinWithin, verdict, Told, told}
+use Rattle.judge.specs.Endings.{inOrder, endsTorn, endsTwin}
+use Rattle.judge.specs.Cases.{frame, fine, slotState, mendedState, stateBy, state-by, frame-ring, view-top, view-block, twinBlock}
+use Rattle.judge.specs.Rows.{slotsAt}
+use Rattle.judge.specs.Parts.{slotsOffset, rowsOn, used-rows}
+use Rattle.judge.specs.Heads.{outline, outline-frame, outline-used, outline-first}
+use Rattle.judge.specs.Tally.{noneMet, tallies, addRows, noSum, badSum}
+use Rattle.judge.specs.TallyLaws.{Narrow, NarrowRows}
+use Rattle.judge.specs.Verdict.{orderly, tornWithin, twinWithin, verdict, Told, told}
 use Rattle.scan.specs.Find.{foundIn}
 use Rattle.scan.specs.Surveys.{surveyIn, mendIn, surveyOf, sumOn, examOf}
 

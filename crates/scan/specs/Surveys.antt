@@ -8,17 +8,17 @@ use Rattle.model.specs.Chip.{Image}
 use Rattle.model.specs.State.{Segment, blank, segmentsOf, isInUse, isInvalid, nextNumber, nextIndex, usedCount, firstNumber, viewOf, entriesIn, lastSlot, older, Exception, caseA, caseB, caseC, caseD, State, clean, unfinished, damaged, stateOf}
 use Rattle.model.specs.Steps.{slotAt, topRow, firstEmpty, compactions}
 use Rattle.flash.specs.Pages.{Sized}
-use Rattle.scan.specs.declared.Sum.{Sum}
-use Rattle.scan.specs.declared.Summary.{Summary}
+use Rattle.judge.specs.declared.Sum.{Sum}
+use Rattle.judge.specs.declared.Summary.{Summary}
 use Rattle.scan.specs.declared.Exam.{Exam}
 use Rattle.find.specs.declared.Found.{Found}
 use Rattle.find.specs.declared.Found.the-variants.{At, Nothing}
 use Rattle.scan.specs.declared.Surveyed.{Surveyed}
 use Rattle.scan.specs.declared.Surveyed.the-variants.{Clean, TornSegment, ErasePending, TornSlot, OldSlot, Damaged}
-use Rattle.scan.specs.Cases.{frame}
-use Rattle.scan.specs.Heads.{outline, heads}
-use Rattle.scan.specs.Parts.{rowsOn}
-use Rattle.scan.specs.Tally.{noneMet, tallies, addRows, noSum, badSum}
+use Rattle.judge.specs.Cases.{frame}
+use Rattle.judge.specs.Heads.{outline, heads}
+use Rattle.judge.specs.Parts.{rowsOn}
+use Rattle.judge.specs.Tally.{noneMet, tallies, addRows, noSum, badSum}
 
 -- ---- a survey
 

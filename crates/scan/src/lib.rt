@@ -1,10 +1,9 @@
 // The state of an image and what requests need of it, decided in one pass.
-mod headers;
-mod rows;
 mod sums;
 
 use find::Found;
-use model::BlockNumber;
+use judge::Sum;
+use judge::Summary;
 use model::SegmentNumber;
 use model::SlotPlace;
 ghost use mathlib.Core.Path.{_≡_};
@@ -16,62 +15,8 @@ ghost use Rattle.model.specs.Steps.{slotAt};
 ghost use Rattle.flash.specs.Pages.{Sized};
 ghost use Rattle.scan.specs.Surveys.{surveyOf, cleanIn, oldIn, Shown};
 ghost use Rattle.model.specs.Chip.{rightSize};
-ghost use Rattle.scan.specs.Heads.{heads};
+ghost use Rattle.judge.specs.Heads.{heads};
 ghost use Rattle.scan.specs.Find.{foundIn};
-
-// What a segment's header and a blank test tell: blank; neither in use nor blank; in use; in use with the old segment still to be erased.
-enum SegmentState {
-    Blank,
-    Invalid,
-    InUse,
-    Owing,
-}
-
-// How a row of slots ends: every slot written; empty ones last; the last written slot torn; or live with a number
-// that was met before; or against the rules.
-enum Ending {
-    Full,
-    Room,
-    TornLast,
-    TwinLast,
-    Bad,
-}
-
-// The slots of one segment, looked at in order: counts, how they end, and the block of the last live one.
-struct Row {
-    live: u16,
-    dead: u16,
-    written: u16,
-    ending: Ending,
-    block: BlockNumber,
-}
-
-// One segment (document 01: summary).
-struct Summary {
-    state: SegmentState,
-    number: SegmentNumber,
-    row: Row,
-}
-
-// The segments in use: the smallest number, how many, and whether conditions 1 to 4 of document 01's Clean hold.
-struct Frame {
-    first: usize,
-    used: usize,
-    fine: bool,
-}
-
-// Rows added up: live slots; of the last row, how many are written, how it ends behind the others and its last live
-// block; and how many rows there are up to the first with a dead slot.
-struct Sum {
-    live: usize,
-    written: usize,
-    compactions: usize,
-    dead: bool,
-    ending: Ending,
-    block: BlockNumber,
-}
-
-// ---- the survey
 
 // The segments in use that a table of summaries shows, and their rows added up.
 struct Exam {
@@ -116,7 +61,7 @@ fn top_number(next: usize) -> SegmentNumber
     requires { ⌜ next ≤ 4294967296 ⌝ }
     ensures { λ r. ⌜ r .0 ≡ next - 1 ⌝ }
 {
-    SegmentNumber(headers::less(next, 1) as u32)
+    SegmentNumber(segments::less(next, 1) as u32)
 }
 
 // The place of a slot of the segment with a number.
@@ -142,7 +87,7 @@ fn survey_owing(
         image,
         segments,
         slots,
-        headers::top_settled(table, segments, next),
+        segments::top_settled(table, segments, next),
     );
     let sum = exam.sum;
     if exam.used + 1 != segments {
@@ -153,7 +98,7 @@ fn survey_owing(
         let top = top_number(next);
         return Surveyed::ErasePending {
             top,
-            blank: headers::shows_blank(table[after]),
+            blank: segments::shows_blank(table[after]),
         };
     }
     Surveyed::Damaged
@@ -174,7 +119,7 @@ fn survey_torn(
         image,
         segments,
         slots,
-        headers::next_blanked(table, segments, next),
+        segments::next_blanked(table, segments, next),
     );
     let sum = exam.sum;
     if sums::orderly(sum, request::capacity(segments, slots)) {
@@ -233,8 +178,8 @@ fn survey_slots(
         return clean_survey(exam);
     }
     if sums::torn_within(sum, most) {
-        let number = headers::less(next, 1);
-        let place = slot_place(segments, slots, number, headers::less(sum.written, 1));
+        let number = segments::less(next, 1);
+        let place = slot_place(segments, slots, number, segments::less(sum.written, 1));
         return Surveyed::TornSlot { place };
     }
     if sums::twin_within(sum, most + 1) {
@@ -249,14 +194,14 @@ pub fn survey(image: &[u8], segments: usize, slots: usize) -> Surveyed
     requires { ⌜ rightSize segments slots (now image) ≡ true ⌝ }
     ensures { λ r. ⌜ r ≡ surveyOf segments slots (segmentsOf segments slots (now (image .entry))) ⌝ }
 {
-    let table = headers::see_headers(image, segments, slots);
-    let next = headers::next_number(table, segments);
-    let top = headers::less(next, 1) % segments;
-    if headers::is_owing(table[top]) {
+    let table = segments::see_headers(image, segments, slots);
+    let next = segments::next_number(table, segments);
+    let top = segments::less(next, 1) % segments;
+    if segments::is_owing(table[top]) {
         return survey_owing(image, segments, slots, table, next);
     }
     let after = next % segments;
-    if headers::is_invalid(table[after]) {
+    if segments::is_invalid(table[after]) {
         return survey_torn(image, segments, slots, table, next);
     }
     survey_slots(image, segments, slots, table, next)

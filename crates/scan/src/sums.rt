@@ -1,21 +1,21 @@
 // The rows of the segments in use, oldest first, gathered and added up.
-use crate::Ending;
 use crate::Exam;
-use crate::Row;
-use crate::Sum;
-use crate::Summary;
+use judge::Ending;
+use judge::Row;
+use judge::Sum;
+use judge::Summary;
 use model::BlockNumber;
 ghost use mathlib.Core.Path.{_≡_};
 ghost use mathlib.Core.List.{map};
 ghost use Prim.Native.Nat.{_≤_};
 ghost use lib.ListN.{length, take};
 ghost use Rattle.flash.specs.Pages.{Sized};
-ghost use Rattle.scan.specs.Endings.{inOrder, endsTorn, endsTwin};
-ghost use Rattle.scan.specs.Verdict.{orderly, tornWithin, twinWithin};
+ghost use Rattle.judge.specs.Endings.{inOrder, endsTorn, endsTwin};
+ghost use Rattle.judge.specs.Verdict.{orderly, tornWithin, twinWithin};
 ghost use Rattle.scan.specs.Surveys.{examOf, Bounded};
-ghost use Rattle.scan.specs.Heads.{heads};
-ghost use Rattle.scan.specs.Parts.{rowsOn};
-ghost use Rattle.scan.specs.Tally.{noneMet, tallies, rowOf, addRow, addRows, noSum, Few};
+ghost use Rattle.judge.specs.Heads.{heads};
+ghost use Rattle.judge.specs.Parts.{rowsOn};
+ghost use Rattle.judge.specs.Tally.{noneMet, tallies, rowOf, addRow, addRows, noSum, Few};
 
 fn with_row(s: Summary, row: Row) -> Summary
     ensures { λ r. ⌜ (r .state ≡ s .state) × (r .number ≡ s .number) × (rowOf r ≡ row) ⌝ }
@@ -43,10 +43,7 @@ fn gather(
     while i < used {
         let index = (first + i) % segments;
         let at = (index * (slots + 1) + 1) * 256;
-        ring[i] = with_row(
-            table[index],
-            crate::rows::scan_row(image, at, slots, &mut seen),
-        );
+        ring[i] = with_row(table[index], rows::scan_row(image, at, slots, &mut seen));
         i += 1;
     }
     ring
@@ -59,9 +56,9 @@ fn add_row(sum: Sum, row: Row) -> Sum
     let block = row.block;
     let before = sum.ending;
     let then = row.ending;
-    let live = sum.live + crate::rows::wide(row.live);
-    let written = crate::rows::wide(row.written);
-    let ending = crate::rows::behind(before, then);
+    let live = sum.live + rows::wide(row.live);
+    let written = rows::wide(row.written);
+    let ending = rows::behind(before, then);
     if sum.dead {
         return Sum {
             live,
@@ -181,7 +178,7 @@ pub fn examine(image: &[u8], segments: usize, slots: usize, table: [Summary; 64]
     requires { ⌜ Sized segments slots (length (now image)) × (segments ≤ 64) ⌝ }
     ensures { λ r. ⌜ (r ≡ examOf segments slots (now (image .entry)) (heads segments table)) × Bounded r ⌝ }
 {
-    let f = crate::headers::see_frame(table, segments);
+    let f = segments::see_frame(table, segments);
     let first = f.first;
     let used = f.used;
     if f.fine {

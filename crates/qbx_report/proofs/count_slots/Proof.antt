@@ -9,8 +9,8 @@ use denote.Ref.{now}
 use lib.ListN.{take, drop, length-take, length-drop}
 use Rattle.model.specs.Slot.{slotOf, kindOf}
 use Rattle.model.specs.declared.SlotKind.{SlotKind}
-use Rattle.scan.specs.Rows.{kindsAt}
-use Rattle.scan.proofs.Laws.Rows.{page-part}
+use Rattle.judge.specs.Rows.{kindsAt}
+use Rattle.rows.proofs.Laws.Rows.{page-part}
 use Rattle.qbx_report.specs.declared.Census.{Census}
 use Rattle.qbx_report.specs.Census.{total, counted, countKinds}
 use Rattle.qbx_report.proofs.Laws.{counted-total, slots-next, slots-end}

@@ -10,12 +10,12 @@ use lib.ListN.{length, getD, take, drop, set}
 use lib.Seq.{drop-cons, take-suc-set, append-snoc}
 use Rattle.model.specs.Chip.{Image}
 use Rattle.model.specs.Slot.{kindOf}
-use Rattle.scan.specs.declared.Row.{Row}
-use Rattle.scan.specs.declared.Summary.{Summary}
-use Rattle.scan.specs.declared.Sum.{Sum}
-use Rattle.scan.specs.Rows.{Pass, pass, seeAll, noRow, kindsAt, slotsAt}
-use Rattle.scan.specs.Parts.{slotsOffset, rowsOn}
-use Rattle.scan.specs.Tally.{noneMet, tallies, rowOf, addRow, addRows, noSum, Few}
+use Rattle.judge.specs.declared.Row.{Row}
+use Rattle.judge.specs.declared.Summary.{Summary}
+use Rattle.judge.specs.declared.Sum.{Sum}
+use Rattle.judge.specs.Rows.{Pass, pass, seeAll, noRow, kindsAt, slotsAt}
+use Rattle.judge.specs.Parts.{slotsOffset, rowsOn}
+use Rattle.judge.specs.Tally.{noneMet, tallies, rowOf, addRow, addRows, noSum, Few}
 
 -- the slots of a segment lie inside the image
 pub slots-inside : (N B i : ℕ) → i < N → slotsOffset B i + B * 256 ≤ N * (B + 1) * 256

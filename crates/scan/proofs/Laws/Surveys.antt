@@ -14,23 +14,23 @@ use Rattle.model.specs.Steps.{slotAt}
 use Rattle.flash.specs.Pages.{Sized}
 use Rattle.model.specs.declared.SegmentNumber.{SegmentNumber}
 use Rattle.model.specs.declared.SlotPlace.{SlotPlace}
-use Rattle.scan.specs.declared.Row.{Row}
-use Rattle.scan.specs.declared.Sum.{Sum}
-use Rattle.scan.specs.declared.Summary.{Summary}
-use Rattle.scan.specs.declared.Frame.{Frame}
+use Rattle.judge.specs.declared.Row.{Row}
+use Rattle.judge.specs.declared.Sum.{Sum}
+use Rattle.judge.specs.declared.Summary.{Summary}
+use Rattle.judge.specs.declared.Frame.{Frame}
 use Rattle.scan.specs.declared.Exam.{Exam}
 use Rattle.scan.specs.declared.Surveyed.{Surveyed}
 use Rattle.scan.specs.declared.Surveyed.the-variants.{Clean, TornSegment, ErasePending, TornSlot, OldSlot, Damaged}
-use Rattle.scan.specs.Cases.{frame}
-use Rattle.scan.specs.Heads.{bare, outline, heads, frameOf, outline-next, outline-used, outline-get, outline-top, outline-after, outline-after-use, outline-blanked, outline-settled-top}
-use Rattle.scan.specs.Parts.{rowsOn}
-use Rattle.scan.specs.Tally.{noneMet, tallies, addRows, noSum, badSum}
-use Rattle.scan.specs.Verdict.{orderly, tornWithin, twinWithin}
+use Rattle.judge.specs.Cases.{frame}
+use Rattle.judge.specs.Heads.{bare, outline, heads, frameOf, outline-next, outline-used, outline-get, outline-top, outline-after, outline-after-use, outline-blanked, outline-settled-top}
+use Rattle.judge.specs.Parts.{rowsOn}
+use Rattle.judge.specs.Tally.{noneMet, tallies, addRows, noSum, badSum}
+use Rattle.judge.specs.Verdict.{orderly, tornWithin, twinWithin}
 use Rattle.scan.specs.Surveys.{surveyOf, sumOn, examOf, cleanIn, oldIn, Shown, Bounded}
 use Rattle.find.specs.Search
 use Rattle.scan.specs.Find.{foundIn}
 use Rattle.scan.specs.SurveyCases.{owing-few, owing-bad, owing-good, torn-bad, torn-good, framed-some, framed-orderly, framed-twin, framed-chain, exam-view, twin-held, slots-clean, slots-torn, slots-twin, slots-damaged}
-use Rattle.scan.proofs.Laws.Tables.{heads-get}
+use Rattle.segments.proofs.Laws.Tables.{heads-get}
 
 -- a block that is there is found
 old-found : (N B b : ℕ) (v : View) → holds b (entriesIn v) ≡ true → oldIn (foundIn N B b v) ≡ OldSlot (record { 0 = slotAt N B (placeOf b v .number) (placeOf b v .slot) * 256 })

@@ -5,7 +5,7 @@ use native.Mathlib.Nat.{mod-lt}
 use denote.Ref.{now}
 use Prim.Native.Nat.{ℕ, _<_}
 use Rattle.model.specs.State.{capacity}
-use Rattle.scan.specs.Verdict.{orderly}
+use Rattle.judge.specs.Verdict.{orderly}
 use Rattle.scan.proofs.Laws.Surveys.{owing-few-used, owing-disordered, owing-orderly}
 use borrow.Author.Needs.{needs}
 use Rattle.scan.proofs.survey_owing.Statement.{statement}

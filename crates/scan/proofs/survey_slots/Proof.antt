@@ -6,7 +6,7 @@ use native.Mathlib.Omega.{arith}
 use denote.Ref.{now}
 use Rattle.model.specs.State.{capacity}
 use Rattle.model.specs.Steps.{slotAt}
-use Rattle.scan.specs.Verdict.{orderly, tornWithin, twinWithin}
+use Rattle.judge.specs.Verdict.{orderly, tornWithin, twinWithin}
 use Rattle.scan.proofs.Laws.Surveys.{clean-small, slots-orderly, slots-torn-last, twin-small, twin-chain, slots-twin-last, slots-bad}
 use Prim.Native.Nat.{_*_}
 use borrow.Author.Needs.{needs}

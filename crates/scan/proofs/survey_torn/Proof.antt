@@ -3,7 +3,7 @@ use mathlib.Core.Path.{_≡_, sym, ap, _∙_}
 use denote.Ref.{now}
 use Prim.Native.Nat.{ℕ}
 use Rattle.model.specs.State.{capacity}
-use Rattle.scan.specs.Verdict.{orderly}
+use Rattle.judge.specs.Verdict.{orderly}
 use Rattle.scan.proofs.Laws.Surveys.{torn-disordered, torn-orderly}
 use borrow.Author.Needs.{needs}
 use Rattle.scan.proofs.survey_torn.Statement.{statement}

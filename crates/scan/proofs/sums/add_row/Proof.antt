@@ -1,6 +1,6 @@
 -- `scan::sums::add_row` adds a row as the definition does. Assumes nothing.
 use native.Mathlib.Omega.{arith}
-use Rattle.scan.specs.Tally.{addRow}
+use Rattle.judge.specs.Tally.{addRow}
 use borrow.Author.Needs.{needs}
 use Rattle.scan.proofs.sums.add_row.Statement.{statement}
 use Rattle.scan.proofs.sums.add_row.Tie as tie

@@ -1,5 +1,5 @@
 -- `scan::sums::ends_torn` is the test of the definition. Assumes nothing.
-use Rattle.scan.specs.Endings.{endsTorn}
+use Rattle.judge.specs.Endings.{endsTorn}
 use borrow.Author.Needs.{needs}
 use Rattle.scan.proofs.sums.ends_torn.Statement.{statement}
 use Rattle.scan.proofs.sums.ends_torn.Tie as tie

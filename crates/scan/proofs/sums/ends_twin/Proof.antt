@@ -1,5 +1,5 @@
 -- `scan::sums::ends_twin` is the test of the definition. Assumes nothing.
-use Rattle.scan.specs.Endings.{endsTwin}
+use Rattle.judge.specs.Endings.{endsTwin}
 use borrow.Author.Needs.{needs}
 use Rattle.scan.proofs.sums.ends_twin.Statement.{statement}
 use Rattle.scan.proofs.sums.ends_twin.Tie as tie

@@ -2,8 +2,8 @@
 use mathlib.Core.Path.{sym, ap, _∙_}
 use native.Mathlib.Omega.{arith}
 use denote.Ref.{now}
-use Rattle.scan.specs.Heads.{heads}
-use Rattle.scan.specs.Tally.{badSum}
+use Rattle.judge.specs.Heads.{heads}
+use Rattle.judge.specs.Tally.{badSum}
 use Rattle.scan.specs.Surveys.{Bounded}
 use Rattle.scan.proofs.Laws.Surveys.{exam-looked, exam-skipped}
 use borrow.Author.Needs.{needs}

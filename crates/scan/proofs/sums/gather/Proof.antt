@@ -6,8 +6,8 @@ use native.Mathlib.Nat.{mod-lt}
 use borrow.Author.Needs.{needs}
 use denote.Ref.{now}
 use lib.ListN.{length, length-set}
-use Rattle.scan.specs.Parts.{rowsOn}
-use Rattle.scan.specs.Tally.{noneMet, tallies}
+use Rattle.judge.specs.Parts.{rowsOn}
+use Rattle.judge.specs.Tally.{noneMet, tallies}
 use Rattle.scan.proofs.Laws.Gather.{slots-inside, gathered, gather-start, gather-turn, gather-end}
 use Rattle.scan.proofs.sums.gather.Statement.{statement}
 use Rattle.scan.proofs.sums.gather.Tie as tie

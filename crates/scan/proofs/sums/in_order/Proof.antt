@@ -1,5 +1,5 @@
 -- `scan::sums::in_order` is the test of the definition. Assumes nothing.
-use Rattle.scan.specs.Endings.{inOrder}
+use Rattle.judge.specs.Endings.{inOrder}
 use borrow.Author.Needs.{needs}
 use Rattle.scan.proofs.sums.in_order.Statement.{statement}
 use Rattle.scan.proofs.sums.in_order.Tie as tie

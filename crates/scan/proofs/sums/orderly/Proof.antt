@@ -1,6 +1,6 @@
 -- `scan::sums::orderly` is the test of the definition. Assumes nothing.
 use mathlib.Core.Path.{sym, _∙_}
-use Rattle.scan.specs.Verdict.{orderly}
+use Rattle.judge.specs.Verdict.{orderly}
 use borrow.Author.Needs.{needs}
 use Rattle.scan.proofs.sums.orderly.Statement.{statement}
 use Rattle.scan.proofs.sums.orderly.Tie as tie

@@ -5,7 +5,7 @@ use mathlib.Core.List.{map}
 use native.Mathlib.Omega.{arith}
 use borrow.Author.Needs.{needs}
 use lib.ListN.{length, take}
-use Rattle.scan.specs.Tally.{rowOf, addRows, noSum, Few}
+use Rattle.judge.specs.Tally.{rowOf, addRows, noSum, Few}
 use Rattle.scan.proofs.Laws.Gather.{rowsLeft, rows-start, rows-turn, rows-end, few-start, few-more}
 use Rattle.scan.proofs.sums.sum_rows.Statement.{statement}
 use Rattle.scan.proofs.sums.sum_rows.Tie as tie

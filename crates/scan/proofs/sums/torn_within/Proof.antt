@@ -1,6 +1,6 @@
 -- `scan::sums::torn_within` is the test of the definition. Assumes nothing.
 use mathlib.Core.Path.{sym, _∙_}
-use Rattle.scan.specs.Verdict.{tornWithin}
+use Rattle.judge.specs.Verdict.{tornWithin}
 use borrow.Author.Needs.{needs}
 use Rattle.scan.proofs.sums.torn_within.Statement.{statement}
 use Rattle.scan.proofs.sums.torn_within.Tie as tie

@@ -1,6 +1,6 @@
 -- `scan::sums::twin_within` is the test of the definition. Assumes nothing.
 use mathlib.Core.Path.{sym, _∙_}
-use Rattle.scan.specs.Verdict.{twinWithin}
+use Rattle.judge.specs.Verdict.{twinWithin}
 use borrow.Author.Needs.{needs}
 use Rattle.scan.proofs.sums.twin_within.Statement.{statement}
 use Rattle.scan.proofs.sums.twin_within.Tie as tie

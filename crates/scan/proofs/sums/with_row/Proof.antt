@@ -1,6 +1,6 @@
 -- `scan::sums::with_row` keeps all but the row. Assumes nothing.
 use mathlib.Core.Path.{refl}
-use Rattle.scan.specs.Tally.{rowOf}
+use Rattle.judge.specs.Tally.{rowOf}
 use Rattle.scan.proofs.sums.with_row.Statement.{statement}
 use Rattle.scan.proofs.sums.with_row.Tie as tie
 

@@ -1,0 +1,151 @@
+-- What a summary tells of a segment's header: the segment without its slots. The frame needs no more.
+use Prim.Native.Nat.{ℕ, zero, suc, _-_, _%_, max}
+use mathlib.Core.Path.{_≡_, refl, sym, ap, ap₂, _∙_}
+use mathlib.Core.Bool.{Bool, true, false, cond, _&&_, not}
+use mathlib.Core.List.{List, [], _∷_, map}
+use lib.ListN.{length, getD, take, set, List·getD-map}
+use lib.Dec.{eqb}
+use Rattle.model.specs.Lists.{all, count}
+use Rattle.model.specs.Header.{erasePending, compacted}
+use Rattle.model.specs.State.{Segment, blank, invalid, inUse, isInUse, isInvalid, isOwing, numberAfter, nextNumber, topIndex, nextIndex, usedCount, firstNumber, someInUse, numbersFrom, consecutive, noneOwing, othersBlank, nextBlanked, settled, topSettled}
+use Rattle.model.specs.Laws.Lists.{map-set}
+use Rattle.judge.specs.declared.SegmentState.{SegmentState}
+use Rattle.judge.specs.declared.SegmentState.the-variants.{Blank, Invalid, InUse, Owing}
+use Rattle.judge.specs.declared.Summary.{Summary}
+use Rattle.judge.specs.declared.Frame.{Frame}
+use Rattle.judge.specs.Cases.{frame}
+
+-- the segment that a state and a number stand for, its slots left out
+unfoldable pub bareOf : SegmentState → ℕ → Segment
+bareOf Blank n = blank
+bareOf Invalid n = invalid
+bareOf InUse n = inUse compacted n []
+bareOf Owing n = inUse erasePending n []
+
+unfoldable pub bare : Summary → Segment
+bare s = bareOf (s .state) (s .number .0)
+
+-- a segment as a summary shows it
+unfoldable pub outline : Segment → Segment
+outline blank = blank
+outline invalid = invalid
+outline (inUse st n ks) = inUse (cond (eqb st erasePending) erasePending compacted) n []
+
+-- ---- what the frame looks at is kept
+
+outline-number : (x : Segment) → numberAfter (outline x) ≡ numberAfter x
+unfolding outline numberAfter
+outline-number blank = refl
+outline-number invalid = refl
+outline-number (inUse st n ks) = refl
+
+outline-use : (x : Segment) → isInUse (outline x) ≡ isInUse x
+unfolding outline isInUse
+outline-use blank = refl
+outline-use invalid = refl
+outline-use (inUse st n ks) = refl
+
+outline-invalid : (x : Segment) → isInvalid (outline x) ≡ isInvalid x
+unfolding outline isInvalid
+outline-invalid blank = refl
+outline-invalid invalid = refl
+outline-invalid (inUse st n ks) = refl
+
+outline-owing : (x : Segment) → isOwing (outline x) ≡ isOwing x
+unfolding outline isOwing
+outline-owing blank = refl
+outline-owing invalid = refl
+outline-owing (inUse st n ks) = go (eqb st erasePending)
+  where
+    go : (t : Bool) → eqb (cond t erasePending compacted) erasePending ≡ t
+    go true = refl
+    go false = refl
+
+outline-settled : (x : Segment) → settled (outline x) ≡ outline (settled x)
+unfolding outline settled
+outline-settled blank = refl
+outline-settled invalid = refl
+outline-settled (inUse st n ks) = refl
+
+pub outline-get : (l : List Segment) (i : ℕ) → getD (map outline l) i blank ≡ outline (getD l i blank)
+unfolding outline
+outline-get l i = List·getD-map outline l i blank
+
+pub outline-next : (l : List Segment) → nextNumber (map outline l) ≡ nextNumber l
+unfolding nextNumber
+outline-next [] = refl
+outline-next (x ∷ l) = ap₂ (λ (a b : ℕ). max a b) (outline-number x) (outline-next l)
+
+count-map : {A : Type 0} (f : A → Bool) (g : A → A) → ((x : A) → f (g x) ≡ f x) → (l : List A) → count f (map g l) ≡ count f l
+unfolding count
+count-map f g h [] = refl
+count-map f g h (x ∷ l) = ap₂ (λ (t : Bool) (n : ℕ). cond t (suc n) n) (h x) (count-map f g h l)
+
+all-map : {A : Type 0} (f : A → Bool) (g : A → A) → ((x : A) → f (g x) ≡ f x) → (l : List A) → all f (map g l) ≡ all f l
+unfolding all
+all-map f g h [] = refl
+all-map f g h (x ∷ l) = ap₂ (λ (s t : Bool). s && t) (h x) (all-map f g h l)
+
+pub outline-used : (l : List Segment) → usedCount (map outline l) ≡ usedCount l
+unfolding usedCount
+outline-used l = count-map isInUse outline outline-use l
+
+outline-numbers : (N : ℕ) (l : List Segment) (u n : ℕ) → numbersFrom N (map outline l) u n ≡ numbersFrom N l u n
+unfolding numbersFrom
+outline-numbers N l zero n = refl
+outline-numbers N l (suc u) n = ap₂ (λ (a : ℕ) (t : Bool). eqb a (suc n) && t) (ap numberAfter (outline-get l (n % N)) ∙ outline-number (getD l (n % N) blank)) (outline-numbers N l u (suc n))
+
+pub outline-first : (l : List Segment) → firstNumber (map outline l) ≡ firstNumber l
+unfolding firstNumber
+outline-first l = rw (outline-next l, outline-used l)
+
+pub outline-frame : (N : ℕ) (l : List Segment) → frame N (map outline l) ≡ frame N l
+unfolding frame someInUse consecutive noneOwing othersBlank
+outline-frame N l = rw (
+  outline-used l,
+  outline-first l,
+  outline-numbers N l (usedCount l) (firstNumber l),
+  all-map (λ x. not (isOwing x)) outline (λ x. ap not (outline-owing x)) l,
+  all-map (λ x. not (isInvalid x)) outline (λ x. ap not (outline-invalid x)) l,
+)
+
+-- ---- the top, and the segment after it
+
+pub outline-top : (N : ℕ) (l : List Segment) → isOwing (getD (map outline l) (topIndex N (map outline l)) blank) ≡ isOwing (getD l (topIndex N l) blank)
+unfolding topIndex
+outline-top N l = rw (outline-next l, outline-get l ((nextNumber l - 1) % N)) (outline-owing (getD l ((nextNumber l - 1) % N) blank))
+
+pub outline-after : (N : ℕ) (l : List Segment) → isInvalid (getD (map outline l) (nextIndex N (map outline l)) blank) ≡ isInvalid (getD l (nextIndex N l) blank)
+unfolding nextIndex
+outline-after N l = rw (outline-next l, outline-get l (nextNumber l % N)) (outline-invalid (getD l (nextNumber l % N) blank))
+
+pub outline-after-use : (N : ℕ) (l : List Segment) → isInUse (getD (map outline l) (nextIndex N (map outline l)) blank) ≡ isInUse (getD l (nextIndex N l) blank)
+unfolding nextIndex
+outline-after-use N l = rw (outline-next l, outline-get l (nextNumber l % N)) (outline-use (getD l (nextNumber l % N) blank))
+
+pub outline-blanked : (N : ℕ) (l : List Segment) → nextBlanked N (map outline l) ≡ map outline (nextBlanked N l)
+unfolding nextBlanked nextIndex outline
+outline-blanked N l = rw (outline-next l) (sym (map-set outline l (nextNumber l % N) blank))
+
+pub outline-settled-top : (N : ℕ) (l : List Segment) → topSettled N (map outline l) ≡ map outline (topSettled N l)
+unfolding topSettled topIndex
+outline-settled-top N l = rw (outline-blanked N l, outline-next l, outline-get l ((nextNumber l - 1) % N), outline-settled (getD l ((nextNumber l - 1) % N) blank))
+    (sym (map-set outline (nextBlanked N l) ((nextNumber l - 1) % N) (settled (getD l ((nextNumber l - 1) % N) blank))))
+
+-- ---- of a table of summaries
+
+-- the segments that the first N summaries show
+unfoldable pub heads : ℕ → List Summary → List Segment
+heads N table = map bare (take N table)
+
+-- the state of a segment in use, by its status
+unfoldable pub stateSeen : ℕ → SegmentState
+stateSeen st = cond (eqb st erasePending) Owing InUse
+
+-- none owing, all that are not in use blank
+unfoldable pub allSettled : List Segment → Bool
+allSettled l = noneOwing l && othersBlank l
+
+-- the segments in use: the smallest number, how many, and whether conditions 1 to 4 hold
+unfoldable pub frameOf : ℕ → List Segment → Frame
+frameOf N l = record { first = firstNumber l; used = usedCount l; fine = frame N l }

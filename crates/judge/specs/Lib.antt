@@ -1,0 +1,14 @@
+pub mod Cases
+pub mod Endings
+pub mod Judged
+pub mod Ordered
+pub mod Ends
+pub mod Twins
+pub mod Bitmap
+pub mod BitLaws
+pub mod Rows
+pub mod Parts
+pub mod Heads
+pub mod Tally
+pub mod TallyLaws
+pub mod Verdict

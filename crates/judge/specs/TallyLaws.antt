@@ -1,0 +1,201 @@
+-- What the sums of rows say: the live slots, the compactions, the ending, and of the top its written slots and its last live block.
+use Prim.Native.Nat.{ℕ, zero, suc, _+_, _-_, _*_, _/_, _≤_, _<_}
+use mathlib.Core.Path.{_≡_, refl, sym, ap, ap₂, _∙_}
+use mathlib.Core.Bool.{Bool, true, false, cond, _||_, _&&_, not, false≢true, true≢false}
+use mathlib.Core.List.{List, [], _∷_, _++_, map, flatMap, flatten, append-nil, append-assoc}
+use native.Mathlib.Omega.{arith}
+use native.Mathlib.Decide.{ℕ-discrete}
+use lib.ListN.{length, replicate, length-set, length-replicate, length-append}
+use lib.Dec.{ltb, eqb}
+use borrow.Author.Tests.{eq-eqb, ne-eqb, lt-ltb, le-ltb}
+use Rattle.model.specs.Lists.{all, count}
+use Rattle.model.specs.Slot.{Slot, empty, torn, dead, wrong, live, isEmpty, isDead, kindOf, Entry, entryOf}
+use Rattle.model.specs.State.{entries, holds, filled}
+use Rattle.model.specs.Steps.{compactions, firstEmpty}
+use Rattle.model.specs.declared.BlockNumber.{BlockNumber}
+use Rattle.bridge.specs.Views.Slots.{noneDead, entries-append}
+use Rattle.judge.specs.declared.Ending.{Ending}
+use Rattle.judge.specs.declared.Ending.the-variants.{Full, Room, TornLast, TwinLast, Bad}
+use Rattle.judge.specs.declared.Row.{Row}
+use Rattle.judge.specs.declared.Sum.{Sum}
+use Rattle.judge.specs.Bitmap.{inBits, putBit}
+use Rattle.judge.specs.BitLaws.{in-same, in-other, in-none}
+use Rattle.judge.specs.Endings.{behind, turn, judge, ring}
+use Rattle.judge.specs.Rows.{Pass, pass, see, seeAll, noRow}
+use Rattle.judge.specs.Tally.{noneMet, tallies, addRow, addRows, noSum}
+use Rattle.model.specs.Laws.Lists.{none-count, some-count}
+use Rattle.model.specs.Laws.Tables.{holds-append}
+
+-- block numbers are not 0 and have 16 bits
+abbrev pub Narrow : List Slot → Type 0
+Narrow [] = Unit {0}
+Narrow (empty ∷ s) = Narrow s
+Narrow (torn ∷ s) = Narrow s
+Narrow (dead ∷ s) = Narrow s
+Narrow (wrong ∷ s) = Narrow s
+Narrow (live b c ∷ s) = ((0 < b) × (b < 65536)) × Narrow s
+
+abbrev pub NarrowRows : List (List Slot) → Type 0
+NarrowRows [] = Unit {0}
+NarrowRows (x ∷ r) = Narrow x × NarrowRows r
+
+-- the set of numbers met is that of the entries
+pub record Agree (s : List ℕ) (p : List Entry) : Type 0 where
+  pub long : length s ≡ 1024
+  pub same : (x : ℕ) → x < 65536 → inBits 64 s x ≡ holds x p
+
+pub agree-none : Agree noneMet []
+unfolding holds
+agree-none = record { long = length-replicate {A = ℕ} 1024 0; same = λ x h. in-none 64 1024 x }
+
+or-false : (t : Bool) → (t || false) ≡ t
+or-false true = refl
+or-false false = refl
+
+or-true : (t : Bool) → (t || true) ≡ true
+or-true true = refl
+or-true false = refl
+
+agree-put : (s : List ℕ) (p : List Entry) (e : Entry) → e .block < 65536 → Agree s p → Agree (putBit 64 s (e .block)) (p ++ (e ∷ []))
+unfolding putBit
+agree-put s p e h a = record {
+  long = length-set s _ _ ∙ a .long;
+  same = λ x k. elim (ℕ-discrete x (e .block)) [
+    | yes q ↦ rw (q, in-same 64 s (e .block) (omega (arith, a .long)), holds-append (e .block) p (e ∷ [])) (unfold holds in rw (eq-eqb (e .block) (e .block) refl) (sym (or-true (holds (e .block) p))))
+    | no q ↦ rw (in-other 64 s (e .block) x q, holds-append x p (e ∷ []), a .same x k) (unfold holds in rw (ne-eqb x (e .block) q) (sym (or-false (holds x p))))
+  ];
+}
+
+agree-same : {s : List ℕ} {p : List Entry} → Agree s p → Agree s (p ++ [])
+agree-same {s} {p} a = rw (append-nil p) a
+
+-- ---- one row
+
+-- the block of the last live slot
+unfoldable pub lastLive : ℕ → List Slot → ℕ
+lastLive b [] = b
+lastLive b (empty ∷ s) = lastLive b s
+lastLive b (torn ∷ s) = lastLive b s
+lastLive b (dead ∷ s) = lastLive b s
+lastLive b (wrong ∷ s) = lastLive b s
+lastLive b (live a c ∷ s) = lastLive a s
+
+unfoldable pub isWritten : Slot → Bool
+isWritten k = not (isEmpty k)
+
+live-after : (x : List Slot) (r : Row) (s : List ℕ) → seeAll (map kindOf x) (pass r s) .row .live ≡ r .live + length (entries x)
+unfolding seeAll see kindOf entries flatMap entryOf
+live-after [] r s = omega arith
+live-after (empty ∷ x) r s = live-after x _ s
+live-after (torn ∷ x) r s = live-after x _ s
+live-after (dead ∷ x) r s = live-after x _ s
+live-after (wrong ∷ x) r s = live-after x _ s
+live-after (live b c ∷ x) r s = live-after x _ (putBit 64 s b) ∙ omega arith
+
+dead-after : (x : List Slot) (r : Row) (s : List ℕ) → seeAll (map kindOf x) (pass r s) .row .dead ≡ r .dead + count isDead x
+unfolding seeAll see kindOf count isDead
+dead-after [] r s = omega arith
+dead-after (empty ∷ x) r s = dead-after x _ s
+dead-after (torn ∷ x) r s = dead-after x _ s
+dead-after (dead ∷ x) r s = dead-after x _ s ∙ omega arith
+dead-after (wrong ∷ x) r s = dead-after x _ s
+dead-after (live b c ∷ x) r s = dead-after x _ (putBit 64 s b)
+
+written-after : (x : List Slot) (r : Row) (s : List ℕ) → seeAll (map kindOf x) (pass r s) .row .written ≡ r .written + count isWritten x
+unfolding seeAll see kindOf count isWritten isEmpty
+written-after [] r s = omega arith
+written-after (empty ∷ x) r s = written-after x _ s
+written-after (torn ∷ x) r s = written-after x _ s ∙ omega arith
+written-after (dead ∷ x) r s = written-after x _ s ∙ omega arith
+written-after (wrong ∷ x) r s = written-after x _ s ∙ omega arith
+written-after (live b c ∷ x) r s = written-after x _ (putBit 64 s b) ∙ omega arith
+
+block-after : (x : List Slot) (r : Row) (s : List ℕ) → seeAll (map kindOf x) (pass r s) .row .block .0 ≡ lastLive (r .block .0) x
+unfolding seeAll see kindOf lastLive
+block-after [] r s = refl
+block-after (empty ∷ x) r s = block-after x _ s
+block-after (torn ∷ x) r s = block-after x _ s
+block-after (dead ∷ x) r s = block-after x _ s
+block-after (wrong ∷ x) r s = block-after x _ s
+block-after (live b c ∷ x) r s = block-after x _ (putBit 64 s b)
+
+seen-after : (x : List Slot) (r : Row) (s : List ℕ) (p : List Entry) → Narrow x → Agree s p → Agree (seeAll (map kindOf x) (pass r s) .seen) (p ++ entries x)
+unfolding seeAll see kindOf entries flatMap entryOf
+seen-after [] r s p n a = agree-same a
+seen-after (empty ∷ x) r s p n a = seen-after x _ s p n a
+seen-after (torn ∷ x) r s p n a = seen-after x _ s p n a
+seen-after (dead ∷ x) r s p n a = seen-after x _ s p n a
+seen-after (wrong ∷ x) r s p n a = seen-after x _ s p n a
+seen-after (live b c ∷ x) r s p n a = let e : Entry = record { block = b; contents = c } in
+    rw (← (append-assoc p (e ∷ []) (flatMap entryOf x))) (seen-after x _ (putBit 64 s b) (p ++ (e ∷ [])) (n .1) (agree-put s p e (n .0 .1) a))
+
+ending-after : (x : List Slot) (r : Row) (s : List ℕ) (p : List Entry) → Narrow x → Agree s p → seeAll (map kindOf x) (pass r s) .row .ending ≡ judge (r .ending) p x
+unfolding seeAll see kindOf judge turn entryOf
+ending-after [] r s p n a = refl
+ending-after (empty ∷ x) r s p n a = ending-after x _ s (p ++ []) n (agree-same a)
+ending-after (torn ∷ x) r s p n a = ending-after x _ s (p ++ []) n (agree-same a)
+ending-after (dead ∷ x) r s p n a = ending-after x _ s (p ++ []) n (agree-same a)
+ending-after (wrong ∷ x) r s p n a = ending-after x _ s (p ++ []) n (agree-same a)
+ending-after (live b c ∷ x) r s p n a = let e : Entry = record { block = b; contents = c } in
+    ending-after x _ (putBit 64 s b) (p ++ (e ∷ [])) (n .1) (agree-put s p e (n .0 .1) a)
+    ∙ ap (λ (t : Bool). judge (behind (r .ending) (cond t TwinLast Full)) (p ++ (e ∷ [])) x) (a .same b (n .0 .1))
+
+-- ---- the rows added up
+
+pub sum-live : (rows : List (List Slot)) (s : List ℕ) (f : Sum) → addRows (tallies rows s) f .live ≡ f .live + length (entries (flatten rows))
+unfolding addRows addRow tallies noRow flatten
+sum-live [] s f = unfold entries flatMap in omega arith
+sum-live (x ∷ rows) s f = sum-live rows (seeAll (map kindOf x) (pass noRow s) .seen) _
+    ∙ omega (arith, live-after x noRow s, length-append (entries x) (entries (flatten rows)), ap length (entries-append x (flatten rows)))
+
+pub sum-ending : (rows : List (List Slot)) (s : List ℕ) (p : List Entry) (f : Sum) → NarrowRows rows → Agree s p → addRows (tallies rows s) f .ending ≡ ring (f .ending) p rows
+unfolding addRows addRow tallies noRow ring
+sum-ending [] s p f n a = refl
+sum-ending (x ∷ rows) s p f n a = sum-ending rows (seeAll (map kindOf x) (pass noRow s) .seen) (p ++ entries x) _ (n .1) (seen-after x noRow s p (n .0) a)
+    ∙ ap (λ (e : Ending). ring (behind (f .ending) e) (p ++ entries x) rows) (ending-after x noRow s p (n .0) a)
+
+sum-counted : (rows : List (List Slot)) (s : List ℕ) (f : Sum) → f .dead ≡ true → addRows (tallies rows s) f .compactions ≡ f .compactions
+unfolding addRows addRow tallies
+sum-counted [] s f h = refl
+sum-counted (x ∷ rows) s f h = sum-counted rows (seeAll (map kindOf x) (pass noRow s) .seen) _ (rw h) ∙ rw h
+
+row-dead : (x : List Slot) (s : List ℕ) → seeAll (map kindOf x) (pass noRow s) .row .dead ≡ count isDead x
+unfolding noRow
+row-dead x s = dead-after x noRow s ∙ omega arith
+
+add-marks : (f : Sum) (r : Row) → f .dead ≡ false → addRow f r .dead ≡ ltb 0 (r .dead)
+unfolding addRow
+add-marks f r h = rw h
+
+add-one-more : (f : Sum) (r : Row) → f .dead ≡ false → addRow f r .compactions ≡ f .compactions + 1
+unfolding addRow
+add-one-more f r h = rw h
+
+pub sum-compactions : (rows : List (List Slot)) (s : List ℕ) (f : Sum) → f .dead ≡ false → addRows (tallies rows s) f .compactions ≡ f .compactions + compactions rows
+unfolding compactions
+sum-compactions [] s f h = unfold addRows tallies in omega arith
+sum-compactions (x ∷ rows) s f h = go (noneDead x) refl (λ q. sum-compactions rows (seeAll (map kindOf x) (pass noRow s) .seen) (addRow f (seeAll (map kindOf x) (pass noRow s) .row)) q)
+  where
+    r : Row
+    r = seeAll (map kindOf x) (pass noRow s) .row
+
+    first : addRows (tallies (x ∷ rows) s) f ≡ addRows (tallies rows (seeAll (map kindOf x) (pass noRow s) .seen)) (addRow f r)
+    first = unfold addRows tallies in refl
+
+    one : addRow f r .compactions ≡ f .compactions + 1
+    one = add-one-more f r h
+
+    marks : addRow f r .dead ≡ ltb 0 (count isDead x)
+    marks = add-marks f r h ∙ ap (ltb 0) (row-dead x s)
+
+    go : (t : Bool) → noneDead x ≡ t → (addRow f r .dead ≡ false → addRows (tallies rows (seeAll (map kindOf x) (pass noRow s) .seen)) (addRow f r) .compactions ≡ addRow f r .compactions + compactions rows)
+        → addRows (tallies (x ∷ rows) s) f .compactions ≡ f .compactions + cond t (suc (compactions rows)) 1
+    go true e ih = ap (λ (g : Sum). g .compactions) first ∙ (ih (marks ∙ le-ltb 0 (count isDead x) (omega (arith, none-count isDead x e))) ∙ omega (arith, one))
+    go false e ih = ap (λ (g : Sum). g .compactions) first ∙ (sum-counted rows (seeAll (map kindOf x) (pass noRow s) .seen) (addRow f r) (marks ∙ lt-ltb 0 (count isDead x) (some-count isDead x e)) ∙ one)
+
+-- the last row is the top
+pub sum-top : (l : List (List Slot)) (t : List Slot) (s : List ℕ) (f : Sum)
+    → (addRows (tallies (l ++ (t ∷ [])) s) f .written ≡ count isWritten t) × (addRows (tallies (l ++ (t ∷ [])) s) f .block .0 ≡ lastLive 0 t)
+unfolding addRows addRow tallies
+sum-top [] t s f = (written-after t noRow s ∙ (unfold noRow in omega arith), block-after t noRow s ∙ (unfold noRow in refl))
+sum-top (x ∷ l) t s f = sum-top l t (seeAll (map kindOf x) (pass noRow s) .seen) _

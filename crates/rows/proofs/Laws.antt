@@ -1,0 +1,2 @@
+pub mod Enums
+pub mod Rows

@@ -1,0 +1,94 @@
+-- A segment seen by its header, and a table of them filled.
+use Prim.Native.Nat.{ℕ, zero, suc, _+_, _-_, _*_, _≤_, _<_}
+use mathlib.Core.Path.{_≡_, refl, sym, ap, ap₂, _∙_}
+use mathlib.Core.Bool.{Bool, true, false, cond}
+use mathlib.Core.List.{List, [], _∷_, _++_, map}
+use native.Mathlib.Omega.{arith}
+use native.Mathlib.Nat.{mul-le-mul-right, suc-mul}
+use native.Mathlib.Numerals.{add-one}
+use lib.ListN.{length, getD, take, drop, set}
+use lib.Seq.{take-suc, take-suc-set, take-all}
+use lib.Dec.{eqb}
+use Rattle.model.specs.Chip.{Image, Page}
+use Rattle.model.specs.Header.{erasePending, compacted, headerStatus, headerNumber, headerInUse, isBlank}
+use Rattle.model.specs.Slot.{Slot}
+use Rattle.model.specs.State.{Segment, blank, invalid, inUse, segmentsOf}
+use Rattle.model.specs.declared.SegmentNumber.{SegmentNumber}
+use Rattle.model.specs.Laws.Segments.{segments-length}
+use Rattle.header.specs.declared.HeaderSeen.{HeaderSeen}
+use Rattle.header.specs.declared.HeaderSeen.the-variants.{InUse, NotInUse}
+use Rattle.header.specs.Parts.{headerSeen}
+use Rattle.judge.specs.declared.SegmentState.the-variants.{Blank, Invalid, Owing}
+use Rattle.judge.specs.declared.Summary.{Summary}
+use Rattle.judge.specs.Parts.{headerOffset, slotsOffset, segmentSeen, segment-seen}
+use Rattle.judge.specs.Rows.{slotsAt}
+use Rattle.judge.specs.Heads.{bareOf, bare, outline, heads, stateSeen}
+
+-- a segment lies inside the image
+pub segment-inside : (N B i : ℕ) → i < N → i * (B + 1) * 256 + (B + 1) * 256 ≤ N * (B + 1) * 256
+segment-inside N B i h = omega (arith, suc-mul i (B + 1), mul-le-mul-right (B + 1) h)
+
+module _ (N B i : ℕ) (h : Page) (t : Bool) (ks : List Slot) where
+  outline-used : (st : ℕ) (n : SegmentNumber) → headerSeen N B i h ≡ InUse st n → outline (segmentSeen N B i h t ks) ≡ bareOf (stateSeen st) (n .0)
+  unfolding headerSeen segmentSeen outline stateSeen
+  outline-used st n e = go (headerInUse N B i h) e
+    where
+      state : (b : Bool) (m : ℕ) → inUse (cond b erasePending compacted) m [] ≡ bareOf (cond b Owing Rattle.judge.specs.declared.SegmentState.the-variants.InUse) m
+      state true m = unfold bareOf in refl
+      state false m = unfold bareOf in refl
+
+      go : (b : Bool) → cond b (InUse (headerStatus h) (record { 0 = headerNumber h })) NotInUse ≡ InUse st n
+          → outline (cond b (inUse (headerStatus h) (headerNumber h) ks) (cond t blank invalid)) ≡ bareOf (cond (eqb st erasePending) Owing Rattle.judge.specs.declared.SegmentState.the-variants.InUse) (n .0)
+      go true q =
+          let a : headerStatus h ≡ st = cc in
+          let b : _≡_ {A = SegmentNumber} (record { 0 = headerNumber h }) n = cc in
+          let m : headerNumber h ≡ n .0 = ap (λ (x : SegmentNumber). x .0) b in
+          rw (a, m) (state (eqb st erasePending) (n .0))
+      go false q = absurd (let z : _≡_ {A = ℕ} 0 1 = cc in omega arith)
+
+  outline-unused : headerSeen N B i h ≡ NotInUse → outline (segmentSeen N B i h t ks) ≡ cond t blank invalid
+  unfolding headerSeen segmentSeen outline
+  outline-unused e = go (headerInUse N B i h) e
+    where
+      same : (b : Bool) → outline (cond b blank invalid) ≡ cond b blank invalid
+      same true = refl
+      same false = refl
+
+      go : (b : Bool) → cond b (InUse (headerStatus h) (record { 0 = headerNumber h })) NotInUse ≡ NotInUse
+          → outline (cond b (inUse (headerStatus h) (headerNumber h) ks) (cond t blank invalid)) ≡ cond t blank invalid
+      go true q = absurd (let z : _≡_ {A = ℕ} 0 1 = cc in omega arith)
+      go false q = same t
+
+module _ (N B i : ℕ) (s : Image) (h : i < N) where
+  -- the header page, and the whole segment, as parts of the image
+  page-is : take (i * (B + 1) * 256 + 256 - i * (B + 1) * 256) (drop (i * (B + 1) * 256) s) ≡ take 256 (drop (headerOffset B i) s)
+  page-is = let e : i * (B + 1) * 256 + 256 - i * (B + 1) * 256 ≡ 256 = omega arith in rw e
+
+  whole-is : take (i * (B + 1) * 256 + (B + 1) * 256 - i * (B + 1) * 256) (drop (i * (B + 1) * 256) s) ≡ take ((B + 1) * 256) (drop (headerOffset B i) s)
+  whole-is = let e : i * (B + 1) * 256 + (B + 1) * 256 - i * (B + 1) * 256 ≡ (B + 1) * 256 = omega arith in rw e
+
+  pub seen-in-use : (r : HeaderSeen) (st : ℕ) (n : SegmentNumber) → r ≡ headerSeen N B i (take (i * (B + 1) * 256 + 256 - i * (B + 1) * 256) (drop (i * (B + 1) * 256) s)) → r ≡ InUse st n
+      → bareOf (stateSeen st) (n .0) ≡ outline (getD (segmentsOf N B s) i blank)
+  seen-in-use r st n e q = sym (ap outline (segment-seen N B i s h) ∙ outline-used N B i (take 256 (drop (headerOffset B i) s)) (isBlank (take ((B + 1) * 256) (drop (headerOffset B i) s))) (slotsAt s (slotsOffset B i) B) st n
+      (sym (e ∙ ap (headerSeen N B i) page-is) ∙ q))
+
+  pub seen-unused : (r : HeaderSeen) (t : Bool) → r ≡ headerSeen N B i (take (i * (B + 1) * 256 + 256 - i * (B + 1) * 256) (drop (i * (B + 1) * 256) s)) → r ≡ NotInUse
+      → t ≡ isBlank (take (i * (B + 1) * 256 + (B + 1) * 256 - i * (B + 1) * 256) (drop (i * (B + 1) * 256) s)) → cond t blank invalid ≡ outline (getD (segmentsOf N B s) i blank)
+  seen-unused r t e q f = ap (λ (x : Bool). cond x blank invalid) (f ∙ ap isBlank whole-is)
+      ∙ sym (ap outline (segment-seen N B i s h) ∙ outline-unused N B i (take 256 (drop (headerOffset B i) s)) (isBlank (take ((B + 1) * 256) (drop (headerOffset B i) s))) (slotsAt s (slotsOffset B i) B)
+      (sym (e ∙ ap (headerSeen N B i) page-is) ∙ q))
+
+-- ---- a table filled
+
+map-append : {A C : Type 0} (f : A → C) (x y : List A) → map f (x ++ y) ≡ map f x ++ map f y
+map-append f [] y = refl
+map-append {C = C} f (a ∷ x) y = ap {B = List C} (λ z. f a ∷ z) (map-append f x y)
+
+module _ (l : List Segment) (table : List Summary) (i : ℕ) where
+  pub filled-turn : (v : Summary) → i < length table → i < length l → bare v ≡ outline (getD l i blank) → heads i table ≡ map outline (take i l) → heads (i + 1) (set table i v) ≡ map outline (take (i + 1) l)
+  unfolding heads
+  filled-turn v h k e q =
+      rw (add-one i, take-suc-set table i v h, take-suc l i blank k, map-append bare (take i table) (v ∷ []), map-append outline (take i l) (getD l i blank ∷ []), q, e)
+
+pub filled-end : (N B i : ℕ) (s : Image) (table : List Summary) → i ≡ N → heads i table ≡ map outline (take i (segmentsOf N B s)) → heads N table ≡ map outline (segmentsOf N B s)
+filled-end N B i s table e q = ap (λ (k : ℕ). heads k table) (sym e) ∙ (q ∙ ap (map outline) (take-all i (segmentsOf N B s) (omega (arith, segments-length N B s))))
