@@ -21,7 +21,6 @@ pub mod CopyOut
 pub mod Ring
 pub mod Clean
 pub mod View
-pub mod ImageView
 pub mod Exclusive
 -- the bench table
 pub mod Bench
