@@ -1,16 +1,17 @@
--- How long a step list can be: so short that a count of steps fits the packed answers of the library's exports with room to spare.
+-- How long step lists are, and how long they can be: so short that a count of steps fits the packed answers of the library's exports with room to spare.
 use Prim.Native.Nat.{ℕ, zero, suc, _+_, _-_, _*_, _%_, _≤_, _<_}
-use mathlib.Core.Path.{_≡_, refl, sym, ap, ap₂, _∙_, subst}
+use mathlib.Core.Path.{_≡_, refl, ap, _∙_}
 use mathlib.Core.Bool.{Bool, true, false, cond, _||_}
 use mathlib.Core.List.{List, [], _∷_, _++_, map, flatMap, flatten}
 use native.Mathlib.Omega.{arith}
-use native.Mathlib.Nat.{mul-le-mul-right, mul-le-mul-left, mul-le-mul, mod-lt}
+use native.Mathlib.Nat.{mul-le-mul, mod-lt}
 use native.Mathlib.Decide.{decLt}
 use lib.ListN.{length, getD, take, drop, replicate, length-append, length-take, length-drop, length-replicate, List·getD-eq-default}
+use lib.Seq.{take-at}
 use lib.Dec.{ltb, eqb}
 use borrow.Author.Tests.{eqb-true}
-use Rattle.model.specs.Chip.{Image, Page, Step, program, erase, mostSegments, mostSlots, rightSize}
-use Rattle.model.specs.Header.{headerPage, headerStatus, headerNumber, headerInUse, allBlank}
+use Rattle.model.specs.Chip.{Image, Page, Step, program, erase, erased, mostSegments, mostSlots, rightSize}
+use Rattle.model.specs.Header.{numberBytes, inverted, headerPage, headerStatus, headerNumber, headerInUse, allBlank}
 use Rattle.model.specs.Slot.{Slot, empty, torn, dead, wrong, live, slotPage, slotOf, mostContents, Entry, entryOf, holding}
 use Rattle.model.specs.State.{Segment, blank, invalid, inUse, isInUse, isInvalid, slotsIn, segmentOf, segmentsOf, nextNumber, nextIndex, usedCount, firstNumber, slotsFrom, View, viewOf, entries, entriesIn, holds, lastSlot, Place, placeOf, placeFrom, view, older, Exception, caseA, caseB, caseC, caseD, State, clean, unfinished, damaged, stateOf}
 use Rattle.model.specs.Steps.{topRow, topNumber, firstEmpty, programs, programPart, onPage, headerAt, slotAt, writeSlot, markDead, markPlace, openSegment, copyEntries, copyOut, settle, compact, copied, Room, hasRoom, openNext, compactOldest, compactUntilRoom, roomFor, markOld, writeAtTop, putSteps, deleteSteps, eraseFirst, formatSteps, eraseUnlessBlank, mendSteps, recoverSteps}
@@ -26,7 +27,7 @@ use Rattle.bridge.specs.Views.Places.{first-live}
 
 -- ---- steps within a page
 
-page-length : (p : ℕ) (xs : List Step) → length (onPage p xs) ≡ length xs
+pub page-length : (p : ℕ) (xs : List Step) → length (onPage p xs) ≡ length xs
 unfolding onPage
 page-length p [] = refl
 page-length p (program at v ∷ xs) = ap suc (page-length p xs)
@@ -41,10 +42,23 @@ part-length : (p : Page) (at k : ℕ) → length (programPart p at k) ≤ k
 unfolding programPart
 part-length p at k = omega (arith, programs-length at (take k (drop at p)), length-take k (drop at p))
 
-write-length : (b : ℕ) (c : List ℕ) → length (writeSlot b c) ≤ 5 + length c
-unfolding writeSlot
-write-length b c = let p = slotPage b c in
-    omega (arith, length-append (programPart p 1 3) (programPart p 8 (length c) ++ (program 0 0x3F ∷ [])), length-append (programPart p 8 (length c)) (program 0 0x3F ∷ []), part-length p 1 3, part-length p 8 (length c))
+pub write-length : (b : ℕ) (c : List ℕ) → length (writeSlot b c) ≡ 5 + length c
+unfolding writeSlot slotPage programPart programs
+write-length b c =
+    let contents : take (length c) (c ++ erased (mostContents - length c)) ≡ c = take-at c (erased (mostContents - length c)) (length c) refl in
+    rw contents (omega (arith, length-append (programs 8 c) (program 0 0x3F ∷ []), programs-length 8 c))
+
+pub mark-length : (p : ℕ) → length (onPage p markDead) ≡ 1
+unfolding markDead
+mark-length p = page-length p markDead
+
+pub open-length : (N B n : ℕ) → length (openSegment N B n) ≡ 17
+unfolding openSegment headerPage numberBytes inverted programPart programs
+open-length N B n = page-length _ _ ∙ refl
+
+pub settle-length : (N B n : ℕ) → length (settle N B n) ≡ 1
+unfolding settle
+settle-length N B n = page-length _ _
 
 -- ---- rows of at most B slots, with short contents
 
@@ -63,22 +77,8 @@ copy-length N B n j (e ∷ es) s =
     let xs = onPage (slotAt N B n j) (writeSlot (e .block) (e .contents)) in
     omega (arith, length-append xs (copyEntries N B n (suc j) es), page-length (slotAt N B n j) (writeSlot (e .block) (e .contents)), write-length (e .block) (e .contents), s .0, copy-length N B n (suc j) es (s .1))
 
-open-length : (N B n : ℕ) → length (openSegment N B n) ≤ 17
-unfolding openSegment
-open-length N B n = let h = headerPage N B 0x3F n 255 in
-    omega (
-      arith,
-      page-length (headerAt N B n) (program 5 0x7F ∷ (programPart h 0 5 ++ (programPart h 6 2 ++ (programPart h 8 8 ++ (program 5 0x3F ∷ []))))),
-      length-append (programPart h 0 5) (programPart h 6 2 ++ (programPart h 8 8 ++ (program 5 0x3F ∷ []))),
-      length-append (programPart h 6 2) (programPart h 8 8 ++ (program 5 0x3F ∷ [])),
-      length-append (programPart h 8 8) (program 5 0x3F ∷ []),
-      part-length h 0 5,
-      part-length h 6 2,
-      part-length h 8 8,
-    )
-
 compact-length : (N B o n : ℕ) (es : List Entry) → Short es → length (compact N B o n es) ≤ 20 + 253 * length es
-unfolding compact copyOut settle
+unfolding compact copyOut
 compact-length N B o n es s =
     let h = headerPage N B 0x9F n (o % N) in
     let first = program 5 0xDF ∷ (programPart h 0 5 ++ (programPart h 6 2 ++ programPart h 16 1)) in
@@ -86,7 +86,7 @@ compact-length N B o n es s =
     let a = onPage (headerAt N B n) first in
     let b = copyEntries N B n 0 es in
     let c = onPage (headerAt N B n) last in
-    let d = erase (o % N) ∷ onPage (headerAt N B n) (program 5 0x8F ∷ []) in
+    let d = erase (o % N) ∷ settle N B n in
     omega (
       arith,
       length-append (a ++ (b ++ c)) d,
@@ -94,7 +94,7 @@ compact-length N B o n es s =
       length-append b c,
       page-length (headerAt N B n) first,
       page-length (headerAt N B n) last,
-      page-length (headerAt N B n) (program 5 0x8F ∷ []),
+      settle-length N B n,
       length-append (programPart h 0 5) (programPart h 6 2 ++ programPart h 16 1),
       length-append (programPart h 6 2) (programPart h 16 1),
       length-append (programPart h 8 8) (program 5 0x9F ∷ []),
@@ -218,9 +218,9 @@ room-length N B v r = go (hasRoom v) (ltb (length (v .slots)) (N - 1))
 
 -- ---- the requests
 
-mark-length : (N B : ℕ) (p : Place) → length (markPlace N B p) ≡ 1
-unfolding markPlace markDead
-mark-length N B p = page-length (slotAt N B (p .number) (p .slot)) (program 0 0xDF ∷ [])
+place-length : (N B : ℕ) (p : Place) → length (markPlace N B p) ≡ 1
+unfolding markPlace
+place-length N B p = mark-length (slotAt N B (p .number) (p .slot))
 
 put-length : (N B b : ℕ) (c : List ℕ) (v : View) → RowsOk B (v .slots) → length c ≤ 248 → length (putSteps N B b c v) ≤ 271 + (N - 1) * most B
 unfolding putSteps writeAtTop markOld
@@ -232,7 +232,7 @@ put-length N B b c v r h =
     omega (arith, length-append (roomFor N B v .steps) (write ++ old), length-append write old, page-length place (writeSlot b c), write-length b c, room-length N B v r, last (holds b (entriesIn w)) (placeOf b w))
   where
     last : (t : Bool) (p : Place) → length (cond t (markPlace N B p) []) ≤ 1
-    last true p = omega (arith, mark-length N B p)
+    last true p = omega (arith, place-length N B p)
     last false p = omega arith
 
 erase-length : (k : ℕ) → length (eraseFirst k) ≡ k
@@ -241,23 +241,23 @@ erase-length zero = refl
 erase-length (suc k) = length-append (eraseFirst k) (erase k ∷ []) ∙ omega (arith, erase-length k)
 
 mend-length : (N B : ℕ) (l : List Segment) (x : Exception) → length (mendSteps N B l x) ≤ 2
-unfolding mendSteps settle eraseUnlessBlank
+unfolding mendSteps eraseUnlessBlank
 mend-length N B l caseA = omega arith
 mend-length N B l caseB =
     let i = nextIndex N l in
     let x = getD l i blank in
     omega (
       arith,
-      length-append (cond (isInUse x || isInvalid x) (erase i ∷ []) []) (onPage (headerAt N B (nextNumber l - 1)) (program 5 0x8F ∷ [])),
-      page-length (headerAt N B (nextNumber l - 1)) (program 5 0x8F ∷ []),
+      length-append (cond (isInUse x || isInvalid x) (erase i ∷ []) []) (settle N B (nextNumber l - 1)),
+      settle-length N B (nextNumber l - 1),
       first (isInUse x || isInvalid x) i,
     )
   where
     first : (t : Bool) (i : ℕ) → length (cond t (erase i ∷ []) []) ≤ 1
     first true i = omega arith
     first false i = omega arith
-mend-length N B l caseC = omega (arith, mark-length N B (record { number = nextNumber l - 1; slot = lastSlot N l }))
-mend-length N B l caseD = omega (arith, mark-length N B (older N l))
+mend-length N B l caseC = omega (arith, place-length N B (record { number = nextNumber l - 1; slot = lastSlot N l }))
+mend-length N B l caseD = omega (arith, place-length N B (older N l))
 
 recover-length : (N B : ℕ) (l : List Segment) (st : State) → length (recoverSteps N B l st) ≤ 2
 unfolding recoverSteps
@@ -283,7 +283,7 @@ module _ (N B : ℕ) (s : Image) (z : rightSize N B s ≡ true) where
   accepted-length (put b c) e =
       let l = segmentsOf N B s in
       omega (arith, room-bound, put-length N B b c (viewOf N l) (image-rows N B s (usedCount l) (firstNumber l)) (put-passed N B s b c (accepted N B s (put b c) e .1) .short))
-  accepted-length (delete b) e = omega (arith, mark-length N B (placeOf b (viewOf N (segmentsOf N B s))))
+  accepted-length (delete b) e = omega (arith, place-length N B (placeOf b (viewOf N (segmentsOf N B s))))
   accepted-length (read b) e = omega arith
   accepted-length (readOr b f) e = omega arith
   accepted-length recover e = omega (arith, recover-length N B (segmentsOf N B s) (stateOf N B (segmentsOf N B s)))

@@ -4,6 +4,7 @@ pub mod Views
 pub mod Held
 pub mod Done
 pub mod Accepted
+pub mod Refusals
 pub mod Allowance
 pub mod Requests
 pub mod TimesDone

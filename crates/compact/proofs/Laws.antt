@@ -19,13 +19,12 @@ use Rattle.model.specs.Slot.{mostContents, slotPage, Slot, empty, torn, dead, w
 use Rattle.model.specs.State.{entries}
 use Rattle.model.specs.Steps.{onPage, headerAt, slotAt, writeSlot, copyEntries, settle}
 use Rattle.model.specs.Laws.Chunk.{chunk-part}
-use Rattle.model.specs.Laws.Chip.{run-length}
 use Rattle.model.specs.Laws.Pages.{InPage}
 use Rattle.model.specs.Laws.Segments.{parts, partOf, part-page, part-size, page-in, Only, only-run, InSegment, page-in-segment}
 use Rattle.model.specs.Laws.HeaderPage.{compactionHeader, compaction-in-page}
 use Rattle.model.specs.Laws.SlotPage.{live-facts, write-in-page}
 use Rattle.flash.specs.Ran.{Ran, Programmed}
-use Rattle.flash.proofs.Laws.{_then_, ran-none, ran-lent}
+use Rattle.flash.proofs.Laws.{_then_, ran-none, ran-length, ran-lent}
 use Rattle.flash.specs.Pages.{OnPageAt, Sized}
 use Rattle.header.specs.Parts.{beginCompaction, finishCopy}
 use Rattle.slot.proofs.Laws.Writes.{write-within}
@@ -101,9 +100,6 @@ pages-kept N B i t {xs} {n} {r} {s} {u} h a w d =
     let o : Only N B t s (run B (take n xs) s) = only-run N B t (take n xs) s h (in-segment-take B t n xs w) in
     ap (λ (y : Image). partOf N B i y) (d .image) ∙ ap (λ (y : List (List Page)). getD y i []) o ∙ getD-set-other (parts N B s) t i (partOf N B t (run B (take n xs) s)) [] a
 
-pub ran-length : {xs : List Step} {B n r : ℕ} {s u : Image} → Ran xs B n r s u → length u ≡ length s
-ran-length {xs} {B} {n} {r} {s} d = ap length (d .image) ∙ run-length B (take n xs) s
-
 -- ---- the slots of the source, one after the other
 
 -- what the slots from a place on hold
@@ -128,11 +124,8 @@ slot-read N B i j s at h k e =
     let g : at ≡ (i * (B + 1) + suc j) * 256 = omega arith in
     rw (f, g) (sym (part-page N B i (suc j) s h (omega arith) ∙ chunk-part 256 (N * (B + 1)) (i * (B + 1) + suc j) s (page-in N B i (suc j) h (omega arith))))
 
-pub segment-inside : (N B i : ℕ) → i < N → (i * (B + 1) + (B + 1)) * 256 ≤ N * (B + 1) * 256
-segment-inside N B i h = omega (arith, mul-le-mul-right (B + 1) h, suc-mul i (B + 1))
-
 pub slots-inside : (N B i : ℕ) → i < N → firstSlot B i * 256 + B * 256 ≤ N * (B + 1) * 256
-slots-inside N B i h = omega (arith, segment-inside N B i h)
+slots-inside N B i h = omega (arith, mul-le-mul-right (B + 1) h, suc-mul i (B + 1))
 
 -- ---- the loop that copies
 

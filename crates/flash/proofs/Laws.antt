@@ -13,7 +13,7 @@ use borrow.Author.Tests.{eq-eqb, ne-eqb, le-leb}
 use Rattle.model.specs.Chip.{Image, Step, program, erase, clear, erased, withSegment, step, run, runFirst}
 use Rattle.model.specs.Header.{isBlank}
 use Rattle.model.specs.Steps.{programs, onPage}
-use Rattle.model.specs.Laws.Chip.{step-length, first-append}
+use Rattle.model.specs.Laws.Chip.{step-length, run-length, first-append}
 use Rattle.flash.specs.Ran.{Ran, Programmed, shifted, Within}
 
 -- ---- lists of steps
@@ -35,6 +35,18 @@ ran-one x B (suc (suc n)) s h = record { image = refl; rest = refl }
 pub ran-spent : (xs : List Step) (B n : ℕ) (s : Image) → n ≡ 0 → Ran xs B n 0 s s
 unfolding run
 ran-spent xs B n s h = record { image = rw h; rest = omega arith }
+
+-- the budget does not grow
+pub ran-left : {xs : List Step} {B n m : ℕ} {s t : Image} → Ran xs B n m s t → m ≤ n
+ran-left d = omega (arith, d .rest)
+
+-- what is left of a budget says that all was done
+pub whole-run : {xs : List Step} {B n m : ℕ} {s t : Image} → Ran xs B n m s t → 0 < m → t ≡ run B xs s
+whole-run {xs} {B} {n} {m} {s} {t} d h = d .image ∙ ap (λ (y : List Step). run B y s) (take-all n xs (omega (arith, d .rest)))
+
+-- an image keeps its length
+pub ran-length : {xs : List Step} {B n r : ℕ} {s u : Image} → Ran xs B n r s u → length u ≡ length s
+ran-length {xs} {B} {n} {r} {s} d = ap length (d .image) ∙ run-length B (take n xs) s
 
 -- one call after another does the one list after the other
 pub _then_ : {xs ys : List Step} {B n n₁ n₂ : ℕ} {s s₁ s₂ : Image} → Ran xs B n n₁ s s₁ → Ran ys B n₁ n₂ s₁ s₂ → Ran (xs ++ ys) B n n₂ s s₂

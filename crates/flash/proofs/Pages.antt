@@ -48,6 +48,9 @@ sized N B s e =
       whole = eqb-true (length s) (N * (B + 1) * 256) (and-right (inRange N B) _ e);
     }
 
+pub segment-inside : (N B i bytes : ℕ) → Sized N B bytes → i < N → (i * (B + 1) + (B + 1)) * 256 ≤ bytes
+segment-inside N B i bytes z h = omega (arith, z .whole, mul-le-mul-right (B + 1) h, suc-mul i (B + 1))
+
 pub index-small : (n N : ℕ) → 0 < N → N ≤ 255 → n % N < 255
 index-small n N z h = omega (arith, mod-lt n {m = N} z)
 

@@ -1,12 +1,4 @@
-pub mod Lengths
 pub mod Erasing
-pub mod Answered
-pub mod Refusals
 pub mod Survey
 pub mod Look
-pub mod Mend
-pub mod Writing
-pub mod LastSteps
-pub mod Put
 pub mod Requests
-pub mod Room

@@ -1,4 +1,1 @@
-pub mod Finish
-pub mod Room
 pub mod Look
-pub mod Writing

@@ -3,7 +3,7 @@ use model::Answer;
 use scan::Surveyed;
 ghost use mathlib.Core.Path.{_≡_};
 ghost use Rattle.scan.specs.Surveys.{stateIn};
-ghost use Rattle.store.specs.Finish.{answerIn};
+ghost use Rattle.bridge.specs.Refusals.{answerIn};
 
 // The answer of a request that wants a clean image.
 pub fn state_answer(survey: Surveyed) -> Answer

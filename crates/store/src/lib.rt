@@ -6,9 +6,6 @@
 mod check;
 mod erasing;
 mod look;
-mod mend;
-mod room;
-mod writing;
 
 use look::Looked;
 use model::Answer;
@@ -80,7 +77,7 @@ pub fn put(
         live,
         compactions,
     };
-    writing::put_clean(image, segments, slots, plan, block, contents, budget)
+    put::put_clean(image, segments, slots, plan, block, contents, budget)
 }
 
 // Deletes a block: its slot is marked dead.

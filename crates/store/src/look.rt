@@ -1,15 +1,15 @@
 // A block looked for, by delete and by both forms of reading.
 use crate::check;
-use crate::room::Plan;
 use find::Found;
 use model::Answer;
 use model::BlockNumber;
 use model::SlotPlace;
+use room::Plan;
 use scan::Surveyed;
 ghost use mathlib.Core.Path.{_≡_};
 ghost use mathlib.Core.Bool.{true};
 ghost use Rattle.model.specs.Slot.{numberOk};
-ghost use Rattle.store.specs.Room.{Planned};
+ghost use Rattle.room.specs.Room.{Planned};
 ghost use Rattle.store.specs.Look.{Looks};
 
 // The place of a block's live slot and the length of its contents; or why there is none.

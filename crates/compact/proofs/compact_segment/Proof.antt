@@ -1,7 +1,8 @@
 -- `compact::compact_segment` does the steps of the definition. The old segment holds the same when it is copied as at entry, since the steps before that are in the
 -- target's header. Assumes nothing.
 use native.Mathlib.Omega.{arith}
-use Rattle.compact.proofs.Laws.{segment-inside, compaction-done}
+use Rattle.flash.proofs.Pages.{segment-inside}
+use Rattle.compact.proofs.Laws.{compaction-done}
 use borrow.Author.Needs.{needs}
 use Rattle.compact.proofs.compact_segment.Statement.{statement}
 use Rattle.compact.proofs.compact_segment.Tie as tie
@@ -21,7 +22,7 @@ index-of-requires c κs = search needs
 erase-segment-requires : tie.Need-erase-segment-requires
 erase-segment-requires c κs =
     let a = c .before .before .before .before .before .before .before .before .before .before .before .before .before .before .before in
-    omega (arith, segment-inside (a .args .segments) (a .args .slots) (c .index-of .result) (c .index-of .ensures .1))
+    omega (arith, segment-inside (a .args .segments) (a .args .slots) (c .index-of .result) _ (a .pre .0) (c .index-of .ensures .1))
 
 settle-requires : tie.Need-settle-requires
 settle-requires c κs = search needs

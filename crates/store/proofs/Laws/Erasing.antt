@@ -1,20 +1,14 @@
 -- Laws of segments erased one after the other.
-use Prim.Native.Nat.{ℕ, _+_, _*_, _≤_, _<_}
+use Prim.Native.Nat.{ℕ, _+_, _≤_, _<_}
 use mathlib.Core.Path.{_≡_, _∙_, subst}
 use mathlib.Core.List.{[], _∷_}
-use native.Mathlib.Nat.{suc-mul, mul-le-mul-right}
 use native.Mathlib.Numerals.{add-one}
 use native.Mathlib.Omega.{arith}
 use lib.ListN.{length}
 use Rattle.model.specs.Chip.{Image, erase}
 use Rattle.model.specs.Steps.{eraseFirst}
 use Rattle.flash.specs.Ran.{Ran}
-use Rattle.flash.proofs.Laws.{_then_}
-use Rattle.flash.specs.Pages.{Sized}
-use Rattle.compact.proofs.Laws.{ran-length}
-
-pub segment-inside : (N B i bytes : ℕ) → Sized N B bytes → i < N → (i * (B + 1) + (B + 1)) * 256 ≤ bytes
-segment-inside N B i bytes z h = omega (arith, z .whole, mul-le-mul-right (B + 1) h, suc-mul i (B + 1))
+use Rattle.flash.proofs.Laws.{_then_, ran-length}
 
 pub erase-next : (N B i n : ℕ) {left left₁ : ℕ} {s t u : Image} → i < N → length t ≡ length s → Ran (eraseFirst i) B n left s t → Ran (erase i ∷ []) B left left₁ t u
     → Ran (eraseFirst (i + 1)) B n left₁ s u × (i + 1 ≤ N) × (length u ≡ length s)

@@ -11,23 +11,17 @@ use Rattle.model.specs.Answers.{codeOf, read}
 use Rattle.model.specs.declared.Answer.{Answer}
 use Rattle.model.specs.declared.Answer.the-variants.{Size, Number, Absent}
 use Rattle.model.specs.declared.SlotPlace.{SlotPlace}
-use Rattle.flash.specs.Pages.{Sized}
 use Rattle.find.specs.declared.Found.{Found}
 use Rattle.find.specs.declared.Found.the-variants.{At, Nothing}
 use Rattle.find.specs.Search.{rowsAt, foundIn}
 use Rattle.find.proofs.Callers.{Inside, found-inside, FoundAt, found-at, found-nothing}
-use Rattle.store.specs.declared.room.Plan.{Plan}
-use Rattle.store.specs.Room.{Planned}
+use Rattle.room.specs.declared.Plan.{Plan}
+use Rattle.room.specs.Room.{Planned}
 use Rattle.store.specs.Look.{There, Kept}
-use Rattle.store.specs.Finish.{answerIn}
-use Rattle.store.proofs.Laws.Survey.{unclean-code}
-use Rattle.store.proofs.Laws.Room.{plan-held, plan-sized, small}
-use Rattle.store.proofs.Laws.Refusals.{wrong-size-code, read-number, read-unclean, read-absent, read-found}
+use Rattle.bridge.specs.Refusals.{answerIn, unclean-code, wrong-size-code, read-number, read-unclean, read-absent, read-found}
+use Rattle.room.proofs.Laws.{plan-held, plan-sized}
 
 module _ (N B : ℕ) (s : Image) (p : Plan) (k : Planned N B p s) where
-  pub find-fits : Sized N B (length s) × (p .first .0 + p .used ≤ 4294967296)
-  find-fits = let h = small N B p s k in (plan-sized N B p s k, omega arith)
-
   module _ (b : ℕ) (r : Found) (e : r ≡ foundIn N B (p .first .0) (rowsAt N B s (p .used) (p .first .0)) b) where
     pub plan-found : (q : SlotPlace) (n : ℕ) → r ≡ At q n → FoundAt N B b (view N B s) q n
     plan-found q n w = found-at N B b s (view N B s) (plan-held N B p s k) (k .first) (k .used) e q n w

@@ -1,7 +1,7 @@
 -- Each request's outcome, from what its parts did.
 use Prim.Native.Nat.{ℕ, _+_, _≤_}
 use mathlib.Core.Path.{_≡_, refl, sym, ap, _∙_}
-use mathlib.Core.Bool.{true, false, not}
+use mathlib.Core.Bool.{true, false}
 use mathlib.Core.List.{List, []}
 use native.Mathlib.Omega.{arith}
 use lib.ListN.{length, take, drop}
@@ -17,12 +17,11 @@ use Rattle.model.specs.declared.Performed.{Performed}
 use Rattle.flash.specs.Ran.{Ran, Programmed}
 use Rattle.flash.proofs.Laws.{_then_}
 use Rattle.request.specs.Request.{Refused, Finished}
-use Rattle.store.specs.Finish.{answerIn, PageAt, MarkedAt}
+use Rattle.bridge.specs.Refusals.{answerIn, wrong-size-code, format-code, delete-code, put-unclean, unclean-code}
+use Rattle.mend.specs.Marks.{PageAt, MarkedAt}
 use Rattle.store.specs.Look.{There, Kept}
-use Rattle.store.proofs.Laws.Refusals.{wrong-size-code, format-code, delete-code, put-unclean}
-use Rattle.store.proofs.Laws.Survey.{unclean-code}
-use Rattle.store.proofs.Laws.Answered.{refused-outcome, carried, carried-outcome}
-use Rattle.store.proofs.Laws.Lengths.{open-length, mark-length}
+use Rattle.request.proofs.Answered.{refused-outcome, carried, carried-outcome}
+use Rattle.bridge.specs.Lengths.{open-length, mark-length}
 
 module _ (N B : ℕ) (s : Image) (budget : ℕ) where
   pub size-refused : (q : Request) {p : Performed} → rightSize N B s ≡ false → Refused Size p → performed p s ≡ outcomeOf N B s budget q

@@ -4,8 +4,7 @@ use denote.Ref.{now}
 use Rattle.model.specs.Answers.{format}
 use Rattle.flash.proofs.Pages.{sized}
 use Rattle.request.proofs.Laws.{wrong-size, right-size}
-use Rattle.compact.proofs.Laws.{ran-length}
-use Rattle.store.proofs.Laws.Lengths.{ran-left}
+use Rattle.flash.proofs.Laws.{ran-length, ran-left}
 use Rattle.store.proofs.Laws.Requests.{size-refused, format-done}
 use borrow.Author.Needs.{needs}
 use Rattle.store.proofs.format.Statement.{statement}

@@ -5,12 +5,12 @@ use denote.Ref.{now}
 use borrow.Author.Tests.{not-true, not-false}
 use Rattle.model.specs.Answers.{codeOf, put}
 use Rattle.model.specs.declared.Answer.the-variants.{Number, Length}
-use Rattle.store.specs.Finish.{answerIn}
+use Rattle.bridge.specs.Refusals.{answerIn, put-number, put-length}
 use Rattle.request.proofs.Laws.{wrong-size, right-size}
 use Rattle.model.specs.Laws.Bytes.{bytes-known}
-use Rattle.store.proofs.Laws.Answered.{refused-outcome}
-use Rattle.store.proofs.Laws.Refusals.{put-number, put-length}
-use Rattle.store.proofs.Laws.Survey.{survey-says, survey-other, survey-plan}
+use Rattle.request.proofs.Answered.{refused-outcome}
+use Rattle.mend.proofs.Laws.Survey.{survey-says}
+use Rattle.store.proofs.Laws.Survey.{survey-other, survey-plan}
 use Rattle.store.proofs.Laws.Requests.{size-refused, put-unclean-refused}
 use borrow.Author.Needs.{needs}
 use Rattle.store.proofs.put.Statement.{statement}

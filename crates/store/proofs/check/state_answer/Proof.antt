@@ -1,6 +1,6 @@
 -- `store::check::state_answer` goes by the state that a survey says. Assumes nothing.
 use Rattle.scan.specs.Surveys.{stateIn}
-use Rattle.store.specs.Finish.{answerIn}
+use Rattle.bridge.specs.Refusals.{answerIn}
 use borrow.Author.Needs.{needs}
 use Rattle.store.proofs.check.state_answer.Statement.{statement}
 use Rattle.store.proofs.check.state_answer.Tie as tie

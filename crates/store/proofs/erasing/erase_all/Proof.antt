@@ -6,7 +6,8 @@ use lib.ListN.{length}
 use Rattle.model.specs.Steps.{eraseFirst}
 use Rattle.flash.specs.Ran.{Ran}
 use Rattle.flash.proofs.Laws.{ran-none}
-use Rattle.store.proofs.Laws.Erasing.{segment-inside, erase-next, erase-end}
+use Rattle.flash.proofs.Pages.{segment-inside}
+use Rattle.store.proofs.Laws.Erasing.{erase-next, erase-end}
 use borrow.Author.Needs.{needs}
 use Rattle.store.proofs.erasing.erase_all.Statement.{statement}
 use Rattle.store.proofs.erasing.erase_all.Tie as tie

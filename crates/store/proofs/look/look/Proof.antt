@@ -2,9 +2,10 @@
 use mathlib.Core.Path.{sym, ap, _∙_}
 use denote.Ref.{now}
 use borrow.Author.Tests.{not-true, not-false}
-use Rattle.store.specs.Finish.{answerIn}
+use Rattle.bridge.specs.Refusals.{answerIn}
 use Rattle.request.proofs.Laws.{wrong-size, right-size}
-use Rattle.store.proofs.Laws.Survey.{survey-says, survey-other, survey-plan}
+use Rattle.mend.proofs.Laws.Survey.{survey-says}
+use Rattle.store.proofs.Laws.Survey.{survey-other, survey-plan}
 use Rattle.store.proofs.Laws.Look.{look-size, look-number, look-unclean}
 use borrow.Author.Needs.{needs}
 use Rattle.store.proofs.look.look.Statement.{statement}

@@ -1,6 +1,7 @@
 -- `store::look::look_clean` finds what the definition says. Assumes nothing.
 use denote.Ref.{now}
-use Rattle.store.proofs.Laws.Look.{find-fits, look-there, look-absent}
+use Rattle.room.proofs.Laws.{find-fits}
+use Rattle.store.proofs.Laws.Look.{look-there, look-absent}
 use borrow.Author.Needs.{needs}
 use Rattle.store.proofs.look.look_clean.Statement.{statement}
 use Rattle.store.proofs.look.look_clean.Tie as tie
@@ -8,7 +9,7 @@ use Rattle.store.proofs.look.look_clean.Tie as tie
 find-requires : tie.Need-find-requires
 find-requires c κs =
     let a = c .before in
-    find-fits (a .args .segments) (a .args .slots) (now (a .args .image)) (a .args .plan) (a .pre .0)
+    find-fits (a .args .segments) (a .args .slots) (a .args .plan) (now (a .args .image)) (a .pre .0)
 
 enum-known-found : tie.Need-enum-known-found
 enum-known-found c = search needs

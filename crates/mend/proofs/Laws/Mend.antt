@@ -1,0 +1,182 @@
+-- Laws of a recovery: each state of an unfinished image and the steps that mend it.
+use Prim.Native.Nat.{ℕ, suc, _+_, _-_, _*_, _%_, _≤_, _<_}
+use mathlib.Core.Path.{_≡_, refl, sym, ap, _∙_, subst}
+use mathlib.Core.Bool.{Bool, true, false, cond, _||_, _&&_, not}
+use mathlib.Core.List.{List, [], _∷_, _++_, map}
+use native.Mathlib.Nat.{mod-lt, mul-le-mul-right, suc-mul}
+use native.Mathlib.Omega.{arith}
+use lib.ListN.{length, getD, drop, length-drop, length-append}
+use lib.Seq.{getD-append-seam}
+use lib.Dec.{eqb, ltb}
+use borrow.Author.Tests.{eqb-true, lt-ltb}
+use Rattle.model.specs.Chip.{Image, Page, Step, erase, imageLength, rightSize}
+use Rattle.model.specs.Slot.{Slot, empty, live, slotOf, isTorn}
+use Rattle.model.specs.State.{Segment, blank, invalid, inUse, segmentsOf, isInUse, isInvalid, isOwing, numberAfter, slotsIn, nextNumber, topIndex, nextIndex, topSlots, usedCount, firstNumber, viewOf, entriesIn, holds, isClean, nextBlanked, isA, topSettled, isB, lastSlot, lastKind, tornMarked, isC, Place, placeFrom, placeOf, lastBlock, copies, older, olderMarked, isD, Exception, caseA, caseB, caseC, caseD, clean, unfinished, damaged, stateOf, state}
+use Rattle.model.specs.Steps.{onPage, slotAt, markDead, markPlace, settle, eraseUnlessBlank, mendSteps, recoverSteps}
+use Rattle.model.specs.Answers.{codeOf, recover, stepsFor, performed, outcomeOf}
+use Rattle.model.specs.declared.Answer.the-variants.{Done, Damaged}
+use Rattle.model.specs.declared.Performed.{Performed}
+use Rattle.model.specs.Laws.Lists.{and-left, and-right}
+use Rattle.model.specs.Laws.Chip.{size-facts}
+use Rattle.model.specs.Laws.Exclusive.{inside}
+use Rattle.model.specs.Laws.Segments.{partOf, part-size, segment-at, segments-length}
+use Rattle.model.specs.Laws.Effects.{in-use-parts}
+use Rattle.model.specs.Laws.Ring.{next-ge, next-set-le, slots-get, slots-length}
+use Rattle.model.specs.Laws.Clean.{clean-ring, used-next}
+use Rattle.bridge.specs.Views.Places.{fill-length}
+use Rattle.bridge.specs.Views.Shape.{first-live-in}
+use Rattle.request.specs.Request.{Refused, Carried}
+use Rattle.mend.specs.Marks.{PageAt, MarkedAt}
+use Rattle.bridge.specs.Lengths.{mark-length, settle-length}
+use Rattle.request.proofs.Answered.{refused-outcome, idle-outcome, carried-outcome}
+use Rattle.bridge.specs.Refusals.{recover-clean, recover-damaged, recover-unfinished}
+use Rattle.model.specs.Laws.Tables.{holds-copies}
+
+-- ---- the test of an exception
+
+abbrev test : Exception → Bool → Bool → Bool → Bool → Bool
+test caseA a b c d = a
+test caseB a b c d = b
+test caseC a b c d = c
+test caseD a b c d = d
+
+passed : (x : Exception) (k a b c d : Bool)
+    → cond k clean (cond a (unfinished caseA) (cond b (unfinished caseB) (cond c (unfinished caseC) (cond d (unfinished caseD) damaged)))) ≡ unfinished x → test x a b c d ≡ true
+passed x true a b c d e = absurd (let z : _≡_ {A = ℕ} 0 1 = cc in omega arith)
+passed x false true b c d e = let h : caseA ≡ x = cc in subst (λ (y : Exception). test y true b c d ≡ true) h refl
+passed x false false true c d e = let h : caseB ≡ x = cc in subst (λ (y : Exception). test y false true c d ≡ true) h refl
+passed x false false false true d e = let h : caseC ≡ x = cc in subst (λ (y : Exception). test y false false true d ≡ true) h refl
+passed x false false false false true e = let h : caseD ≡ x = cc in subst (λ (y : Exception). test y false false false true ≡ true) h refl
+passed x false false false false false e = absurd (let z : _≡_ {A = ℕ} 0 1 = cc in omega arith)
+
+module _ (N B : ℕ) (s : Image) (z : rightSize N B s ≡ true) where
+  abbrev l : List Segment
+  l = segmentsOf N B s
+
+  tested : (x : Exception) → state N B s ≡ unfinished x → test x (isA N B l) (isB N B l) (isC N B l) (isD N B l) ≡ true
+  unfolding state stateOf
+  tested x e = passed x (isClean N B l) (isA N B l) (isB N B l) (isC N B l) (isD N B l) e
+
+  -- ---- some segment is in use in (a) and (b), so that the top has a number
+
+  some-a : state N B s ≡ unfinished caseA → 1 ≤ nextNumber l
+  unfolding isA nextBlanked numberAfter
+  some-a e =
+      let c = and-right (isInvalid (getD l (nextIndex N l) blank)) (isClean N B (nextBlanked N l)) (tested caseA e) in
+      let m = nextBlanked N l in
+      let r = clean-ring N B m (lib.ListN.length-set l (nextIndex N l) blank ∙ segments-length N B s) c in
+      omega (arith, r .some, used-next N m r, next-set-le l (nextIndex N l) blank)
+
+  owing-number : (x : Segment) → isOwing x ≡ true → 1 ≤ numberAfter x
+  unfolding isOwing numberAfter
+  owing-number blank e = absurd (mathlib.Core.Bool.false≢true e)
+  owing-number invalid e = absurd (mathlib.Core.Bool.false≢true e)
+  owing-number (inUse st n ks) e = omega arith
+
+  some-b : state N B s ≡ unfinished caseB → 1 ≤ nextNumber l
+  unfolding isB
+  some-b e =
+      let o = and-left (isOwing (getD l (topIndex N l) blank)) (eqb (usedCount (topSettled N l)) (N - 1) && isClean N B (topSettled N l)) (tested caseB e) in
+      omega (arith, owing-number (getD l (topIndex N l) blank) o, next-ge l (topIndex N l))
+
+  after-top : (x : ℕ) → x ≡ nextNumber l - 1 → 1 ≤ nextNumber l → (x + 1) % N ≡ nextIndex N l
+  unfolding nextIndex
+  after-top x e h = ap (λ (y : ℕ). y % N) (omega arith)
+
+  -- ---- the marked slots of (c) and (d) are inside the image
+
+  row-short : (i : ℕ) → length (slotsIn (getD l i blank)) ≤ B
+  unfolding slotsIn isInUse
+  row-short i = go (getD l i blank) refl
+    where
+      go : (x : Segment) → getD l i blank ≡ x → length (slotsIn x) ≤ B
+      go blank e = omega arith
+      go invalid e = omega arith
+      go (inUse st n ks) e =
+          let b : i < N = omega (arith, inside isInUse l i blank refl (ap isInUse e), segments-length N B s) in
+          let u = in-use-parts N B i (partOf N B i s) st n ks (sym (segment-at N B i s b) ∙ e) in
+          omega (arith, ap length (u .slots), part-size N B i s b, length-drop 1 (partOf N B i s), map-length (drop 1 (partOf N B i s)))
+        where
+          map-length : (ps : List Page) → length (map slotOf ps) ≡ length ps
+          map-length [] = refl
+          map-length (p ∷ ps) = ap suc (map-length ps)
+
+  slot-page : (n j : ℕ) → j < B → PageAt (slotAt N B n j * 256) (length s)
+  unfolding imageLength slotAt
+  slot-page n j h =
+      let p : 0 < N = omega (arith, size-facts N B s z .two) in
+      record {
+        page = slotAt N B n j;
+        whole = refl;
+        inside = omega (arith, size-facts N B s z .whole, suc-mul (n % N) (B + 1), mul-le-mul-right (B + 1) (mod-lt n {m = N} p));
+      }
+
+  pub torn-page : state N B s ≡ unfinished caseC → PageAt (slotAt N B (nextNumber l - 1) (lastSlot N l) * 256) (length s)
+  unfolding isC lastKind topSlots isTorn
+  torn-page e =
+      let t = and-left (isTorn (lastKind N l)) (isClean N B (tornMarked N l)) (tested caseC e) in
+      slot-page (nextNumber l - 1) (lastSlot N l) (omega (arith, inside isTorn (slotsIn (getD l (topIndex N l) blank)) (lastSlot N l) empty refl t, row-short (topIndex N l)))
+
+  -- a block that a view has is in one of its rows
+  place-short : (b : ℕ) → holds b (entriesIn (viewOf N l)) ≡ true → placeOf b (viewOf N l) .slot < B
+  unfolding placeOf viewOf
+  place-short b h =
+      let v = viewOf N l in
+      let f = first-live-in b v h in
+      let k = length (f .gap .rowsBefore) in
+      let x = live b (f .contents) in
+      let rows : length (v .slots) ≡ usedCount l = slots-length N l (usedCount l) (firstNumber l) in
+      let split : length (v .slots) ≡ k + suc (length (f .gap .rowsAfter)) = ap length (f .split) ∙ fill-length (f .gap) x in
+      let row : getD (v .slots) k [] ≡ f .gap .before ++ (x ∷ f .gap .after) = ap (λ (y : List (List Slot)). getD y k []) (f .split) ∙ getD-append-seam (f .gap .rowsBefore) (f .gap .before ++ (x ∷ f .gap .after)) (f .gap .rowsAfter) [] in
+      let seg : getD (v .slots) k [] ≡ slotsIn (getD l ((firstNumber l + k) % N) blank) = slots-get N l (usedCount l) (firstNumber l) k (omega (arith, rows, split)) in
+      let j : placeFrom b (v .first) (v .slots) .slot ≡ length (f .gap .before) = ap (λ (q : Place). q .slot) (f .place) in
+      omega (arith, j, ap length row, ap length seg, length-append (f .gap .before) (x ∷ f .gap .after), row-short ((firstNumber l + k) % N))
+
+  pub older-page : state N B s ≡ unfinished caseD → PageAt (slotAt N B (older N l .number) (older N l .slot) * 256) (length s)
+  unfolding isD older
+  older-page e =
+      let t = and-right (ltb 0 (lastBlock N l)) (eqb (copies (lastBlock N l) (entriesIn (viewOf N l))) 2 && isClean N B (olderMarked N l)) (tested caseD e) in
+      let c = eqb-true (copies (lastBlock N l) (entriesIn (viewOf N l))) 2 (and-left (eqb (copies (lastBlock N l) (entriesIn (viewOf N l))) 2) (isClean N B (olderMarked N l)) t) in
+      slot-page (older N l .number) (older N l .slot)
+      (place-short (lastBlock N l) (holds-copies (lastBlock N l) (entriesIn (viewOf N l)) ∙ lt-ltb 0 (copies (lastBlock N l) (entriesIn (viewOf N l))) (omega arith)))
+
+  -- ---- the outcomes
+
+  module _ (budget : ℕ) where
+    pub mend-clean : {p : Performed} → state N B s ≡ clean → Refused Done p → performed p s ≡ outcomeOf N B s budget recover
+    unfolding codeOf stepsFor recoverSteps state
+    mend-clean {p} e r = idle-outcome N B s budget recover Done p (recover-clean N B s z e) (rw e) refl r
+
+    pub mend-damaged : {p : Performed} → state N B s ≡ damaged → Refused Damaged p → performed p s ≡ outcomeOf N B s budget recover
+    unfolding codeOf
+    mend-damaged {p} e r = refused-outcome N B s budget recover Damaged p (recover-damaged N B s z e) refl r
+
+    -- the steps that mend an exception
+    mended : (x : Exception) (xs ys : List Step) {p : Performed} {t : Image} → state N B s ≡ unfinished x → mendSteps N B l x ≡ xs ++ ys → length ys ≡ 1 → Carried xs ys B budget p s t
+        → performed p t ≡ outcomeOf N B s budget recover
+    unfolding stepsFor recoverSteps state
+    mended x xs ys e n f c = carried-outcome N B s budget recover xs ys (recover-unfinished N B s z x e) (rw e n) (omega arith) c
+
+    module _ (top : ℕ) (is : top ≡ nextNumber (segmentsOf N B s) - 1) {p : Performed} {t : Image} where
+      pub mend-a : state N B s ≡ unfinished caseA → Carried [] (erase ((top + 1) % N) ∷ []) B budget p s t → performed p t ≡ outcomeOf N B s budget recover
+      unfolding mendSteps
+      mend-a e c = mended caseA [] (erase ((top + 1) % N) ∷ []) e (rw (after-top top is (some-a e))) refl c
+
+      pub mend-b : state N B s ≡ unfinished caseB → (b : Bool) → b ≡ not (isInUse (getD (segmentsOf N B s) (nextIndex N (segmentsOf N B s)) blank) || isInvalid (getD (segmentsOf N B s) (nextIndex N (segmentsOf N B s)) blank))
+          → Carried (cond b [] (erase ((top + 1) % N) ∷ [])) (settle N B top) B budget p s t → performed p t ≡ outcomeOf N B s budget recover
+      unfolding mendSteps eraseUnlessBlank
+      mend-b e b h c = mended caseB (cond b [] (erase ((top + 1) % N) ∷ [])) (settle N B top) e
+          (rw (h, after-top top is (some-b e), is) (flip (isInUse (getD l (nextIndex N l) blank) || isInvalid (getD l (nextIndex N l) blank)))) (settle-length N B top) c
+        where
+          flip : (t : Bool) → cond t (erase (nextIndex N l) ∷ []) [] ++ settle N B (nextNumber l - 1) ≡ cond (not t) [] (erase (nextIndex N l) ∷ []) ++ settle N B (nextNumber l - 1)
+          flip true = refl
+          flip false = refl
+
+    module _ (at : ℕ) {p : Performed} {t : Image} where
+      pub mend-c : state N B s ≡ unfinished caseC → at ≡ slotAt N B (nextNumber (segmentsOf N B s) - 1) (lastSlot N (segmentsOf N B s)) * 256 → MarkedAt at budget p s t → performed p t ≡ outcomeOf N B s budget recover
+      unfolding mendSteps markPlace
+      mend-c e q m = mended caseC [] (onPage (slotAt N B (nextNumber l - 1) (lastSlot N l)) markDead) e refl (mark-length _) (m _ B q)
+
+      pub mend-d : state N B s ≡ unfinished caseD → at ≡ slotAt N B (older N (segmentsOf N B s) .number) (older N (segmentsOf N B s) .slot) * 256 → MarkedAt at budget p s t → performed p t ≡ outcomeOf N B s budget recover
+      unfolding mendSteps markPlace
+      mend-d e q m = mended caseD [] (onPage (slotAt N B (older N l .number) (older N l .slot)) markDead) e refl (mark-length _) (m _ B q)

@@ -1,0 +1,43 @@
+-- `mend::erase_next` erases the segment after the top, unless it is told to be blank. Assumes nothing.
+use Prim.Native.Nat.{_+_, _%_}
+use native.Mathlib.Nat.{mod-lt}
+use Rattle.flash.proofs.Laws.{ran-none}
+use Rattle.flash.proofs.Pages.{segment-inside}
+use borrow.Author.Needs.{needs}
+use Rattle.mend.proofs.erase_next.Statement.{statement}
+use Rattle.mend.proofs.erase_next.Tie as tie
+
+returns : tie.Need-returns
+returns c = rw (c .if1 .taken) (ran-none _ _ _)
+
+cast-index : tie.Need-cast-index
+cast-index c = search needs
+
+add-index : tie.Need-add-index
+add-index c = search needs
+
+rem-index : tie.Need-rem-index
+rem-index c = search needs
+
+erase-segment-requires : tie.Need-erase-segment-requires
+erase-segment-requires c κs =
+    let a = c .before .before .before .before in
+    segment-inside (a .args .segments) (a .args .slots) ((a .args .top .0 + 1) % a .args .segments) _ (a .pre) (mod-lt (a .args .top .0 + 1) {m = a .args .segments} (a .pre .some))
+
+same-length : tie.Need-same-length
+same-length c = search needs
+
+returns-2 : tie.Need-returns-2
+returns-2 c = rw (c .before .before .before .before .before .if1 .left) (c .before .before .erase-segment .ensures)
+
+pub erase-next-spec : {M : Type 1} → statement M
+erase-next-spec =
+    tie.close
+    (tie.spec
+    returns
+    cast-index
+    add-index
+    rem-index
+    erase-segment-requires
+    same-length
+    returns-2)

@@ -1,0 +1,139 @@
+-- Laws of an accepted put: the image once room was made, and the whole list.
+use Prim.Native.Nat.{ℕ, _+_, _-_, _≤_, _<_}
+use mathlib.Core.Path.{_≡_, refl, sym, ap, _∙_}
+use mathlib.Core.Bool.{Bool, true, false, cond, _&&_, not}
+use mathlib.Core.List.{List, _++_}
+use native.Mathlib.Omega.{arith}
+use lib.ListN.{length, length-append}
+use lib.Dec.{ltb, leb}
+use borrow.Author.Tests.{lt-ltb, ltb-true, leb-false}
+use Rattle.model.specs.Chip.{Image, numberLimit, mostSegments, run}
+use Rattle.model.specs.State.{segmentsOf, View, view, clean, state}
+use Rattle.model.specs.Steps.{onPage, slotAt, writeSlot, writeAtTop, markOld, topRow, topNumber, hasRoom, firstEmpty, Room, roomFor, compactions, newNumbers, isWorn, putSteps}
+use Rattle.model.specs.Answers.{put, stepsFor, performed, outcomeOf}
+use Rattle.model.specs.declared.Performed.{Performed}
+use Rattle.model.specs.Laws.Chip.{size-facts}
+use Rattle.bridge.specs.Accepted.{refusal}
+use Rattle.bridge.specs.Held.{Held, clean-of-held}
+use Rattle.bridge.specs.Requests.{held-below, room-held}
+use Rattle.bridge.specs.Views.Room.{Made, room-made}
+use Rattle.find.specs.declared.Found.{Found}
+use Rattle.find.specs.Search.{rowsAt, foundIn}
+use Rattle.flash.specs.Ran.{Ran}
+use Rattle.flash.proofs.Laws.{_then_, ran-spent, ran-left, whole-run}
+use Rattle.flash.specs.Pages.{Sized}
+use Rattle.flash.proofs.Pages.{sized}
+use Rattle.room.specs.declared.Plan.{Plan}
+use Rattle.room.specs.declared.Room as rooms
+use Rattle.request.specs.Request.{Finished}
+use Rattle.room.specs.Room.{Planned, Roomed}
+use Rattle.put.specs.Writing.{Accepted, Ready, lastSteps, Wrote}
+use Rattle.bridge.specs.Lengths.{page-length, write-length}
+use Rattle.request.proofs.Answered.{carried, carried-outcome}
+use Rattle.bridge.specs.Refusals.{put-accepted}
+use Rattle.room.proofs.Laws.{row-full, top-length, plan-held, plan-clean, has-room}
+
+module _ (N B : ℕ) (p : Plan) (f : Found) (b : ℕ) (c : List ℕ) (s : Image) (a : Accepted N B p f b c s) (budget : ℕ) where
+  abbrev k : Planned N B p s
+  k = a .put .plan
+
+  abbrev v : View
+  v = view N B s
+
+  abbrev room : Room
+  room = roomFor N B v
+
+  accepted-code : refusal N B s (put b c) ≡ 0
+  accepted-code = put-accepted N B s (k .size) b c (a .put .number) (a .put .short) (k .state) (a .space) (a .fresh)
+
+  -- its list: room, and the last steps
+  accepted-steps : stepsFor N B (segmentsOf N B s) (put b c) ≡ room .steps ++ lastSteps N B b c (room .result)
+  unfolding stepsFor putSteps lastSteps view
+  accepted-steps = refl
+
+  last-some : (w : View) → 1 ≤ length (lastSteps N B b c w)
+  unfolding lastSteps writeAtTop
+  last-some w =
+      let page = slotAt N B (topNumber w) (firstEmpty (topRow (w .slots))) in
+      omega (arith, length-append (onPage page (writeSlot b c)) (markOld N B b w), page-length page (writeSlot b c), write-length b c)
+
+  -- ---- the budget was spent on room
+
+  pub put-spent : {r : rooms.Room} {t : Image} {q : Performed} → Roomed N B budget r s t → r .left ≡ 0 → Finished budget 0 0 1 q → performed q t ≡ outcomeOf N B s budget (put b c)
+  put-spent {r} {t} {q} d z fin =
+      let ys = lastSteps N B b c (room .result) in
+      let ran : Ran (room .steps) B budget 0 s t = rw z at (d .ran) in
+      let rest : budget - length (room .steps) ≡ 0 = sym (ran .rest) in
+      carried-outcome N B s budget (put b c) (room .steps) ys accepted-code accepted-steps (last-some (room .result)) (record {
+        left = 0;
+        ran = _then_ ran (ran-spent ys B 0 t refl);
+        finished = record { code = fin .code ∙ rw (rest, lt-ltb 0 (length ys) (last-some (room .result))) refl; count = fin .count };
+      })
+
+  -- ---- room was made whole
+
+  made : Made N B v (room .result) (newNumbers N v)
+  made = room-made N B (size-facts N B s (k .size) .two) (size-facts N B s (k .size) .slots) v (plan-clean N B p s k)
+
+  room-below : topNumber (room .result) < numberLimit N
+  unfolding isWorn newNumbers
+  room-below = go (hasRoom v) refl (a .fresh) (made .number)
+    where
+      x : ℕ
+      x = cond (ltb (length (v .slots)) (N - 1)) 1 (compactions (v .slots))
+
+      go : (t : Bool) → hasRoom v ≡ t → (not t && leb (numberLimit N) (topNumber v + cond t 0 x)) ≡ false → topNumber (room .result) ≡ topNumber v + cond t 0 x → topNumber (room .result) < numberLimit N
+      go true h e n = omega (arith, n, held-below N B s v (plan-held N B p s k) (plan-clean N B p s k))
+      go false h e n = omega (arith, n, leb-false (numberLimit N) (topNumber v + x) e)
+
+  module _ (r : rooms.Room) (t : Image) (d : Roomed N B budget r s t) (left : r .left ≡ 0 → ⊥) where
+    some : 0 < r .left
+    some = omega arith
+
+    pub room-made-held : Held N B t (room .result)
+    room-made-held = rw (whole-run (d .ran) some) (room-held N B s v (plan-held N B p s k) (a .put .bytes) (plan-clean N B p s k) room-below)
+
+    room-free : firstEmpty (topRow (room .result .slots)) < B
+    unfolding hasRoom
+    room-free = ltb-true (firstEmpty (topRow (room .result .slots))) B
+        (ap (ltb (firstEmpty (topRow (room .result .slots)))) (sym (top-length B (room .result .slots) (made .clean .rows) (made .clean .some))) ∙ (sym (row-full (topRow (room .result .slots))) ∙ made .room))
+
+    pub room-sized : Sized N B (length t)
+    room-sized = sized N B t (room-made-held .size)
+
+    pub room-number : r .first .0 + r .used ≤ 4294967296
+    unfolding topNumber numberLimit mostSegments
+    room-number = omega (arith, d .first, d .used, room-below, size-facts N B s (k .size) .most)
+
+    -- where nothing had to be done the search before still holds
+    pub found-still : leb B (p .slot) ≡ false → f ≡ foundIn N B (r .first .0) (rowsAt N B t (r .used) (r .first .0)) b
+    unfolding roomFor run
+    found-still h =
+        let l = leb-false B (p .slot) h in
+        let x : hasRoom v ≡ true = has-room N B p s k l in
+        let same : t ≡ s = whole-run (d .ran) some ∙ rw x in
+        let ef : r .first .0 ≡ p .first .0 = d .first ∙ rw x (sym (k .first)) in
+        let eu : r .used ≡ p .used = d .used ∙ rw x (sym (k .used)) in
+        rw (same, ef, eu) (a .found)
+
+    pub room-ready : (o : Found) → o ≡ foundIn N B (r .first .0) (rowsAt N B t (r .used) (r .first .0)) b → Ready N B r o b c budget t
+    room-ready o e =
+        let h = room-made-held in
+        let view-is : room .result ≡ view N B t = sym (h .view) in record {
+          size = h .size;
+          state = clean-of-held N B t (room .result) h (made .clean);
+          first = d .first ∙ ap (λ (y : View). y .first) view-is;
+          used = d .used ∙ ap (λ (y : View). length (y .slots)) view-is;
+          slot = d .slot some ∙ ap (λ (y : View). firstEmpty (topRow (y .slots))) view-is;
+          room = omega (arith, d .slot some, room-free);
+          old = e;
+          short = a .put .short;
+          left = ran-left (d .ran);
+        }
+
+    pub put-done : {u : Image} {q : Performed} → Wrote N B b c budget (r .left) q t u → performed q u ≡ outcomeOf N B s budget (put b c)
+    put-done {u} {q} w =
+        let ys = lastSteps N B b c (room .result) in
+        let same : lastSteps N B b c (view N B t) ≡ ys = ap (lastSteps N B b c) (room-made-held .view) in
+        carried-outcome N B s budget (put b c) (room .steps) ys accepted-code accepted-steps (last-some (room .result))
+        (carried (room .steps) ys (_then_ (d .ran) (rw same at (w .ran))) (d .ran .rest) refl (rw same at (w .finished)))

@@ -1,0 +1,63 @@
+-- `put::put_clean` is the put of the definition, on a clean image. Assumes nothing.
+use denote.Ref.{now}
+use Rattle.model.specs.Answers.{put}
+use Rattle.request.proofs.Answered.{refused-outcome}
+use Rattle.room.proofs.Laws.{find-fits}
+use Rattle.put.proofs.Laws.Writing.{ranged, answer-refuses, answer-accepts}
+use borrow.Author.Needs.{needs}
+use Rattle.put.proofs.put_clean.Statement.{statement}
+use Rattle.put.proofs.put_clean.Tie as tie
+
+find-requires : tie.Need-find-requires
+find-requires c κs =
+    let x = c .before .before .before in
+    let a = x .args in
+    find-fits (a .segments) (a .slots) (a .plan) (now (a .image)) (x .pre .plan)
+
+put-answer-requires : tie.Need-put-answer-requires
+put-answer-requires c κs =
+    let x = c .before .before .before .before in
+    let a = x .args in
+    ranged (a .segments) (a .slots) (a .plan) (a .block .0) (now (a .contents)) (now (a .image)) (x .pre) _ (c .find .ensures)
+
+enum-told : tie.Need-enum-told
+enum-told c = search needs
+
+refused-requires : tie.Need-refused-requires
+refused-requires c κs = search needs
+
+same-length : tie.Need-same-length
+same-length c = search needs
+
+returns : tie.Need-returns
+returns c =
+    let x = c .before .before .before .before .before .before .before in
+    let a = x .args in
+    let r = answer-refuses (a .segments) (a .slots) (a .plan) (a .block .0) (now (a .contents)) (now (a .image)) (x .pre) _ (c .before .before .before .find .ensures) _ (c .before .before .put-answer .ensures) (c .before .match .keys2) in
+    refused-outcome (a .segments) (a .slots) (now (a .image)) (a .budget) (put (a .block .0) (now (a .contents))) _ _ (r .0) (r .1) (c .refused .ensures)
+
+put-accepted-requires : tie.Need-put-accepted-requires
+put-accepted-requires c κs =
+    let x = c .before .before .before .before .before .before .before .before in
+    let a = x .args in
+    answer-accepts (a .segments) (a .slots) (a .plan) (a .block .0) (now (a .contents)) (now (a .image)) (x .pre) _ (c .before .before .before .before .find .ensures) _ (c .before .before .before .put-answer .ensures) (c .before .enum-told .given .1)
+
+same-length-2 : tie.Need-same-length-2
+same-length-2 c = search needs
+
+returns-2 : tie.Need-returns-2
+returns-2 c = search needs
+
+pub put-clean-spec : {M : Type 1} → statement M
+put-clean-spec =
+    tie.close
+    (tie.spec
+    find-requires
+    put-answer-requires
+    enum-told
+    refused-requires
+    same-length
+    returns
+    put-accepted-requires
+    same-length-2
+    returns-2)

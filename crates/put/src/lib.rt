@@ -1,0 +1,161 @@
+// A put on a clean image.
+use find::Found;
+use model::Answer;
+use model::BlockNumber;
+use model::Performed;
+use model::SlotPlace;
+use room::Plan;
+use room::Room;
+ghost use mathlib.Core.Path.{_≡_};
+ghost use mathlib.Core.Bool.{false};
+ghost use Prim.Native.Nat.{_+_, _-_, _*_, _≤_, _<_};
+ghost use lib.ListN.{length};
+ghost use Rattle.model.specs.Steps.{slotAt};
+ghost use Rattle.model.specs.Answers.{performed, outcomeOf, put};
+ghost use Rattle.find.specs.Search.{rowsAt, foundIn};
+ghost use Rattle.flash.specs.Pages.{Sized};
+ghost use Rattle.put.specs.Writing.{Ranged, wornBy, fullBy, answerFor, Puttable, Accepted, Ready, Wrote};
+
+// Segment numbers stay below this times the count of segments.
+const NUMBERS_EACH: usize = 100000;
+
+// The steps that write a slot, besides one for each byte of contents.
+const SLOT_STEPS: u64 = 5;
+
+// Whether room for a put would take a segment number of the limit or more. It is found out before the first step.
+fn is_worn(segments: usize, slots: usize, plan: Plan) -> bool
+    requires { ⌜ Ranged segments slots plan ⌝ }
+    ensures { λ r. ⌜ r ≡ wornBy segments slots plan ⌝ }
+{
+    if plan.slot < slots {
+        return false;
+    }
+    let limit = NUMBERS_EACH * segments;
+    let top = plan.first.0 as usize + plan.used - 1;
+    if plan.used + 1 < segments {
+        return limit <= top + 1;
+    }
+    limit <= top + plan.compactions
+}
+
+// Whether a put of a block that is not stored finds as many slots live as may be.
+fn is_full(segments: usize, slots: usize, plan: Plan, found: Found) -> bool
+    requires { ⌜ Ranged segments slots plan ⌝ }
+    ensures { λ r. ⌜ r ≡ fullBy segments slots plan found ⌝ }
+{
+    let Found::Nothing = found else {
+        return false;
+    };
+    request::capacity(segments, slots) <= plan.live
+}
+
+// The answer of a put on a clean image, but for a cut.
+fn put_answer(segments: usize, slots: usize, plan: Plan, found: Found) -> Answer
+    requires { ⌜ Ranged segments slots plan ⌝ }
+    ensures { λ r. ⌜ r ≡ answerFor segments slots plan found ⌝ }
+{
+    if is_full(segments, slots, plan, found) {
+        return Answer::Full;
+    }
+    if is_worn(segments, slots, plan) {
+        return Answer::Worn;
+    }
+    Answer::Done
+}
+
+// Where the old slot of a block is once room was made: compaction may have moved it.
+fn old_slot(
+    image: &[u8],
+    segments: usize,
+    slots: usize,
+    room: Room,
+    moved: bool,
+    before: Found,
+    block: BlockNumber,
+) -> Found
+    requires { ⌜ Sized segments slots (length (now image)) × (room .first .0 + room .used ≤ 4294967296) × (moved ≡ false → before ≡ foundIn segments slots (room .first .0) (rowsAt segments slots (now image) (room .used) (room .first .0)) (block .0)) ⌝ }
+    ensures { λ r. ⌜ r ≡ foundIn segments slots (room .first .0) (rowsAt segments slots (now (image .entry)) (room .used) (room .first .0)) (block .0) ⌝ }
+{
+    if moved {
+        return find::find(image, segments, slots, room.first, room.used, block);
+    }
+    before
+}
+
+// The place of the first empty slot of the top.
+fn free_place(segments: usize, slots: usize, room: Room) -> SlotPlace
+    requires { ⌜ (0 < segments) × (segments ≤ 255) × (slots ≤ 255) × (room .slot < slots) × (1 ≤ room .used) × (room .used ≤ 255) ⌝ }
+    ensures { λ r. ⌜ r .0 ≡ slotAt segments slots (room .first .0 + room .used - 1) (room .slot) * 256 ⌝ }
+{
+    let top = room.first.0 as usize + room.used - 1;
+    SlotPlace((top % segments * (slots + 1) + 1 + room.slot) * 256)
+}
+
+// Writes the slot, and only then marks the old one.
+fn write_block(
+    image: &mut [u8],
+    segments: usize,
+    slots: usize,
+    room: Room,
+    old: Found,
+    block: BlockNumber,
+    contents: &[u8],
+    budget: u64,
+) -> Performed
+    requires { ⌜ Ready segments slots room old (block .0) (now contents) budget (now image) ⌝ }
+    ensures { λ r. ⌜ Wrote segments slots (block .0) (now (contents .entry)) budget (room .left) r (now (image .entry)) (now (image .exit)) ⌝ }
+{
+    let before = room.left;
+    let steps = SLOT_STEPS + contents.len() as u64;
+    let place = free_place(segments, slots, room);
+    let written = slot::write_slot(image, place, block, contents, before);
+    let Found::At(dead, _) = old else {
+        return request::finished(budget, written, before, steps);
+    };
+    let left = slot::mark_dead(image, dead, written);
+    request::finished(budget, left, before, steps + 1)
+}
+
+// Makes room and writes the slot.
+fn put_accepted(
+    image: &mut [u8],
+    segments: usize,
+    slots: usize,
+    plan: Plan,
+    found: Found,
+    block: BlockNumber,
+    contents: &[u8],
+    budget: u64,
+) -> Performed
+    requires { ⌜ Accepted segments slots plan found (block .0) (now contents) (now image) ⌝ }
+    ensures { λ r. ⌜ performed r (now (image .exit)) ≡ outcomeOf segments slots (now (image .entry)) budget (put (block .0) (now (contents .entry))) ⌝ }
+{
+    let room = room::make_room(image, segments, slots, plan, budget);
+    if room.left == 0 {
+        return request::finished(budget, 0, 0, 1);
+    }
+    let moved = slots <= plan.slot;
+    let old = old_slot(&image[..], segments, slots, room, moved, found, block);
+    write_block(image, segments, slots, room, old, block, contents, budget)
+}
+
+// A put on a clean image.
+pub fn put_clean(
+    image: &mut [u8],
+    segments: usize,
+    slots: usize,
+    plan: Plan,
+    block: BlockNumber,
+    contents: &[u8],
+    budget: u64,
+) -> Performed
+    requires { ⌜ Puttable segments slots plan (block .0) (now contents) (now image) ⌝ }
+    ensures { λ r. ⌜ performed r (now (image .exit)) ≡ outcomeOf segments slots (now (image .entry)) budget (put (block .0) (now (contents .entry))) ⌝ }
+{
+    let found = find::find(&image[..], segments, slots, plan.first, plan.used, block);
+    let answer = put_answer(segments, slots, plan, found);
+    let Answer::Done = answer else {
+        return request::refused(answer);
+    };
+    put_accepted(image, segments, slots, plan, found, block, contents, budget)
+}

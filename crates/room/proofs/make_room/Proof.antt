@@ -1,0 +1,65 @@
+-- `room::make_room` makes room as the definition says. Assumes nothing.
+use native.Mathlib.Omega.{arith}
+use mathlib.Core.Path.{refl}
+use denote.Ref.{now}
+use Rattle.room.proofs.Laws.{small, plan-sized, room-there, room-opened}
+use borrow.Author.Needs.{needs}
+use Rattle.room.proofs.make_room.Statement.{statement}
+use Rattle.room.proofs.make_room.Tie as tie
+
+returns : tie.Need-returns
+returns c =
+    let a = c .before .before .before .before in
+    room-there (a .args .segments) (a .args .slots) (a .args .plan) (now (a .args .image)) (a .pre .plan) (a .args .budget) _ (c .if1 .taken) refl refl refl refl
+
+add-if2 : tie.Need-add-if2
+add-if2 c =
+    let a = c .before .before .before .before in
+    let h = small (a .args .segments) (a .args .slots) (a .args .plan) (now (a .args .image)) (a .pre .plan) in
+    omega arith
+
+after-requires : tie.Need-after-requires
+after-requires c κs =
+    let a = c .before .before .before .before .before .before in
+    let h = small (a .args .segments) (a .args .slots) (a .args .plan) (now (a .args .image)) (a .pre .plan) in
+    omega arith
+
+open-header-requires : tie.Need-open-header-requires
+open-header-requires c κs =
+    let a = c .before .before .before .before .before .before .before in
+    plan-sized (a .args .segments) (a .args .slots) (a .args .plan) (now (a .args .image)) (a .pre .plan)
+
+add-t14 : tie.Need-add-t14
+add-t14 c = search needs
+
+same-length : tie.Need-same-length
+same-length c = search needs
+
+returns-2 : tie.Need-returns-2
+returns-2 c =
+    let a = c .before .before .before .before .before .before .before .before .before .before in
+    room-opened (a .args .segments) (a .args .slots) (a .args .plan) (now (a .args .image)) (a .pre .plan) (a .args .budget) _ _ (c .before .before .before .before .before .before .if1 .left) (c .before .before .before .before .before .if2 .taken) (c .before .before .before .after .ensures) refl refl refl (c .before .before .open-header .ensures)
+
+compact-oldest-requires : tie.Need-compact-oldest-requires
+compact-oldest-requires c κs = search needs
+
+same-length-2 : tie.Need-same-length-2
+same-length-2 c = search needs
+
+returns-3 : tie.Need-returns-3
+returns-3 c = search needs
+
+pub make-room-spec : {M : Type 1} → statement M
+make-room-spec =
+    tie.close
+    (tie.spec
+    returns
+    add-if2
+    after-requires
+    open-header-requires
+    add-t14
+    same-length
+    returns-2
+    compact-oldest-requires
+    same-length-2
+    returns-3)
