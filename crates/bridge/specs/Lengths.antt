@@ -147,7 +147,7 @@ segment-row N B i ps h = go (headerInUse N B i (getD ps 0 [])) (allBlank ps)
     go false true = unfold slotsIn entries flatMap in (tt, omega arith)
     go false false = unfold slotsIn entries flatMap in (tt, omega arith)
 
-image-row : (N B i : ℕ) (s : Image) → Short (entries (slotsIn (getD (segmentsOf N B s) i blank))) × (length (slotsIn (getD (segmentsOf N B s) i blank)) ≤ B)
+pub image-row : (N B i : ℕ) (s : Image) → Short (entries (slotsIn (getD (segmentsOf N B s) i blank))) × (length (slotsIn (getD (segmentsOf N B s) i blank)) ≤ B)
 unfolding slotsIn entries flatMap
 image-row N B i s = elim (decLt i N) [
   | yes h ↦ rw (segment-at N B i s h) (segment-row N B i (partOf N B i s) (part-size N B i s h))
@@ -157,7 +157,7 @@ image-row N B i s = elim (decLt i N) [
     beyond : ¬ (i < N) → length (segmentsOf N B s) ≤ i
     beyond h = omega (arith, segments-length N B s)
 
-image-rows : (N B : ℕ) (s : Image) (u n : ℕ) → RowsOk B (slotsFrom N (segmentsOf N B s) u n)
+pub image-rows : (N B : ℕ) (s : Image) (u n : ℕ) → RowsOk B (slotsFrom N (segmentsOf N B s) u n)
 unfolding slotsFrom
 image-rows N B s zero n = tt
 image-rows N B s (suc u) n = let r = image-row N B (n % N) s in (r .0, r .1, image-rows N B s u (suc n))
@@ -325,7 +325,7 @@ rows-short B [] r = unfold entries flatMap in tt
 rows-short B (x ∷ l) r = rw (entries-append x (flatten l)) (short-join (entries x) (entries (flatten l)) (r .0) (rows-short B l (r .2)))
 
 -- the slot of a block found in rows of at most B slots
-slot-short : (B b n : ℕ) (l : List (List Slot)) → RowsOk B l → holds b (entries (flatten l)) ≡ true → placeFrom b n l .slot < B
+pub slot-short : (B b n : ℕ) (l : List (List Slot)) → RowsOk B l → holds b (entries (flatten l)) ≡ true → placeFrom b n l .slot < B
 slot-short B b n l r h =
     let f = first-live b n l h in
     let g = f .gap in

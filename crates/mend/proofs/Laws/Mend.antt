@@ -1,17 +1,16 @@
 -- Laws of a recovery: each state of an unfinished image and the steps that mend it.
-use Prim.Native.Nat.{ℕ, suc, _+_, _-_, _*_, _%_, _≤_, _<_}
+use Prim.Native.Nat.{ℕ, _+_, _-_, _*_, _%_, _≤_, _<_}
 use mathlib.Core.Path.{_≡_, refl, sym, ap, _∙_, subst}
 use mathlib.Core.Bool.{Bool, true, false, cond, _||_, _&&_, not}
-use mathlib.Core.List.{List, [], _∷_, _++_, map}
+use mathlib.Core.List.{List, [], _∷_, _++_}
 use native.Mathlib.Nat.{mod-lt, mul-le-mul-right, suc-mul}
 use native.Mathlib.Omega.{arith}
-use lib.ListN.{length, getD, drop, length-drop, length-append}
-use lib.Seq.{getD-append-seam}
+use lib.ListN.{length, getD}
 use lib.Dec.{eqb, ltb}
 use borrow.Author.Tests.{eqb-true, lt-ltb}
-use Rattle.model.specs.Chip.{Image, Page, Step, erase, imageLength, rightSize}
-use Rattle.model.specs.Slot.{Slot, empty, live, slotOf, isTorn}
-use Rattle.model.specs.State.{Segment, blank, invalid, inUse, segmentsOf, isInUse, isInvalid, isOwing, numberAfter, slotsIn, nextNumber, topIndex, nextIndex, topSlots, usedCount, firstNumber, viewOf, entriesIn, holds, isClean, nextBlanked, isA, topSettled, isB, lastSlot, lastKind, tornMarked, isC, Place, placeFrom, placeOf, lastBlock, copies, older, olderMarked, isD, Exception, caseA, caseB, caseC, caseD, clean, unfinished, damaged, stateOf, state}
+use Rattle.model.specs.Chip.{Image, Step, erase, imageLength, rightSize}
+use Rattle.model.specs.Slot.{empty, isTorn}
+use Rattle.model.specs.State.{Segment, blank, invalid, inUse, segmentsOf, isInUse, isInvalid, isOwing, numberAfter, slotsIn, nextNumber, topIndex, nextIndex, topSlots, usedCount, firstNumber, viewOf, entriesIn, holds, isClean, nextBlanked, isA, topSettled, isB, lastSlot, lastKind, tornMarked, isC, placeOf, lastBlock, copies, older, olderMarked, isD, Exception, caseA, caseB, caseC, caseD, clean, unfinished, damaged, stateOf, state}
 use Rattle.model.specs.Steps.{onPage, slotAt, markDead, markPlace, settle, eraseUnlessBlank, mendSteps, recoverSteps}
 use Rattle.model.specs.Answers.{codeOf, recover, stepsFor, performed, outcomeOf}
 use Rattle.model.specs.declared.Answer.the-variants.{Done, Damaged}
@@ -19,15 +18,12 @@ use Rattle.model.specs.declared.Performed.{Performed}
 use Rattle.model.specs.Laws.Lists.{and-left, and-right}
 use Rattle.model.specs.Laws.Chip.{size-facts}
 use Rattle.model.specs.Laws.Exclusive.{inside}
-use Rattle.model.specs.Laws.Segments.{partOf, part-size, segment-at, segments-length}
-use Rattle.model.specs.Laws.Effects.{in-use-parts}
-use Rattle.model.specs.Laws.Ring.{next-ge, next-set-le, slots-get, slots-length}
+use Rattle.model.specs.Laws.Segments.{segments-length}
+use Rattle.model.specs.Laws.Ring.{next-ge, next-set-le}
 use Rattle.model.specs.Laws.Clean.{clean-ring, used-next}
-use Rattle.bridge.specs.Views.Places.{fill-length}
-use Rattle.bridge.specs.Views.Shape.{first-live-in}
 use Rattle.request.specs.Request.{Refused, Carried}
 use Rattle.mend.specs.Marks.{PageAt, MarkedAt}
-use Rattle.bridge.specs.Lengths.{mark-length, settle-length}
+use Rattle.bridge.specs.Lengths.{mark-length, settle-length, image-row, image-rows, slot-short}
 use Rattle.request.proofs.Answered.{refused-outcome, idle-outcome, carried-outcome}
 use Rattle.bridge.specs.Refusals.{recover-clean, recover-damaged, recover-unfinished}
 use Rattle.model.specs.Laws.Tables.{holds-copies}
@@ -85,22 +81,6 @@ module _ (N B : ℕ) (s : Image) (z : rightSize N B s ≡ true) where
 
   -- ---- the marked slots of (c) and (d) are inside the image
 
-  row-short : (i : ℕ) → length (slotsIn (getD l i blank)) ≤ B
-  unfolding slotsIn isInUse
-  row-short i = go (getD l i blank) refl
-    where
-      go : (x : Segment) → getD l i blank ≡ x → length (slotsIn x) ≤ B
-      go blank e = omega arith
-      go invalid e = omega arith
-      go (inUse st n ks) e =
-          let b : i < N = omega (arith, inside isInUse l i blank refl (ap isInUse e), segments-length N B s) in
-          let u = in-use-parts N B i (partOf N B i s) st n ks (sym (segment-at N B i s b) ∙ e) in
-          omega (arith, ap length (u .slots), part-size N B i s b, length-drop 1 (partOf N B i s), map-length (drop 1 (partOf N B i s)))
-        where
-          map-length : (ps : List Page) → length (map slotOf ps) ≡ length ps
-          map-length [] = refl
-          map-length (p ∷ ps) = ap suc (map-length ps)
-
   slot-page : (n j : ℕ) → j < B → PageAt (slotAt N B n j * 256) (length s)
   unfolding imageLength slotAt
   slot-page n j h =
@@ -115,22 +95,12 @@ module _ (N B : ℕ) (s : Image) (z : rightSize N B s ≡ true) where
   unfolding isC lastKind topSlots isTorn
   torn-page e =
       let t = and-left (isTorn (lastKind N l)) (isClean N B (tornMarked N l)) (tested caseC e) in
-      slot-page (nextNumber l - 1) (lastSlot N l) (omega (arith, inside isTorn (slotsIn (getD l (topIndex N l) blank)) (lastSlot N l) empty refl t, row-short (topIndex N l)))
+      slot-page (nextNumber l - 1) (lastSlot N l) (omega (arith, inside isTorn (slotsIn (getD l (topIndex N l) blank)) (lastSlot N l) empty refl t, image-row N B (topIndex N l) s .1))
 
   -- a block that a view has is in one of its rows
   place-short : (b : ℕ) → holds b (entriesIn (viewOf N l)) ≡ true → placeOf b (viewOf N l) .slot < B
-  unfolding placeOf viewOf
-  place-short b h =
-      let v = viewOf N l in
-      let f = first-live-in b v h in
-      let k = length (f .gap .rowsBefore) in
-      let x = live b (f .contents) in
-      let rows : length (v .slots) ≡ usedCount l = slots-length N l (usedCount l) (firstNumber l) in
-      let split : length (v .slots) ≡ k + suc (length (f .gap .rowsAfter)) = ap length (f .split) ∙ fill-length (f .gap) x in
-      let row : getD (v .slots) k [] ≡ f .gap .before ++ (x ∷ f .gap .after) = ap (λ (y : List (List Slot)). getD y k []) (f .split) ∙ getD-append-seam (f .gap .rowsBefore) (f .gap .before ++ (x ∷ f .gap .after)) (f .gap .rowsAfter) [] in
-      let seg : getD (v .slots) k [] ≡ slotsIn (getD l ((firstNumber l + k) % N) blank) = slots-get N l (usedCount l) (firstNumber l) k (omega (arith, rows, split)) in
-      let j : placeFrom b (v .first) (v .slots) .slot ≡ length (f .gap .before) = ap (λ (q : Place). q .slot) (f .place) in
-      omega (arith, j, ap length row, ap length seg, length-append (f .gap .before) (x ∷ f .gap .after), row-short ((firstNumber l + k) % N))
+  unfolding placeOf viewOf entriesIn
+  place-short b h = slot-short B b (firstNumber l) _ (image-rows N B s (usedCount l) (firstNumber l)) h
 
   pub older-page : state N B s ≡ unfinished caseD → PageAt (slotAt N B (older N l .number) (older N l .slot) * 256) (length s)
   unfolding isD older
