@@ -1,7 +1,6 @@
 -- Compactions done one after the other: after each the image has the predicted view, so that the next is of the row that is now the oldest.
-use Prim.Native.Nat.{ℕ, zero, suc, _+_, _-_, _*_, _≤_, _<_}
-use mathlib.Core.Path.{_≡_, refl, sym, ap, _∙_}
-use mathlib.Core.List.{List, [], _∷_, _++_}
+use Prim.Native.Nat.{ℕ, zero, suc, _+_, _-_, _≤_, _<_}
+use mathlib.Core.Path.{_≡_, _∙_}
 use native.Mathlib.Omega.{arith}
 use lib.ListN.{length}
 use Rattle.model.specs.Chip.{Image, Bytes, numberLimit, run}
@@ -11,7 +10,7 @@ use Rattle.model.specs.Laws.Chip.{run-append}
 use Rattle.model.specs.Laws.Bytes.{run-bytes}
 use Rattle.bridge.specs.Held.{Held}
 use Rattle.bridge.specs.Requests.{one-compaction}
-use Rattle.bridge.specs.Views.Times.{compactTimes, Needs, After, after-times}
+use Rattle.bridge.specs.Views.Times.{compactTimes, Needs, after-times}
 
 module _ (N B : ℕ) (s : Image) (v : View) (h : Held N B s v) (bs : Bytes s) (n : Needs N B v) (full : length (v .slots) ≡ N - 1)
     (below : topNumber v + compactions (v .slots) < numberLimit N) where

@@ -5,9 +5,9 @@ use mathlib.Core.Bool.{true, false}
 use mathlib.Core.List.{List}
 use native.Mathlib.Omega.{arith}
 use native.Mathlib.Decide.{decLt, ℕ-discrete}
-use native.Mathlib.Nat.{mul-add-mod-self-right, mul-mod-left, max-zero, max-eq-right, mod-lt, div-eq-of-lt, div-self, mul-div-cancel, pow-suc, zero-div, zero-mod, div-add-mod'}
+use native.Mathlib.Nat.{mul-add-mod-self-right, mul-mod-left, max-zero, div-eq-of-lt, div-self, mul-div-cancel, pow-suc, zero-div, div-add-mod'}
 use lib.Pow.{pow-add, pow-pos, pow-lt}
-use lib.ListN.{length, getD, set, replicate, getD-replicate, List·getD-eq-default, length-replicate}
+use lib.ListN.{length, getD, replicate, getD-replicate, List·getD-eq-default, length-replicate}
 use lib.Seq.{set-out, getD-set-same, getD-set-other}
 use lib.Bits.{bitOr, or-shr, or-step}
 use Rattle.judge.specs.Bitmap.{inBits, putBit}

@@ -1,31 +1,23 @@
 -- The ending of the rows, the count of live slots and the capacity decide conditions 5 to 8, (c) and (d).
-use Prim.Native.Nat.{ℕ, zero, suc, _+_, _-_, _*_, _≤_, _<_}
-use mathlib.Core.Path.{_≡_, refl, sym, ap, ap₂, _∙_}
-use mathlib.Core.Logic.{_⊎_, inl, inr}
-use mathlib.Core.Bool.{Bool, true, false, cond, _||_, _&&_, not, true≢false, false≢true, and-eq-true-iff, and-assoc}
-use mathlib.Core.List.{List, [], _∷_, _++_, flatMap, flatten, append-assoc, append-nil}
-use native.Mathlib.Omega.{arith}
-use native.Mathlib.Decide.{ℕ-discrete}
-use lib.ListN.{length, length-append}
-use lib.Dec.{ltb, leb, eqb}
-use borrow.Author.Tests.{ltb-true, leb-true, eqb-true, lt-ltb, le-leb, eq-eqb, eqb-false}
+use Prim.Native.Nat.{ℕ, _+_, _-_}
+use mathlib.Core.Path.{_≡_, refl, sym, ap, _∙_}
+use mathlib.Core.Logic.{inl, inr}
+use mathlib.Core.Bool.{Bool, true, false, cond, _||_, _&&_, not, true≢false, false≢true, and-eq-true-iff}
+use mathlib.Core.List.{List, [], _∷_, _++_, flatten, append-nil}
+use lib.ListN.{length}
+use lib.Dec.{leb}
 use Rattle.model.specs.Lists.{all}
 use Rattle.model.specs.Slot.{Slot, empty, torn, dead, wrong, live, isEmpty, isTorn, isWrong, Entry, entryOf}
-use Rattle.model.specs.State.{View, entries, entriesIn, holds, distinct, emptyLast, onlyTopEmpty, noneWrongOrTorn, blocksDistinct, emptySlotsLast, capacity, withinCapacity, placeOf, blockIn, copies}
-use Rattle.model.specs.Table.{Table}
-use Rattle.model.specs.Laws.View.{slotChanged}
-use Rattle.bridge.specs.Predicted.{slotChanged, marked}
-use Rattle.bridge.specs.Views.Slots.{full, sound, entries-append, full-then, first-empty, all-empty-last}
-use Rattle.bridge.specs.Views.Places.{Gap, FirstLive, fill, fill-all, fill-empty-last, marked-at, marked-entries}
-use Rattle.bridge.specs.Views.Shape.{first-live-in}
+use Rattle.model.specs.State.{View, entries, entriesIn, holds, distinct, emptyLast, noneWrongOrTorn, blocksDistinct, emptySlotsLast, capacity, withinCapacity}
+use Rattle.bridge.specs.Views.Slots.{full, sound, entries-append, full-then, first-empty}
+use Rattle.bridge.specs.Views.Places.{Gap, fill, fill-all, fill-empty-last}
 use Rattle.judge.specs.declared.Ending.{Ending}
 use Rattle.judge.specs.declared.Ending.the-variants.{Full, Room, TornLast, TwinLast, Bad}
 use Rattle.judge.specs.Endings.{behind, leaveRoom, turn, judge, ring, isFull, isBad, inOrder, endsTorn, endsTwin}
-use Rattle.judge.specs.Cases.{fine, lastWritten, lastMarked, tornLast, twinBlock, twinMarked, twinLast}
-use Rattle.judge.specs.Judged.{Plain, Stop, Judged, distinct-front, plain-full, stop-judge, judged, ring-snoc, rows-full, full-rows, not-full}
-use Rattle.judge.specs.Ordered.{ordered, rowsWith, before-top, Ordered, ordered-facts, facts-ordered, ordered-rows, top-entries, ordered-ending, ending-plain, Last, find-last, last-written, last-marked, none-written}
+use Rattle.judge.specs.Cases.{fine, lastWritten, lastMarked, tornLast}
+use Rattle.judge.specs.Judged.{Plain, Judged, distinct-front, plain-full, stop-judge, judged, ring-snoc, rows-full, full-rows, not-full}
+use Rattle.judge.specs.Ordered.{ordered, rowsWith, before-top, Ordered, ordered-facts, facts-ordered, ordered-rows, top-entries, ordered-ending, ending-plain, find-last, last-written, last-marked, none-written}
 use Rattle.model.specs.Laws.Lists.{all-parts, flatten-last}
-use Rattle.model.specs.Laws.Tables.{copies-append, copies-cons-same, copies-cons-other, copies-none, copies-cons, holds-copies, held-copies, distinct-copies, copies-distinct, withoutFirst}
 
 -- ---- two tests that imply each other are equal
 

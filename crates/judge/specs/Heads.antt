@@ -3,7 +3,7 @@ use Prim.Native.Nat.{ℕ, zero, suc, _-_, _%_, max}
 use mathlib.Core.Path.{_≡_, refl, sym, ap, ap₂, _∙_}
 use mathlib.Core.Bool.{Bool, true, false, cond, _&&_, not}
 use mathlib.Core.List.{List, [], _∷_, map}
-use lib.ListN.{length, getD, take, set, List·getD-map}
+use lib.ListN.{getD, take, List·getD-map}
 use lib.Dec.{eqb}
 use Rattle.model.specs.Lists.{all, count}
 use Rattle.model.specs.Header.{erasePending, compacted}

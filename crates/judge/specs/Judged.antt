@@ -1,11 +1,10 @@
 -- What an ending says of the slots: all plain; or plain up to a slot that stops them, and empty ones after it.
-use Prim.Native.Nat.{ℕ, zero, suc, _+_, _≤_, _<_}
-use mathlib.Core.Path.{_≡_, refl, sym, ap, ap₂, _∙_}
+use Prim.Native.Nat.{_+_}
+use mathlib.Core.Path.{_≡_, refl, sym, ap, _∙_}
 use mathlib.Core.Logic.{_⊎_, inl, inr}
-use mathlib.Core.Bool.{Bool, true, false, cond, _||_, _&&_, not, true≢false, false≢true, and-eq-true-iff}
+use mathlib.Core.Bool.{Bool, true, false, cond, _||_, not, true≢false, false≢true, and-eq-true-iff}
 use mathlib.Core.List.{List, [], _∷_, _++_, flatMap, flatten, append-assoc, append-nil}
 use native.Mathlib.Omega.{arith}
-use lib.Dec.{eqb}
 use Rattle.model.specs.Lists.{all}
 use Rattle.model.specs.Slot.{Slot, empty, torn, dead, wrong, live, isEmpty, isTorn, isWrong, Entry, entryOf}
 use Rattle.model.specs.State.{entries, holds, distinct, copies}
@@ -14,8 +13,8 @@ use Rattle.bridge.specs.Views.Slots.{full, sound, entries-append, entries-cons}
 use Rattle.judge.specs.declared.Ending.{Ending}
 use Rattle.judge.specs.declared.Ending.the-variants.{Full, Room, TornLast, TwinLast, Bad}
 use Rattle.judge.specs.Endings.{behind, leaveRoom, turn, judge, ring, isFull, isBad}
-use Rattle.model.specs.Laws.Lists.{all-append, all-join, all-parts}
-use Rattle.model.specs.Laws.Tables.{copies-append, copies-cons-same, copies-cons-other, copies-more, copies-none, held-copies, absent-copies, copies-absent, distinct-copies, copies-distinct}
+use Rattle.model.specs.Laws.Lists.{all-join, all-parts}
+use Rattle.model.specs.Laws.Tables.{copies-append, copies-cons-same, copies-cons-other, copies-none, absent-copies, copies-absent, distinct-copies, copies-distinct}
 
 -- ---- tables of distinct blocks
 

@@ -1,16 +1,16 @@
 -- Rows in order: every row but the top full, the top's empty slots last, none torn or wrong, each block once.
-use Prim.Native.Nat.{ℕ, zero, suc, _+_, _-_, _≤_, _<_}
-use mathlib.Core.Path.{_≡_, refl, sym, ap, ap₂, _∙_}
+use Prim.Native.Nat.{ℕ, suc, _+_, _-_}
+use mathlib.Core.Path.{_≡_, refl, sym, ap, _∙_}
 use mathlib.Core.Bool.{Bool, true, false, cond, _||_, _&&_, not, true≢false, false≢true, and-eq-true-iff}
-use mathlib.Core.List.{List, [], _∷_, _++_, flatMap, flatten, append-assoc, append-nil}
+use mathlib.Core.List.{List, [], _∷_, _++_, flatten, append-assoc, append-nil}
 use native.Mathlib.Omega.{arith}
-use lib.ListN.{length, getD, set, length-append}
+use lib.ListN.{length, getD, length-append}
 use lib.Seq.{getD-at, set-at}
 use Rattle.model.specs.Lists.{all}
 use Rattle.model.specs.Slot.{Slot, empty, torn, dead, wrong, live, isEmpty, isTorn, isWrong, Entry, entryOf}
 use Rattle.model.specs.State.{View, entries, entriesIn, distinct, emptyLast, onlyTopEmpty, noneWrongOrTorn, blocksDistinct, emptySlotsLast, filled, blockIn}
 use Rattle.model.specs.Steps.{topRow, topNumber}
-use Rattle.model.specs.Laws.Lists.{all-get, all-append, all-join, all-parts, all-flatten, flatten-last}
+use Rattle.model.specs.Laws.Lists.{all-join, all-parts, all-flatten, flatten-last}
 use Rattle.model.specs.Laws.View.{slotChanged}
 use Rattle.bridge.specs.Views.Slots.{full, sound, entries-append, entries-cons, all-empty-entries, all-empty-last, full-then, top-row, only-top-empty}
 use Rattle.judge.specs.Cases.{lastWritten, lastMarked, twinBlock}

@@ -1,23 +1,23 @@
 -- A segment's pages as one part of the image: its header, its slots, and when it is blank.
-use Prim.Native.Nat.{ℕ, zero, suc, _+_, _-_, _*_, _%_, _≤_, _<_}
+use Prim.Native.Nat.{ℕ, zero, suc, _+_, _-_, _*_, _%_, _<_}
 use mathlib.Core.Path.{_≡_, refl, sym, ap, ap₂, _∙_}
-use mathlib.Core.Bool.{Bool, true, false, cond, _&&_, and-assoc, false≢true}
-use mathlib.Core.List.{List, [], _∷_, _++_, map}
+use mathlib.Core.Bool.{Bool, true, false, cond, _&&_, and-assoc}
+use mathlib.Core.List.{List, [], _∷_, _++_}
 use native.Mathlib.Omega.{arith}
 use native.Mathlib.Numerals.{add-one}
 use native.Mathlib.Nat.{mul-le-mul-right, suc-mul, mod-lt}
-use lib.ListN.{length, getD, take, drop}
+use lib.ListN.{getD, take, drop}
 use lib.Seq.{drop-drop, take-add}
 use lib.Dec.{eqb}
 use borrow.Author.Tests.{eqb-true}
 use Rattle.model.specs.Lists.{all, chunk}
 use Rattle.model.specs.Chip.{Image, Page, bySegment, pagesOf}
 use Rattle.model.specs.Header.{headerStatus, headerNumber, headerInUse, isBlank, allBlank}
-use Rattle.model.specs.Slot.{Slot, slotOf}
+use Rattle.model.specs.Slot.{Slot}
 use Rattle.model.specs.State.{Segment, blank, invalid, inUse, segmentOf, segmentsOf, numberAfter, slotsIn, slotsFrom, numbersFrom}
 use Rattle.model.specs.Laws.Lists.{and-left, and-right}
 use Rattle.model.specs.Laws.Chunk.{chunk-part}
-use Rattle.model.specs.Laws.Segments.{parts, partOf, segment-at}
+use Rattle.model.specs.Laws.Segments.{partOf, segment-at}
 use Rattle.judge.specs.Rows.{slotsAt}
 
 -- ---- parts of parts

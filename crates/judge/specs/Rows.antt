@@ -1,15 +1,14 @@
 -- The slots of one segment looked at in order: counts, how they end, and the set of block numbers met so far.
-use Prim.Native.Nat.{ℕ, zero, suc, _+_, _*_, _%_, _≤_}
-use mathlib.Core.Bool.{Bool, cond}
+use Prim.Native.Nat.{ℕ, _+_, _≤_}
+use mathlib.Core.Bool.{cond}
 use mathlib.Core.List.{List, [], _∷_, map}
-use lib.ListN.{getD, drop, replicate}
+use lib.ListN.{drop}
 use Rattle.model.specs.Lists.{chunk}
 use Rattle.model.specs.Chip.{Image}
 use Rattle.model.specs.Slot.{Slot, slotOf, kindOf}
 use Rattle.model.specs.declared.SlotKind.{SlotKind}
 use Rattle.model.specs.declared.SlotKind.the-variants.{Empty, Torn, Live, Dead, Wrong}
-use Rattle.judge.specs.declared.Ending.{Ending}
-use Rattle.judge.specs.declared.Ending.the-variants.{Full, Room, TornLast, TwinLast, Bad}
+use Rattle.judge.specs.declared.Ending.the-variants.{Full, TornLast, TwinLast, Bad}
 use Rattle.judge.specs.declared.Row.{Row}
 use Rattle.judge.specs.Endings.{behind, leaveRoom}
 use Rattle.judge.specs.Bitmap.{inBits, putBit}

@@ -1,6 +1,6 @@
 -- The rows of the segments in use, oldest first: each looked at behind those before, then added up.
-use Prim.Native.Nat.{ℕ, suc, _+_, _*_, _≤_}
-use mathlib.Core.Bool.{Bool, true, false, cond}
+use Prim.Native.Nat.{ℕ, _+_, _*_, _≤_}
+use mathlib.Core.Bool.{true, false, cond}
 use mathlib.Core.List.{List, [], _∷_, map}
 use lib.ListN.{replicate}
 use lib.Dec.{ltb}
@@ -11,7 +11,7 @@ use Rattle.judge.specs.declared.Summary.{Summary}
 use Rattle.judge.specs.declared.Sum.{Sum}
 use Rattle.judge.specs.declared.Frame.{Frame}
 use Rattle.judge.specs.Endings.{behind}
-use Rattle.judge.specs.Rows.{Pass, pass, seeAll, noRow}
+use Rattle.judge.specs.Rows.{pass, seeAll, noRow}
 
 -- no block number met yet
 abbrev pub noneMet : List ℕ

@@ -1,28 +1,27 @@
 -- What the sums of rows say: the live slots, the compactions, the ending, and of the top its written slots and its last live block.
-use Prim.Native.Nat.{ℕ, zero, suc, _+_, _-_, _*_, _/_, _≤_, _<_}
-use mathlib.Core.Path.{_≡_, refl, sym, ap, ap₂, _∙_}
-use mathlib.Core.Bool.{Bool, true, false, cond, _||_, _&&_, not, false≢true, true≢false}
+use Prim.Native.Nat.{ℕ, suc, _+_, _-_, _<_}
+use mathlib.Core.Path.{_≡_, refl, sym, ap, _∙_}
+use mathlib.Core.Bool.{Bool, true, false, cond, _||_, not}
 use mathlib.Core.List.{List, [], _∷_, _++_, map, flatMap, flatten, append-nil, append-assoc}
 use native.Mathlib.Omega.{arith}
 use native.Mathlib.Decide.{ℕ-discrete}
-use lib.ListN.{length, replicate, length-set, length-replicate, length-append}
-use lib.Dec.{ltb, eqb}
+use lib.ListN.{length, length-set, length-replicate, length-append}
+use lib.Dec.{ltb}
 use borrow.Author.Tests.{eq-eqb, ne-eqb, lt-ltb, le-ltb}
-use Rattle.model.specs.Lists.{all, count}
+use Rattle.model.specs.Lists.{count}
 use Rattle.model.specs.Slot.{Slot, empty, torn, dead, wrong, live, isEmpty, isDead, kindOf, Entry, entryOf}
-use Rattle.model.specs.State.{entries, holds, filled}
-use Rattle.model.specs.Steps.{compactions, firstEmpty}
-use Rattle.model.specs.declared.BlockNumber.{BlockNumber}
+use Rattle.model.specs.State.{entries, holds}
+use Rattle.model.specs.Steps.{compactions}
 use Rattle.bridge.specs.Views.Slots.{noneDead, entries-append}
 use Rattle.judge.specs.declared.Ending.{Ending}
-use Rattle.judge.specs.declared.Ending.the-variants.{Full, Room, TornLast, TwinLast, Bad}
+use Rattle.judge.specs.declared.Ending.the-variants.{Full, TwinLast}
 use Rattle.judge.specs.declared.Row.{Row}
 use Rattle.judge.specs.declared.Sum.{Sum}
 use Rattle.judge.specs.Bitmap.{inBits, putBit}
 use Rattle.judge.specs.BitLaws.{in-same, in-other, in-none}
 use Rattle.judge.specs.Endings.{behind, turn, judge, ring}
-use Rattle.judge.specs.Rows.{Pass, pass, see, seeAll, noRow}
-use Rattle.judge.specs.Tally.{noneMet, tallies, addRow, addRows, noSum}
+use Rattle.judge.specs.Rows.{pass, see, seeAll, noRow}
+use Rattle.judge.specs.Tally.{noneMet, tallies, addRow, addRows}
 use Rattle.model.specs.Laws.Lists.{none-count, some-count}
 use Rattle.model.specs.Laws.Tables.{holds-append}
 

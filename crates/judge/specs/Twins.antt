@@ -1,8 +1,8 @@
 -- (d) by the ending: the last written slot is live and its block was met once before.
-use Prim.Native.Nat.{ℕ, zero, suc, _+_, _-_, _≤_, _<_}
-use mathlib.Core.Path.{_≡_, refl, sym, ap, ap₂, _∙_}
-use mathlib.Core.Logic.{_⊎_, inl, inr, _≢_}
-use mathlib.Core.Bool.{Bool, true, false, cond, _||_, _&&_, not, true≢false, false≢true, and-eq-true-iff}
+use Prim.Native.Nat.{ℕ, suc, _+_, _-_, _<_}
+use mathlib.Core.Path.{_≡_, refl, sym, ap, _∙_}
+use mathlib.Core.Logic.{inl, inr, _≢_}
+use mathlib.Core.Bool.{Bool, true, false, cond, _||_, _&&_, false≢true, and-eq-true-iff}
 use mathlib.Core.List.{List, [], _∷_, _++_, flatten, append-nil}
 use native.Mathlib.Omega.{arith}
 use native.Mathlib.Decide.{ℕ-discrete}
@@ -11,18 +11,18 @@ use lib.Dec.{ltb, leb, eqb}
 use borrow.Author.Tests.{ltb-true, leb-true, eqb-true, lt-ltb, le-leb, eq-eqb, eqb-false}
 use Rattle.model.specs.Lists.{all}
 use Rattle.model.specs.Slot.{Slot, empty, torn, dead, wrong, live, isEmpty, isTorn, isWrong, Entry, entryOf}
-use Rattle.model.specs.State.{View, entries, entriesIn, holds, distinct, onlyTopEmpty, noneWrongOrTorn, blocksDistinct, emptySlotsLast, capacity, placeOf, blockIn, copies}
+use Rattle.model.specs.State.{View, entries, entriesIn, holds, distinct, noneWrongOrTorn, blocksDistinct, emptySlotsLast, capacity, placeOf, blockIn, copies}
 use Rattle.model.specs.Table.{Table}
 use Rattle.model.specs.Laws.View.{slotChanged}
 use Rattle.bridge.specs.Predicted.{marked}
-use Rattle.bridge.specs.Views.Places.{FirstLive, fill, fill-all, fill-empty-last, marked-at, marked-entries}
+use Rattle.bridge.specs.Views.Places.{fill, marked-at, marked-entries}
 use Rattle.bridge.specs.Views.Shape.{first-live-in}
 use Rattle.judge.specs.declared.Ending.{Ending}
 use Rattle.judge.specs.declared.Ending.the-variants.{Full, Room, TornLast, TwinLast, Bad}
-use Rattle.judge.specs.Endings.{behind, turn, judge, ring, isFull, isBad, endsTwin}
+use Rattle.judge.specs.Endings.{behind, turn, isFull, isBad, endsTwin}
 use Rattle.judge.specs.Cases.{fine, lastWritten, twinBlock, twinMarked, twinLast}
-use Rattle.judge.specs.Judged.{Plain, Stop, Judged, stop-judge}
-use Rattle.judge.specs.Ordered.{ordered, rowsWith, before-top, Ordered, ordered-facts, facts-ordered, ordered-rows, top-entries, ordered-ending, ending-plain, Last, find-last, last-written, last-block, none-written}
+use Rattle.judge.specs.Judged.{Plain, Judged, stop-judge}
+use Rattle.judge.specs.Ordered.{ordered, rowsWith, before-top, Ordered, ordered-facts, facts-ordered, ordered-rows, top-entries, ordered-ending, ending-plain, find-last, last-written, last-block, none-written}
 use Rattle.judge.specs.Ends.{both-ways, fine-ordered, stop-twin, ending, rows-then, rows-plain, entries-of, swap-sound, swap-last}
 use Rattle.model.specs.Laws.Tables.{copies-append, copies-cons-same, copies-cons-other, copies-none, copies-cons, holds-copies, held-copies, distinct-copies, copies-distinct, withoutFirst}
 

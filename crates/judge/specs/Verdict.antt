@@ -1,25 +1,25 @@
 -- The sums of the rows decide the state of the slots, and tell where the top ends.
-use Prim.Native.Nat.{ℕ, zero, suc, _+_, _-_, _*_, _≤_, _<_}
-use mathlib.Core.Path.{_≡_, refl, sym, ap, ap₂, _∙_, subst}
-use mathlib.Core.Logic.{_⊎_, inl, inr}
-use mathlib.Core.Bool.{Bool, true, false, cond, _||_, _&&_, not, true≢false, false≢true, and-eq-true-iff, or-true}
+use Prim.Native.Nat.{ℕ, suc, _+_, _-_, _≤_, _<_}
+use mathlib.Core.Path.{_≡_, refl, sym, ap, _∙_, subst}
+use mathlib.Core.Logic.{inl, inr}
+use mathlib.Core.Bool.{Bool, true, false, cond, _||_, _&&_, true≢false, false≢true, or-true}
 use mathlib.Core.List.{List, [], _∷_, _++_, flatMap, flatten}
 use native.Mathlib.Omega.{arith}
 use lib.ListN.{length}
-use lib.Dec.{ltb, leb, eqb}
+use lib.Dec.{leb, eqb}
 use borrow.Author.Tests.{eqb-true, eq-eqb}
 use Rattle.model.specs.Lists.{all, count}
 use Rattle.model.specs.Slot.{Slot, empty, torn, dead, wrong, live, isEmpty, Entry, entryOf}
-use Rattle.model.specs.State.{View, entries, entriesIn, holds, emptyLast, capacity, filled, blockIn, Exception, caseC, caseD, State, clean, unfinished, damaged}
+use Rattle.model.specs.State.{entries, entriesIn, holds, emptyLast, capacity, filled, caseC, caseD, State, clean, unfinished, damaged}
 use Rattle.model.specs.Steps.{topRow, firstEmpty, compactions}
 use Rattle.bridge.specs.Views.Slots.{full, entries-append, find-top, top-row}
 use Rattle.judge.specs.declared.Ending.{Ending}
 use Rattle.judge.specs.declared.Ending.the-variants.{Full, Room, TornLast, TwinLast, Bad}
 use Rattle.judge.specs.declared.Sum.{Sum}
-use Rattle.judge.specs.Endings.{turn, ring, isFull, isBad, inOrder, endsTorn, endsTwin}
+use Rattle.judge.specs.Endings.{isFull, isBad, inOrder, endsTorn, endsTwin}
 use Rattle.judge.specs.Cases.{fine, twinBlock, slotState}
-use Rattle.judge.specs.Judged.{Plain, Stop, Judged}
-use Rattle.judge.specs.Ordered.{rowsWith, before-top, Ordered, filled-at, last-block}
+use Rattle.judge.specs.Judged.{Stop, Judged}
+use Rattle.judge.specs.Ordered.{rowsWith, before-top, filled-at, last-block}
 use Rattle.judge.specs.Ends.{ending, fine-ending, torn-ending, ending-ordered, rows-plain, stop-torn, stop-twin}
 use Rattle.judge.specs.Twins.{twin-ending}
 use Rattle.judge.specs.Tally.{noneMet, tallies, addRows, noSum}

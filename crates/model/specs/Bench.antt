@@ -1,16 +1,15 @@
 -- Document 01, "Bench examples": those marked "Proved", 1 to 8, entries of one table under one statement (Laws.Bench).
-use Prim.Native.Nat.{ℕ, zero, suc, _+_, _-_, _*_}
-use mathlib.Core.Bool.{Bool, true, false, cond, _||_, _&&_, not}
+use Prim.Native.Nat.{ℕ, zero, suc, _+_, _*_}
+use mathlib.Core.Bool.{Bool, true, cond, _||_, _&&_, not}
 use mathlib.Core.List.{List, [], _∷_, _++_}
-use lib.ListN.{length, getD, take, drop, replicate}
+use lib.ListN.{length, getD, take, replicate}
 use lib.Dec.{eqb}
 use Rattle.model.specs.Lists.{same}
 use Rattle.model.specs.Chip.{Image, Page, imageLength, pagesOf}
-use Rattle.model.specs.Slot.{Entry}
 use Rattle.model.specs.State.{segmentsOn, viewOf, entriesIn, capacity, stateOf}
-use Rattle.model.specs.Answers.{Request, format, put, delete, read, recover, Work, workOf, codeUnder, isDamaged, isUnfinished}
+use Rattle.model.specs.Answers.{Request, format, put, recover, Work, workOf, codeUnder, isDamaged, isUnfinished}
 use Rattle.model.specs.Table.{lookup, contentsFound}
-use Rattle.model.specs.Sequences.{Call, play, observed, Observed, erasesIn, Tally, start, tally, eraseCount}
+use Rattle.model.specs.Sequences.{Call, play, observed, Observed, erasesIn, start, tally, eraseCount}
 
 -- ---- a chip full of zero bytes, formatted, after some calls
 

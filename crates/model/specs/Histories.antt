@@ -1,14 +1,13 @@
 -- The histories of demand 2: any requests, each answered under some allowance, or cut by a loss of power anywhere.
-use Prim.Native.Nat.{ℕ, zero, suc}
+use Prim.Native.Nat.{ℕ}
 use mathlib.Core.Path.{_≡_}
-use mathlib.Core.Bool.{Bool, cond}
+use mathlib.Core.Bool.{Bool}
 use mathlib.Core.List.{List, [], _∷_}
-use lib.Dec.{eqb}
 use Rattle.model.specs.Chip.{Image, Bytes, Cut, run}
 use Rattle.model.specs.State.{view}
 use Rattle.model.specs.Steps.{isWorn}
 use Rattle.model.specs.Table.{Table, tableOf}
-use Rattle.model.specs.Answers.{Request, format, put, delete, read, readOr, recover, workOf, Outcome, outcomeOf, pieceRead, pieceOr}
+use Rattle.model.specs.Answers.{Request, format, put, delete, read, readOr, recover, workOf, outcomeOf, pieceRead, pieceOr}
 
 -- ---- what a request shows: its code, and the bytes that come back
 

@@ -1,14 +1,13 @@
 -- Document 01, "The sequences of demand 3": what is counted, by the answers and the step lists.
-use Prim.Native.Nat.{ℕ, zero, suc, _+_, max}
-use mathlib.Core.Path.{_≡_}
+use Prim.Native.Nat.{ℕ, _+_, max}
 use mathlib.Core.Logic.{_≢_}
-use mathlib.Core.Bool.{Bool, true, false, cond, _||_, not}
+use mathlib.Core.Bool.{Bool, false, cond, _||_}
 use mathlib.Core.List.{List, [], _∷_, _++_}
 use lib.ListN.{length}
 use lib.Dec.{eqb}
 use Rattle.model.specs.Lists.{count}
 use Rattle.model.specs.Chip.{Image, Step, program, erase, Bytes}
-use Rattle.model.specs.Answers.{Request, format, put, delete, read, readOr, recover, Work, workOf, Outcome, outcomeOf}
+use Rattle.model.specs.Answers.{Request, format, put, delete, read, readOr, recover, workOf, outcomeOf}
 
 -- a request with its allowance of steps
 pub record Call : Type 0 where

@@ -1,5 +1,5 @@
 -- Document 01, "Slot page": the page that a block and its contents encode, and the five kinds of slot.
-use Prim.Native.Nat.{ℕ, zero, suc, _+_, _-_, _*_, _/_, _%_}
+use Prim.Native.Nat.{ℕ, _+_, _-_, _*_, _/_, _%_}
 use mathlib.Core.Bool.{Bool, true, false, cond, _||_, _&&_}
 use mathlib.Core.List.{List, [], _∷_, _++_}
 use lib.ListN.{length, getD, take, drop}
@@ -7,7 +7,6 @@ use lib.Dec.{ltb, leb, eqb}
 use Rattle.model.specs.Lists.{same}
 use Rattle.model.specs.Chip.{Page, erased}
 use Rattle.model.specs.Header.{isBlank}
-use Rattle.model.specs.declared.BlockNumber.{BlockNumber}
 use Rattle.model.specs.declared.SlotKind.{SlotKind}
 use Rattle.model.specs.declared.SlotKind.the-variants.{Empty, Torn, Live, Dead, Wrong}
 

@@ -1,13 +1,13 @@
 -- Document 01, "When an image is clean, unfinished or damaged".
-use Prim.Native.Nat.{ℕ, zero, suc, _+_, _-_, _*_, _%_, max}
+use Prim.Native.Nat.{ℕ, zero, suc, _-_, _*_, _%_, max}
 use mathlib.Core.Bool.{Bool, true, false, cond, _||_, _&&_, not}
-use mathlib.Core.List.{List, [], _∷_, _++_, flatMap, flatten, map}
+use mathlib.Core.List.{List, [], _∷_, flatMap, flatten, map}
 use lib.ListN.{length, getD, drop, set}
 use lib.Dec.{ltb, leb, eqb}
 use Rattle.model.specs.Lists.{all, count}
 use Rattle.model.specs.Chip.{Image, Page, pagesOf, bySegment}
 use Rattle.model.specs.Header.{erasePending, compacted, headerStatus, headerNumber, headerInUse, allBlank}
-use Rattle.model.specs.Slot.{Slot, empty, torn, dead, wrong, live, slotOf, isEmpty, isTorn, isWrong, Entry, entryOf}
+use Rattle.model.specs.Slot.{Slot, empty, dead, slotOf, isEmpty, isTorn, isWrong, Entry, entryOf}
 
 -- ---- segments
 

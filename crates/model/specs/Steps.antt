@@ -1,6 +1,6 @@
 -- Document 01, "The step lists". The order of steps is fixed, and one byte is one step even if it changes nothing.
 use Prim.Native.Nat.{ℕ, zero, suc, _+_, _-_, _*_, _%_}
-use mathlib.Core.Bool.{Bool, true, false, cond, _||_, _&&_, not}
+use mathlib.Core.Bool.{Bool, cond, _||_, _&&_, not}
 use mathlib.Core.List.{List, [], _∷_, _++_, map}
 use lib.ListN.{length, getD, take, drop, replicate}
 use lib.Dec.{ltb, leb}
@@ -8,7 +8,7 @@ use Rattle.model.specs.Lists.{all}
 use Rattle.model.specs.Chip.{Page, Step, program, erase, numberLimit}
 use Rattle.model.specs.Header.{openingBegun, opened, compactionBegun, erasePending, compacted, noOldSegment, headerPage}
 use Rattle.model.specs.Slot.{Slot, empty, slotPage, writeBegun, written, isEmpty, isDead, Entry, holding}
-use Rattle.model.specs.State.{Segment, blank, isInUse, isInvalid, nextNumber, topIndex, nextIndex, View, viewOf, entries, entriesIn, holds, lastSlot, Place, placeOf, older, Exception, caseA, caseB, caseC, caseD, State, clean, unfinished, damaged}
+use Rattle.model.specs.State.{Segment, blank, isInUse, isInvalid, nextNumber, nextIndex, View, entries, entriesIn, holds, lastSlot, Place, placeOf, older, Exception, caseA, caseB, caseC, caseD, State, clean, unfinished, damaged}
 
 -- ---- steps within one page
 

@@ -1,8 +1,8 @@
 -- The census: one slot and one segment more, and the ends; the state that a survey says.
-use Prim.Native.Nat.{ℕ, zero, suc, _+_, _-_, _*_, _≤_, _<_}
+use Prim.Native.Nat.{ℕ, suc, _+_, _-_, _*_, _≤_, _<_}
 use mathlib.Core.Path.{_≡_, refl, sym, ap, _∙_}
 use mathlib.Core.Bool.{Bool, true, false, cond}
-use mathlib.Core.List.{List, [], _∷_, map}
+use mathlib.Core.List.{List}
 use native.Mathlib.Numerals.{add-one}
 use native.Mathlib.Omega.{arith}
 use lib.ListN.{length, getD, take, drop, drop-of-length-le}
@@ -10,7 +10,7 @@ use lib.Seq.{drop-cons}
 use Rattle.model.specs.Lists.{chunk}
 use Rattle.model.specs.Chip.{Image, Page}
 use Rattle.model.specs.Header.{headerInUse, headerStatus, headerNumber, isBlank}
-use Rattle.model.specs.Slot.{Slot, slotOf, kindOf}
+use Rattle.model.specs.Slot.{slotOf, kindOf}
 use Rattle.model.specs.State.{Segment, blank, invalid, inUse, stateOf, segmentsOf}
 use Rattle.model.specs.declared.SegmentNumber.{SegmentNumber}
 use Rattle.model.specs.declared.SlotKind.{SlotKind}
@@ -25,7 +25,6 @@ use Rattle.judge.specs.Parts.{headerOffset, slotsOffset, segmentSeen, segment-s
 use Rattle.rows.proofs.Laws.Rows.{kinds-next, page-part}
 use Rattle.qbx_report.specs.declared.Census.{Census}
 use Rattle.qbx_report.specs.Census.{conditionOf, total, counted, countKinds, oneMore, countSegment, countSegments}
-use Rattle.qbx_says.specs.declared.Condition.{Condition}
 
 -- ---- the state
 

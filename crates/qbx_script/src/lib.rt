@@ -4,8 +4,6 @@ use libc::STDIN_FILENO;
 use libc::STDOUT_FILENO;
 use qbx_words::Reading;
 ghost use mathlib.Core.Path.{_≡_};
-ghost use Prim.Native.Nat.{_≤_};
-ghost use lib.ListN.{length};
 ghost use Rattle.qbx_script.specs.Script.{wordAt};
 
 // The word behind so many spaces; empty if there are not so many.

@@ -1,36 +1,26 @@
 -- The survey of an image by its cases: the top owing, the segment after it torn, or neither.
-use Prim.Native.Nat.{ℕ, zero, suc, _+_, _-_, _*_, _%_, _≤_, _<_}
+use Prim.Native.Nat.{ℕ, _+_, _-_, _*_, _≤_, _<_}
 use mathlib.Core.Path.{_≡_, refl, sym, ap, ap₂, _∙_, subst}
-use mathlib.Core.Bool.{Bool, true, false, cond, _||_, _&&_, not, true≢false, false≢true, and-eq-true-iff}
-use mathlib.Core.List.{List, [], _∷_, map}
+use mathlib.Core.Bool.{Bool, true, false, cond, _||_, not, and-eq-true-iff}
+use mathlib.Core.List.{List, map}
 use native.Mathlib.Omega.{arith}
-use native.Mathlib.Nat.{mod-lt}
-use lib.ListN.{length, getD, set, length-set}
-use lib.Dec.{ltb, leb, eqb}
-use borrow.Author.Tests.{eqb-true, lt-ltb}
+use lib.ListN.{length, getD, length-set}
+use lib.Dec.{leb, eqb}
 use Rattle.model.specs.Chip.{Image}
-use Rattle.model.specs.Slot.{Slot}
-use Rattle.model.specs.State.{Segment, blank, segmentsOf, isInUse, isInvalid, isOwing, nextNumber, topIndex, nextIndex, usedCount, firstNumber, slotsFrom, numbersFrom, View, viewOf, entriesIn, holds, copies, capacity, nextBlanked, topSettled, topSlots, filled, lastSlot, placeOf, lastBlock, older, Exception, caseA, caseB, caseC, caseD, State, clean, unfinished, damaged, stateOf}
-use Rattle.model.specs.Steps.{slotAt, topRow, firstEmpty, compactions}
-use Rattle.model.specs.Table.{lookup, contentsFound}
+use Rattle.model.specs.State.{Segment, blank, segmentsOf, isInUse, isInvalid, isOwing, nextNumber, topIndex, nextIndex, usedCount, firstNumber, slotsFrom, numbersFrom, viewOf, entriesIn, holds, capacity, nextBlanked, topSettled, filled, lastSlot, placeOf, lastBlock, older, Exception, caseA, caseB, caseC, caseD, State, clean, unfinished, damaged, stateOf}
+use Rattle.model.specs.Steps.{slotAt, topRow, compactions}
 use Rattle.model.specs.Laws.Ring.{slots-length}
-use Rattle.model.specs.Laws.Clean.{RingFacts, used-next}
 use Rattle.model.specs.Laws.Segments.{segments-length}
 use Rattle.judge.specs.declared.Sum.{Sum}
 use Rattle.scan.specs.declared.Exam.{Exam}
-use Rattle.find.specs.declared.Found.{Found}
-use Rattle.find.specs.declared.Found.the-variants.{At, Nothing}
-use Rattle.scan.specs.declared.Surveyed.{Surveyed}
 use Rattle.scan.specs.declared.Surveyed.the-variants.{Clean, TornSegment, ErasePending, TornSlot, OldSlot, Damaged}
 use Rattle.judge.specs.Endings.{inOrder, endsTorn, endsTwin}
-use Rattle.judge.specs.Cases.{frame, fine, slotState, twinLast, twinBlock, mendedState, stateBy, state-by, frame-ring, view-top, view-block}
+use Rattle.judge.specs.Cases.{frame, mendedState, stateBy, state-by, frame-ring, view-top, view-block}
 use Rattle.judge.specs.Heads.{outline, outline-used, outline-first}
 use Rattle.judge.specs.Tally.{badSum}
 use Rattle.judge.specs.Verdict.{orderly, tornWithin, twinWithin, verdict, Told}
-use Rattle.scan.specs.Find.{foundIn}
-use Rattle.scan.specs.Surveys.{surveyIn, mendIn, surveyOf, sumOn, examOf}
+use Rattle.scan.specs.Surveys.{surveyIn, mendIn, surveyOf, examOf}
 use Rattle.scan.specs.SurveyLaws.{Within, within-same, within-blanked, within-settled, exam-told, exam-sum, exam-orderly, exam-verdict}
-use Rattle.model.specs.Laws.Tables.{holds-copies}
 
 module _ (N B : ℕ) (s : Image) (some : 0 < N) where
   abbrev l : List Segment

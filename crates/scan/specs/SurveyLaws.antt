@@ -1,41 +1,33 @@
 -- What a table of summaries examined says of an image: conditions 1 to 8 of a mended list, and the state of its slots.
-use Prim.Native.Nat.{ℕ, zero, suc, _+_, _-_, _*_, _%_, _≤_, _<_}
+use Prim.Native.Nat.{ℕ, zero, suc, _-_, _%_, _<_}
 use mathlib.Core.Path.{_≡_, refl, sym, ap, ap₂, _∙_, subst}
 use mathlib.Core.Logic.{_≢_}
-use mathlib.Core.Bool.{Bool, true, false, cond, _||_, _&&_, not, true≢false, false≢true, or-true}
-use mathlib.Core.List.{List, [], _∷_, _++_, map, flatten}
+use mathlib.Core.Bool.{Bool, true, false, cond, _&&_, false≢true}
+use mathlib.Core.List.{List, [], _∷_, map}
 use native.Mathlib.Omega.{arith}
 use native.Mathlib.Decide.{ℕ-discrete}
 use native.Mathlib.Nat.{mod-lt}
 use lib.ListN.{length, getD, drop, set, length-set}
-use lib.Seq.{getD-set-same, getD-set-other, set-out}
-use lib.Dec.{ltb, leb, eqb}
+use lib.Seq.{getD-set-same, getD-set-other}
+use lib.Dec.{ltb, eqb}
 use borrow.Author.Tests.{ltb-true, eqb-true}
 use Rattle.model.specs.Lists.{chunk}
 use Rattle.model.specs.Chip.{Image, Page}
 use Rattle.model.specs.Slot.{Slot, empty, torn, dead, wrong, live, slotOf, numberOk}
-use Rattle.model.specs.State.{Segment, blank, invalid, inUse, segmentsOf, isInUse, isInvalid, isOwing, numberAfter, slotsIn, nextNumber, topIndex, nextIndex, usedCount, firstNumber, slotsFrom, View, viewOf, entriesIn, numbersFrom, capacity, nextBlanked, settled, topSettled, topSlots, filled, lastSlot, placeOf, lastBlock, older, Exception, caseA, caseB, caseC, caseD, State, clean, unfinished, damaged, stateOf}
-use Rattle.model.specs.Steps.{slotAt}
+use Rattle.model.specs.State.{Segment, blank, invalid, inUse, segmentsOf, isInUse, numberAfter, slotsIn, nextNumber, topIndex, nextIndex, usedCount, firstNumber, slotsFrom, viewOf, numbersFrom, capacity, nextBlanked, settled, topSettled, damaged}
 use Rattle.model.specs.Laws.Lists.{and-left, and-right}
 use Rattle.model.specs.Laws.Ring.{slots-length, number-in-use}
-use Rattle.model.specs.Laws.Clean.{RingFacts, used-next}
-use Rattle.model.specs.Laws.SlotPage.{LiveFacts, KindFacts, kind-facts, number-below}
+use Rattle.model.specs.Laws.SlotPage.{KindFacts, kind-facts, number-below}
 use Rattle.model.specs.Laws.Segments.{segments-length}
-use Rattle.judge.specs.declared.Sum.{Sum}
-use Rattle.scan.specs.declared.Exam.{Exam}
-use Rattle.find.specs.declared.Found.{Found}
-use Rattle.scan.specs.declared.Surveyed.{Surveyed}
-use Rattle.scan.specs.declared.Surveyed.the-variants.{Clean, TornSegment, ErasePending, TornSlot, OldSlot, Damaged}
 use Rattle.judge.specs.Endings.{inOrder, endsTorn, endsTwin}
-use Rattle.judge.specs.Cases.{frame, fine, slotState, mendedState, stateBy, state-by, frame-ring, view-top, view-block, twinBlock}
+use Rattle.judge.specs.Cases.{frame, fine, slotState, frame-ring}
 use Rattle.judge.specs.Rows.{slotsAt}
 use Rattle.judge.specs.Parts.{slotsOffset, rowsOn, used-rows}
 use Rattle.judge.specs.Heads.{outline, outline-frame, outline-used, outline-first}
 use Rattle.judge.specs.Tally.{noneMet, tallies, addRows, noSum, badSum}
 use Rattle.judge.specs.TallyLaws.{Narrow, NarrowRows}
 use Rattle.judge.specs.Verdict.{orderly, tornWithin, twinWithin, verdict, Told, told}
-use Rattle.scan.specs.Find.{foundIn}
-use Rattle.scan.specs.Surveys.{surveyIn, mendIn, surveyOf, sumOn, examOf}
+use Rattle.scan.specs.Surveys.{sumOn, examOf}
 
 -- ---- block numbers on an image
 

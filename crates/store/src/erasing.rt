@@ -1,5 +1,4 @@
 // Segments erased one after the other.
-ghost use Prim.Native.Nat.{_≤_};
 ghost use lib.ListN.{length};
 ghost use Rattle.model.specs.Steps.{eraseFirst};
 ghost use Rattle.flash.specs.Ran.{Ran};

@@ -8,7 +8,7 @@ use lib.ListN.{replicate}
 use Rattle.model.specs.Chip.{Image, imageLength, rightSize, pagesOf, withSegment, step, run}
 use Rattle.model.specs.State.{segmentsOf}
 use Rattle.model.specs.Answers.{format, put, workOf, outcomeOf}
-use Rattle.model.specs.Sequences.{Call, Observed, observe, observed, Uncut, Tally, start, tally}
+use Rattle.model.specs.Sequences.{Call, Observed, observe, observed, Uncut, start, tally}
 use Rattle.model.specs.Laws.Bench.{evaluate}
 use Rattle.wear.specs.Demand3.{Bounded}
 use Rattle.wear.specs.Sequence.{demand3}

@@ -1,16 +1,16 @@
 -- Compactions, counted: those that make room are exactly as many as the wear rule says, one after the other from the oldest segment.
-use Prim.Native.Nat.{ℕ, zero, suc, _+_, _-_, _*_, _≤_, _<_}
-use mathlib.Core.Path.{_≡_, refl, sym, ap, ap₂, _∙_}
-use mathlib.Core.Bool.{Bool, true, false, cond, not}
+use Prim.Native.Nat.{ℕ, zero, suc, _+_, _-_, _≤_, _<_}
+use mathlib.Core.Path.{_≡_, refl, sym, ap, _∙_}
+use mathlib.Core.Bool.{Bool, true, false}
 use mathlib.Core.List.{List, [], _∷_, _++_, append-assoc, append-nil, map, flatten}
 use native.Mathlib.Omega.{arith}
 use lib.ListN.{length, getD, drop, replicate, length-append}
 use lib.Dec.{ltb}
 use borrow.Author.Tests.{ltb-false}
 use Rattle.model.specs.Chip.{Step}
-use Rattle.model.specs.Slot.{Slot, empty, isEmpty, isDead, Entry, holding}
+use Rattle.model.specs.Slot.{Slot, empty, isEmpty, Entry, holding}
 use Rattle.model.specs.State.{View, entries}
-use Rattle.model.specs.Steps.{topRow, topNumber, hasRoom, firstEmpty, copied, Room, openNext, compactOldest, compactUntilRoom, roomFor, compactions}
+use Rattle.model.specs.Steps.{topRow, hasRoom, firstEmpty, copied, Room, compactOldest, compactUntilRoom, roomFor, compactions}
 use Rattle.bridge.specs.Predicted.{CleanView}
 use Rattle.bridge.specs.Views.Slots.{noneDead, top-row}
 use Rattle.bridge.specs.Views.Room.{compactions-some, compactions-length, Tidied, tidied, some-dead}

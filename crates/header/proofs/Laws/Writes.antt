@@ -1,10 +1,10 @@
 -- Laws of headers that are made up and then programmed, where they belong in the image.
 use Prim.Native.Nat.{ℕ, _+_, _-_, _*_, _%_, _≤_}
 use mathlib.Core.Path.{_≡_}
-use mathlib.Core.List.{List, [], _∷_, _++_, append-assoc}
+use mathlib.Core.List.{[], _∷_, _++_, append-assoc}
 use native.Mathlib.Omega.{arith}
 use lib.ListN.{length, take, drop}
-use Rattle.model.specs.Chip.{Image, Page, Step, program}
+use Rattle.model.specs.Chip.{Image, Page, program}
 use Rattle.model.specs.Header.{openingBegun, opened, compactionBegun, erasePending, compacted, noOldSegment, headerPage}
 use Rattle.model.specs.Steps.{programPart, onPage, headerAt, openSegment, settle}
 use Rattle.flash.specs.Ran.{Programmed, Within}

@@ -4,7 +4,7 @@ use mathlib.Core.Path.{_≡_, refl}
 use mathlib.Core.List.{List, [], _∷_}
 use Rattle.model.specs.Lists.{count}
 use Rattle.model.specs.Answers.{Request, put, delete, read, recover}
-use Rattle.model.specs.Sequences.{Observed, among, removed, inserted, storedAfter, replaces, Tally, start, tallied, tally, eraseCount, erasesOf}
+use Rattle.model.specs.Sequences.{Observed, among, removed, inserted, storedAfter, replaces, start, tallied, tally, eraseCount, erasesOf}
 
 abbrev saw : Request → ℕ → List ℕ → Observed
 saw r code erases = record { request = r; code = code; erases = erases }

@@ -8,7 +8,6 @@ use borrow.Author.Needs.{needs}
 use denote.Ref.{now}
 use lib.ListN.{take, drop, length-take, length-drop}
 use Rattle.model.specs.Slot.{slotOf, kindOf}
-use Rattle.model.specs.declared.SlotKind.{SlotKind}
 use Rattle.judge.specs.Rows.{kindsAt}
 use Rattle.rows.proofs.Laws.Rows.{page-part}
 use Rattle.qbx_report.specs.declared.Census.{Census}

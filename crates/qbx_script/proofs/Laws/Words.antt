@@ -1,9 +1,9 @@
 -- Words of a line, found one after the other. `end` is where the next space stands, or the line's end.
 use Prim.Native.Nat.{ℕ, zero, suc, _+_, _-_, _<_, _≤_}
-use mathlib.Core.Path.{_≡_, refl, sym, _∙_, ap, subst}
+use mathlib.Core.Path.{_≡_, _∙_, ap}
 use mathlib.Core.List.{List, []}
 use native.Mathlib.Omega.{arith}
-use lib.ListN.{length, take, drop, length-drop, drop-of-length-le}
+use lib.ListN.{length, take, drop, drop-of-length-le}
 use lib.Seq.{take-length, take-nil, drop-nil, drop-drop}
 use Rattle.bytes.specs.Bytes.{indexOf, slice}
 use Rattle.qbx_script.specs.Script.{wordAt}

@@ -1,15 +1,15 @@
 -- A row of slots: one slot more, the end, and counts that fit.
-use Prim.Native.Nat.{ℕ, zero, suc, _+_, _-_, _*_, _≤_, _<_}
-use mathlib.Core.Path.{_≡_, refl, sym, ap, _∙_}
-use mathlib.Core.List.{List, [], _∷_, map}
+use Prim.Native.Nat.{ℕ, suc, _+_, _-_, _*_, _≤_, _<_}
+use mathlib.Core.Path.{_≡_}
+use mathlib.Core.List.{List, _∷_}
 use native.Mathlib.Omega.{arith}
-use lib.ListN.{length, take, drop}
+use lib.ListN.{take, drop}
 use lib.Seq.{drop-drop}
 use Rattle.model.specs.Lists.{chunk}
 use Rattle.model.specs.Slot.{slotOf, kindOf}
 use Rattle.model.specs.declared.SlotKind.{SlotKind}
 use Rattle.model.specs.declared.SlotKind.the-variants.{Empty, Torn, Live, Dead, Wrong}
-use Rattle.judge.specs.Rows.{Pass, pass, see, seeAll, kindsAt, slotsAt, Small}
+use Rattle.judge.specs.Rows.{Pass, see, seeAll, kindsAt, slotsAt, Small}
 
 pub see-small : (k : SlotKind) (p : Pass) (i : ℕ) → Small (p .row) i → Small (see k p .row) (i + 1)
 unfolding see

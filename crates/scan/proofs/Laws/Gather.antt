@@ -1,6 +1,6 @@
 -- The rows of the segments in use gathered one by one, and added up one by one.
-use Prim.Native.Nat.{ℕ, zero, suc, _+_, _-_, _*_, _%_, _≤_, _<_}
-use mathlib.Core.Path.{_≡_, refl, sym, ap, ap₂, _∙_}
+use Prim.Native.Nat.{ℕ, suc, _+_, _-_, _*_, _%_, _≤_, _<_}
+use mathlib.Core.Path.{_≡_, refl, sym, ap, _∙_}
 use mathlib.Core.Bool.{Bool, true, false, cond}
 use mathlib.Core.List.{List, [], _∷_, _++_, map, append-nil}
 use native.Mathlib.Omega.{arith}
@@ -9,11 +9,10 @@ use native.Mathlib.Numerals.{add-one}
 use lib.ListN.{length, getD, take, drop, set}
 use lib.Seq.{drop-cons, take-suc-set, append-snoc}
 use Rattle.model.specs.Chip.{Image}
-use Rattle.model.specs.Slot.{kindOf}
 use Rattle.judge.specs.declared.Row.{Row}
 use Rattle.judge.specs.declared.Summary.{Summary}
 use Rattle.judge.specs.declared.Sum.{Sum}
-use Rattle.judge.specs.Rows.{Pass, pass, seeAll, noRow, kindsAt, slotsAt}
+use Rattle.judge.specs.Rows.{Pass, pass, seeAll, noRow, kindsAt}
 use Rattle.judge.specs.Parts.{slotsOffset, rowsOn}
 use Rattle.judge.specs.Tally.{noneMet, tallies, rowOf, addRow, addRows, noSum, Few}
 

@@ -1,11 +1,11 @@
 -- The survey from what its steps return.
-use Prim.Native.Nat.{ℕ, suc, _+_, _-_, _*_, _%_, _≤_, _<_}
-use mathlib.Core.Path.{_≡_, refl, sym, ap, ap₂, _∙_, subst}
-use mathlib.Core.Bool.{Bool, true, false, cond, _||_, _&&_, not, and-eq-true-iff}
+use Prim.Native.Nat.{ℕ, _+_, _-_, _*_, _%_, _≤_, _<_}
+use mathlib.Core.Path.{_≡_, sym, ap, ap₂, _∙_}
+use mathlib.Core.Bool.{Bool, true, false, _||_, _&&_, not, and-eq-true-iff}
 use mathlib.Core.List.{List, map}
 use native.Mathlib.Omega.{arith}
 use native.Mathlib.Nat.{mod-lt}
-use lib.ListN.{length, getD, take}
+use lib.ListN.{length, getD}
 use lib.Dec.{leb, eqb}
 use borrow.Author.Tests.{eq-eqb, ne-eqb, leb-true, eqb-true}
 use Rattle.model.specs.Chip.{Image, rightSize, inRange, imageLength, leastSegments, mostSegments, leastSlots, mostSlots}
@@ -20,9 +20,9 @@ use Rattle.judge.specs.declared.Summary.{Summary}
 use Rattle.judge.specs.declared.Frame.{Frame}
 use Rattle.scan.specs.declared.Exam.{Exam}
 use Rattle.scan.specs.declared.Surveyed.{Surveyed}
-use Rattle.scan.specs.declared.Surveyed.the-variants.{Clean, TornSegment, ErasePending, TornSlot, OldSlot, Damaged}
+use Rattle.scan.specs.declared.Surveyed.the-variants.{TornSegment, ErasePending, TornSlot, OldSlot, Damaged}
 use Rattle.judge.specs.Cases.{frame}
-use Rattle.judge.specs.Heads.{bare, outline, heads, frameOf, outline-next, outline-used, outline-get, outline-top, outline-after, outline-after-use, outline-blanked, outline-settled-top}
+use Rattle.judge.specs.Heads.{bare, outline, heads, frameOf, outline-next, outline-used, outline-top, outline-after, outline-after-use, outline-blanked, outline-settled-top}
 use Rattle.judge.specs.Parts.{rowsOn}
 use Rattle.judge.specs.Tally.{noneMet, tallies, addRows, noSum, badSum}
 use Rattle.judge.specs.Verdict.{orderly, tornWithin, twinWithin}

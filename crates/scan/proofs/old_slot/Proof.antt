@@ -1,5 +1,5 @@
 -- `scan::old_slot` shows the older slot that is found. Assumes nothing.
-use mathlib.Core.Path.{_≡_, sym, ap, _∙_}
+use mathlib.Core.Path.{sym, ap, _∙_}
 use denote.Ref.{now}
 use Rattle.scan.specs.Find.{numbered-found}
 use Rattle.scan.specs.Surveys.{oldIn}

@@ -1,6 +1,5 @@
 -- `scan::survey` is the survey of the definition. Assumes nothing.
-use Prim.Native.Nat.{_%_, _<_}
-use mathlib.Core.Path.{_≡_, sym, _∙_}
+use mathlib.Core.Path.{sym, _∙_}
 use native.Mathlib.Omega.{arith}
 use native.Mathlib.Nat.{mod-lt}
 use denote.Ref.{now}

@@ -3,7 +3,7 @@ use mathlib.Core.Path.{_≡_, sym, ap, _∙_}
 use native.Mathlib.Omega.{arith}
 use native.Mathlib.Nat.{mod-lt}
 use denote.Ref.{now}
-use Prim.Native.Nat.{ℕ, _<_}
+use Prim.Native.Nat.{ℕ}
 use Rattle.model.specs.State.{capacity}
 use Rattle.judge.specs.Verdict.{orderly}
 use Rattle.scan.proofs.Laws.Surveys.{owing-few-used, owing-disordered, owing-orderly}

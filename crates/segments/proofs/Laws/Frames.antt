@@ -1,21 +1,18 @@
 -- The frame from its parts, and tables with a summary changed.
-use Prim.Native.Nat.{ℕ, suc, _+_, _-_, _%_, _≤_, _<_}
+use Prim.Native.Nat.{ℕ, _-_, _%_, _≤_, _<_}
 use mathlib.Core.Path.{_≡_, refl, sym, ap, ap₂, _∙_}
-use mathlib.Core.Bool.{Bool, true, false, cond, _&&_, false≢true, true≢false}
-use mathlib.Core.List.{List, [], _∷_, map}
+use mathlib.Core.Bool.{Bool, true, false, _&&_, false≢true, true≢false}
+use mathlib.Core.List.{List, map}
 use native.Mathlib.Omega.{arith}
 use native.Mathlib.Nat.{mod-lt}
 use lib.ListN.{length, getD, take, set}
 use lib.Seq.{take-set-lt}
-use lib.Dec.{leb, eqb}
 use borrow.Author.Tests.{le-leb, lt-leb}
-use Rattle.model.specs.Header.{erasePending, compacted}
-use Rattle.model.specs.State.{Segment, blank, isOwing, nextNumber, usedCount, firstNumber, someInUse, numbersFrom, consecutive, noneOwing, othersBlank, nextIndex, topIndex, nextBlanked, settled, topSettled}
+use Rattle.model.specs.State.{Segment, blank, isOwing, nextNumber, usedCount, firstNumber, someInUse, numbersFrom, consecutive, nextIndex, topIndex, nextBlanked, settled, topSettled}
 use Rattle.model.specs.Laws.Lists.{map-set}
 use Rattle.judge.specs.declared.SegmentState.{SegmentState}
 use Rattle.judge.specs.declared.SegmentState.the-variants.{Blank, Invalid, InUse, Owing}
 use Rattle.judge.specs.declared.Summary.{Summary}
-use Rattle.judge.specs.declared.Frame.{Frame}
 use Rattle.judge.specs.Cases.{frame}
 use Rattle.judge.specs.Heads.{bareOf, bare, heads, allSettled, frameOf}
 use Rattle.segments.proofs.Laws.Tables.{heads-get}

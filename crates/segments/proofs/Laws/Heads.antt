@@ -1,6 +1,6 @@
 -- A segment seen by its header, and a table of them filled.
-use Prim.Native.Nat.{ℕ, zero, suc, _+_, _-_, _*_, _≤_, _<_}
-use mathlib.Core.Path.{_≡_, refl, sym, ap, ap₂, _∙_}
+use Prim.Native.Nat.{ℕ, _+_, _-_, _*_, _≤_, _<_}
+use mathlib.Core.Path.{_≡_, refl, sym, ap, _∙_}
 use mathlib.Core.Bool.{Bool, true, false, cond}
 use mathlib.Core.List.{List, [], _∷_, _++_, map}
 use native.Mathlib.Omega.{arith}
@@ -18,7 +18,7 @@ use Rattle.model.specs.Laws.Segments.{segments-length}
 use Rattle.header.specs.declared.HeaderSeen.{HeaderSeen}
 use Rattle.header.specs.declared.HeaderSeen.the-variants.{InUse, NotInUse}
 use Rattle.header.specs.Parts.{headerSeen}
-use Rattle.judge.specs.declared.SegmentState.the-variants.{Blank, Invalid, Owing}
+use Rattle.judge.specs.declared.SegmentState.the-variants.{Owing}
 use Rattle.judge.specs.declared.Summary.{Summary}
 use Rattle.judge.specs.Parts.{headerOffset, slotsOffset, segmentSeen, segment-seen}
 use Rattle.judge.specs.Rows.{slotsAt}

@@ -1,5 +1,4 @@
 -- `segments::next_blanked` shows the segments with the one after the top blank. Assumes nothing.
-use Prim.Native.Nat.{_%_}
 use native.Mathlib.Omega.{arith}
 use native.Mathlib.Nat.{mod-lt}
 use Rattle.segments.proofs.Laws.Frames.{blanked-table}

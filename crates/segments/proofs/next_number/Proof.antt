@@ -1,5 +1,5 @@
 -- `segments::next_number` is the number of the definition. Assumes nothing.
-use Prim.Native.Nat.{ℕ, _+_, _-_, _≤_, _<_, max}
+use Prim.Native.Nat.{ℕ, _-_, _≤_, _<_, max}
 use mathlib.Core.Path.{_≡_, ap, _∙_}
 use native.Mathlib.Omega.{arith}
 use borrow.Author.Needs.{needs}
@@ -7,14 +7,14 @@ use lib.ListN.{length}
 use Rattle.model.specs.State.{nextNumber}
 use Rattle.judge.specs.Heads.{heads}
 use Rattle.segments.proofs.Laws.Tables.{headsFrom, next-start, next-turn, next-end}
-use Prim.Native.Nat.{_+_, _-_, _≤_, max}
-use mathlib.Core.Path.{_≡_, sym, ap, _∙_}
+use Prim.Native.Nat.{_-_, _≤_, max}
+use mathlib.Core.Path.{_≡_, ap, _∙_}
 use native.Mathlib.Omega.{arith}
 use borrow.Author.Needs.{needs}
-use lib.ListN.{length, getD}
+use lib.ListN.{length}
 use Rattle.model.specs.State.{nextNumber}
-use Rattle.judge.specs.Heads.{bare, heads}
-use Rattle.segments.proofs.Laws.Tables.{headsFrom, heads-all, heads-next, heads-end, next-start, next-turn, next-end}
+use Rattle.judge.specs.Heads.{heads}
+use Rattle.segments.proofs.Laws.Tables.{headsFrom, next-start, next-turn, next-end}
 use Rattle.segments.proofs.next_number.Statement.{statement}
 use Rattle.segments.proofs.next_number.Tie as tie
 

@@ -1,5 +1,4 @@
 -- `segments::number_after` is the number of the definition. Assumes nothing.
-use mathlib.Core.Path.{_≡_}
 use Rattle.model.specs.State.{numberAfter}
 use Rattle.judge.specs.Heads.{bare, bareOf}
 use native.Mathlib.Omega.{arith}

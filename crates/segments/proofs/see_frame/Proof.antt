@@ -1,11 +1,9 @@
 -- `segments::see_frame` is the frame of the definition. Assumes nothing.
-use Prim.Native.Nat.{_≤_}
 use borrow.Author.Tests.{not-true, not-false}
-use mathlib.Core.Path.{_≡_, refl, sym, ap, _∙_}
-use mathlib.Core.Bool.{Bool, true, false, _&&_}
+use mathlib.Core.Path.{refl, sym, _∙_}
+use mathlib.Core.Bool.{true, false}
 use native.Mathlib.Omega.{arith}
-use Rattle.judge.specs.Heads.{heads, allSettled}
-use Rattle.judge.specs.Tally.{Ranged}
+use Rattle.judge.specs.Heads.{heads}
 use Rattle.segments.proofs.Laws.Frames.{frame-unused, frame-crowded, frame-tested}
 use borrow.Author.Needs.{needs}
 use Rattle.segments.proofs.see_frame.Statement.{statement}

@@ -6,7 +6,7 @@ use native.Mathlib.Nat.{sub-zero, zero-sub, suc-sub-suc}
 use native.Mathlib.Omega.{arith}
 use lib.ListN.{length, take, drop, set, replicate}
 use lib.Seq.{paste, take-length, drop-drop}
-use Rattle.model.specs.Chip.{Image, Page, Step, program, erased}
+use Rattle.model.specs.Chip.{Image, Page, program, erased}
 use Rattle.model.specs.Slot.{mostContents, slotPage}
 use Rattle.model.specs.Steps.{programPart, onPage, writeSlot, markDead}
 use Rattle.flash.specs.Ran.{Programmed, Within}

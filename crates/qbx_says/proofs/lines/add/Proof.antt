@@ -12,8 +12,6 @@ use borrow.Author.Needs.{needs}
 use Rattle.qbx_says.proofs.Laws.Lines.{add-turn}
 use Rattle.qbx_says.proofs.lines.add.Statement.{statement}
 use Rattle.qbx_says.proofs.lines.add.Tie as tie
-use Rattle.qbx_says.proofs.lines.add.Reads as reads
-use Rattle.qbx_says.proofs.lines.add.Lts as lts
 
 abbrev Inv-loop : tie.InvT-loop
 Inv-loop text at bytes₀ i₀ bytes i = (i ≤ length text) × (length bytes ≡ 160) × (take (at + i) bytes ≡ take at bytes₀ ++ take i text)

@@ -10,10 +10,6 @@ use Rattle.qbx_says.proofs.Laws.Digits.{digits-decimal, digits-few}
 use borrow.Author.Needs.{needs}
 use Rattle.qbx_says.proofs.lines.add_number.Statement.{statement}
 use Rattle.qbx_says.proofs.lines.add_number.Tie as tie
-use Rattle.qbx_says.proofs.lines.add_number.Reads as reads
-use Rattle.qbx_says.proofs.lines.add_number.Lts as lts
-use Rattle.io.proofs.decimal.Reads as decimal-reads
-use Rattle.qbx_says.proofs.lines.add.Reads as add-reads
 
 decimal-requires : tie.Need-decimal-requires
 decimal-requires c κs = search needs

@@ -1,6 +1,6 @@
 -- `qbx_words::numbers::number`. The invariant: the bytes from `i` on, behind the value so far, give the answer. Assumes nothing.
 use Prim.Native.Nat.{_-_, _≤_, _<_}
-use mathlib.Core.Path.{_≡_, refl, sym, _∙_}
+use mathlib.Core.Path.{_≡_, sym, _∙_}
 use native.Mathlib.Omega.{arith}
 use lib.ListN.{length, drop}
 use borrow.Author.Needs.{needs}
@@ -8,9 +8,6 @@ use Rattle.qbx_words.specs.Number.{numberFrom, numberOf}
 use Rattle.qbx_words.proofs.Laws.Numbers.{read-start, read-none, read-next, read-stop, read-large, read-end}
 use Rattle.qbx_words.proofs.numbers.number.Statement.{statement}
 use Rattle.qbx_words.proofs.numbers.number.Tie as tie
-use Rattle.qbx_words.proofs.numbers.number.Reads as reads
-use Rattle.qbx_words.proofs.numbers.number.Lts as lts
-use Rattle.qbx_words.proofs.numbers.digit.Reads as digit-reads
 
 abbrev Inv-loop : tie.InvT-loop
 Inv-loop word value₀ i₀ value i = (i ≤ length word) × (value < 10000000000000000000) × (numberFrom value (drop i word) ≡ numberOf word)

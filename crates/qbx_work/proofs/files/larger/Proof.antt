@@ -1,5 +1,4 @@
 -- `qbx_work::files::larger`: an offset above 0 is the number that its bits are. Assumes nothing.
-use Prim.Native.Nat.{_<_, _^_}
 use mathlib.Core.Path.{_≡_, sym, subst}
 use mathlib.Core.Bool.{Bool, true, false, false≢true}
 use native.Mathlib.Omega.{arith}
@@ -7,7 +6,7 @@ use lib.IntN.{ℤ, pos, negsuc, natAbs}
 use lib.Signed.{ltZ, nonNeg}
 use lib.Dec.{T}
 use mir.Syntax.{w64}
-use mir.Val.{Fits, SFits, toZ, ofZ, bits, hbits}
+use mir.Val.{Fits, SFits}
 use mir.Facts.{toZ-ofZ}
 use borrow.Author.Needs.{needs}
 use Rattle.qbx_work.proofs.files.larger.Statement.{statement}

@@ -1,10 +1,8 @@
 -- `scan::sums::examine` examines a table as the definition does. Assumes nothing.
-use mathlib.Core.Path.{sym, ap, _∙_}
 use native.Mathlib.Omega.{arith}
 use denote.Ref.{now}
 use Rattle.judge.specs.Heads.{heads}
 use Rattle.judge.specs.Tally.{badSum}
-use Rattle.scan.specs.Surveys.{Bounded}
 use Rattle.scan.proofs.Laws.Surveys.{exam-looked, exam-skipped}
 use borrow.Author.Needs.{needs}
 use Rattle.scan.proofs.sums.examine.Statement.{statement}
