@@ -47,7 +47,7 @@ fn word(i: usize, buf: &mut [u8; 64]) -> usize
 // The contents to put are on standard input. A byte more than fits is read, so that too many are seen.
 fn put(image: &mut [u8], path: &[u8], command: Command) {
     let mut contents = [0u8; 249];
-    let filled = qbx_work::fill(STDIN_FILENO, &mut contents);
+    let filled = qbx_files::fill(STDIN_FILENO, &mut contents);
     if !filled.whole {
         io::write_all(STDERR_FILENO, b"qbx: cannot read standard input\n");
         return;

@@ -75,7 +75,7 @@ fn play_lines(image: &mut [u8], script: &[u8]) {
 // The script is on standard input.
 fn play_on(image: &mut [u8]) {
     let mut script = io::large_buffer();
-    let filled = qbx_work::fill(STDIN_FILENO, &mut script);
+    let filled = qbx_files::fill(STDIN_FILENO, &mut script);
     let n = filled.count;
     play_lines(image, &script[..n]);
 }

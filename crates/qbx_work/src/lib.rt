@@ -1,8 +1,5 @@
 // The work of the program qbx, with its words handed in: the image's file is read, the store asked, the file replaced and
 // the answer said.
-mod files;
-mod requests;
-
 use model::Answer;
 use model::Performed;
 use qbx_says::Line;
@@ -11,7 +8,6 @@ use qbx_words::Complaint;
 use qbx_words::Verb;
 ghost use Prim.Native.Nat.{_≤_};
 ghost use lib.ListN.{length};
-pub use files::fill;
 
 // The number of the answer to a wrong size.
 const SIZE: u8 = 1;
@@ -52,8 +48,8 @@ fn present(image: &mut [u8], path: &[u8], command: Command) -> ImageFile
     if fd < 0 {
         return absent(image, command, os::errno());
     }
-    let filled = files::fill(fd, image);
-    let there = files::length_of(fd, filled.count);
+    let filled = qbx_files::fill(fd, image);
+    let there = qbx_files::length_of(fd, filled.count);
     libc::close(fd);
     ImageFile {
         count: filled.count,
@@ -82,7 +78,7 @@ fn absent(image: &mut [u8], command: Command, error: i32) -> ImageFile
     if image.len() < count {
         return none;
     }
-    requests::blank(&mut image[..count]);
+    qbx_requests::blank(&mut image[..count]);
     ImageFile {
         count,
         whole: true,
@@ -113,9 +109,9 @@ fn change(
     out: i32,
     err: i32,
 ) {
-    let performed = requests::perform(image, command, contents);
+    let performed = qbx_requests::perform(image, command, contents);
     if performed.steps > 0 {
-        if !files::replace(path, image) {
+        if !qbx_files::replace(path, image) {
             fail(err, b"write ", path);
             return;
         }
@@ -135,7 +131,7 @@ fn get(image: &[u8], command: Command, there: u64, out: i32, err: i32) {
     let answer = found.answer;
     let at = found.offset;
     let count = found.length;
-    if !io::write_all(out, requests::piece(image, at, count)) {
+    if !io::write_all(out, qbx_requests::piece(image, at, count)) {
         fail(err, b"write ", b"standard output");
         return;
     }

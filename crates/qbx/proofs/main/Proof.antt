@@ -1,5 +1,5 @@
 -- `qbx::main`: the image's bytes are as many as they are. Assumes nothing.
-use Rattle.qbx_work.proofs.Laws.Parts.{as-many}
+use Rattle.qbx_files.proofs.Laws.{as-many}
 use borrow.Author.Needs.{needs}
 use Rattle.qbx.proofs.main.Statement.{statement}
 use Rattle.qbx.proofs.main.Tie as tie

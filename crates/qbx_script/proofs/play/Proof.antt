@@ -1,5 +1,5 @@
 -- `qbx_script::play`: the image's bytes are as many as they are. Assumes nothing.
-use Rattle.qbx_work.proofs.Laws.Parts.{as-many}
+use Rattle.qbx_files.proofs.Laws.{as-many}
 use borrow.Author.Needs.{needs}
 use Rattle.qbx_script.proofs.play.Statement.{statement}
 use Rattle.qbx_script.proofs.play.Tie as tie

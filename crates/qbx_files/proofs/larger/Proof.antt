@@ -1,4 +1,4 @@
--- `qbx_work::files::larger`: an offset above 0 is the number that its bits are. Assumes nothing.
+-- `qbx_files::larger`: an offset above 0 is the number that its bits are. Assumes nothing.
 use mathlib.Core.Path.{_≡_, sym, subst}
 use mathlib.Core.Bool.{Bool, true, false, false≢true}
 use native.Mathlib.Omega.{arith}
@@ -9,8 +9,8 @@ use mir.Syntax.{w64}
 use mir.Val.{Fits, SFits}
 use mir.Facts.{toZ-ofZ}
 use borrow.Author.Needs.{needs}
-use Rattle.qbx_work.proofs.files.larger.Statement.{statement}
-use Rattle.qbx_work.proofs.files.larger.Tie as tie
+use Rattle.qbx_files.proofs.larger.Statement.{statement}
+use Rattle.qbx_files.proofs.larger.Tie as tie
 
 casts : (z : ℤ) → SFits w64 z → ltZ (pos 0) z ≡ true → T (nonNeg z) × Fits w64 (natAbs z)
 casts (pos n) f h = (tt, record { fits = omega (arith, f .sfits) })

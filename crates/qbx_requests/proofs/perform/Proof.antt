@@ -1,9 +1,9 @@
--- `qbx_work::requests::perform`: each verb is the model's request. Assumes nothing.
+-- `qbx_requests::perform`: each verb is the model's request. Assumes nothing.
 use Rattle.model.specs.Answers.{performed}
-use Rattle.qbx_work.specs.Work.{performedBy}
+use Rattle.qbx_requests.specs.Requests.{performedBy}
 use borrow.Author.Needs.{needs}
-use Rattle.qbx_work.proofs.requests.perform.Statement.{statement}
-use Rattle.qbx_work.proofs.requests.perform.Tie as tie
+use Rattle.qbx_requests.proofs.perform.Statement.{statement}
+use Rattle.qbx_requests.proofs.perform.Tie as tie
 
 enum-told : tie.Need-enum-told
 enum-told c = search needs

@@ -1,19 +1,11 @@
--- What the program computes beside its words: the name beside a file's, what a command does to an image.
-use Prim.Native.Nat.{ℕ, _+_}
-use mathlib.Core.Bool.{cond}
-use mathlib.Core.List.{List, [], _++_}
-use lib.ListN.{length}
-use lib.Dec.{leb}
+-- What a command does to an image.
+use Prim.Native.Nat.{ℕ}
+use mathlib.Core.List.{List}
 use Rattle.model.specs.Chip.{Image}
 use Rattle.model.specs.Answers.{Outcome, outcomeOf, format, put, delete, recover}
 use Rattle.qbx_words.specs.declared.Command.{Command}
 use Rattle.qbx_words.specs.declared.Verb.{Verb}
 use Rattle.qbx_words.specs.declared.Verb.the-variants.{Format, Put, Get, Delete, Recover, Check, Unknown}
-use Rattle.qbx_words.specs.Text.{text}
-
--- the name under which a file's successor is written, if it is no longer than so many bytes
-unfoldable pub besideOf : ℕ → List ℕ → List ℕ
-besideOf most path = cond (leb (length path + 4) most) (path ++ text ".new") []
 
 abbrev pub untouched : Image → Outcome
 untouched s = record { code = 0; count = 0; image = s }

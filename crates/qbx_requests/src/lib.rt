@@ -1,4 +1,4 @@
-// The store asked, on the image alone.
+// What a command asks of the store, on the image alone.
 use model::Answer;
 use model::Performed;
 use qbx_words::Command;
@@ -6,7 +6,7 @@ use qbx_words::Verb;
 ghost use mathlib.Core.Path.{_≡_};
 ghost use lib.ListN.{length, take, drop, replicate};
 ghost use Rattle.model.specs.Answers.{codeOf, performed};
-ghost use Rattle.qbx_work.specs.Work.{performedBy};
+ghost use Rattle.qbx_requests.specs.Requests.{performedBy};
 
 // A chip from the factory.
 pub fn blank(image: &mut [u8])

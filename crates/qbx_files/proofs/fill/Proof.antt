@@ -1,10 +1,10 @@
--- `qbx_work::files::fill`. The invariant: what was read is within the buffer. Assumes nothing.
+-- `qbx_files::fill`. The invariant: what was read is within the buffer. Assumes nothing.
 use Prim.Native.Nat.{_-_, _≤_}
 use mathlib.Core.Path.{_≡_}
 use lib.ListN.{length}
 use borrow.Author.Needs.{needs}
-use Rattle.qbx_work.proofs.files.fill.Statement.{statement}
-use Rattle.qbx_work.proofs.files.fill.Tie as tie
+use Rattle.qbx_files.proofs.fill.Statement.{statement}
+use Rattle.qbx_files.proofs.fill.Tie as tie
 
 abbrev Inv-loop : tie.InvT-loop
 Inv-loop fd buf₀ at₀ buf at = (at ≤ length buf) × (length buf ≡ length buf₀)

@@ -1,11 +1,11 @@
--- `qbx_work::files::beside`: two copies, one behind the other. Assumes nothing.
+-- `qbx_files::beside`: two copies, one behind the other. Assumes nothing.
 use mathlib.Core.Path.{refl, sym}
 use native.Mathlib.Omega.{arith}
 use denote.Ref.{now}
-use Rattle.qbx_work.proofs.Laws.Files.{beside-none, beside-made}
+use Rattle.qbx_files.proofs.Laws.{beside-none, beside-made}
 use borrow.Author.Needs.{needs}
-use Rattle.qbx_work.proofs.files.beside.Statement.{statement}
-use Rattle.qbx_work.proofs.files.beside.Tie as tie
+use Rattle.qbx_files.proofs.beside.Statement.{statement}
+use Rattle.qbx_files.proofs.beside.Tie as tie
 
 returns : tie.Need-returns
 returns c = ((omega arith, refl), sym (beside-none _ _ (omega arith)))

@@ -1,4 +1,4 @@
--- `qbx_work::requests::blank`. The invariant: the first `i` bytes are 255. Assumes nothing.
+-- `qbx_requests::blank`. The invariant: the first `i` bytes are 255. Assumes nothing.
 use Prim.Native.Nat.{ℕ, _-_, _≤_}
 use mathlib.Core.Path.{_≡_, refl, _∙_, ap}
 use mathlib.Core.List.{List, _++_}
@@ -7,9 +7,9 @@ use denote.Ref.{now}
 use lib.ListN.{length, drop, set, replicate, length-set}
 use borrow.Author.Fill.{fill-more}
 use borrow.Author.Needs.{needs}
-use Rattle.qbx_work.proofs.Laws.Parts.{filled}
-use Rattle.qbx_work.proofs.requests.blank.Statement.{statement}
-use Rattle.qbx_work.proofs.requests.blank.Tie as tie
+use Rattle.qbx_requests.proofs.Laws.{filled}
+use Rattle.qbx_requests.proofs.blank.Statement.{statement}
+use Rattle.qbx_requests.proofs.blank.Tie as tie
 
 abbrev Inv-loop : tie.InvT-loop
 Inv-loop image₀ i₀ image i = (i ≤ length image₀) × (length image ≡ length image₀) × (image ≡ replicate i 255 ++ drop i image₀)

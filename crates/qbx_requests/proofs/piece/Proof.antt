@@ -1,9 +1,9 @@
--- `qbx_work::requests::piece`: as far as the image goes. Assumes nothing.
-use Rattle.qbx_work.proofs.Laws.Parts.{piece-none, piece-rest, piece-whole}
+-- `qbx_requests::piece`: as far as the image goes. Assumes nothing.
+use Rattle.qbx_requests.proofs.Laws.{piece-none, piece-rest, piece-whole}
 use denote.Ref.{now}
 use borrow.Author.Needs.{needs}
-use Rattle.qbx_work.proofs.requests.piece.Statement.{statement}
-use Rattle.qbx_work.proofs.requests.piece.Tie as tie
+use Rattle.qbx_requests.proofs.piece.Statement.{statement}
+use Rattle.qbx_requests.proofs.piece.Tie as tie
 
 sub-result : tie.Need-sub-result
 sub-result c = search needs

@@ -1,9 +1,9 @@
--- Parts of an image.
+-- A part of an image, and an image filled.
 use Prim.Native.Nat.{ℕ, _+_, _-_, _<_, _≤_}
 use mathlib.Core.Path.{_≡_, sym, _∙_, ap}
 use mathlib.Core.List.{List, [], _++_, append-nil}
 use native.Mathlib.Omega.{arith}
-use lib.ListN.{length, take, drop, replicate, length-replicate, length-drop, drop-of-length-le}
+use lib.ListN.{length, take, drop, replicate, length-drop, drop-of-length-le}
 use lib.Seq.{take-all, take-nil}
 
 pub piece-none : (s : List ℕ) (at count : ℕ) → length s < at → [] ≡ take count (drop at s)
@@ -20,7 +20,3 @@ piece-whole s at count = let e : at + count - at ≡ count = omega arith in rw e
 -- filled up to the end
 pub filled : (s : List ℕ) (i : ℕ) → i ≡ length s → replicate i 255 ++ drop i s ≡ replicate (length s) 255
 filled s i e = let l : length s ≤ i = omega arith in rw (drop-of-length-le s l, append-nil) (ap (λ (k : ℕ). replicate k 255) e)
-
--- so many bytes alike; over any count, so that none is counted out
-pub as-many : (n v : ℕ) → n ≡ length (replicate n v)
-as-many n v = sym (length-replicate n v)

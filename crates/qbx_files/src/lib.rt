@@ -1,9 +1,9 @@
-// The image's file.
+// A file read, and replaced whole or not at all.
 ghost use mathlib.Core.Path.{_≡_};
 ghost use Prim.Native.Nat.{_+_, _≤_};
 ghost use lib.ListN.{length, take};
 ghost use Rattle.io.specs.Counts.{Counts};
-ghost use Rattle.qbx_work.specs.Work.{besideOf};
+ghost use Rattle.qbx_files.specs.Files.{besideOf};
 
 // What was read: how many bytes, and whether that is all there is or the buffer is full.
 pub struct Filled {

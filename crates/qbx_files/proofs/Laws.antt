@@ -1,14 +1,14 @@
--- The name beside a path.
+-- The name beside a path; a buffer of so many bytes.
 use Prim.Native.Nat.{ℕ, _+_, _<_, _≤_}
 use mathlib.Core.Path.{_≡_, sym, _∙_, ap}
 use mathlib.Core.List.{List, [], _∷_, _++_}
 use native.Mathlib.Omega.{arith}
-use lib.ListN.{length, take, drop, length-append, length-take}
+use lib.ListN.{length, take, drop, replicate, length-append, length-take, length-replicate}
 use lib.Seq.{take-length, take-append-seam, take-append-add}
 use borrow.Author.Tests.{le-leb, lt-leb}
 use Rattle.io.specs.Counts.{Counts}
 use Rattle.qbx_words.specs.Text.{text}
-use Rattle.qbx_work.specs.Work.{besideOf}
+use Rattle.qbx_files.specs.Files.{besideOf}
 
 pub beside-none : (most : ℕ) (path : List ℕ) → most < length path + 4 → besideOf most path ≡ []
 unfolding besideOf
@@ -30,3 +30,7 @@ module _ (path name mid part more rest : List ℕ) (fits : length path + 4 ≤ l
   beside-made =
       let n : length path + 4 ≡ length (take (length path + 4) (take (length path) mid ++ (part ++ rest))) = sym (ap length starts ∙ length-append path ending) in
       ((omega (arith, length-take (length path + 4) (take (length path) mid ++ (part ++ rest))), n), rw (le-leb (length path + 4) (length name) fits) starts)
+
+-- so many bytes alike; over any count, so that none is counted out
+pub as-many : (n v : ℕ) → n ≡ length (replicate n v)
+as-many n v = sym (length-replicate n v)

@@ -1,8 +1,8 @@
--- `qbx_work::requests::idle`: done, and no step. Assumes nothing.
+-- `qbx_requests::idle`: done, and no step. Assumes nothing.
 use mathlib.Core.Path.{refl}
 use Rattle.model.specs.Answers.{codeOf}
-use Rattle.qbx_work.proofs.requests.idle.Statement.{statement}
-use Rattle.qbx_work.proofs.requests.idle.Tie as tie
+use Rattle.qbx_requests.proofs.idle.Statement.{statement}
+use Rattle.qbx_requests.proofs.idle.Tie as tie
 
 returns : tie.Need-returns
 unfolding codeOf
