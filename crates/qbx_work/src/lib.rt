@@ -6,6 +6,7 @@ use qbx_says::Line;
 use qbx_words::Command;
 use qbx_words::Complaint;
 use qbx_words::Verb;
+ghost use mathlib.Core.Path.{_≡_};
 ghost use Prim.Native.Nat.{_≤_};
 ghost use lib.ListN.{length};
 
@@ -40,6 +41,17 @@ struct ImageFile {
     there: u64,
 }
 
+// A file that could not be had; the system's reason stays to be told.
+fn unread() -> ImageFile
+    ensures { λ r. ⌜ r .count ≡ 0 ⌝ }
+{
+    ImageFile {
+        count: 0,
+        whole: false,
+        there: 0,
+    }
+}
+
 // Has the image's file in the buffer: the file's own bytes, or a chip from the factory where format finds none.
 fn present(image: &mut [u8], path: &[u8], command: Command) -> ImageFile
     ensures { λ r. ⌜ r .count ≤ length (now (image .exit)) ⌝ }
@@ -49,11 +61,15 @@ fn present(image: &mut [u8], path: &[u8], command: Command) -> ImageFile
         return absent(image, command, os::errno());
     }
     let filled = qbx_files::fill(fd, image);
+    if !filled.whole {
+        libc::close(fd);
+        return unread();
+    }
     let there = qbx_files::length_of(fd, filled.count);
     libc::close(fd);
     ImageFile {
         count: filled.count,
-        whole: filled.whole,
+        whole: true,
         there,
     }
 }
@@ -62,21 +78,16 @@ fn present(image: &mut [u8], path: &[u8], command: Command) -> ImageFile
 fn absent(image: &mut [u8], command: Command, error: i32) -> ImageFile
     ensures { λ r. ⌜ r .count ≤ length (now (image .exit)) ⌝ }
 {
-    let none = ImageFile {
-        count: 0,
-        whole: false,
-        there: 0,
-    };
     let verb = command.verb;
     let Verb::Format = verb else {
-        return none;
+        return unread();
     };
     let count = request::size_of(command.segments as usize, command.slots as usize);
     if error != libc::ENOENT {
-        return none;
+        return unread();
     }
     if image.len() < count {
-        return none;
+        return unread();
     }
     qbx_requests::blank(&mut image[..count]);
     ImageFile {

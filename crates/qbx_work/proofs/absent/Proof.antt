@@ -9,14 +9,23 @@ use Rattle.qbx_work.proofs.absent.Tie as tie
 enum-told : tie.Need-enum-told
 enum-told c = search needs
 
+unread-requires : tie.Need-unread-requires
+unread-requires c κs = search needs
+
 returns : tie.Need-returns
 returns c = search needs
 
 size-of-requires : tie.Need-size-of-requires
 size-of-requires c κs = search needs
 
+unread-requires-2 : tie.Need-unread-requires-2
+unread-requires-2 c κs = search needs
+
 returns-2 : tie.Need-returns-2
 returns-2 c = search needs
+
+unread-requires-3 : tie.Need-unread-requires-3
+unread-requires-3 c κs = search needs
 
 returns-3 : tie.Need-returns-3
 returns-3 c = search needs
@@ -41,9 +50,12 @@ absent-spec =
     tie.close
     (tie.spec
     enum-told
+    unread-requires
     returns
     size-of-requires
+    unread-requires-2
     returns-2
+    unread-requires-3
     returns-3
     slice-relend-prefix-blank
     slice-aggregate-blank
