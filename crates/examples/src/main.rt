@@ -37,7 +37,7 @@ fn told(what: &[u8], p: Performed) {
     let answer = p.answer;
     text(what);
     text(b": answer ");
-    number(wide(request::code_of(answer)));
+    number(request::number_of(answer));
     text(b", steps ");
     number(p.steps);
     text(b"\n");
@@ -50,7 +50,7 @@ fn read(image: &[u8], segments: usize, slots: usize, block: u16) {
     text(b"read ");
     number(block as u64);
     text(b": answer ");
-    number(wide(request::code_of(answer)));
+    number(request::number_of(answer));
     contents(image, r);
     text(b"\n");
 }

@@ -7,19 +7,13 @@ ghost use Prim.Native.Nat.{_+_, _*_, _≤_};
 ghost use Rattle.model.specs.Answers.{codeOf, outcomeOf, readOutcome, format, put, delete, recover};
 ghost use Rattle.qanbillox.specs.Packed.{Gives, packedRead};
 
-fn wide(x: u8) -> u64
-    ensures { λ r. ⌜ r ≡ x ⌝ }
-{
-    x as u64
-}
-
 // The answer, and 256 times the steps done: a list never has more than some four million.
 fn packed(p: Performed) -> u64
     requires { ⌜ p .steps ≤ 4194304 ⌝ }
     ensures { λ r. ⌜ r ≡ codeOf (p .answer) + 256 * p .steps ⌝ }
 {
     let answer = p.answer;
-    wide(request::code_of(answer)) + 256 * p.steps
+    request::number_of(answer) + 256 * p.steps
 }
 
 // The answer, 256 times the length and 65,536 times the offset.
@@ -30,7 +24,7 @@ fn packed_read(p: Located) -> u64
     let answer = p.answer;
     let length = p.length as u64;
     let offset = p.offset as u64;
-    wide(request::code_of(answer)) + 256 * length + 65536 * offset
+    request::number_of(answer) + 256 * length + 65536 * offset
 }
 
 #[no_mangle]

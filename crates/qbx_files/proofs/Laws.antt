@@ -1,14 +1,15 @@
--- The name beside a path; a buffer of so many bytes.
+-- The name beside a path; a buffer of so many bytes; the larger of two counts.
 use Prim.Native.Nat.{ℕ, _+_, _<_, _≤_}
 use mathlib.Core.Path.{_≡_, sym, _∙_, ap}
 use mathlib.Core.List.{List, [], _∷_, _++_}
 use native.Mathlib.Omega.{arith}
 use lib.ListN.{length, take, drop, replicate, length-append, length-take, length-replicate}
 use lib.Seq.{take-length, take-append-seam, take-append-add}
+use lib.IntN.{ℤ, pos, negsuc}
 use borrow.Author.Tests.{le-leb, lt-leb}
 use Rattle.io.specs.Counts.{Counts}
 use Rattle.qbx_words.specs.Text.{text}
-use Rattle.qbx_files.specs.Files.{besideOf}
+use Rattle.qbx_files.specs.Files.{besideOf, largerOf}
 
 pub beside-none : (most : ℕ) (path : List ℕ) → most < length path + 4 → besideOf most path ≡ []
 unfolding besideOf
@@ -34,3 +35,8 @@ module _ (path name mid part more rest : List ℕ) (fits : length path + 4 ≤ l
 -- so many bytes alike; over any count, so that none is counted out
 pub as-many : (n v : ℕ) → n ≡ length (replicate n v)
 as-many n v = sym (length-replicate n v)
+
+pub larger-count : (z : ℤ) (k : ℕ) → k ≤ largerOf z k
+unfolding largerOf
+larger-count (pos n) k = omega arith
+larger-count (negsuc n) k = omega arith

@@ -3,7 +3,7 @@ ghost use mathlib.Core.Path.{_≡_};
 ghost use Prim.Native.Nat.{_+_, _≤_};
 ghost use lib.ListN.{length, take};
 ghost use Rattle.io.specs.Counts.{Counts};
-ghost use Rattle.qbx_files.specs.Files.{besideOf};
+ghost use Rattle.qbx_files.specs.Files.{besideOf, largerOf};
 
 // What was read: how many bytes, and whether that is all there is or the buffer is full.
 pub struct Filled {
@@ -58,7 +58,7 @@ pub fn fill(fd: i32, buf: &mut [u8]) -> Filled
 
 // The larger of an offset in a file and a count of its bytes.
 fn larger(offset: i64, count: u64) -> u64
-    ensures { λ r. ⌜ count ≤ r ⌝ }
+    ensures { λ r. ⌜ r ≡ largerOf offset count ⌝ }
 {
     if offset > 0 {
         let length = offset as u64;

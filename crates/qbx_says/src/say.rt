@@ -18,12 +18,6 @@ ghost use Rattle.qbx_says.specs.Said.{verdict, reason, stepsWord, answer
 
 // ---- answers
 
-fn wide(x: u8) -> u64
-    ensures { λ r. ⌜ r ≡ x ⌝ }
-{
-    x as u64
-}
-
 fn add_verdict(line: Line, code: u64) -> Line
     requires { ⌜ line .count ≤ 100 ⌝ }
     ensures { λ r. ⌜ Added line (verdict code) r × (r .count ≤ line .count + 9) ⌝ }
@@ -59,7 +53,7 @@ fn add_reason(line: Line, answer: Answer) -> Line
 fn say_answer(answer: Answer) -> Line
     ensures { λ r. ⌜ (said r ≡ answerText answer) × (r .count ≤ 40) ⌝ }
 {
-    let number = wide(request::code_of(answer));
+    let number = request::number_of(answer);
     let begun = add_verdict(empty(), number);
     add_reason(add_number(begun, number), answer)
 }

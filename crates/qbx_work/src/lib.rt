@@ -10,9 +10,6 @@ ghost use mathlib.Core.Path.{_≡_};
 ghost use Prim.Native.Nat.{_≤_};
 ghost use lib.ListN.{length};
 
-// The number of the answer to a wrong size.
-const SIZE: u8 = 1;
-
 // Says a line.
 fn print(fd: i32, line: Line)
     requires { ⌜ line .count ≤ 160 ⌝ }
@@ -100,7 +97,7 @@ fn absent(image: &mut [u8], command: Command, error: i32) -> ImageFile
 // Says an answer and the steps done; beside a wrong size what N and B ask for, and the bytes that are there.
 fn tell(fd: i32, performed: Performed, command: Command, there: u64) {
     let answer = performed.answer;
-    if request::code_of(answer) == SIZE {
+    if let Answer::Size = answer {
         print(
             fd,
             qbx_says::say_size(command.segments as usize, command.slots as usize, there),

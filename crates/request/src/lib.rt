@@ -113,3 +113,10 @@ pub fn code_of(answer: Answer) -> u8
         Answer::Cut => 9,
     }
 }
+
+// The same, to reckon with.
+pub fn number_of(answer: Answer) -> u64
+    ensures { λ r. ⌜ (r ≡ codeOf answer) × (r ≤ 255) ⌝ }
+{
+    code_of(answer) as u64
+}

@@ -1,5 +1,4 @@
 -- `qbx_says::say::say_answer`: its parts, one after the other. Assumes nothing.
-use mathlib.Core.Path.{_∙_}
 use native.Mathlib.Omega.{arith}
 use Rattle.qbx_says.specs.Said.{answerText}
 use Rattle.qbx_says.proofs.Laws.Lines.{more}
@@ -7,11 +6,8 @@ use borrow.Author.Needs.{needs}
 use Rattle.qbx_says.proofs.say.say_answer.Statement.{statement}
 use Rattle.qbx_says.proofs.say.say_answer.Tie as tie
 
-code-of-requires : tie.Need-code-of-requires
-code-of-requires c κs = search needs
-
-wide-requires : tie.Need-wide-requires
-wide-requires c κs = search needs
+number-of-requires : tie.Need-number-of-requires
+number-of-requires c κs = search needs
 
 empty-requires : tie.Need-empty-requires
 empty-requires c κs = search needs
@@ -30,14 +26,13 @@ unfolding answerText
 returns c =
     let k = c .before .before .before in
     let whole = more (c .add-reason .ensures .0) (more (c .before .add-number .ensures .0) (more (c .before .before .add-verdict .ensures .0) (k .empty .ensures .0))) in
-    (rw (← (k .before .wide .ensures ∙ k .before .before .code-of .ensures)) whole, omega arith)
+    (rw (← k .before .number-of .ensures .0) whole, omega arith)
 
 pub say-answer-spec : {M : Type 1} → statement M
 say-answer-spec =
     tie.close
     (tie.spec
-    code-of-requires
-    wide-requires
+    number-of-requires
     empty-requires
     add-verdict-requires
     add-number-requires
