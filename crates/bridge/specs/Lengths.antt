@@ -6,13 +6,13 @@ use mathlib.Core.List.{List, [], _∷_, _++_, map, flatMap, flatten}
 use native.Mathlib.Omega.{arith}
 use native.Mathlib.Nat.{mul-le-mul, mod-lt}
 use native.Mathlib.Decide.{decLt}
-use lib.ListN.{length, getD, take, drop, replicate, length-append, length-take, length-drop, length-replicate, List·getD-eq-default}
+use lib.ListN.{length, getD, take, drop, length-append, length-take, length-drop, List·getD-eq-default}
 use lib.Seq.{take-at}
 use lib.Dec.{ltb, eqb}
 use borrow.Author.Tests.{eqb-true}
 use Rattle.model.specs.Chip.{Image, Page, Step, program, erase, erased, mostSegments, mostSlots, rightSize}
 use Rattle.model.specs.Header.{numberBytes, inverted, headerPage, headerStatus, headerNumber, headerInUse, allBlank}
-use Rattle.model.specs.Slot.{Slot, empty, torn, dead, wrong, live, slotPage, slotOf, mostContents, Entry, entryOf, holding}
+use Rattle.model.specs.Slot.{Slot, empty, torn, dead, wrong, live, slotPage, slotOf, mostContents, Entry, entryOf}
 use Rattle.model.specs.State.{Segment, blank, invalid, inUse, isInUse, isInvalid, slotsIn, segmentOf, segmentsOf, nextNumber, nextIndex, usedCount, firstNumber, slotsFrom, View, viewOf, entries, entriesIn, holds, lastSlot, Place, placeOf, placeFrom, view, older, Exception, caseA, caseB, caseC, caseD, State, clean, unfinished, damaged, stateOf}
 use Rattle.model.specs.Steps.{topRow, topNumber, firstEmpty, programs, programPart, onPage, headerAt, slotAt, writeSlot, markDead, markPlace, openSegment, copyEntries, copyOut, settle, compact, copied, Room, hasRoom, openNext, compactOldest, compactUntilRoom, roomFor, markOld, writeAtTop, putSteps, deleteSteps, eraseFirst, formatSteps, eraseUnlessBlank, mendSteps, recoverSteps}
 use Rattle.model.specs.Table.{present, lookup, contentsFound}
@@ -22,7 +22,7 @@ use Rattle.model.specs.Laws.Chip.{size-facts}
 use Rattle.model.specs.Laws.SlotPage.{live-facts}
 use Rattle.model.specs.Laws.Segments.{partOf, part-size, segment-at, segments-length}
 use Rattle.bridge.specs.Accepted.{refused-none, accepted, put-passed, read-passed, size-passed}
-use Rattle.bridge.specs.Views.Slots.{entries-append, copied-entries}
+use Rattle.bridge.specs.Views.Slots.{entries-append, entries-length, copied-entries, copied-length}
 use Rattle.bridge.specs.Views.Places.{first-live}
 
 -- ---- steps within a page
@@ -105,22 +105,6 @@ compact-length N B o n es s =
       copy-length N B n 0 es s,
     )
 
-entries-length : (ks : List Slot) → length (entries ks) ≤ length ks
-unfolding entries flatMap
-entries-length [] = omega arith
-entries-length (k ∷ ks) = let h = entries-length ks in omega (arith, length-append (entryOf k) (flatMap entryOf ks), one k)
-  where
-    one : (x : Slot) → length (entryOf x) ≤ 1
-    one empty = unfold entryOf in omega arith
-    one torn = unfold entryOf in omega arith
-    one dead = unfold entryOf in omega arith
-    one wrong = unfold entryOf in omega arith
-    one (live b c) = unfold entryOf in omega arith
-
-copied-length : (B : ℕ) (es : List Entry) → length es ≤ B → length (copied B es) ≤ B
-unfolding copied
-copied-length B es h = omega (arith, length-append (map holding es) (replicate (B - length es) empty), map-length holding es, length-replicate (B - length es) empty)
-
 -- ---- the rows of an image
 
 short-pages : (ps : List Page) → Short (entries (map slotOf ps))
@@ -187,7 +171,7 @@ one-length N B v r =
     let es = entries (getD (v .slots) 0 []) in
     let e = entries-length (getD (v .slots) 0 []) in
     let o1 = o .1 in
-    (omega (arith, compact-length N B (v .first) (suc (topNumber v)) es (o .0)), rows-added B (drop 1 (v .slots)) (copied B es) (rows-rest B (v .slots) r) (rw (copied-entries B es) (o .0)) (copied-length B es (omega arith)))
+    (omega (arith, compact-length N B (v .first) (suc (topNumber v)) es (o .0)), rows-added B (drop 1 (v .slots)) (copied B es) (rows-rest B (v .slots) r) (rw (copied-entries B es) (o .0)) (omega (arith, copied-length B es (omega arith))))
 
 until-length : (N B k : ℕ) (v : View) → RowsOk B (v .slots) → length (compactUntilRoom N B k v .steps) ≤ k * most B
 unfolding compactUntilRoom

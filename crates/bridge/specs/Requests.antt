@@ -5,7 +5,7 @@ use mathlib.Core.Bool.{Bool, true, false, cond}
 use mathlib.Core.List.{List, [], _∷_, _++_}
 use native.Mathlib.Omega.{arith}
 use native.Mathlib.Nat.{mod-lt}
-use lib.ListN.{length, getD, drop, length-append}
+use lib.ListN.{length, getD}
 use lib.Dec.{ltb}
 use borrow.Author.Tests.{ltb-true, ltb-false}
 use Rattle.model.specs.Chip.{Image, Bytes, numberLimit, rightSize, run}
@@ -21,7 +21,7 @@ use Rattle.model.specs.Laws.SlotPage.{Valid}
 use Rattle.model.specs.Laws.Effects.{numbered-at}
 use Rattle.model.specs.Laws.Clean.{numbered}
 use Rattle.bridge.specs.Predicted.{written, marked, putInto, afterPut, afterDelete, CleanView, Rows}
-use Rattle.bridge.specs.Views.Slots.{slots-counted, sound}
+use Rattle.bridge.specs.Views.Slots.{same-rows, slots-counted, sound}
 use Rattle.bridge.specs.Views.Places.{in-view, TopGap, written-place, written-holds}
 use Rattle.bridge.specs.Views.Shape.{clean-shape, shape-gap, first-live-in, opened-top}
 use Rattle.bridge.specs.Views.Room.{tidied, Made, room-made}
@@ -111,11 +111,7 @@ one-compaction N B s v h bs c full below =
 
 pub compacted-rows : (N B : ℕ) (v : View) → 1 ≤ length (v .slots) → length (compactOldest N B v .result .slots) ≡ length (v .slots)
 unfolding compactOldest
-compacted-rows N B v h = go (v .slots) _ h
-  where
-    go : (l : List (List Slot)) (x : List Slot) → 1 ≤ length l → length (drop 1 l ++ (x ∷ [])) ≡ length l
-    go [] x q = absurd (omega arith)
-    go (y ∷ l) x q = length-append l (x ∷ []) ∙ omega arith
+compacted-rows N B v h = same-rows (v .slots) _ h
 
 compactions-held : (N B k : ℕ) (s : Image) (v : View) → Held N B s v → Bytes s → CleanView N B v → length (v .slots) ≡ N - 1
     → topNumber (compactUntilRoom N B k v .result) < numberLimit N → Held N B (run B (compactUntilRoom N B k v .steps) s) (compactUntilRoom N B k v .result)

@@ -1,19 +1,15 @@
 -- Laws of compaction: a page copied byte by byte; what a live slot, or any other, adds to the copying; the whole.
 use Prim.Native.Nat.{ℕ, zero, suc, _+_, _-_, _*_, _%_, _≤_, _<_}
 use mathlib.Core.Path.{_≡_, refl, sym, ap, _∙_, subst}
-use mathlib.Core.Logic.{⊎-elim}
 use mathlib.Core.List.{List, [], _∷_, _++_, append-nil, map, flatMap}
 use native.Mathlib.Nat.{zero-add, mul-le-mul-right, suc-mul, mod-lt, mod-mod, mod-eq-of-lt}
 use native.Mathlib.Numerals.{add-one}
 use native.Mathlib.Omega.{arith}
 use lib.ListN.{length, getD, take, drop, set, replicate, drop-of-length-le}
 use lib.Seq.{paste, paste-suc, take-all, drop-cons, take-append-seam, getD-set-other}
-use denote.Enum.Declared.{tagOf}
-use types.Run.{OneOf}
 use Rattle.model.specs.declared.BlockNumber.{BlockNumber}
 use Rattle.model.specs.declared.SlotKind.{SlotKind}
 use Rattle.model.specs.declared.SlotKind.the-variants.{Live}
-use Rattle.model.proofs.SlotKind.{the-type}
 use Rattle.model.specs.Chip.{Image, Page, Step, program, erase, erased, run, pagesOf}
 use Rattle.model.specs.Slot.{mostContents, slotPage, Slot, empty, torn, dead, wrong, live, slotOf, kindOf, Entry, entryOf}
 use Rattle.model.specs.State.{entries}
@@ -27,6 +23,7 @@ use Rattle.flash.specs.Ran.{Ran, Programmed}
 use Rattle.flash.proofs.Laws.{_then_, ran-none, ran-length, ran-lent}
 use Rattle.flash.specs.Pages.{OnPageAt, Sized}
 use Rattle.header.specs.Parts.{beginCompaction, finishCopy}
+use Rattle.slot.proofs.Laws.Kinds.{Other, other-holds}
 use Rattle.slot.proofs.Laws.Writes.{write-within}
 use Rattle.compact.specs.Compaction.{liveEntries, firstSlot, Apart, Copied, Compaction, compact-parts}
 
@@ -39,22 +36,7 @@ page-turn p s i lp ls h =
 pub page-whole : (s : List ℕ) (i : ℕ) → length s ≡ 256 → i ≡ 256 → paste (replicate 256 255) 0 s i ≡ s
 page-whole s i l e = ap (paste (replicate 256 255) 0 s) e ∙ append-nil (take 256 s) ∙ take-all 256 s (omega arith)
 
--- ---- the kinds that `let SlotKind::Live .. else` tells apart
-
-abbrev pub Other : SlotKind → Type 0
-Other k = OneOf (0 ∷ 1 ∷ 3 ∷ 4 ∷ []) (tagOf the-type k)
-
-no-live : (l : ℕ) (b : BlockNumber) → Other (Live l b) → ⊥
-no-live l b h = ⊎-elim (λ e. omega arith) (⊎-elim (λ e. omega arith) (⊎-elim (λ e. omega arith) (λ e. omega arith))) h
-
--- a slot of another kind holds nothing
-other-holds : (k : Slot) → Other (kindOf k) → entryOf k ≡ []
-unfolding kindOf entryOf
-other-holds empty h = refl
-other-holds torn h = refl
-other-holds dead h = refl
-other-holds wrong h = refl
-other-holds (live b c) h = absurd (no-live (length c) (record { 0 = b }) h)
+-- ---- a live slot by its kind
 
 kind-live : (k : Slot) (l : ℕ) (b : BlockNumber) → kindOf k ≡ Live l b → (c : List ℕ) × (k ≡ live (b .0) c) × (length c ≡ l)
 unfolding kindOf

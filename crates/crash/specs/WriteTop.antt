@@ -2,13 +2,12 @@
 use Prim.Native.Nat.{ℕ, suc, _+_, _-_, _%_, _≤_, _<_}
 use mathlib.Core.Path.{_≡_, refl, sym, ap, ap₂, _∙_}
 use mathlib.Core.Logic.{inl, inr, ⊎-elim}
-use mathlib.Core.Bool.{Bool, true, false, cond, _&&_, and-false}
+use mathlib.Core.Bool.{Bool, true, false, cond}
 use mathlib.Core.List.{List, [], _∷_, _++_, flatten}
 use native.Mathlib.Omega.{arith}
 use lib.ListN.{length, getD, set}
 use lib.Seq.{set-set, set-getD, set-at, getD-at, getD-set-same}
 use lib.Dec.{ltb}
-use Rattle.model.specs.Lists.{all}
 use Rattle.model.specs.Chip.{Image, rightSize, run, Cut}
 use Rattle.model.specs.Slot.{Slot, empty, torn, dead, live, isEmpty, isTorn, isWrong, entryOf, numberOk}
 use Rattle.model.specs.State.{Segment, blank, inUse, segmentsOf, slotsIn, numberAfter, nextNumber, topIndex, topSlots, firstNumber, View, viewOf, view, entries, entriesIn, holds, distinct, isClean, withSlot, filled, lastSlot, lastKind, tornMarked, isC, placeOf, blockIn, lastBlock, copies, older, olderMarked, isD, caseC, caseD}
@@ -25,6 +24,7 @@ use Rattle.model.specs.Laws.Ring.{next-kept}
 use Rattle.model.specs.Laws.Clean.{index-inside}
 use Rattle.model.specs.Laws.View.{slotChanged, slot-ring, slot-view}
 use Rattle.bridge.specs.Predicted.{written, putInto, CleanView}
+use Rattle.bridge.specs.Views.Slots.{filled-at}
 use Rattle.bridge.specs.Views.Places.{fill, fill-entries, fill-changed, TopGap, written-entries, written-place, written-holds, gap-row, InView, in-view}
 use Rattle.bridge.specs.Views.Shape.{clean-shape, shape-clean, clean-distinct, clean-within, filled-shape}
 use Rattle.bridge.specs.Held.{Held, held-first, held-top, held-row, held-clean, segments-clean, clean-of-held, held-table}
@@ -33,22 +33,6 @@ use Rattle.crash.specs.Sound.{LeftWith}
 use Rattle.crash.specs.States.{isCase, mended, SoundWith, segments-show}
 use Rattle.crash.specs.RecoverMarks.{Marks, live-place, live-marks, mark-segments}
 use Rattle.crash.specs.Recover.{case-steps, case-shows, recover-cut}
-
--- ---- the last slot that is not empty
-
-all-empty-filled : (y : List Slot) → all isEmpty y ≡ true → filled y ≡ 0
-unfolding filled
-all-empty-filled [] h = refl
-all-empty-filled (k ∷ y) h = rw h
-
-filled-at : (x : List Slot) (k : Slot) (y : List Slot) → isEmpty k ≡ false → all isEmpty y ≡ true → filled (x ++ (k ∷ y)) ≡ suc (length x)
-unfolding filled all
-filled-at [] k y e h = rw (e, all-empty-filled y h)
-filled-at (a ∷ x) k y e h = rw (some x, and-false (isEmpty a), filled-at x k y e h)
-  where
-    some : (w : List Slot) → all isEmpty (w ++ (k ∷ y)) ≡ false
-    some [] = rw e
-    some (m ∷ w) = ap (λ t. isEmpty m && t) (some w) ∙ and-false (isEmpty m)
 
 -- ---- another slot at the top's first empty place
 

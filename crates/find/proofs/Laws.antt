@@ -1,7 +1,6 @@
 -- Laws of the search: what is still to be looked at gives the whole answer; the slot that is read; what its kind says of the block.
 use Prim.Native.Nat.{ℕ, suc, _+_, _-_, _*_, _/_, _%_, _≤_, _<_}
 use mathlib.Core.Path.{_≡_, refl, sym, ap, _∙_, subst}
-use mathlib.Core.Logic.{⊎-elim}
 use mathlib.Core.Bool.{Bool, true, false, cond, or-false, true≢false}
 use mathlib.Core.List.{List, [], _∷_, map, flatMap, flatten}
 use native.Mathlib.Nat.{mod-lt, mul-le-mul-right, suc-mul}
@@ -11,12 +10,9 @@ use lib.ListN.{length, getD, take, drop, drop-of-length-le}
 use lib.Seq.{drop-cons}
 use lib.Dec.{eqb}
 use borrow.Author.Tests.{eq-eqb, ne-eqb}
-use denote.Enum.Declared.{tagOf}
-use types.Run.{OneOf}
 use Rattle.model.specs.declared.BlockNumber.{BlockNumber}
 use Rattle.model.specs.declared.SlotKind.{SlotKind}
 use Rattle.model.specs.declared.SlotKind.the-variants.{Live}
-use Rattle.model.proofs.SlotKind.{the-type}
 use Rattle.model.specs.Chip.{Image, Page, pagesOf}
 use Rattle.model.specs.Slot.{written, slotPage, Slot, empty, torn, dead, wrong, live, slotOf, kindOf, entryOf}
 use Rattle.model.specs.State.{entries, holds, slotFrom, placeFrom}
@@ -27,27 +23,18 @@ use Rattle.model.specs.Laws.Segments.{partOf, part-page, part-size, page-in}
 use Rattle.model.specs.Laws.SlotPage.{live-facts}
 use Rattle.bridge.specs.Views.Slots.{entries-append, entries-cons}
 use Rattle.flash.specs.Pages.{Sized}
+use Rattle.slot.proofs.Laws.Kinds.{Other, other-holds}
 use Rattle.find.specs.declared.Found.{Found}
 use Rattle.find.specs.declared.Found.the-variants.{At, Nothing}
 use Rattle.find.specs.Search.{mayHold, rowsAt, foundIn}
 use Rattle.model.specs.Laws.Tables.{holds-append, lookup-append}
 
--- ---- the kinds that `let SlotKind::Live .. else` tells apart
+-- ---- what a slot's kind says of the block
 
-abbrev pub Other : SlotKind → Type 0
-Other k = OneOf (0 ∷ 1 ∷ 3 ∷ 4 ∷ []) (tagOf the-type k)
-
-no-live : (l : ℕ) (b : BlockNumber) → Other (Live l b) → ⊥
-no-live l b h = ⊎-elim (λ e. omega arith) (⊎-elim (λ e. omega arith) (⊎-elim (λ e. omega arith) (λ e. omega arith))) h
-
--- a slot of another kind holds no block
-other-holds : (b : ℕ) (k : Slot) → Other (kindOf k) → holds b (entryOf k) ≡ false
-unfolding kindOf entryOf holds
-other-holds b empty h = refl
-other-holds b torn h = refl
-other-holds b dead h = refl
-other-holds b wrong h = refl
-other-holds b (live n c) h = absurd (no-live (length c) (record { 0 = n }) h)
+-- one of another kind than live does not hold it
+other-lacks : (b : ℕ) (k : Slot) → Other (kindOf k) → holds b (entryOf k) ≡ false
+unfolding holds
+other-lacks b k h = ap (holds b) (other-holds k h)
 
 -- a live one holds its block, with contents of its length
 live-holds : (b : ℕ) (k : Slot) (l : ℕ) (n : BlockNumber) → kindOf k ≡ Live l n
@@ -223,7 +210,7 @@ module _ (N B b : ℕ) (s : Image) (first used turn from slot : ℕ) (w : Walkin
 
     module _ (k : SlotKind) (d : k ≡ kindOf kind) where
       pub walking-other : Other k → Walking N B b s first used turn from (slot + 1)
-      walking-other o = passed (other-holds b kind (subst Other d o))
+      walking-other o = passed (other-lacks b kind (subst Other d o))
 
       module _ (l : ℕ) (n : BlockNumber) (e : k ≡ Live l n) where
         pub walking-next : (n .0 ≡ b → ⊥) → Walking N B b s first used turn from (slot + 1)

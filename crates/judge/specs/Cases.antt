@@ -1,7 +1,7 @@
 -- The state of an image by cases: conditions 1 to 4 with (a) and (b) look at headers, 5 to 8 with (c) and (d) at the view.
 use Prim.Native.Nat.{ℕ, zero, suc, _+_, _-_, _%_, _≤_, _<_}
 use mathlib.Core.Path.{_≡_, refl, sym, ap, _∙_}
-use mathlib.Core.Bool.{Bool, true, false, cond, _&&_, not, false≢true, and-false}
+use mathlib.Core.Bool.{Bool, true, false, cond, _&&_, not, and-false}
 use mathlib.Core.List.{List, [], _∷_}
 use native.Mathlib.Omega.{arith}
 use native.Mathlib.Nat.{mod-lt}
@@ -10,13 +10,13 @@ use lib.Dec.{ltb, leb, eqb}
 use borrow.Author.Tests.{leb-true, eqb-true, lt-ltb}
 use Rattle.model.specs.Lists.{all}
 use Rattle.model.specs.Slot.{Slot, empty, dead, live, isTorn, entryOf}
-use Rattle.model.specs.State.{Segment, blank, invalid, inUse, isInUse, isInvalid, isOwing, numberAfter, nextNumber, topIndex, nextIndex, topSlots, usedCount, firstNumber, View, viewOf, entriesIn, someInUse, consecutive, noneOwing, othersBlank, noneWrongOrTorn, blocksDistinct, emptySlotsLast, withinCapacity, conditions, isClean, nextBlanked, isA, topSettled, isB, withSlot, filled, lastSlot, lastKind, tornMarked, isC, Place, placeOf, blockIn, lastBlock, copies, older, olderMarked, isD, Exception, caseA, caseB, caseC, caseD, State, clean, unfinished, damaged, stateOf}
+use Rattle.model.specs.State.{Segment, blank, isInvalid, isOwing, nextNumber, topIndex, nextIndex, topSlots, usedCount, firstNumber, View, viewOf, entriesIn, someInUse, consecutive, noneOwing, othersBlank, noneWrongOrTorn, blocksDistinct, emptySlotsLast, withinCapacity, conditions, isClean, nextBlanked, isA, topSettled, isB, withSlot, filled, lastSlot, lastKind, tornMarked, isC, Place, placeOf, blockIn, lastBlock, copies, older, olderMarked, isD, Exception, caseA, caseB, caseC, caseD, State, clean, unfinished, damaged, stateOf}
 use Rattle.model.specs.Steps.{topRow, topNumber}
 use Rattle.model.specs.Laws.Lists.{and-left, and-right}
 use Rattle.model.specs.Laws.Ring.{next-kept, used-kept, get-kept, numbers-kept, slots-get}
 use Rattle.model.specs.Laws.Clean.{RingFacts, used-next, index-inside, view-length}
-use Rattle.model.specs.Laws.View.{slotChanged, slot-view, withSlot-owing}
-use Rattle.model.specs.Laws.Exclusive.{no-owing, no-invalid}
+use Rattle.model.specs.Laws.View.{slotChanged, slot-view, withSlot-number, withSlot-use, withSlot-owing, withSlot-invalid}
+use Rattle.model.specs.Laws.Exclusive.{invalid-paid, no-owing, no-invalid}
 use Rattle.bridge.specs.Views.Places.{FirstLive, fill-length}
 use Rattle.bridge.specs.Views.Shape.{first-live-in}
 use Rattle.model.specs.Laws.Tables.{holds-copies}
@@ -98,24 +98,6 @@ frame-ring N l e h =
 
 -- ---- a slot changed leaves the frame
 
-withSlot-number : (j : ℕ) (k : Slot) (x : Segment) → numberAfter (withSlot j k x) ≡ numberAfter x
-unfolding withSlot numberAfter
-withSlot-number j k blank = refl
-withSlot-number j k invalid = refl
-withSlot-number j k (inUse st n ks) = refl
-
-withSlot-use : (j : ℕ) (k : Slot) (x : Segment) → isInUse (withSlot j k x) ≡ isInUse x
-unfolding withSlot isInUse
-withSlot-use j k blank = refl
-withSlot-use j k invalid = refl
-withSlot-use j k (inUse st n ks) = refl
-
-withSlot-invalid : (j : ℕ) (k : Slot) (x : Segment) → isInvalid (withSlot j k x) ≡ isInvalid x
-unfolding withSlot isInvalid
-withSlot-invalid j k blank = refl
-withSlot-invalid j k invalid = refl
-withSlot-invalid j k (inUse st n ks) = refl
-
 all-same : {A : Type 0} (f : A → Bool) (l : List A) (i : ℕ) (y d : A) → f y ≡ f (getD l i d) → all f (set l i y) ≡ all f l
 unfolding all
 all-same f [] i y d e = refl
@@ -160,12 +142,7 @@ module _ (N B : ℕ) (l : List Segment) (size : length l ≡ N) where
   unfolding nextBlanked
   blanked-owing i o = not-so (isClean N B (set l (nextIndex N l) blank))
       (λ h. no-owing N B (set l (nextIndex N l) blank) (length-set l (nextIndex N l) blank ∙ size) h (topIndex N l)
-      (get-kept isOwing l (nextIndex N l) blank (paid (getD l (nextIndex N l) blank) i) (topIndex N l) ∙ o))
-    where
-      paid : (x : Segment) → isInvalid x ≡ true → isOwing blank ≡ isOwing x
-      paid blank q = refl
-      paid invalid q = unfold isOwing in refl
-      paid (inUse st n ks) q = absurd (false≢true (unfold isInvalid in q))
+      (get-kept isOwing l (nextIndex N l) blank (invalid-paid (getD l (nextIndex N l) blank) i) (topIndex N l) ∙ o))
 
   owing-rest : isOwing (getD l (topIndex N l) blank) ≡ true → (isClean N B l ≡ false) × (isA N B l ≡ false) × (isC N B l ≡ false) × (isD N B l ≡ false)
   unfolding isA isC isD tornMarked olderMarked

@@ -1,5 +1,5 @@
 -- Rows in order: every row but the top full, the top's empty slots last, none torn or wrong, each block once.
-use Prim.Native.Nat.{ℕ, suc, _+_, _-_}
+use Prim.Native.Nat.{ℕ, _+_, _-_}
 use mathlib.Core.Path.{_≡_, refl, sym, ap, _∙_}
 use mathlib.Core.Bool.{Bool, true, false, cond, _||_, _&&_, not, true≢false, false≢true, and-eq-true-iff}
 use mathlib.Core.List.{List, [], _∷_, _++_, flatten, append-assoc, append-nil}
@@ -12,7 +12,7 @@ use Rattle.model.specs.State.{View, entries, entriesIn, distinct, emptyLast, on
 use Rattle.model.specs.Steps.{topRow, topNumber}
 use Rattle.model.specs.Laws.Lists.{all-join, all-parts, all-flatten, flatten-last}
 use Rattle.model.specs.Laws.View.{slotChanged}
-use Rattle.bridge.specs.Views.Slots.{full, sound, entries-append, entries-cons, all-empty-entries, all-empty-last, full-then, top-row, only-top-empty}
+use Rattle.bridge.specs.Views.Slots.{full, sound, entries-append, entries-cons, all-empty-entries, all-empty-last, filled-none, filled-at, full-then, top-row, only-top-empty}
 use Rattle.judge.specs.Cases.{lastWritten, lastMarked, twinBlock}
 use Rattle.judge.specs.Judged.{Plain, distinct-front}
 
@@ -131,28 +131,6 @@ find-last (k ∷ s) h = go (all isEmpty s) refl h (λ q. find-last s q)
     go : (t : Bool) → all isEmpty s ≡ t → (isEmpty k && t) ≡ false → (all isEmpty s ≡ false → Last s) → Last (k ∷ s)
     go true e q ih = record { left = []; slot = k; right = s; split = refl; written = one (isEmpty k) q; rest = e }
     go false e q ih = let r = ih e in record { left = k ∷ r .left; slot = r .slot; right = r .right; split = ap {B = List Slot} (λ y. k ∷ y) (r .split); written = r .written; rest = r .rest }
-
-pub filled-none : (s : List Slot) → all isEmpty s ≡ true → filled s ≡ 0
-unfolding filled
-filled-none [] h = refl
-filled-none (k ∷ s) h = rw h
-
-pub filled-at : (x : List Slot) (k : Slot) (y : List Slot) → isEmpty k ≡ false → all isEmpty y ≡ true → filled (x ++ (k ∷ y)) ≡ suc (length x)
-unfolding filled all
-filled-at [] k y n e = rw (n, filled-none y e)
-filled-at (a ∷ x) k y n e = rw (some (isEmpty a) x, filled-at x k y n e)
-  where
-    ends : (x : List Slot) → all isEmpty (x ++ (k ∷ y)) ≡ false
-    ends [] = rw n
-    ends (a ∷ x) = rw (ends x) (and-no (isEmpty a))
-      where
-        and-no : (t : Bool) → (t && false) ≡ false
-        and-no true = refl
-        and-no false = refl
-
-    some : (t : Bool) (x : List Slot) → (t && all isEmpty (x ++ (k ∷ y))) ≡ false
-    some true x = ends x
-    some false x = refl
 
 module _ (n : ℕ) (l : List (List Slot)) (x : List Slot) (k : Slot) (y : List Slot) (w : isEmpty k ≡ false) (e : all isEmpty y ≡ true) where
   place : filled (topRow (l ++ ((x ++ (k ∷ y)) ∷ []))) - 1 ≡ length x

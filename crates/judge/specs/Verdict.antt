@@ -12,14 +12,14 @@ use Rattle.model.specs.Lists.{all, count}
 use Rattle.model.specs.Slot.{Slot, empty, torn, dead, wrong, live, isEmpty, Entry, entryOf}
 use Rattle.model.specs.State.{entries, entriesIn, holds, emptyLast, capacity, filled, caseC, caseD, State, clean, unfinished, damaged}
 use Rattle.model.specs.Steps.{topRow, firstEmpty, compactions}
-use Rattle.bridge.specs.Views.Slots.{full, entries-append, find-top, top-row}
+use Rattle.bridge.specs.Views.Slots.{full, entries-append, filled-at, find-top, top-row}
 use Rattle.judge.specs.declared.Ending.{Ending}
 use Rattle.judge.specs.declared.Ending.the-variants.{Full, Room, TornLast, TwinLast, Bad}
 use Rattle.judge.specs.declared.Sum.{Sum}
 use Rattle.judge.specs.Endings.{isFull, isBad, inOrder, endsTorn, endsTwin}
 use Rattle.judge.specs.Cases.{fine, twinBlock, slotState}
 use Rattle.judge.specs.Judged.{Stop, Judged}
-use Rattle.judge.specs.Ordered.{rowsWith, before-top, filled-at, last-block}
+use Rattle.judge.specs.Ordered.{rowsWith, before-top, last-block}
 use Rattle.judge.specs.Ends.{ending, fine-ending, torn-ending, ending-ordered, rows-plain, stop-torn, stop-twin}
 use Rattle.judge.specs.Twins.{twin-ending}
 use Rattle.judge.specs.Tally.{noneMet, tallies, addRows, noSum}

@@ -1,15 +1,15 @@
 -- Laws of slots in rows: what an append holds, counts, where the empty ones are, and the row that entries were copied to.
 use Prim.Native.Nat.{ℕ, zero, suc, _+_, _-_, _*_, _≤_}
 use mathlib.Core.Path.{_≡_, refl, sym, ap, _∙_}
-use mathlib.Core.Bool.{Bool, true, false, cond, _||_, _&&_, not, true≢false, false≢true, and-true, and-assoc, and-eq-true-iff}
+use mathlib.Core.Bool.{Bool, true, false, cond, _||_, _&&_, not, true≢false, false≢true, and-false, and-true, and-assoc, and-eq-true-iff}
 use mathlib.Core.List.{List, [], _∷_, _++_, map, flatMap, flatten, append-assoc, append-nil}
 use native.Mathlib.Omega.{arith}
-use lib.ListN.{length, replicate, length-append, length-replicate, length-map}
+use lib.ListN.{length, drop, replicate, length-append, length-replicate, length-map}
 use lib.Dec.{ltb}
 use borrow.Author.Tests.{lt-ltb, le-ltb}
 use Rattle.model.specs.Lists.{all, count}
 use Rattle.model.specs.Slot.{Slot, empty, torn, dead, wrong, live, isEmpty, isTorn, isDead, isWrong, Entry, entryOf, holding}
-use Rattle.model.specs.State.{entries, emptyLast, onlyTopEmpty}
+use Rattle.model.specs.State.{entries, emptyLast, onlyTopEmpty, filled}
 use Rattle.model.specs.Steps.{topRow, firstEmpty, copied}
 use Rattle.model.specs.Laws.Lists.{all-join, all-append, all-replicate, none-count}
 use Rattle.bridge.specs.Predicted.{Rows}
@@ -45,6 +45,11 @@ unfolding flatten
 rows-length B [] h = omega arith
 rows-length B (s ∷ a) h = let q : suc (length a) * B ≡ B + length a * B = omega arith in
     length-append s (flatten a) ∙ (rw (h .0, rows-length B a (h .1)) (sym q))
+
+-- the first row left out and another added
+pub same-rows : (l : List (List Slot)) (x : List Slot) → 1 ≤ length l → length (drop 1 l ++ (x ∷ [])) ≡ length l
+same-rows [] x h = absurd (omega arith)
+same-rows (y ∷ l) x h = length-append l (x ∷ []) ∙ omega arith
 
 -- ---- every slot without error is live, dead or empty
 
@@ -93,6 +98,21 @@ full-then (k ∷ x) y h = go (isEmpty k) h (λ p. full-then x y p)
     go : (t : Bool) → (not t && full x) ≡ true → (full x ≡ true → emptyLast (x ++ y) ≡ emptyLast y) → cond t (all isEmpty (x ++ y)) (emptyLast (x ++ y)) ≡ emptyLast y
     go true p ih = absurd (false≢true p)
     go false p ih = ih p
+
+-- the last slot that is not empty
+pub filled-none : (s : List Slot) → all isEmpty s ≡ true → filled s ≡ 0
+unfolding filled
+filled-none [] h = refl
+filled-none (k ∷ s) h = rw h
+
+pub filled-at : (x : List Slot) (k : Slot) (y : List Slot) → isEmpty k ≡ false → all isEmpty y ≡ true → filled (x ++ (k ∷ y)) ≡ suc (length x)
+unfolding filled all
+filled-at [] k y e h = rw (e, filled-none y h)
+filled-at (a ∷ x) k y e h = rw (some x, and-false (isEmpty a), filled-at x k y e h)
+  where
+    some : (w : List Slot) → all isEmpty (w ++ (k ∷ y)) ≡ false
+    some [] = rw e
+    some (m ∷ w) = ap (λ t. isEmpty m && t) (some w) ∙ and-false (isEmpty m)
 
 -- a row with its first empty slot: none empty before it, all empty after it
 pub record FirstEmpty (s : List Slot) : Type 0 where

@@ -4,7 +4,7 @@ use mathlib.Core.Path.{_≡_, refl, sym, ap, _∙_}
 use mathlib.Core.Bool.{Bool, true, false}
 use mathlib.Core.List.{List, [], _∷_, _++_, append-assoc, append-nil, map, flatten}
 use native.Mathlib.Omega.{arith}
-use lib.ListN.{length, getD, drop, replicate, length-append}
+use lib.ListN.{length, getD, drop, replicate}
 use lib.Dec.{ltb}
 use borrow.Author.Tests.{ltb-false}
 use Rattle.model.specs.Chip.{Step}
@@ -12,7 +12,7 @@ use Rattle.model.specs.Slot.{Slot, empty, isEmpty, Entry, holding}
 use Rattle.model.specs.State.{View, entries}
 use Rattle.model.specs.Steps.{topRow, hasRoom, firstEmpty, copied, Room, compactOldest, compactUntilRoom, roomFor, compactions}
 use Rattle.bridge.specs.Predicted.{CleanView}
-use Rattle.bridge.specs.Views.Slots.{noneDead, top-row}
+use Rattle.bridge.specs.Views.Slots.{noneDead, same-rows, top-row}
 use Rattle.bridge.specs.Views.Room.{compactions-some, compactions-length, Tidied, tidied, some-dead}
 
 -- k compactions
@@ -93,10 +93,6 @@ module _ (N B : ℕ) where
   shifted : (l : List (List Slot)) (x : List Slot) (j : ℕ) → suc j < length l → getD (drop 1 l ++ (x ∷ [])) j [] ≡ getD l (suc j) []
   shifted [] x j h = absurd (omega arith)
   shifted (y ∷ l) x j h = lib.ListN.List·getD-append l (x ∷ []) [] j (omega arith)
-
-  same-rows : (l : List (List Slot)) (x : List Slot) → 1 ≤ length l → length (drop 1 l ++ (x ∷ [])) ≡ length l
-  same-rows [] x h = absurd (omega arith)
-  same-rows (y ∷ l) x h = length-append l (x ∷ []) ∙ omega arith
 
   pub after-times : (v : View) → Needs v → (i : ℕ) → i ≤ compactions (v .slots) → After v i
   unfolding compactTimes

@@ -5,7 +5,7 @@ use denote.Ref.{now}
 use lib.ListN.{length}
 use Rattle.flash.proofs.Pages.{sized}
 use Rattle.mend.specs.Marks.{PageAt}
-use Rattle.mend.proofs.Laws.Survey.{survey-clean, survey-damaged, survey-torn-segment, survey-pending, survey-torn-slot, survey-old-slot}
+use Rattle.scan.proofs.Laws.Told.{survey-clean, survey-damaged, survey-torn-segment, survey-pending, survey-torn-slot, survey-old-slot}
 use Rattle.mend.proofs.Laws.Mend.{torn-page, older-page, mend-clean, mend-damaged, mend-a, mend-b, mend-c, mend-d}
 use borrow.Author.Needs.{needs}
 use Rattle.mend.proofs.mend.Statement.{statement}

@@ -22,6 +22,12 @@ use Rattle.model.specs.Laws.View.{withSlot-owing, erased-unused-view}
 pub inside : {A : Type 0} (f : A → Bool) (l : List A) (i : ℕ) (d : A) → f d ≡ false → f (getD l i d) ≡ true → i < length l
 inside f l i d e h = elim (decLt i (length l)) [ yes p ↦ p | no p ↦ absurd (false≢true (sym e ∙ (ap f (sym (List·getD-eq-default l d (omega arith))) ∙ h))) ]
 
+-- an invalid segment owes no erase, as a blank one
+pub invalid-paid : (x : Segment) → isInvalid x ≡ true → isOwing blank ≡ isOwing x
+invalid-paid blank h = refl
+invalid-paid invalid h = unfold isOwing in refl
+invalid-paid (inUse st n ks) h = absurd (false≢true (unfold isInvalid in h))
+
 -- ---- what is never clean
 
 module _ (N B : ℕ) (l : List Segment) (size : length l ≡ N) (h : isClean N B l ≡ true) where
@@ -157,12 +163,7 @@ module _ (N B : ℕ) (l : List Segment) (size : length l ≡ N) where
   a-b h k = no-owing N B (nextBlanked N l) blanked-size (a-facts h .1) (topIndex N l) (still ∙ b-owing k)
     where
       still : isOwing (getD (nextBlanked N l) (topIndex N l) blank) ≡ isOwing (getD l (topIndex N l) blank)
-      still = unfold nextBlanked in get-kept isOwing l (nextIndex N l) blank (paid (getD l (nextIndex N l) blank) (a-facts h .0)) (topIndex N l)
-        where
-          paid : (x : Segment) → isInvalid x ≡ true → isOwing blank ≡ isOwing x
-          paid blank q = refl
-          paid invalid q = unfold isOwing in refl
-          paid (inUse st n ks) q = absurd (false≢true (unfold isInvalid in q))
+      still = unfold nextBlanked in get-kept isOwing l (nextIndex N l) blank (invalid-paid (getD l (nextIndex N l) blank) (a-facts h .0)) (topIndex N l)
 
   a-c : isA N B l ≡ true → isC N B l ≡ true → ⊥
   a-c h k = no-torn N B (nextBlanked N l) blanked-size (a-facts h .1) (ap isTorn (blanked-last (a-facts h .0)) ∙ c-facts k .0)

@@ -23,13 +23,13 @@ slotChanged n j k v = record { first = v .first; slots = set (v .slots) (n - v .
 
 -- ---- a segment replaced by one that counts alike
 
-withSlot-number : (j : ℕ) (k : Slot) (x : Segment) → numberAfter (withSlot j k x) ≡ numberAfter x
+pub withSlot-number : (j : ℕ) (k : Slot) (x : Segment) → numberAfter (withSlot j k x) ≡ numberAfter x
 unfolding withSlot numberAfter
 withSlot-number j k blank = refl
 withSlot-number j k invalid = refl
 withSlot-number j k (inUse st n ks) = refl
 
-withSlot-use : (j : ℕ) (k : Slot) (x : Segment) → isInUse (withSlot j k x) ≡ isInUse x
+pub withSlot-use : (j : ℕ) (k : Slot) (x : Segment) → isInUse (withSlot j k x) ≡ isInUse x
 unfolding withSlot isInUse
 withSlot-use j k blank = refl
 withSlot-use j k invalid = refl
@@ -41,7 +41,7 @@ withSlot-owing j k blank = refl
 withSlot-owing j k invalid = refl
 withSlot-owing j k (inUse st n ks) = refl
 
-withSlot-invalid : (j : ℕ) (k : Slot) (x : Segment) → isInvalid (withSlot j k x) ≡ isInvalid x
+pub withSlot-invalid : (j : ℕ) (k : Slot) (x : Segment) → isInvalid (withSlot j k x) ≡ isInvalid x
 unfolding withSlot isInvalid
 withSlot-invalid j k blank = refl
 withSlot-invalid j k invalid = refl

@@ -1,7 +1,7 @@
 -- A table of summaries walked through: what is left of it.
 use Prim.Native.Nat.{ℕ, suc, _+_, _-_, _%_, _≤_, _<_, max}
 use mathlib.Core.Path.{_≡_, refl, ap, _∙_}
-use mathlib.Core.Bool.{Bool, true, false, cond, _&&_, not}
+use mathlib.Core.Bool.{true, false, cond, _&&_, not, and-false}
 use mathlib.Core.List.{List, [], _∷_, map}
 use native.Mathlib.Omega.{arith}
 use native.Mathlib.Nat.{sub-zero}
@@ -107,11 +107,7 @@ module _ (N : ℕ) (table : List Summary) where
   settled-owing i d h l e = settled-cons i d h l ∙ rw e
 
   pub settled-invalid : (i : ℕ) (d : Summary) → i < N → i < length table → isInvalid (bare (getD table i d)) ≡ true → allSettled (headsFrom N i table) ≡ false
-  settled-invalid i d h l e = settled-cons i d h l ∙ rw e (no (not (isOwing (bare (getD table i d))) && noneOwing (headsFrom N (i + 1) table)))
-    where
-      no : (t : Bool) → (t && false) ≡ false
-      no true = refl
-      no false = refl
+  settled-invalid i d h l e = settled-cons i d h l ∙ rw e (and-false (not (isOwing (bare (getD table i d))) && noneOwing (headsFrom N (i + 1) table)))
 
   pub settled-turn : (i : ℕ) (d : Summary) → i < N → i < length table → isOwing (bare (getD table i d)) ≡ false → isInvalid (bare (getD table i d)) ≡ false
       → allSettled (headsFrom N i table) ≡ allSettled (headsFrom N (i + 1) table)

@@ -1,7 +1,7 @@
--- Laws of slot pages: the test of a live slot byte by byte is the test of the definition.
+-- Laws of slot pages: the test of a live slot byte by byte is the test of the definition; a slot of another kind than live holds nothing.
 use Prim.Native.Nat.{ℕ, zero, suc, _+_, _-_, _*_, _/_, _%_, _≤_, _<_}
 use mathlib.Core.Path.{_≡_, refl, ap, _∙_}
-use mathlib.Core.Logic.{_⊎_, inl, inr}
+use mathlib.Core.Logic.{_⊎_, inl, inr, ⊎-elim}
 use mathlib.Core.Bool.{Bool, true, false, cond, _&&_, and-false}
 use mathlib.Core.List.{List, [], _∷_, _++_}
 use native.Mathlib.Omega.{arith}
@@ -9,11 +9,16 @@ use lib.ListN.{length, getD, take, drop, length-drop}
 use lib.Seq.{length-take-le, take-all, drop-drop}
 use lib.Dec.{leb, eqb}
 use borrow.Author.Tests.{leb-true, eq-eqb, ne-eqb, le-leb, lt-leb, lt-ltb}
+use denote.Enum.Declared.{tagOf}
+use types.Run.{OneOf}
 use Rattle.model.specs.Lists.{same}
 use Rattle.model.specs.Chip.{Page, erased}
 use Rattle.model.specs.Header.{isBlank}
-use Rattle.model.specs.Slot.{mostContents, writeBegun, written, numberOk, slotPage, pageBlock, pageContents, slotFits, empty, wrong, slotOf, kindOf}
+use Rattle.model.specs.Slot.{mostContents, writeBegun, written, numberOk, slotPage, pageBlock, pageContents, slotFits, Slot, empty, torn, dead, wrong, live, slotOf, kindOf, entryOf}
+use Rattle.model.specs.declared.BlockNumber.{BlockNumber}
+use Rattle.model.specs.declared.SlotKind.{SlotKind}
 use Rattle.model.specs.declared.SlotKind.the-variants.{Empty, Torn, Live, Dead, Wrong}
+use Rattle.model.proofs.SlotKind.{the-type}
 use Rattle.model.specs.Laws.Lists.{and-left}
 
 same-erased : (q : List ℕ) → same q (erased (length q)) ≡ isBlank q
@@ -150,3 +155,20 @@ module _ (p : Page) where
 
   pub kind-other : Unmarked → isBlank p ≡ false → kindOf (slotOf p) ≡ Wrong
   kind-other h e = unmarked h ∙ rw e
+
+-- ---- the kinds that `let SlotKind::Live .. else` tells apart
+
+abbrev pub Other : SlotKind → Type 0
+Other k = OneOf (0 ∷ 1 ∷ 3 ∷ 4 ∷ []) (tagOf the-type k)
+
+no-live : (l : ℕ) (b : BlockNumber) → Other (Live l b) → ⊥
+no-live l b h = ⊎-elim (λ e. omega arith) (⊎-elim (λ e. omega arith) (⊎-elim (λ e. omega arith) (λ e. omega arith))) h
+
+-- a slot of another kind holds nothing
+pub other-holds : (k : Slot) → Other (kindOf k) → entryOf k ≡ []
+unfolding kindOf entryOf
+other-holds empty h = refl
+other-holds torn h = refl
+other-holds dead h = refl
+other-holds wrong h = refl
+other-holds (live b c) h = absurd (no-live (length c) (record { 0 = b }) h)

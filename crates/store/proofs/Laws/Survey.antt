@@ -17,7 +17,7 @@ use Rattle.scan.specs.declared.Surveyed.the-variants.{Clean, TornSegment, Erase
 use Rattle.scan.proofs.Surveyed.{the-type}
 use Rattle.scan.specs.Surveys.{surveyIn, surveyOf, stateIn}
 use Rattle.room.specs.Room.{Planned}
-use Rattle.mend.proofs.Laws.Survey.{survey-says, told, survey-clean}
+use Rattle.scan.proofs.Laws.Told.{survey-says, told, survey-clean}
 
 -- a survey of another kind
 abbrev pub Other : Surveyed → Type 0

@@ -9,7 +9,7 @@ use Rattle.bridge.specs.Refusals.{answerIn, put-number, put-length}
 use Rattle.request.proofs.Laws.{wrong-size, right-size}
 use Rattle.model.specs.Laws.Bytes.{bytes-known}
 use Rattle.request.proofs.Answered.{refused-outcome}
-use Rattle.mend.proofs.Laws.Survey.{survey-says}
+use Rattle.scan.proofs.Laws.Told.{survey-says}
 use Rattle.store.proofs.Laws.Survey.{survey-other, survey-plan}
 use Rattle.store.proofs.Laws.Requests.{size-refused, put-unclean-refused}
 use borrow.Author.Needs.{needs}

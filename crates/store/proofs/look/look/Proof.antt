@@ -4,7 +4,7 @@ use denote.Ref.{now}
 use borrow.Author.Tests.{not-true, not-false}
 use Rattle.bridge.specs.Refusals.{answerIn}
 use Rattle.request.proofs.Laws.{wrong-size, right-size}
-use Rattle.mend.proofs.Laws.Survey.{survey-says}
+use Rattle.scan.proofs.Laws.Told.{survey-says}
 use Rattle.store.proofs.Laws.Survey.{survey-other, survey-plan}
 use Rattle.store.proofs.Laws.Look.{look-size, look-number, look-unclean}
 use borrow.Author.Needs.{needs}
