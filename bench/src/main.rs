@@ -1,21 +1,21 @@
 //! How fast is the proved store? Times of each request beside those of a straightforward Rust
-//! implementation of the same rules, which makes one pass over the image byte by byte.
+//! implementation of the same rules, which is compiled twice: with its blank test byte by byte,
+//! and with its blank test by words of eight bytes.
 //!
 //!     rt staticlib qanbillox                  # at the root of the repository
 //!     cargo run --release --offline           # here
 //!
-//! One process; both sides get the same images in turn, and their answers, steps and images are
-//! compared. The buffer is filled from a prepared image before each request, outside the time
-//! taken, so both find it in the cache. The figures are medians.
+//! One process; the three sides get the same images in turn, and their answers, steps and images
+//! are compared. The buffer is filled from a prepared image before each request, outside the time
+//! taken, so each finds it in the cache as far as it fits. The figures are medians.
 
-// The tests use the rest of it.
-#[allow(dead_code)]
-#[path = "../../bindings/rust/tests/store/reference.rs"]
-mod reference;
-
+mod by_bytes;
+mod by_words;
 #[path = "../../bindings/rust/tests/store/pages.rs"]
 mod pages;
 
+use by_bytes::reference;
+use by_words::reference as words;
 use qanbillox::Block;
 use reference::{Geometry, Reply, Request, State, DEAD, LIVE, OPENED, PAGE, UNLIMITED};
 use std::hint::black_box;
@@ -25,16 +25,14 @@ use std::time::{Duration, Instant};
 const CONTENTS: [u8; 100] = [0x41; 100];
 
 fn main() {
-    for (n, b, runs) in [(4, 15, 401), (16, 255, 51), (64, 255, 21)] {
+    blank_row(16 * 1024 * 1024, 51);
+    for (n, b, runs) in [(4, 15, 401), (16, 255, 101), (64, 255, 51)] {
         let g = Geometry { n, b };
         let capacity = g.capacity();
         for (fill, blocks) in [("half full", capacity / 2), ("full", capacity)] {
             let bytes = n * g.segment_len();
             println!("N={n}, B={b}, {bytes} bytes, {fill}: {blocks} blocks");
-            println!(
-                "  {:<30}{:>10}{:>14}{:>14}{:>8}",
-                "request", "steps", "reference", "library", "ratio"
-            );
+            print_heads("request");
             chip(g, blocks, runs);
             println!();
         }
@@ -43,9 +41,10 @@ fn main() {
 
 /// All requests on a chip with this many blocks.
 fn chip(g: Geometry, blocks: usize, runs: usize) {
-    let roomy = after_puts(g, blocks, blocks);
-    // So many that the next put has to compact.
-    let crowded = after_puts(g, (g.n - 1) * g.b, blocks);
+    let slots = (g.n - 1) * g.b;
+    let roomy = after_puts(g, blocks, blocks, 0);
+    // So many that the next put has to compact: the dead slots are in the oldest segments.
+    let crowded = after_puts(g, slots, blocks, 0);
     let cut = erase_pending(&crowded, g);
     let middle = (blocks / 2) as u16;
 
@@ -56,26 +55,26 @@ fn chip(g: Geometry, blocks: usize, runs: usize) {
     write_row("format", &roomy, g, &Request::Format, runs);
     write_row("put, a rewrite with room", &roomy, g, &put(middle), runs);
     write_row("put, compacting first", &crowded, g, &put(1), runs);
+    if blocks == g.capacity() {
+        // The one dead slot is the top's last, so that every segment is compacted.
+        let packed = after_puts(g, slots, blocks, slots - 1);
+        write_row("put, compacting everything", &packed, g, &put(1), runs);
+    }
     read_row("read", &roomy, g, middle, runs);
     read_row("read, not stored", &roomy, g, 65_000, runs);
     let delete = Request::Delete { block: middle };
     write_row("delete", &roomy, g, &delete, runs);
     write_row("recover, nothing to do", &roomy, g, &Request::Recover, runs);
-    write_row(
-        "recover, an erase pending",
-        &cut,
-        g,
-        &Request::Recover,
-        runs,
-    );
+    write_row("recover, an erase pending", &cut, g, &Request::Recover, runs);
 }
 
 // ---------------------------------------------------------------------------------------------
 // Images
 // ---------------------------------------------------------------------------------------------
 
-/// A fresh chip after this many puts, of the blocks in turn.
-fn after_puts(g: Geometry, puts: usize, blocks: usize) -> Vec<u8> {
+/// A fresh chip with this many written slots, of the blocks in turn. All but so many are dead, one
+/// after the other from a place on.
+fn after_puts(g: Geometry, puts: usize, blocks: usize, dead_from: usize) -> Vec<u8> {
     let mut image = vec![0xFF; g.n * g.segment_len()];
     for i in 0..puts {
         let number = (i / g.b) as u32;
@@ -83,7 +82,8 @@ fn after_puts(g: Geometry, puts: usize, blocks: usize) -> Vec<u8> {
             pages::write_header(&mut image, g, number, OPENED);
         }
         let at = g.page(g.index(number), 1 + i % g.b);
-        let status = if i + blocks < puts { DEAD } else { LIVE };
+        let dead = dead_from..dead_from + (puts - blocks);
+        let status = if dead.contains(&i) { DEAD } else { LIVE };
         let block = (i % blocks) as u16 + 1;
         pages::write_slot_page(&mut image[at..at + PAGE], status, block, &CONTENTS);
     }
@@ -140,76 +140,139 @@ fn perform_library(image: &mut [u8], g: Geometry, request: &Request) -> Reply {
     }
 }
 
-fn timed<T>(work: impl FnOnce() -> T) -> (Duration, T) {
-    let start = Instant::now();
-    let result = black_box(work());
-    (start.elapsed(), result)
+fn perform_words(image: &mut [u8], g: Geometry, request: &words::Request) -> Reply {
+    let g = words::Geometry { n: g.n, b: g.b };
+    let reply = words::perform(image, g, request, UNLIMITED);
+    Reply {
+        code: reply.code,
+        steps: reply.steps,
+    }
 }
 
-fn median(mut times: Vec<Duration>) -> f64 {
-    times.sort();
-    times[times.len() / 2].as_secs_f64() * 1e6
+/// The same request for the other yardstick, whose types are its own.
+fn in_words(request: &Request) -> words::Request {
+    match request {
+        Request::Format => words::Request::Format,
+        Request::Put { block, contents } => words::Request::Put {
+            block: *block,
+            contents: contents.clone(),
+        },
+        Request::Delete { block } => words::Request::Delete { block: *block },
+        Request::Recover => words::Request::Recover,
+    }
 }
 
-/// The times of both sides, which take turns to go first.
+/// The times of the three sides: the reference by bytes, by words, and the library.
 #[derive(Default)]
-struct Times {
-    reference: Vec<Duration>,
-    library: Vec<Duration>,
+struct Times([Vec<Duration>; 3]);
+
+impl Times {
+    /// Adds how long a side takes.
+    fn add<T>(&mut self, side: usize, work: impl FnOnce() -> T) -> T {
+        let start = Instant::now();
+        let result = black_box(work());
+        self.0[side].push(start.elapsed());
+        result
+    }
+
+    /// The medians in microseconds.
+    fn medians(self) -> [f64; 3] {
+        self.0.map(|mut times| {
+            times.sort();
+            times[times.len() / 2].as_secs_f64() * 1e6
+        })
+    }
+}
+
+/// The order of the sides in a run: each goes first in turn.
+fn turns(run: usize) -> [usize; 3] {
+    [run % 3, (run + 1) % 3, (run + 2) % 3]
 }
 
 fn write_row(name: &str, image: &[u8], g: Geometry, request: &Request, runs: usize) {
     let mut times = Times::default();
-    let mut steps = 0;
-    let (mut left, mut right) = (image.to_vec(), image.to_vec());
+    let mut buffers = [image.to_vec(), image.to_vec(), image.to_vec()];
+    let mut replies = [Reply { code: 0, steps: 0 }; 3];
+    let other = in_words(request);
     for run in 0..runs {
-        let mut reference = || {
-            left.copy_from_slice(image);
-            timed(|| reference::perform(black_box(&mut left), g, request, UNLIMITED))
-        };
-        let mut library = || {
-            right.copy_from_slice(image);
-            timed(|| perform_library(black_box(&mut right), g, request))
-        };
-        let (expected, reply) = if run % 2 == 0 {
-            (reference(), library())
-        } else {
-            let reply = library();
-            (reference(), reply)
-        };
-        times.reference.push(expected.0);
-        times.library.push(reply.0);
-        assert_eq!(reply.1.code, reference::DONE);
-        assert_eq!(reply.1, expected.1);
-        assert!(left == right, "the images differ after {request:?}");
-        steps = reply.1.steps;
+        for side in turns(run) {
+            let buffer = &mut buffers[side];
+            buffer.copy_from_slice(image);
+            let buffer = black_box(buffer.as_mut_slice());
+            replies[side] = times.add(side, || match side {
+                0 => reference::perform(buffer, g, request, UNLIMITED),
+                1 => perform_words(buffer, g, &other),
+                _ => perform_library(buffer, g, request),
+            });
+        }
+        assert_eq!(replies[0].code, reference::DONE);
+        assert!(replies[0] == replies[1] && replies[0] == replies[2]);
+        assert!(
+            buffers[0] == buffers[1] && buffers[0] == buffers[2],
+            "the images differ after {request:?}"
+        );
     }
-    print_row(name, steps, times);
+    print_row(name, &replies[0].steps.to_string(), times);
 }
 
 fn read_row(name: &str, image: &[u8], g: Geometry, block: u16, runs: usize) {
     let mut times = Times::default();
+    let other = words::Geometry { n: g.n, b: g.b };
     for run in 0..runs {
-        let reference = || timed(|| reference::read(black_box(image), g, block));
-        let library = || timed(|| typed(g).read(black_box(image), Block(block)));
-        let (expected, reply) = if run % 2 == 0 {
-            (reference(), library())
-        } else {
-            let reply = library();
-            (reference(), reply)
-        };
-        times.reference.push(expected.0);
-        times.library.push(reply.0);
-        assert_eq!(reply.1.answer.number(), expected.1.code);
-        assert_eq!(reply.1.offset, expected.1.offset);
-        assert_eq!(reply.1.contents.len(), expected.1.length);
+        let mut replies = [(0, 0, 0); 3];
+        for side in turns(run) {
+            let image = black_box(image);
+            replies[side] = times.add(side, || match side {
+                0 => {
+                    let reply = reference::read(image, g, block);
+                    (reply.code, reply.offset, reply.length)
+                }
+                1 => {
+                    let reply = words::read(image, other, block);
+                    (reply.code, reply.offset, reply.length)
+                }
+                _ => {
+                    let read = typed(g).read(image, Block(block));
+                    (read.answer.number(), read.offset, read.contents.len())
+                }
+            });
+        }
+        assert!(replies[0] == replies[1] && replies[0] == replies[2]);
     }
-    print_row(name, 0, times);
+    print_row(name, "0", times);
 }
 
-/// The ratio is the library's time over the reference's.
-fn print_row(name: &str, steps: u64, times: Times) {
-    let (reference, library) = (median(times.reference), median(times.library));
-    let ratio = library / reference;
-    println!("  {name:<30}{steps:>10}{reference:>11.1} µs{library:>11.1} µs{ratio:>8.2}");
+/// The blank test alone, on this many bytes 255.
+fn blank_row(bytes: usize, runs: usize) {
+    let blank = vec![0xFF; bytes];
+    let mut times = Times::default();
+    for run in 0..runs {
+        for side in turns(run) {
+            let bytes = black_box(blank.as_slice());
+            assert!(times.add(side, || match side {
+                0 => by_bytes::all_255(bytes),
+                1 => by_words::all_255(bytes),
+                _ => qanbillox::blank_test(bytes).blank,
+            }));
+        }
+    }
+    print_heads("blank test");
+    print_row(&format!("{bytes} bytes, all 255"), "", times);
+    println!();
+}
+
+fn print_heads(first: &str) {
+    println!(
+        "  {:<28}{:>8}{:>14}{:>14}{:>14}{:>10}{:>10}",
+        first, "steps", "by bytes", "by words", "library", "to bytes", "to words"
+    );
+}
+
+/// The ratios are the library's time over that of the reference by bytes, and by words.
+fn print_row(name: &str, steps: &str, times: Times) {
+    let [bytes, words, library] = times.medians();
+    let (to_bytes, to_words) = (library / bytes, library / words);
+    println!(
+        "  {name:<28}{steps:>8}{bytes:>11.1} µs{words:>11.1} µs{library:>11.1} µs{to_bytes:>10.2}{to_words:>10.2}"
+    );
 }

@@ -14,6 +14,7 @@
 //! - [`Answer`] is what comes back, with the numbers of document 01.
 //! - [`Outcome`] has the count of flash steps done, and [`Read`] the contents, borrowed from the
 //!   image.
+//! - [`blank_test`] is the store's test for erased bytes.
 //!
 //! # Example
 //!
@@ -49,10 +50,12 @@
 #![warn(missing_docs)]
 
 mod answer;
+mod blank;
 mod geometry;
 mod request;
 mod sys;
 
 pub use answer::Answer;
+pub use blank::{blank_test, BlankTest};
 pub use geometry::{Geometry, MAX_CONTENTS, PAGE};
 pub use request::{Block, Outcome, Read, Request, UNLIMITED};

@@ -53,4 +53,7 @@ extern "C" {
         slots: usize,
         block: u16,
     ) -> u64;
+
+    /// 1 if every byte is 255, otherwise 0; + 256 × groups of eight looked at.
+    pub fn qbx_is_blank(bytes: *const u8, bytes_len: usize) -> u64;
 }

@@ -1,19 +1,20 @@
--- Laws of steps under a budget: nothing, one step, one call after another, a budget that is spent; bytes programmed in a loop; a part of the image; the blank test.
+-- Laws of steps under a budget: nothing, one step, one call after another, a budget that is spent; bytes programmed in a loop; a part of the image.
 use mathlib.Core.Path.{_≡_, refl, sym, ap, _∙_, subst}
 use mathlib.Core.Bool.{true, false}
-use Prim.Native.Nat.{ℕ, zero, suc, _+_, _-_, _*_, _≤_, _<_}
-use native.Mathlib.Nat.{sub-zero, le-of-eq, add-zero, zero-add, suc-add}
+use Prim.Native.Nat.{ℕ, zero, suc, _+_, _-_, _*_, _≤_, _<_, min}
+use native.Mathlib.Nat.{sub-zero, le-of-eq, add-zero, zero-add, suc-add, min-eq-left, min-eq-right, min-le-left}
 use native.Mathlib.Numerals.{add-one}
+use native.Mathlib.Decide.{decLe}
 use native.Mathlib.Omega.{arith}
 use mathlib.Core.List.{List, [], _∷_, _++_, append-assoc}
 use lib.ListN.{length, getD, take, drop, set, replicate, length-append, length-drop, length-replicate, drop-of-length-le, getD-replicate, take-append-drop, List·getD-append}
 use lib.Bits.{bitAnd}
-use lib.Seq.{drop-cons, take-suc, paste, paste-suc, take-all, getD-append-add, set-append-left, length-take-le}
+use lib.Seq.{take-suc, take-length, paste, paste-suc, take-all, getD-append-add, set-append-left, length-take-le}
 use borrow.Author.Tests.{eq-eqb, ne-eqb, le-leb}
 use Rattle.model.specs.Chip.{Image, Step, program, erase, clear, erased, withSegment, step, run, runFirst}
 use Rattle.model.specs.Header.{isBlank}
 use Rattle.model.specs.Steps.{programs, onPage}
-use Rattle.model.specs.Laws.Chip.{step-length, run-length, first-append}
+use Rattle.model.specs.Laws.Chip.{step-length, run-length, run-append, first-append}
 use Rattle.flash.specs.Ran.{Ran, Programmed, shifted, Within}
 
 -- ---- lists of steps
@@ -74,19 +75,38 @@ unfolding programs
 programs-next at i bs h =
     rw (add-one, take-suc bs i 0 h, programs-append at (take i bs) (getD bs i 0 ∷ []), length-take-le i bs (omega arith))
 
--- a loop that programs bytes: a turn, the end, and an end because the budget is spent
-pub programs-turn : (at i : ℕ) (bs : List ℕ) {n n₁ : ℕ} {s s₁ : Image} → i < length bs → (n₁ ≡ 0 → ⊥) → Programmed (programs at (take i bs)) n n₁ s s₁
-    → Programmed (programs at (take (i + 1) bs)) n (n₁ - 1) s (set s₁ (at + i) (bitAnd (getD s₁ (at + i) 0) (getD bs i 0)))
-programs-turn at i bs {n₁ = n₁} {s₁ = s₁} h z d B =
-    rw (programs-next at i bs h) (_then_ (d B) (programmed-one (at + i) (getD bs i 0) n₁ s₁ z B))
+-- a loop that programs bytes: the first i are programmed; a turn; and the end, where all are or the budget goes no further
+abbrev pub ProgrammedTo : ℕ → ℕ → List ℕ → Image → Image → Type 0
+ProgrammedTo at i bs s t = (B : ℕ) → t ≡ run B (programs at (take i bs)) s
 
-pub programs-all : (at i : ℕ) (bs : List ℕ) {n n₁ : ℕ} {s s₁ : Image} → length bs ≤ i → Programmed (programs at (take i bs)) n n₁ s s₁ → Programmed (programs at bs) n n₁ s s₁
-programs-all at i bs h d = rw (take-all i bs h) at d
+pub programs-turn : (at i : ℕ) (bs : List ℕ) (s t : Image) → i < length bs → ProgrammedTo at i bs s t → ProgrammedTo at (i + 1) bs s (set t (at + i) (bitAnd (getD t (at + i) 0) (getD bs i 0)))
+unfolding run step clear
+programs-turn at i bs s t h e B =
+    let x : List Step = program (at + i) (getD bs i 0) ∷ [] in
+    ap (run B x) (e B) ∙ sym (run-append B (programs at (take i bs)) x s) ∙ ap (λ (l : List Step). run B l s) (sym (programs-next at i bs h))
 
-pub programs-spent : (at i : ℕ) (bs : List ℕ) {n n₁ : ℕ} {s s₁ : Image} → n₁ ≡ 0 → Programmed (programs at (take i bs)) n n₁ s s₁ → Programmed (programs at bs) n 0 s s₁
-programs-spent at i bs {n} {n₁} {s} {s₁} z d B =
-    subst (λ (l : List Step). Ran l B n 0 s s₁) (sym (programs-append at (take i bs) (drop i bs)) ∙ ap (programs at) (take-append-drop i bs))
-    (_then_ (d B) (ran-spent (programs (at + length (take i bs)) (drop i bs)) B n₁ s₁ z))
+take-programs : (at n : ℕ) (bs : List ℕ) → take n (programs at bs) ≡ programs at (take n bs)
+unfolding programs
+take-programs at zero bs = refl
+take-programs at (suc n) [] = refl
+take-programs at (suc n) (b ∷ bs) = ap (λ (l : List Step). program at b ∷ l) (take-programs (suc at) n bs)
+
+length-programs : (at : ℕ) (bs : List ℕ) → length (programs at bs) ≡ length bs
+unfolding programs
+length-programs at [] = refl
+length-programs at (b ∷ bs) = ap suc (length-programs (suc at) bs)
+
+take-covered : (n : ℕ) (bs : List ℕ) → take (min n (length bs)) bs ≡ take n bs
+take-covered n bs = elim (decLe n (length bs)) [ yes h ↦ rw (min-eq-left h) | no h ↦ long (omega arith) ]
+  where
+    long : length bs ≤ n → take (min n (length bs)) bs ≡ take n bs
+    long h = rw (min-eq-right h, take-length bs) (sym (take-all n bs h))
+
+pub programs-covered : (at n i : ℕ) (bs : List ℕ) (s t : Image) → i ≡ min n (length bs) → ProgrammedTo at i bs s t → Programmed (programs at bs) n (n - i) s t
+programs-covered at n i bs s t h e B = record {
+  image = e B ∙ ap (λ (l : List Step). run B l s) (ap (programs at) (rw h (take-covered n bs)) ∙ sym (take-programs at n bs));
+  rest = omega (arith, length-programs at bs, min-le-left n (length bs));
+}
 
 -- ---- erasing
 
@@ -183,17 +203,3 @@ within-page c p (erase i ∷ xs) h w = absurd w
 pub ran-lent : (q c p : ℕ) (s : Image) (xs : List Step) {B n n₁ : ℕ} {t : List ℕ} → q * 256 + c ≤ length s → p * 256 + 256 ≤ c → Within 256 xs
     → Ran (onPage p xs) B n n₁ (take c (drop (q * 256) s)) t → Ran (onPage (q + p) xs) B n n₁ s (take (q * 256) s ++ (t ++ drop c (drop (q * 256) s)))
 ran-lent q c p s xs h k w d = rw (← (page-shifted q p xs)) (ran-part (q * 256) c s (onPage p xs) h (within-page c p xs k w) d)
-
--- ---- the blank test
-
-pub blank-stop : (s : List ℕ) (i : ℕ) → i < length s → (getD s i 0 ≡ 255 → ⊥) → isBlank (drop i s) ≡ false
-unfolding isBlank
-blank-stop s i h n = rw (drop-cons s i 0 h, ne-eqb (getD s i 0) 255 n)
-
-pub blank-next : (s : List ℕ) (i : ℕ) → i < length s → getD s i 0 ≡ 255 → isBlank (drop i s) ≡ isBlank (drop (i + 1) s)
-unfolding isBlank
-blank-next s i h e = rw (drop-cons s i 0 h, eq-eqb (getD s i 0) 255 e, add-one)
-
-pub blank-end : (s : List ℕ) (i : ℕ) → length s ≤ i → isBlank (drop i s) ≡ true
-unfolding isBlank
-blank-end s i h = rw (drop-of-length-le s h)

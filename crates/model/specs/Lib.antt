@@ -2,6 +2,7 @@
 pub mod Lists
 pub mod Chip
 pub mod Header
+pub mod Blank
 pub mod Slot
 pub mod State
 pub mod Steps

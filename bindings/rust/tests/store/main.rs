@@ -1,6 +1,7 @@
 //! Document 01 tried on the reference implementation and, if it is linked, on the library.
 #![cfg_attr(not(qbx_lib), allow(dead_code))]
 
+mod blank_test;
 mod conditions;
 mod cuts;
 mod damage;
@@ -14,3 +15,8 @@ mod prng;
 mod reference;
 mod sequences;
 mod step_lists;
+
+/// The reference's test for "every byte is 255".
+fn all_255(bytes: &[u8]) -> bool {
+    bytes.iter().all(|&byte| byte == 0xFF)
+}

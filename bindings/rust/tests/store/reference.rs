@@ -2,7 +2,9 @@
 //!
 //! It is written from the paper alone and shares nothing with the proved code or its definitions:
 //! the same rules, read a second time. It uses the paper's words. The tests and the bench both
-//! include this file.
+//! include this file, the bench twice: whoever includes it supplies `all_255`.
+
+use super::all_255;
 
 /// Bytes in a page.
 pub const PAGE: usize = 256;
@@ -131,9 +133,38 @@ impl Chip<'_> {
         self.step(Step::Program { at, value })
     }
 
+    /// One step for each byte.
+    fn program_all(&mut self, at: usize, values: &[u8]) -> Result<(), Cut> {
+        let allowed = (self.allowance - self.done).min(values.len() as u64) as usize;
+        let steps = self.image[at..].iter_mut().zip(&values[..allowed]);
+        steps.for_each(|(byte, value)| *byte &= value);
+        self.done += allowed as u64;
+        if let Some(list) = &mut self.list {
+            let steps = values[..allowed].iter().enumerate();
+            list.extend(steps.map(|(i, &value)| Step::Program { at: at + i, value }));
+        }
+        if allowed < values.len() {
+            return Err(Cut);
+        }
+        Ok(())
+    }
+
     fn erase(&mut self, index: usize) -> Result<(), Cut> {
         self.step(Step::Erase { index })
     }
+}
+
+/// Request #103: whether every byte is 255, and how many groups of eight bytes were looked at. The
+/// last may be shorter, and nothing is looked at after the first that differs.
+pub fn blank_test(bytes: &[u8]) -> (bool, u64) {
+    let mut groups = 0;
+    for group in bytes.chunks(8) {
+        groups += 1;
+        if group.iter().any(|&byte| byte != 0xFF) {
+            return (false, groups);
+        }
+    }
+    (true, groups)
 }
 
 // ---------------------------------------------------------------------------------------------
@@ -145,10 +176,6 @@ impl Chip<'_> {
 pub struct InUse {
     pub number: u32,
     pub owing: bool,
-}
-
-fn all_255(bytes: &[u8]) -> bool {
-    bytes.iter().all(|&byte| byte == 0xFF)
 }
 
 /// The header of a segment in use, or `None`.
@@ -416,33 +443,21 @@ pub fn table(image: &[u8], g: Geometry) -> Option<Vec<(u16, Vec<u8>)>> {
 fn write_slot(chip: &mut Chip, at: usize, block: u16, contents: &[u8]) -> Result<(), Cut> {
     let [low, high] = block.to_le_bytes();
     chip.program(at, WRITING)?;
-    chip.program(at + 1, contents.len() as u8)?;
-    chip.program(at + 2, low)?;
-    chip.program(at + 3, high)?;
-    for (i, &byte) in contents.iter().enumerate() {
-        chip.program(at + 8 + i, byte)?;
-    }
+    chip.program_all(at + 1, &[contents.len() as u8, low, high])?;
+    chip.program_all(at + 8, contents)?;
     chip.program(at, LIVE)
 }
 
 /// Bytes 0-4, 6 and 7 of a header.
 fn write_mark(chip: &mut Chip, at: usize) -> Result<(), Cut> {
-    for (i, &byte) in b"SLT\x01\x00".iter().enumerate() {
-        chip.program(at + i, byte)?;
-    }
-    chip.program(at + 6, chip.g.b as u8)?;
-    chip.program(at + 7, chip.g.n as u8)
+    chip.program_all(at, b"SLT\x01\x00")?;
+    chip.program_all(at + 6, &[chip.g.b as u8, chip.g.n as u8])
 }
 
 /// Bytes 8-15 of a header.
 fn write_number(chip: &mut Chip, at: usize, number: u32) -> Result<(), Cut> {
-    for (i, byte) in number.to_le_bytes().into_iter().enumerate() {
-        chip.program(at + 8 + i, byte)?;
-    }
-    for (i, byte) in (!number).to_le_bytes().into_iter().enumerate() {
-        chip.program(at + 12 + i, byte)?;
-    }
-    Ok(())
+    chip.program_all(at + 8, &number.to_le_bytes())?;
+    chip.program_all(at + 12, &(!number).to_le_bytes())
 }
 
 /// Opening: 17 steps.

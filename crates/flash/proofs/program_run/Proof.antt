@@ -1,30 +1,28 @@
--- `flash::program_run` programs the bytes as far as the budget goes. The invariant: the first `i` are programmed, and paid for. Assumes nothing.
-use Prim.Native.Nat.{_-_, _≤_}
+-- `flash::program_run` programs the bytes as far as the budget goes. The invariant: the first `i` are programmed. Assumes nothing.
+use Prim.Native.Nat.{_-_, _≤_, min}
 use mathlib.Core.Path.{_≡_, refl}
 use native.Mathlib.Omega.{arith}
-use lib.ListN.{length, take}
+use denote.Ref.{now}
+use lib.ListN.{length, length-set}
+use Rattle.model.specs.Chip.{run}
 use Rattle.model.specs.Steps.{programs}
-use Rattle.flash.specs.Ran.{Programmed}
-use Rattle.flash.proofs.Laws.{ran-none, programs-turn, programs-all, programs-spent}
+use Rattle.flash.proofs.Laws.{ProgrammedTo, programs-turn, programs-covered}
 use borrow.Author.Needs.{needs}
 use Rattle.flash.proofs.program_run.Statement.{statement}
 use Rattle.flash.proofs.program_run.Tie as tie
 
 abbrev Inv-loop : tie.InvT-loop
-Inv-loop image₀ at bytes budget left₀ i₀ image left i = Programmed (programs at (take i bytes)) budget left image₀ image × (i ≤ length bytes) × (length image ≡ length image₀)
+Inv-loop image₀ at bytes budget count i₀ image i = ProgrammedTo at i bytes image₀ image × (i ≤ min budget (length bytes)) × (length image ≡ length image₀)
 
 abbrev μ-loop : tie.MeasureT-loop
-μ-loop image₀ at bytes budget left₀ i₀ image left i = length bytes - i
+μ-loop image₀ at bytes budget count i₀ image i = min budget (length bytes) - i
+
+covered-requires : tie.Need-covered-requires Inv-loop μ-loop
+covered-requires c κs = search needs
 
 loop-holds : tie.Need-loop-holds Inv-loop μ-loop
-unfolding programs
-loop-holds c = (λ B. ran-none B _ _, omega arith, refl)
-
-same-length : tie.Need-same-length Inv-loop μ-loop
-same-length c = search needs
-
-returns : tie.Need-returns Inv-loop μ-loop
-returns c = search (needs, programs-spent)
+unfolding programs run
+loop-holds c = (λ B. refl, omega arith, refl)
 
 add-o : tie.Need-add-o Inv-loop μ-loop
 add-o c = search needs
@@ -38,9 +36,6 @@ shared-slice-read-image c = search needs
 slice-write-image : tie.Need-slice-write-image Inv-loop μ-loop
 slice-write-image c = search needs
 
-sub-left : tie.Need-sub-left Inv-loop μ-loop
-sub-left c = search needs
-
 add-i : tie.Need-add-i Inv-loop μ-loop
 add-i c = search needs
 
@@ -48,13 +43,23 @@ loop-less : tie.Need-loop-less Inv-loop μ-loop
 loop-less c = search needs
 
 loop-again : tie.Need-loop-again Inv-loop μ-loop
-loop-again c = search (needs, programs-turn)
+loop-again c =
+    let k = c .before .before .before in
+    let a = k .before .before .before .before .args in
+    (programs-turn (a .at) (k .loop .i) (now (a .bytes)) (now (a .image)) (k .loop .image) (omega (arith, k .before .covered .ensures)) (k .loop .inv .0), omega (arith, k .before .covered .ensures), simp length-set (k .loop .inv .2))
 
-same-length-2 : tie.Need-same-length-2 Inv-loop μ-loop
-same-length-2 c = search needs
+sub-result : tie.Need-sub-result Inv-loop μ-loop
+sub-result c = search needs
 
-returns-2 : tie.Need-returns-2 Inv-loop μ-loop
-returns-2 c = search (needs, programs-all)
+same-length : tie.Need-same-length Inv-loop μ-loop
+same-length c = search needs
+
+returns : tie.Need-returns Inv-loop μ-loop
+returns c =
+    let k = c .before in
+    let a = k .before .before .before .before .args in
+    let e : k .before .covered .result ≡ k .loop .i = omega (arith, k .before .covered .ensures) in
+    rw e (programs-covered (a .at) (a .budget) (k .loop .i) (now (a .bytes)) (now (a .image)) (k .loop .image) (omega (arith, k .before .covered .ensures)) (k .loop .inv .0))
 
 pub program-run-spec : {M : Type 1} → statement M
 program-run-spec =
@@ -62,16 +67,15 @@ program-run-spec =
     (tie.spec
     Inv-loop
     μ-loop
+    covered-requires
     loop-holds
-    same-length
-    returns
     add-o
     slice-read-image
     shared-slice-read-image
     slice-write-image
-    sub-left
     add-i
     loop-less
     loop-again
-    same-length-2
-    returns-2)
+    sub-result
+    same-length
+    returns)

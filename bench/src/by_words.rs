@@ -1,0 +1,11 @@
+//! The same reference, but for its blank test, which goes by words of eight bytes.
+
+#[allow(dead_code)]
+#[path = "../../bindings/rust/tests/store/reference.rs"]
+pub mod reference;
+
+pub fn all_255(bytes: &[u8]) -> bool {
+    let (words, rest) = bytes.as_chunks();
+    words.iter().all(|&word| u64::from_ne_bytes(word) == u64::MAX)
+        && rest.iter().all(|&byte| byte == 0xFF)
+}
