@@ -67,12 +67,12 @@ fn copy_live(
     while slot < slots {
         let at = from + slot * 256;
         let next = at + 256;
-        let page = page_of(&image[at..next]);
         slot += 1;
-        let kind = slot::slot_kind(&page);
+        let kind = slot::slot_kind(&image[at..next]);
         let SlotKind::Live { length, block } = kind else {
             continue;
         };
+        let page = page_of(&image[at..next]);
         let stop = 8 + length;
         let place = SlotPlace(copied * 256);
         left = slot::write_slot(&mut image[start..end], place, block, &page[8..stop], left);

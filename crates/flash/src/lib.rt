@@ -37,14 +37,14 @@ pub fn program_run(image: &mut [u8], at: usize, bytes: &[u8], budget: u64) -> u6
     requires { ⌜ at + length (now bytes) ≤ length (now image) ⌝ }
     ensures { λ r. ⌜ Programmed (programs at (now (bytes .entry))) budget r (now (image .entry)) (now (image .exit)) ⌝ }
 {
-    let count = covered(budget, bytes.len());
+    let paid = covered(budget, bytes.len());
     let mut i = 0;
-    while i < count {
+    while i < paid {
         let o = at + i;
         image[o] = image[o] & bytes[i];
         i += 1;
     }
-    budget - count as u64
+    budget - paid as u64
 }
 
 // Programs some bytes of a page that was made up, where they belong.
@@ -103,6 +103,12 @@ fn rest_blank(rest: &[u8]) -> bool
     joined == 255
 }
 
+fn told(blank: bool, groups: usize) -> BlankTest
+    ensures { λ r. ⌜ (r .blank ≡ blank) × (r .groups ≡ groups) ⌝ }
+{
+    BlankTest { blank, groups }
+}
+
 // Looks at one group after the other, up to the first that differs. The last may be shorter.
 pub fn blank_test(bytes: &[u8]) -> BlankTest
     ensures { λ r. ⌜ (r .blank ≡ isBlank (now (bytes .entry))) × (r .groups ≡ blankGroups (now (bytes .entry))) ⌝ }
@@ -114,28 +120,16 @@ pub fn blank_test(bytes: &[u8]) -> BlankTest
         let end = at + 8;
         groups += 1;
         if !group_blank(&bytes[at..end]) {
-            return BlankTest {
-                blank: false,
-                groups,
-            };
+            return told(false, groups);
         }
     }
     if bytes.len() % 8 == 0 {
-        return BlankTest {
-            blank: true,
-            groups,
-        };
+        return told(true, groups);
     }
     if whole == 0 {
-        return BlankTest {
-            blank: rest_blank(bytes),
-            groups: 1,
-        };
+        return told(rest_blank(bytes), 1);
     }
     // The last eight bytes end with the shorter group; those of them before it are 255.
     let last = bytes.len() - 8;
-    BlankTest {
-        blank: group_blank(&bytes[last..]),
-        groups: groups + 1,
-    }
+    told(group_blank(&bytes[last..]), groups + 1)
 }

@@ -1,7 +1,11 @@
 -- What the exports give: an answer packed into one number.
-use Prim.Native.Nat.{ℕ, _+_, _*_}
+use Prim.Native.Nat.{ℕ, _+_, _*_, _%_}
 use mathlib.Core.Path.{_≡_}
+use mathlib.Core.Bool.{cond}
+use mathlib.Core.List.{List}
 use Rattle.model.specs.Chip.{Image}
+use Rattle.model.specs.Header.{isBlank}
+use Rattle.model.specs.Blank.{blankGroups}
 use Rattle.model.specs.Answers.{Outcome, ReadOutcome}
 
 -- the answer + 256 × the steps done
@@ -16,3 +20,11 @@ pub record Gives (o : Outcome) (r : ℕ) (s : Image) : Type 0 where
 -- the answer + 256 × the length + 65,536 × the offset
 unfoldable pub packedRead : ReadOutcome → ℕ
 packedRead o = o .code + 256 * o .length + 65536 * o .offset
+
+-- as many groups as 64 bits hold above the lowest eight, 2 to the 56th: more than any memory has
+unfoldable pub mostGroups : ℕ
+mostGroups = 72057594037927936
+
+-- 1 if all are 255, otherwise 0, + 256 × the groups looked at
+unfoldable pub packedBlank : List ℕ → ℕ
+packedBlank s = cond (isBlank s) 1 0 + 256 * (blankGroups s % mostGroups)

@@ -1,11 +1,13 @@
-// The library's exports to C and Rust: the requests, with what comes back packed into one number.
+// The library's exports to C and Rust: the requests and the blank test, with what comes back packed into one number.
+use flash::BlankTest;
 use model::BlockNumber;
 use model::Located;
 use model::Performed;
 ghost use mathlib.Core.Path.{_≡_};
-ghost use Prim.Native.Nat.{_+_, _*_, _≤_};
+ghost use mathlib.Core.Bool.{cond};
+ghost use Prim.Native.Nat.{_+_, _*_, _%_, _≤_};
 ghost use Rattle.model.specs.Answers.{codeOf, outcomeOf, readOutcome, format, put, delete, recover};
-ghost use Rattle.qanbillox.specs.Packed.{Gives, packedRead};
+ghost use Rattle.qanbillox.specs.Packed.{Gives, packedRead, mostGroups, packedBlank};
 
 // The answer, and 256 times the steps done: a list never has more than some four million.
 fn packed(p: Performed) -> u64
@@ -25,6 +27,20 @@ fn packed_read(p: Located) -> u64
     let length = p.length as u64;
     let offset = p.offset as u64;
     request::number_of(answer) + 256 * length + 65536 * offset
+}
+
+// As many groups as the bits above the lowest eight hold.
+const MOST_GROUPS: u64 = 72057594037927936;
+
+// 1 if all are 255, otherwise 0, and 256 times the groups looked at.
+fn packed_blank(t: BlankTest) -> u64
+    ensures { λ r. ⌜ r ≡ cond (t .blank) 1 0 + 256 * (t .groups % mostGroups) ⌝ }
+{
+    let groups = t.groups as u64 % MOST_GROUPS;
+    if t.blank {
+        return 1 + 256 * groups;
+    }
+    256 * groups
 }
 
 #[no_mangle]
@@ -67,4 +83,11 @@ pub extern "C" fn qbx_read(image: &[u8], n: usize, b: usize, block: u16) -> u64
     ensures { λ r. ⌜ r ≡ packedRead (readOutcome n b (now (image .entry)) block) ⌝ }
 {
     packed_read(store::read(image, n, b, BlockNumber(block)))
+}
+
+#[no_mangle]
+pub extern "C" fn qbx_is_blank(bytes: &[u8]) -> u64
+    ensures { λ r. ⌜ r ≡ packedBlank (now (bytes .entry)) ⌝ }
+{
+    packed_blank(flash::blank_test(bytes))
 }

@@ -51,7 +51,8 @@ fn see_segment(image: &[u8], segments: usize, slots: usize, index: usize) -> Sum
     let seen = header::see_header(&image[at..first], segments, slots, index);
     let HeaderSeen::InUse { status, number } = seen else {
         let end = at + (slots + 1) * 256;
-        if flash::is_blank(&image[at..end]) {
+        let whole = flash::blank_test(&image[at..end]);
+        if whole.blank {
             return head(SegmentState::Blank, SegmentNumber(0));
         }
         return head(SegmentState::Invalid, SegmentNumber(0));

@@ -1,9 +1,12 @@
 -- `compact::copy_live` writes the live slots of the old segment to the new one. The invariant: whatever finishes the rest of the copying finishes the whole, and
 -- the old segment's pages are as they were. Assumes nothing.
 use Prim.Native.Nat.{_+_, _-_, _*_}
+use mathlib.Core.Path.{refl, sym, ap, _∙_}
 use native.Mathlib.Omega.{arith}
 use denote.Ref.{now}
 use lib.ListN.{length-take}
+use Rattle.model.specs.Chip.{Page}
+use Rattle.model.specs.Slot.{slotOf, kindOf}
 use Rattle.compact.proofs.Laws.{Copying, copying-start, copying-skip, copying-turn, copying-end, live-page, slots-inside}
 use borrow.Author.Needs.{needs}
 use Rattle.compact.proofs.copy_live.Statement.{statement}
@@ -53,23 +56,17 @@ add-at c = search needs
 add-next : tie.Need-add-next Inv-loop μ-loop
 add-next c = search needs
 
-sub-page-of : tie.Need-sub-page-of Inv-loop μ-loop
-sub-page-of c = search needs
-
-part-page-of-start : tie.Need-part-page-of-start Inv-loop μ-loop
-part-page-of-start c = search needs
-
-part-page-of-end : tie.Need-part-page-of-end Inv-loop μ-loop
-part-page-of-end c = search needs
-
-page-of-requires : tie.Need-page-of-requires Inv-loop μ-loop
-page-of-requires c κs = search needs
-
 add-slot : tie.Need-add-slot Inv-loop μ-loop
 add-slot c = search needs
 
-slice-aggregate-slot-kind : tie.Need-slice-aggregate-slot-kind Inv-loop μ-loop
-slice-aggregate-slot-kind c = search needs
+sub-slot-kind : tie.Need-sub-slot-kind Inv-loop μ-loop
+sub-slot-kind c = search needs
+
+part-slot-kind-start : tie.Need-part-slot-kind-start Inv-loop μ-loop
+part-slot-kind-start c = search needs
+
+part-slot-kind-end : tie.Need-part-slot-kind-end Inv-loop μ-loop
+part-slot-kind-end c = search needs
 
 slot-kind-requires : tie.Need-slot-kind-requires Inv-loop μ-loop
 slot-kind-requires c κs = search needs
@@ -83,18 +80,28 @@ loop-less c = search needs
 loop-again : tie.Need-loop-again Inv-loop μ-loop
 loop-again c =
     let seen = c .before in
-    let read = seen .before .before in
-    let test = read .before .before .before in
+    let test = seen .before .before .before in
     let k = test .before in
     let from = k .before .before in
     copying-skip _ _ _ _ _ _ _ _ _ _ (from .slots-place .result + k .loop .slot * 256) (k .loop .inv) (test .loop-test .taken)
-    (read .page-of .result) (omega (arith, from .slots-place .ensures)) (read .page-of .ensures) (seen .slot-kind .result) (seen .slot-kind .ensures) (c .match .keys2)
+    _ (omega (arith, from .slots-place .ensures)) refl (seen .slot-kind .result) (seen .slot-kind .ensures) (c .match .keys2)
+
+sub-page-of : tie.Need-sub-page-of Inv-loop μ-loop
+sub-page-of c = search needs
+
+part-page-of-start : tie.Need-part-page-of-start Inv-loop μ-loop
+part-page-of-start c = search needs
+
+part-page-of-end : tie.Need-part-page-of-end Inv-loop μ-loop
+part-page-of-end c = search needs
+
+page-of-requires : tie.Need-page-of-requires Inv-loop μ-loop
+page-of-requires c κs = search needs
 
 add-stop : tie.Need-add-stop Inv-loop μ-loop
 add-stop c =
-    let told = c .before in
-    let seen = told .before .before in
-    let v = live-page (seen .before .before .page-of .result) (told .kind .given .0 .0) (told .kind .given .0 .1 .0) (seen .slot-kind .ensures) (told .kind .given .1) in
+    let told = c .before .before .before .before in
+    let v = live-page _ (told .kind .given .0 .0) (told .kind .given .0 .1 .0) (told .before .before .slot-kind .ensures) (told .kind .given .1) in
     record { fits = omega (arith, v .short) }
 
 mul-write-slot : tie.Need-mul-write-slot Inv-loop μ-loop
@@ -117,16 +124,14 @@ part-write-slot-start-2 c = search needs
 
 part-write-slot-end-2 : tie.Need-part-write-slot-end-2 Inv-loop μ-loop
 part-write-slot-end-2 c =
-    let told = c .before .before .before in
-    let seen = told .before .before in
-    let v = live-page (seen .before .before .page-of .result) (told .kind .given .0 .0) (told .kind .given .0 .1 .0) (seen .slot-kind .ensures) (told .kind .given .1) in
+    let told = c .before .before .before .before .before .before in
+    let v = live-page _ (told .kind .given .0 .0) (told .kind .given .0 .1 .0) (told .before .before .slot-kind .ensures) (told .kind .given .1) in
     omega (arith, v .short)
 
 write-slot-requires : tie.Need-write-slot-requires Inv-loop μ-loop
 write-slot-requires c κs =
-    let told = c .before .before .before .before in
-    let seen = told .before .before in
-    let v = live-page (seen .before .before .page-of .result) (told .kind .given .0 .0) (told .kind .given .0 .1 .0) (seen .slot-kind .ensures) (told .kind .given .1) in
+    let told = c .before .before .before .before .before .before .before in
+    let v = live-page _ (told .kind .given .0 .0) (told .kind .given .0 .1 .0) (told .before .before .slot-kind .ensures) (told .kind .given .1) in
     (search needs, simp length-take (omega (arith, v .short)))
 
 add-copied : tie.Need-add-copied Inv-loop μ-loop
@@ -138,15 +143,15 @@ loop-less-2 c = search needs
 loop-again-2 : tie.Need-loop-again-2 Inv-loop μ-loop
 loop-again-2 c =
     let wrote = c .before .before in
-    let told = wrote .before .before .before .before .before in
+    let read = wrote .before .before .before .before in
+    let told = read .before .before .before .before in
     let seen = told .before .before in
-    let read = seen .before .before in
-    let test = read .before .before .before in
+    let test = seen .before .before .before in
     let k = test .before in
     let from = k .before .before in
     copying-turn _ _ _ _ _ _ _ _ _ _ (from .slots-place .result + k .loop .slot * 256) (k .loop .inv) (test .loop-test .taken)
     (read .page-of .result) (omega (arith, from .slots-place .ensures)) (read .page-of .ensures) (seen .slot-kind .result) (told .kind .given .0 .0) (told .kind .given .0 .1 .0) _ _ _
-    (seen .slot-kind .ensures) (told .kind .given .1) (k .before .slots-place2 .ensures) (wrote .write-slot .ensures)
+    (seen .slot-kind .ensures ∙ ap (λ (p : Page). kindOf (slotOf p)) (sym (read .page-of .ensures))) (told .kind .given .1) (k .before .slots-place2 .ensures) (wrote .write-slot .ensures)
 
 same-length : tie.Need-same-length Inv-loop μ-loop
 same-length c = search needs
@@ -175,16 +180,18 @@ copy-live-spec =
     mul-at
     add-at
     add-next
-    sub-page-of
-    part-page-of-start
-    part-page-of-end
-    page-of-requires
     add-slot
-    slice-aggregate-slot-kind
+    sub-slot-kind
+    part-slot-kind-start
+    part-slot-kind-end
     slot-kind-requires
     enum-known-kind
     loop-less
     loop-again
+    sub-page-of
+    part-page-of-start
+    part-page-of-end
+    page-of-requires
     add-stop
     mul-write-slot
     sub-write-slot

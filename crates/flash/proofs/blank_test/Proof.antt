@@ -43,11 +43,15 @@ part-group-blank-end c = search needs
 group-blank-requires : tie.Need-group-blank-requires Inv-loop μ-loop
 group-blank-requires c κs = search needs
 
+told-requires : tie.Need-told-requires Inv-loop μ-loop
+told-requires c κs = search needs
+
 returns : tie.Need-returns Inv-loop μ-loop
 returns c =
-    let k = c .before .before .before .before in
-    let e = sym (c .before .group-blank .ensures) ∙ not-true _ (c .if1 .taken) in
-    group-differs (k .loop .groups) (now (k .before .before .args .bytes)) (k .loop .inv .1) (omega arith) e
+    let k = c .before .before .before .before .before in
+    let e = sym (c .before .before .group-blank .ensures) ∙ not-true _ (c .before .if1 .taken) in
+    let d = group-differs (k .loop .groups) (now (k .before .before .args .bytes)) (k .loop .inv .1) (omega arith) e in
+    (c .told .ensures .0 ∙ d .0, c .told .ensures .1 ∙ d .1)
 
 loop-less : tie.Need-loop-less Inv-loop μ-loop
 loop-less c = search needs
@@ -58,19 +62,26 @@ loop-again c =
     let e = sym (c .before .group-blank .ensures) ∙ not-false _ (c .if1 .left) in
     (omega arith, group-turn (k .loop .groups) (now (k .before .before .args .bytes)) (k .loop .inv .1) e)
 
+told-requires-2 : tie.Need-told-requires-2 Inv-loop μ-loop
+told-requires-2 c κs = search needs
+
 returns-2 : tie.Need-returns-2 Inv-loop μ-loop
 returns-2 c =
-    let k = c .before .before in
-    groups-whole (k .loop .groups) (now (k .before .before .args .bytes)) (k .loop .inv .1) (omega arith)
+    let k = c .before .before .before in
+    let d = groups-whole (k .loop .groups) (now (k .before .before .args .bytes)) (k .loop .inv .1) (omega arith) in
+    (c .told2 .ensures .0 ∙ d .0, c .told2 .ensures .1 ∙ d .1)
 
 rest-blank-requires : tie.Need-rest-blank-requires Inv-loop μ-loop
 rest-blank-requires c κs = search needs
 
+told-requires-3 : tie.Need-told-requires-3 Inv-loop μ-loop
+told-requires-3 c κs = search needs
+
 returns-3 : tie.Need-returns-3 Inv-loop μ-loop
 unfolding isBlank
 returns-3 c =
-    let s = now (c .before .before .before .before .before .before .args .bytes) in
-    (c .rest-blank .ensures, groups-short 0 s refl (omega arith) (omega arith))
+    let s = now (c .before .before .before .before .before .before .before .args .bytes) in
+    (c .told3 .ensures .0 ∙ c .before .rest-blank .ensures, c .told3 .ensures .1 ∙ groups-short 0 s refl (omega arith) (omega arith))
 
 sub-last : tie.Need-sub-last Inv-loop μ-loop
 sub-last c = search needs
@@ -87,14 +98,19 @@ part-group-blank-end-2 c = search needs
 group-blank-requires-2 : tie.Need-group-blank-requires-2 Inv-loop μ-loop
 group-blank-requires-2 c κs = search needs
 
-add-t7 : tie.Need-add-t7 Inv-loop μ-loop
-add-t7 c = search needs
+add-told : tie.Need-add-told Inv-loop μ-loop
+add-told c = search needs
+
+told-requires-4 : tie.Need-told-requires-4 Inv-loop μ-loop
+told-requires-4 c κs = search needs
 
 returns-4 : tie.Need-returns-4 Inv-loop μ-loop
 returns-4 c =
-    let k = c .before .before .before .before .before in
-    let s = now (k .before .before .args .bytes) in
-    (c .group-blank2 .ensures ∙ last-decides (k .loop .groups) s (k .loop .inv .1) (omega arith) (omega arith), groups-short (k .loop .groups) s (k .loop .inv .1) (omega arith) (omega arith))
+    let k = c .before .before .before .before .before .before in
+    let s = now (k .before .before .args .bytes) in (
+      c .told4 .ensures .0 ∙ (c .before .group-blank2 .ensures ∙ last-decides (k .loop .groups) s (k .loop .inv .1) (omega arith) (omega arith)),
+      c .told4 .ensures .1 ∙ groups-short (k .loop .groups) s (k .loop .inv .1) (omega arith) (omega arith),
+    )
 
 pub blank-test-spec : {M : Type 1} → statement M
 blank-test-spec =
@@ -110,16 +126,20 @@ blank-test-spec =
     part-group-blank-start
     part-group-blank-end
     group-blank-requires
+    told-requires
     returns
     loop-less
     loop-again
+    told-requires-2
     returns-2
     rest-blank-requires
+    told-requires-3
     returns-3
     sub-last
     sub-group-blank-2
     part-group-blank-start-2
     part-group-blank-end-2
     group-blank-requires-2
-    add-t7
+    add-told
+    told-requires-4
     returns-4)

@@ -12,10 +12,10 @@ use Rattle.flash.proofs.program_run.Statement.{statement}
 use Rattle.flash.proofs.program_run.Tie as tie
 
 abbrev Inv-loop : tie.InvT-loop
-Inv-loop image₀ at bytes budget count i₀ image i = ProgrammedTo at i bytes image₀ image × (i ≤ min budget (length bytes)) × (length image ≡ length image₀)
+Inv-loop image₀ at bytes budget paid i₀ image i = ProgrammedTo at i bytes image₀ image × (i ≤ min budget (length bytes)) × (length image ≡ length image₀)
 
 abbrev μ-loop : tie.MeasureT-loop
-μ-loop image₀ at bytes budget count i₀ image i = min budget (length bytes) - i
+μ-loop image₀ at bytes budget paid i₀ image i = min budget (length bytes) - i
 
 covered-requires : tie.Need-covered-requires Inv-loop μ-loop
 covered-requires c κs = search needs

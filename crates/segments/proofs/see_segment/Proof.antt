@@ -49,17 +49,17 @@ mul-end c = search needs
 add-end-2 : tie.Need-add-end-2
 add-end-2 c = let s = c .before .before .before .before .before in omega (arith, s .pre, segment-inside (s .args .segments) (s .args .slots) (s .args .index) (s .pre .1))
 
-sub-is-blank : tie.Need-sub-is-blank
-sub-is-blank c = search needs
+sub-blank-test : tie.Need-sub-blank-test
+sub-blank-test c = search needs
 
-part-is-blank-start : tie.Need-part-is-blank-start
-part-is-blank-start c = search needs
+part-blank-test-start : tie.Need-part-blank-test-start
+part-blank-test-start c = search needs
 
-part-is-blank-end : tie.Need-part-is-blank-end
-part-is-blank-end c = let s = c .before .before .before .before .before in omega (arith, s .pre, segment-inside (s .args .segments) (s .args .slots) (s .args .index) (s .pre .1))
+part-blank-test-end : tie.Need-part-blank-test-end
+part-blank-test-end c = let s = c .before .before .before .before .before in omega (arith, s .pre, segment-inside (s .args .segments) (s .args .slots) (s .args .index) (s .pre .1))
 
-is-blank-requires : tie.Need-is-blank-requires
-is-blank-requires c κs = search needs
+blank-test-requires : tie.Need-blank-test-requires
+blank-test-requires c κs = search needs
 
 head-requires : tie.Need-head-requires
 head-requires c κs = search needs
@@ -69,7 +69,7 @@ unfolding bareOf
 returns c =
     let s = c .before .before .before .before .before .before .before .before .before in
     c .head .ensures ∙ seen-unused (s .args .segments) (s .args .slots) (s .args .index) (now (s .args .image)) (s .pre .1) _ true (c .before .before .before .before .before .before .see-header .ensures) (c .before .before .before .before .enum-told .given .1)
-    (sym (c .before .if1 .taken) ∙ c .before .before .is-blank .ensures)
+    (sym (c .before .if1 .taken) ∙ c .before .before .blank-test .ensures .0)
 
 head-requires-2 : tie.Need-head-requires-2
 head-requires-2 c κs = search needs
@@ -79,7 +79,7 @@ unfolding bareOf
 returns-2 c =
     let s = c .before .before .before .before .before .before .before .before .before in
     c .head2 .ensures ∙ seen-unused (s .args .segments) (s .args .slots) (s .args .index) (now (s .args .image)) (s .pre .1) _ false (c .before .before .before .before .before .before .see-header .ensures) (c .before .before .before .before .enum-told .given .1)
-    (sym (c .before .if1 .left) ∙ c .before .before .is-blank .ensures)
+    (sym (c .before .if1 .left) ∙ c .before .before .blank-test .ensures .0)
 
 state-seen-requires : tie.Need-state-seen-requires
 state-seen-requires c κs = search needs
@@ -110,10 +110,10 @@ see-segment-spec =
     add-end
     mul-end
     add-end-2
-    sub-is-blank
-    part-is-blank-start
-    part-is-blank-end
-    is-blank-requires
+    sub-blank-test
+    part-blank-test-start
+    part-blank-test-end
+    blank-test-requires
     head-requires
     returns
     head-requires-2

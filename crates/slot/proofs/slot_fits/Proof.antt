@@ -32,47 +32,47 @@ returns-2 c = sym (fits-zero _ (omega arith))
 returns-3 : tie.Need-returns-3
 returns-3 c = sym (fits-most _ (omega arith))
 
-sub-is-blank : tie.Need-sub-is-blank
-sub-is-blank c = search needs
+sub-blank-test : tie.Need-sub-blank-test
+sub-blank-test c = search needs
 
-part-is-blank-start : tie.Need-part-is-blank-start
-part-is-blank-start c = search needs
+part-blank-test-start : tie.Need-part-blank-test-start
+part-blank-test-start c = search needs
 
-part-is-blank-end : tie.Need-part-is-blank-end
-part-is-blank-end c = search needs
+part-blank-test-end : tie.Need-part-blank-test-end
+part-blank-test-end c = search needs
 
-is-blank-requires : tie.Need-is-blank-requires
-is-blank-requires c κs = search needs
+blank-test-requires : tie.Need-blank-test-requires
+blank-test-requires c κs = search needs
 
 returns-4 : tie.Need-returns-4
 returns-4 c =
-    let known = c .before .before .before .before .before .before .before .before .before .before .before .shared-slice-known .given in
-    let h : Numbered (now (c .before .before .before .before .before .before .before .before .before .before .before .before .args .page)) =
+    let known = c .before .before .before .before .before .before .before .before .before .before .before .before .shared-slice-known .given in
+    let h : Numbered (now (c .before .before .before .before .before .before .before .before .before .before .before .before .before .args .page)) =
     record { whole = omega arith; status = omega arith; short = omega arith; low = omega (arith, known 2); high = omega (arith, known 3); some = λ e. omega arith; most = λ e. omega arith } in
-    sym (fits-gap _ h (sym (c .before .is-blank .ensures) ∙ not-true _ (c .if4 .taken)))
+    sym (fits-gap _ h (sym (c .before .before .blank-test .ensures .0) ∙ not-true _ (c .if4 .taken)))
 
 add-end : tie.Need-add-end
 add-end c = search needs
 
-sub-is-blank-2 : tie.Need-sub-is-blank-2
-sub-is-blank-2 c = search needs
+sub-blank-test-2 : tie.Need-sub-blank-test-2
+sub-blank-test-2 c = search needs
 
-part-is-blank-start-2 : tie.Need-part-is-blank-start-2
-part-is-blank-start-2 c = search needs
+part-blank-test-start-2 : tie.Need-part-blank-test-start-2
+part-blank-test-start-2 c = search needs
 
-part-is-blank-end-2 : tie.Need-part-is-blank-end-2
-part-is-blank-end-2 c = search needs
+part-blank-test-end-2 : tie.Need-part-blank-test-end-2
+part-blank-test-end-2 c = search needs
 
-is-blank-requires-2 : tie.Need-is-blank-requires-2
-is-blank-requires-2 c κs = search needs
+blank-test-requires-2 : tie.Need-blank-test-requires-2
+blank-test-requires-2 c κs = search needs
 
 returns-5 : tie.Need-returns-5
 returns-5 c =
-    let known = c .before .before .before .before .before .before .before .before .before .before .before .before .before .shared-slice-known .given in
-    let h : Numbered (now (c .before .before .before .before .before .before .before .before .before .before .before .before .before .before .args .page)) =
+    let known = c .before .before .before .before .before .before .before .before .before .before .before .before .before .before .shared-slice-known .given in
+    let h : Numbered (now (c .before .before .before .before .before .before .before .before .before .before .before .before .before .before .before .args .page)) =
     record { whole = omega arith; status = omega arith; short = omega arith; low = omega (arith, known 2); high = omega (arith, known 3); some = λ e. omega arith; most = λ e. omega arith } in
-    let e = sym (c .before .before .before .is-blank .ensures) ∙ not-false _ (c .before .before .if4 .left) in
-    c .is-blank2 .ensures ∙ sym (fits-tail _ _ h e (omega arith))
+    let e = sym (c .before .before .before .before .blank-test .ensures .0) ∙ not-false _ (c .before .before .if4 .left) in
+    c .blank-test2 .ensures .0 ∙ sym (fits-tail _ _ h e (omega arith))
 
 pub slot-fits-spec : {M : Type 1} → statement M
 slot-fits-spec =
@@ -86,14 +86,14 @@ slot-fits-spec =
     word-requires
     returns-2
     returns-3
-    sub-is-blank
-    part-is-blank-start
-    part-is-blank-end
-    is-blank-requires
+    sub-blank-test
+    part-blank-test-start
+    part-blank-test-end
+    blank-test-requires
     returns-4
     add-end
-    sub-is-blank-2
-    part-is-blank-start-2
-    part-is-blank-end-2
-    is-blank-requires-2
+    sub-blank-test-2
+    part-blank-test-start-2
+    part-blank-test-end-2
+    blank-test-requires-2
     returns-5)

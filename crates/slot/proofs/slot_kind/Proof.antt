@@ -42,14 +42,14 @@ returns-4 c = sym (kind-dead _ (inl (c .if4 .taken)))
 returns-5 : tie.Need-returns-5
 returns-5 c = sym (kind-dead _ (inr (c .if5 .taken)))
 
-is-blank-requires : tie.Need-is-blank-requires
-is-blank-requires c κs = search needs
+blank-test-requires : tie.Need-blank-test-requires
+blank-test-requires c κs = search needs
 
 returns-6 : tie.Need-returns-6
-returns-6 c = sym (kind-blank _ (record { written = c .before .before .before .before .before .if1 .left; begun = c .before .before .before .before .if3 .left; dead = c .before .before .before .if4 .left; torn = c .before .before .if5 .left }) (sym (c .before .is-blank .ensures) ∙ c .if6 .taken))
+returns-6 c = sym (kind-blank _ (record { written = c .before .before .before .before .before .if1 .left; begun = c .before .before .before .before .if3 .left; dead = c .before .before .before .if4 .left; torn = c .before .before .if5 .left }) (sym (c .before .blank-test .ensures .0) ∙ c .if6 .taken))
 
 returns-7 : tie.Need-returns-7
-returns-7 c = sym (kind-other _ (record { written = c .before .before .before .before .before .if1 .left; begun = c .before .before .before .before .if3 .left; dead = c .before .before .before .if4 .left; torn = c .before .before .if5 .left }) (sym (c .before .is-blank .ensures) ∙ c .if6 .left))
+returns-7 c = sym (kind-other _ (record { written = c .before .before .before .before .before .if1 .left; begun = c .before .before .before .before .if3 .left; dead = c .before .before .before .if4 .left; torn = c .before .before .if5 .left }) (sym (c .before .blank-test .ensures .0) ∙ c .if6 .left))
 
 pub slot-kind-spec : {M : Type 1} → statement M
 slot-kind-spec =
@@ -67,6 +67,6 @@ slot-kind-spec =
     returns-3
     returns-4
     returns-5
-    is-blank-requires
+    blank-test-requires
     returns-6
     returns-7)

@@ -6,9 +6,6 @@ use borrow.Author.Needs.{needs}
 use Rattle.slot.proofs.write_slot.Statement.{statement}
 use Rattle.slot.proofs.write_slot.Tie as tie
 
-slot-page-requires : tie.Need-slot-page-requires
-slot-page-requires c κs = search needs
-
 add-end : tie.Need-add-end
 add-end c = search needs
 
@@ -21,9 +18,6 @@ part-program-slot-start c = search needs
 part-program-slot-end : tie.Need-part-program-slot-end
 part-program-slot-end c = search needs
 
-slice-aggregate-program-slot : tie.Need-slice-aggregate-program-slot
-slice-aggregate-program-slot c = search needs
-
 program-slot-requires : tie.Need-program-slot-requires
 program-slot-requires c κs = search needs
 
@@ -32,20 +26,17 @@ same-length c = search needs
 
 returns : tie.Need-returns
 returns c =
-    let a = c .before .before .before .before .before .before .before .before in
-    slot-written (a .args .place .0) (a .args .block .0) (now (a .args .contents)) (now (a .args .image)) _ (omega arith) (omega arith)
-    (c .before .before .before .before .before .slot-page .ensures) (c .before .before .program-slot .ensures)
+    let x = c .before .before .before .before .before .before in
+    slot-written (x .args .place .0) (x .args .block .0) (now (x .args .contents)) (now (x .args .image)) (omega arith) (omega arith) (c .before .before .program-slot .ensures)
 
 pub write-slot-spec : {M : Type 1} → statement M
 write-slot-spec =
     tie.close
     (tie.spec
-    slot-page-requires
     add-end
     sub-program-slot
     part-program-slot-start
     part-program-slot-end
-    slice-aggregate-program-slot
     program-slot-requires
     same-length
     returns)
