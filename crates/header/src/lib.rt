@@ -30,6 +30,9 @@ const COMPACTED: u8 = 0x8F;
 // The index of the old segment where there is none.
 const NO_OLD_SEGMENT: u8 = 255;
 
+// The bytes of a header before those that stay erased.
+const FIELDS: usize = 17;
+
 // Segment numbers stay below this times the count of segments.
 const NUMBERS_EACH: usize = 100000;
 
@@ -89,7 +92,7 @@ fn header_page(
     page
 }
 
-// Whether two pages are the same.
+// Whether two runs of bytes are the same.
 fn same_bytes(a: &[u8], b: &[u8]) -> bool
     requires { ⌜ length (now a) ≡ length (now b) ⌝ }
     ensures { λ r. ⌜ r ≡ same (now (a .entry)) (now (b .entry)) ⌝ }
@@ -151,7 +154,12 @@ pub fn header_in_use(page: &[u8], segments: usize, slots: usize, index: usize) -
         number,
         old_index(segments, index, status),
     );
-    same_bytes(page, &fitting)
+    if !same_bytes(&page[0..FIELDS], &fitting[0..FIELDS]) {
+        return false;
+    }
+    // What follows stays erased in every header, and the blank test looks at eight bytes at a time.
+    let rest = flash::blank_test(&page[FIELDS..]);
+    rest.blank
 }
 
 // The status and the number of a segment in use.

@@ -1,18 +1,18 @@
 -- Laws of header pages: the number, the page made up byte by byte, and the ways out of the test of a header in use.
-use Prim.Native.Nat.{ℕ, _+_, _-_, _*_, _/_, _%_, _≤_, _<_}
-use mathlib.Core.Path.{_≡_}
-use mathlib.Core.Bool.{true, false, and-false}
-use mathlib.Core.List.{List, _∷_}
+use Prim.Native.Nat.{ℕ, zero, suc, _+_, _-_, _*_, _/_, _%_, _≤_, _<_}
+use mathlib.Core.Path.{_≡_, refl, sym, ap, _∙_}
+use mathlib.Core.Bool.{Bool, true, false, _&&_, and-false, and-assoc}
+use mathlib.Core.List.{List, [], _∷_}
 use native.Mathlib.Nat.{add-zero}
 use native.Mathlib.Numerals.{add-one}
 use native.Mathlib.Omega.{arith}
-use lib.ListN.{length, getD, drop, replicate, drop-of-length-le}
-use lib.Seq.{drop-cons}
+use lib.ListN.{length, getD, take, drop, replicate, length-drop, drop-of-length-le}
+use lib.Seq.{drop-cons, take-all}
 use lib.Dec.{ltb, eqb}
 use borrow.Author.Tests.{eq-eqb, ne-eqb, lt-ltb, le-ltb}
 use Rattle.model.specs.Lists.{same}
 use Rattle.model.specs.Chip.{Page, erased, numberLimit}
-use Rattle.model.specs.Header.{numberBytes, inverted, value, opened, erasePending, compacted, statusInUse, headerPage, headerStatus, headerNumber, oldIndex, headerInUse}
+use Rattle.model.specs.Header.{numberBytes, inverted, value, opened, erasePending, compacted, statusInUse, headerPage, headerStatus, headerNumber, oldIndex, headerInUse, isBlank}
 use Rattle.header.specs.Parts.{headerSeen}
 use Rattle.header.specs.declared.HeaderSeen.the-variants.{InUse, NotInUse}
 
@@ -30,7 +30,7 @@ pub header-made : (N B st n old a b c d : ℕ) → a ≡ n % 256 → b ≡ n / 2
 unfolding headerPage numberBytes inverted erased
 header-made N B st n old a b c d ea eb ec ed = rw (ea, eb, ec, ed)
 
--- ---- two pages compared
+-- ---- two runs of bytes compared
 
 pub same-stop : (a b : List ℕ) (i : ℕ) → length a ≡ length b → i < length a → (getD a i 0 ≡ getD b i 0 → ⊥) → same (drop i a) (drop i b) ≡ false
 unfolding same
@@ -43,6 +43,32 @@ same-next a b i l h e = rw (drop-cons a i 0 h, drop-cons b i 0 (omega arith), eq
 pub same-end : (a b : List ℕ) (i : ℕ) → length a ≡ length b → length a ≤ i → same (drop i a) (drop i b) ≡ true
 unfolding same
 same-end a b i l h = let k : length b ≤ i = omega arith in rw (drop-of-length-le a h, drop-of-length-le b k)
+
+-- ---- in two parts: the fields compared, the rest tested for blank
+
+same-parts : (k : ℕ) (a b : List ℕ) → same a b ≡ (same (take k a) (take k b) && same (drop k a) (drop k b))
+unfolding same
+same-parts zero a b = refl
+same-parts (suc k) [] [] = refl
+same-parts (suc k) [] (y ∷ b) = refl
+same-parts (suc k) (x ∷ a) [] = refl
+same-parts (suc k) (x ∷ a) (y ∷ b) =
+    ap (λ (t : Bool). eqb x y && t) (same-parts k a b) ∙ sym (and-assoc (eqb x y) (same (take k a) (take k b)) (same (drop k a) (drop k b)))
+
+same-erased : (s : List ℕ) → same s (erased (length s)) ≡ isBlank s
+unfolding same erased isBlank
+same-erased [] = refl
+same-erased (x ∷ s) = ap (λ (t : Bool). eqb x 255 && t) (same-erased s)
+
+header-rest : (N B st n old : ℕ) → drop 17 (headerPage N B st n old) ≡ erased 239
+unfolding headerPage numberBytes inverted
+header-rest N B st n old = refl
+
+page-parts : (N B st n old : ℕ) (h p : Page) → length h ≡ 256 → p ≡ headerPage N B st n old → same h p ≡ (same (take 17 h) (take 17 p) && isBlank (take (length h - 17) (drop 17 h)))
+page-parts N B st n old h p l q =
+    let d : length (drop 17 h) ≡ 239 = omega (arith, length-drop 17 h) in
+    let e : drop 17 p ≡ erased (length (drop 17 h)) = rw (q, d) (header-rest N B st n old) in
+    rw (take-all (length h - 17) (drop 17 h) (omega arith), ← same-erased (drop 17 h), ← e) (same-parts 17 h p)
 
 -- ---- status
 
@@ -82,10 +108,12 @@ module _ (N B i : ℕ) (h : Page) where
   unused-index n e d =
       rw (← e, ne-eqb (n % N) i d, and-false (ltb n (numberLimit N))) (and-false (statusInUse (headerStatus h)))
 
-  pub used-page : (n old : ℕ) (p : Page) → statusInUse (getD h 5 0) ≡ true → n ≡ headerNumber h → n < 100000 * N → n % N ≡ i → old ≡ oldIndex N i (getD h 5 0)
-      → p ≡ headerPage N B (getD h 5 0) n old → headerInUse N B i h ≡ same h p
+  -- f tells whether the fields are the same
+  pub used-page : (n old : ℕ) (p : Page) (f : Bool) → statusInUse (getD h 5 0) ≡ true → n ≡ headerNumber h → n < 100000 * N → n % N ≡ i → old ≡ oldIndex N i (getD h 5 0)
+      → p ≡ headerPage N B (getD h 5 0) n old → length h ≡ 256 → f ≡ same (take 17 h) (take 17 p) → headerInUse N B i h ≡ (f && isBlank (take (length h - 17) (drop 17 h)))
   unfolding headerInUse headerStatus numberLimit
-  used-page n old p u e l k o q = rw (← e, u, lt-ltb n (100000 * N) l, eq-eqb (n % N) i k, ← o, ← q)
+  used-page n old p f u e l k o q c t =
+      rw (← e, u, lt-ltb n (100000 * N) l, eq-eqb (n % N) i k, ← o, ← q, t) (page-parts N B (getD h 5 0) n old h p c q)
 
   pub seen-used : (n : ℕ) → n ≡ headerNumber h → headerInUse N B i h ≡ true → headerSeen N B i h ≡ InUse (getD h 5 0) (record { 0 = n })
   unfolding headerSeen headerStatus

@@ -1,5 +1,6 @@
 -- `header::header_in_use` is the test of the definition. Assumes nothing.
 use mathlib.Core.Path.{sym, _∙_}
+use mathlib.Core.Bool.{true, false}
 use native.Mathlib.Omega.{arith}
 use native.Mathlib.Nat.{mod-lt}
 use borrow.Author.Tests.{not-true, not-false}
@@ -43,17 +44,57 @@ old-index-requires c κs =
 header-page-requires : tie.Need-header-page-requires
 header-page-requires c κs = search needs
 
-slice-aggregate-same-bytes : tie.Need-slice-aggregate-same-bytes
-slice-aggregate-same-bytes c = search needs
+sub-same-bytes : tie.Need-sub-same-bytes
+sub-same-bytes c = search needs
+
+part-same-bytes-start : tie.Need-part-same-bytes-start
+part-same-bytes-start c = search needs
+
+part-same-bytes-end : tie.Need-part-same-bytes-end
+part-same-bytes-end c = search needs
+
+sub-same-bytes-2 : tie.Need-sub-same-bytes-2
+sub-same-bytes-2 c = search needs
+
+part-same-bytes-start-2 : tie.Need-part-same-bytes-start-2
+part-same-bytes-start-2 c = search needs
+
+part-same-bytes-end-2 : tie.Need-part-same-bytes-end-2
+part-same-bytes-end-2 c = search needs
 
 same-bytes-requires : tie.Need-same-bytes-requires
 same-bytes-requires c κs = search needs
 
 returns-4 : tie.Need-returns-4
 returns-4 c =
-    let used = sym (c .before .before .before .before .before .before .before .before .before .status-in-use .ensures) ∙ not-false _ (c .before .before .before .before .before .before .before .before .if1 .left) in
-    c .same-bytes .ensures
-    ∙ sym (used-page _ _ _ _ _ _ _ used (c .before .before .before .before .before .before .before .header-number .ensures) (omega arith) (c .before .before .before .before .if3 .left) (c .before .before .before .old-index .ensures) (c .before .before .header-page .ensures))
+    let made = c .before .before .before .before .before in
+    let fits = made .before .before in
+    let read = fits .before .before .before in
+    let used = sym (read .before .before .status-in-use .ensures) ∙ not-false _ (read .before .if1 .left) in
+    sym (used-page _ _ _ _ _ _ _ false used (read .header-number .ensures) (omega arith) (fits .if3 .left) (made .before .old-index .ensures) (made .header-page .ensures)
+    (read .before .before .before .before .before .pre .0) (sym (not-true _ (c .if4 .taken)) ∙ c .before .same-bytes .ensures))
+
+sub-blank-test : tie.Need-sub-blank-test
+sub-blank-test c = search needs
+
+part-blank-test-start : tie.Need-part-blank-test-start
+part-blank-test-start c = search needs
+
+part-blank-test-end : tie.Need-part-blank-test-end
+part-blank-test-end c = search needs
+
+blank-test-requires : tie.Need-blank-test-requires
+blank-test-requires c κs = search needs
+
+returns-5 : tie.Need-returns-5
+returns-5 c =
+    let made = c .before .before .before .before .before .before .before in
+    let fits = made .before .before in
+    let read = fits .before .before .before in
+    let used = sym (read .before .before .status-in-use .ensures) ∙ not-false _ (read .before .if1 .left) in
+    c .blank-test .ensures .0
+    ∙ sym (used-page _ _ _ _ _ _ _ true used (read .header-number .ensures) (omega arith) (fits .if3 .left) (made .before .old-index .ensures) (made .header-page .ensures)
+    (read .before .before .before .before .before .pre .0) (sym (not-false _ (c .before .before .if4 .left)) ∙ c .before .before .before .same-bytes .ensures))
 
 pub header-in-use-spec : {M : Type 1} → statement M
 header-in-use-spec =
@@ -70,6 +111,16 @@ header-in-use-spec =
     returns-3
     old-index-requires
     header-page-requires
-    slice-aggregate-same-bytes
+    sub-same-bytes
+    part-same-bytes-start
+    part-same-bytes-end
+    sub-same-bytes-2
+    part-same-bytes-start-2
+    part-same-bytes-end-2
     same-bytes-requires
-    returns-4)
+    returns-4
+    sub-blank-test
+    part-blank-test-start
+    part-blank-test-end
+    blank-test-requires
+    returns-5)
