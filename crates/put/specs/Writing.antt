@@ -1,7 +1,7 @@
 -- A put on a clean image: what it is refused for, and its parts.
 use Prim.Native.Nat.{ℕ, _+_, _-_, _≤_, _<_}
 use mathlib.Core.Path.{_≡_}
-use mathlib.Core.Bool.{Bool, true, false, cond, _&&_, not}
+use mathlib.Core.Bool.{Bool, true, false, cond, _||_, _&&_, not}
 use mathlib.Core.List.{List, _++_}
 use lib.ListN.{length}
 use lib.Dec.{ltb, leb}
@@ -46,6 +46,10 @@ fullBy N B p Nothing = leb (capacity N B) (p .live)
 unfoldable pub answerFor : ℕ → ℕ → Plan → Found → Answer
 answerFor N B p f = cond (fullBy N B p f) Full (cond (wornBy N B p) Worn Done)
 
+-- where a block's slot is, if that is asked before room is made
+unfoldable pub foundBefore : ℕ → ℕ → Plan → Image → ℕ → Found
+foundBefore N B p s b = cond (ltb (p .slot) B || leb (capacity N B) (p .live)) (foundIn N B (p .first .0) (rowsAt N B s (p .used) (p .first .0)) b) Nothing
+
 -- ---- what each part of a put wants to know of the image
 
 pub record Puttable (N B : ℕ) (p : Plan) (b : ℕ) (c : List ℕ) (s : Image) : Type 0 where
@@ -54,9 +58,10 @@ pub record Puttable (N B : ℕ) (p : Plan) (b : ℕ) (c : List ℕ) (s : Image) 
   pub number : numberOk b ≡ true
   pub short : length c ≤ 248
 
+-- not refused. The search was made at least where nothing will move
 pub record Accepted (N B : ℕ) (p : Plan) (f : Found) (b : ℕ) (c : List ℕ) (s : Image) : Type 0 where
   pub put : Puttable N B p b c s
-  pub found : f ≡ foundIn N B (p .first .0) (rowsAt N B s (p .used) (p .first .0)) b
+  pub found : leb B (p .slot) ≡ false → f ≡ foundIn N B (p .first .0) (rowsAt N B s (p .used) (p .first .0)) b
   pub space : isFull N B b (view N B s) ≡ false
   pub fresh : isWorn N (view N B s) ≡ false
 

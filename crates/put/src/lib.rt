@@ -14,7 +14,7 @@ ghost use Rattle.model.specs.Steps.{slotAt};
 ghost use Rattle.model.specs.Answers.{performed, outcomeOf, put};
 ghost use Rattle.find.specs.Search.{rowsAt, foundIn};
 ghost use Rattle.flash.specs.Pages.{Sized};
-ghost use Rattle.put.specs.Writing.{Ranged, wornBy, fullBy, answerFor, Puttable, Accepted, Ready, Wrote};
+ghost use Rattle.put.specs.Writing.{Ranged, wornBy, fullBy, answerFor, foundBefore, Puttable, Accepted, Ready, Wrote};
 
 // Segment numbers stay below this times the count of segments.
 const NUMBERS_EACH: usize = 100000;
@@ -47,6 +47,21 @@ fn is_full(segments: usize, slots: usize, plan: Plan, found: Found) -> bool
         return false;
     };
     request::capacity(segments, slots) <= plan.live
+}
+
+// Where a block's slot is, if it has to be known before room is made: where nothing will move, or where the answer turns on
+// it. Else a pass over all slots is saved: `old_slot` searches once room was made.
+fn slot_before(image: &[u8], segments: usize, slots: usize, plan: Plan, block: BlockNumber) -> Found
+    requires { ⌜ Ranged segments slots plan × Sized segments slots (length (now image)) × (plan .first .0 + plan .used ≤ 4294967296) ⌝ }
+    ensures { λ r. ⌜ r ≡ foundBefore segments slots plan (now (image .entry)) (block .0) ⌝ }
+{
+    if plan.slot < slots {
+        return find::find(image, segments, slots, plan.first, plan.used, block);
+    }
+    if request::capacity(segments, slots) <= plan.live {
+        return find::find(image, segments, slots, plan.first, plan.used, block);
+    }
+    Found::Nothing
 }
 
 // The answer of a put on a clean image, but for a cut.
@@ -152,7 +167,7 @@ pub fn put_clean(
     requires { ⌜ Puttable segments slots plan (block .0) (now contents) (now image) ⌝ }
     ensures { λ r. ⌜ performed r (now (image .exit)) ≡ outcomeOf segments slots (now (image .entry)) budget (put (block .0) (now (contents .entry))) ⌝ }
 {
-    let found = find::find(&image[..], segments, slots, plan.first, plan.used, block);
+    let found = slot_before(&image[..], segments, slots, plan, block);
     let answer = put_answer(segments, slots, plan, found);
     let Answer::Done = answer else {
         return request::refused(answer);

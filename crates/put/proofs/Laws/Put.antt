@@ -114,7 +114,7 @@ module _ (N B : ℕ) (p : Plan) (f : Found) (b : ℕ) (c : List ℕ) (s : Image)
         let same : t ≡ s = whole-run (d .ran) some ∙ rw x in
         let ef : r .first .0 ≡ p .first .0 = d .first ∙ rw x (sym (k .first)) in
         let eu : r .used ≡ p .used = d .used ∙ rw x (sym (k .used)) in
-        rw (same, ef, eu) (a .found)
+        rw (same, ef, eu) (a .found h)
 
     pub room-ready : (o : Found) → o ≡ foundIn N B (r .first .0) (rowsAt N B t (r .used) (r .first .0)) b → Ready N B r o b c budget t
     room-ready o e =

@@ -8,17 +8,18 @@ use borrow.Author.Needs.{needs}
 use Rattle.put.proofs.put_clean.Statement.{statement}
 use Rattle.put.proofs.put_clean.Tie as tie
 
-find-requires : tie.Need-find-requires
-find-requires c κs =
+slot-before-requires : tie.Need-slot-before-requires
+slot-before-requires c κs =
     let x = c .before .before .before in
     let a = x .args in
-    find-fits (a .segments) (a .slots) (a .plan) (now (a .image)) (x .pre .plan)
+    let z = find-fits (a .segments) (a .slots) (a .plan) (now (a .image)) (x .pre .plan) in
+    (ranged (a .segments) (a .slots) (a .plan) (a .block .0) (now (a .contents)) (now (a .image)) (x .pre), z .0, z .1)
 
 put-answer-requires : tie.Need-put-answer-requires
 put-answer-requires c κs =
     let x = c .before .before .before .before in
     let a = x .args in
-    ranged (a .segments) (a .slots) (a .plan) (a .block .0) (now (a .contents)) (now (a .image)) (x .pre) _ (c .find .ensures)
+    ranged (a .segments) (a .slots) (a .plan) (a .block .0) (now (a .contents)) (now (a .image)) (x .pre)
 
 enum-told : tie.Need-enum-told
 enum-told c = search needs
@@ -33,14 +34,14 @@ returns : tie.Need-returns
 returns c =
     let x = c .before .before .before .before .before .before .before in
     let a = x .args in
-    let r = answer-refuses (a .segments) (a .slots) (a .plan) (a .block .0) (now (a .contents)) (now (a .image)) (x .pre) _ (c .before .before .before .find .ensures) _ (c .before .before .put-answer .ensures) (c .before .match .keys2) in
+    let r = answer-refuses (a .segments) (a .slots) (a .plan) (a .block .0) (now (a .contents)) (now (a .image)) (x .pre) _ (c .before .before .before .slot-before .ensures) _ (c .before .before .put-answer .ensures) (c .before .match .keys2) in
     refused-outcome (a .segments) (a .slots) (now (a .image)) (a .budget) (put (a .block .0) (now (a .contents))) _ _ (r .0) (r .1) (c .refused .ensures)
 
 put-accepted-requires : tie.Need-put-accepted-requires
 put-accepted-requires c κs =
     let x = c .before .before .before .before .before .before .before .before in
     let a = x .args in
-    answer-accepts (a .segments) (a .slots) (a .plan) (a .block .0) (now (a .contents)) (now (a .image)) (x .pre) _ (c .before .before .before .before .find .ensures) _ (c .before .before .before .put-answer .ensures) (c .before .enum-told .given .1)
+    answer-accepts (a .segments) (a .slots) (a .plan) (a .block .0) (now (a .contents)) (now (a .image)) (x .pre) _ (c .before .before .before .before .slot-before .ensures) _ (c .before .before .before .put-answer .ensures) (c .before .enum-told .given .1)
 
 same-length-2 : tie.Need-same-length-2
 same-length-2 c = search needs
@@ -52,7 +53,7 @@ pub put-clean-spec : {M : Type 1} → statement M
 put-clean-spec =
     tie.close
     (tie.spec
-    find-requires
+    slot-before-requires
     put-answer-requires
     enum-told
     refused-requires
