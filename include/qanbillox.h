@@ -1,6 +1,6 @@
 /* Qanbillox: a proved record store on NOR flash.
  *
- * Every function takes the whole image, the number of segments n (2 to 64) and of slots in each b (2 to 255).
+ * Every request takes the whole image, the number of segments n (2 to 64) and of slots in each b (2 to 255).
  * Any arguments get an answer from the table below; a refused request (1 to 8) changes no byte of the image.
  * budget is the most flash steps to take: when it is spent the request stops as if the power had gone, and
  * answers QBX_CUT. Recover before the next request then, as after any loss of power.
@@ -62,6 +62,14 @@ static inline uint64_t qbx_steps_of(uint64_t result) { return result >> 8; }
 /* What read gives beside the answer: the contents' length and their offset in the image, both 0 if refused. */
 static inline size_t qbx_length_of(uint64_t result) { return (size_t)((result >> 8) & 0xFF); }
 static inline size_t qbx_offset_of(uint64_t result) { return (size_t)(result >> 16); }
+
+/* Whether every byte is 255, as an erase leaves it: the store's own test. It looks at groups of eight bytes, from the
+ * first byte on, and stops after the first that differs; the last may be shorter. Any bytes, any length, none too. */
+uint64_t qbx_is_blank(const uint8_t *bytes, size_t bytes_length);
+
+/* What it gives: 1 if all are 255, otherwise 0, and how many groups it looked at. */
+static inline int qbx_blank_of(uint64_t result) { return (int)(result & 0xFF); }
+static inline uint64_t qbx_groups_of(uint64_t result) { return result >> 8; }
 
 #ifdef __cplusplus
 }

@@ -40,11 +40,22 @@ static int shows(const char *contents)
     return qbx_answer_of(result) != QBX_DONE || length != strlen(contents) || memcmp(found, contents, length) != 0;
 }
 
+/* Says what the blank test tells of the last segment; returns 0 if that is what was expected. */
+static int blank(int all, uint64_t groups)
+{
+    uint64_t result = qbx_is_blank(image + sizeof image / SEGMENTS, sizeof image / SEGMENTS);
+
+    printf("%-28s %s, %llu groups\n", "the last segment is blank", qbx_blank_of(result) ? "yes" : "no",
+           (unsigned long long)qbx_groups_of(result));
+    return qbx_blank_of(result) != all || qbx_groups_of(result) != groups;
+}
+
 int main(void)
 {
     int wrong = 0;
 
     wrong += told("format", qbx_format(image, sizeof image, SEGMENTS, SLOTS, unlimited), QBX_DONE, 19);
+    wrong += blank(1, 96);
     wrong += told("put", put("A", unlimited), QBX_DONE, 6);
     wrong += told("put again", put("B", unlimited), QBX_DONE, 7);
     wrong += told("put, cut after 24 steps", put("C", 24), QBX_CUT, 24);
@@ -52,6 +63,7 @@ int main(void)
     wrong += shows("B");
     wrong += told("put", put("C", unlimited), QBX_DONE, 7);
     wrong += shows("C");
+    wrong += blank(0, 1);
     wrong += told("an image that is too short", qbx_format(image, sizeof image - 1, SEGMENTS, SLOTS, unlimited), QBX_SIZE, 0);
     return wrong != 0;
 }

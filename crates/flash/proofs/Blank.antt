@@ -1,10 +1,11 @@
 -- Laws of the blank test: bytes joined by `&`; bytes split in two; groups of eight before the first that differs.
-use Prim.Native.Nat.{ℕ, zero, suc, _+_, _-_, _*_, _/_, _%_, _≤_, _<_}
+use Prim.Native.Nat.{ℕ, zero, suc, _+_, _-_, _*_, _/_, _%_, _≤_, _<_, min}
 use mathlib.Core.Path.{_≡_, refl, sym, ap, ap₂, _∙_}
-use mathlib.Core.Bool.{Bool, true, false, cond, _&&_, and-true, and-assoc}
+use mathlib.Core.Logic.{inl, inr, ⊎-elim}
+use mathlib.Core.Bool.{Bool, true, false, cond, _&&_, and-true, and-assoc, false≢true}
 use mathlib.Core.List.{List, [], _∷_, _++_}
 use native.Mathlib.Decide.{decLt}
-use native.Mathlib.Nat.{zero-add, add-zero, mod-eq-of-lt}
+use native.Mathlib.Nat.{zero-add, suc-mul, mod-eq-of-lt, min-eq-left, min-eq-right}
 use native.Mathlib.Numerals.{add-one}
 use native.Mathlib.Omega.{arith}
 use lib.ListN.{length, getD, take, drop, take-append-drop, length-take, length-drop, drop-of-length-le}
@@ -12,8 +13,11 @@ use lib.Bits.{bitAnd, and-comm, and-mask, and-le-l}
 use lib.Dec.{eqb}
 use lib.Seq.{take-suc, take-all, take-add, drop-drop}
 use borrow.Author.Tests.{eq-eqb, ne-eqb}
-use Rattle.model.specs.Lists.{chunk}
+use Rattle.model.specs.Lists.{same, chunk}
 use Rattle.model.specs.Laws.Lists.{and-left, and-right}
+use Rattle.model.specs.Laws.Chunk.{chunk-length}
+use Rattle.flash.specs.Leading.{Leading}
+use Rattle.model.specs.Chip.{erased}
 use Rattle.model.specs.Header.{isBlank}
 use Rattle.model.specs.Blank.{groupsOf, lookedAt, blankGroups}
 
@@ -64,6 +68,12 @@ group-joined s l known =
     let e₇ = joined-turn _ 6 s a₆ (omega arith) (known 6) e₆ in
     joined-turn _ 7 s (joined-less _ (getD s 6 0) a₆) (omega arith) (known 7) e₇ ∙ ap isBlank (take-all 8 s (omega arith))
 
+-- bytes compared with erased ones
+pub same-erased : (s : List ℕ) → same s (erased (length s)) ≡ isBlank s
+unfolding same erased isBlank
+same-erased [] = refl
+same-erased (x ∷ s) = ap (λ (b : Bool). eqb x 255 && b) (same-erased s)
+
 -- ---- bytes split in two
 
 blank-split : (i : ℕ) (s : List ℕ) → isBlank s ≡ (isBlank (take i s) && isBlank (drop i s))
@@ -80,6 +90,13 @@ blank-shorter : (i j : ℕ) (s : List ℕ) → i ≤ j → isBlank (take j s) �
 blank-shorter i j s h e =
     let k : i + (j - i) ≡ j = omega arith in
     and-left (isBlank (take i s)) (isBlank (take (j - i) (drop i s))) (sym (blank-two i (j - i) s) ∙ rw k e)
+
+-- four groups
+pub four-parts : (s : List ℕ) → length s ≡ 32
+    → isBlank s ≡ (isBlank (take 8 s) && (isBlank (take 8 (drop 8 s)) && (isBlank (take 8 (drop 16 s)) && isBlank (take 8 (drop 24 s)))))
+four-parts s l =
+    let last : take 8 (drop 24 s) ≡ drop 24 s = take-all 8 (drop 24 s) (omega (arith, length-drop 24 s)) in
+    rw (last) (blank-split 8 s ∙ ap (λ (b : Bool). isBlank (take 8 s) && b) (blank-split 8 (drop 8 s) ∙ rw drop-drop (ap (λ (b : Bool). isBlank (take 8 (drop 8 s)) && b) (blank-split 8 (drop 16 s) ∙ rw drop-drop))))
 
 -- ---- groups
 
@@ -99,48 +116,115 @@ groups-behind (suc k) s h e =
     let more = groups-behind k (drop 8 s) (omega (arith, length-drop 8 s)) (and-right (isBlank (take 8 s)) (isBlank (take (k * 8) (drop 8 s))) two) in
     groups-next s (omega arith) ∙ rw (one, more, drop-drop, l) (omega arith)
 
-none-left : (b : Bool) → cond b (blankGroups []) 0 ≡ 0
-unfolding blankGroups groupsOf lookedAt chunk
-none-left true = refl
-none-left false = refl
+-- ---- parts before the first that differs
 
--- the loop over whole groups: a turn, and its ways out
-module _ (k : ℕ) (s : List ℕ) (blank : isBlank (take (k * 8) s) ≡ true) where
-  -- the group that is looked at, as a part of the bytes
-  abbrev Group : List ℕ
-  Group = take (k * 8 + 8 - k * 8) (drop (k * 8) s)
+-- a part that is looked at, as it is lent
+part-is : (at z : ℕ) (s : List ℕ) → take (at + z - at) (drop at s) ≡ take z (drop at s)
+part-is at z s = let n : at + z - at ≡ z = omega arith in rw n
 
-  group-is : Group ≡ take 8 (drop (k * 8) s)
-  group-is = let n : k * 8 + 8 - k * 8 ≡ 8 = omega arith in rw n
+module _ (z c : ℕ) (s : List ℕ) (k : ℕ) (blank : isBlank (take (k * z) s) ≡ true) where
+  pub part-turn : isBlank (take (k * z + z - k * z) (drop (k * z) s)) ≡ true → isBlank (take ((k + 1) * z) s) ≡ true
+  part-turn e =
+      let l : (k + 1) * z ≡ k * z + z = rw (add-one k, suc-mul k z) in
+      rw (l, blank-two (k * z) z s, blank, ← part-is (k * z) z s) e
 
-  pub group-turn : isBlank Group ≡ true → isBlank (take ((k + 1) * 8) s) ≡ true
-  group-turn e =
-      let l : (k + 1) * 8 ≡ k * 8 + 8 = omega arith in
-      rw (l, blank-two (k * 8) 8 s, blank, ← group-is) e
+  pub part-differs : k < c → isBlank (take (k * z + z - k * z) (drop (k * z) s)) ≡ false → Leading z c s k
+  part-differs h e = record { within = omega arith; blank = blank; stops = inr (ap isBlank (sym (part-is (k * z) z s)) ∙ e) }
 
-  -- a group that differs
-  pub group-differs : k * 8 + 8 ≤ length s → isBlank Group ≡ false → (false ≡ isBlank s) × (k + 1 ≡ blankGroups s)
-  group-differs h d =
-      let e : isBlank (take 8 (drop (k * 8) s)) ≡ false = ap isBlank (sym group-is) ∙ d in (
-        sym (blank-rest (k * 8) s blank ∙ blank-split 8 (drop (k * 8) s) ∙ ap (λ (b : Bool). b && isBlank (drop 8 (drop (k * 8) s))) e),
-        sym (groups-behind k s (omega arith) blank ∙ ap (λ (n : ℕ). k + n) (groups-next (drop (k * 8) s) (omega (arith, length-drop (k * 8) s)) ∙ rw e)),
-      )
+  pub parts-whole : k ≡ c → Leading z c s k
+  parts-whole h = record { within = omega arith; blank = blank; stops = inl h }
 
-  -- no byte is left
-  pub groups-whole : k * 8 ≡ length s → (true ≡ isBlank s) × (k ≡ blankGroups s)
-  unfolding isBlank blankGroups groupsOf lookedAt chunk
-  groups-whole h =
-      let none : drop (k * 8) s ≡ [] = drop-of-length-le s {i = k * 8} (omega arith) in
-      (sym (blank-rest (k * 8) s blank ∙ rw none), sym (groups-behind k s (omega arith) blank ∙ rw none (add-zero k)))
+pub no-part : (z : ℕ) (s : List ℕ) → isBlank (take (0 * z) s) ≡ true
+unfolding isBlank
+no-part z s = let e : 0 * z ≡ 0 = omega arith in rw e
 
-  -- fewer than eight are left: one group more
-  pub groups-short : k * 8 < length s → length s < k * 8 + 8 → k + 1 ≡ blankGroups s
-  groups-short h l =
-      let none : drop 8 (drop (k * 8) s) ≡ [] = drop-of-length-le (drop (k * 8) s) {i = 8} (omega (arith, length-drop (k * 8) s)) in
-      sym (groups-behind k s (omega arith) blank ∙ ap (λ (n : ℕ). k + n) (groups-next (drop (k * 8) s) (omega (arith, length-drop (k * 8) s)) ∙ rw none (ap suc (none-left (isBlank (take 8 (drop (k * 8) s)))))))
+-- ---- with a shorter last group
 
-  -- the last eight bytes decide, since those before are blank
-  pub last-decides : 8 ≤ length s → length s - 8 ≤ k * 8 → isBlank (take (length s - (length s - 8)) (drop (length s - 8) s)) ≡ isBlank s
-  last-decides h l =
-      ap isBlank (take-all (length s - (length s - 8)) (drop (length s - 8) s) (omega (arith, length-drop (length s - 8) s)))
-      ∙ sym (blank-rest (length s - 8) s (blank-shorter (length s - 8) (k * 8) s l blank))
+module _ (s : List ℕ) where
+  abbrev Before : ℕ → Type 0
+  Before k = Leading 8 ((length s + 7) / 8) s k
+
+  pub before-whole : {k : ℕ} → length s % 8 ≡ 0 → Leading 8 (length s / 8) s k → Before k
+  before-whole h d = let e : (length s + 7) / 8 ≡ length s / 8 = omega arith in rw e d
+
+  -- one group, and no whole one
+  pub before-one : (length s % 8 ≡ 0 → ⊥) → length s < 8 → isBlank s ≡ true → Before 1
+  before-one h l e = record { within = omega arith; blank = rw (take-all 8 s (omega arith)) e; stops = inl (omega arith) }
+
+  pub before-none : length s < 8 → isBlank s ≡ false → Before 0
+  before-none l e = record { within = omega arith; blank = no-part 8 s; stops = inr (rw (take-all 8 s (omega arith)) e) }
+
+  module _ (k : ℕ) (d : Leading 8 (length s / 8) s k) where
+    pub before-stops : k < length s / 8 → Before k
+    before-stops h = record { within = omega arith; blank = d .blank; stops = ⊎-elim (λ e. absurd (omega arith)) inr (d .stops) }
+
+    module _ (none : length s / 8 ≤ k) (some : 8 ≤ length s) where
+      -- the last eight bytes decide, since those before are blank
+      last-decides : isBlank (take (length s - (length s - 8)) (drop (length s - 8) s)) ≡ isBlank s
+      last-decides =
+          ap isBlank (take-all (length s - (length s - 8)) (drop (length s - 8) s) (omega (arith, length-drop (length s - 8) s)))
+          ∙ sym (blank-rest (length s - 8) s (blank-shorter (length s - 8) (k * 8) s (omega (arith, d .within)) (d .blank)))
+
+      pub before-all : (length s % 8 ≡ 0 → ⊥) → isBlank (take (length s - (length s - 8)) (drop (length s - 8) s)) ≡ true → Before (k + 1)
+      before-all h e =
+          let all : take ((k + 1) * 8) s ≡ s = take-all ((k + 1) * 8) s (omega (arith, d .within)) in
+          record { within = omega (arith, d .within); blank = rw all (sym last-decides ∙ e); stops = inl (omega (arith, d .within)) }
+
+      pub before-rest : isBlank (take (length s - (length s - 8)) (drop (length s - 8) s)) ≡ false → Before k
+      before-rest e =
+          let rest : take 8 (drop (k * 8) s) ≡ drop (k * 8) s = take-all 8 (drop (k * 8) s) (omega (arith, d .within, length-drop (k * 8) s)) in
+          record { within = omega (arith, d .within); blank = d .blank; stops = inr (rw rest (sym (blank-rest (k * 8) s (d .blank)) ∙ (sym last-decides ∙ e))) }
+
+-- every group blank
+groups-all : (c : ℕ) (s : List ℕ) → isBlank s ≡ true → lookedAt (chunk c 8 s) ≡ c
+unfolding lookedAt chunk
+groups-all zero s e = refl
+groups-all (suc c) s e =
+    let two : (isBlank (take 8 s) && isBlank (drop 8 s)) ≡ true = sym (blank-split 8 s) ∙ e in
+    rw (and-left (isBlank (take 8 s)) (isBlank (drop 8 s)) two) (ap suc (groups-all c (drop 8 s) (and-right (isBlank (take 8 s)) (isBlank (drop 8 s)) two)))
+
+-- what the groups before the first that differs tell
+module _ (s : List ℕ) (k : ℕ) (d : Leading 8 ((length s + 7) / 8) s k) where
+  abbrev all : ℕ
+  all = (length s + 7) / 8
+
+  abbrev Tested : Type 0
+  Tested = (eqb k all ≡ isBlank s) × (min (k + 1) all ≡ blankGroups s)
+
+  none-differs : k ≡ all → Tested
+  unfolding blankGroups groupsOf
+  none-differs e =
+      let whole : take (k * 8) s ≡ s = take-all (k * 8) s (omega arith) in
+      let blank : isBlank s ≡ true = rw whole at (d .blank) in
+      (eq-eqb k all e ∙ sym blank, min-eq-right {n = all} {m = k + 1} (omega arith) ∙ sym (groups-all all s blank))
+
+  one-left : isBlank (take 8 (drop (k * 8) s)) ≡ false → k < all
+  unfolding isBlank
+  one-left e = elim (decLt k all) [ yes h ↦ h | no h ↦ absurd (none (omega (arith, d .within))) ]
+    where
+      none : length s ≤ k * 8 → ⊥
+      none l = false≢true (sym e ∙ rw (drop-of-length-le s {i = k * 8} l))
+
+  one-differs : isBlank (take 8 (drop (k * 8) s)) ≡ false → k < all → Tested
+  one-differs e h = (
+    ne-eqb k all (λ q. omega arith) ∙ sym (blank-rest (k * 8) s (d .blank) ∙ blank-split 8 (drop (k * 8) s) ∙ ap (λ (b : Bool). b && isBlank (drop 8 (drop (k * 8) s))) e),
+    min-eq-left {n = k + 1} {m = all} (omega arith) ∙ sym (groups-behind k s (omega arith) (d .blank) ∙ ap (λ (n : ℕ). k + n) (groups-next (drop (k * 8) s) (omega (arith, length-drop (k * 8) s)) ∙ rw e)),
+  )
+
+  pub tested : (eqb k all ≡ isBlank s) × (min (k + 1) all ≡ blankGroups s)
+  tested = ⊎-elim none-differs (λ e. one-differs e (one-left e)) (d .stops)
+
+-- ---- how many groups there are at most
+
+looked-most : (gs : List (List ℕ)) → lookedAt gs ≤ length gs
+unfolding lookedAt
+looked-most [] = omega arith
+looked-most (g ∷ gs) = go (isBlank g) (looked-most gs)
+  where
+    go : (b : Bool) → lookedAt gs ≤ length gs → suc (cond b (lookedAt gs) 0) ≤ suc (length gs)
+    go true h = omega arith
+    go false h = omega arith
+
+pub groups-most : (s : List ℕ) → blankGroups s ≤ (length s + 7) / 8
+unfolding blankGroups groupsOf
+groups-most s = omega (arith, looked-most (chunk ((length s + 7) / 8) 8 s), chunk-length ((length s + 7) / 8) 8 s)

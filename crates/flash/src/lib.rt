@@ -1,13 +1,14 @@
 // Flash steps under a budget. Each function that writes takes the budget and returns what is left of it.
 ghost use mathlib.Core.Path.{_≡_};
 ghost use mathlib.Core.List.{[], _∷_};
-ghost use Prim.Native.Nat.{_+_, _*_, _<_, _≤_, min};
+ghost use Prim.Native.Nat.{_+_, _*_, _/_, _<_, _≤_, min};
 ghost use lib.ListN.{length};
 ghost use Rattle.model.specs.Chip.{program, erase};
 ghost use Rattle.model.specs.Header.{isBlank};
 ghost use Rattle.model.specs.Blank.{blankGroups};
 ghost use Rattle.model.specs.Steps.{programs, programPart};
 ghost use Rattle.flash.specs.Ran.{Ran, Programmed};
+ghost use Rattle.flash.specs.Leading.{Leading};
 
 // Programs one byte.
 pub fn program_byte(image: &mut [u8], at: usize, value: u8, budget: u64) -> u64
@@ -21,14 +22,10 @@ pub fn program_byte(image: &mut [u8], at: usize, value: u8, budget: u64) -> u64
     budget - 1
 }
 
-// How many of some steps a budget covers.
-fn covered(budget: u64, steps: usize) -> usize
-    ensures { λ r. ⌜ r ≡ min budget steps ⌝ }
+fn least(a: usize, b: usize) -> usize
+    ensures { λ r. ⌜ r ≡ min a b ⌝ }
 {
-    if budget < steps as u64 {
-        return budget as usize;
-    }
-    steps
+    if a < b { a } else { b }
 }
 
 // Programs bytes one after the other. How far the budget goes is found out before, so that the loop only clears bits, many
@@ -37,7 +34,7 @@ pub fn program_run(image: &mut [u8], at: usize, bytes: &[u8], budget: u64) -> u6
     requires { ⌜ at + length (now bytes) ≤ length (now image) ⌝ }
     ensures { λ r. ⌜ Programmed (programs at (now (bytes .entry))) budget r (now (image .entry)) (now (image .exit)) ⌝ }
 {
-    let paid = covered(budget, bytes.len());
+    let paid = least(budget as usize, bytes.len());
     let mut i = 0;
     while i < paid {
         let o = at + i;
@@ -90,6 +87,23 @@ fn group_blank(group: &[u8]) -> bool
     (group[0] & group[1] & group[2] & group[3] & group[4] & group[5] & group[6] & group[7]) == 255
 }
 
+// The same of four groups, one after the other.
+fn four_blank(groups: &[u8]) -> bool
+    requires { ⌜ length (now groups) ≡ 32 ⌝ }
+    ensures { λ r. ⌜ r ≡ isBlank (now (groups .entry)) ⌝ }
+{
+    if !group_blank(&groups[0..8]) {
+        return false;
+    }
+    if !group_blank(&groups[8..16]) {
+        return false;
+    }
+    if !group_blank(&groups[16..24]) {
+        return false;
+    }
+    group_blank(&groups[24..32])
+}
+
 // The same of bytes that make no whole group.
 fn rest_blank(rest: &[u8]) -> bool
     ensures { λ r. ⌜ r ≡ isBlank (now (rest .entry)) ⌝ }
@@ -103,33 +117,75 @@ fn rest_blank(rest: &[u8]) -> bool
     joined == 255
 }
 
-fn told(blank: bool, groups: usize) -> BlankTest
-    ensures { λ r. ⌜ (r .blank ≡ blank) × (r .groups ≡ groups) ⌝ }
+// How many times four groups come before the first four of which one differs. With four to a turn the loop itself costs
+// little.
+fn leading_fours(bytes: &[u8]) -> usize
+    ensures { λ r. ⌜ Leading 32 (length (now (bytes .entry)) / 32) (now (bytes .entry)) r ⌝ }
 {
-    BlankTest { blank, groups }
+    let fours = bytes.len() / 32;
+    let mut i = 0;
+    while i < fours {
+        let at = i * 32;
+        let end = at + 32;
+        if !four_blank(&bytes[at..end]) {
+            return i;
+        }
+        i += 1;
+    }
+    i
 }
 
-// Looks at one group after the other, up to the first that differs. The last may be shorter.
-pub fn blank_test(bytes: &[u8]) -> BlankTest
-    ensures { λ r. ⌜ (r .blank ≡ isBlank (now (bytes .entry))) × (r .groups ≡ blankGroups (now (bytes .entry))) ⌝ }
+// How many whole groups come before the first that differs.
+fn leading(bytes: &[u8]) -> usize
+    ensures { λ r. ⌜ Leading 8 (length (now (bytes .entry)) / 8) (now (bytes .entry)) r ⌝ }
 {
     let whole = bytes.len() / 8;
-    let mut groups = 0;
+    let mut groups = 4 * leading_fours(bytes);
     while groups < whole {
         let at = groups * 8;
         let end = at + 8;
-        groups += 1;
         if !group_blank(&bytes[at..end]) {
-            return told(false, groups);
+            return groups;
         }
+        groups += 1;
     }
+    groups
+}
+
+// The same with a shorter last group. (`leading` is called in two places and so stays a call; the rest is small enough to
+// become part of whatever asks for the test.)
+fn blank_before(bytes: &[u8]) -> usize
+    ensures { λ r. ⌜ Leading 8 ((length (now (bytes .entry)) + 7) / 8) (now (bytes .entry)) r ⌝ }
+{
     if bytes.len() % 8 == 0 {
-        return told(true, groups);
+        return leading(bytes);
     }
-    if whole == 0 {
-        return told(rest_blank(bytes), 1);
+    if bytes.len() < 8 {
+        if rest_blank(bytes) {
+            return 1;
+        }
+        return 0;
     }
-    // The last eight bytes end with the shorter group; those of them before it are 255.
+    let groups = leading(bytes);
+    if groups < bytes.len() / 8 {
+        return groups;
+    }
+    // The last eight bytes end with the shorter group, and those of them before it are 255.
     let last = bytes.len() - 8;
-    told(group_blank(&bytes[last..]), groups + 1)
+    if group_blank(&bytes[last..]) {
+        return groups + 1;
+    }
+    groups
+}
+
+// Looks at one group after the other, up to the first that differs.
+pub fn blank_test(bytes: &[u8]) -> BlankTest
+    ensures { λ r. ⌜ (r .blank ≡ isBlank (now (bytes .entry))) × (r .groups ≡ blankGroups (now (bytes .entry))) ⌝ }
+{
+    let all = (bytes.len() + 7) / 8;
+    let before = blank_before(bytes);
+    BlankTest {
+        blank: before == all,
+        groups: least(before + 1, all),
+    }
 }

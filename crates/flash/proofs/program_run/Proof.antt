@@ -17,8 +17,8 @@ Inv-loop image₀ at bytes budget paid i₀ image i = ProgrammedTo at i bytes im
 abbrev μ-loop : tie.MeasureT-loop
 μ-loop image₀ at bytes budget paid i₀ image i = min budget (length bytes) - i
 
-covered-requires : tie.Need-covered-requires Inv-loop μ-loop
-covered-requires c κs = search needs
+least-requires : tie.Need-least-requires Inv-loop μ-loop
+least-requires c κs = search needs
 
 loop-holds : tie.Need-loop-holds Inv-loop μ-loop
 unfolding programs run
@@ -46,7 +46,7 @@ loop-again : tie.Need-loop-again Inv-loop μ-loop
 loop-again c =
     let k = c .before .before .before in
     let a = k .before .before .before .before .args in
-    (programs-turn (a .at) (k .loop .i) (now (a .bytes)) (now (a .image)) (k .loop .image) (omega (arith, k .before .covered .ensures)) (k .loop .inv .0), omega (arith, k .before .covered .ensures), simp length-set (k .loop .inv .2))
+    (programs-turn (a .at) (k .loop .i) (now (a .bytes)) (now (a .image)) (k .loop .image) (omega (arith, k .before .least .ensures)) (k .loop .inv .0), omega (arith, k .before .least .ensures), simp length-set (k .loop .inv .2))
 
 sub-result : tie.Need-sub-result Inv-loop μ-loop
 sub-result c = search needs
@@ -58,8 +58,8 @@ returns : tie.Need-returns Inv-loop μ-loop
 returns c =
     let k = c .before in
     let a = k .before .before .before .before .args in
-    let e : k .before .covered .result ≡ k .loop .i = omega (arith, k .before .covered .ensures) in
-    rw e (programs-covered (a .at) (a .budget) (k .loop .i) (now (a .bytes)) (now (a .image)) (k .loop .image) (omega (arith, k .before .covered .ensures)) (k .loop .inv .0))
+    let e : k .before .least .result ≡ k .loop .i = omega (arith, k .before .least .ensures) in
+    rw e (programs-covered (a .at) (a .budget) (k .loop .i) (now (a .bytes)) (now (a .image)) (k .loop .image) (omega (arith, k .before .least .ensures)) (k .loop .inv .0))
 
 pub program-run-spec : {M : Type 1} → statement M
 program-run-spec =
@@ -67,7 +67,7 @@ program-run-spec =
     (tie.spec
     Inv-loop
     μ-loop
-    covered-requires
+    least-requires
     loop-holds
     add-o
     slice-read-image

@@ -13,6 +13,7 @@ use borrow.Author.Tests.{eq-eqb, ne-eqb, lt-ltb, le-ltb}
 use Rattle.model.specs.Lists.{same}
 use Rattle.model.specs.Chip.{Page, erased, numberLimit}
 use Rattle.model.specs.Header.{numberBytes, inverted, value, opened, erasePending, compacted, statusInUse, headerPage, headerStatus, headerNumber, oldIndex, headerInUse, isBlank}
+use Rattle.flash.proofs.Blank.{same-erased}
 use Rattle.header.specs.Parts.{headerSeen}
 use Rattle.header.specs.declared.HeaderSeen.the-variants.{InUse, NotInUse}
 
@@ -54,11 +55,6 @@ same-parts (suc k) [] (y ∷ b) = refl
 same-parts (suc k) (x ∷ a) [] = refl
 same-parts (suc k) (x ∷ a) (y ∷ b) =
     ap (λ (t : Bool). eqb x y && t) (same-parts k a b) ∙ sym (and-assoc (eqb x y) (same (take k a) (take k b)) (same (drop k a) (drop k b)))
-
-same-erased : (s : List ℕ) → same s (erased (length s)) ≡ isBlank s
-unfolding same erased isBlank
-same-erased [] = refl
-same-erased (x ∷ s) = ap (λ (t : Bool). eqb x 255 && t) (same-erased s)
 
 header-rest : (N B st n old : ℕ) → drop 17 (headerPage N B st n old) ≡ erased 239
 unfolding headerPage numberBytes inverted

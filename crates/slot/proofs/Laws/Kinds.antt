@@ -20,11 +20,7 @@ use Rattle.model.specs.declared.SlotKind.{SlotKind}
 use Rattle.model.specs.declared.SlotKind.the-variants.{Empty, Torn, Live, Dead, Wrong}
 use Rattle.model.proofs.SlotKind.{the-type}
 use Rattle.model.specs.Laws.Lists.{and-left}
-
-same-erased : (q : List ℕ) → same q (erased (length q)) ≡ isBlank q
-unfolding same erased isBlank
-same-erased [] = refl
-same-erased (x ∷ q) = ap (λ (t : Bool). eqb x 255 && t) (same-erased q)
+use Rattle.flash.proofs.Blank.{same-erased}
 
 -- contents, then erased bytes to the end
 same-tail : (n : ℕ) (q : List ℕ) → n ≤ length q → same q (take n q ++ erased (length q - n)) ≡ isBlank (drop n q)

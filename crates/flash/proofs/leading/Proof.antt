@@ -1,0 +1,94 @@
+-- `flash::leading` counts the whole groups before the first that differs. The invariant: those looked at are blank. Assumes nothing.
+use Prim.Native.Nat.{_-_, _*_, _/_, _≤_}
+use mathlib.Core.Path.{_≡_, sym, _∙_}
+use mathlib.Core.Bool.{true}
+use native.Mathlib.Omega.{arith}
+use denote.Ref.{now}
+use lib.ListN.{length, take}
+use borrow.Author.Tests.{not-true, not-false}
+use Rattle.model.specs.Header.{isBlank}
+use Rattle.flash.proofs.Blank.{part-turn, part-differs, parts-whole}
+use borrow.Author.Needs.{needs}
+use Rattle.flash.proofs.leading.Statement.{statement}
+use Rattle.flash.proofs.leading.Tie as tie
+
+abbrev Inv-loop : tie.InvT-loop
+Inv-loop bytes whole groups₀ groups = (groups ≤ length bytes / 8) × (isBlank (take (groups * 8) bytes) ≡ true)
+
+abbrev μ-loop : tie.MeasureT-loop
+μ-loop bytes whole groups₀ groups = length bytes / 8 - groups
+
+leading-fours-requires : tie.Need-leading-fours-requires Inv-loop μ-loop
+leading-fours-requires c κs = search needs
+
+mul-groups : tie.Need-mul-groups Inv-loop μ-loop
+mul-groups c = record { fits = omega (arith, c .leading-fours .ensures .within) }
+
+loop-holds : tie.Need-loop-holds Inv-loop μ-loop
+loop-holds c =
+    let f = c .leading-fours in
+    let e : 4 * f .result * 8 ≡ f .result * 32 = omega arith in
+    (omega (arith, f .ensures .within), rw e (f .ensures .blank))
+
+mul-at : tie.Need-mul-at Inv-loop μ-loop
+mul-at c = search needs
+
+add-end : tie.Need-add-end Inv-loop μ-loop
+add-end c = search needs
+
+sub-group-blank : tie.Need-sub-group-blank Inv-loop μ-loop
+sub-group-blank c = search needs
+
+part-group-blank-start : tie.Need-part-group-blank-start Inv-loop μ-loop
+part-group-blank-start c = search needs
+
+part-group-blank-end : tie.Need-part-group-blank-end Inv-loop μ-loop
+part-group-blank-end c = search needs
+
+group-blank-requires : tie.Need-group-blank-requires Inv-loop μ-loop
+group-blank-requires c κs = search needs
+
+returns : tie.Need-returns Inv-loop μ-loop
+returns c =
+    let k = c .before .before .before .before in
+    let e = sym (c .before .group-blank .ensures) ∙ not-true _ (c .if1 .taken) in
+    part-differs 8 _ (now (k .before .before .before .args .bytes)) (k .loop .groups) (k .loop .inv .1) (omega arith) e
+
+add-groups : tie.Need-add-groups Inv-loop μ-loop
+add-groups c = search needs
+
+loop-less : tie.Need-loop-less Inv-loop μ-loop
+loop-less c = search needs
+
+loop-again : tie.Need-loop-again Inv-loop μ-loop
+loop-again c =
+    let k = c .before .before .before .before in
+    let s = now (k .before .before .before .args .bytes) in
+    let e = sym (c .before .group-blank .ensures) ∙ not-false _ (c .if1 .left) in
+    (omega arith, part-turn 8 (length s / 8) s (k .loop .groups) (k .loop .inv .1) e)
+
+returns-2 : tie.Need-returns-2 Inv-loop μ-loop
+returns-2 c =
+    let k = c .before in
+    parts-whole 8 _ (now (k .before .before .before .args .bytes)) (k .loop .groups) (k .loop .inv .1) (omega arith)
+
+pub leading-spec : {M : Type 1} → statement M
+leading-spec =
+    tie.close
+    (tie.spec
+    Inv-loop
+    μ-loop
+    leading-fours-requires
+    mul-groups
+    loop-holds
+    mul-at
+    add-end
+    sub-group-blank
+    part-group-blank-start
+    part-group-blank-end
+    group-blank-requires
+    returns
+    add-groups
+    loop-less
+    loop-again
+    returns-2)
