@@ -1,6 +1,6 @@
 -- Laws of compaction: a page copied byte by byte; what a live slot, or any other, adds to the copying; the whole.
 use Prim.Native.Nat.{ℕ, zero, suc, _+_, _-_, _*_, _%_, _≤_, _<_}
-use mathlib.Core.Path.{_≡_, refl, sym, ap, _∙_, subst}
+use mathlib.Core.Path.{_≡_, refl, sym, ap, ap₂, _∙_, subst}
 use mathlib.Core.List.{List, [], _∷_, _++_, append-nil, map, flatMap}
 use native.Mathlib.Nat.{zero-add, mul-le-mul-right, suc-mul, mod-lt, mod-mod, mod-eq-of-lt}
 use native.Mathlib.Numerals.{add-one}
@@ -24,7 +24,8 @@ use Rattle.flash.proofs.Laws.{_then_, ran-none, ran-length, ran-lent}
 use Rattle.flash.specs.Pages.{OnPageAt, Sized}
 use Rattle.header.specs.Parts.{beginCompaction, finishCopy}
 use Rattle.slot.proofs.Laws.Kinds.{Other, other-holds}
-use Rattle.slot.proofs.Laws.Writes.{write-within}
+use Rattle.slot.specs.Parts.{slotParts}
+use Rattle.slot.proofs.Laws.Writes.{slot-parts, write-within}
 use Rattle.compact.specs.Compaction.{liveEntries, firstSlot, Apart, Copied, Compaction, compact-parts}
 
 -- ---- a page by value
@@ -57,6 +58,7 @@ pub record LivePage (p : Page) (l b : ℕ) : Type 0 where
   pub holds : slotOf p ≡ live b (take l (drop 8 p))
   pub short : l ≤ 248
   pub long : length (take l (drop 8 p)) ≡ l
+  pub writes : slotParts p l ≡ writeSlot b (take l (drop 8 p))
 
 pub live-page : (p : Page) (l : ℕ) (b : BlockNumber) {k : SlotKind} → k ≡ kindOf (slotOf p) → k ≡ Live l b → LivePage p l (b .0)
 unfolding mostContents
@@ -66,7 +68,12 @@ live-page p l b d e = go (kind-live (slotOf p) l b (sym d ∙ e))
     go (c, h, k) =
         let f = live-facts p (b .0) c h in
         let g : take l (drop 8 p) ≡ c = page-contents p (b .0) l c (f .page) k in
-        record { holds = rw g h; short = omega (arith, f .short); long = rw g k }
+        record {
+          holds = rw g h;
+          short = omega (arith, f .short);
+          long = rw g k;
+          writes = ap₂ slotParts (f .page) (sym k) ∙ (slot-parts (b .0) c ∙ ap (writeSlot (b .0)) (sym g));
+        }
 
 -- ---- what steps in one segment keep
 
@@ -176,18 +183,17 @@ module _ (N B i t budget : ℕ) (from s : Image) (left copied slot at : ℕ) (c 
 
   -- what was written in the part, said of the image
   slot-written : (l b start r : ℕ) (q : List ℕ) → LivePage page l b → start ≡ firstSlot B t * 256
-      → OnPageAt (copied * 256) (writeSlot b (take (8 + l - 8) (drop 8 page))) left r (take (start + B * 256 - start) (drop start s)) q
+      → OnPageAt (copied * 256) (slotParts page l) left r (take (start + B * 256 - start) (drop start s)) q
       → Programmed (onPage (slotAt N B t copied) (writeSlot b (take l (drop 8 page)))) left r s (Back start q)
   unfolding slotAt
   slot-written l b start r q v e d C =
       let f : start + B * 256 - start ≡ B * 256 = omega arith in
-      let g : 8 + l - 8 ≡ l = omega arith in
       let m : t % N ≡ t = mod-eq-of-lt (c .target) in
       let h : firstSlot B t + copied ≡ t * (B + 1) + suc copied = omega arith in
       let w = d copied refl C in
       rw (m, ← h, f, e)
       (ran-lent (firstSlot B t) (B * 256) copied s (writeSlot b (take l (drop 8 page))) (c .writes) (omega (arith, c .behind)) (write-within b (take l (drop 8 page)) (omega (arith, v .short, v .long)))
-      (rw (f, e, g) at w))
+      (rw (f, e, v .writes) at w))
 
   slot-in-target : (xs : List Step) → InPage xs → InSegment B t (onPage (slotAt N B t copied) xs)
   unfolding slotAt
@@ -196,7 +202,7 @@ module _ (N B i t budget : ℕ) (from s : Image) (left copied slot at : ℕ) (c 
       rw m (page-in-segment B t (suc copied) xs (omega (arith, c .behind)) p)
 
   pub copying-turn : (k : SlotKind) (l : ℕ) (b : BlockNumber) (start r : ℕ) (q : List ℕ) → k ≡ kindOf (slotOf page) → k ≡ Live l b → start ≡ firstSlot B t * 256
-      → OnPageAt (copied * 256) (writeSlot (b .0) (take (8 + l - 8) (drop 8 page))) left r (take (start + B * 256 - start) (drop start s)) q
+      → OnPageAt (copied * 256) (slotParts page l) left r (take (start + B * 256 - start) (drop start s)) q
       → Copying N B i t budget from (Back start q) r (copied + 1) (slot + 1)
   unfolding mostContents entryOf copyEntries
   copying-turn k l b start r q e f g d =

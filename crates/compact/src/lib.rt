@@ -69,13 +69,12 @@ fn copy_live(
         let next = at + 256;
         slot += 1;
         let kind = slot::slot_kind(&image[at..next]);
-        let SlotKind::Live { length, block } = kind else {
+        let SlotKind::Live { length, block: _ } = kind else {
             continue;
         };
         let page = page_of(&image[at..next]);
-        let stop = 8 + length;
         let place = SlotPlace(copied * 256);
-        left = slot::write_slot(&mut image[start..end], place, block, &page[8..stop], left);
+        left = slot::write_page(&mut image[start..end], place, &page, length, left);
         copied += 1;
     }
     Compacted { left, copied }

@@ -22,6 +22,8 @@ pub mod Ring
 pub mod Clean
 pub mod View
 pub mod Exclusive
+-- the corners of the blank test
+pub mod Blank
 -- the bench table
 pub mod Bench
 pub mod Counts

@@ -1,14 +1,15 @@
-// A slot page taken apart, or programmed under a budget.
+// A slot page taken apart, or made up and programmed under a budget.
 use model::BlockNumber;
 use model::SlotKind;
 use model::SlotPlace;
 ghost use mathlib.Core.Path.{_≡_};
 ghost use Prim.Native.Nat.{_+_, _*_, _<_, _≤_};
 ghost use lib.ListN.{length, getD};
-ghost use Rattle.model.specs.Slot.{written, slotFits, slotOf, kindOf};
+ghost use Rattle.model.specs.Slot.{written, slotPage, slotFits, slotOf, kindOf};
 ghost use Rattle.model.specs.Steps.{writeSlot, markDead};
 ghost use Rattle.flash.specs.Ran.{Programmed};
 ghost use Rattle.flash.specs.Pages.{OnPageAt};
+ghost use Rattle.slot.specs.Parts.{slotParts};
 
 // Status bytes, by the names of the model's definitions.
 const WRITE_BEGUN: u8 = 0x7F;
@@ -97,22 +98,45 @@ pub fn slot_kind(page: &[u8]) -> SlotKind
     }
 }
 
-// ---- programmed
+// ---- made up and programmed
 
-// Writes a slot in its page.
-fn program_slot(slot: &mut [u8], block: BlockNumber, contents: &[u8], budget: u64) -> u64
-    requires { ⌜ (length (now slot) ≡ 256) × (length (now contents) ≤ 248) ⌝ }
-    ensures { λ r. ⌜ Programmed (writeSlot (block .0) (now (contents .entry))) budget r (now (slot .entry)) (now (slot .exit)) ⌝ }
+// The page of a live slot, made up among erased bytes.
+fn slot_page(block: BlockNumber, contents: &[u8]) -> [u8; 256]
+    requires { ⌜ length (now contents) ≤ 248 ⌝ }
+    ensures { λ r. ⌜ r ≡ slotPage (block .0) (now (contents .entry)) ⌝ }
 {
-    let head = [
-        contents.len() as u8,
-        (block.0 % 256) as u8,
-        (block.0 / 256) as u8,
-    ];
+    let mut page = [255u8; 256];
+    page[0] = WRITTEN;
+    page[1] = contents.len() as u8;
+    page[2] = (block.0 % 256) as u8;
+    page[3] = (block.0 / 256) as u8;
+    let mut i = 0;
+    while i < contents.len() {
+        page[8 + i] = contents[i];
+        i += 1;
+    }
+    page
+}
+
+// Programs a slot's page with one that was made up, of contents of some length.
+fn program_slot(slot: &mut [u8], made: &[u8], count: usize, budget: u64) -> u64
+    requires { ⌜ (length (now slot) ≡ 256) × (length (now made) ≡ 256) × (count ≤ 248) ⌝ }
+    ensures { λ r. ⌜ Programmed (slotParts (now (made .entry)) count) budget r (now (slot .entry)) (now (slot .exit)) ⌝ }
+{
     let begun = flash::program_byte(slot, 0, WRITE_BEGUN, budget);
-    let headed = flash::program_run(slot, 1, &head, begun);
-    let filled = flash::program_run(slot, 8, contents, headed);
+    let headed = flash::program_part(slot, made, 1, 3, begun);
+    let filled = flash::program_part(slot, made, 8, count, headed);
     flash::program_byte(slot, 0, WRITTEN, filled)
+}
+
+// Writes a slot with the page of a live one: made up, or copied.
+pub fn write_page(image: &mut [u8], place: SlotPlace, page: &[u8], count: usize, budget: u64) -> u64
+    requires { ⌜ (place .0 + 256 ≤ length (now image)) × (length (now page) ≡ 256) × (count ≤ 248) ⌝ }
+    ensures { λ r. ⌜ OnPageAt (place .0) (slotParts (now (page .entry)) count) budget r (now (image .entry)) (now (image .exit)) ⌝ }
+{
+    let at = place.0;
+    let end = at + 256;
+    program_slot(&mut image[at..end], page, count, budget)
 }
 
 // Writes a slot.
@@ -126,9 +150,8 @@ pub fn write_slot(
     requires { ⌜ (place .0 + 256 ≤ length (now image)) × (length (now contents) ≤ 248) ⌝ }
     ensures { λ r. ⌜ OnPageAt (place .0) (writeSlot (block .0) (now (contents .entry))) budget r (now (image .entry)) (now (image .exit)) ⌝ }
 {
-    let at = place.0;
-    let end = at + 256;
-    program_slot(&mut image[at..end], block, contents, budget)
+    let made = slot_page(block, contents);
+    write_page(image, place, &made, contents.len(), budget)
 }
 
 // Clears bit 5 of a slot's status: live or torn becomes dead.

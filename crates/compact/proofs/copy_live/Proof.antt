@@ -4,7 +4,6 @@ use Prim.Native.Nat.{_+_, _-_, _*_}
 use mathlib.Core.Path.{refl, sym, ap, _∙_}
 use native.Mathlib.Omega.{arith}
 use denote.Ref.{now}
-use lib.ListN.{length-take}
 use Rattle.model.specs.Chip.{Page}
 use Rattle.model.specs.Slot.{slotOf, kindOf}
 use Rattle.compact.proofs.Laws.{Copying, copying-start, copying-skip, copying-turn, copying-end, live-page, slots-inside}
@@ -98,41 +97,26 @@ part-page-of-end c = search needs
 page-of-requires : tie.Need-page-of-requires Inv-loop μ-loop
 page-of-requires c κs = search needs
 
-add-stop : tie.Need-add-stop Inv-loop μ-loop
-add-stop c =
-    let told = c .before .before .before .before in
-    let v = live-page _ (told .kind .given .0 .0) (told .kind .given .0 .1 .0) (told .before .before .slot-kind .ensures) (told .kind .given .1) in
-    record { fits = omega (arith, v .short) }
+mul-write-page : tie.Need-mul-write-page Inv-loop μ-loop
+mul-write-page c = search needs
 
-mul-write-slot : tie.Need-mul-write-slot Inv-loop μ-loop
-mul-write-slot c = search needs
+sub-write-page : tie.Need-sub-write-page Inv-loop μ-loop
+sub-write-page c = search needs
 
-sub-write-slot : tie.Need-sub-write-slot Inv-loop μ-loop
-sub-write-slot c = search needs
+part-write-page-start : tie.Need-part-write-page-start Inv-loop μ-loop
+part-write-page-start c = search needs
 
-part-write-slot-start : tie.Need-part-write-slot-start Inv-loop μ-loop
-part-write-slot-start c = search needs
+part-write-page-end : tie.Need-part-write-page-end Inv-loop μ-loop
+part-write-page-end c = search needs
 
-part-write-slot-end : tie.Need-part-write-slot-end Inv-loop μ-loop
-part-write-slot-end c = search needs
+slice-aggregate-write-page : tie.Need-slice-aggregate-write-page Inv-loop μ-loop
+slice-aggregate-write-page c = search needs
 
-sub-write-slot-2 : tie.Need-sub-write-slot-2 Inv-loop μ-loop
-sub-write-slot-2 c = search needs
-
-part-write-slot-start-2 : tie.Need-part-write-slot-start-2 Inv-loop μ-loop
-part-write-slot-start-2 c = search needs
-
-part-write-slot-end-2 : tie.Need-part-write-slot-end-2 Inv-loop μ-loop
-part-write-slot-end-2 c =
+write-page-requires : tie.Need-write-page-requires Inv-loop μ-loop
+write-page-requires c κs =
     let told = c .before .before .before .before .before .before in
     let v = live-page _ (told .kind .given .0 .0) (told .kind .given .0 .1 .0) (told .before .before .slot-kind .ensures) (told .kind .given .1) in
-    omega (arith, v .short)
-
-write-slot-requires : tie.Need-write-slot-requires Inv-loop μ-loop
-write-slot-requires c κs =
-    let told = c .before .before .before .before .before .before .before in
-    let v = live-page _ (told .kind .given .0 .0) (told .kind .given .0 .1 .0) (told .before .before .slot-kind .ensures) (told .kind .given .1) in
-    (search needs, simp length-take (omega (arith, v .short)))
+    (search needs, search needs, omega (arith, v .short))
 
 add-copied : tie.Need-add-copied Inv-loop μ-loop
 add-copied c = search needs
@@ -143,7 +127,7 @@ loop-less-2 c = search needs
 loop-again-2 : tie.Need-loop-again-2 Inv-loop μ-loop
 loop-again-2 c =
     let wrote = c .before .before in
-    let read = wrote .before .before .before .before in
+    let read = wrote .before .before .before in
     let told = read .before .before .before .before in
     let seen = told .before .before in
     let test = seen .before .before .before in
@@ -151,7 +135,7 @@ loop-again-2 c =
     let from = k .before .before in
     copying-turn _ _ _ _ _ _ _ _ _ _ (from .slots-place .result + k .loop .slot * 256) (k .loop .inv) (test .loop-test .taken)
     (read .page-of .result) (omega (arith, from .slots-place .ensures)) (read .page-of .ensures) (seen .slot-kind .result) (told .kind .given .0 .0) (told .kind .given .0 .1 .0) _ _ _
-    (seen .slot-kind .ensures ∙ ap (λ (p : Page). kindOf (slotOf p)) (sym (read .page-of .ensures))) (told .kind .given .1) (k .before .slots-place2 .ensures) (wrote .write-slot .ensures)
+    (seen .slot-kind .ensures ∙ ap (λ (p : Page). kindOf (slotOf p)) (sym (read .page-of .ensures))) (told .kind .given .1) (k .before .slots-place2 .ensures) (wrote .write-page .ensures)
 
 same-length : tie.Need-same-length Inv-loop μ-loop
 same-length c = search needs
@@ -192,15 +176,12 @@ copy-live-spec =
     part-page-of-start
     part-page-of-end
     page-of-requires
-    add-stop
-    mul-write-slot
-    sub-write-slot
-    part-write-slot-start
-    part-write-slot-end
-    sub-write-slot-2
-    part-write-slot-start-2
-    part-write-slot-end-2
-    write-slot-requires
+    mul-write-page
+    sub-write-page
+    part-write-page-start
+    part-write-page-end
+    slice-aggregate-write-page
+    write-page-requires
     add-copied
     loop-less-2
     loop-again-2

@@ -1,46 +1,67 @@
--- Laws of slots that are programmed, where they belong in the image.
-use Prim.Native.Nat.{ℕ, _+_, _-_, _*_, _/_, _%_, _≤_}
-use mathlib.Core.Path.{_≡_, ap}
+-- Laws of slots that are made up and then programmed, where they belong in the image.
+use Prim.Native.Nat.{ℕ, zero, suc, _+_, _-_, _*_, _/_, _%_, _≤_}
+use mathlib.Core.Path.{_≡_, refl, sym, ap, ap₂, _∙_}
 use mathlib.Core.List.{List, [], _∷_, _++_}
+use native.Mathlib.Nat.{sub-zero, zero-sub, suc-sub-suc}
 use native.Mathlib.Omega.{arith}
-use lib.ListN.{length, take, drop}
-use lib.Seq.{take-append-seam}
-use Rattle.model.specs.Chip.{Image, Page, Step, program, erased}
+use lib.ListN.{length, take, drop, set, replicate}
+use lib.Seq.{paste, take-length, drop-drop}
+use Rattle.model.specs.Chip.{Image, Page, program, erased}
 use Rattle.model.specs.Slot.{mostContents, slotPage}
-use Rattle.model.specs.Steps.{programs, programPart, onPage, writeSlot, markDead}
+use Rattle.model.specs.Steps.{programPart, onPage, writeSlot, markDead}
 use Rattle.flash.specs.Ran.{Programmed, Within}
 use Rattle.flash.specs.Pages.{OnPageAt}
-use Rattle.flash.proofs.Laws.{_then_, within-append, within-programs}
-use Rattle.flash.proofs.Pages.{on-page}
+use Rattle.flash.proofs.Laws.{_then_, within-append}
+use Rattle.flash.proofs.Pages.{within-part, on-page}
+use Rattle.slot.specs.Parts.{slotParts}
 
--- the bytes of the page that a slot is written with, as they are at hand: before the contents, and the contents
-write-parts : (b : ℕ) (c : List ℕ) → writeSlot b c ≡ program 0 0x7F ∷ (programs 1 (length c ∷ b % 256 ∷ b / 256 ∷ []) ++ (programs 8 c ++ (program 0 0x3F ∷ [])))
-unfolding writeSlot programPart slotPage
-write-parts b c =
-    ap (λ (l : List ℕ). program 0 0x7F ∷ (programs 1 (length c ∷ b % 256 ∷ b / 256 ∷ []) ++ (programs 8 l ++ (program 0 0x3F ∷ []))))
-    (take-append-seam c (erased (mostContents - length c)))
+pub programmed-slot : (p : Page) (k : ℕ) {n n₁ n₂ n₃ n₄ : ℕ} {s s₁ s₂ s₃ s₄ : Image} → Programmed (program 0 0x7F ∷ []) n n₁ s s₁ → Programmed (programPart p 1 3) n₁ n₂ s₁ s₂
+    → Programmed (programPart p 8 k) n₂ n₃ s₂ s₃ → Programmed (program 0 0x3F ∷ []) n₃ n₄ s₃ s₄ → Programmed (slotParts p k) n n₄ s s₄
+unfolding slotParts
+programmed-slot p k d₁ d₂ d₃ d₄ B = _then_ (d₁ B) (_then_ (d₂ B) (_then_ (d₃ B) (d₄ B)))
 
-pub programmed-slot : (b : ℕ) (c : List ℕ) {n n₁ n₂ n₃ n₄ : ℕ} {s s₁ s₂ s₃ s₄ : Image} → Programmed (program 0 0x7F ∷ []) n n₁ s s₁
-    → Programmed (programs 1 (length c ∷ b % 256 ∷ b / 256 ∷ [])) n₁ n₂ s₁ s₂ → Programmed (programs 8 c) n₂ n₃ s₂ s₃ → Programmed (program 0 0x3F ∷ []) n₃ n₄ s₃ s₄
-    → Programmed (writeSlot b c) n n₄ s s₄
-programmed-slot b c d₁ d₂ d₃ d₄ B = rw (write-parts b c) (_then_ (d₁ B) (_then_ (d₂ B) (_then_ (d₃ B) (d₄ B))))
+slot-within : (p : Page) (k : ℕ) → k ≤ 248 → Within 256 (slotParts p k)
+unfolding slotParts
+slot-within p k h = (
+  omega arith,
+  within-append 256 (programPart p 1 3) (programPart p 8 k ++ (program 0 0x3F ∷ [])) (within-part p 1 3 (omega arith))
+      (within-append 256 (programPart p 8 k) (program 0 0x3F ∷ []) (within-part p 8 k (omega arith)) (omega arith, tt)),
+)
+
+pub slot-parts : (b : ℕ) (c : List ℕ) → slotParts (slotPage b c) (length c) ≡ writeSlot b c
+unfolding slotParts writeSlot
+slot-parts b c = refl
 
 pub write-within : (b : ℕ) (c : List ℕ) → length c ≤ 248 → Within 256 (writeSlot b c)
-write-within b c h =
-    let head : List ℕ = length c ∷ b % 256 ∷ b / 256 ∷ [] in
-    let last : List Step = program 0 0x3F ∷ [] in
-    rw (write-parts b c) (
-      omega arith,
-      within-append 256 (programs 1 head) (programs 8 c ++ last) (within-programs 256 1 head (omega arith))
-          (within-append 256 (programs 8 c) last (within-programs 256 8 c (omega arith)) (omega arith, tt)),
-    )
+write-within b c h = rw (← (slot-parts b c)) (slot-within (slotPage b c) (length c) h)
 
-pub slot-written : (at b : ℕ) (c : List ℕ) (s : Image) {n r : ℕ} {q : Page} → at + 256 ≤ length s → length c ≤ 248
-    → Programmed (writeSlot b c) n r (take (at + 256 - at) (drop at s)) q → OnPageAt at (writeSlot b c) n r s (take at s ++ (q ++ drop (at + 256 - at) (drop at s)))
-slot-written at b c s h l d = on-page at s (writeSlot b c) h (write-within b c l) d
+-- a page programmed where it belongs
+pub page-written : (at k : ℕ) (s : Image) (p : Page) {n r : ℕ} {q : Page} → at + 256 ≤ length s → k ≤ 248
+    → Programmed (slotParts p k) n r (take (at + 256 - at) (drop at s)) q → OnPageAt at (slotParts p k) n r s (take at s ++ (q ++ drop (at + 256 - at) (drop at s)))
+page-written at k s p h l d = on-page at s (slotParts p k) h (slot-within p k l) d
+
+-- the page of a live slot writes that slot
+pub slot-written : (b : ℕ) (c : List ℕ) (p : Page) {at n r : ℕ} {s t : Image} → p ≡ slotPage b c → OnPageAt at (slotParts p (length c)) n r s t → OnPageAt at (writeSlot b c) n r s t
+slot-written b c p e d = rw (← (slot-parts b c), ← e) d
 
 pub marked : (at : ℕ) {n r : ℕ} {s t : Image} → Programmed (program at 0xDF ∷ []) n r s t → OnPageAt at markDead n r s t
 unfolding markDead onPage
 marked at {n} {r} {s} {t} d p e B =
     let f : p * 256 + 0 ≡ at = omega arith in
     rw f (d B)
+
+-- the page of a slot: the bytes before the contents, then the contents one by one
+drop-replicate : (n k v : ℕ) → drop n (replicate k v) ≡ replicate (k - n) v
+drop-replicate zero k v = ap (λ (j : ℕ). replicate j v) (sym (sub-zero k))
+drop-replicate (suc n) zero v = ap (λ (j : ℕ). replicate j v) (sym (zero-sub (suc n)))
+drop-replicate (suc n) (suc k) v = drop-replicate n k v ∙ ap (λ (j : ℕ). replicate j v) (sym (suc-sub-suc k n))
+
+abbrev pub slotHead : ℕ → ℕ → Page
+slotHead l b = set (set (set (set (replicate 256 255) 0 0x3F) 1 l) 2 (b % 256)) 3 (b / 256)
+
+pub slot-made : (b : ℕ) (c : List ℕ) (i : ℕ) → i ≡ length c → paste (slotHead (length c) b) 8 c i ≡ slotPage b c
+unfolding slotPage mostContents erased
+slot-made b c i e =
+    ap (paste (slotHead (length c) b) 8 c) e
+    ∙ ap₂ (λ (x y : List ℕ). take 8 (slotHead (length c) b) ++ x ++ y) (take-length c)
+    (sym (drop-drop (length c) 8 (slotHead (length c) b)) ∙ drop-replicate (length c) 248 255)

@@ -1,42 +1,33 @@
 -- `slot::write_slot` does the steps of the definition, in the slot's page. Assumes nothing.
-use native.Mathlib.Omega.{arith}
 use denote.Ref.{now}
 use Rattle.slot.proofs.Laws.Writes.{slot-written}
 use borrow.Author.Needs.{needs}
 use Rattle.slot.proofs.write_slot.Statement.{statement}
 use Rattle.slot.proofs.write_slot.Tie as tie
 
-add-end : tie.Need-add-end
-add-end c = search needs
+slot-page-requires : tie.Need-slot-page-requires
+slot-page-requires c κs = search needs
 
-sub-program-slot : tie.Need-sub-program-slot
-sub-program-slot c = search needs
+slice-aggregate-write-page : tie.Need-slice-aggregate-write-page
+slice-aggregate-write-page c = search needs
 
-part-program-slot-start : tie.Need-part-program-slot-start
-part-program-slot-start c = search needs
-
-part-program-slot-end : tie.Need-part-program-slot-end
-part-program-slot-end c = search needs
-
-program-slot-requires : tie.Need-program-slot-requires
-program-slot-requires c κs = search needs
+write-page-requires : tie.Need-write-page-requires
+write-page-requires c κs = search needs
 
 same-length : tie.Need-same-length
 same-length c = search needs
 
 returns : tie.Need-returns
 returns c =
-    let x = c .before .before .before .before .before .before in
-    slot-written (x .args .place .0) (x .args .block .0) (now (x .args .contents)) (now (x .args .image)) (omega arith) (omega arith) (c .before .before .program-slot .ensures)
+    let a = c .before .before .before .before .before .before .before .before .args in
+    slot-written (a .block .0) (now (a .contents)) _ (c .before .before .before .before .before .slot-page .ensures) (c .before .before .write-page .ensures)
 
 pub write-slot-spec : {M : Type 1} → statement M
 write-slot-spec =
     tie.close
     (tie.spec
-    add-end
-    sub-program-slot
-    part-program-slot-start
-    part-program-slot-end
-    program-slot-requires
+    slot-page-requires
+    slice-aggregate-write-page
+    write-page-requires
     same-length
     returns)
