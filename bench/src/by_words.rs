@@ -6,6 +6,8 @@ pub mod reference;
 
 pub fn all_255(bytes: &[u8]) -> bool {
     let (words, rest) = bytes.as_chunks();
-    words.iter().all(|&word| u64::from_ne_bytes(word) == u64::MAX)
+    words
+        .iter()
+        .all(|&word| u64::from_ne_bytes(word) == u64::MAX)
         && rest.iter().all(|&byte| byte == 0xFF)
 }

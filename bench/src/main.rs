@@ -65,7 +65,13 @@ fn chip(g: Geometry, blocks: usize, runs: usize) {
     let delete = Request::Delete { block: middle };
     write_row("delete", &roomy, g, &delete, runs);
     write_row("recover, nothing to do", &roomy, g, &Request::Recover, runs);
-    write_row("recover, an erase pending", &cut, g, &Request::Recover, runs);
+    write_row(
+        "recover, an erase pending",
+        &cut,
+        g,
+        &Request::Recover,
+        runs,
+    );
 }
 
 // ---------------------------------------------------------------------------------------------

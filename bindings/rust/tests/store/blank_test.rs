@@ -1,35 +1,36 @@
 //! Request #103: the blank test, at every length, alignment and place of a differing byte.
 
-use crate::reference;
+use crate::harness::Store;
 
 /// The longest part that is tried.
 const MOST: usize = 600;
 
-/// Holds the reference to the request's words and, if it is linked, the library to the reference.
-fn compare(bytes: &[u8], differing: Option<usize>) {
-    let (blank, groups) = reference::blank_test(bytes);
-    let looked_at = differing.map_or(bytes.len(), |place| place + 1);
-    assert_eq!((blank, groups), (differing.is_none(), looked_at.div_ceil(8) as u64));
-    #[cfg(qbx_lib)]
-    {
-        let told = qanbillox::blank_test(bytes);
-        assert_eq!((told.blank, told.groups), (blank, groups), "{} bytes", bytes.len());
-    }
+/// Aligned, so that each part begins where it is said to.
+#[repr(align(8))]
+struct Buffer([u8; MOST + 8]);
+
+/// A blank test that should find this place to be the first that differs, if there is one.
+fn differs_at(store: &Store, bytes: &[u8], first: Option<usize>) {
+    let (blank, groups) = store.blank_test(bytes);
+    let looked_at = first.map_or(bytes.len(), |place| place + 1);
+    assert_eq!(blank, first.is_none());
+    assert_eq!(groups, looked_at.div_ceil(8) as u64);
 }
 
 #[test]
 fn every_length_alignment_and_place() {
-    let mut buffer = [0u64; MOST / 8 + 2].map(|_| u64::MAX.to_ne_bytes()).concat();
-    // The first byte behind each part differs too: it must not be looked at.
+    let store = Store::new("blank test, one byte that differs");
+    let Buffer(buffer) = &mut Buffer([0xFF; MOST + 8]);
     for alignment in 0..8 {
         for length in 0..=MOST {
             let end = alignment + length;
+            // The byte behind the part differs too: it must not be looked at.
             buffer[end] = 0x7F;
-            compare(&buffer[alignment..end], None);
+            differs_at(&store, &buffer[alignment..end], None);
             for place in 0..length {
-                // Every bit of a byte in turn is the one that differs.
-                buffer[alignment + place] = !(1 << (place + length) % 8);
-                compare(&buffer[alignment..end], Some(place));
+                // Every bit in turn is the one that differs.
+                buffer[alignment + place] = !(1 << ((place + length) % 8));
+                differs_at(&store, &buffer[alignment..end], Some(place));
                 buffer[alignment + place] = 0xFF;
             }
             buffer[end] = 0xFF;
@@ -37,13 +38,15 @@ fn every_length_alignment_and_place() {
     }
 }
 
-/// What stands behind the first differing byte is never told.
 #[test]
-fn several_differing_bytes() {
-    let mut bytes = [0xFF; 64];
-    for first in 0..64 {
-        bytes[first..].fill(0);
-        compare(&bytes, Some(first));
-        bytes.fill(0xFF);
+fn what_follows_is_not_told() {
+    let store = Store::new("blank test, all differ from a place on");
+    for length in 0..=MOST {
+        let mut bytes = vec![0; length];
+        for first in 0..length {
+            differs_at(&store, &bytes, Some(first));
+            bytes[first] = 0xFF;
+        }
+        differs_at(&store, &bytes, None);
     }
 }

@@ -60,6 +60,18 @@ impl Store {
         reply
     }
 
+    /// The blank test of request #103: whether all bytes are 255, and the groups looked at.
+    pub fn blank_test(&self, bytes: &[u8]) -> (bool, u64) {
+        self.count();
+        let reply = reference::blank_test(bytes);
+        #[cfg(qbx_lib)]
+        {
+            let told = qanbillox::blank_test(bytes);
+            assert_eq!((told.blank, told.groups), reply, "{} bytes", bytes.len());
+        }
+        reply
+    }
+
     /// A request that has to be done whole. Its steps.
     pub fn done(&self, image: &mut [u8], g: Geometry, request: &Request) -> u64 {
         let reply = self.perform(image, g, request, reference::UNLIMITED);
