@@ -1,18 +1,16 @@
 -- Laws of steps under a budget: nothing, one step, one call after another, a budget that is spent; bytes programmed in a loop; a part of the image.
 use mathlib.Core.Path.{_≡_, refl, sym, ap, _∙_, subst}
-use mathlib.Core.Bool.{true, false}
 use Prim.Native.Nat.{ℕ, zero, suc, _+_, _-_, _*_, _≤_, _<_, min}
 use native.Mathlib.Nat.{sub-zero, le-of-eq, add-zero, zero-add, suc-add, min-eq-left, min-eq-right, min-le-left}
 use native.Mathlib.Numerals.{add-one}
 use native.Mathlib.Decide.{decLe}
 use native.Mathlib.Omega.{arith}
 use mathlib.Core.List.{List, [], _∷_, _++_, append-assoc}
-use lib.ListN.{length, getD, take, drop, set, replicate, length-append, length-drop, length-replicate, drop-of-length-le, getD-replicate, take-append-drop, List·getD-append}
+use lib.ListN.{length, getD, take, drop, set, replicate, length-append, length-drop, length-replicate, getD-replicate, take-append-drop, List·getD-append}
 use lib.Bits.{bitAnd}
 use lib.Seq.{take-suc, take-length, paste, paste-suc, take-all, getD-append-add, set-append-left, length-take-le}
-use borrow.Author.Tests.{eq-eqb, ne-eqb, le-leb}
+use borrow.Author.Tests.{le-leb}
 use Rattle.model.specs.Chip.{Image, Step, program, erase, clear, erased, withSegment, step, run, runFirst}
-use Rattle.model.specs.Header.{isBlank}
 use Rattle.model.specs.Steps.{programs, onPage}
 use Rattle.model.specs.Laws.Chip.{step-length, run-length, run-append, first-append}
 use Rattle.flash.specs.Ran.{Ran, Programmed, shifted, Within}

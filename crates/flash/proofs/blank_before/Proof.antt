@@ -2,7 +2,6 @@
 use mathlib.Core.Path.{sym, _∙_}
 use native.Mathlib.Omega.{arith}
 use denote.Ref.{now}
-use borrow.Author.Tests.{not-true, not-false}
 use Rattle.flash.proofs.Blank.{before-whole, before-one, before-none, before-stops, before-all, before-rest}
 use borrow.Author.Needs.{needs}
 use Rattle.flash.proofs.blank_before.Statement.{statement}

@@ -1,8 +1,7 @@
 -- `flash::four_blank` is the test of the definition, group by group. Assumes nothing.
-use mathlib.Core.Path.{_≡_, sym, _∙_}
+use mathlib.Core.Path.{sym, _∙_}
 use denote.Ref.{now}
 use borrow.Author.Tests.{not-true, not-false}
-use Rattle.model.specs.Header.{isBlank}
 use Rattle.flash.proofs.Blank.{four-parts}
 use borrow.Author.Needs.{needs}
 use Rattle.flash.proofs.four_blank.Statement.{statement}
