@@ -11,7 +11,7 @@ use native.Mathlib.Omega.{arith}
 use lib.ListN.{length, getD, take, drop, take-append-drop, length-drop, drop-of-length-le}
 use lib.Bits.{bitAnd, and-comm, and-mask, and-le-l}
 use lib.Dec.{eqb}
-use lib.Seq.{take-suc, take-all, take-add, drop-drop}
+use lib.Seq.{length-take-le, take-suc, take-all, take-append-le, drop-append-le, take-take, take-add, drop-drop}
 use borrow.Author.Tests.{eq-eqb, ne-eqb}
 use Rattle.model.specs.Lists.{same, chunk}
 use Rattle.model.specs.Laws.Lists.{and-left, and-right}
@@ -91,13 +91,6 @@ blank-shorter i j s h e =
     let k : i + (j - i) ≡ j = omega arith in
     and-left (isBlank (take i s)) (isBlank (take (j - i) (drop i s))) (sym (blank-two i (j - i) s) ∙ rw k e)
 
--- four groups
-pub four-parts : (s : List ℕ) → length s ≡ 32
-    → isBlank s ≡ (isBlank (take 8 s) && (isBlank (take 8 (drop 8 s)) && (isBlank (take 8 (drop 16 s)) && isBlank (take 8 (drop 24 s)))))
-four-parts s l =
-    let last : take 8 (drop 24 s) ≡ drop 24 s = take-all 8 (drop 24 s) (omega (arith, length-drop 24 s)) in
-    rw (last) (blank-split 8 s ∙ ap (λ (b : Bool). isBlank (take 8 s) && b) (blank-split 8 (drop 8 s) ∙ rw drop-drop (ap (λ (b : Bool). isBlank (take 8 (drop 8 s)) && b) (blank-split 8 (drop 16 s) ∙ rw drop-drop))))
-
 -- ---- groups
 
 groups-next : (s : List ℕ) → 0 < length s → blankGroups s ≡ suc (cond (isBlank (take 8 s)) (blankGroups (drop 8 s)) 0)
@@ -138,6 +131,46 @@ pub no-part : (z : ℕ) (s : List ℕ) → isBlank (take (0 * z) s) ≡ true
 unfolding isBlank
 no-part z s = let e : 0 * z ≡ 0 = omega arith in rw e
 
+-- a part that differs stops it among more parts too
+pub stops-among : (z c d : ℕ) (s : List ℕ) (k : ℕ) → Leading z c s k → k < c → c ≤ d → Leading z d s k
+stops-among z c d s k l h m = record { within = omega arith; blank = l .blank; stops = ⊎-elim (λ e. absurd (omega arith)) inr (l .stops) }
+
+-- ---- four groups at a time
+
+module _ (s : List ℕ) (i k : ℕ) (blank : isBlank (take (i * 32) s) ≡ true) (more : i < length s / 32) where
+  abbrev rest : List ℕ
+  rest = drop (i * 32) s
+
+  abbrev four : List ℕ
+  four = take (i * 32 + 32 - i * 32) rest
+
+  four-long : length (take 32 rest) ≡ 32
+  four-long = length-take-le 32 rest (omega (arith, length-drop (i * 32) s))
+
+  -- the groups of the four are groups of what is left
+  group-same : k < 4 → take 8 (drop (k * 8) rest) ≡ take 8 (drop (k * 8) (take 32 rest))
+  group-same h =
+      let split : drop (k * 8) rest ≡ drop (k * 8) (take 32 rest) ++ drop 32 rest =
+      ap (drop (k * 8)) (sym (take-append-drop 32 rest)) ∙ drop-append-le (k * 8) (take 32 rest) (drop 32 rest) (omega (arith, four-long)) in
+      ap (take 8) split ∙ take-append-le 8 (drop (k * 8) (take 32 rest)) (drop 32 rest) (omega (arith, four-long, length-drop (k * 8) (take 32 rest)))
+
+  pub four-turn : Leading 8 4 four k → 4 ≤ k → isBlank (take ((i + 1) * 32) s) ≡ true
+  four-turn d h =
+      let e : k * 8 ≡ 32 = omega (arith, d .within) in
+      let f : four ≡ take 32 rest = part-is (i * 32) 32 s in
+      part-turn 32 (length s / 32) s i blank (rw f (ap isBlank (sym (take-take 32 32 rest (omega arith))) ∙ (rw (f, e) at (d .blank))))
+
+  pub four-stops : Leading 8 4 four k → k < 4 → Leading 8 (4 * (length s / 32)) s (4 * i + k)
+  four-stops d h =
+      let n : (4 * i + k) * 8 ≡ i * 32 + k * 8 = omega arith in
+      let f : four ≡ take 32 rest = part-is (i * 32) 32 s in
+      let b : isBlank (take (k * 8) rest) ≡ true = ap isBlank (sym (take-take (k * 8) 32 rest (omega arith))) ∙ (rw f at (d .blank)) in
+      record {
+        within = omega arith;
+        blank = rw (n, blank-two (i * 32) (k * 8) s, blank) b;
+        stops = ⊎-elim (λ e. absurd (omega arith)) (λ e. inr (rw (n, ← drop-drop (k * 8) (i * 32) s, group-same h) (rw f at e))) (d .stops);
+      }
+
 -- ---- with a shorter last group
 
 module _ (s : List ℕ) where
@@ -155,9 +188,6 @@ module _ (s : List ℕ) where
   before-none l e = record { within = omega arith; blank = no-part 8 s; stops = inr (rw (take-all 8 s (omega arith)) e) }
 
   module _ (k : ℕ) (d : Leading 8 (length s / 8) s k) where
-    pub before-stops : k < length s / 8 → Before k
-    before-stops h = record { within = omega arith; blank = d .blank; stops = ⊎-elim (λ e. absurd (omega arith)) inr (d .stops) }
-
     module _ (none : length s / 8 ≤ k) (some : 8 ≤ length s) where
       -- the last eight bytes decide, since those before are blank
       last-decides : isBlank (take (length s - (length s - 8)) (drop (length s - 8) s)) ≡ isBlank s
@@ -211,7 +241,7 @@ module _ (s : List ℕ) (k : ℕ) (d : Leading 8 ((length s + 7) / 8) s k) where
     min-eq-left {n = k + 1} {m = all} (omega arith) ∙ sym (groups-behind k s (omega arith) (d .blank) ∙ ap (λ (n : ℕ). k + n) (groups-next (drop (k * 8) s) (omega (arith, length-drop (k * 8) s)) ∙ rw e)),
   )
 
-  pub tested : (eqb k all ≡ isBlank s) × (min (k + 1) all ≡ blankGroups s)
+  pub tested : Tested
   tested = ⊎-elim none-differs (λ e. one-differs e (one-left e)) (d .stops)
 
 -- ---- how many groups there are at most

@@ -1,4 +1,5 @@
-// Flash steps under a budget. Each function that writes takes the budget and returns what is left of it.
+// Flash steps under a budget, and the test for bytes that an erase has left. Each function that writes takes the budget and
+// returns what is left of it.
 ghost use mathlib.Core.Path.{_≡_};
 ghost use mathlib.Core.List.{[], _∷_};
 ghost use Prim.Native.Nat.{_+_, _*_, _/_, _<_, _≤_, min};
@@ -28,20 +29,22 @@ fn least(a: usize, b: usize) -> usize
     if a < b { a } else { b }
 }
 
-// Programs bytes one after the other. How far the budget goes is found out before, so that the loop only clears bits, many
-// bytes at a time.
+// Programs bytes one after the other. How far the budget goes is found out before, so that nothing in the loop keeps the
+// compiler from clearing many bytes at a time.
 pub fn program_run(image: &mut [u8], at: usize, bytes: &[u8], budget: u64) -> u64
     requires { ⌜ at + length (now bytes) ≤ length (now image) ⌝ }
     ensures { λ r. ⌜ Programmed (programs at (now (bytes .entry))) budget r (now (image .entry)) (now (image .exit)) ⌝ }
 {
-    let paid = least(budget as usize, bytes.len());
+    let covered = least(budget as usize, bytes.len());
+    let mut left = budget;
     let mut i = 0;
-    while i < paid {
+    while i < covered {
         let o = at + i;
         image[o] = image[o] & bytes[i];
+        left -= 1;
         i += 1;
     }
-    budget - paid as u64
+    left
 }
 
 // Programs some bytes of a page that was made up, where they belong.
@@ -87,23 +90,6 @@ fn group_blank(group: &[u8]) -> bool
     (group[0] & group[1] & group[2] & group[3] & group[4] & group[5] & group[6] & group[7]) == 255
 }
 
-// The same of four groups, one after the other.
-fn four_blank(groups: &[u8]) -> bool
-    requires { ⌜ length (now groups) ≡ 32 ⌝ }
-    ensures { λ r. ⌜ r ≡ isBlank (now (groups .entry)) ⌝ }
-{
-    if !group_blank(&groups[0..8]) {
-        return false;
-    }
-    if !group_blank(&groups[8..16]) {
-        return false;
-    }
-    if !group_blank(&groups[16..24]) {
-        return false;
-    }
-    group_blank(&groups[24..32])
-}
-
 // The same of bytes that make no whole group.
 fn rest_blank(rest: &[u8]) -> bool
     ensures { λ r. ⌜ r ≡ isBlank (now (rest .entry)) ⌝ }
@@ -117,30 +103,53 @@ fn rest_blank(rest: &[u8]) -> bool
     joined == 255
 }
 
-// How many times four groups come before the first four of which one differs. With four to a turn the loop itself costs
-// little.
+// How many of four groups come before the first that differs.
+fn leading_four(four: &[u8]) -> usize
+    requires { ⌜ length (now four) ≡ 32 ⌝ }
+    ensures { λ r. ⌜ Leading 8 4 (now (four .entry)) r ⌝ }
+{
+    if !group_blank(&four[0..8]) {
+        return 0;
+    }
+    if !group_blank(&four[8..16]) {
+        return 1;
+    }
+    if !group_blank(&four[16..24]) {
+        return 2;
+    }
+    if !group_blank(&four[24..32]) {
+        return 3;
+    }
+    4
+}
+
+// The same of as many times four groups as there are. With four to a turn the loop itself costs little.
 fn leading_fours(bytes: &[u8]) -> usize
-    ensures { λ r. ⌜ Leading 32 (length (now (bytes .entry)) / 32) (now (bytes .entry)) r ⌝ }
+    ensures { λ r. ⌜ Leading 8 (4 * (length (now (bytes .entry)) / 32)) (now (bytes .entry)) r ⌝ }
 {
     let fours = bytes.len() / 32;
     let mut i = 0;
     while i < fours {
         let at = i * 32;
         let end = at + 32;
-        if !four_blank(&bytes[at..end]) {
-            return i;
+        let k = leading_four(&bytes[at..end]);
+        if k < 4 {
+            return 4 * i + k;
         }
         i += 1;
     }
-    i
+    4 * i
 }
 
-// How many whole groups come before the first that differs.
+// The same of all whole groups.
 fn leading(bytes: &[u8]) -> usize
     ensures { λ r. ⌜ Leading 8 (length (now (bytes .entry)) / 8) (now (bytes .entry)) r ⌝ }
 {
     let whole = bytes.len() / 8;
-    let mut groups = 4 * leading_fours(bytes);
+    let mut groups = leading_fours(bytes);
+    if groups < 4 * (bytes.len() / 32) {
+        return groups;
+    }
     while groups < whole {
         let at = groups * 8;
         let end = at + 8;

@@ -2,7 +2,7 @@
 use mathlib.Core.Path.{sym, _∙_}
 use native.Mathlib.Omega.{arith}
 use denote.Ref.{now}
-use Rattle.flash.proofs.Blank.{before-whole, before-one, before-none, before-stops, before-all, before-rest}
+use Rattle.flash.proofs.Blank.{stops-among, before-whole, before-one, before-none, before-all, before-rest}
 use borrow.Author.Needs.{needs}
 use Rattle.flash.proofs.blank_before.Statement.{statement}
 use Rattle.flash.proofs.blank_before.Tie as tie
@@ -26,7 +26,7 @@ leading-requires-2 : tie.Need-leading-requires-2
 leading-requires-2 c κs = search needs
 
 returns-4 : tie.Need-returns-4
-returns-4 c = before-stops (now (c .before .before .before .before .before .args .bytes)) _ (c .before .leading2 .ensures) (c .if4 .taken)
+returns-4 c = stops-among 8 _ _ (now (c .before .before .before .before .before .args .bytes)) _ (c .before .leading2 .ensures) (c .if4 .taken) (omega arith)
 
 sub-last : tie.Need-sub-last
 sub-last c = search needs

@@ -7,7 +7,7 @@ use denote.Ref.{now}
 use lib.ListN.{length, take}
 use borrow.Author.Tests.{not-true, not-false}
 use Rattle.model.specs.Header.{isBlank}
-use Rattle.flash.proofs.Blank.{part-turn, part-differs, parts-whole}
+use Rattle.flash.proofs.Blank.{part-turn, part-differs, parts-whole, stops-among}
 use borrow.Author.Needs.{needs}
 use Rattle.flash.proofs.leading.Statement.{statement}
 use Rattle.flash.proofs.leading.Tie as tie
@@ -21,14 +21,16 @@ abbrev μ-loop : tie.MeasureT-loop
 leading-fours-requires : tie.Need-leading-fours-requires Inv-loop μ-loop
 leading-fours-requires c κs = search needs
 
-mul-groups : tie.Need-mul-groups Inv-loop μ-loop
-mul-groups c = record { fits = omega (arith, c .leading-fours .ensures .within) }
+mul-if1 : tie.Need-mul-if1 Inv-loop μ-loop
+mul-if1 c = search needs
+
+returns : tie.Need-returns Inv-loop μ-loop
+returns c = stops-among 8 _ _ (now (c .before .before .before .args .bytes)) _ (c .before .leading-fours .ensures) (c .if1 .taken) (omega arith)
 
 loop-holds : tie.Need-loop-holds Inv-loop μ-loop
 loop-holds c =
-    let f = c .leading-fours in
-    let e : 4 * f .result * 8 ≡ f .result * 32 = omega arith in
-    (omega (arith, f .ensures .within), rw e (f .ensures .blank))
+    let f = c .before .leading-fours .ensures in
+    (omega (arith, f .within), f .blank)
 
 mul-at : tie.Need-mul-at Inv-loop μ-loop
 mul-at c = search needs
@@ -48,11 +50,11 @@ part-group-blank-end c = search needs
 group-blank-requires : tie.Need-group-blank-requires Inv-loop μ-loop
 group-blank-requires c κs = search needs
 
-returns : tie.Need-returns Inv-loop μ-loop
-returns c =
+returns-2 : tie.Need-returns-2 Inv-loop μ-loop
+returns-2 c =
     let k = c .before .before .before .before in
-    let e = sym (c .before .group-blank .ensures) ∙ not-true _ (c .if1 .taken) in
-    part-differs 8 _ (now (k .before .before .before .args .bytes)) (k .loop .groups) (k .loop .inv .1) (omega arith) e
+    let e = sym (c .before .group-blank .ensures) ∙ not-true _ (c .if2 .taken) in
+    part-differs 8 _ (now (k .before .before .before .before .args .bytes)) (k .loop .groups) (k .loop .inv .1) (omega arith) e
 
 add-groups : tie.Need-add-groups Inv-loop μ-loop
 add-groups c = search needs
@@ -63,14 +65,14 @@ loop-less c = search needs
 loop-again : tie.Need-loop-again Inv-loop μ-loop
 loop-again c =
     let k = c .before .before .before .before in
-    let s = now (k .before .before .before .args .bytes) in
-    let e = sym (c .before .group-blank .ensures) ∙ not-false _ (c .if1 .left) in
+    let s = now (k .before .before .before .before .args .bytes) in
+    let e = sym (c .before .group-blank .ensures) ∙ not-false _ (c .if2 .left) in
     (omega arith, part-turn 8 (length s / 8) s (k .loop .groups) (k .loop .inv .1) e)
 
-returns-2 : tie.Need-returns-2 Inv-loop μ-loop
-returns-2 c =
+returns-3 : tie.Need-returns-3 Inv-loop μ-loop
+returns-3 c =
     let k = c .before in
-    parts-whole 8 _ (now (k .before .before .before .args .bytes)) (k .loop .groups) (k .loop .inv .1) (omega arith)
+    parts-whole 8 _ (now (k .before .before .before .before .args .bytes)) (k .loop .groups) (k .loop .inv .1) (omega arith)
 
 pub leading-spec : {M : Type 1} → statement M
 leading-spec =
@@ -79,7 +81,8 @@ leading-spec =
     Inv-loop
     μ-loop
     leading-fours-requires
-    mul-groups
+    mul-if1
+    returns
     loop-holds
     mul-at
     add-end
@@ -87,8 +90,8 @@ leading-spec =
     part-group-blank-start
     part-group-blank-end
     group-blank-requires
-    returns
+    returns-2
     add-groups
     loop-less
     loop-again
-    returns-2)
+    returns-3)

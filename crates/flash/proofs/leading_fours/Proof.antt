@@ -1,13 +1,12 @@
--- `flash::leading_fours` counts the fours before the first that differs. The invariant: those looked at are blank. Assumes nothing.
+-- `flash::leading_fours` counts the groups before the first that differs, four to a turn. The invariant: those looked at are blank. Assumes nothing.
 use Prim.Native.Nat.{_-_, _*_, _/_, _≤_}
-use mathlib.Core.Path.{_≡_, sym, _∙_}
+use mathlib.Core.Path.{_≡_}
 use mathlib.Core.Bool.{true}
 use native.Mathlib.Omega.{arith}
 use denote.Ref.{now}
 use lib.ListN.{length, take}
-use borrow.Author.Tests.{not-true, not-false}
 use Rattle.model.specs.Header.{isBlank}
-use Rattle.flash.proofs.Blank.{no-part, part-turn, part-differs, parts-whole}
+use Rattle.flash.proofs.Blank.{no-part, parts-whole, four-turn, four-stops}
 use borrow.Author.Needs.{needs}
 use Rattle.flash.proofs.leading_fours.Statement.{statement}
 use Rattle.flash.proofs.leading_fours.Tie as tie
@@ -27,23 +26,28 @@ mul-at c = search needs
 add-end : tie.Need-add-end Inv-loop μ-loop
 add-end c = search needs
 
-sub-four-blank : tie.Need-sub-four-blank Inv-loop μ-loop
-sub-four-blank c = search needs
+sub-leading-four : tie.Need-sub-leading-four Inv-loop μ-loop
+sub-leading-four c = search needs
 
-part-four-blank-start : tie.Need-part-four-blank-start Inv-loop μ-loop
-part-four-blank-start c = search needs
+part-leading-four-start : tie.Need-part-leading-four-start Inv-loop μ-loop
+part-leading-four-start c = search needs
 
-part-four-blank-end : tie.Need-part-four-blank-end Inv-loop μ-loop
-part-four-blank-end c = search needs
+part-leading-four-end : tie.Need-part-leading-four-end Inv-loop μ-loop
+part-leading-four-end c = search needs
 
-four-blank-requires : tie.Need-four-blank-requires Inv-loop μ-loop
-four-blank-requires c κs = search needs
+leading-four-requires : tie.Need-leading-four-requires Inv-loop μ-loop
+leading-four-requires c κs = search needs
+
+mul-result : tie.Need-mul-result Inv-loop μ-loop
+mul-result c = search needs
+
+add-result : tie.Need-add-result Inv-loop μ-loop
+add-result c = search needs
 
 returns : tie.Need-returns Inv-loop μ-loop
 returns c =
     let k = c .before .before .before .before in
-    let e = sym (c .before .four-blank .ensures) ∙ not-true _ (c .if1 .taken) in
-    part-differs 32 _ (now (k .before .before .args .bytes)) (k .loop .i) (k .loop .inv .1) (omega arith) e
+    four-stops (now (k .before .before .args .bytes)) (k .loop .i) _ (k .loop .inv .1) (omega arith) (c .before .leading-four .ensures) (c .if1 .taken)
 
 add-i : tie.Need-add-i Inv-loop μ-loop
 add-i c = search needs
@@ -54,14 +58,16 @@ loop-less c = search needs
 loop-again : tie.Need-loop-again Inv-loop μ-loop
 loop-again c =
     let k = c .before .before .before .before in
-    let s = now (k .before .before .args .bytes) in
-    let e = sym (c .before .four-blank .ensures) ∙ not-false _ (c .if1 .left) in
-    (omega arith, part-turn 32 (length s / 32) s (k .loop .i) (k .loop .inv .1) e)
+    (omega arith, four-turn (now (k .before .before .args .bytes)) (k .loop .i) _ (k .loop .inv .1) (omega arith) (c .before .leading-four .ensures) (omega arith))
+
+mul-result-2 : tie.Need-mul-result-2 Inv-loop μ-loop
+mul-result-2 c = search needs
 
 returns-2 : tie.Need-returns-2 Inv-loop μ-loop
 returns-2 c =
     let k = c .before in
-    parts-whole 32 _ (now (k .before .before .args .bytes)) (k .loop .i) (k .loop .inv .1) (omega arith)
+    let e : 4 * k .loop .i * 8 ≡ k .loop .i * 32 = omega arith in
+    parts-whole 8 _ (now (k .before .before .args .bytes)) (4 * k .loop .i) (rw e (k .loop .inv .1)) (omega arith)
 
 pub leading-fours-spec : {M : Type 1} → statement M
 leading-fours-spec =
@@ -72,12 +78,15 @@ leading-fours-spec =
     loop-holds
     mul-at
     add-end
-    sub-four-blank
-    part-four-blank-start
-    part-four-blank-end
-    four-blank-requires
+    sub-leading-four
+    part-leading-four-start
+    part-leading-four-end
+    leading-four-requires
+    mul-result
+    add-result
     returns
     add-i
     loop-less
     loop-again
+    mul-result-2
     returns-2)

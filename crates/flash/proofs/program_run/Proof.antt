@@ -1,4 +1,4 @@
--- `flash::program_run` programs the bytes as far as the budget goes. The invariant: the first `i` are programmed. Assumes nothing.
+-- `flash::program_run` programs the bytes as far as the budget goes. The invariant: the first `i` are programmed, and paid for. Assumes nothing.
 use Prim.Native.Nat.{_-_, _≤_, min}
 use mathlib.Core.Path.{_≡_, refl}
 use native.Mathlib.Omega.{arith}
@@ -12,17 +12,18 @@ use Rattle.flash.proofs.program_run.Statement.{statement}
 use Rattle.flash.proofs.program_run.Tie as tie
 
 abbrev Inv-loop : tie.InvT-loop
-Inv-loop image₀ at bytes budget paid i₀ image i = ProgrammedTo at i bytes image₀ image × (i ≤ min budget (length bytes)) × (length image ≡ length image₀)
+Inv-loop image₀ at bytes budget covered left₀ i₀ image left i =
+    ProgrammedTo at i bytes image₀ image × (left ≡ budget - i) × (i ≤ min budget (length bytes)) × (length image ≡ length image₀)
 
 abbrev μ-loop : tie.MeasureT-loop
-μ-loop image₀ at bytes budget paid i₀ image i = min budget (length bytes) - i
+μ-loop image₀ at bytes budget covered left₀ i₀ image left i = length bytes - i
 
 least-requires : tie.Need-least-requires Inv-loop μ-loop
 least-requires c κs = search needs
 
 loop-holds : tie.Need-loop-holds Inv-loop μ-loop
 unfolding programs run
-loop-holds c = (λ B. refl, omega arith, refl)
+loop-holds c = (λ B. refl, omega arith, omega arith, refl)
 
 add-o : tie.Need-add-o Inv-loop μ-loop
 add-o c = search needs
@@ -36,6 +37,9 @@ shared-slice-read-image c = search needs
 slice-write-image : tie.Need-slice-write-image Inv-loop μ-loop
 slice-write-image c = search needs
 
+sub-left : tie.Need-sub-left Inv-loop μ-loop
+sub-left c = let k = c .before .before .before in omega (arith, k .loop .inv .1, k .before .least .ensures)
+
 add-i : tie.Need-add-i Inv-loop μ-loop
 add-i c = search needs
 
@@ -46,10 +50,12 @@ loop-again : tie.Need-loop-again Inv-loop μ-loop
 loop-again c =
     let k = c .before .before .before in
     let a = k .before .before .before .before .args in
-    (programs-turn (a .at) (k .loop .i) (now (a .bytes)) (now (a .image)) (k .loop .image) (omega (arith, k .before .least .ensures)) (k .loop .inv .0), omega (arith, k .before .least .ensures), simp length-set (k .loop .inv .2))
-
-sub-result : tie.Need-sub-result Inv-loop μ-loop
-sub-result c = search needs
+    let e = k .before .least .ensures in (
+      programs-turn (a .at) (k .loop .i) (now (a .bytes)) (now (a .image)) (k .loop .image) (omega (arith, e)) (k .loop .inv .0),
+      omega (arith, k .loop .inv .1),
+      omega (arith, e),
+      simp length-set (k .loop .inv .3),
+    )
 
 same-length : tie.Need-same-length Inv-loop μ-loop
 same-length c = search needs
@@ -58,8 +64,9 @@ returns : tie.Need-returns Inv-loop μ-loop
 returns c =
     let k = c .before in
     let a = k .before .before .before .before .args in
-    let e : k .before .least .result ≡ k .loop .i = omega (arith, k .before .least .ensures) in
-    rw e (programs-covered (a .at) (a .budget) (k .loop .i) (now (a .bytes)) (now (a .image)) (k .loop .image) (omega (arith, k .before .least .ensures)) (k .loop .inv .0))
+    let e = k .before .least .ensures in
+    let paid : k .loop .left ≡ a .budget - k .loop .i = k .loop .inv .1 in
+    rw paid (programs-covered (a .at) (a .budget) (k .loop .i) (now (a .bytes)) (now (a .image)) (k .loop .image) (omega (arith, e)) (k .loop .inv .0))
 
 pub program-run-spec : {M : Type 1} → statement M
 program-run-spec =
@@ -73,9 +80,9 @@ program-run-spec =
     slice-read-image
     shared-slice-read-image
     slice-write-image
+    sub-left
     add-i
     loop-less
     loop-again
-    sub-result
     same-length
     returns)
