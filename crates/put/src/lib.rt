@@ -50,18 +50,18 @@ fn is_full(segments: usize, slots: usize, plan: Plan, found: Found) -> bool
 }
 
 // Where a block's slot is, if it has to be known before room is made: where nothing will move, or where the answer turns on
-// it. Else a pass over all slots is saved: `old_slot` searches once room was made.
+// it. Else a pass over all slots is saved. `Found::Nothing` is harmless there: below capacity the answer does not turn on
+// it, and `old_slot` searches once room was made.
 fn slot_before(image: &[u8], segments: usize, slots: usize, plan: Plan, block: BlockNumber) -> Found
     requires { ⌜ Ranged segments slots plan × Sized segments slots (length (now image)) × (plan .first .0 + plan .used ≤ 4294967296) ⌝ }
     ensures { λ r. ⌜ r ≡ foundBefore segments slots plan (now (image .entry)) (block .0) ⌝ }
 {
-    if plan.slot < slots {
-        return find::find(image, segments, slots, plan.first, plan.used, block);
+    if slots <= plan.slot {
+        if plan.live < request::capacity(segments, slots) {
+            return Found::Nothing;
+        }
     }
-    if request::capacity(segments, slots) <= plan.live {
-        return find::find(image, segments, slots, plan.first, plan.used, block);
-    }
-    Found::Nothing
+    find::find(image, segments, slots, plan.first, plan.used, block)
 }
 
 // The answer of a put on a clean image, but for a cut.

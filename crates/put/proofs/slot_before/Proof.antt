@@ -1,5 +1,6 @@
 -- `put::slot_before` is the search of the definition, left out where it can be. Assumes nothing.
 use native.Mathlib.Omega.{arith}
+use mathlib.Core.Logic.{⊎-elim}
 use borrow.Author.Tests.{lt-ltb, le-ltb, le-leb, lt-leb}
 use Rattle.model.specs.State.{capacity}
 use Rattle.put.specs.Writing.{foundBefore}
@@ -7,30 +8,26 @@ use borrow.Author.Needs.{needs}
 use Rattle.put.proofs.slot_before.Statement.{statement}
 use Rattle.put.proofs.slot_before.Tie as tie
 
-find-requires : tie.Need-find-requires
-find-requires c κs = search needs
-
-returns : tie.Need-returns
-unfolding foundBefore
-returns c = rw (lt-ltb _ _ (c .before .if1 .taken)) (c .find .ensures)
-
 capacity-requires : tie.Need-capacity-requires
 capacity-requires c κs = search needs
 
-find-requires-2 : tie.Need-find-requires-2
-find-requires-2 c κs = search needs
+returns : tie.Need-returns
+unfolding foundBefore
+returns c =
+    let a = c .before .before .before .before .before .before .args in
+    rw (le-ltb _ _ (c .before .before .before .if1 .taken), lt-leb (capacity (a .segments) (a .slots)) (a .plan .live) (omega arith))
+
+find-requires : tie.Need-find-requires
+find-requires c κs = search needs
 
 returns-2 : tie.Need-returns-2
 unfolding foundBefore
 returns-2 c =
-    let a = c .before .before .before .before .before .before .before .args in
-    rw (le-ltb _ _ (c .before .before .before .before .if1 .left), le-leb (capacity (a .segments) (a .slots)) (a .plan .live) (omega arith)) (c .find2 .ensures)
-
-returns-3 : tie.Need-returns-3
-unfolding foundBefore
-returns-3 c = rw (le-ltb _ _ (c .before .before .before .if1 .left), ← (c .before .before .capacity .ensures .0), lt-leb _ _ (c .if2 .left))
+    let a = c .before .before .before .before .args in
+    ⊎-elim
+    (λ w. rw (le-ltb _ _ (w .0 .taken), le-leb (capacity (a .segments) (a .slots)) (a .plan .live) (omega arith)) (c .find .ensures))
+    (λ w. rw (lt-ltb _ _ (w .left)) (c .find .ensures))
+    (c .before .if1 .came)
 
 pub slot-before-spec : {M : Type 1} → statement M
-slot-before-spec =
-    tie.close
-    (tie.spec find-requires returns capacity-requires find-requires-2 returns-2 returns-3)
+slot-before-spec = tie.close (tie.spec capacity-requires returns find-requires returns-2)
