@@ -22,6 +22,7 @@ use Rattle.model.specs.Laws.SlotPage.{live-facts, write-in-page}
 use Rattle.flash.specs.Ran.{Ran, Programmed}
 use Rattle.flash.proofs.Laws.{_then_, ran-none, ran-length, ran-lent}
 use Rattle.flash.specs.Pages.{OnPageAt, Sized}
+use Rattle.flash.proofs.Pages.{in-page}
 use Rattle.header.specs.Parts.{beginCompaction, finishCopy}
 use Rattle.slot.proofs.Laws.Kinds.{Other, other-holds}
 use Rattle.slot.specs.Parts.{slotParts}
@@ -190,7 +191,7 @@ module _ (N B i t budget : ℕ) (from s : Image) (left copied slot at : ℕ) (c 
       let f : start + B * 256 - start ≡ B * 256 = omega arith in
       let m : t % N ≡ t = mod-eq-of-lt (c .target) in
       let h : firstSlot B t + copied ≡ t * (B + 1) + suc copied = omega arith in
-      let w = d copied refl C in
+      let w = in-page (copied * 256) copied (slotParts page l) refl d C in
       rw (m, ← h, f, e)
       (ran-lent (firstSlot B t) (B * 256) copied s (writeSlot b (take l (drop 8 page))) (c .writes) (omega (arith, c .behind)) (write-within b (take l (drop 8 page)) (omega (arith, v .short, v .long)))
       (rw (f, e, v .writes) at w))

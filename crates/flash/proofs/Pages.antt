@@ -28,10 +28,13 @@ within-part p at k h = within-programs 256 at (take k (drop at p)) (omega (arith
 -- steps that were done on a page lent from the image
 pub on-page : (at : ℕ) (s : Image) (xs : List Step) {n r : ℕ} {q : Page} → at + 256 ≤ length s → Within 256 xs
     → Programmed xs n r (take (at + 256 - at) (drop at s)) q → OnPageAt at xs n r s (take at s ++ (q ++ drop (at + 256 - at) (drop at s)))
-on-page at s xs h w d p e B =
+on-page at s xs h w d B =
     let k : at + 256 - at ≡ 256 = omega arith in
-    let f : shifted at xs ≡ onPage p xs = rw e (shifted-page p xs) in
-    rw (k, ← f) (ran-part at 256 s xs h w (rw k at (d B)))
+    rw k (ran-part at 256 s xs h w (rw k at (d B)))
+
+-- the same as steps in a page of the image
+pub in-page : (at p : ℕ) (xs : List Step) {n r : ℕ} {s t : Image} → at ≡ p * 256 → OnPageAt at xs n r s t → Programmed (onPage p xs) n r s t
+in-page at p xs e d = let f : shifted at xs ≡ onPage p xs = rw e (shifted-page p xs) in rw (← f) d
 
 -- ---- an image of a right size
 

@@ -3,12 +3,11 @@ use Prim.Native.Nat.{ℕ, _+_, _*_, _≤_, _<_}
 use mathlib.Core.Path.{_≡_}
 use mathlib.Core.List.{List}
 use Rattle.model.specs.Chip.{Image, Step}
-use Rattle.model.specs.Steps.{onPage}
-use Rattle.flash.specs.Ran.{Programmed}
+use Rattle.flash.specs.Ran.{Programmed, shifted}
 
--- steps that were done in the page at an offset
+-- steps within a page that were done where it begins, at an offset of the image
 abbrev pub OnPageAt : ℕ → List Step → ℕ → ℕ → Image → Image → Type 0
-OnPageAt at steps budget left from to = (p : ℕ) → at ≡ p * 256 → Programmed (onPage p steps) budget left from to
+OnPageAt at steps budget left from to = Programmed (shifted at steps) budget left from to
 
 -- N and B fit a byte each, and the image has N segments
 pub record Sized (N B bytes : ℕ) : Type 0 where

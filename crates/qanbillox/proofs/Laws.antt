@@ -1,13 +1,20 @@
 -- What the exports pack is small, and is what the definitions give.
-use Prim.Native.Nat.{ℕ, _+_, _*_, _≤_}
+use Prim.Native.Nat.{ℕ, _+_, _*_, _≤_, _<_}
 use mathlib.Core.Path.{_≡_, ap, _∙_}
+use mathlib.Core.Bool.{cond}
+use mathlib.Core.List.{List}
+use native.Mathlib.Nat.{mod-eq-of-lt}
 use native.Mathlib.Omega.{arith}
+use lib.ListN.{length}
 use Rattle.model.specs.Chip.{Image}
+use Rattle.model.specs.Header.{isBlank}
+use Rattle.model.specs.Blank.{blankGroups}
 use Rattle.model.specs.Answers.{Request, codeOf, performed, Outcome, outcomeOf, located, ReadOutcome, readOutcome}
 use Rattle.model.specs.declared.Performed.{Performed}
 use Rattle.model.specs.declared.Located.{Located}
 use Rattle.bridge.specs.Lengths.{few-done, read-small}
-use Rattle.qanbillox.specs.Packed.{packed, Gives, packedRead}
+use Rattle.flash.proofs.Blank.{groups-most}
+use Rattle.qanbillox.specs.Packed.{packed, Gives, packedRead, counts, packedBlank}
 
 pub few : (N B : ℕ) (t : Image) (budget : ℕ) (q : Request) (p : Performed) (s : Image) → performed p s ≡ outcomeOf N B t budget q → p .steps ≤ 4194304
 unfolding performed
@@ -26,3 +33,8 @@ small N B t b p e = let s = read-small N B t b in
 pub tells : (N B : ℕ) (t : Image) (b : ℕ) (p : Located) (r : ℕ) → located p ≡ readOutcome N B t b → r ≡ codeOf (p .answer) + 256 * p .length + 65536 * p .offset → r ≡ packedRead (readOutcome N B t b)
 unfolding located packedRead
 tells N B t b p r e h = h ∙ ap (λ (o : ReadOutcome). o .code + 256 * o .length + 65536 * o .offset) e
+
+-- of fewer bytes than 2 to the 59th, less seven, the blank test's count is told whole
+pub blank-whole : (s : List ℕ) → length s + 7 < 8 * counts → packedBlank s ≡ cond (isBlank s) 1 0 + 256 * blankGroups s
+unfolding packedBlank counts
+blank-whole s h = ap (λ (n : ℕ). cond (isBlank s) 1 0 + 256 * n) (mod-eq-of-lt {n = blankGroups s} {m = counts} (omega (arith, groups-most s)))

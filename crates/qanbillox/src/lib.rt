@@ -7,7 +7,7 @@ ghost use mathlib.Core.Path.{_≡_};
 ghost use mathlib.Core.Bool.{cond};
 ghost use Prim.Native.Nat.{_+_, _*_, _%_, _≤_};
 ghost use Rattle.model.specs.Answers.{codeOf, outcomeOf, readOutcome, format, put, delete, recover};
-ghost use Rattle.qanbillox.specs.Packed.{Gives, packedRead, mostGroups, packedBlank};
+ghost use Rattle.qanbillox.specs.Packed.{Gives, packedRead, counts, packedBlank};
 
 // The answer, and 256 times the steps done: a list never has more than some four million.
 fn packed(p: Performed) -> u64
@@ -29,14 +29,14 @@ fn packed_read(p: Located) -> u64
     request::number_of(answer) + 256 * length + 65536 * offset
 }
 
-// As many groups as the bits above the lowest eight hold.
-const MOST_GROUPS: u64 = 72057594037927936;
+// How many counts the bits above the lowest eight can tell.
+const COUNTS: u64 = 72057594037927936;
 
 // 1 if all are 255, otherwise 0, and 256 times the groups looked at.
 fn packed_blank(t: BlankTest) -> u64
-    ensures { λ r. ⌜ r ≡ cond (t .blank) 1 0 + 256 * (t .groups % mostGroups) ⌝ }
+    ensures { λ r. ⌜ r ≡ cond (t .blank) 1 0 + 256 * (t .groups % counts) ⌝ }
 {
-    let groups = t.groups as u64 % MOST_GROUPS;
+    let groups = t.groups as u64 % COUNTS;
     if t.blank {
         return 1 + 256 * groups;
     }

@@ -10,7 +10,7 @@ use Rattle.model.specs.Steps.{programPart, onPage, headerAt, openSegment, settl
 use Rattle.flash.specs.Ran.{Programmed, Within}
 use Rattle.flash.specs.Pages.{Sized}
 use Rattle.flash.proofs.Laws.{_then_, within-append}
-use Rattle.flash.proofs.Pages.{within-part, on-page, header-inside}
+use Rattle.flash.proofs.Pages.{within-part, on-page, in-page, header-inside}
 use Rattle.header.specs.Parts.{headerBegun, headerFinished, beginCompaction, finishCopy}
 
 pub header-begun : (p : Page) (st : ℕ) {n n₁ n₂ n₃ : ℕ} {s s₁ s₂ s₃ : Image} → Programmed (program 5 st ∷ []) n n₁ s s₁ → Programmed (programPart p 0 5) n₁ n₂ s₁ s₂
@@ -44,7 +44,7 @@ module _ (N B at : ℕ) (s : Image) (made : Page) (sized : Sized N B (length s))
       let i : at + 256 ≤ length s = omega (arith, header-inside N B n (length s) sized) in
       let w = within-append 256 (headerBegun made openingBegun) (headerFinished made opened) (begun-within made openingBegun) (finished-within made opened) in
       rw (← m, ← (append-assoc (programPart made 0 5) (programPart made 6 2) (programPart made 8 8 ++ (program 5 opened ∷ []))))
-      (on-page at s (headerBegun made openingBegun ++ headerFinished made opened) i w (λ C. _then_ (d C) (f C)) (headerAt N B n) e)
+      (in-page at (headerAt N B n) (headerBegun made openingBegun ++ headerFinished made opened) e (on-page at s (headerBegun made openingBegun ++ headerFinished made opened) i w (λ C. _then_ (d C) (f C))))
 
   pub compaction-begun : (o n : ℕ) {b b₁ r : ℕ} {q₁ q : Page} → at ≡ headerAt N B n * 256 → made ≡ headerPage N B erasePending n (o % N)
       → Programmed (headerBegun made compactionBegun) b b₁ (take (at + 256 - at) (drop at s)) q₁ → Programmed (programPart made 16 1) b₁ r q₁ q
@@ -54,7 +54,7 @@ module _ (N B at : ℕ) (s : Image) (made : Page) (sized : Sized N B (length s))
       let i : at + 256 ≤ length s = omega (arith, header-inside N B n (length s) sized) in
       let w = within-append 256 (headerBegun made compactionBegun) (programPart made 16 1) (begun-within made compactionBegun) (within-part made 16 1 (omega arith)) in
       rw (← m, ← (append-assoc (programPart made 0 5) (programPart made 6 2) (programPart made 16 1)))
-      (on-page at s (headerBegun made compactionBegun ++ programPart made 16 1) i w (λ C. _then_ (d C) (f C)) (headerAt N B n) e)
+      (in-page at (headerAt N B n) (headerBegun made compactionBegun ++ programPart made 16 1) e (on-page at s (headerBegun made compactionBegun ++ programPart made 16 1) i w (λ C. _then_ (d C) (f C))))
 
   pub copy-finished : (o n : ℕ) {b r : ℕ} {q : Page} → at ≡ headerAt N B n * 256 → made ≡ headerPage N B erasePending n (o % N)
       → Programmed (headerFinished made erasePending) b r (take (at + 256 - at) (drop at s)) q
@@ -62,7 +62,7 @@ module _ (N B at : ℕ) (s : Image) (made : Page) (sized : Sized N B (length s))
   unfolding finishCopy headerFinished
   copy-finished o n e m d =
       let i : at + 256 ≤ length s = omega (arith, header-inside N B n (length s) sized) in
-      rw (← m) (on-page at s (headerFinished made erasePending) i (finished-within made erasePending) d (headerAt N B n) e)
+      rw (← m) (in-page at (headerAt N B n) (headerFinished made erasePending) e (on-page at s (headerFinished made erasePending) i (finished-within made erasePending) d))
 
 pub settled : (N B n at : ℕ) {b r : ℕ} {s t : Image} → at ≡ headerAt N B n * 256 → Programmed (program (at + 5) compacted ∷ []) b r s t → Programmed (settle N B n) b r s t
 unfolding settle onPage

@@ -18,7 +18,7 @@ use Rattle.find.proofs.Callers.{Inside, found-inside, FoundAt, found-at, found-
 use Rattle.flash.specs.Ran.{Ran}
 use Rattle.flash.proofs.Laws.{_then_, ran-length, ran-left}
 use Rattle.flash.specs.Pages.{Sized, OnPageAt}
-use Rattle.flash.proofs.Pages.{sized}
+use Rattle.flash.proofs.Pages.{in-page, sized}
 use Rattle.room.specs.declared.Room.{Room}
 use Rattle.request.specs.Request.{Finished}
 use Rattle.put.specs.Writing.{Ready, lastSteps, Wrote}
@@ -62,7 +62,7 @@ module _ (N B : ℕ) (r : Room) (f : Found) (b : ℕ) (c : List ℕ) (budget : �
   module _ (at before written : ℕ) {w : Image} (e : at ≡ slotAt N B (r .first .0 + r .used - 1) (r .slot) * 256) (d : OnPageAt at (writeSlot b c) before written t w) where
     ran-top : Ran (writeAtTop N B b c v) B before written t w
     unfolding writeAtTop
-    ran-top = d page (place-page at e) B
+    ran-top = in-page at page (writeSlot b c) (place-page at e) d B
 
     pub write-left : written ≤ before
     write-left = ran-left ran-top
@@ -86,7 +86,7 @@ module _ (N B : ℕ) (r : Room) (f : Found) (b : ℕ) (c : List ℕ) (budget : �
       old-page = slotAt N B (placeOf b v .number) (placeOf b v .slot)
 
       ran-old : Ran (onPage old-page markDead) B written left w x
-      ran-old = g old-page (old-at q n o .place) B
+      ran-old = in-page (q .0) old-page markDead (old-at q n o .place) g B
 
       pub mark-left : left ≤ written
       mark-left = ran-left ran-old

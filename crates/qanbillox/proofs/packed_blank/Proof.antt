@@ -1,6 +1,6 @@
 -- `qanbillox::packed_blank` packs what the blank test tells. Assumes nothing.
 use native.Mathlib.Omega.{arith}
-use Rattle.qanbillox.specs.Packed.{mostGroups}
+use Rattle.qanbillox.specs.Packed.{counts}
 use borrow.Author.Needs.{needs}
 use Rattle.qanbillox.proofs.packed_blank.Statement.{statement}
 use Rattle.qanbillox.proofs.packed_blank.Tie as tie
@@ -12,14 +12,14 @@ add-result : tie.Need-add-result
 add-result c = search needs
 
 returns : tie.Need-returns
-unfolding mostGroups
+unfolding counts
 returns c = rw (c .if1 .taken)
 
 mul-result-2 : tie.Need-mul-result-2
 mul-result-2 c = search needs
 
 returns-2 : tie.Need-returns-2
-unfolding mostGroups
+unfolding counts
 returns-2 c = rw (c .if1 .left) (omega arith)
 
 pub packed-blank-spec : {M : Type 1} → statement M

@@ -2,14 +2,14 @@
 use Prim.Native.Nat.{ℕ, zero, suc, _+_, _-_, _*_, _/_, _%_, _≤_}
 use mathlib.Core.Path.{_≡_, refl, sym, ap, ap₂, _∙_}
 use mathlib.Core.List.{List, [], _∷_, _++_}
-use native.Mathlib.Nat.{sub-zero, zero-sub, suc-sub-suc}
+use native.Mathlib.Nat.{add-zero, sub-zero, zero-sub, suc-sub-suc}
 use native.Mathlib.Omega.{arith}
 use lib.ListN.{length, take, drop, set, replicate}
 use lib.Seq.{paste, take-length, drop-drop}
 use Rattle.model.specs.Chip.{Image, Page, program, erased}
 use Rattle.model.specs.Slot.{mostContents, slotPage}
-use Rattle.model.specs.Steps.{programPart, onPage, writeSlot, markDead}
-use Rattle.flash.specs.Ran.{Programmed, Within}
+use Rattle.model.specs.Steps.{programPart, writeSlot, markDead}
+use Rattle.flash.specs.Ran.{Programmed, shifted, Within}
 use Rattle.flash.specs.Pages.{OnPageAt}
 use Rattle.flash.proofs.Laws.{_then_, within-append}
 use Rattle.flash.proofs.Pages.{within-part, on-page}
@@ -41,14 +41,12 @@ pub page-written : (at k : ℕ) (s : Image) (p : Page) {n r : ℕ} {q : Page} �
 page-written at k s p h l d = on-page at s (slotParts p k) h (slot-within p k l) d
 
 -- the page of a live slot writes that slot
-pub slot-written : (b : ℕ) (c : List ℕ) (p : Page) {at n r : ℕ} {s t : Image} → p ≡ slotPage b c → OnPageAt at (slotParts p (length c)) n r s t → OnPageAt at (writeSlot b c) n r s t
-slot-written b c p e d = rw (← (slot-parts b c), ← e) d
+pub slot-written : (at b : ℕ) (c : List ℕ) (p : Page) {n r : ℕ} {s t : Image} → p ≡ slotPage b c → OnPageAt at (slotParts p (length c)) n r s t → OnPageAt at (writeSlot b c) n r s t
+slot-written at b c p e d = rw (← (slot-parts b c), ← e) d
 
 pub marked : (at : ℕ) {n r : ℕ} {s t : Image} → Programmed (program at 0xDF ∷ []) n r s t → OnPageAt at markDead n r s t
-unfolding markDead onPage
-marked at {n} {r} {s} {t} d p e B =
-    let f : p * 256 + 0 ≡ at = omega arith in
-    rw f (d B)
+unfolding markDead shifted
+marked at d = rw (add-zero at) d
 
 -- the page of a slot: the bytes before the contents, then the contents one by one
 drop-replicate : (n k v : ℕ) → drop n (replicate k v) ≡ replicate (k - n) v

@@ -20,7 +20,7 @@ same-length c = search needs
 returns : tie.Need-returns
 returns c =
     let a = c .before .before .before .before .before .before .before .before .args in
-    slot-written (a .block .0) (now (a .contents)) _ (c .before .before .before .before .before .slot-page .ensures) (c .before .before .write-page .ensures)
+    slot-written (a .place .0) (a .block .0) (now (a .contents)) _ (c .before .before .before .before .before .slot-page .ensures) (c .before .before .write-page .ensures)
 
 pub write-slot-spec : {M : Type 1} → statement M
 write-slot-spec =
