@@ -42,9 +42,9 @@ fn main() {
 /// All requests on a chip with this many blocks.
 fn chip(g: Geometry, blocks: usize, runs: usize) {
     let slots = (g.n - 1) * g.b;
-    let roomy = after_puts(g, blocks, blocks, 0);
+    let roomy = written(g, blocks, blocks, 0);
     // So many that the next put has to compact: the dead slots are in the oldest segments.
-    let crowded = after_puts(g, slots, blocks, 0);
+    let crowded = written(g, slots, blocks, 0);
     let cut = erase_pending(&crowded, g);
     let middle = (blocks / 2) as u16;
 
@@ -57,7 +57,7 @@ fn chip(g: Geometry, blocks: usize, runs: usize) {
     write_row("put, compacting first", &crowded, g, &put(1), runs);
     if blocks == g.capacity() {
         // The one dead slot is the top's last, so that every segment is compacted.
-        let packed = after_puts(g, slots, blocks, slots - 1);
+        let packed = written(g, slots, blocks, slots - 1);
         write_row("put, compacting everything", &packed, g, &put(1), runs);
     }
     read_row("read", &roomy, g, middle, runs);
@@ -78,17 +78,17 @@ fn chip(g: Geometry, blocks: usize, runs: usize) {
 // Images
 // ---------------------------------------------------------------------------------------------
 
-/// A fresh chip with this many written slots, of the blocks in turn. All but so many are dead, one
-/// after the other from a place on.
-fn after_puts(g: Geometry, puts: usize, blocks: usize, dead_from: usize) -> Vec<u8> {
+/// A fresh chip with this many written slots, of the blocks in turn. As many of them are live as
+/// there are blocks; the dead ones stand together, from a place on.
+fn written(g: Geometry, slots: usize, blocks: usize, dead_from: usize) -> Vec<u8> {
     let mut image = vec![0xFF; g.n * g.segment_len()];
-    for i in 0..puts {
+    for i in 0..slots {
         let number = (i / g.b) as u32;
         if i % g.b == 0 {
             pages::write_header(&mut image, g, number, OPENED);
         }
         let at = g.page(g.index(number), 1 + i % g.b);
-        let dead = dead_from..dead_from + (puts - blocks);
+        let dead = dead_from..dead_from + (slots - blocks);
         let status = if dead.contains(&i) { DEAD } else { LIVE };
         let block = (i % blocks) as u16 + 1;
         pages::write_slot_page(&mut image[at..at + PAGE], status, block, &CONTENTS);

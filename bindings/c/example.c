@@ -45,7 +45,7 @@ static int blank(int all, uint64_t groups)
 {
     uint64_t result = qbx_is_blank(image + sizeof image / SEGMENTS, sizeof image / SEGMENTS);
 
-    printf("%-28s %s, %llu groups\n", "the last segment is blank", qbx_blank_of(result) ? "yes" : "no",
+    printf("%-28s %s, groups looked at: %llu\n", "the last segment is blank", qbx_blank_of(result) ? "yes" : "no",
            (unsigned long long)qbx_groups_of(result));
     return qbx_blank_of(result) != all || qbx_groups_of(result) != groups;
 }
