@@ -1,11 +1,11 @@
 -- Laws of the blank test: bytes joined by `&`; bytes split in two; groups of eight before the first that differs.
 use Prim.Native.Nat.{ℕ, zero, suc, _+_, _-_, _*_, _/_, _%_, _≤_, _<_, min}
 use mathlib.Core.Path.{_≡_, refl, sym, ap, _∙_}
-use mathlib.Core.Logic.{inl, inr, ⊎-elim}
+use mathlib.Core.Logic.{_⊎_, inl, inr, ⊎-elim}
 use mathlib.Core.Bool.{Bool, true, false, cond, _&&_, and-true, and-assoc, false≢true}
 use mathlib.Core.List.{List, [], _∷_, _++_}
 use native.Mathlib.Decide.{decLt}
-use native.Mathlib.Nat.{zero-add, suc-mul, mod-eq-of-lt, min-eq-left, min-eq-right}
+use native.Mathlib.Nat.{zero-add, add-comm, suc-mul, mod-eq-of-lt, min-eq-left, min-eq-right}
 use native.Mathlib.Numerals.{add-one}
 use native.Mathlib.Omega.{arith}
 use lib.ListN.{length, getD, take, drop, take-append-drop, length-drop, drop-of-length-le}
@@ -16,7 +16,7 @@ use borrow.Author.Tests.{eq-eqb, ne-eqb}
 use Rattle.model.specs.Lists.{same, chunk}
 use Rattle.model.specs.Laws.Lists.{and-left, and-right}
 use Rattle.model.specs.Laws.Chunk.{chunk-length}
-use Rattle.flash.specs.Leading.{Leading}
+use Rattle.flash.specs.Leading.{leadingBlank}
 use Rattle.model.specs.Chip.{erased}
 use Rattle.model.specs.Header.{isBlank}
 use Rattle.model.specs.Blank.{groupsOf, lookedAt, blankGroups}
@@ -115,25 +115,72 @@ groups-behind (suc k) s h e =
 part-is : (at z : ℕ) (s : List ℕ) → take (at + z - at) (drop at s) ≡ take z (drop at s)
 part-is at z s = let n : at + z - at ≡ z = omega arith in rw n
 
-module _ (z c : ℕ) (s : List ℕ) (k : ℕ) (blank : isBlank (take (k * z) s) ≡ true) where
-  pub part-turn : isBlank (take (k * z + z - k * z) (drop (k * z) s)) ≡ true → isBlank (take ((k + 1) * z) s) ≡ true
-  part-turn e =
-      let l : (k + 1) * z ≡ k * z + z = rw (add-one k, suc-mul k z) in
-      rw (l, blank-two (k * z) z s, blank, ← part-is (k * z) z s) e
+-- of c parts of z bytes the first k are blank, and the next is not, or there is none
+pub record Leading (z c : ℕ) (s : List ℕ) (k : ℕ) : Type 0 where
+  pub within : k ≤ c
+  pub blank : isBlank (take (k * z) s) ≡ true
+  pub stops : (k ≡ c) ⊎ (isBlank (take z (drop (k * z) s)) ≡ false)
 
-  pub part-differs : k < c → isBlank (take (k * z + z - k * z) (drop (k * z) s)) ≡ false → Leading z c s k
-  part-differs h e = record { within = omega arith; blank = blank; stops = inr (ap isBlank (sym (part-is (k * z) z s)) ∙ e) }
-
-  pub parts-whole : k ≡ c → Leading z c s k
-  parts-whole h = record { within = omega arith; blank = blank; stops = inl h }
+-- so many parts come before the first that differs
+abbrev pub Leads : ℕ → ℕ → List ℕ → ℕ → Type 0
+Leads z c s k = k ≡ leadingBlank (chunk c z s)
 
 pub no-part : (z : ℕ) (s : List ℕ) → isBlank (take (0 * z) s) ≡ true
 unfolding isBlank
 no-part z s = let e : 0 * z ≡ 0 = omega arith in rw e
 
+-- the two say the same
+leading-is : (z c : ℕ) (s : List ℕ) (k : ℕ) → Leading z c s k → Leads z c s k
+unfolding leadingBlank chunk
+leading-is z zero s k d = omega (arith, d .within)
+leading-is z (suc c) s zero d = ⊎-elim (λ e. absurd (omega arith)) (λ e. rw (first e)) (d .stops)
+  where
+    first : isBlank (take z (drop (0 * z) s)) ≡ false → isBlank (take z s) ≡ false
+    first e = let n : 0 * z ≡ 0 = omega arith in rw n at e
+leading-is z (suc c) s (suc k) d =
+    let n : suc k * z ≡ z + k * z = suc-mul k z ∙ add-comm (k * z) z in
+    let two : (isBlank (take z s) && isBlank (take (k * z) (drop z s))) ≡ true = sym (blank-two z (k * z) s) ∙ rw (← n) (d .blank) in
+    let one : isBlank (take z s) ≡ true = and-left (isBlank (take z s)) (isBlank (take (k * z) (drop z s))) two in
+    let more : Leading z c (drop z s) k = record {
+      within = omega (arith, d .within);
+      blank = and-right (isBlank (take z s)) (isBlank (take (k * z) (drop z s))) two;
+      stops = ⊎-elim (λ e. inl (omega arith)) (λ e. inr (rw (drop-drop (k * z) z s, ← n) e)) (d .stops);
+    } in
+    rw one (ap suc (leading-is z c (drop z s) k more))
+
+grow : (z c : ℕ) (s : List ℕ) (b : Bool) (r : ℕ) → isBlank (take z s) ≡ b → Leading z c (drop z s) r → Leading z (suc c) s (cond b (suc r) 0)
+grow z c s false r f d = let n : 0 * z ≡ 0 = omega arith in record { within = omega arith; blank = no-part z s; stops = inr (rw n f) }
+grow z c s true r f d =
+    let n : suc r * z ≡ z + r * z = suc-mul r z ∙ add-comm (r * z) z in
+    record {
+      within = omega (arith, d .within);
+      blank = rw (n, blank-two z (r * z) s, f) (d .blank);
+      stops = ⊎-elim (λ e. inl (ap suc e)) (λ e. inr (rw (n, ← drop-drop (r * z) z s) e)) (d .stops);
+    }
+
+pub leads : (z c : ℕ) (s : List ℕ) (k : ℕ) → Leads z c s k → Leading z c s k
+unfolding leadingBlank chunk
+leads z zero s k e = rw e (record { within = omega arith; blank = no-part z s; stops = inl refl })
+leads z (suc c) s k e = rw e (grow z c s (isBlank (take z s)) (leadingBlank (chunk c z (drop z s))) refl (leads z c (drop z s) (leadingBlank (chunk c z (drop z s))) refl))
+
+-- a loop over parts: a turn, and its ways out
+module _ (z : ℕ) (s : List ℕ) (k : ℕ) (blank : isBlank (take (k * z) s) ≡ true) where
+  pub part-turn : isBlank (take (k * z + z - k * z) (drop (k * z) s)) ≡ true → isBlank (take ((k + 1) * z) s) ≡ true
+  part-turn e =
+      let l : (k + 1) * z ≡ k * z + z = rw (add-one k, suc-mul k z) in
+      rw (l, blank-two (k * z) z s, blank, ← part-is (k * z) z s) e
+
+  pub part-differs : (c : ℕ) → k < c → isBlank (take (k * z + z - k * z) (drop (k * z) s)) ≡ false → Leads z c s k
+  part-differs c h e = leading-is z c s k (record { within = omega arith; blank = blank; stops = inr (ap isBlank (sym (part-is (k * z) z s)) ∙ e) })
+
+  pub parts-whole : (c : ℕ) → k ≡ c → Leads z c s k
+  parts-whole c h = leading-is z c s k (record { within = omega arith; blank = blank; stops = inl h })
+
 -- a part that differs stops it among more parts too
-pub stops-among : (z c d : ℕ) (s : List ℕ) (k : ℕ) → Leading z c s k → k < c → c ≤ d → Leading z d s k
-stops-among z c d s k l h m = record { within = omega arith; blank = l .blank; stops = ⊎-elim (λ e. absurd (omega arith)) inr (l .stops) }
+pub stops-among : (z c d : ℕ) (s : List ℕ) (k : ℕ) → Leads z c s k → k < c → c ≤ d → Leads z d s k
+stops-among z c d s k e h m =
+    let l = leads z c s k e in
+    leading-is z d s k (record { within = omega arith; blank = l .blank; stops = ⊎-elim (λ q. absurd (omega arith)) inr (l .stops) })
 
 -- ---- four groups at a time
 
@@ -154,56 +201,76 @@ module _ (s : List ℕ) (i k : ℕ) (blank : isBlank (take (i * 32) s) ≡ true)
       ap (drop (k * 8)) (sym (take-append-drop 32 rest)) ∙ drop-append-le (k * 8) (take 32 rest) (drop 32 rest) (omega (arith, four-long)) in
       ap (take 8) split ∙ take-append-le 8 (drop (k * 8) (take 32 rest)) (drop 32 rest) (omega (arith, four-long, length-drop (k * 8) (take 32 rest)))
 
-  pub four-turn : Leading 8 4 four k → 4 ≤ k → isBlank (take ((i + 1) * 32) s) ≡ true
-  four-turn d h =
+  pub four-turn : Leads 8 4 four k → 4 ≤ k → isBlank (take ((i + 1) * 32) s) ≡ true
+  four-turn t h =
+      let d = leads 8 4 four k t in
       let e : k * 8 ≡ 32 = omega (arith, d .within) in
       let f : four ≡ take 32 rest = part-is (i * 32) 32 s in
-      part-turn 32 (length s / 32) s i blank (rw f (ap isBlank (sym (take-take 32 32 rest (omega arith))) ∙ (rw (f, e) at (d .blank))))
+      part-turn 32 s i blank (rw f (ap isBlank (sym (take-take 32 32 rest (omega arith))) ∙ (rw (f, e) at (d .blank))))
 
-  pub four-stops : Leading 8 4 four k → k < 4 → Leading 8 (4 * (length s / 32)) s (4 * i + k)
-  four-stops d h =
+  pub four-stops : Leads 8 4 four k → k < 4 → Leads 8 (4 * (length s / 32)) s (4 * i + k)
+  four-stops t h =
+      let d = leads 8 4 four k t in
       let n : (4 * i + k) * 8 ≡ i * 32 + k * 8 = omega arith in
       let f : four ≡ take 32 rest = part-is (i * 32) 32 s in
       let b : isBlank (take (k * 8) rest) ≡ true = ap isBlank (sym (take-take (k * 8) 32 rest (omega arith))) ∙ (rw f at (d .blank)) in
-      record {
+      leading-is 8 (4 * (length s / 32)) s (4 * i + k) (record {
         within = omega arith;
         blank = rw (n, blank-two (i * 32) (k * 8) s, blank) b;
         stops = ⊎-elim (λ e. absurd (omega arith)) (λ e. inr (rw (n, ← drop-drop (k * 8) (i * 32) s, group-same h) (rw f at e))) (d .stops);
-      }
+      })
 
 -- ---- with a shorter last group
 
 module _ (s : List ℕ) where
   abbrev Before : ℕ → Type 0
-  Before k = Leading 8 ((length s + 7) / 8) s k
+  Before k = k ≡ leadingBlank (groupsOf s)
 
-  pub before-whole : {k : ℕ} → length s % 8 ≡ 0 → Leading 8 (length s / 8) s k → Before k
-  before-whole h d = let e : (length s + 7) / 8 ≡ length s / 8 = omega arith in rw e d
+  -- as many groups as there are
+  abbrev all : ℕ
+  all = (length s + 7) / 8
+
+  before : (k : ℕ) → Leading 8 all s k → Before k
+  unfolding groupsOf
+  before k d = leading-is 8 all s k d
+
+  pub before-whole : (k : ℕ) → length s % 8 ≡ 0 → Leads 8 (length s / 8) s k → Before k
+  unfolding groupsOf
+  before-whole k h e = let c : all ≡ length s / 8 = omega arith in rw c e
 
   -- one group, and no whole one
   pub before-one : (length s % 8 ≡ 0 → ⊥) → length s < 8 → isBlank s ≡ true → Before 1
-  before-one h l e = record { within = omega arith; blank = rw (take-all 8 s (omega arith)) e; stops = inl (omega arith) }
+  before-one h l e = before 1 (record { within = omega arith; blank = rw (take-all 8 s (omega arith)) e; stops = inl (omega arith) })
 
   pub before-none : length s < 8 → isBlank s ≡ false → Before 0
-  before-none l e = record { within = omega arith; blank = no-part 8 s; stops = inr (rw (take-all 8 s (omega arith)) e) }
+  before-none l e = before 0 (record { within = omega arith; blank = no-part 8 s; stops = inr (rw (take-all 8 s (omega arith)) e) })
 
-  module _ (k : ℕ) (d : Leading 8 (length s / 8) s k) where
-    module _ (none : length s / 8 ≤ k) (some : 8 ≤ length s) where
-      -- the last eight bytes decide, since those before are blank
-      last-decides : isBlank (take (length s - (length s - 8)) (drop (length s - 8) s)) ≡ isBlank s
-      last-decides =
-          ap isBlank (take-all (length s - (length s - 8)) (drop (length s - 8) s) (omega (arith, length-drop (length s - 8) s)))
-          ∙ sym (blank-rest (length s - 8) s (blank-shorter (length s - 8) (k * 8) s (omega (arith, d .within)) (d .blank)))
+  pub before-stops : (k : ℕ) → Leads 8 (length s / 8) s k → k < length s / 8 → Before k
+  unfolding groupsOf
+  before-stops k e h = stops-among 8 (length s / 8) all s k e h (omega arith)
 
-      pub before-all : (length s % 8 ≡ 0 → ⊥) → isBlank (take (length s - (length s - 8)) (drop (length s - 8) s)) ≡ true → Before (k + 1)
-      before-all h e =
-          let all : take ((k + 1) * 8) s ≡ s = take-all ((k + 1) * 8) s (omega (arith, d .within)) in
-          record { within = omega (arith, d .within); blank = rw all (sym last-decides ∙ e); stops = inl (omega (arith, d .within)) }
+  -- the last eight bytes decide, since those before are blank
+  abbrev Last : List ℕ
+  Last = take (length s - (length s - 8)) (drop (length s - 8) s)
 
-      pub before-rest : isBlank (take (length s - (length s - 8)) (drop (length s - 8) s)) ≡ false → Before k
-      before-rest e =
-          let rest : take 8 (drop (k * 8) s) ≡ drop (k * 8) s = take-all 8 (drop (k * 8) s) (omega (arith, d .within, length-drop (k * 8) s)) in
-          record { within = omega (arith, d .within); blank = d .blank; stops = inr (rw rest (sym (blank-rest (k * 8) s (d .blank)) ∙ (sym last-decides ∙ e))) }
+  module _ (k : ℕ) (told : Leads 8 (length s / 8) s k) (none : length s / 8 ≤ k) (some : 8 ≤ length s) where
+    whole-leads : Leading 8 (length s / 8) s k
+    whole-leads = leads 8 (length s / 8) s k told
+
+    last-decides : isBlank Last ≡ isBlank s
+    last-decides =
+        ap isBlank (take-all (length s - (length s - 8)) (drop (length s - 8) s) (omega (arith, length-drop (length s - 8) s)))
+        ∙ sym (blank-rest (length s - 8) s (blank-shorter (length s - 8) (k * 8) s (omega (arith, whole-leads .within)) (whole-leads .blank)))
+
+    pub before-all : (length s % 8 ≡ 0 → ⊥) → isBlank Last ≡ true → Before (k + 1)
+    before-all h e =
+        let whole : take ((k + 1) * 8) s ≡ s = take-all ((k + 1) * 8) s (omega (arith, whole-leads .within)) in
+        before (k + 1) (record { within = omega (arith, whole-leads .within); blank = rw whole (sym last-decides ∙ e); stops = inl (omega (arith, whole-leads .within)) })
+
+    pub before-rest : isBlank Last ≡ false → Before k
+    before-rest e =
+        let rest : take 8 (drop (k * 8) s) ≡ drop (k * 8) s = take-all 8 (drop (k * 8) s) (omega (arith, whole-leads .within, length-drop (k * 8) s)) in
+        before k (record { within = omega (arith, whole-leads .within); blank = whole-leads .blank; stops = inr (rw rest (sym (blank-rest (k * 8) s (whole-leads .blank)) ∙ (sym last-decides ∙ e))) })
 
 -- every group blank
 groups-all : (c : ℕ) (s : List ℕ) → isBlank s ≡ true → lookedAt (chunk c 8 s) ≡ c
@@ -214,35 +281,42 @@ groups-all (suc c) s e =
     rw (and-left (isBlank (take 8 s)) (isBlank (drop 8 s)) two) (ap suc (groups-all c (drop 8 s) (and-right (isBlank (take 8 s)) (isBlank (drop 8 s)) two)))
 
 -- what the groups before the first that differs tell
-module _ (s : List ℕ) (k : ℕ) (d : Leading 8 ((length s + 7) / 8) s k) where
-  abbrev all : ℕ
-  all = (length s + 7) / 8
+module _ (s : List ℕ) (k : ℕ) (told : k ≡ leadingBlank (groupsOf s)) where
+  abbrev count : ℕ
+  count = (length s + 7) / 8
 
   abbrev Tested : Type 0
-  Tested = (eqb k all ≡ isBlank s) × (min (k + 1) all ≡ blankGroups s)
+  Tested = (eqb k count ≡ isBlank s) × (min (k + 1) count ≡ blankGroups s)
 
-  none-differs : k ≡ all → Tested
+  before-leads : Leading 8 count s k
+  unfolding groupsOf
+  before-leads = leads 8 count s k told
+
+  pub before-within : k ≤ count
+  before-within = before-leads .within
+
+  none-differs : k ≡ count → Tested
   unfolding blankGroups groupsOf
   none-differs e =
       let whole : take (k * 8) s ≡ s = take-all (k * 8) s (omega arith) in
-      let blank : isBlank s ≡ true = rw whole at (d .blank) in
-      (eq-eqb k all e ∙ sym blank, min-eq-right {n = all} {m = k + 1} (omega arith) ∙ sym (groups-all all s blank))
+      let blank : isBlank s ≡ true = rw whole at (before-leads .blank) in
+      (eq-eqb k count e ∙ sym blank, min-eq-right {n = count} {m = k + 1} (omega arith) ∙ sym (groups-all count s blank))
 
-  one-left : isBlank (take 8 (drop (k * 8) s)) ≡ false → k < all
+  one-left : isBlank (take 8 (drop (k * 8) s)) ≡ false → k < count
   unfolding isBlank
-  one-left e = elim (decLt k all) [ yes h ↦ h | no h ↦ absurd (none (omega (arith, d .within))) ]
+  one-left e = elim (decLt k count) [ yes h ↦ h | no h ↦ absurd (none (omega (arith, before-leads .within))) ]
     where
       none : length s ≤ k * 8 → ⊥
       none l = false≢true (sym e ∙ rw (drop-of-length-le s {i = k * 8} l))
 
-  one-differs : isBlank (take 8 (drop (k * 8) s)) ≡ false → k < all → Tested
+  one-differs : isBlank (take 8 (drop (k * 8) s)) ≡ false → k < count → Tested
   one-differs e h = (
-    ne-eqb k all (λ q. omega arith) ∙ sym (blank-rest (k * 8) s (d .blank) ∙ blank-split 8 (drop (k * 8) s) ∙ ap (λ (b : Bool). b && isBlank (drop 8 (drop (k * 8) s))) e),
-    min-eq-left {n = k + 1} {m = all} (omega arith) ∙ sym (groups-behind k s (omega arith) (d .blank) ∙ ap (λ (n : ℕ). k + n) (groups-next (drop (k * 8) s) (omega (arith, length-drop (k * 8) s)) ∙ rw e)),
+    ne-eqb k count (λ q. omega arith) ∙ sym (blank-rest (k * 8) s (before-leads .blank) ∙ blank-split 8 (drop (k * 8) s) ∙ ap (λ (b : Bool). b && isBlank (drop 8 (drop (k * 8) s))) e),
+    min-eq-left {n = k + 1} {m = count} (omega arith) ∙ sym (groups-behind k s (omega arith) (before-leads .blank) ∙ ap (λ (n : ℕ). k + n) (groups-next (drop (k * 8) s) (omega (arith, length-drop (k * 8) s)) ∙ rw e)),
   )
 
   pub tested : Tested
-  tested = ⊎-elim none-differs (λ e. one-differs e (one-left e)) (d .stops)
+  tested = ⊎-elim none-differs (λ e. one-differs e (one-left e)) (before-leads .stops)
 
 -- ---- how many groups there are at most
 

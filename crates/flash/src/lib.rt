@@ -4,12 +4,13 @@ ghost use mathlib.Core.Path.{_≡_};
 ghost use mathlib.Core.List.{[], _∷_};
 ghost use Prim.Native.Nat.{_+_, _*_, _/_, _<_, _≤_, min};
 ghost use lib.ListN.{length};
+ghost use Rattle.model.specs.Lists.{chunk};
 ghost use Rattle.model.specs.Chip.{program, erase};
 ghost use Rattle.model.specs.Header.{isBlank};
-ghost use Rattle.model.specs.Blank.{blankGroups};
+ghost use Rattle.model.specs.Blank.{groupsOf, blankGroups};
 ghost use Rattle.model.specs.Steps.{programs, programPart};
 ghost use Rattle.flash.specs.Ran.{Ran, Programmed};
-ghost use Rattle.flash.specs.Leading.{Leading};
+ghost use Rattle.flash.specs.Leading.{leadingBlank};
 
 // Programs one byte.
 pub fn program_byte(image: &mut [u8], at: usize, value: u8, budget: u64) -> u64
@@ -106,7 +107,7 @@ fn rest_blank(rest: &[u8]) -> bool
 // How many of four groups come before the first that differs.
 fn leading_four(four: &[u8]) -> usize
     requires { ⌜ length (now four) ≡ 32 ⌝ }
-    ensures { λ r. ⌜ Leading 8 4 (now (four .entry)) r ⌝ }
+    ensures { λ r. ⌜ r ≡ leadingBlank (chunk 4 8 (now (four .entry))) ⌝ }
 {
     if !group_blank(&four[0..8]) {
         return 0;
@@ -125,7 +126,7 @@ fn leading_four(four: &[u8]) -> usize
 
 // The same of as many times four groups as there are. With four to a turn the loop itself costs little.
 fn leading_fours(bytes: &[u8]) -> usize
-    ensures { λ r. ⌜ Leading 8 (4 * (length (now (bytes .entry)) / 32)) (now (bytes .entry)) r ⌝ }
+    ensures { λ r. ⌜ r ≡ leadingBlank (chunk (4 * (length (now (bytes .entry)) / 32)) 8 (now (bytes .entry))) ⌝ }
 {
     let fours = bytes.len() / 32;
     let mut i = 0;
@@ -143,7 +144,7 @@ fn leading_fours(bytes: &[u8]) -> usize
 
 // The same of all whole groups.
 fn leading(bytes: &[u8]) -> usize
-    ensures { λ r. ⌜ Leading 8 (length (now (bytes .entry)) / 8) (now (bytes .entry)) r ⌝ }
+    ensures { λ r. ⌜ r ≡ leadingBlank (chunk (length (now (bytes .entry)) / 8) 8 (now (bytes .entry))) ⌝ }
 {
     let whole = bytes.len() / 8;
     let mut groups = leading_fours(bytes);
@@ -164,7 +165,7 @@ fn leading(bytes: &[u8]) -> usize
 // The same with a shorter last group. (`leading` is called in two places and so stays a call; the rest is small enough to
 // become part of whatever asks for the test.)
 fn blank_before(bytes: &[u8]) -> usize
-    ensures { λ r. ⌜ Leading 8 ((length (now (bytes .entry)) + 7) / 8) (now (bytes .entry)) r ⌝ }
+    ensures { λ r. ⌜ r ≡ leadingBlank (groupsOf (now (bytes .entry))) ⌝ }
 {
     if bytes.len() % 8 == 0 {
         return leading(bytes);

@@ -1,8 +1,10 @@
 -- `flash::blank_before` counts the groups before the first that differs, with a shorter last one. Assumes nothing.
+use Prim.Native.Nat.{_/_}
 use mathlib.Core.Path.{sym, _∙_}
 use native.Mathlib.Omega.{arith}
 use denote.Ref.{now}
-use Rattle.flash.proofs.Blank.{stops-among, before-whole, before-one, before-none, before-all, before-rest}
+use lib.ListN.{length}
+use Rattle.flash.proofs.Blank.{leads, before-whole, before-one, before-none, before-stops, before-all, before-rest}
 use borrow.Author.Needs.{needs}
 use Rattle.flash.proofs.blank_before.Statement.{statement}
 use Rattle.flash.proofs.blank_before.Tie as tie
@@ -11,7 +13,7 @@ leading-requires : tie.Need-leading-requires
 leading-requires c κs = search needs
 
 returns : tie.Need-returns
-returns c = before-whole (now (c .before .before .before .args .bytes)) (omega arith) (c .leading .ensures)
+returns c = before-whole (now (c .before .before .before .args .bytes)) _ (omega arith) (c .leading .ensures)
 
 rest-blank-requires : tie.Need-rest-blank-requires
 rest-blank-requires c κs = search needs
@@ -26,7 +28,7 @@ leading-requires-2 : tie.Need-leading-requires-2
 leading-requires-2 c κs = search needs
 
 returns-4 : tie.Need-returns-4
-returns-4 c = stops-among 8 _ _ (now (c .before .before .before .before .before .args .bytes)) _ (c .before .leading2 .ensures) (c .if4 .taken) (omega arith)
+returns-4 c = before-stops (now (c .before .before .before .before .before .args .bytes)) _ (c .before .leading2 .ensures) (c .if4 .taken)
 
 sub-last : tie.Need-sub-last
 sub-last c = search needs
@@ -44,7 +46,9 @@ group-blank-requires : tie.Need-group-blank-requires
 group-blank-requires c κs = search needs
 
 add-result : tie.Need-add-result
-add-result c = search needs
+add-result c =
+    let s = now (c .before .before .before .before .before .before .before .before .args .bytes) in
+    record { fits = omega (arith, leads 8 (length s / 8) s _ (c .before .before .before .before .leading2 .ensures) .within) }
 
 returns-5 : tie.Need-returns-5
 returns-5 c = before-all (now (c .before .before .before .before .before .before .before .before .args .bytes)) _ (c .before .before .before .before .leading2 .ensures) (c .before .before .before .if4 .left) (c .before .before .before .before .before .if2 .left) (c .before .before .before .before .before .before .if1 .left) (sym (c .before .group-blank .ensures) ∙ c .if5 .taken)

@@ -1,7 +1,8 @@
 -- `flash::blank_test` answers and counts as the definitions say. Assumes nothing.
 use mathlib.Core.Path.{_∙_}
+use native.Mathlib.Omega.{arith}
 use denote.Ref.{now}
-use Rattle.flash.proofs.Blank.{tested}
+use Rattle.flash.proofs.Blank.{before-within, tested}
 use borrow.Author.Needs.{needs}
 use Rattle.flash.proofs.blank_test.Statement.{statement}
 use Rattle.flash.proofs.blank_test.Tie as tie
@@ -13,7 +14,7 @@ blank-before-requires : tie.Need-blank-before-requires
 blank-before-requires c κs = search needs
 
 add-least : tie.Need-add-least
-add-least c = search needs
+add-least c = record { fits = omega (arith, before-within (now (c .before .before .args .bytes)) _ (c .blank-before .ensures)) }
 
 least-requires : tie.Need-least-requires
 least-requires c κs = search needs

@@ -7,7 +7,7 @@ use denote.Ref.{now}
 use lib.ListN.{length, take}
 use borrow.Author.Tests.{not-true, not-false}
 use Rattle.model.specs.Header.{isBlank}
-use Rattle.flash.proofs.Blank.{part-turn, part-differs, parts-whole, stops-among}
+use Rattle.flash.proofs.Blank.{leads, part-turn, part-differs, parts-whole, stops-among}
 use borrow.Author.Needs.{needs}
 use Rattle.flash.proofs.leading.Statement.{statement}
 use Rattle.flash.proofs.leading.Tie as tie
@@ -25,11 +25,14 @@ mul-if1 : tie.Need-mul-if1 Inv-loop μ-loop
 mul-if1 c = search needs
 
 returns : tie.Need-returns Inv-loop μ-loop
-returns c = stops-among 8 _ _ (now (c .before .before .before .args .bytes)) _ (c .before .leading-fours .ensures) (c .if1 .taken) (omega arith)
+returns c =
+    let s = now (c .before .before .before .args .bytes) in
+    stops-among 8 (4 * (length s / 32)) (length s / 8) s _ (c .before .leading-fours .ensures) (c .if1 .taken) (omega arith)
 
 loop-holds : tie.Need-loop-holds Inv-loop μ-loop
 loop-holds c =
-    let f = c .before .leading-fours .ensures in
+    let s = now (c .before .before .before .args .bytes) in
+    let f = leads 8 (4 * (length s / 32)) s _ (c .before .leading-fours .ensures) in
     (omega (arith, f .within), f .blank)
 
 mul-at : tie.Need-mul-at Inv-loop μ-loop
@@ -54,7 +57,8 @@ returns-2 : tie.Need-returns-2 Inv-loop μ-loop
 returns-2 c =
     let k = c .before .before .before .before in
     let e = sym (c .before .group-blank .ensures) ∙ not-true _ (c .if2 .taken) in
-    part-differs 8 _ (now (k .before .before .before .before .args .bytes)) (k .loop .groups) (k .loop .inv .1) (omega arith) e
+    let s = now (k .before .before .before .before .args .bytes) in
+    part-differs 8 s (k .loop .groups) (k .loop .inv .1) (length s / 8) (omega arith) e
 
 add-groups : tie.Need-add-groups Inv-loop μ-loop
 add-groups c = search needs
@@ -67,12 +71,13 @@ loop-again c =
     let k = c .before .before .before .before in
     let s = now (k .before .before .before .before .args .bytes) in
     let e = sym (c .before .group-blank .ensures) ∙ not-false _ (c .if2 .left) in
-    (omega arith, part-turn 8 (length s / 8) s (k .loop .groups) (k .loop .inv .1) e)
+    (omega arith, part-turn 8 s (k .loop .groups) (k .loop .inv .1) e)
 
 returns-3 : tie.Need-returns-3 Inv-loop μ-loop
 returns-3 c =
     let k = c .before in
-    parts-whole 8 _ (now (k .before .before .before .before .args .bytes)) (k .loop .groups) (k .loop .inv .1) (omega arith)
+    let s = now (k .before .before .before .before .args .bytes) in
+    parts-whole 8 s (k .loop .groups) (k .loop .inv .1) (length s / 8) (omega arith)
 
 pub leading-spec : {M : Type 1} → statement M
 leading-spec =

@@ -23,7 +23,7 @@ group-blank-requires c κs = search needs
 returns : tie.Need-returns
 returns c =
     let s = now (c .before .before .before .before .args .four) in
-    part-differs 8 4 s 0 (no-part 8 s) (omega arith) (sym (c .before .group-blank .ensures) ∙ not-true _ (c .if1 .taken))
+    part-differs 8 s 0 (no-part 8 s) 4 (omega arith) (sym (c .before .group-blank .ensures) ∙ not-true _ (c .if1 .taken))
 
 sub-group-blank-2 : tie.Need-sub-group-blank-2
 sub-group-blank-2 c = search needs
@@ -40,8 +40,8 @@ group-blank-requires-2 c κs = search needs
 returns-2 : tie.Need-returns-2
 returns-2 c =
     let s = now (c .before .before .before .before .before .before .before .args .four) in
-    let b₁ = part-turn 8 4 s 0 (no-part 8 s) (sym (c .before .before .before .before .group-blank .ensures) ∙ not-false _ (c .before .before .before .if1 .left)) in
-    part-differs 8 4 s 1 b₁ (omega arith) (sym (c .before .group-blank2 .ensures) ∙ not-true _ (c .if2 .taken))
+    let b₁ = part-turn 8 s 0 (no-part 8 s) (sym (c .before .before .before .before .group-blank .ensures) ∙ not-false _ (c .before .before .before .if1 .left)) in
+    part-differs 8 s 1 b₁ 4 (omega arith) (sym (c .before .group-blank2 .ensures) ∙ not-true _ (c .if2 .taken))
 
 sub-group-blank-3 : tie.Need-sub-group-blank-3
 sub-group-blank-3 c = search needs
@@ -58,9 +58,9 @@ group-blank-requires-3 c κs = search needs
 returns-3 : tie.Need-returns-3
 returns-3 c =
     let s = now (c .before .before .before .before .before .before .before .before .before .before .args .four) in
-    let b₁ = part-turn 8 4 s 0 (no-part 8 s) (sym (c .before .before .before .before .before .before .before .group-blank .ensures) ∙ not-false _ (c .before .before .before .before .before .before .if1 .left)) in
-    let b₂ = part-turn 8 4 s 1 b₁ (sym (c .before .before .before .before .group-blank2 .ensures) ∙ not-false _ (c .before .before .before .if2 .left)) in
-    part-differs 8 4 s 2 b₂ (omega arith) (sym (c .before .group-blank3 .ensures) ∙ not-true _ (c .if3 .taken))
+    let b₁ = part-turn 8 s 0 (no-part 8 s) (sym (c .before .before .before .before .before .before .before .group-blank .ensures) ∙ not-false _ (c .before .before .before .before .before .before .if1 .left)) in
+    let b₂ = part-turn 8 s 1 b₁ (sym (c .before .before .before .before .group-blank2 .ensures) ∙ not-false _ (c .before .before .before .if2 .left)) in
+    part-differs 8 s 2 b₂ 4 (omega arith) (sym (c .before .group-blank3 .ensures) ∙ not-true _ (c .if3 .taken))
 
 sub-group-blank-4 : tie.Need-sub-group-blank-4
 sub-group-blank-4 c = search needs
@@ -77,19 +77,19 @@ group-blank-requires-4 c κs = search needs
 returns-4 : tie.Need-returns-4
 returns-4 c =
     let s = now (c .before .before .before .before .before .before .before .before .before .before .before .before .before .args .four) in
-    let b₁ = part-turn 8 4 s 0 (no-part 8 s) (sym (c .before .before .before .before .before .before .before .before .before .before .group-blank .ensures) ∙ not-false _ (c .before .before .before .before .before .before .before .before .before .if1 .left)) in
-    let b₂ = part-turn 8 4 s 1 b₁ (sym (c .before .before .before .before .before .before .before .group-blank2 .ensures) ∙ not-false _ (c .before .before .before .before .before .before .if2 .left)) in
-    let b₃ = part-turn 8 4 s 2 b₂ (sym (c .before .before .before .before .group-blank3 .ensures) ∙ not-false _ (c .before .before .before .if3 .left)) in
-    part-differs 8 4 s 3 b₃ (omega arith) (sym (c .before .group-blank4 .ensures) ∙ not-true _ (c .if4 .taken))
+    let b₁ = part-turn 8 s 0 (no-part 8 s) (sym (c .before .before .before .before .before .before .before .before .before .before .group-blank .ensures) ∙ not-false _ (c .before .before .before .before .before .before .before .before .before .if1 .left)) in
+    let b₂ = part-turn 8 s 1 b₁ (sym (c .before .before .before .before .before .before .before .group-blank2 .ensures) ∙ not-false _ (c .before .before .before .before .before .before .if2 .left)) in
+    let b₃ = part-turn 8 s 2 b₂ (sym (c .before .before .before .before .group-blank3 .ensures) ∙ not-false _ (c .before .before .before .if3 .left)) in
+    part-differs 8 s 3 b₃ 4 (omega arith) (sym (c .before .group-blank4 .ensures) ∙ not-true _ (c .if4 .taken))
 
 returns-5 : tie.Need-returns-5
 returns-5 c =
     let s = now (c .before .before .before .before .before .before .before .before .before .before .before .before .before .args .four) in
-    let b₁ = part-turn 8 4 s 0 (no-part 8 s) (sym (c .before .before .before .before .before .before .before .before .before .before .group-blank .ensures) ∙ not-false _ (c .before .before .before .before .before .before .before .before .before .if1 .left)) in
-    let b₂ = part-turn 8 4 s 1 b₁ (sym (c .before .before .before .before .before .before .before .group-blank2 .ensures) ∙ not-false _ (c .before .before .before .before .before .before .if2 .left)) in
-    let b₃ = part-turn 8 4 s 2 b₂ (sym (c .before .before .before .before .group-blank3 .ensures) ∙ not-false _ (c .before .before .before .if3 .left)) in
-    let b₄ = part-turn 8 4 s 3 b₃ (sym (c .before .group-blank4 .ensures) ∙ not-false _ (c .if4 .left)) in
-    parts-whole 8 4 s 4 b₄ refl
+    let b₁ = part-turn 8 s 0 (no-part 8 s) (sym (c .before .before .before .before .before .before .before .before .before .before .group-blank .ensures) ∙ not-false _ (c .before .before .before .before .before .before .before .before .before .if1 .left)) in
+    let b₂ = part-turn 8 s 1 b₁ (sym (c .before .before .before .before .before .before .before .group-blank2 .ensures) ∙ not-false _ (c .before .before .before .before .before .before .if2 .left)) in
+    let b₃ = part-turn 8 s 2 b₂ (sym (c .before .before .before .before .group-blank3 .ensures) ∙ not-false _ (c .before .before .before .if3 .left)) in
+    let b₄ = part-turn 8 s 3 b₃ (sym (c .before .group-blank4 .ensures) ∙ not-false _ (c .if4 .left)) in
+    parts-whole 8 s 4 b₄ 4 refl
 
 pub leading-four-spec : {M : Type 1} → statement M
 leading-four-spec =

@@ -67,7 +67,7 @@ returns-2 : tie.Need-returns-2 Inv-loop μ-loop
 returns-2 c =
     let k = c .before in
     let e : 4 * k .loop .i * 8 ≡ k .loop .i * 32 = omega arith in
-    parts-whole 8 _ (now (k .before .before .args .bytes)) (4 * k .loop .i) (rw e (k .loop .inv .1)) (omega arith)
+    parts-whole 8 (now (k .before .before .args .bytes)) (4 * k .loop .i) (rw e (k .loop .inv .1)) _ (omega arith)
 
 pub leading-fours-spec : {M : Type 1} → statement M
 leading-fours-spec =
