@@ -21,7 +21,7 @@ enum qbx_answer {
     QBX_DONE = 0,       /* none below */
     QBX_SIZE = 1,       /* n, b or the image's length is wrong */
     QBX_NUMBER = 2,     /* block number 0 or 65,535 */
-    QBX_LENGTH = 3,     /* contents over 248 bytes */
+    QBX_LENGTH = 3,     /* put of 0 bytes, or of over 248 */
     QBX_DAMAGED = 4,    /* the image is neither clean nor unfinished; only format helps */
     QBX_UNFINISHED = 5, /* put, delete, read: recover first */
     QBX_ABSENT = 6,     /* read or delete of a block that is not stored */
@@ -31,7 +31,7 @@ enum qbx_answer {
 };
 
 #define QBX_PAGE 256u         /* bytes in a page */
-#define QBX_MOST_CONTENTS 248u /* bytes in a record at most */
+#define QBX_MOST_CONTENTS 248u /* bytes in a record at most; the least that qbx_put takes is 1 */
 
 /* The bytes of an image of this geometry. */
 static inline size_t qbx_image_length(size_t n, size_t b) { return n * (b + 1) * QBX_PAGE; }
@@ -42,7 +42,8 @@ static inline size_t qbx_capacity(size_t n, size_t b) { return (n - 1) * b - 1; 
 /* Erase everything and begin anew. Answers QBX_DONE, QBX_SIZE or QBX_CUT; after QBX_CUT run it again. */
 uint64_t qbx_format(uint8_t *image, size_t image_length, size_t n, size_t b, uint64_t budget);
 
-/* Store contents under a block number (1 to 65,534), new or again. */
+/* Store contents, 1 to 248 bytes, under a block number (1 to 65,534), new or again. To have nothing stored there,
+ * use qbx_delete. */
 uint64_t qbx_put(uint8_t *image, size_t image_length, size_t n, size_t b, uint16_t block,
                  const uint8_t *contents, size_t contents_length, uint64_t budget);
 
@@ -52,7 +53,7 @@ uint64_t qbx_delete(uint8_t *image, size_t image_length, size_t n, size_t b, uin
 /* Finish or undo what a loss of power interrupted. A clean image takes no step. */
 uint64_t qbx_recover(uint8_t *image, size_t image_length, size_t n, size_t b, uint64_t budget);
 
-/* Find a block's contents in the image. */
+/* Find a block's contents in the image. Only a record from a store that still took 0 bytes has length 0. */
 uint64_t qbx_read(const uint8_t *image, size_t image_length, size_t n, size_t b, uint16_t block);
 
 /* What format, put, delete and recover give: the answer, and the flash steps done. */

@@ -63,6 +63,8 @@ int main(void)
     wrong += shows("B");
     wrong += told("put", put("C", unlimited), QBX_DONE, 7);
     wrong += shows("C");
+    wrong += told("put of nothing", put("", unlimited), QBX_LENGTH, 0);
+    wrong += shows("C");
     wrong += blank(0, 1);
     wrong += told("an image that is too short", qbx_format(image, sizeof image - 1, SEGMENTS, SLOTS, unlimited), QBX_SIZE, 0);
     return wrong != 0;

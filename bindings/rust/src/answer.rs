@@ -12,7 +12,7 @@ pub enum Answer {
     Size = 1,
     /// 2: the block number is 0 or 65,535.
     Number = 2,
-    /// 3: the contents of a put are over 248 bytes.
+    /// 3: the contents of a put have 0 bytes or over 248.
     Length = 3,
     /// 4: the image is damaged; only a format helps. A format never answers it.
     Damaged = 4,

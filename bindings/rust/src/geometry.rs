@@ -1,6 +1,6 @@
 /// Bytes in a page.
 pub const PAGE: usize = 256;
-/// The longest contents of a block, in bytes.
+/// The longest contents of a block, in bytes. The shortest that a put takes have one.
 pub const MAX_CONTENTS: usize = 248;
 
 /// The shape of a chip: N segments of one header page and B slot pages each.

@@ -1,6 +1,6 @@
 //! A record store on NOR flash that is proved to survive power cuts.
 //!
-//! The store keeps up to 65,534 numbered blocks of at most 248 bytes on an image of a flash chip.
+//! The store keeps up to 65,534 numbered blocks of 1 to 248 bytes on an image of a flash chip.
 //! On such a chip programming only clears bits, and only erasing a whole segment sets them again.
 //! Whatever the image holds and whenever the power goes, the store shows the table that the
 //! acknowledged requests made, with the interrupted request wholly done or not begun.

@@ -21,7 +21,7 @@ pub enum Request<'a> {
     Put {
         /// Where to store.
         block: Block,
-        /// What to store, at most [`MAX_CONTENTS`](crate::MAX_CONTENTS) bytes.
+        /// What to store, 1 to [`MAX_CONTENTS`](crate::MAX_CONTENTS) bytes.
         contents: &'a [u8],
     },
     /// Remove the block.
@@ -124,7 +124,8 @@ impl Geometry {
         })
     }
 
-    /// Stores `contents` under `block`, in place of what is stored there.
+    /// Stores `contents`, 1 to [`MAX_CONTENTS`](crate::MAX_CONTENTS) bytes, under `block`, in place
+    /// of what is stored there. To have nothing stored there is to [`delete`](Geometry::delete).
     ///
     #[cfg_attr(qbx_lib, doc = "```")]
     #[cfg_attr(not(qbx_lib), doc = "```no_run")]
@@ -139,8 +140,10 @@ impl Geometry {
     /// assert_eq!(chip.put(&mut image, Block(7), b"A1", UNLIMITED).into_result()?, 7);
     /// assert_eq!(chip.put(&mut image, Block(7), b"B2", UNLIMITED).into_result()?, 8);
     ///
-    /// let refused = chip.put(&mut image, Block(7), &[0; 249], UNLIMITED);
-    /// assert_eq!(refused.answer, Answer::Length);
+    /// for contents in [&[][..], &[0; 249]] {
+    ///     let refused = chip.put(&mut image, Block(7), contents, UNLIMITED);
+    ///     assert_eq!(refused.answer, Answer::Length);
+    /// }
     /// # Ok(())
     /// # }
     /// ```

@@ -1,17 +1,17 @@
 -- One request by its refusals: what an accepted one passed, and that a refused one takes no step.
-use Prim.Native.Nat.{ℕ, suc, _≤_}
+use Prim.Native.Nat.{ℕ, suc, _≤_, _<_}
 use mathlib.Core.Path.{_≡_, refl, sym, ap, _∙_}
 use mathlib.Core.Bool.{Bool, true, false, cond, _||_, _&&_, not}
 use mathlib.Core.List.{List, [], _∷_}
 use native.Mathlib.Omega.{arith}
 use lib.ListN.{length}
 use lib.Dec.{ltb, leb, eqb}
-use borrow.Author.Tests.{leb-false, ltb-false, lt-ltb, not-false, eqb-true}
+use borrow.Author.Tests.{leb-true, leb-false, ltb-true, lt-ltb, not-false, eqb-true}
 use Rattle.model.specs.Chip.{Image, rightSize}
 use Rattle.model.specs.Slot.{mostContents, numberOk}
 use Rattle.model.specs.State.{segmentsOf, View, viewOf, view, entriesIn, holds, capacity, state, clean}
 use Rattle.model.specs.Steps.{recoverSteps, isWorn}
-use Rattle.model.specs.Answers.{Request, format, put, delete, read, readOr, recover, Refusal, firstOf, isFull, absentRefusals, refusals, stepsFor, Work, workOn, workOf}
+use Rattle.model.specs.Answers.{Request, format, put, delete, read, readOr, recover, Refusal, firstOf, lengthOk, isFull, absentRefusals, refusals, stepsFor, Work, workOn, workOf}
 use Rattle.bridge.specs.Predicted.{Fits}
 
 -- ---- the code and the list
@@ -61,6 +61,15 @@ unfolding firstOf
 passed n true r h = absurd (omega arith)
 passed n false r h = (refl, h)
 
+-- contents that a put takes are some, and fit a slot
+pub taken-some : (n : ℕ) → lengthOk n ≡ true → 0 < n
+unfolding lengthOk
+taken-some n h = ltb-true 0 n (and-left (ltb 0 n) (leb n mostContents) h)
+
+pub taken-short : (n : ℕ) → lengthOk n ≡ true → n ≤ mostContents
+unfolding lengthOk
+taken-short n h = leb-true n mostContents (and-right (ltb 0 n) (leb n mostContents) h)
+
 not-full : (N B b : ℕ) (v : View) → isFull N B b v ≡ false → Fits N B b v
 unfolding isFull
 not-full N B b v h = go (holds b (entriesIn v)) (leb (capacity N B) (length (entriesIn v))) refl h
@@ -82,12 +91,12 @@ put-passed N B s b c h =
     let v = viewOf N (segmentsOf N B s) in
     let size = passed 0 _ _ h .1 in
     let number = passed 1 (not (numberOk b)) _ size in
-    let contents = passed 2 (ltb mostContents (length c)) _ (number .1) in
+    let contents = passed 2 (not (lengthOk (length c))) _ (number .1) in
     let damage = passed 3 _ _ (contents .1) .1 in
     let whole = passed 4 _ _ damage .1 in
     let full = passed 6 (isFull N B b v) _ whole in record {
       number = not-false (numberOk b) (number .0);
-      short = ltb-false mostContents (length c) (contents .0);
+      short = taken-short (length c) (not-false (lengthOk (length c)) (contents .0));
       fit = not-full N B b v (full .0);
       fresh = passed 7 (isWorn N v) _ (full .1) .0;
     }

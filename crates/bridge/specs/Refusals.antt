@@ -1,16 +1,15 @@
 -- The code of each request's refusal, from the tests that lead to it; and the answer by the state of an image.
-use Prim.Native.Nat.{ℕ, _≤_, _<_}
+use Prim.Native.Nat.{ℕ}
 use mathlib.Core.Path.{_≡_, refl}
 use mathlib.Core.Bool.{true, false, not}
 use mathlib.Core.List.{List, [], _∷_}
 use lib.ListN.{length}
 use lib.Dec.{eqb}
-use borrow.Author.Tests.{lt-ltb, le-ltb}
 use Rattle.model.specs.Chip.{Image, rightSize}
-use Rattle.model.specs.Slot.{mostContents, numberOk}
+use Rattle.model.specs.Slot.{numberOk}
 use Rattle.model.specs.State.{segmentsOf, viewOf, view, entriesIn, holds, Exception, State, clean, unfinished, damaged, state}
 use Rattle.model.specs.Steps.{isWorn}
-use Rattle.model.specs.Answers.{codeOf, Refusal, _when_, Request, format, put, delete, read, readOr, recover, firstOf, isDamaged, isUnfinished, isFull, absentRefusals, refusals}
+use Rattle.model.specs.Answers.{codeOf, Refusal, _when_, Request, format, put, delete, read, readOr, recover, firstOf, isDamaged, isUnfinished, lengthOk, isFull, absentRefusals, refusals}
 use Rattle.model.specs.declared.Answer.{Answer}
 use Rattle.model.specs.declared.Answer.the-variants.{Done, Damaged, Unfinished}
 use Rattle.bridge.specs.Accepted.{refusal}
@@ -98,23 +97,23 @@ module _ (N B : ℕ) (s : Image) where
       put-number e = rw (z, e)
 
       module _ (n : numberOk b ≡ true) where
-        pub put-length : 248 < length c → refusal N B s (put b c) ≡ 3
-        unfolding refusals firstOf mostContents
-        put-length h = rw (z, n, lt-ltb 248 (length c) h)
+        pub put-length : lengthOk (length c) ≡ false → refusal N B s (put b c) ≡ 3
+        unfolding refusals firstOf
+        put-length h = rw (z, n, h)
 
-        module _ (h : length c ≤ 248) where
+        module _ (h : lengthOk (length c) ≡ true) where
           pub put-unclean : (state N B s ≡ clean → ⊥) → refusal N B s (put b c) ≡ codeOf (answerIn (state N B s))
-          unfolding refusals firstOf mostContents state
-          put-unclean u = rw (z, n, le-ltb 248 (length c) h) (unclean (state N B s) u ((7 when isFull N B b (viewOf N (segmentsOf N B s))) ∷ (8 when isWorn N (viewOf N (segmentsOf N B s))) ∷ []))
+          unfolding refusals firstOf state
+          put-unclean u = rw (z, n, h) (unclean (state N B s) u ((7 when isFull N B b (viewOf N (segmentsOf N B s))) ∷ (8 when isWorn N (viewOf N (segmentsOf N B s))) ∷ []))
 
           pub put-full : state N B s ≡ clean → isFull N B b (view N B s) ≡ true → refusal N B s (put b c) ≡ 7
-          unfolding refusals firstOf mostContents state view isDamaged isUnfinished
-          put-full e f = rw (z, n, le-ltb 248 (length c) h, e, f)
+          unfolding refusals firstOf state view isDamaged isUnfinished
+          put-full e f = rw (z, n, h, e, f)
 
           pub put-worn : state N B s ≡ clean → isFull N B b (view N B s) ≡ false → isWorn N (view N B s) ≡ true → refusal N B s (put b c) ≡ 8
-          unfolding refusals firstOf mostContents state view isDamaged isUnfinished
-          put-worn e f w = rw (z, n, le-ltb 248 (length c) h, e, f, w)
+          unfolding refusals firstOf state view isDamaged isUnfinished
+          put-worn e f w = rw (z, n, h, e, f, w)
 
           pub put-accepted : state N B s ≡ clean → isFull N B b (view N B s) ≡ false → isWorn N (view N B s) ≡ false → refusal N B s (put b c) ≡ 0
-          unfolding refusals firstOf mostContents state view isDamaged isUnfinished
-          put-accepted e f w = rw (z, n, le-ltb 248 (length c) h, e, f, w)
+          unfolding refusals firstOf state view isDamaged isUnfinished
+          put-accepted e f w = rw (z, n, h, e, f, w)

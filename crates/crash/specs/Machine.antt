@@ -5,11 +5,11 @@ use mathlib.Core.Logic.{_⊎_}
 use mathlib.Core.Bool.{Bool, cond, _||_}
 use mathlib.Core.List.{List, [], _∷_}
 use lib.ListN.{length}
-use lib.Dec.{ltb, leb, eqb}
-use Rattle.model.specs.Slot.{mostContents, numberOk}
+use lib.Dec.{ltb, eqb}
+use Rattle.model.specs.Slot.{numberOk}
 use Rattle.model.specs.State.{holds}
 use Rattle.model.specs.Table.{Table, lookup, without, store, contentsFound}
-use Rattle.model.specs.Answers.{Request, format, put, delete, read, readOr, recover}
+use Rattle.model.specs.Answers.{Request, format, put, delete, read, readOr, recover, lengthOk}
 use Rattle.model.specs.Histories.{Reply, Seen, answered, lost, Event}
 
 -- ---- what the table answers. Of the chip it is told one thing: whether a put would wear it out
@@ -17,7 +17,7 @@ use Rattle.model.specs.Histories.{Reply, Seen, answered, lost, Event}
 -- 2 and 3: refused by the arguments alone
 unfoldable pub malformed : Request → ℕ
 malformed format = 0
-malformed (put b c) = cond (numberOk b) (cond (leb (length c) mostContents) 0 3) 2
+malformed (put b c) = cond (numberOk b) (cond (lengthOk (length c)) 0 3) 2
 malformed (delete b) = cond (numberOk b) 0 2
 malformed (read b) = cond (numberOk b) 0 2
 malformed (readOr b f) = cond (numberOk b) 0 2

@@ -1,20 +1,22 @@
 -- The customer's sentences over whole histories of the plain table: a block never shows contents that were not put under its number since the last format,
 -- and acknowledged contents are read back until the block is written or deleted, through every power cut.
-use Prim.Native.Nat.{ℕ, suc}
+use Prim.Native.Nat.{ℕ, suc, _<_}
 use mathlib.Core.Path.{_≡_, refl, sym, ap, ap₂, _∙_, subst}
 use mathlib.Core.Logic.{_⊎_, inl, inr, ⊎-elim, _≢_}
 use mathlib.Core.Bool.{Bool, true, false, cond}
 use mathlib.Core.List.{List, [], _∷_, _++_}
 use native.Mathlib.Omega.{arith}
 use native.Mathlib.Decide.{ℕ-discrete}
+use lib.ListN.{length}
 use lib.Dec.{eqb}
 use borrow.Author.Tests.{eqb-true, eqb-false}
 use Rattle.model.specs.Slot.{numberOk}
 use Rattle.model.specs.State.{holds}
 use Rattle.model.specs.Table.{Table, Found, absent, present, lookup, contentsFound}
-use Rattle.model.specs.Answers.{Request, format, put, delete, read, readOr, recover}
+use Rattle.model.specs.Answers.{Request, format, put, delete, read, readOr, recover, lengthOk}
 use Rattle.model.specs.Histories.{Reply, Seen, answered, Event}
 use Rattle.model.specs.Laws.Tables.{lookup-held, found-held, absent-free, lookup-without-same, lookup-without-other, lookup-store-same, lookup-store-other}
+use Rattle.bridge.specs.Accepted.{taken-some}
 use Rattle.crash.specs.Machine.{malformed, codeOnTable, plainCode, plainBytes, plain, made, next, Promise, settled, interrupted, unknown, refused, OnTable, Holds, Moves, answers, answers-again, asks-recovery, refuses-malformed, not-begun, wholly-done, formats, format-cut, no-promise, PlainRuns}
 use Rattle.crash.specs.Reading.{codeSeen, cut-code, not-format, format-starts, read-exact, readOr-exact}
 
@@ -24,9 +26,9 @@ Shows (settled t) b z = lookup b t ≡ z
 Shows (interrupted t) b z = lookup b t ≡ z
 Shows unknown b z = ⊥
 
--- a put of these contents under this number, acknowledged or cut; and one among some events
+-- a put of these contents under this number, neither of which it is refused for, acknowledged or cut; and one among some events
 abbrev pub Puts : ℕ → List ℕ → Request → Seen → Type 0
-Puts b c r o = (r ≡ put b c) × ((codeSeen o ≡ 0) ⊎ (codeSeen o ≡ 9))
+Puts b c r o = (r ≡ put b c) × (malformed r ≡ 0) × ((codeSeen o ≡ 0) ⊎ (codeSeen o ≡ 9))
 
 abbrev pub PutAmong : ℕ → List ℕ → List Event → Type 0
 PutAmong b c [] = ⊥
@@ -54,12 +56,24 @@ made-from (read a) t b c h = inl h
 made-from (readOr a f) t b c h = inl h
 made-from recover t b c h = inl h
 
-next-from : (C : ℕ) (w : Bool) (t : Table) (r : Request) (b : ℕ) (c : List ℕ) → lookup b (next C w t r) ≡ present c → (lookup b t ≡ present c) ⊎ ((r ≡ put b c) × (plainCode C w t r ≡ 0))
+-- a request that is done was not malformed
+done-proper : (C : ℕ) (w : Bool) (t : Table) (r : Request) → plainCode C w t r ≡ 0 → malformed r ≡ 0
+unfolding plainCode
+done-proper C w t r h = go (eqb (malformed r) 0) refl h
+  where
+    go : (x : Bool) → eqb (malformed r) 0 ≡ x → cond x (codeOnTable C w t r) (malformed r) ≡ 0 → malformed r ≡ 0
+    go true e k = eqb-true (malformed r) 0 e
+    go false e k = k
+
+abbrev PutDone : ℕ → Bool → Table → Request → ℕ → List ℕ → Type 0
+PutDone C w t r b c = (r ≡ put b c) × (malformed r ≡ 0) × (plainCode C w t r ≡ 0)
+
+next-from : (C : ℕ) (w : Bool) (t : Table) (r : Request) (b : ℕ) (c : List ℕ) → lookup b (next C w t r) ≡ present c → (lookup b t ≡ present c) ⊎ PutDone C w t r b c
 unfolding next
 next-from C w t r b c h = go (eqb (plainCode C w t r) 0) refl h
   where
-    go : (x : Bool) → eqb (plainCode C w t r) 0 ≡ x → lookup b (cond x (made t r) t) ≡ present c → (lookup b t ≡ present c) ⊎ ((r ≡ put b c) × (plainCode C w t r ≡ 0))
-    go true e k = ⊎-elim (λ old. inl old) (λ new. inr (new, eqb-true (plainCode C w t r) 0 e)) (made-from r t b c k)
+    go : (x : Bool) → eqb (plainCode C w t r) 0 ≡ x → lookup b (cond x (made t r) t) ≡ present c → (lookup b t ≡ present c) ⊎ PutDone C w t r b c
+    go true e k = let done = eqb-true (plainCode C w t r) 0 e in ⊎-elim (λ old. inl old) (λ new. inr (new, done-proper C w t r done, done)) (made-from r t b c k)
     go false e k = inl k
 
 held-shows : (x : Promise) (t : Table) (b : ℕ) (z : Found) → Holds x t → lookup b t ≡ z → Shows x b z
@@ -75,12 +89,12 @@ shows-held unknown t b z k h = absurd k
 -- in one event: they were shown before, or this event put them
 pub move-from : {C : ℕ} {w : Bool} {r : Request} {o : Seen} {x y : Promise} → Moves C w r o x y → (b : ℕ) (c : List ℕ) → Shows y b (present c) → Shows x b (present c) ⊎ Puts b c r o
 unfolding plain lookup
-move-from {C} {w} {r} (answers {t = t} k e) b c h = ⊎-elim (λ old. inl old) (λ new. inr (new .0, inl (ap codeSeen e ∙ new .1))) (next-from C w t r b c h)
-move-from {C} {w} {r} (answers-again {t = t} k i e) b c h = ⊎-elim (λ old. inl old) (λ new. inr (new .0, inl (ap codeSeen e ∙ new .1))) (next-from C w t r b c h)
+move-from {C} {w} {r} (answers {t = t} k e) b c h = ⊎-elim (λ old. inl old) (λ new. inr (new .0, new .1, inl (ap codeSeen e ∙ new .2))) (next-from C w t r b c h)
+move-from {C} {w} {r} (answers-again {t = t} k i e) b c h = ⊎-elim (λ old. inl old) (λ new. inr (new .0, new .1, inl (ap codeSeen e ∙ new .2))) (next-from C w t r b c h)
 move-from (asks-recovery k i e) b c h = inl h
 move-from (refuses-malformed n i e) b c h = inl h
 move-from {x = x} (not-begun t k i e) b c h = inl (held-shows x t b (present c) k h)
-move-from {C} {w} {r} {o} {x = x} (wholly-done t k i e) b c h = ⊎-elim (λ old. inl (held-shows x t b (present c) k old)) (λ new. inr (new .0, inr (cut-code o e))) (next-from C w t r b c h)
+move-from {C} {w} {r} {o} {x = x} (wholly-done t k i e) b c h = ⊎-elim (λ old. inl (held-shows x t b (present c) k old)) (λ new. inr (new .0, new .1, inr (cut-code o e))) (next-from C w t r b c h)
 move-from (formats i e) b c h = absurd (never c h)
 move-from (format-cut i e) b c h = absurd h
 move-from (no-promise k) b c h = absurd h
@@ -90,6 +104,18 @@ pub runs-from : (C : ℕ) (es : List Event) (x y : Promise) → PlainRuns C x es
 runs-from C [] x y e b c h = inl (subst (λ (v : Promise). Shows v b (present c)) e h)
 runs-from C (e ∷ es) x y (z, m, rest) b c h =
     ⊎-elim (λ k. ⊎-elim (λ old. inl old) (λ now. inr (inl now)) (move-from m b c k)) (λ later. inr (inr later)) (runs-from C es z y rest b c h)
+
+-- contents that were put are some: 0 bytes are refused
+pub put-some : (b : ℕ) (c : List ℕ) (es : List Event) → PutAmong b c es → 0 < length c
+unfolding malformed
+put-some b c [] h = absurd h
+put-some b c (e ∷ es) (inl now) = taken-some (length c) (taken (numberOk b) (lengthOk (length c)) (ap malformed (sym (now .0)) ∙ now .1))
+  where
+    taken : (x y : Bool) → cond x (cond y 0 3) 2 ≡ 0 → y ≡ true
+    taken true true h = refl
+    taken true false h = absurd (omega (arith, h))
+    taken false y h = absurd (omega (arith, h))
+put-some b c (e ∷ es) (inr later) = put-some b c es later
 
 -- ---- a promise is known from a finished format on
 

@@ -7,13 +7,13 @@ use mathlib.Core.List.{List, [], _∷_}
 use native.Mathlib.Omega.{arith}
 use lib.ListN.{length}
 use lib.Dec.{ltb, leb, eqb}
-use borrow.Author.Tests.{leb-true, leb-false, ltb-true, ltb-false, lt-leb, le-leb, lt-ltb, le-ltb, ne-eqb, eqb-true}
+use borrow.Author.Tests.{ltb-true, ltb-false, lt-leb, le-leb, ne-eqb, eqb-true}
 use Rattle.model.specs.Chip.{Image, rightSize, run}
-use Rattle.model.specs.Slot.{mostContents, numberOk}
+use Rattle.model.specs.Slot.{numberOk}
 use Rattle.model.specs.State.{Exception, segmentsOf, viewOf, entriesIn, holds, distinct, capacity, placeOf, unfinished, state, view}
 use Rattle.model.specs.Steps.{isWorn, formatSteps}
 use Rattle.model.specs.Table.{Table, lookup, Agree, contentsFound, tableOf}
-use Rattle.model.specs.Answers.{Request, format, put, delete, read, readOr, recover, _when_, firstOf, isDamaged, isUnfinished, isFull, absentRefusals, refusals, stepsFor, Work, workOn, workOf, outcomeOf, ReadOutcome, contentsAt, readOutcome, pieceRead, pieceOr}
+use Rattle.model.specs.Answers.{Request, format, put, delete, read, readOr, recover, _when_, firstOf, isDamaged, isUnfinished, lengthOk, isFull, absentRefusals, refusals, stepsFor, Work, workOn, workOf, outcomeOf, ReadOutcome, contentsAt, readOutcome, pieceRead, pieceOr}
 use Rattle.model.specs.Histories.{Reply, bytesRead, replyOf, wears, recovered, shown}
 use Rattle.model.specs.Laws.Tables.{agree-of, agree-holds, agree-without, agree-store, distinct-without, distinct-store}
 use Rattle.bridge.specs.Accepted.{code-of, refused-none, quiet-none, recover-none}
@@ -126,13 +126,6 @@ ended-or-stopped N B s allowance r = ⊎-elim
 
 -- ---- codes on a clean image: 2, 3, 6, 7, 8 and 0, exactly
 
-not-leb : (a b : ℕ) → ltb a b ≡ not (leb b a)
-not-leb a b = go (leb b a) refl
-  where
-    go : (t : Bool) → leb b a ≡ t → ltb a b ≡ not t
-    go true e = le-ltb a b (leb-true b a e)
-    go false e = lt-ltb a b (leb-false b a e)
-
 not-ltb : (a b : ℕ) → leb a b ≡ not (ltb b a)
 not-ltb a b = go (ltb b a) refl
   where
@@ -141,11 +134,11 @@ not-ltb a b = go (ltb b a) refl
     go false e = le-leb a b (ltb-false b a e)
 
 -- the rows of a put and of a delete or a read, with sized, damaged and unfinished decided
-put-codes : (number short stored room worn : Bool)
-    → firstOf ((1 when false) ∷ (2 when not number) ∷ (3 when not short) ∷ (4 when false) ∷ (5 when false) ∷ (7 when not stored && not room) ∷ (8 when worn) ∷ [])
-    ≡ cond (eqb (cond number (cond short 0 3) 2) 0) (cond (stored || room) (cond worn 8 0) 7) (cond number (cond short 0 3) 2)
+put-codes : (number taken stored room worn : Bool)
+    → firstOf ((1 when false) ∷ (2 when not number) ∷ (3 when not taken) ∷ (4 when false) ∷ (5 when false) ∷ (7 when not stored && not room) ∷ (8 when worn) ∷ [])
+    ≡ cond (eqb (cond number (cond taken 0 3) 2) 0) (cond (stored || room) (cond worn 8 0) 7) (cond number (cond taken 0 3) 2)
 unfolding firstOf
-put-codes false short stored room worn = refl
+put-codes false taken stored room worn = refl
 put-codes true false stored room worn = refl
 put-codes true true true room worn = refl
 put-codes true true false true worn = refl
@@ -167,8 +160,8 @@ module _ (N B : ℕ) (s : Image) (z : rightSize N B s ≡ true) (h : Clean N B s
   unfolding plainCode malformed codeOnTable refusals isDamaged isUnfinished isFull state tableOf view wears firstOf
   code-clean format o = absurd o
   code-clean (put b c) o = code-of N B s (put b c)
-      ∙ rw (z, h, not-leb mostContents (length c), not-ltb (capacity N B) (length (entriesIn (view N B s))))
-      (put-codes (numberOk b) (leb (length c) mostContents) (holds b (entriesIn (view N B s))) (ltb (length (entriesIn (view N B s))) (capacity N B)) (isWorn N (view N B s)))
+      ∙ rw (z, h, not-ltb (capacity N B) (length (entriesIn (view N B s))))
+      (put-codes (numberOk b) (lengthOk (length c)) (holds b (entriesIn (view N B s))) (ltb (length (entriesIn (view N B s))) (capacity N B)) (isWorn N (view N B s)))
   code-clean (delete b) o = code-of N B s (delete b) ∙ absent-clean b
   code-clean (read b) o = code-of N B s (read b) ∙ absent-clean b
   code-clean (readOr b f) o = code-of N B s (readOr b f) ∙ absent-clean b
@@ -179,11 +172,11 @@ module _ (N B : ℕ) (s : Image) (z : rightSize N B s ≡ true) (h : Clean N B s
 abbrev pub Unfinished : ℕ → ℕ → Image → Type 0
 Unfinished N B s = (x : Exception) × (state N B s ≡ unfinished x)
 
-put-unfinished : (number short full worn : Bool)
-    → firstOf ((1 when false) ∷ (2 when not number) ∷ (3 when not short) ∷ (4 when false) ∷ (5 when true) ∷ (7 when full) ∷ (8 when worn) ∷ [])
-    ≡ cond (eqb (cond number (cond short 0 3) 2) 0) 5 (cond number (cond short 0 3) 2)
+put-unfinished : (number taken full worn : Bool)
+    → firstOf ((1 when false) ∷ (2 when not number) ∷ (3 when not taken) ∷ (4 when false) ∷ (5 when true) ∷ (7 when full) ∷ (8 when worn) ∷ [])
+    ≡ cond (eqb (cond number (cond taken 0 3) 2) 0) 5 (cond number (cond taken 0 3) 2)
 unfolding firstOf
-put-unfinished false short full worn = refl
+put-unfinished false taken full worn = refl
 put-unfinished true false full worn = refl
 put-unfinished true true full worn = refl
 
@@ -202,8 +195,8 @@ module _ (N B : ℕ) (s : Image) (z : rightSize N B s ≡ true) (h : Unfinished 
   unfolding malformed refusals isDamaged isUnfinished state
   code-unfinished format o = absurd o
   code-unfinished (put b c) o = code-of N B s (put b c)
-      ∙ rw (z, h .1, not-leb mostContents (length c))
-      (put-unfinished (numberOk b) (leb (length c) mostContents) (isFull N B b (viewOf N (segmentsOf N B s))) (isWorn N (viewOf N (segmentsOf N B s))))
+      ∙ rw (z, h .1)
+      (put-unfinished (numberOk b) (lengthOk (length c)) (isFull N B b (viewOf N (segmentsOf N B s))) (isWorn N (viewOf N (segmentsOf N B s))))
   code-unfinished (delete b) o = code-of N B s (delete b) ∙ absent-wants b
   code-unfinished (read b) o = code-of N B s (read b) ∙ absent-wants b
   code-unfinished (readOr b f) o = code-of N B s (readOr b f) ∙ absent-wants b
@@ -230,7 +223,7 @@ number-small false = omega arith
 pub malformed-small : (r : Request) → malformed r ≤ 3
 unfolding malformed
 malformed-small format = omega arith
-malformed-small (put b c) = go (numberOk b) (leb (length c) mostContents)
+malformed-small (put b c) = go (numberOk b) (lengthOk (length c))
   where
     go : (t u : Bool) → cond t (cond u 0 3) 2 ≤ 3
     go true true = omega arith

@@ -1,9 +1,10 @@
 -- The customer's sentences about every history of the store, from any image of a right size.
-use Prim.Native.Nat.{ℕ}
+use Prim.Native.Nat.{ℕ, _<_}
 use mathlib.Core.Path.{_≡_, sym, subst}
 use mathlib.Core.Logic.{_≢_}
 use mathlib.Core.Bool.{true}
 use mathlib.Core.List.{List, [], _∷_, _++_}
+use lib.ListN.{length}
 use Rattle.model.specs.Chip.{Image, rightSize}
 use Rattle.model.specs.Slot.{numberOk}
 use Rattle.model.specs.State.{capacity}
@@ -11,7 +12,7 @@ use Rattle.model.specs.Table.{Found}
 use Rattle.model.specs.Histories.{answered, Event, History}
 use Rattle.crash.specs.Machine.{unknown}
 use Rattle.crash.specs.Reading.{codeSeen, format-starts}
-use Rattle.crash.specs.ReadingRuns.{PutAmong, Known, NoFormat, FinishedFormat, runs-known, runs-append, Reads, factoryOf, gives, shows-only-what-was-put, AllSpare, replied, Leaves, acknowledged-stays}
+use Rattle.crash.specs.ReadingRuns.{PutAmong, put-some, Known, NoFormat, FinishedFormat, runs-known, runs-append, Reads, factoryOf, gives, shows-only-what-was-put, AllSpare, replied, Leaves, acknowledged-stays}
 use Rattle.crash.specs.Theorem.{demand2}
 
 -- A block never shows contents that were not put under its number since the last format.
@@ -20,6 +21,11 @@ pub store-shows-only-what-was-put : (N B : ℕ) (s u : Image) (past es : List Ev
 store-shows-only-what-was-put N B s u past es f e b c z h done none q g =
     let (x, runs, keeps) = demand2 N B s u (past ++ (f ∷ (es ++ (e ∷ [])))) z h in
     shows-only-what-was-put (capacity N B) unknown x past es f e b c runs done none q g
+
+-- Request #105, "a tenant saw shelves without owners": no read that answers 0 shows contents of 0 bytes, from a finished format on.
+pub store-never-shows-empty : (N B : ℕ) (s u : Image) (past es : List Event) (f e : Event) (b : ℕ) (c : List ℕ) → rightSize N B s ≡ true
+    → History N B s (past ++ (f ∷ (es ++ (e ∷ [])))) u → FinishedFormat f → NoFormat es → Reads b (e .request) → e .seen ≡ answered (gives c) → 0 < length c
+store-never-shows-empty N B s u past es f e b c z h done none q g = put-some b c es (store-shows-only-what-was-put N B s u past es f e b c z h done none q g)
 
 -- Once acknowledged, a put or a delete is what every read of that block shows until the block is put or deleted again, through every power cut and recovery;
 -- in a history with a finished format and no other since.

@@ -1,4 +1,5 @@
-// Bench examples 2 to 11 of document 01, run on the code. What comes out is held to the file stdout.
+// Bench examples 2 to 11 of document 01, with 10 as request #105 changes it, and an empty record from before that request, run
+// on the code. What comes out is held to the file stdout.
 use libc::STDOUT_FILENO;
 use model::BlockNumber;
 use model::Located;
@@ -131,14 +132,14 @@ fn example_3() {
     text(b"example 3\n");
     let mut image = [0u8; 16384];
     store::format(&mut image, 4, 15, ENOUGH);
-    fill(&mut image, 4, 15, 44, b"");
+    fill(&mut image, 4, 15, 44, b"a");
     told(
         b"put 1",
-        store::put(&mut image, 4, 15, BlockNumber(1), b"", ENOUGH),
+        store::put(&mut image, 4, 15, BlockNumber(1), b"b", ENOUGH),
     );
     told(
         b"put 1",
-        store::put(&mut image, 4, 15, BlockNumber(1), b"", ENOUGH),
+        store::put(&mut image, 4, 15, BlockNumber(1), b"b", ENOUGH),
     );
     bytes(&image[12288..12305]);
     text(b"\n");
@@ -185,6 +186,10 @@ fn example_10() {
         store::put(&mut image, 4, 15, BlockNumber(1), &full[0..0], ENOUGH),
     );
     told(
+        b"1 byte",
+        store::put(&mut image, 4, 15, BlockNumber(1), &full[0..1], ENOUGH),
+    );
+    told(
         b"248 bytes",
         store::put(&mut image, 4, 15, BlockNumber(65534), &full[0..248], ENOUGH),
     );
@@ -198,7 +203,7 @@ fn example_10() {
     );
     told(
         b"block 65535",
-        store::put(&mut image, 4, 15, BlockNumber(65535), b"", ENOUGH),
+        store::put(&mut image, 4, 15, BlockNumber(65535), b"x", ENOUGH),
     );
     told(
         b"delete 1",
@@ -209,6 +214,37 @@ fn example_10() {
         store::delete(&mut image, 4, 15, BlockNumber(1), ENOUGH),
     );
     read(&image, 4, 15, 1);
+}
+
+// Block 1 is empty, from before request #105, and is read, copied by a compaction and deleted.
+fn empty_record() {
+    text(b"request 105\n");
+    let mut image = [0u8; 2304];
+    told(b"format", store::format(&mut image, 3, 2, ENOUGH));
+    image[256] = 0x3F;
+    image[257] = 0;
+    image[258] = 1;
+    image[259] = 0;
+    read(&image, 3, 2, 1);
+    told(
+        b"0 bytes",
+        store::put(&mut image, 3, 2, BlockNumber(1), b"", ENOUGH),
+    );
+    store::put(&mut image, 3, 2, BlockNumber(2), b"a", ENOUGH);
+    store::put(&mut image, 3, 2, BlockNumber(3), b"a", ENOUGH);
+    store::put(&mut image, 3, 2, BlockNumber(2), b"b", ENOUGH);
+    told(
+        b"put 3",
+        store::put(&mut image, 3, 2, BlockNumber(3), b"b", ENOUGH),
+    );
+    bytes(&image[1792..1802]);
+    text(b"\n");
+    read(&image, 3, 2, 1);
+    told(
+        b"delete 1",
+        store::delete(&mut image, 3, 2, BlockNumber(1), ENOUGH),
+    );
+    read(&image, 3, 2, 1);
 }
 
 fn example_11() {
@@ -242,4 +278,5 @@ fn main() {
     example_9();
     example_10();
     example_11();
+    empty_record();
 }

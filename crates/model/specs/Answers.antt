@@ -61,6 +61,10 @@ isUnfinished clean = false
 isUnfinished (unfinished x) = true
 isUnfinished damaged = false
 
+-- request #105: the lengths of contents that a put takes. A slot of length 0 may still be stored, from before that request
+unfoldable pub lengthOk : ℕ → Bool
+lengthOk n = ltb 0 n && leb n mostContents
+
 -- a block not live while C are live
 unfoldable pub isFull : ℕ → ℕ → ℕ → View → Bool
 isFull N B b v = not (holds b (entriesIn v)) && leb (capacity N B) (length (entriesIn v))
@@ -81,7 +85,7 @@ refusals N B sized l format = (1 when not sized) ∷ []
 refusals N B sized l (put b c) = let st = stateOf N B l in let v = viewOf N l in
     (1 when not sized)
     ∷ (2 when not (numberOk b))
-    ∷ (3 when ltb mostContents (length c))
+    ∷ (3 when not (lengthOk (length c)))
     ∷ (4 when isDamaged st)
     ∷ (5 when isUnfinished st)
     ∷ (7 when isFull N B b v)

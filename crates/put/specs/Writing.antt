@@ -9,7 +9,7 @@ use Rattle.model.specs.Chip.{Image, Bytes, Step, numberLimit, rightSize}
 use Rattle.model.specs.Slot.{numberOk}
 use Rattle.model.specs.State.{View, view, capacity, clean, state}
 use Rattle.model.specs.Steps.{topRow, firstEmpty, writeAtTop, markOld, isWorn}
-use Rattle.model.specs.Answers.{isFull}
+use Rattle.model.specs.Answers.{lengthOk, isFull}
 use Rattle.model.specs.declared.Answer.{Answer}
 use Rattle.model.specs.declared.Answer.the-variants.{Done, Full, Worn}
 use Rattle.model.specs.declared.Performed.{Performed}
@@ -56,7 +56,7 @@ pub record Puttable (N B : ℕ) (p : Plan) (b : ℕ) (c : List ℕ) (s : Image) 
   pub plan : Planned N B p s
   pub bytes : Bytes s
   pub number : numberOk b ≡ true
-  pub short : length c ≤ 248
+  pub taken : lengthOk (length c) ≡ true
 
 -- not refused. The search was made at least where nothing will move
 pub record Accepted (N B : ℕ) (p : Plan) (f : Found) (b : ℕ) (c : List ℕ) (s : Image) : Type 0 where

@@ -18,7 +18,7 @@ fn usage(fd: i32) {
     );
     io::write_all(
         fd,
-        b"  format         erases all and starts an empty store; makes the file if there is none\n  put BLOCK      stores standard input, up to 248 bytes, under a number from 1 to 65534\n  get BLOCK      writes the contents to standard output, and the answer to standard error\n",
+        b"  format         erases all and starts an empty store; makes the file if there is none\n  put BLOCK      stores standard input, 1 to 248 bytes, under a number from 1 to 65534\n  get BLOCK      writes the contents to standard output, and the answer to standard error\n",
     );
     io::write_all(
         fd,

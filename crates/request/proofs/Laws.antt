@@ -8,7 +8,6 @@ use lib.ListN.{length}
 use lib.Dec.{leb, ltb, eqb}
 use borrow.Author.Tests.{leb-true, lt-ltb, not-true, not-false}
 use Rattle.model.specs.Chip.{Image, leastSegments, mostSegments, leastSlots, mostSlots, inRange, imageLength, rightSize}
-use Rattle.model.specs.Slot.{numberOk}
 use Rattle.model.specs.Laws.Lists.{and-left, and-right}
 
 -- an image has at most 64 segments of 256 pages
@@ -23,13 +22,12 @@ in-bounds N B e =
     let u = and-right (leb N 64) (leb 2 B && leb B 255) t in
     (leb-true N 64 (and-left (leb N 64) (leb 2 B && leb B 255) t), leb-true B 255 (and-right (leb 2 B) (leb B 255) u))
 
-pub number-zero : (b : ℕ) → b ≡ 0 → false ≡ numberOk b
-unfolding numberOk
-number-zero b e = rw e
+-- a test for more than 0 and for a limit: of block numbers, and of lengths
+pub none-fails : (n : ℕ) (t : Bool) → n ≡ 0 → false ≡ (ltb 0 n && t)
+none-fails n t e = rw e
 
-pub number-some : (b : ℕ) → (b ≡ 0 → ⊥) → ltb b 65535 ≡ numberOk b
-unfolding numberOk
-number-some b n = rw (lt-ltb 0 b (omega arith))
+pub some-passes : (n : ℕ) (t : Bool) → (n ≡ 0 → ⊥) → t ≡ (ltb 0 n && t)
+some-passes n t h = rw (lt-ltb 0 n (omega arith))
 
 -- the test of the size as the requests use it
 module _ (N B : ℕ) (s : Image) (r : Bool) (e : r ≡ (inRange N B && eqb (length s) (imageLength N B))) where

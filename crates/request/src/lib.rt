@@ -9,8 +9,11 @@ ghost use lib.Dec.{eqb};
 ghost use Rattle.model.specs.Chip.{inRange, imageLength};
 ghost use Rattle.model.specs.Slot.{numberOk};
 ghost use Rattle.model.specs.State.{capacity};
-ghost use Rattle.model.specs.Answers.{codeOf};
+ghost use Rattle.model.specs.Answers.{codeOf, lengthOk};
 ghost use Rattle.request.specs.Request.{sizeOf, Refused, Finished};
+
+// The most bytes of contents.
+const MOST_CONTENTS: usize = 248;
 
 // ---- its arguments
 
@@ -59,6 +62,16 @@ pub fn number_ok(block: BlockNumber) -> bool
         return false;
     }
     n < 65535
+}
+
+// Whether a put takes contents of so many bytes: some, and no more than a slot holds.
+pub fn length_ok(bytes: usize) -> bool
+    ensures { λ r. ⌜ r ≡ lengthOk bytes ⌝ }
+{
+    if bytes == 0 {
+        return false;
+    }
+    bytes <= MOST_CONTENTS
 }
 
 // The most live slots (document 01: the capacity C).

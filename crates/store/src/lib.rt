@@ -21,9 +21,6 @@ ghost use Rattle.model.specs.Answers.{performed, outcomeOf, format, put, delete
 // The number of the answer that a block is not stored.
 const ABSENT: u8 = 6;
 
-// The most bytes of contents.
-const MOST_CONTENTS: usize = 248;
-
 // How many steps open a segment.
 const OPENING: u64 = 17;
 
@@ -56,7 +53,7 @@ pub fn put(
     if !request::number_ok(block) {
         return request::refused(Answer::Number);
     }
-    if MOST_CONTENTS < contents.len() {
+    if !request::length_ok(contents.len()) {
         return request::refused(Answer::Length);
     }
     let surveyed = scan::survey(&image[..], segments, slots);

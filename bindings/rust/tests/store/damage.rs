@@ -11,7 +11,7 @@ pub fn try_all(store: &Store, rng: &mut Rng, image: &[u8], g: Geometry) {
     let found = images::some_block(rng, g, image);
     let small = rng.between(1, 24) as u16;
     let block = rng.pick(&[found, found, found, small, small, 65_534, 0, 65_535]);
-    let mut contents = images::contents(rng);
+    let mut contents = images::put_contents(rng);
     if rng.once_in(20) {
         contents = rng.bytes(249);
     }

@@ -149,11 +149,17 @@ fn example_9_two_tidyings() {
 fn example_10_limits_of_contents_and_numbers() {
     let store = Store::new("example 10");
     let mut image = formatted(MIDDLE);
+    store.done(&mut image, MIDDLE, &put_of(1, b"A1"));
+    let mut stored = 2;
     for length in 0..=300 {
         let request = put_of(1, &vec![0x41; length]);
         let code = store.perform(&mut image, MIDDLE, &request, UNLIMITED).code;
-        assert_eq!(code, if length <= 248 { DONE } else { LENGTH });
-        assert_eq!(contents(&store, &image, MIDDLE, 1).len(), length.min(248));
+        let taken = (1..=248).contains(&length);
+        assert_eq!(code, if taken { DONE } else { LENGTH });
+        if taken {
+            stored = length;
+        }
+        assert_eq!(contents(&store, &image, MIDDLE, 1).len(), stored);
     }
     for (block, code) in [(1, DONE), (65_534, DONE), (0, NUMBER), (65_535, NUMBER)] {
         let reply = store.perform(&mut image, MIDDLE, &put_of(block, b"x"), UNLIMITED);
@@ -166,21 +172,15 @@ fn example_10_limits_of_contents_and_numbers() {
         );
     }
     // The number is looked at before the length, and both before the image.
-    let long = put_of(0, &[0; 249]);
-    assert_eq!(
-        store.perform(&mut image, MIDDLE, &long, UNLIMITED).code,
-        NUMBER
-    );
-    let mut factory = blank(MIDDLE);
-    assert_eq!(
-        store.perform(&mut factory, MIDDLE, &long, UNLIMITED).code,
-        NUMBER
-    );
-    let long = put_of(1, &[0; 249]);
-    assert_eq!(
-        store.perform(&mut factory, MIDDLE, &long, UNLIMITED).code,
-        LENGTH
-    );
+    for wrong in [vec![], vec![0; 249]] {
+        for (block, code) in [(0, NUMBER), (1, LENGTH)] {
+            let request = put_of(block, &wrong);
+            for image in [&mut image, &mut blank(MIDDLE)] {
+                let reply = store.perform(image, MIDDLE, &request, UNLIMITED);
+                assert_eq!(reply.code, code);
+            }
+        }
+    }
 }
 
 #[test]

@@ -4,6 +4,7 @@
 pub use crate::pages::{write_header, write_slot_page};
 use crate::prng::Rng;
 use crate::reference::*;
+use std::ops::RangeInclusive;
 
 pub fn blank(g: Geometry) -> Vec<u8> {
     vec![0xFF; g.n * g.segment_len()]
@@ -15,7 +16,8 @@ pub fn formatted(g: Geometry) -> Vec<u8> {
     image
 }
 
-/// Contents of any length, short ones more often.
+/// Contents of a slot, of any length that it may have, short ones more often. None at all are from
+/// before request #105.
 pub fn contents(rng: &mut Rng) -> Vec<u8> {
     let length = match rng.below(8) {
         0 => 0,
@@ -29,6 +31,15 @@ pub fn contents(rng: &mut Rng) -> Vec<u8> {
     } else {
         rng.bytes(length)
     }
+}
+
+/// Contents for a put. Now and then there are none, which is refused.
+pub fn put_contents(rng: &mut Rng) -> Vec<u8> {
+    let contents = contents(rng);
+    if contents.is_empty() && !rng.once_in(4) {
+        return rng.bytes(1);
+    }
+    contents
 }
 
 /// How a clean image is to look.
@@ -99,6 +110,18 @@ fn dead_page(rng: &mut Rng, page: &mut [u8], block: u16) {
         }
     }
     page[0] = rng.pick(&[DEAD, DEAD_TORN]);
+}
+
+/// A fresh chip with empty records of these blocks, as a store from before request #105 left them.
+pub fn with_empty_records(g: Geometry, blocks: RangeInclusive<u16>) -> Vec<u8> {
+    let mut image = formatted(g);
+    for (i, block) in blocks.enumerate() {
+        let number = (i / g.b) as u32;
+        write_header(&mut image, g, number, OPENED);
+        let at = g.page(g.index(number), 1 + i % g.b);
+        write_slot_page(&mut image[at..at + PAGE], LIVE, block, b"");
+    }
+    image
 }
 
 /// A random shape. Full rings, full tops and numbers near the wear limit come often.

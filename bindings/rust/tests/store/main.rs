@@ -5,6 +5,7 @@ mod blank_test;
 mod conditions;
 mod cuts;
 mod damage;
+mod empty_records;
 mod examples;
 mod geometries;
 mod harness;

@@ -126,11 +126,12 @@ fn every_cut_on_the_smallest_chips() {
             },
             Request::Put {
                 block: 2,
-                contents: vec![],
+                contents: vec![0x42],
             },
         ];
         let mut seen: HashSet<Vec<u8>> = HashSet::new();
-        let mut level = vec![formatted(g)];
+        // One begins with an empty record, from before request #105.
+        let mut level = vec![formatted(g), images::with_empty_records(g, 1..=1)];
         for _ in 0..depth {
             let mut next = Vec::new();
             for image in level {
@@ -232,7 +233,7 @@ fn a_long_life_with_cuts() {
             } else {
                 Request::Put {
                     block,
-                    contents: images::contents(&mut rng),
+                    contents: images::put_contents(&mut rng),
                 }
             };
             let (code, list) = steps_of(&image, g, &request);

@@ -616,7 +616,8 @@ fn number_wanted(view: &View, g: Geometry) -> Option<u32> {
 fn plan_put<'a>(image: &[u8], g: Geometry, block: u16, contents: &'a [u8]) -> Result<Work<'a>, u8> {
     check_size(image, g)?;
     check_number(block)?;
-    if contents.len() > MAX_LENGTH {
+    // Request #105. Slots of length 0 that are stored stay live.
+    if contents.is_empty() || contents.len() > MAX_LENGTH {
         return Err(LENGTH);
     }
     let view = clean_view(image, g)?;

@@ -33,7 +33,7 @@ fn choose(rng: &mut Rng, habit: Habit, g: Geometry, i: usize, stored: &Table) ->
     let contents = if g.n * g.b > 200 {
         rng.bytes(2)
     } else {
-        images::contents(rng)
+        images::put_contents(rng)
     };
     let any = rng.between(1, capacity + 2) as u16;
     let put = |block, contents| Request::Put { block, contents };
@@ -113,7 +113,7 @@ fn sequence(store: &Store, rng: &mut Rng, g: Geometry, habit: Habit, requests: u
                 block: 0 | 0xFFFF, ..
             }
             | Request::Delete { block: 0 | 0xFFFF } => NUMBER,
-            Request::Put { contents, .. } if contents.len() > MAX_LENGTH => LENGTH,
+            Request::Put { contents, .. } if !(1..=MAX_LENGTH).contains(&contents.len()) => LENGTH,
             Request::Put { block, contents } => {
                 let is_stored = stored.contains_key(block);
                 if !is_stored && stored.len() == g.capacity() {
@@ -142,6 +142,7 @@ fn sequence(store: &Store, rng: &mut Rng, g: Geometry, habit: Habit, requests: u
         match stored.get(&block) {
             Some(contents) => {
                 assert_eq!(read.code, DONE);
+                assert!(read.length > 0, "from a format on no record is empty");
                 assert_eq!(image[read.offset..read.offset + read.length], contents[..]);
             }
             None => assert_eq!(read.code, ABSENT),
@@ -229,7 +230,7 @@ fn large_chips() {
                     1 => Request::Recover,
                     _ => Request::Put {
                         block: any,
-                        contents: images::contents(&mut rng),
+                        contents: images::put_contents(&mut rng),
                     },
                 };
                 let reply = store.perform(&mut image, g, &request, UNLIMITED);
@@ -261,7 +262,7 @@ fn all_short_sequences() {
         let mut requests = vec![Request::Recover];
         for block in 1..=2 {
             requests.push(Request::Delete { block });
-            for contents in [vec![], vec![0x41]] {
+            for contents in [vec![], vec![0x41], vec![0x42, 0x43]] {
                 requests.push(Request::Put { block, contents });
             }
         }

@@ -210,7 +210,7 @@ fn every_allowance_of_every_request() {
                 Request::Format,
                 Request::Put {
                     block: stored,
-                    contents: images::contents(&mut rng),
+                    contents: images::put_contents(&mut rng),
                 },
                 Request::Put {
                     block: 40_000,

@@ -1,28 +1,29 @@
 -- Every bench example holds: computed over pages, and carried to the image by the law that joins the two.
 use Prim.Native.Nat.{ℕ, suc, _+_, _-_, _*_}
 use mathlib.Core.Path.{_≡_, refl, ap, ap₂, _∙_}
-use mathlib.Core.Bool.{and-true}
+use mathlib.Core.Bool.{cond, and-true}
 use mathlib.Core.List.{List, [], _∷_, _++_, flatMap, flatten}
 use lib.ListN.{length, take, replicate, length-replicate}
+use lib.Dec.{eqb}
 use borrow.Author.Tests.{eq-eqb}
 use Rattle.model.specs.Lists.{same, all, count, chunk}
 use Rattle.model.specs.Chip.{Image, Page, leastSegments, mostSegments, leastSlots, mostSlots, numberLimit, imageLength, inRange, rightSize, pagesOf, bySegment, clear, erased}
 use Rattle.model.specs.Header.{numberBytes, inverted, value, statusInUse, headerPage, headerStatus, headerNumber, oldIndex, headerInUse, isBlank, allBlank}
 use Rattle.model.specs.Slot.{mostContents, numberOk, slotPage, pageBlock, pageContents, slotFits, slotOf, isEmpty, isTorn, isDead, isWrong, entryOf, holding}
-use Rattle.model.specs.State.{segmentOf, segmentsFrom, segmentsOn, segmentsOf, isInUse, isInvalid, isOwing, numberAfter, slotsIn, nextNumber, topIndex, nextIndex, topSlots, usedCount, firstNumber, slotsFrom, viewOf, entries, entriesIn, someInUse, numbersFrom, consecutive, noneOwing, othersBlank, noneWrongOrTorn, holds, distinct, blocksDistinct, emptyLast, onlyTopEmpty, emptySlotsLast, capacity, withinCapacity, conditions, isClean, nextBlanked, isA, settled, topSettled, isB, withSlot, filled, lastSlot, lastKind, tornMarked, isC, slotFrom, placeFrom, placeOf, blockIn, lastBlock, copies, older, olderMarked, isD, stateOf}
+use Rattle.model.specs.State.{segmentOf, segmentsFrom, segmentsOn, segmentsOf, isInUse, isInvalid, isOwing, numberAfter, slotsIn, nextNumber, topIndex, nextIndex, topSlots, usedCount, firstNumber, slotsFrom, viewOf, entries, entriesIn, someInUse, numbersFrom, consecutive, noneOwing, othersBlank, noneWrongOrTorn, holds, distinct, blocksDistinct, emptyLast, onlyTopEmpty, emptySlotsLast, capacity, withinCapacity, conditions, isClean, nextBlanked, isA, settled, topSettled, isB, withSlot, filled, lastSlot, lastKind, tornMarked, isC, slotFrom, placeFrom, placeOf, blockIn, lastBlock, copies, older, olderMarked, isD, stateOf, view}
 use Rattle.model.specs.Steps.{programs, programPart, onPage, headerAt, slotAt, writeSlot, markDead, markPlace, openSegment, copyEntries, copyOut, settle, compact, topRow, topNumber, hasRoom, firstEmpty, copied, openNext, compactOldest, compactUntilRoom, roomFor, markOld, writeAtTop, putSteps, deleteSteps, eraseFirst, formatSteps, eraseUnlessBlank, mendSteps, recoverSteps, compactions, newNumbers, isWorn}
 use Rattle.model.specs.Table.{lookup, contentsFound}
-use Rattle.model.specs.Answers.{Request, format, recover, Work, firstOf, isDamaged, isUnfinished, isFull, absentRefusals, refusals, stepsFor, workOn, workOf, codeUnder, outcomeOf}
+use Rattle.model.specs.Answers.{Request, format, read, recover, Work, firstOf, isDamaged, isUnfinished, lengthOk, isFull, absentRefusals, refusals, stepsFor, workOn, workOf, codeUnder, outcomeOf, ReadOutcome, contentsAt, readOutcome}
 use Rattle.model.specs.Sequences.{Call, play, erasesIn, Observed, observe, observed, among, removed, inserted, storedAfter, replaces, start, tallied, tally, eraseCount}
 use Rattle.model.specs.Pages.{programPage, stepPages, runPages}
-use Rattle.model.specs.Bench.{Bench, Example, sizes, begins, answers, counts, cuts, call, whole, formatted, bench, contentsIn, isCleanIn, cutHolds, exampleHolds, failing, upFrom, putEach, examples}
+use Rattle.model.specs.Bench.{call, whole, Setup, andThen, formatted, recorded, left, Bench, bench, Example, sizes, begins, answers, reads, counts, cuts, contentsIn, isCleanIn, cutHolds, exampleHolds, failing, upFrom, putEach, examples}
 use Rattle.model.specs.Laws.Chunk.{chunk-replicate}
 use Rattle.model.specs.Laws.Chip.{run-length}
 use Rattle.model.specs.Laws.Pages.{pages-run}
 
 -- every definition unfolds where this name does
 unfoldable pub evaluate : ℕ
-unfolding flatMap flatten same all count chunk leastSegments mostSegments leastSlots mostSlots numberLimit imageLength inRange bySegment clear erased numberBytes inverted value statusInUse headerPage headerStatus headerNumber oldIndex headerInUse isBlank allBlank mostContents numberOk slotPage pageBlock pageContents slotFits slotOf isEmpty isTorn isDead isWrong entryOf holding segmentOf segmentsFrom segmentsOn isInUse isInvalid isOwing numberAfter slotsIn nextNumber topIndex nextIndex topSlots usedCount firstNumber slotsFrom viewOf entries entriesIn someInUse numbersFrom consecutive noneOwing othersBlank noneWrongOrTorn holds distinct blocksDistinct emptyLast onlyTopEmpty emptySlotsLast capacity withinCapacity conditions isClean nextBlanked isA settled topSettled isB withSlot filled lastSlot lastKind tornMarked isC slotFrom placeFrom placeOf blockIn lastBlock copies older olderMarked isD stateOf programs programPart onPage headerAt slotAt writeSlot markDead markPlace openSegment copyEntries copyOut settle compact topRow topNumber hasRoom firstEmpty copied openNext compactOldest compactUntilRoom roomFor markOld writeAtTop putSteps deleteSteps eraseFirst formatSteps eraseUnlessBlank mendSteps recoverSteps compactions newNumbers isWorn lookup contentsFound firstOf isDamaged isUnfinished isFull absentRefusals refusals stepsFor workOn codeUnder erasesIn among removed inserted storedAfter replaces start tallied tally eraseCount programPage stepPages runPages contentsIn isCleanIn cutHolds exampleHolds failing upFrom putEach examples
+unfolding flatMap flatten same all count chunk leastSegments mostSegments leastSlots mostSlots numberLimit imageLength inRange bySegment clear erased numberBytes inverted value statusInUse headerPage headerStatus headerNumber oldIndex headerInUse isBlank allBlank mostContents numberOk slotPage pageBlock pageContents slotFits slotOf isEmpty isTorn isDead isWrong entryOf holding segmentOf segmentsFrom segmentsOn isInUse isInvalid isOwing numberAfter slotsIn nextNumber topIndex nextIndex topSlots usedCount firstNumber slotsFrom viewOf entries entriesIn someInUse numbersFrom consecutive noneOwing othersBlank noneWrongOrTorn holds distinct blocksDistinct emptyLast onlyTopEmpty emptySlotsLast capacity withinCapacity conditions isClean nextBlanked isA settled topSettled isB withSlot filled lastSlot lastKind tornMarked isC slotFrom placeFrom placeOf blockIn lastBlock copies older olderMarked isD stateOf programs programPart onPage headerAt slotAt writeSlot markDead markPlace openSegment copyEntries copyOut settle compact topRow topNumber hasRoom firstEmpty copied openNext compactOldest compactUntilRoom roomFor markOld writeAtTop putSteps deleteSteps eraseFirst formatSteps eraseUnlessBlank mendSteps recoverSteps compactions newNumbers isWorn lookup contentsFound firstOf isDamaged isUnfinished lengthOk isFull absentRefusals refusals stepsFor workOn codeUnder erasesIn among removed inserted storedAfter replaces start tallied tally eraseCount programPage stepPages runPages contentsIn isCleanIn cutHolds exampleHolds failing upFrom putEach examples
 evaluate = 0
 
 -- ---- the bench over pages
@@ -40,18 +41,33 @@ seenPages N B ps (x ∷ xs) = let w = workPages N B ps (x .request) in
     record { request = x .request; code = codeUnder (x .allowance) w; erases = erasesIn (w .steps) }
     ∷ seenPages N B (runPages B (take (x .allowance) (w .steps)) ps) xs
 
+readPages : ℕ → ℕ → List Page → ℕ → ReadOutcome
+readPages N B ps b =
+    let code = workPages N B ps (read b) .code in
+    let v = viewOf N (segmentsOn N B ps) in
+    cond (eqb code 0)
+    (record { code = 0; offset = contentsAt N B (placeOf b v); length = length (contentsFound (lookup b (entriesIn v))) })
+    (record { code = code; offset = 0; length = 0 })
+
 formattedPages : ℕ → ℕ → List Page
 formattedPages N B = playPages N B (replicate (N * (B + 1)) (replicate 256 0)) (whole format ∷ [])
 
+recordedPages : Setup → List Page
+recordedPages u = runPages (u .slots) (copyEntries (u .segments) (u .slots) 0 0 (u .records)) (formattedPages (u .segments) (u .slots))
+
+leftPages : Setup → List Page
+leftPages u = playPages (u .segments) (u .slots) (recordedPages u) (u .calls)
+
 benchPages : Bench
 benchPages = record {
-  pages = λ N B xs. playPages N B (formattedPages N B) xs;
-  work = λ N B xs r. workPages N B (playPages N B (formattedPages N B) xs) r;
-  seen = λ N B xs. seenPages N B (formattedPages N B) xs;
+  pages = λ u. leftPages u;
+  work = λ u r. workPages (u .segments) (u .slots) (leftPages u) r;
+  found = λ u b. readPages (u .segments) (u .slots) (leftPages u) b;
+  seen = λ u. seenPages (u .segments) (u .slots) (recordedPages u) (u .calls);
 }
 
 computed : failing benchPages 0 examples ≡ []
-unfolding evaluate workPages playPages seenPages formattedPages benchPages
+unfolding evaluate workPages playPages seenPages readPages formattedPages recordedPages leftPages benchPages contentsAt
 computed = refl
 
 -- ---- the bench over pages is the bench over the image
@@ -112,31 +128,55 @@ formatted-pages N B = play-pages N B (whole format ∷ []) (zeros N B) (zeros-le
     blank-pages : pagesOf N B (zeros N B) ≡ replicate (N * (B + 1)) (replicate 256 0)
     blank-pages = unfold pagesOf imageLength in chunk-replicate (N * (B + 1)) 256 0
 
-pages-same : (N B : ℕ) (xs : List Call) → bench .pages N B xs ≡ benchPages .pages N B xs
-unfolding bench benchPages
-pages-same N B xs = play-pages N B xs (formatted N B) (formatted-length N B) ∙ ap (λ y. playPages N B y xs) (formatted-pages N B)
+read-pages : (N B : ℕ) (s : Image) (b : ℕ) → length s ≡ imageLength N B → readOutcome N B s b ≡ readPages N B (pagesOf N B s) b
+unfolding readOutcome readPages view segmentsOf
+read-pages N B s b h = rw (work-pages N B s (read b) h)
 
-work-same : (N B : ℕ) (xs : List Call) (r : Request) → bench .work N B xs r ≡ benchPages .work N B xs r
-unfolding bench benchPages
-work-same N B xs r = work-pages N B (play N B (formatted N B) xs) r (play-length N B xs (formatted N B) (formatted-length N B)) ∙ ap (λ y. workPages N B y r) (pages-same N B xs)
+recorded-length : (u : Setup) → length (recorded u) ≡ imageLength (u .segments) (u .slots)
+unfolding recorded
+recorded-length u = run-length (u .slots) (copyEntries (u .segments) (u .slots) 0 0 (u .records)) (formatted (u .segments) (u .slots)) ∙ formatted-length (u .segments) (u .slots)
 
-seen-same : (N B : ℕ) (xs : List Call) → bench .seen N B xs ≡ benchPages .seen N B xs
-unfolding bench benchPages
-seen-same N B xs = seen-pages N B xs (formatted N B) (formatted-length N B) ∙ ap (λ y. seenPages N B y xs) (formatted-pages N B)
+recorded-pages : (u : Setup) → pagesOf (u .segments) (u .slots) (recorded u) ≡ recordedPages u
+unfolding recorded recordedPages
+recorded-pages u = let xs = copyEntries (u .segments) (u .slots) 0 0 (u .records) in
+    pages-run (u .segments) (u .slots) xs (formatted (u .segments) (u .slots)) (formatted-length (u .segments) (u .slots))
+    ∙ ap (λ y. runPages (u .slots) xs y) (formatted-pages (u .segments) (u .slots))
 
-cut-same : (N B : ℕ) (xs : List Call) (r : Request) (n b : ℕ) (bytes ks : List ℕ) → cutHolds bench N B xs r n b bytes ks ≡ cutHolds benchPages N B xs r n b bytes ks
+left-length : (u : Setup) → length (left u) ≡ imageLength (u .segments) (u .slots)
+unfolding left
+left-length u = play-length (u .segments) (u .slots) (u .calls) (recorded u) (recorded-length u)
+
+pages-same : (u : Setup) → bench .pages u ≡ benchPages .pages u
+unfolding bench benchPages left leftPages
+pages-same u = play-pages (u .segments) (u .slots) (u .calls) (recorded u) (recorded-length u) ∙ ap (λ y. playPages (u .segments) (u .slots) y (u .calls)) (recorded-pages u)
+
+work-same : (u : Setup) (r : Request) → bench .work u r ≡ benchPages .work u r
+unfolding bench benchPages
+work-same u r = work-pages (u .segments) (u .slots) (left u) r (left-length u) ∙ ap (λ y. workPages (u .segments) (u .slots) y r) (pages-same u)
+
+found-same : (u : Setup) (b : ℕ) → bench .found u b ≡ benchPages .found u b
+unfolding bench benchPages
+found-same u b = read-pages (u .segments) (u .slots) (left u) b (left-length u) ∙ ap (λ y. readPages (u .segments) (u .slots) y b) (pages-same u)
+
+seen-same : (u : Setup) → bench .seen u ≡ benchPages .seen u
+unfolding bench benchPages
+seen-same u = seen-pages (u .segments) (u .slots) (u .calls) (recorded u) (recorded-length u) ∙ ap (λ y. seenPages (u .segments) (u .slots) y (u .calls)) (recorded-pages u)
+
+cut-same : (u : Setup) (r : Request) (n b : ℕ) (bytes ks : List ℕ) → cutHolds bench u r n b bytes ks ≡ cutHolds benchPages u r n b bytes ks
 unfolding cutHolds
-cut-same N B xs r n b bytes [] = refl
-cut-same N B xs r n b bytes (k ∷ ks) =
-    rw (work-same N B xs r, work-same N B (xs ++ (call r k ∷ [])) recover, pages-same N B (xs ++ (call r k ∷ []) ++ (whole recover ∷ [])), cut-same N B xs r n b bytes ks)
+cut-same u r n b bytes [] = refl
+cut-same u r n b bytes (k ∷ ks) =
+    let cutOff = andThen u (call r k ∷ []) in
+    rw (work-same u r, work-same cutOff recover, pages-same (andThen cutOff (whole recover ∷ [])), cut-same u r n b bytes ks)
 
 example-same : (x : Example) → exampleHolds bench x ≡ exampleHolds benchPages x
 unfolding exampleHolds
 example-same (sizes N B l c) = refl
-example-same (begins N B xs p bytes) = rw (pages-same N B xs)
-example-same (answers N B xs r code n e) = rw (work-same N B xs r)
-example-same (counts N B xs e r l) = rw (seen-same N B xs)
-example-same (cuts N B xs r ks n b bytes) = cut-same N B xs r n b bytes ks
+example-same (begins u p bytes) = rw (pages-same u)
+example-same (answers u r code n e) = rw (work-same u r)
+example-same (reads u b code at n) = rw (found-same u b)
+example-same (counts u e r l) = rw (seen-same u)
+example-same (cuts u r ks n b bytes) = cut-same u r n b bytes ks
 
 failing-same : (i : ℕ) (xs : List Example) → failing bench i xs ≡ failing benchPages i xs
 unfolding failing

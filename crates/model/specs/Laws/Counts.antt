@@ -11,7 +11,7 @@ saw r code erases = record { request = r; code = code; erases = erases }
 
 -- two blocks stored, one rewritten with an erase, one deleted; a delete of what is absent, a put refused as full, a read and a recover count for nothing
 short : List Observed
-short = saw (put 1 []) 0 [] ∷ saw (put 2 []) 0 [] ∷ saw (put 1 []) 0 (2 ∷ []) ∷ saw (delete 2) 0 [] ∷ saw (delete 2) 6 [] ∷ saw (put 3 []) 7 []
+short = saw (put 1 (9 ∷ [])) 0 [] ∷ saw (put 2 (9 ∷ [])) 0 [] ∷ saw (put 1 (9 ∷ [])) 0 (2 ∷ []) ∷ saw (delete 2) 0 [] ∷ saw (delete 2) 6 [] ∷ saw (put 3 (9 ∷ [])) 7 []
     ∷ saw (read 1) 0 [] ∷ saw recover 0 [] ∷ []
 
 counted : tally short start ≡ record { stored = 1 ∷ []; largest = 2; replaced = 2; erased = 2 ∷ [] }

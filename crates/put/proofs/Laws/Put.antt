@@ -8,12 +8,13 @@ use lib.ListN.{length, length-append}
 use lib.Dec.{ltb, leb}
 use borrow.Author.Tests.{lt-ltb, ltb-true, leb-false}
 use Rattle.model.specs.Chip.{Image, numberLimit, mostSegments, run}
+use Rattle.model.specs.Slot.{mostContents}
 use Rattle.model.specs.State.{segmentsOf, View, view, clean, state}
 use Rattle.model.specs.Steps.{onPage, slotAt, writeSlot, writeAtTop, markOld, topRow, topNumber, hasRoom, firstEmpty, Room, roomFor, compactions, newNumbers, isWorn, putSteps}
 use Rattle.model.specs.Answers.{put, stepsFor, performed, outcomeOf}
 use Rattle.model.specs.declared.Performed.{Performed}
 use Rattle.model.specs.Laws.Chip.{size-facts}
-use Rattle.bridge.specs.Accepted.{refusal}
+use Rattle.bridge.specs.Accepted.{refusal, taken-short}
 use Rattle.bridge.specs.Held.{Held, clean-of-held}
 use Rattle.bridge.specs.Requests.{held-below, room-held}
 use Rattle.bridge.specs.Views.Room.{Made, room-made}
@@ -44,7 +45,7 @@ module _ (N B : ℕ) (p : Plan) (f : Found) (b : ℕ) (c : List ℕ) (s : Image)
   room = roomFor N B v
 
   accepted-code : refusal N B s (put b c) ≡ 0
-  accepted-code = put-accepted N B s (k .size) b c (a .put .number) (a .put .short) (k .state) (a .space) (a .fresh)
+  accepted-code = put-accepted N B s (k .size) b c (a .put .number) (a .put .taken) (k .state) (a .space) (a .fresh)
 
   -- its list: room, and the last steps
   accepted-steps : stepsFor N B (segmentsOf N B s) (put b c) ≡ room .steps ++ lastSteps N B b c (room .result)
@@ -127,7 +128,7 @@ module _ (N B : ℕ) (p : Plan) (f : Found) (b : ℕ) (c : List ℕ) (s : Image)
           slot = d .slot some ∙ ap (λ (y : View). firstEmpty (topRow (y .slots))) view-is;
           room = omega (arith, d .slot some, room-free);
           old = e;
-          short = a .put .short;
+          short = unfold mostContents in taken-short (length c) (a .put .taken);
           left = ran-left (d .ran);
         }
 

@@ -107,8 +107,8 @@ module _ (N B : ℕ) (p : Plan) (b : ℕ) (c : List ℕ) (s : Image) (u : Puttab
     answer-refuses a w m = go (fullBy N B p f) (wornBy N B p) refl refl a w m
       where
         go : (x y : Bool) → fullBy N B p f ≡ x → wornBy N B p ≡ y → (a : Answer) → a ≡ cond x Full (cond y Worn Done) → Refusing a → (refusal N B s (put b c) ≡ codeOf a) × (eqb (codeOf a) 0 ≡ false)
-        go true y q r a w m = rw w (put-full N B s (k .size) b c (u .number) (u .short) (k .state) (sym full-same ∙ q), refl)
-        go false true q r a w m = rw w (put-worn N B s (k .size) b c (u .number) (u .short) (k .state) (sym full-same ∙ q) (sym worn-same ∙ r), refl)
+        go true y q r a w m = rw w (put-full N B s (k .size) b c (u .number) (u .taken) (k .state) (sym full-same ∙ q), refl)
+        go false true q r a w m = rw w (put-worn N B s (k .size) b c (u .number) (u .taken) (k .state) (sym full-same ∙ q) (sym worn-same ∙ r), refl)
         go false false q r a w m = absurd (refusing-not (subst Refusing w m))
 
     -- no refusal

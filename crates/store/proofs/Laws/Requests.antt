@@ -10,7 +10,7 @@ use Rattle.model.specs.Chip.{Image, rightSize}
 use Rattle.model.specs.Slot.{numberOk}
 use Rattle.model.specs.State.{clean, state, view, placeOf}
 use Rattle.model.specs.Steps.{onPage, slotAt, markDead, markPlace, openSegment, eraseFirst, formatSteps, deleteSteps}
-use Rattle.model.specs.Answers.{codeOf, Request, format, put, delete, stepsFor, workOn, workOf, performed, outcomeOf, ReadOutcome, contentsAt, readOutcome, pieceRead, pieceOr}
+use Rattle.model.specs.Answers.{codeOf, lengthOk, Request, format, put, delete, stepsFor, workOn, workOf, performed, outcomeOf, ReadOutcome, contentsAt, readOutcome, pieceRead, pieceOr}
 use Rattle.model.specs.declared.Answer.{Answer}
 use Rattle.model.specs.declared.Answer.the-variants.{Size}
 use Rattle.model.specs.declared.Performed.{Performed}
@@ -38,7 +38,7 @@ module _ (N B : ℕ) (s : Image) (budget : ℕ) where
 
   -- ---- put, on an image that is not clean
 
-  pub put-unclean-refused : (b : ℕ) (c : List ℕ) {p : Performed} → rightSize N B s ≡ true → numberOk b ≡ true → length c ≤ 248 → (a : Answer) → (state N B s ≡ clean → ⊥) → a ≡ answerIn (state N B s)
+  pub put-unclean-refused : (b : ℕ) (c : List ℕ) {p : Performed} → rightSize N B s ≡ true → numberOk b ≡ true → lengthOk (length c) ≡ true → (a : Answer) → (state N B s ≡ clean → ⊥) → a ≡ answerIn (state N B s)
       → Refused a p → performed p s ≡ outcomeOf N B s budget (put b c)
   put-unclean-refused b c {p} z n h a u e r =
       refused-outcome N B s budget (put b c) a p (put-unclean N B s z b c n h u ∙ ap codeOf (sym e)) (rw e (unclean-code (state N B s) u)) r
