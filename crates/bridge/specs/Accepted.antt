@@ -12,6 +12,7 @@ use Rattle.model.specs.Slot.{mostContents, numberOk}
 use Rattle.model.specs.State.{segmentsOf, View, viewOf, view, entriesIn, holds, capacity, state, clean}
 use Rattle.model.specs.Steps.{recoverSteps, isWorn}
 use Rattle.model.specs.Answers.{Request, format, put, delete, read, readOr, recover, Refusal, firstOf, lengthOk, isFull, absentRefusals, refusals, stepsFor, Work, workOn, workOf}
+use Rattle.model.specs.Laws.Lists.{and-left, and-right}
 use Rattle.bridge.specs.Predicted.{Fits}
 
 -- ---- the code and the list

@@ -111,7 +111,7 @@ unfolding malformed
 put-some b c [] h = absurd h
 put-some b c (e ∷ es) (inl now) = taken-some (length c) (taken (numberOk b) (lengthOk (length c)) (ap malformed (sym (now .0)) ∙ now .1))
   where
-    taken : (x y : Bool) → cond x (cond y 0 3) 2 ≡ 0 → y ≡ true
+    taken : (x y : Bool) → _≡_ {A = ℕ} (cond x (cond y 0 3) 2) 0 → y ≡ true
     taken true true h = refl
     taken true false h = absurd (omega (arith, h))
     taken false y h = absurd (omega (arith, h))
