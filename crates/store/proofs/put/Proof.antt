@@ -42,22 +42,25 @@ returns-2 c =
     (sym (c .before .before .number-ok .ensures) ∙ not-true _ (c .before .if2 .taken)))
     refl (c .refused2 .ensures)
 
+length-ok-requires : tie.Need-length-ok-requires
+length-ok-requires c κs = search needs
+
 refused-requires-3 : tie.Need-refused-requires-3
 refused-requires-3 c κs = search needs
 
 returns-3 : tie.Need-returns-3
 unfolding codeOf
 returns-3 c =
-    let a = c .before .before .before .before .before .before .before .before .args in
+    let a = c .before .before .before .before .before .before .before .before .before .args in
     refused-outcome (a .segments) (a .slots) (now (a .image)) (a .budget) (put (a .block .0) (now (a .contents))) Length _
-    (put-length (a .segments) (a .slots) (now (a .image)) (right-size (a .segments) (a .slots) (now (a .image)) _ (c .before .before .before .before .before .right-size .ensures) (c .before .before .before .before .if1 .left)) (a .block .0) (now (a .contents))
-    (sym (c .before .before .before .number-ok .ensures) ∙ not-false _ (c .before .before .if2 .left)) (c .before .if3 .taken))
+    (put-length (a .segments) (a .slots) (now (a .image)) (right-size (a .segments) (a .slots) (now (a .image)) _ (c .before .before .before .before .before .before .right-size .ensures) (c .before .before .before .before .before .if1 .left)) (a .block .0) (now (a .contents))
+    (sym (c .before .before .before .before .number-ok .ensures) ∙ not-false _ (c .before .before .before .if2 .left)) (sym (c .before .before .length-ok .ensures) ∙ not-true _ (c .before .if3 .taken)))
     refl (c .refused3 .ensures)
 
 survey-requires : tie.Need-survey-requires
 survey-requires c κs =
-    let a = c .before .before .before .before .before .before .before .before .args in
-    right-size (a .segments) (a .slots) (now (a .image)) _ (c .before .before .before .before .before .right-size .ensures) (c .before .before .before .before .if1 .left)
+    let a = c .before .before .before .before .before .before .before .before .before .args in
+    right-size (a .segments) (a .slots) (now (a .image)) _ (c .before .before .before .before .before .before .right-size .ensures) (c .before .before .before .before .before .if1 .left)
 
 enum-known-surveyed : tie.Need-enum-known-surveyed
 enum-known-surveyed c = search needs
@@ -73,21 +76,21 @@ same-length c = search needs
 
 returns-4 : tie.Need-returns-4
 returns-4 c =
-    let a = c .before .before .before .before .before .before .before .before .before .before .before .before .args in
+    let a = c .before .before .before .before .before .before .before .before .before .before .before .before .before .args in
     let r = c .before .before .before .survey in
-    put-unclean-refused (a .segments) (a .slots) (now (a .image)) (a .budget) (a .block .0) (now (a .contents)) (right-size (a .segments) (a .slots) (now (a .image)) _ (c .before .before .before .before .before .before .before .before .before .right-size .ensures) (c .before .before .before .before .before .before .before .before .if1 .left))
-    (sym (c .before .before .before .before .before .before .before .number-ok .ensures) ∙ not-false _ (c .before .before .before .before .before .before .if2 .left)) (c .before .before .before .before .before .if3 .left) _
+    put-unclean-refused (a .segments) (a .slots) (now (a .image)) (a .budget) (a .block .0) (now (a .contents)) (right-size (a .segments) (a .slots) (now (a .image)) _ (c .before .before .before .before .before .before .before .before .before .before .right-size .ensures) (c .before .before .before .before .before .before .before .before .before .if1 .left))
+    (sym (c .before .before .before .before .before .before .before .before .number-ok .ensures) ∙ not-false _ (c .before .before .before .before .before .before .before .if2 .left)) (sym (c .before .before .before .before .before .before .length-ok .ensures) ∙ not-false _ (c .before .before .before .before .before .if3 .left)) _
     (survey-other (a .segments) (a .slots) (now (a .image)) (r .result) (r .ensures) (c .before .before .match .keys2))
     (c .before .state-answer .ensures ∙ ap answerIn (survey-says (a .segments) (a .slots) (now (a .image)) (r .result) (r .ensures))) (c .refused4 .ensures)
 
 put-clean-requires : tie.Need-put-clean-requires
 put-clean-requires c κs =
-    let a = c .before .before .before .before .before .before .before .before .before .before .before .before .before .args in
+    let a = c .before .before .before .before .before .before .before .before .before .before .before .before .before .before .args in
     let r = c .before .before .before .before .survey in record {
-      plan = survey-plan (a .segments) (a .slots) (now (a .image)) (r .result) (r .ensures) (right-size (a .segments) (a .slots) (now (a .image)) _ (c .before .before .before .before .before .before .before .before .before .before .right-size .ensures) (c .before .before .before .before .before .before .before .before .before .if1 .left)) _ _ _ _ _ (c .before .before .surveyed .given .1);
-      bytes = bytes-known (now (a .image)) (λ i. omega (arith, c .before .before .before .before .before .before .before .before .before .before .before .before .slice-known .given i));
-      number = sym (c .before .before .before .before .before .before .before .before .number-ok .ensures) ∙ not-false _ (c .before .before .before .before .before .before .before .if2 .left);
-      short = c .before .before .before .before .before .before .if3 .left;
+      plan = survey-plan (a .segments) (a .slots) (now (a .image)) (r .result) (r .ensures) (right-size (a .segments) (a .slots) (now (a .image)) _ (c .before .before .before .before .before .before .before .before .before .before .before .right-size .ensures) (c .before .before .before .before .before .before .before .before .before .before .if1 .left)) _ _ _ _ _ (c .before .before .surveyed .given .1);
+      bytes = bytes-known (now (a .image)) (λ i. omega (arith, c .before .before .before .before .before .before .before .before .before .before .before .before .before .slice-known .given i));
+      number = sym (c .before .before .before .before .before .before .before .before .before .number-ok .ensures) ∙ not-false _ (c .before .before .before .before .before .before .before .before .if2 .left);
+      taken = sym (c .before .before .before .before .before .before .before .length-ok .ensures) ∙ not-false _ (c .before .before .before .before .before .before .if3 .left);
     }
 
 same-length-2 : tie.Need-same-length-2
@@ -106,6 +109,7 @@ put-spec =
     number-ok-requires
     refused-requires-2
     returns-2
+    length-ok-requires
     refused-requires-3
     returns-3
     survey-requires
