@@ -118,9 +118,6 @@ write-page-requires c κs =
     let v = live-page _ (told .kind .given .0 .0) (told .kind .given .0 .1 .0) (told .before .before .slot-kind .ensures) (told .kind .given .1) in
     (search needs, search needs, omega (arith, v .short))
 
-add-copied : tie.Need-add-copied Inv-loop μ-loop
-add-copied c = search needs
-
 loop-less-2 : tie.Need-loop-less-2 Inv-loop μ-loop
 loop-less-2 c = search needs
 
@@ -136,6 +133,10 @@ loop-again-2 c =
     copying-turn _ _ _ _ _ _ _ _ _ _ (from .slots-place .result + k .loop .slot * 256) (k .loop .inv) (test .loop-test .taken)
     (read .page-of .result) (omega (arith, from .slots-place .ensures)) (read .page-of .ensures) (seen .slot-kind .result) (told .kind .given .0 .0) (told .kind .given .0 .1 .0) _ _ _
     (seen .slot-kind .ensures ∙ ap (λ (p : Page). kindOf (slotOf p)) (sym (read .page-of .ensures))) (told .kind .given .1) (k .before .slots-place2 .ensures) (wrote .write-page .ensures)
+
+-- after `loop-again-2`, so that code which counts otherwise is refused there first: for what it counts, not for how large that grows
+add-copied : tie.Need-add-copied Inv-loop μ-loop
+add-copied c = search needs
 
 same-length : tie.Need-same-length Inv-loop μ-loop
 same-length c = search needs

@@ -41,8 +41,3 @@ slot = slotPage 7 (0x41 ∷ 0x31 ∷ [])
 slot-bytes-count : isLive (slotOf slot) && allBelow (λ k. not (isLive (slotOf (flipped slot k))) || (eqb k 8 || (eqb k 9 || (eqb k 2 || eqb k 3)))) 256 ≡ true
 unfolding allBelow flipped isLive slot same erased isBlank mostContents numberOk slotPage pageBlock pageContents slotFits slotOf
 slot-bytes-count = refl
-
--- a slot of length 0 is live, though no put stores one any more (request #105)
-empty-is-live : slotOf (slotPage 7 []) ≡ live 7 []
-unfolding same erased isBlank mostContents numberOk slotPage pageBlock pageContents slotFits slotOf
-empty-is-live = refl
