@@ -65,15 +65,12 @@ done-proper C w t r h = go (eqb (malformed r) 0) refl h
     go true e k = eqb-true (malformed r) 0 e
     go false e k = k
 
-abbrev PutDone : ℕ → Bool → Table → Request → ℕ → List ℕ → Type 0
-PutDone C w t r b c = (r ≡ put b c) × (malformed r ≡ 0) × (plainCode C w t r ≡ 0)
-
-next-from : (C : ℕ) (w : Bool) (t : Table) (r : Request) (b : ℕ) (c : List ℕ) → lookup b (next C w t r) ≡ present c → (lookup b t ≡ present c) ⊎ PutDone C w t r b c
+next-from : (C : ℕ) (w : Bool) (t : Table) (r : Request) (b : ℕ) (c : List ℕ) → lookup b (next C w t r) ≡ present c → (lookup b t ≡ present c) ⊎ ((r ≡ put b c) × (plainCode C w t r ≡ 0))
 unfolding next
 next-from C w t r b c h = go (eqb (plainCode C w t r) 0) refl h
   where
-    go : (x : Bool) → eqb (plainCode C w t r) 0 ≡ x → lookup b (cond x (made t r) t) ≡ present c → (lookup b t ≡ present c) ⊎ PutDone C w t r b c
-    go true e k = let done = eqb-true (plainCode C w t r) 0 e in ⊎-elim (λ old. inl old) (λ new. inr (new, done-proper C w t r done, done)) (made-from r t b c k)
+    go : (x : Bool) → eqb (plainCode C w t r) 0 ≡ x → lookup b (cond x (made t r) t) ≡ present c → (lookup b t ≡ present c) ⊎ ((r ≡ put b c) × (plainCode C w t r ≡ 0))
+    go true e k = ⊎-elim (λ old. inl old) (λ new. inr (new, eqb-true (plainCode C w t r) 0 e)) (made-from r t b c k)
     go false e k = inl k
 
 held-shows : (x : Promise) (t : Table) (b : ℕ) (z : Found) → Holds x t → lookup b t ≡ z → Shows x b z
@@ -89,12 +86,12 @@ shows-held unknown t b z k h = absurd k
 -- in one event: they were shown before, or this event put them
 pub move-from : {C : ℕ} {w : Bool} {r : Request} {o : Seen} {x y : Promise} → Moves C w r o x y → (b : ℕ) (c : List ℕ) → Shows y b (present c) → Shows x b (present c) ⊎ Puts b c r o
 unfolding plain lookup
-move-from {C} {w} {r} (answers {t = t} k e) b c h = ⊎-elim (λ old. inl old) (λ new. inr (new .0, new .1, inl (ap codeSeen e ∙ new .2))) (next-from C w t r b c h)
-move-from {C} {w} {r} (answers-again {t = t} k i e) b c h = ⊎-elim (λ old. inl old) (λ new. inr (new .0, new .1, inl (ap codeSeen e ∙ new .2))) (next-from C w t r b c h)
+move-from {C} {w} {r} (answers {t = t} k e) b c h = ⊎-elim (λ old. inl old) (λ new. inr (new .0, done-proper C w t r (new .1), inl (ap codeSeen e ∙ new .1))) (next-from C w t r b c h)
+move-from {C} {w} {r} (answers-again {t = t} k i e) b c h = ⊎-elim (λ old. inl old) (λ new. inr (new .0, done-proper C w t r (new .1), inl (ap codeSeen e ∙ new .1))) (next-from C w t r b c h)
 move-from (asks-recovery k i e) b c h = inl h
 move-from (refuses-malformed n i e) b c h = inl h
 move-from {x = x} (not-begun t k i e) b c h = inl (held-shows x t b (present c) k h)
-move-from {C} {w} {r} {o} {x = x} (wholly-done t k i e) b c h = ⊎-elim (λ old. inl (held-shows x t b (present c) k old)) (λ new. inr (new .0, new .1, inr (cut-code o e))) (next-from C w t r b c h)
+move-from {C} {w} {r} {o} {x = x} (wholly-done t k i e) b c h = ⊎-elim (λ old. inl (held-shows x t b (present c) k old)) (λ new. inr (new .0, done-proper C w t r (new .1), inr (cut-code o e))) (next-from C w t r b c h)
 move-from (formats i e) b c h = absurd (never c h)
 move-from (format-cut i e) b c h = absurd h
 move-from (no-promise k) b c h = absurd h
