@@ -69,7 +69,8 @@ pub struct Read<'a> {
     pub answer: Answer,
     /// Where in the image the contents begin; 0 for a refusal.
     pub offset: usize,
-    /// The contents, as they lie in the image; empty for a refusal.
+    /// The contents, as they lie in the image; empty for a refusal, and for a record of 0 bytes from
+    /// before puts of 0 bytes were refused.
     pub contents: &'a [u8],
 }
 

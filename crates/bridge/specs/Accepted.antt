@@ -62,7 +62,7 @@ unfolding firstOf
 passed n true r h = absurd (omega arith)
 passed n false r h = (refl, h)
 
--- contents that a put takes are some, and fit a slot
+-- contents that a put takes have at least one byte, and fit a slot
 pub taken-some : (n : ℕ) → lengthOk n ≡ true → 0 < n
 unfolding lengthOk
 taken-some n h = ltb-true 0 n (and-left (ltb 0 n) (leb n mostContents) h)

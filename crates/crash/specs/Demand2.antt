@@ -4,7 +4,7 @@ use mathlib.Core.Path.{_≡_}
 use mathlib.Core.Logic.{_≢_}
 use mathlib.Core.Bool.{true}
 use mathlib.Core.List.{List}
-use Rattle.model.specs.Chip.{Image, rightSize}
+use Rattle.model.specs.Chip.{Image, Bytes, rightSize}
 use Rattle.model.specs.State.{clean, damaged, capacity, state}
 use Rattle.model.specs.Table.{Agree, tableOf}
 use Rattle.model.specs.Histories.{Event, History, recovered, shown}
@@ -21,3 +21,8 @@ Keeps N B s unknown = Unit {0}
 abbrev pub Demand2 : Type 0
 Demand2 = (N B : ℕ) (s u : Image) (es : List Event) → rightSize N B s ≡ true → History N B s es u
     → (x : Promise) × PlainRuns (capacity N B) unknown es x × Keeps N B u x
+
+-- The same from any clean image, with the table that it holds: so also from one with empty records, which no put makes any more (request #105).
+abbrev pub FromClean : Type 0
+FromClean = (N B : ℕ) (s u : Image) (es : List Event) → rightSize N B s ≡ true → Bytes s → state N B s ≡ clean → History N B s es u
+    → (x : Promise) × PlainRuns (capacity N B) (settled (tableOf N B s)) es x × Keeps N B u x

@@ -1,4 +1,4 @@
--- The customer's sentences over whole histories of the plain table: a block never shows contents that were not put under its number since the last format,
+-- The customer's sentences over whole histories of the plain table: a block never shows contents that were not put under its number since the last format, or that have 0 bytes,
 -- and acknowledged contents are read back until the block is written or deleted, through every power cut.
 use Prim.Native.Nat.{ℕ, suc, _<_}
 use mathlib.Core.Path.{_≡_, refl, sym, ap, ap₂, _∙_, subst}
@@ -26,7 +26,7 @@ Shows (settled t) b z = lookup b t ≡ z
 Shows (interrupted t) b z = lookup b t ≡ z
 Shows unknown b z = ⊥
 
--- a put of these contents under this number, neither of which it is refused for, acknowledged or cut; and one among some events
+-- a put of these contents under this number, refused for neither, acknowledged or cut; and one among some events
 abbrev pub Puts : ℕ → List ℕ → Request → Seen → Type 0
 Puts b c r o = (r ≡ put b c) × (malformed r ≡ 0) × ((codeSeen o ≡ 0) ⊎ (codeSeen o ≡ 9))
 
@@ -102,7 +102,7 @@ runs-from C [] x y e b c h = inl (subst (λ (v : Promise). Shows v b (present c)
 runs-from C (e ∷ es) x y (z, m, rest) b c h =
     ⊎-elim (λ k. ⊎-elim (λ old. inl old) (λ now. inr (inl now)) (move-from m b c k)) (λ later. inr (inr later)) (runs-from C es z y rest b c h)
 
--- contents that were put are some: 0 bytes are refused
+-- contents that were put have at least one byte
 pub put-some : (b : ℕ) (c : List ℕ) (es : List Event) → PutAmong b c es → 0 < length c
 unfolding malformed
 put-some b c [] h = absurd h

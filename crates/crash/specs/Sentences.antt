@@ -1,19 +1,19 @@
--- The customer's sentences about every history of the store, from any image of a right size.
+-- The customer's sentences about every history of the store, from any image of a right size; the last from any clean one.
 use Prim.Native.Nat.{ℕ, _<_}
 use mathlib.Core.Path.{_≡_, sym, subst}
 use mathlib.Core.Logic.{_≢_}
 use mathlib.Core.Bool.{true}
 use mathlib.Core.List.{List, [], _∷_, _++_}
 use lib.ListN.{length}
-use Rattle.model.specs.Chip.{Image, rightSize}
+use Rattle.model.specs.Chip.{Image, Bytes, rightSize}
 use Rattle.model.specs.Slot.{numberOk}
-use Rattle.model.specs.State.{capacity}
-use Rattle.model.specs.Table.{Found}
+use Rattle.model.specs.State.{capacity, clean, state}
+use Rattle.model.specs.Table.{Found, lookup, tableOf}
 use Rattle.model.specs.Histories.{answered, Event, History}
-use Rattle.crash.specs.Machine.{unknown}
+use Rattle.crash.specs.Machine.{settled, unknown}
 use Rattle.crash.specs.Reading.{codeSeen, format-starts}
-use Rattle.crash.specs.ReadingRuns.{PutAmong, put-some, Known, NoFormat, FinishedFormat, runs-known, runs-append, Reads, factoryOf, gives, shows-only-what-was-put, AllSpare, replied, Leaves, acknowledged-stays}
-use Rattle.crash.specs.Theorem.{demand2}
+use Rattle.crash.specs.ReadingRuns.{PutAmong, put-some, Known, NoFormat, FinishedFormat, runs-known, runs-append, Reads, factoryOf, gives, shows-only-what-was-put, AllSpare, runs-keep, replied, read-back, Leaves, acknowledged-stays}
+use Rattle.crash.specs.Theorem.{demand2, from-clean}
 
 -- A block never shows contents that were not put under its number since the last format.
 pub store-shows-only-what-was-put : (N B : ℕ) (s u : Image) (past es : List Event) (f e : Event) (b : ℕ) (c : List ℕ) → rightSize N B s ≡ true
@@ -40,3 +40,14 @@ store-acknowledged-stays N B s u past before es f d e b z size h done none leave
     let (x, since, doing) = runs-append C before (d ∷ (es ++ (e ∷ []))) fresh y rest in
     let known : Known x = runs-known C before fresh x since none (subst Known (sym (format-starts formatting (done .request) (done .seen))) tt) in
     acknowledged-stays C x y es d e b z doing known leaves acknowledged spare q n cut asks
+
+-- Request #105, "stored slots of length 0 stay live, can be read and are copied in tidying": what a clean image holds of a block, contents of 0 bytes too,
+-- is what every read of that block shows until the block is put or deleted, through every put of others, power cut and recovery.
+pub store-stored-stays : (N B : ℕ) (s u : Image) (es : List Event) (e : Event) (b : ℕ) (z : Found) → rightSize N B s ≡ true → Bytes s → state N B s ≡ clean
+    → lookup b (tableOf N B s) ≡ z → History N B s (es ++ (e ∷ [])) u → AllSpare b es → Reads b (e .request) → numberOk b ≡ true
+    → codeSeen (e .seen) ≢ 9 → codeSeen (e .seen) ≢ 5 → e .seen ≡ answered (replied (factoryOf (e .request)) z)
+store-stored-stays N B s u es e b z size bytes tidy stored h spare q n cut asks =
+    let C = capacity N B in
+    let (y, runs, keeps) = from-clean N B s u (es ++ (e ∷ [])) size bytes tidy h in
+    let (last, since, (end, reading, nothing)) = runs-append C es (e ∷ []) (settled (tableOf N B s)) y runs in
+    read-back reading b z (runs-keep C es (settled (tableOf N B s)) last since b z spare stored) q n cut asks

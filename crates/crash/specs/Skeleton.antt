@@ -5,16 +5,14 @@ use mathlib.Core.Logic.{_⊎_, inl, inr, ⊎-elim}
 use mathlib.Core.Bool.{Bool, true, false, cond}
 use mathlib.Core.List.{List, [], _∷_}
 use native.Mathlib.Omega.{arith}
-use lib.ListN.{length}
 use lib.Dec.{eqb}
 use borrow.Author.Tests.{ne-eqb}
-use Rattle.model.specs.Chip.{Image, Bytes, imageLength, inRange, rightSize, run}
+use Rattle.model.specs.Chip.{Image, Bytes, rightSize, run}
 use Rattle.model.specs.State.{segmentsOf, distinct, capacity, State, clean, unfinished, damaged, state}
 use Rattle.model.specs.Steps.{formatSteps}
 use Rattle.model.specs.Table.{Table, lookup, Agree, contentsFound, tableOf}
 use Rattle.model.specs.Answers.{Request, format, put, delete, read, readOr, recover, workOf, pieceRead}
 use Rattle.model.specs.Histories.{Reply, bytesRead, Seen, answered, lost, Proper, Does, wears, Event, History, recovered, shown}
-use Rattle.model.specs.Laws.Lists.{and-left}
 use Rattle.model.specs.Laws.Chip.{cut-size, run-size}
 use Rattle.model.specs.Laws.Bytes.{cut-bytes, run-bytes}
 use Rattle.model.specs.Laws.Tables.{agree-of, agree-trans, agree-size}
@@ -23,7 +21,7 @@ use Rattle.bridge.specs.Held.{clean-view}
 use Rattle.bridge.specs.Accepted.{recover-none}
 use Rattle.bridge.specs.Format.{format-bytes}
 use Rattle.crash.specs.Machine.{malformed, plainCode, plainBytes, plain, made, next, codeOnTable, Promise, settled, interrupted, unknown, IsCut, OnTable, WantsRecovery, Holds, Moves, answers, answers-again, asks-recovery, refuses-malformed, not-begun, wholly-done, formats, format-cut, no-promise, PlainRuns}
-use Rattle.crash.specs.Demand2.{Keeps, Demand2}
+use Rattle.crash.specs.Demand2.{Keeps, Demand2, FromClean}
 use Rattle.crash.specs.Reading
 use Rattle.crash.specs.Sound.{SoundAs, Sound, Clean, finished, CutOf, DoneWith, LeftWith, RequestLaws}
 use Rattle.crash.specs.Requests.{refused-idle, idle-finished, idle-cut, read-idle, readOr-idle, readOr-work, shown-clean, sound-clean, read-refused, readOr-bytes, bytes-refused, ended, ended-or-stopped, code-clean, Unfinished, code-unfinished, code-recover, code-format, steps-format, malformed-small, code-agree, agree-made, distinct-made}
@@ -363,8 +361,14 @@ module _ (N B : ℕ) (laws : RequestLaws N B) where
   keeps s (interrupted t) (z, k) = ((λ e. subst (λ y. SoundAs N B s (segmentsOf N B s) y) e (k .sound)), laws .recover-done s z (k .sound), k .table)
   keeps s unknown k = tt
 
-pub demand2-from : ((N B : ℕ) → inRange N B ≡ true → RequestLaws N B) → Demand2
-demand2-from laws N B s u es z runs =
-    let l = laws N B (and-left (inRange N B) (eqb (length s) (imageLength N B)) (unfold rightSize in z)) in
-    let a = history N B l es s u unknown (z, tt) runs in
-    (a .0, a .1, keeps N B l u (a .0) (a .2))
+  -- from an image that keeps a promise
+  runs-on : (es : List Event) (s u : Image) (x : Promise) → Invariant N B s x → History N B s es u → (y : Promise) × PlainRuns (capacity N B) x es y × Keeps N B u y
+  runs-on es s u x k runs = let a = history es s u x k runs in (a .0, a .1, keeps u (a .0) (a .2))
+
+pub demand2-from : ((N B : ℕ) → RequestLaws N B) → Demand2
+demand2-from laws N B s u es z runs = runs-on N B (laws N B) es s u unknown (z, tt) runs
+
+pub clean-from : ((N B : ℕ) → RequestLaws N B) → FromClean
+unfolding tableOf
+clean-from laws N B s u es z y k runs =
+    runs-on N B (laws N B) es s u (settled (tableOf N B s)) (z, record { clean = k; table = λ b. refl; once = clean-distinct (clean-view N B s z k); bytes = y }) runs

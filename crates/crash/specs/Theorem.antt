@@ -10,9 +10,9 @@ use Rattle.model.specs.Table.{store, tableOf}
 use Rattle.model.specs.Answers.{put}
 use Rattle.bridge.specs.Requests.{put-done, after-table}
 use Rattle.bridge.specs.Format.{format-done, fresh-table}
-use Rattle.crash.specs.Demand2.{Demand2}
+use Rattle.crash.specs.Demand2.{Demand2, FromClean}
 use Rattle.crash.specs.Sound.{Clean, finished, Accepted, DoneWith, RequestLaws}
-use Rattle.crash.specs.Skeleton.{demand2-from}
+use Rattle.crash.specs.Skeleton.{demand2-from, clean-from}
 use Rattle.crash.specs.Recover.{recover-done, recover-cut}
 use Rattle.crash.specs.Read.{read-done}
 use Rattle.crash.specs.Delete.{finished-delete, delete-cut}
@@ -42,4 +42,7 @@ module _ (N B : ℕ) where
   }
 
 pub demand2 : Demand2
-demand2 = demand2-from (λ N B range. request-laws N B)
+demand2 = demand2-from request-laws
+
+pub from-clean : FromClean
+from-clean = clean-from request-laws

@@ -130,16 +130,21 @@ abbrev sevens : List ℕ → List Call
 sevens [] = []
 sevens (v ∷ vs) = whole (seven v) ∷ sevens vs
 
--- blocks 1, empty, and 2 fill the first of three segments
+-- blocks 1 and 4, both empty, and 2 between them fill the first of three segments
 abbrev shelf : List Call → Setup
-shelf xs = record { segments = 3; slots = 2; records = record { block = 1; contents = [] } ∷ record { block = 2; contents = 1 ∷ [] } ∷ []; calls = xs }
+shelf xs = record {
+  segments = 3;
+  slots = 3;
+  records = record { block = 1; contents = [] } ∷ record { block = 2; contents = 1 ∷ [] } ∷ record { block = 4; contents = [] } ∷ [];
+  calls = xs;
+}
 
--- blocks 3 and 2 fill the next one, so that the put of 3 again tidies the first
+-- blocks 2 and 3 fill the next one, so that one more put of 3 tidies the first, to segment 2
 abbrev filling : List Call
-filling = putEach (3 ∷ 2 ∷ [])
+filling = putEach (3 ∷ 2 ∷ 3 ∷ [])
 
-abbrev tidies : Request
-tidies = put 3 (2 ∷ [])
+abbrev compacting : Request
+compacting = put 3 (2 ∷ [])
 
 unfoldable pub examples : List Example
 examples =
@@ -174,21 +179,28 @@ examples =
     ∷ cuts (after 2 2 (sevens (1 ∷ 2 ∷ []))) (seven 3) (26 ∷ []) 0 7 (2 ∷ [])
     ∷ cuts (after 2 2 (sevens (1 ∷ 2 ∷ []))) (seven 3) (upFrom 27 5) 1 7 (2 ∷ [])
     ∷ cuts (after 2 2 (sevens (1 ∷ 2 ∷ []))) (seven 3) (32 ∷ []) 1 7 (3 ∷ [])
-    -- 10: contents of 1 and 248 bytes are taken, 0 (request #105) and 249 answer 3; block 0 answers 2 whatever the length
+    -- 10: contents of 1 and 248 bytes are taken, 0 (request #105) and 249 answer 3
     ∷ answers (after 4 15 []) (put 1 (1 ∷ [])) 0 6 0
     ∷ answers (after 4 15 []) (put 65534 (replicate 248 1)) 0 253 0
     ∷ answers (after 4 15 []) (put 1 []) 3 0 0
     ∷ answers (after 4 15 []) (put 1 (replicate 249 1)) 3 0 0
+    -- the smallest number that applies: 2 for block 0; 3 on a damaged image, an unfinished one and a full store
     ∷ answers (after 4 15 []) (put 0 []) 2 0 0
+    ∷ answers (after 2 2 (call format 1 ∷ [])) (put 7 []) 3 0 0
+    ∷ answers (after 2 2 (call (seven 1) 3 ∷ [])) (put 7 []) 3 0 0
+    ∷ answers (after 2 2 (sevens (1 ∷ []))) (put 8 []) 3 0 0
     -- request #105: an empty record from before is read, deleted, and rewritten, which opens a segment here
     ∷ reads (shelf []) 1 0 (1 * 256 + 8) 0
+    ∷ reads (shelf []) 4 0 (3 * 256 + 8) 0
     ∷ answers (shelf []) (delete 1) 0 1 0
     ∷ answers (shelf []) (put 1 (2 ∷ [])) 0 (17 + 6 + 1) 0
-    -- a tidying copies it, in 5 steps, to the first slot of segment 2, where it is read
-    ∷ answers (shelf filling) tidies 0 (20 + 5 + 6 + 1) 1
-    ∷ begins (shelf (filling ++ (whole tidies ∷ []))) 7 (0x3F ∷ 0x00 ∷ 0x01 ∷ 0x00 ∷ replicate 252 0xFF)
-    ∷ reads (shelf (filling ++ (whole tidies ∷ []))) 1 0 (7 * 256 + 8) 0
-    -- so it is if that put is cut and recovered: before the owing mark the old slot stands, from it on the copy
-    ∷ reads (shelf (filling ++ (call tidies 22 ∷ whole recover ∷ []))) 1 0 (1 * 256 + 8) 0
-    ∷ reads (shelf (filling ++ (call tidies 23 ∷ whole recover ∷ []))) 1 0 (7 * 256 + 8) 0
+    -- a tidying copies two in 5 steps each, to the first slots of the target, where they are read
+    ∷ answers (shelf filling) compacting 0 (20 + 5 + 5 + 6 + 1) 1
+    ∷ begins (shelf (filling ++ (whole compacting ∷ []))) 9 (0x3F ∷ 0x00 ∷ 0x01 ∷ 0x00 ∷ replicate 252 0xFF)
+    ∷ begins (shelf (filling ++ (whole compacting ∷ []))) 10 (0x3F ∷ 0x00 ∷ 0x04 ∷ 0x00 ∷ replicate 252 0xFF)
+    ∷ reads (shelf (filling ++ (whole compacting ∷ []))) 1 0 (9 * 256 + 8) 0
+    ∷ reads (shelf (filling ++ (whole compacting ∷ []))) 4 0 (10 * 256 + 8) 0
+    -- so they are if that put is cut and recovered: before the owing mark the old slots stand, from it on the copies
+    ∷ reads (shelf (filling ++ (call compacting 27 ∷ whole recover ∷ []))) 4 0 (3 * 256 + 8) 0
+    ∷ reads (shelf (filling ++ (call compacting 28 ∷ whole recover ∷ []))) 4 0 (10 * 256 + 8) 0
     ∷ []

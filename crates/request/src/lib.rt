@@ -64,7 +64,7 @@ pub fn number_ok(block: BlockNumber) -> bool
     n < 65535
 }
 
-// Whether a put takes contents of so many bytes: some, and no more than a slot holds.
+// Whether a put takes contents of so many bytes: at least one, and no more than a slot holds.
 pub fn length_ok(bytes: usize) -> bool
     ensures { λ r. ⌜ r ≡ lengthOk bytes ⌝ }
 {

@@ -1,6 +1,7 @@
 //! Request #105: a put of 0 bytes is refused in its place among the answers, and empty records from
 //! before live on.
 
+use crate::cuts;
 use crate::harness::Store;
 use crate::images::{self, blank, formatted, with_empty_records};
 use crate::prng::Rng;
@@ -68,7 +69,9 @@ fn empty_record(store: &Store, image: &[u8], g: Geometry, block: u16) -> usize {
     let slot = read.offset - 8;
     let header = [LIVE, 0, (block % 256) as u8, (block / 256) as u8];
     assert_eq!(image[slot..slot + 4], header);
-    assert!(image[slot + 4..slot + PAGE].iter().all(|&byte| byte == 0xFF));
+    assert!(image[slot + 4..slot + PAGE]
+        .iter()
+        .all(|&byte| byte == 0xFF));
     slot
 }
 
@@ -116,11 +119,17 @@ fn none_from_a_format_on() {
         for _ in 0..3_000 {
             let block = rng.between(1, g.capacity() + 1) as u16;
             let contents = rng.pick(&[vec![], vec![0xFF], vec![0; 3]]);
-            let allowance = rng.below(40) as u64;
-            store.perform(&mut image, g, &Request::Put { block, contents }, allowance);
+            let request = Request::Put { block, contents };
+            let (_, list) = steps_of(&image, g, &request);
+            let allowance = rng.between(0, list.len());
+            store.perform(&mut image, g, &request, allowance as u64);
+            if allowance < list.len() && rng.once_in(2) {
+                cuts::inside(&mut rng, g, &mut image, list[allowance]);
+            }
             store.done(&mut image, g, &Request::Recover);
-            let read = store.read(&image, g, block);
-            assert!(read.code == ABSENT || (read.code == DONE && read.length > 0));
+            let table = table_of(&image, g).expect("clean");
+            assert!(table.values().all(|contents| !contents.is_empty()));
+            store.read(&image, g, block);
         }
     }
 }

@@ -172,15 +172,21 @@ fn example_10_limits_of_contents_and_numbers() {
         );
     }
     // The number is looked at before the length, and both before the image.
-    for wrong in [vec![], vec![0; 249]] {
-        for (block, code) in [(0, NUMBER), (1, LENGTH)] {
-            let request = put_of(block, &wrong);
-            for image in [&mut image, &mut blank(MIDDLE)] {
-                let reply = store.perform(image, MIDDLE, &request, UNLIMITED);
-                assert_eq!(reply.code, code);
-            }
-        }
-    }
+    let long = put_of(0, &[0; 249]);
+    assert_eq!(
+        store.perform(&mut image, MIDDLE, &long, UNLIMITED).code,
+        NUMBER
+    );
+    let mut factory = blank(MIDDLE);
+    assert_eq!(
+        store.perform(&mut factory, MIDDLE, &long, UNLIMITED).code,
+        NUMBER
+    );
+    let long = put_of(1, &[0; 249]);
+    assert_eq!(
+        store.perform(&mut factory, MIDDLE, &long, UNLIMITED).code,
+        LENGTH
+    );
 }
 
 #[test]

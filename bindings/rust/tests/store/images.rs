@@ -16,8 +16,8 @@ pub fn formatted(g: Geometry) -> Vec<u8> {
     image
 }
 
-/// Contents of a slot, of any length that it may have, short ones more often. None at all are from
-/// before request #105.
+/// Contents of a slot, of any length that it may have, short ones more often. Length 0 is what a
+/// store from before request #105 may have left.
 pub fn contents(rng: &mut Rng) -> Vec<u8> {
     let length = match rng.below(8) {
         0 => 0,
