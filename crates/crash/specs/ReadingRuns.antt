@@ -220,10 +220,10 @@ shows-only-what-was-put C x y past es f e b c runs done none q g =
 
 -- ---- acknowledged contents stay
 
--- a request that leaves this block alone
+-- a request that leaves this block alone: of another block; or a put that is refused for its number or its length
 abbrev pub Spares : ℕ → Request → Type 0
 Spares b format = ⊥
-Spares b (put a c) = b ≢ a
+Spares b (put a c) = (b ≢ a) ⊎ (malformed (put a c) ≢ 0)
 Spares b (delete a) = b ≢ a
 Spares b (read a) = Unit {0}
 Spares b (readOr a f) = Unit {0}
@@ -235,19 +235,20 @@ AllSpare b (e ∷ es) = Spares b (e .request) × AllSpare b es
 
 next-keeps : (C : ℕ) (w : Bool) (t : Table) (r : Request) (b : ℕ) → Spares b r → lookup b (next C w t r) ≡ lookup b t
 unfolding next made
-next-keeps C w t r b q = go (eqb (plainCode C w t r) 0) (made-keeps r q)
+next-keeps C w t r b q = go (eqb (plainCode C w t r) 0) refl
   where
-    made-keeps : (a : Request) → Spares b a → lookup b (made t a) ≡ lookup b t
-    made-keeps format h = absurd h
-    made-keeps (put a c) h = lookup-store-other b a c t h
-    made-keeps (delete a) h = lookup-without-other b a t h
-    made-keeps (read a) h = refl
-    made-keeps (readOr a f) h = refl
-    made-keeps recover h = refl
+    made-keeps : (a : Request) → Spares b a → plainCode C w t a ≡ 0 → lookup b (made t a) ≡ lookup b t
+    made-keeps format h e = absurd h
+    made-keeps (put a c) (inl other) e = lookup-store-other b a c t other
+    made-keeps (put a c) (inr wrong) e = absurd (wrong (done-proper C w t (put a c) e))
+    made-keeps (delete a) h e = lookup-without-other b a t h
+    made-keeps (read a) h e = refl
+    made-keeps (readOr a f) h e = refl
+    made-keeps recover h e = refl
 
-    go : (x : Bool) → lookup b (made t r) ≡ lookup b t → lookup b (cond x (made t r) t) ≡ lookup b t
-    go true h = h
-    go false h = refl
+    go : (x : Bool) → eqb (plainCode C w t r) 0 ≡ x → lookup b (cond x (made t r) t) ≡ lookup b t
+    go true e = made-keeps r q (eqb-true (plainCode C w t r) 0 e)
+    go false e = refl
 
 move-keeps : {C : ℕ} {w : Bool} {r : Request} {o : Seen} {x y : Promise} → Moves C w r o x y → (b : ℕ) (z : Found) → Spares b r → Shows x b z → Shows y b z
 move-keeps {C} {w} {r} (answers {t = t} k e) b z q h = next-keeps C w t r b q ∙ h

@@ -146,6 +146,9 @@ filling = putEach (3 ∷ 2 ∷ 3 ∷ [])
 abbrev compacting : Request
 compacting = put 3 (2 ∷ [])
 
+abbrev compacted : Setup
+compacted = shelf (filling ++ (whole compacting ∷ []))
+
 unfoldable pub examples : List Example
 examples =
     -- 1
@@ -196,10 +199,10 @@ examples =
     ∷ answers (shelf []) (put 1 (2 ∷ [])) 0 (17 + 6 + 1) 0
     -- a tidying copies two in 5 steps each, to the first slots of the target, where they are read
     ∷ answers (shelf filling) compacting 0 (20 + 5 + 5 + 6 + 1) 1
-    ∷ begins (shelf (filling ++ (whole compacting ∷ []))) 9 (0x3F ∷ 0x00 ∷ 0x01 ∷ 0x00 ∷ replicate 252 0xFF)
-    ∷ begins (shelf (filling ++ (whole compacting ∷ []))) 10 (0x3F ∷ 0x00 ∷ 0x04 ∷ 0x00 ∷ replicate 252 0xFF)
-    ∷ reads (shelf (filling ++ (whole compacting ∷ []))) 1 0 (9 * 256 + 8) 0
-    ∷ reads (shelf (filling ++ (whole compacting ∷ []))) 4 0 (10 * 256 + 8) 0
+    ∷ begins compacted 9 (0x3F ∷ 0x00 ∷ 0x01 ∷ 0x00 ∷ replicate 252 0xFF)
+    ∷ begins compacted 10 (0x3F ∷ 0x00 ∷ 0x04 ∷ 0x00 ∷ replicate 252 0xFF)
+    ∷ reads compacted 1 0 (9 * 256 + 8) 0
+    ∷ reads compacted 4 0 (10 * 256 + 8) 0
     -- so they are if that put is cut and recovered: before the owing mark the old slots stand, from it on the copies
     ∷ reads (shelf (filling ++ (call compacting 27 ∷ whole recover ∷ []))) 4 0 (3 * 256 + 8) 0
     ∷ reads (shelf (filling ++ (call compacting 28 ∷ whole recover ∷ []))) 4 0 (10 * 256 + 8) 0

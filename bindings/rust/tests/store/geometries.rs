@@ -12,8 +12,10 @@ fn visit(store: &Store, rng: &mut Rng, g: Geometry) {
     image.resize(g.n * g.segment_len(), 0);
     assert_eq!(store.done(&mut image, g, &Request::Format), g.n as u64 + 17);
     for block in [1, 65_534, 1] {
-        let length = rng.between(1, MAX_LENGTH);
-        let contents = rng.bytes(length);
+        let mut contents = images::contents(rng);
+        if contents.is_empty() {
+            contents.push(0x41);
+        }
         let request = Request::Put { block, contents };
         let reply = store.perform(&mut image, g, &request, UNLIMITED);
         assert_eq!(reply.code == FULL, g.capacity() == 1 && block == 65_534);
