@@ -42,7 +42,8 @@ store-acknowledged-stays N B s u past before es f d e b z size h done none leave
     acknowledged-stays C x y es d e b z doing known leaves acknowledged spare q n cut asks
 
 -- Request #105, "stored slots of length 0 stay live, can be read and are copied in tidying": what a clean image holds of a block, contents of 0 bytes too,
--- is what every read of that block shows until the block is put or deleted, through every put of others, refused put of its own, power cut and recovery.
+-- is what every read of that block shows until the block is put or deleted, through every put of others, every put of its own that is refused for its number
+-- or length, every power cut and recovery.
 pub store-stored-stays : (N B : ℕ) (s u : Image) (es : List Event) (e : Event) (b : ℕ) (z : Found) → rightSize N B s ≡ true → Bytes s → state N B s ≡ clean
     → lookup b (tableOf N B s) ≡ z → History N B s (es ++ (e ∷ [])) u → AllSpare b es → Reads b (e .request) → numberOk b ≡ true
     → codeSeen (e .seen) ≢ 9 → codeSeen (e .seen) ≢ 5 → e .seen ≡ answered (replied (factoryOf (e .request)) z)
