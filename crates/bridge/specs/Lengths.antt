@@ -10,7 +10,7 @@ use lib.ListN.{length, getD, take, drop, length-append, length-take, length-drop
 use lib.Seq.{take-at}
 use lib.Dec.{ltb, eqb}
 use borrow.Author.Tests.{eqb-true}
-use Rattle.model.specs.Chip.{Image, Page, Step, program, erase, erased, mostSegments, mostSlots, rightSize}
+use Rattle.model.specs.Chip.{Image, Page, Step, program, erase, erased, mostSegments, largestImage, rightSize}
 use Rattle.model.specs.Header.{numberBytes, inverted, headerPage, headerStatus, headerNumber, headerInUse, allBlank}
 use Rattle.model.specs.Slot.{Slot, empty, torn, dead, wrong, live, slotPage, slotOf, mostContents, Entry, entryOf}
 use Rattle.model.specs.State.{Segment, blank, invalid, inUse, isInUse, isInvalid, slotsIn, segmentOf, segmentsOf, nextNumber, nextIndex, usedCount, firstNumber, slotsFrom, View, viewOf, entries, entriesIn, holds, lastSlot, Place, placeOf, placeFrom, view, older, Exception, caseA, caseB, caseC, caseD, State, clean, unfinished, damaged, stateOf}
@@ -251,19 +251,18 @@ recover-length N B l damaged = omega arith
 
 -- every list of an accepted request on an image of a right size
 module _ (N B : ℕ) (s : Image) (z : rightSize N B s ≡ true) where
-  room-bound : (N - 1) * most B ≤ 63 * 64535
-  unfolding mostSegments mostSlots
+  room-bound : (N - 1) * most B ≤ (mostSegments - 1) * 64535
   room-bound =
       let f = size-facts N B s z in
-      let n : N ≤ 64 = f .most in
+      let n = f .most in
       let b = f .mostB in
-      let x : N - 1 ≤ 63 = omega arith in
+      let x : N - 1 ≤ mostSegments - 1 = omega arith in
       let y : most B ≤ 64535 = omega arith in
       mul-le-mul x y
 
-  accepted-length : (r : Request) → workOf N B s r .code ≡ 0 → length (stepsFor N B (segmentsOf N B s) r) ≤ 4194304
-  unfolding stepsFor formatSteps deleteSteps mostSegments mostContents viewOf
-  accepted-length format e = let n : N ≤ 64 = size-facts N B s z .most in omega (arith, length-append (eraseFirst N) (openSegment N B 0), erase-length N, open-length N B 0)
+  accepted-length : (r : Request) → workOf N B s r .code ≡ 0 → length (stepsFor N B (segmentsOf N B s) r) ≤ largestImage
+  unfolding stepsFor formatSteps deleteSteps mostContents viewOf
+  accepted-length format e = let n = size-facts N B s z .most in omega (arith, length-append (eraseFirst N) (openSegment N B 0), erase-length N, open-length N B 0)
   accepted-length (put b c) e =
       let l = segmentsOf N B s in
       omega (arith, room-bound, put-length N B b c (viewOf N l) (image-rows N B s (usedCount l) (firstNumber l)) (put-passed N B s b c (accepted N B s (put b c) e .1) .short))
@@ -272,11 +271,11 @@ module _ (N B : ℕ) (s : Image) (z : rightSize N B s ≡ true) where
   accepted-length (readOr b f) e = omega arith
   accepted-length recover e = omega (arith, recover-length N B (segmentsOf N B s) (stateOf N B (segmentsOf N B s)))
 
--- every request's list has at most 4,194,304 steps
-pub few-steps : (N B : ℕ) (s : Image) (r : Request) → length (workOf N B s r .steps) ≤ 4194304
+-- every request's list has fewer steps than the largest image has bytes
+pub few-steps : (N B : ℕ) (s : Image) (r : Request) → length (workOf N B s r .steps) ≤ largestImage
 few-steps N B s r = go (eqb (workOf N B s r .code) 0) refl
   where
-    go : (t : Bool) → eqb (workOf N B s r .code) 0 ≡ t → length (workOf N B s r .steps) ≤ 4194304
+    go : (t : Bool) → eqb (workOf N B s r .code) 0 ≡ t → length (workOf N B s r .steps) ≤ largestImage
     go true e =
         let c = eqb-true (workOf N B s r .code) 0 e in
         let a = accepted N B s r c in
@@ -284,7 +283,7 @@ few-steps N B s r = go (eqb (workOf N B s r .code) 0) refl
     go false e = rw (refused-none N B s r e) (omega arith)
 
 -- and so has what is done of it
-pub few-done : (N B : ℕ) (s : Image) (allowance : ℕ) (r : Request) → outcomeOf N B s allowance r .count ≤ 4194304
+pub few-done : (N B : ℕ) (s : Image) (allowance : ℕ) (r : Request) → outcomeOf N B s allowance r .count ≤ largestImage
 unfolding outcomeOf
 few-done N B s allowance r = omega (arith, few-steps N B s r, length-take allowance (workOf N B s r .steps))
 
@@ -321,8 +320,8 @@ slot-short B b n l r h =
     row-in (w ∷ x) y z q = row-in x y z (q .2)
 
 -- a read's offset and length are small
-pub read-small : (N B : ℕ) (s : Image) (b : ℕ) → (readOutcome N B s b .offset ≤ 4194304) × (readOutcome N B s b .length ≤ 248)
-unfolding readOutcome contentsAt slotAt view viewOf entriesIn placeOf mostSegments
+pub read-small : (N B : ℕ) (s : Image) (b : ℕ) → (readOutcome N B s b .offset ≤ largestImage) × (readOutcome N B s b .length ≤ 248)
+unfolding readOutcome contentsAt slotAt view viewOf entriesIn placeOf
 read-small N B s b = go (eqb (workOf N B s (read b) .code) 0) refl
   where
     l : List Segment
@@ -335,18 +334,18 @@ read-small N B s b = go (eqb (workOf N B s (read b) .code) 0) refl
     out t = cond t (record { code = 0; offset = (placeFrom b (firstNumber l) rows .number % N * (B + 1) + suc (placeFrom b (firstNumber l) rows .slot)) * 256 + 8; length = length (contentsFound (lookup b (entries (flatten rows)))) })
         (record { code = workOf N B s (read b) .code; offset = 0; length = 0 })
 
-    go : (t : Bool) → eqb (workOf N B s (read b) .code) 0 ≡ t → (out t .offset ≤ 4194304) × (out t .length ≤ 248)
+    go : (t : Bool) → eqb (workOf N B s (read b) .code) 0 ≡ t → (out t .offset ≤ largestImage) × (out t .length ≤ 248)
     go true e =
         let a = accepted N B s (read b) (eqb-true (workOf N B s (read b) .code) 0 e) in
         let z = size-facts N B s (size-passed N B s (read b) (a .1)) in
         let ok = image-rows N B s (usedCount l) (firstNumber l) in
         let two = z .two in
-        let most64 : N ≤ 64 = z .most in
+        let most = z .most in
         let few = z .mostB in
         let n = placeFrom b (firstNumber l) rows .number in
         let p : 0 < N = omega arith in
-        let i : n % N ≤ 63 = omega (arith, mod-lt n p) in
-        let m : n % N * (B + 1) ≤ 63 * 256 = mul-le-mul i (le-suc few) in
+        let i : n % N ≤ mostSegments - 1 = omega (arith, mod-lt n p) in
+        let m : n % N * (B + 1) ≤ (mostSegments - 1) * 256 = mul-le-mul i (le-suc few) in
         let j = slot-short B b (firstNumber l) rows ok (read-passed N B s b (a .1)) in
         (omega arith, found-short b (entries (flatten rows)) (rows-short B rows ok))
       where

@@ -39,14 +39,14 @@ in-page at p xs e d = let f : shifted at xs ≡ onPage p xs = rw e (shifted-page
 -- ---- an image of a right size
 
 pub sized : (N B : ℕ) (s : Image) → rightSize N B s ≡ true → Sized N B (length s)
-unfolding rightSize inRange imageLength leastSegments mostSegments leastSlots mostSlots
+unfolding rightSize inRange imageLength
 sized N B s e =
     let range = and-left _ (eqb (length s) (N * (B + 1) * 256)) e in
     let more = and-right (leb 2 N) _ range in
-    let most = and-right (leb N 64) _ more in
+    let most = and-right (leb N mostSegments) _ more in
     record {
       some = omega (arith, leb-true 2 N (and-left (leb 2 N) _ range));
-      segments = omega (arith, leb-true N 64 (and-left (leb N 64) _ more));
+      segments = omega (arith, leb-true N mostSegments (and-left (leb N mostSegments) _ more));
       slots = leb-true B 255 (and-right (leb 2 B) (leb B 255) most);
       whole = eqb-true (length s) (N * (B + 1) * 256) (and-right (inRange N B) _ e);
     }

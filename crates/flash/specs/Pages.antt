@@ -2,7 +2,7 @@
 use Prim.Native.Nat.{ℕ, _+_, _*_, _≤_, _<_}
 use mathlib.Core.Path.{_≡_}
 use mathlib.Core.List.{List}
-use Rattle.model.specs.Chip.{Image, Step}
+use Rattle.model.specs.Chip.{Image, Step, mostSegments, mostSlots}
 use Rattle.flash.specs.Ran.{Programmed, shifted}
 
 -- steps within a page that were done where it begins, at an offset of the image
@@ -12,6 +12,6 @@ OnPageAt at steps budget left from to = Programmed (shifted at steps) budget lef
 -- N and B fit a byte each, and the image has N segments
 pub record Sized (N B bytes : ℕ) : Type 0 where
   pub some : 0 < N
-  pub segments : N ≤ 255
-  pub slots : B ≤ 255
+  pub segments : N ≤ mostSegments
+  pub slots : B ≤ mostSlots
   pub whole : bytes ≡ N * (B + 1) * 256

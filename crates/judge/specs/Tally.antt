@@ -4,6 +4,7 @@ use mathlib.Core.Bool.{true, false, cond}
 use mathlib.Core.List.{List, [], _∷_, map}
 use lib.ListN.{replicate}
 use lib.Dec.{ltb}
+use Rattle.model.specs.Chip.{mostSegments}
 use Rattle.model.specs.Slot.{Slot, kindOf}
 use Rattle.judge.specs.declared.Ending.the-variants.{Full, Bad}
 use Rattle.judge.specs.declared.Row.{Row}
@@ -55,4 +56,4 @@ pub record Few (f : Sum) (i : ℕ) : Type 0 where
 -- numbers of a frame fit
 pub record Ranged (f : Frame) : Type 0 where
   pub whole : f .first + f .used ≤ 4294967296
-  pub used : f .used ≤ 64
+  pub used : f .used ≤ mostSegments

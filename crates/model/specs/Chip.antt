@@ -23,17 +23,21 @@ Bytes (x ∷ xs) = (x < 256) × Bytes xs
 
 -- ---- size: N segments of B + 1 pages, a header and B slots
 
-unfoldable pub leastSegments : ℕ
+abbrev pub leastSegments : ℕ
 leastSegments = 2
 
-unfoldable pub mostSegments : ℕ
-mostSegments = 64
+abbrev pub mostSegments : ℕ
+mostSegments = 255
 
-unfoldable pub leastSlots : ℕ
+abbrev pub leastSlots : ℕ
 leastSlots = 2
 
-unfoldable pub mostSlots : ℕ
+abbrev pub mostSlots : ℕ
 mostSlots = 255
+
+-- the bytes of the largest image
+abbrev pub largestImage : ℕ
+largestImage = mostSegments * (mostSlots + 1) * 256
 
 -- segment numbers stay below this
 unfoldable pub numberLimit : ℕ → ℕ

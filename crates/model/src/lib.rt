@@ -1,6 +1,9 @@
 // The plain data that code and contracts share. What each means stands in specs/, beside the section of
 // document 01 that speaks of it. There is no code here.
 
+// The most segments of an image; `mostSegments` in specs/.
+pub const MOST_SEGMENTS: usize = 255;
+
 // Names a record, 1 to 65,534 (document 01: block number).
 pub struct BlockNumber(pub u16);
 

@@ -5,7 +5,7 @@ use mathlib.Core.Bool.{Bool, true, false, cond, _||_, _&&_, not}
 use mathlib.Core.List.{List, _++_}
 use lib.ListN.{length}
 use lib.Dec.{ltb, leb}
-use Rattle.model.specs.Chip.{Image, Bytes, Step, numberLimit, rightSize}
+use Rattle.model.specs.Chip.{Image, Bytes, Step, mostSegments, numberLimit, rightSize}
 use Rattle.model.specs.Slot.{numberOk}
 use Rattle.model.specs.State.{View, view, capacity, clean, state}
 use Rattle.model.specs.Steps.{topRow, firstEmpty, writeAtTop, markOld, isWorn}
@@ -26,12 +26,12 @@ use Rattle.request.specs.Request.{Finished}
 
 pub record Ranged (N B : ℕ) (p : Plan) : Type 0 where
   pub least : 2 ≤ N
-  pub most : N ≤ 64
+  pub most : N ≤ mostSegments
   pub slots : 2 ≤ B
   pub few : B ≤ 255
   pub some : 1 ≤ p .used
-  pub spare : p .used ≤ 64
-  pub compactions : p .compactions ≤ 64
+  pub spare : p .used ≤ mostSegments
+  pub compactions : p .compactions ≤ mostSegments
 
 -- a put of it is refused as worn
 unfoldable pub wornBy : ℕ → ℕ → Plan → Bool

@@ -6,7 +6,7 @@ use mathlib.Core.List.{List}
 use native.Mathlib.Nat.{mod-eq-of-lt}
 use native.Mathlib.Omega.{arith}
 use lib.ListN.{length}
-use Rattle.model.specs.Chip.{Image}
+use Rattle.model.specs.Chip.{Image, largestImage}
 use Rattle.model.specs.Header.{isBlank}
 use Rattle.model.specs.Blank.{blankGroups}
 use Rattle.model.specs.Answers.{Request, codeOf, performed, Outcome, outcomeOf, located, ReadOutcome, readOutcome}
@@ -16,7 +16,7 @@ use Rattle.bridge.specs.Lengths.{few-done, read-small}
 use Rattle.flash.proofs.Blank.{groups-most}
 use Rattle.qanbillox.specs.Packed.{packed, Gives, packedRead, counts, packedBlank}
 
-pub few : (N B : ℕ) (t : Image) (budget : ℕ) (q : Request) (p : Performed) (s : Image) → performed p s ≡ outcomeOf N B t budget q → p .steps ≤ 4194304
+pub few : (N B : ℕ) (t : Image) (budget : ℕ) (q : Request) (p : Performed) (s : Image) → performed p s ≡ outcomeOf N B t budget q → p .steps ≤ largestImage
 unfolding performed
 few N B t budget q p s e = omega (arith, few-done N B t budget q, ap (λ (o : Outcome). o .count) e)
 
@@ -25,7 +25,7 @@ pub gives : (N B : ℕ) (t : Image) (budget : ℕ) (q : Request) (p : Performed)
 unfolding performed packed
 gives N B t budget q p s r e h = record { number = h ∙ ap (λ (o : Outcome). o .code + 256 * o .count) e; image = ap (λ (o : Outcome). o .image) e }
 
-pub small : (N B : ℕ) (t : Image) (b : ℕ) (p : Located) → located p ≡ readOutcome N B t b → (p .offset ≤ 4194304) × (p .length ≤ 248)
+pub small : (N B : ℕ) (t : Image) (b : ℕ) (p : Located) → located p ≡ readOutcome N B t b → (p .offset ≤ largestImage) × (p .length ≤ 248)
 unfolding located
 small N B t b p e = let s = read-small N B t b in
     (omega (arith, s .0, ap (λ (o : ReadOutcome). o .offset) e), omega (arith, s .1, ap (λ (o : ReadOutcome). o .length) e))

@@ -6,12 +6,13 @@ use model::Performed;
 ghost use mathlib.Core.Path.{_≡_};
 ghost use mathlib.Core.Bool.{cond};
 ghost use Prim.Native.Nat.{_+_, _*_, _%_, _≤_};
+ghost use Rattle.model.specs.Chip.{largestImage};
 ghost use Rattle.model.specs.Answers.{codeOf, outcomeOf, readOutcome, format, put, delete, recover};
 ghost use Rattle.qanbillox.specs.Packed.{Gives, packedRead, counts, packedBlank};
 
-// The answer, and 256 times the steps done: a list never has more than some four million.
+// The answer, and 256 times the steps done: a list never has more than some sixteen million.
 fn packed(p: Performed) -> u64
-    requires { ⌜ p .steps ≤ 4194304 ⌝ }
+    requires { ⌜ p .steps ≤ largestImage ⌝ }
     ensures { λ r. ⌜ r ≡ codeOf (p .answer) + 256 * p .steps ⌝ }
 {
     let answer = p.answer;
@@ -20,7 +21,7 @@ fn packed(p: Performed) -> u64
 
 // The answer, 256 times the length and 65,536 times the offset.
 fn packed_read(p: Located) -> u64
-    requires { ⌜ (p .offset ≤ 4194304) × (p .length ≤ 248) ⌝ }
+    requires { ⌜ (p .offset ≤ largestImage) × (p .length ≤ 248) ⌝ }
     ensures { λ r. ⌜ r ≡ codeOf (p .answer) + 256 * p .length + 65536 * p .offset ⌝ }
 {
     let answer = p.answer;

@@ -50,7 +50,7 @@ performedLine a n = performedText a n ++ text "\n"
 
 -- what N and B ask for: so many bytes, or to be in their ranges
 unfoldable pub askedText : ℕ → ℕ → List ℕ
-askedText N B = cond (inRange N B) (text ": N and B ask for " ++ decimal (imageLength N B) ++ text " bytes") (text ": N is 2 to 64 and B is 2 to 255")
+askedText N B = cond (inRange N B) (text ": N and B ask for " ++ decimal (imageLength N B) ++ text " bytes") (text ": N is 2 to 255 and B is 2 to 255")
 
 -- a wrong size with both numbers, as "refused: 1 size, 0 steps: N and B ask for 1536 bytes; 1280 bytes are there"
 unfoldable pub sizeLine : ℕ → ℕ → ℕ → List ℕ

@@ -104,7 +104,7 @@ fn add_asked(line: Line, segments: usize, slots: usize) -> Line
         let asked = add_count(line, b": N and B ask for ", bytes);
         return add(asked, b" bytes");
     }
-    add(line, b": N is 2 to 64 and B is 2 to 255")
+    add(line, b": N is 2 to 255 and B is 2 to 255")
 }
 
 // A wrong size: beside the refusal what N and B ask for, and the bytes that are there.

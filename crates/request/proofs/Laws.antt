@@ -10,17 +10,17 @@ use borrow.Author.Tests.{leb-true, lt-ltb, not-true, not-false}
 use Rattle.model.specs.Chip.{Image, leastSegments, mostSegments, leastSlots, mostSlots, inRange, imageLength, rightSize}
 use Rattle.model.specs.Laws.Lists.{and-left, and-right}
 
--- an image has at most 64 segments of 256 pages
-pub most-pages : (N B : ℕ) → N ≤ 64 → B ≤ 255 → N * (B + 1) ≤ 16384
-most-pages N B n b = mul-le-mul n (let h : B + 1 ≤ 256 = omega arith in h)
+-- an image has at most 255 segments of 256 pages
+pub most-pages : (N B : ℕ) → N ≤ mostSegments → B ≤ mostSlots → N * (B + 1) ≤ mostSegments * (mostSlots + 1)
+most-pages N B n b = mul-le-mul n (let h : B + 1 ≤ mostSlots + 1 = omega arith in h)
 
 -- what the test of the ranges tells
-pub in-bounds : (N B : ℕ) → inRange N B ≡ true → (N ≤ 64) × (B ≤ 255)
-unfolding inRange leastSegments mostSegments leastSlots mostSlots
+pub in-bounds : (N B : ℕ) → inRange N B ≡ true → (N ≤ mostSegments) × (B ≤ mostSlots)
+unfolding inRange
 in-bounds N B e =
-    let t = and-right (leb 2 N) (leb N 64 && (leb 2 B && leb B 255)) e in
-    let u = and-right (leb N 64) (leb 2 B && leb B 255) t in
-    (leb-true N 64 (and-left (leb N 64) (leb 2 B && leb B 255) t), leb-true B 255 (and-right (leb 2 B) (leb B 255) u))
+    let t = and-right (leb 2 N) (leb N mostSegments && (leb 2 B && leb B 255)) e in
+    let u = and-right (leb N mostSegments) (leb 2 B && leb B 255) t in
+    (leb-true N mostSegments (and-left (leb N mostSegments) (leb 2 B && leb B 255) t), leb-true B 255 (and-right (leb 2 B) (leb B 255) u))
 
 -- a test for more than 0 and for a limit: of block numbers, and of lengths
 pub none-fails : (n : ℕ) (t : Bool) → n ≡ 0 → false ≡ (ltb 0 n && t)

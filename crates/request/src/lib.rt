@@ -1,12 +1,13 @@
 // A request before the image is looked at, and what comes back from it.
 use model::Answer;
 use model::BlockNumber;
+use model::MOST_SEGMENTS;
 use model::Performed;
 ghost use mathlib.Core.Path.{_≡_};
 ghost use mathlib.Core.Bool.{_&&_};
 ghost use Prim.Native.Nat.{_≤_};
 ghost use lib.Dec.{eqb};
-ghost use Rattle.model.specs.Chip.{inRange, imageLength};
+ghost use Rattle.model.specs.Chip.{mostSegments, mostSlots, largestImage, inRange, imageLength};
 ghost use Rattle.model.specs.Slot.{numberOk};
 ghost use Rattle.model.specs.State.{capacity};
 ghost use Rattle.model.specs.Answers.{codeOf, lengthOk};
@@ -24,7 +25,7 @@ pub fn in_range(segments: usize, slots: usize) -> bool
     if segments < 2 {
         return false;
     }
-    if segments > 64 {
+    if segments > MOST_SEGMENTS {
         return false;
     }
     if slots < 2 {
@@ -35,7 +36,7 @@ pub fn in_range(segments: usize, slots: usize) -> bool
 
 // The bytes of an image with so many segments and slots, or 0. The ranges are tested before anything is multiplied.
 pub fn size_of(segments: usize, slots: usize) -> usize
-    ensures { λ r. ⌜ (r ≡ sizeOf segments slots) × (r ≤ 4194304) ⌝ }
+    ensures { λ r. ⌜ (r ≡ sizeOf segments slots) × (r ≤ largestImage) ⌝ }
 {
     if in_range(segments, slots) {
         return segments * (slots + 1) * 256;
@@ -76,7 +77,7 @@ pub fn length_ok(bytes: usize) -> bool
 
 // The most live slots (document 01: the capacity C).
 pub fn capacity(segments: usize, slots: usize) -> usize
-    requires { ⌜ (2 ≤ segments) × (segments ≤ 64) × (2 ≤ slots) × (slots ≤ 255) ⌝ }
+    requires { ⌜ (2 ≤ segments) × (segments ≤ mostSegments) × (2 ≤ slots) × (slots ≤ mostSlots) ⌝ }
     ensures { λ r. ⌜ (r ≡ capacity segments slots) × (r ≤ 1000000) ⌝ }
 {
     (segments - 1) * slots - 1

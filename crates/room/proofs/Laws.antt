@@ -1,5 +1,5 @@
 -- Laws of room for a put: the top has an empty slot or not, the numbers stay small, and the loop of compactions does the steps of the definition.
-use Prim.Native.Nat.{ℕ, zero, suc, _+_, _-_, _%_, _≤_, _<_}
+use Prim.Native.Nat.{ℕ, zero, suc, _+_, _*_, _-_, _%_, _≤_, _<_}
 use mathlib.Core.Path.{_≡_, refl, sym, ap, ap₂, _∙_}
 use mathlib.Core.Bool.{Bool, true, false, cond, _&&_, not}
 use mathlib.Core.List.{List, [], _∷_}
@@ -115,11 +115,11 @@ module _ (N B : ℕ) (p : Plan) (s : Image) (k : Planned N B p s) where
     pub some : 1 ≤ p .used
     pub spare : p .used + 1 ≤ N
     pub number : p .first .0 + p .used ≤ numberLimit N
-    pub limit : numberLimit N ≤ 6400000
+    pub limit : numberLimit N ≤ 100000 * mostSegments
     pub few : p .compactions ≤ p .used
 
   pub small : Small
-  unfolding topNumber numberLimit mostSegments
+  unfolding topNumber numberLimit
   small = record {
     some = omega (arith, k .used, plan-clean .some);
     spare = omega (arith, k .used, plan-clean .spare, two);

@@ -4,7 +4,7 @@ use mathlib.Core.Path.{_≡_, refl}
 use mathlib.Core.Bool.{cond, _||_, not}
 use mathlib.Core.List.{List, map}
 use lib.ListN.{length, getD}
-use Rattle.model.specs.Chip.{Image}
+use Rattle.model.specs.Chip.{Image, mostSegments}
 use Rattle.model.specs.State.{Segment, blank, segmentsOf, isInUse, isInvalid, nextNumber, nextIndex, usedCount, firstNumber, viewOf, entriesIn, lastSlot, older, Exception, caseA, caseB, caseC, caseD, State, clean, unfinished, damaged, stateOf}
 use Rattle.model.specs.Steps.{slotAt, topRow, firstEmpty, compactions}
 use Rattle.flash.specs.Pages.{Sized}
@@ -78,7 +78,7 @@ oldIn Nothing = Damaged
 pub record Shown (N B : ℕ) (s : Image) (table : List Summary) (next : ℕ) : Type 0 where
   pub size : Sized N B (length s)
   pub least : 2 ≤ N
-  pub most : N ≤ 64
+  pub most : N ≤ mostSegments
   pub slots : 2 ≤ B
   pub shown : heads N table ≡ map outline (segmentsOf N B s)
   pub after : next ≡ nextNumber (heads N table)
@@ -87,5 +87,5 @@ pub record Shown (N B : ℕ) (s : Image) (table : List Summary) (next : ℕ) : T
 -- the numbers of an exam fit
 pub record Bounded (e : Exam) : Type 0 where
   pub whole : e .first + e .used ≤ 4294967296
-  pub used : e .used ≤ 64
+  pub used : e .used ≤ mostSegments
   pub written : e .sum .written ≤ 65535

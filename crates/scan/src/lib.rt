@@ -4,6 +4,7 @@ mod sums;
 use find::Found;
 use judge::Sum;
 use judge::Summary;
+use model::MOST_SEGMENTS;
 use model::SegmentNumber;
 use model::SlotPlace;
 ghost use mathlib.Core.Path.{_≡_};
@@ -14,7 +15,7 @@ ghost use Rattle.model.specs.State.{blank, isInvalid, isOwing, numbersFrom, seg
 ghost use Rattle.model.specs.Steps.{slotAt};
 ghost use Rattle.flash.specs.Pages.{Sized};
 ghost use Rattle.scan.specs.Surveys.{surveyOf, cleanIn, oldIn, Shown};
-ghost use Rattle.model.specs.Chip.{rightSize};
+ghost use Rattle.model.specs.Chip.{mostSegments, rightSize};
 ghost use Rattle.judge.specs.Heads.{heads};
 ghost use Rattle.scan.specs.Find.{foundIn};
 
@@ -66,7 +67,7 @@ fn top_number(next: usize) -> SegmentNumber
 
 // The place of a slot of the segment with a number.
 fn slot_place(segments: usize, slots: usize, number: usize, slot: usize) -> SlotPlace
-    requires { ⌜ (0 < segments) × (segments ≤ 64) × (slots ≤ 255) × (slot ≤ 65535) ⌝ }
+    requires { ⌜ (0 < segments) × (segments ≤ mostSegments) × (slots ≤ 255) × (slot ≤ 65535) ⌝ }
     ensures { λ r. ⌜ r .0 ≡ slotAt segments slots number slot * 256 ⌝ }
 {
     SlotPlace((number % segments * (slots + 1) + 1 + slot) * 256)
@@ -77,7 +78,7 @@ fn survey_owing(
     image: &[u8],
     segments: usize,
     slots: usize,
-    table: [Summary; 64],
+    table: [Summary; MOST_SEGMENTS],
     next: usize,
 ) -> Surveyed
     requires { ⌜ Shown segments slots (now image) table next × (isOwing (getD (heads segments table) (topIndex segments (heads segments table)) blank) ≡ true) ⌝ }
@@ -109,7 +110,7 @@ fn survey_torn(
     image: &[u8],
     segments: usize,
     slots: usize,
-    table: [Summary; 64],
+    table: [Summary; MOST_SEGMENTS],
     next: usize,
 ) -> Surveyed
     requires { ⌜ Shown segments slots (now image) table next × (isOwing (getD (heads segments table) (topIndex segments (heads segments table)) blank) ≡ false) × (isInvalid (getD (heads segments table) (nextIndex segments (heads segments table)) blank) ≡ true) ⌝ }
@@ -147,7 +148,7 @@ fn clean_survey(exam: Exam) -> Surveyed
 
 // The survey where the block of the slot written last has an older live slot, which is searched.
 fn old_slot(image: &[u8], segments: usize, slots: usize, exam: Exam) -> Surveyed
-    requires { ⌜ Sized segments slots (length (now image)) × (exam .used ≤ 64) × (exam .first < 4294967296) × (numbersFrom segments (segmentsOf segments slots (now image)) (exam .used) (exam .first) ≡ true) × (exam .first + exam .used ≤ 4294967296) ⌝ }
+    requires { ⌜ Sized segments slots (length (now image)) × (exam .used ≤ mostSegments) × (exam .first < 4294967296) × (numbersFrom segments (segmentsOf segments slots (now image)) (exam .used) (exam .first) ≡ true) × (exam .first + exam .used ≤ 4294967296) ⌝ }
     ensures { λ r. ⌜ r ≡ oldIn (foundIn segments slots (exam .sum .block .0) (record { first = exam .first; slots = slotsFrom segments (segmentsOf segments slots (now (image .entry))) (exam .used) (exam .first) })) ⌝ }
 {
     let sum = exam.sum;
@@ -165,7 +166,7 @@ fn survey_slots(
     image: &[u8],
     segments: usize,
     slots: usize,
-    table: [Summary; 64],
+    table: [Summary; MOST_SEGMENTS],
     next: usize,
 ) -> Surveyed
     requires { ⌜ Shown segments slots (now image) table next × (isOwing (getD (heads segments table) (topIndex segments (heads segments table)) blank) ≡ false) × (isInvalid (getD (heads segments table) (nextIndex segments (heads segments table)) blank) ≡ false) ⌝ }

@@ -5,10 +5,12 @@ use judge::Row;
 use judge::Sum;
 use judge::Summary;
 use model::BlockNumber;
+use model::MOST_SEGMENTS;
 ghost use mathlib.Core.Path.{_≡_};
 ghost use mathlib.Core.List.{map};
 ghost use Prim.Native.Nat.{_≤_};
 ghost use lib.ListN.{length, take};
+ghost use Rattle.model.specs.Chip.{mostSegments};
 ghost use Rattle.flash.specs.Pages.{Sized};
 ghost use Rattle.judge.specs.Endings.{inOrder, endsTorn, endsTwin};
 ghost use Rattle.judge.specs.Verdict.{orderly, tornWithin, twinWithin};
@@ -30,11 +32,11 @@ fn gather(
     image: &[u8],
     segments: usize,
     slots: usize,
-    table: [Summary; 64],
+    table: [Summary; MOST_SEGMENTS],
     first: usize,
     used: usize,
-) -> [Summary; 64]
-    requires { ⌜ Sized segments slots (length (now image)) × (segments ≤ 64) × (first ≤ 4294967296) × (used ≤ 64) ⌝ }
+) -> [Summary; MOST_SEGMENTS]
+    requires { ⌜ Sized segments slots (length (now image)) × (segments ≤ mostSegments) × (first ≤ 4294967296) × (used ≤ mostSegments) ⌝ }
     ensures { λ r. ⌜ (map rowOf (take used r) ≡ tallies (rowsOn (now (image .entry)) segments slots used first) noneMet) ⌝ }
 {
     let mut seen = [0u64; 1024];
@@ -79,8 +81,8 @@ fn add_row(sum: Sum, row: Row) -> Sum
     }
 }
 
-fn sum_rows(ring: [Summary; 64], used: usize) -> Sum
-    requires { ⌜ used ≤ 64 ⌝ }
+fn sum_rows(ring: [Summary; MOST_SEGMENTS], used: usize) -> Sum
+    requires { ⌜ used ≤ mostSegments ⌝ }
     ensures { λ r. ⌜ (r ≡ addRows (map rowOf (take used ring)) noSum) × (r .written ≤ 65535) ⌝ }
 {
     let mut sum = Sum {
@@ -174,8 +176,8 @@ pub fn twin_within(sum: Sum, most: usize) -> bool
 }
 
 // A table examined: the frame, and the rows if it is fine.
-pub fn examine(image: &[u8], segments: usize, slots: usize, table: [Summary; 64]) -> Exam
-    requires { ⌜ Sized segments slots (length (now image)) × (segments ≤ 64) ⌝ }
+pub fn examine(image: &[u8], segments: usize, slots: usize, table: [Summary; MOST_SEGMENTS]) -> Exam
+    requires { ⌜ Sized segments slots (length (now image)) × (segments ≤ mostSegments) ⌝ }
     ensures { λ r. ⌜ (r ≡ examOf segments slots (now (image .entry)) (heads segments table)) × Bounded r ⌝ }
 {
     let f = segments::see_frame(table, segments);

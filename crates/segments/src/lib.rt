@@ -6,12 +6,14 @@ use judge::Row;
 use judge::SegmentState;
 use judge::Summary;
 use model::BlockNumber;
+use model::MOST_SEGMENTS;
 use model::SegmentNumber;
 ghost use mathlib.Core.Path.{_≡_};
 ghost use mathlib.Core.Bool.{not, _||_};
 ghost use mathlib.Core.List.{map};
 ghost use Prim.Native.Nat.{_-_, _<_, _≤_, max};
 ghost use lib.ListN.{length, getD};
+ghost use Rattle.model.specs.Chip.{mostSegments};
 ghost use Rattle.model.specs.State.{blank, isInUse, isInvalid, isOwing, numberAfter, nextNumber, usedCount, numbersFrom, segmentsOf, nextBlanked, settled, topSettled};
 ghost use Rattle.flash.specs.Pages.{Sized};
 ghost use Rattle.judge.specs.Heads.{bareOf, bare, outline, heads, stateSeen, allSettled, frameOf};
@@ -61,12 +63,12 @@ fn see_segment(image: &[u8], segments: usize, slots: usize, index: usize) -> Sum
 }
 
 // Every segment, by its header.
-pub fn see_headers(image: &[u8], segments: usize, slots: usize) -> [Summary; 64]
-    requires { ⌜ Sized segments slots (length (now image)) × (segments ≤ 64) ⌝ }
+pub fn see_headers(image: &[u8], segments: usize, slots: usize) -> [Summary; MOST_SEGMENTS]
+    requires { ⌜ Sized segments slots (length (now image)) × (segments ≤ mostSegments) ⌝ }
     ensures { λ r. ⌜ heads segments r ≡ map outline (segmentsOf segments slots (now (image .entry))) ⌝ }
 {
     let none = head(SegmentState::Blank, SegmentNumber(0));
-    let mut table = [none; 64];
+    let mut table = [none; MOST_SEGMENTS];
     let mut i: usize = 0;
     while i < segments {
         table[i] = see_segment(image, segments, slots, i);
@@ -138,8 +140,8 @@ pub fn less(a: usize, b: usize) -> usize
 }
 
 // The number after the top's, or 0 if none is in use.
-pub fn next_number(table: [Summary; 64], segments: usize) -> usize
-    requires { ⌜ segments ≤ 64 ⌝ }
+pub fn next_number(table: [Summary; MOST_SEGMENTS], segments: usize) -> usize
+    requires { ⌜ segments ≤ mostSegments ⌝ }
     ensures { λ r. ⌜ (r ≡ nextNumber (heads segments table)) × (r ≤ 4294967296) ⌝ }
 {
     let mut next: usize = 0;
@@ -152,8 +154,8 @@ pub fn next_number(table: [Summary; 64], segments: usize) -> usize
 }
 
 // How many segments are in use.
-fn used_count(table: [Summary; 64], segments: usize) -> usize
-    requires { ⌜ segments ≤ 64 ⌝ }
+fn used_count(table: [Summary; MOST_SEGMENTS], segments: usize) -> usize
+    requires { ⌜ segments ≤ mostSegments ⌝ }
     ensures { λ r. ⌜ (r ≡ usedCount (heads segments table)) × (r ≤ segments) ⌝ }
 {
     let mut used: usize = 0;
@@ -168,8 +170,8 @@ fn used_count(table: [Summary; 64], segments: usize) -> usize
 }
 
 // Whether as many numbers from the first on are each in use.
-fn consecutive(table: [Summary; 64], segments: usize, first: usize, used: usize) -> bool
-    requires { ⌜ (0 < segments) × (segments ≤ 64) × (first < 5000000000) × (used ≤ 64) ⌝ }
+fn consecutive(table: [Summary; MOST_SEGMENTS], segments: usize, first: usize, used: usize) -> bool
+    requires { ⌜ (0 < segments) × (segments ≤ mostSegments) × (first < 5000000000) × (used ≤ mostSegments) ⌝ }
     ensures { λ r. ⌜ r ≡ numbersFrom segments (heads segments table) used first ⌝ }
 {
     let mut i: usize = 0;
@@ -185,8 +187,8 @@ fn consecutive(table: [Summary; 64], segments: usize, first: usize, used: usize)
 }
 
 // Whether none is owing, and all that are not in use are blank.
-fn all_settled(table: [Summary; 64], segments: usize) -> bool
-    requires { ⌜ segments ≤ 64 ⌝ }
+fn all_settled(table: [Summary; MOST_SEGMENTS], segments: usize) -> bool
+    requires { ⌜ segments ≤ mostSegments ⌝ }
     ensures { λ r. ⌜ r ≡ allSettled (heads segments table) ⌝ }
 {
     let mut i: usize = 0;
@@ -202,8 +204,8 @@ fn all_settled(table: [Summary; 64], segments: usize) -> bool
     true
 }
 
-pub fn see_frame(table: [Summary; 64], segments: usize) -> Frame
-    requires { ⌜ (0 < segments) × (segments ≤ 64) ⌝ }
+pub fn see_frame(table: [Summary; MOST_SEGMENTS], segments: usize) -> Frame
+    requires { ⌜ (0 < segments) × (segments ≤ mostSegments) ⌝ }
     ensures { λ r. ⌜ (r ≡ frameOf segments (heads segments table)) × Ranged r ⌝ }
 {
     let next = next_number(table, segments);
@@ -235,8 +237,8 @@ pub fn see_frame(table: [Summary; 64], segments: usize) -> Frame
 }
 
 // The segment after the top taken for blank.
-pub fn next_blanked(table: [Summary; 64], segments: usize, next: usize) -> [Summary; 64]
-    requires { ⌜ (0 < segments) × (segments ≤ 64) × (next ≡ nextNumber (heads segments table)) ⌝ }
+pub fn next_blanked(table: [Summary; MOST_SEGMENTS], segments: usize, next: usize) -> [Summary; MOST_SEGMENTS]
+    requires { ⌜ (0 < segments) × (segments ≤ mostSegments) × (next ≡ nextNumber (heads segments table)) ⌝ }
     ensures { λ r. ⌜ heads segments r ≡ nextBlanked segments (heads segments table) ⌝ }
 {
     let mut mended = table;
@@ -257,8 +259,8 @@ fn settled(s: Summary) -> Summary
 }
 
 // The segment after the top taken for blank, and the top for one whose old segment is erased.
-pub fn top_settled(table: [Summary; 64], segments: usize, next: usize) -> [Summary; 64]
-    requires { ⌜ (0 < segments) × (segments ≤ 64) × (next ≡ nextNumber (heads segments table)) ⌝ }
+pub fn top_settled(table: [Summary; MOST_SEGMENTS], segments: usize, next: usize) -> [Summary; MOST_SEGMENTS]
+    requires { ⌜ (0 < segments) × (segments ≤ mostSegments) × (next ≡ nextNumber (heads segments table)) ⌝ }
     ensures { λ r. ⌜ heads segments r ≡ topSettled segments (heads segments table) ⌝ }
 {
     let mut mended = next_blanked(table, segments, next);

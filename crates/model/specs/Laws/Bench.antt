@@ -23,7 +23,7 @@ use Rattle.model.specs.Laws.Pages.{pages-run}
 
 -- every definition unfolds where this name does
 unfoldable pub evaluate : ℕ
-unfolding flatMap flatten same all count chunk leastSegments mostSegments leastSlots mostSlots numberLimit imageLength inRange bySegment clear erased numberBytes inverted value statusInUse headerPage headerStatus headerNumber oldIndex headerInUse isBlank allBlank mostContents numberOk slotPage pageBlock pageContents slotFits slotOf isEmpty isTorn isDead isWrong entryOf holding segmentOf segmentsFrom segmentsOn isInUse isInvalid isOwing numberAfter slotsIn nextNumber topIndex nextIndex topSlots usedCount firstNumber slotsFrom viewOf entries entriesIn someInUse numbersFrom consecutive noneOwing othersBlank noneWrongOrTorn holds distinct blocksDistinct emptyLast onlyTopEmpty emptySlotsLast capacity withinCapacity conditions isClean nextBlanked isA settled topSettled isB withSlot filled lastSlot lastKind tornMarked isC slotFrom placeFrom placeOf blockIn lastBlock copies older olderMarked isD stateOf programs programPart onPage headerAt slotAt writeSlot markDead markPlace openSegment copyEntries copyOut settle compact topRow topNumber hasRoom firstEmpty copied openNext compactOldest compactUntilRoom roomFor markOld writeAtTop putSteps deleteSteps eraseFirst formatSteps eraseUnlessBlank mendSteps recoverSteps compactions newNumbers isWorn lookup contentsFound firstOf isDamaged isUnfinished lengthOk isFull absentRefusals refusals stepsFor workOn codeUnder erasesIn among removed inserted storedAfter replaces start tallied tally eraseCount programPage stepPages runPages contentsIn isCleanIn cutHolds exampleHolds failing upFrom putEach examples
+unfolding flatMap flatten same all count chunk numberLimit imageLength inRange bySegment clear erased numberBytes inverted value statusInUse headerPage headerStatus headerNumber oldIndex headerInUse isBlank allBlank mostContents numberOk slotPage pageBlock pageContents slotFits slotOf isEmpty isTorn isDead isWrong entryOf holding segmentOf segmentsFrom segmentsOn isInUse isInvalid isOwing numberAfter slotsIn nextNumber topIndex nextIndex topSlots usedCount firstNumber slotsFrom viewOf entries entriesIn someInUse numbersFrom consecutive noneOwing othersBlank noneWrongOrTorn holds distinct blocksDistinct emptyLast onlyTopEmpty emptySlotsLast capacity withinCapacity conditions isClean nextBlanked isA settled topSettled isB withSlot filled lastSlot lastKind tornMarked isC slotFrom placeFrom placeOf blockIn lastBlock copies older olderMarked isD stateOf programs programPart onPage headerAt slotAt writeSlot markDead markPlace openSegment copyEntries copyOut settle compact topRow topNumber hasRoom firstEmpty copied openNext compactOldest compactUntilRoom roomFor markOld writeAtTop putSteps deleteSteps eraseFirst formatSteps eraseUnlessBlank mendSteps recoverSteps compactions newNumbers isWorn lookup contentsFound firstOf isDamaged isUnfinished lengthOk isFull absentRefusals refusals stepsFor workOn codeUnder erasesIn among removed inserted storedAfter replaces start tallied tally eraseCount programPage stepPages runPages contentsIn isCleanIn cutHolds exampleHolds failing upFrom putEach examples
 evaluate = 0
 
 -- ---- the bench over pages

@@ -110,7 +110,7 @@ pub record SizeFacts (N B : ℕ) (s : Image) : Type 0 where
   pub whole : length s ≡ imageLength N B
 
 pub size-facts : (N B : ℕ) (s : Image) → rightSize N B s ≡ true → SizeFacts N B s
-unfolding rightSize inRange leastSegments leastSlots mostSlots
+unfolding rightSize inRange
 size-facts N B s z =
     let a = and-left (inRange N B) (eqb (length s) (imageLength N B)) z in
     let b = and-right (leb 2 N) (leb N mostSegments && (leb 2 B && leb B 255)) a in

@@ -238,8 +238,7 @@ module _ (N B : ℕ) (two : 2 ≤ N) (most : N ≤ mostSegments) (mostB : B < 25
   place = index N B two s z n
 
   pub few : N < 256
-  unfolding mostSegments
-  few = let h : N ≤ 64 = most in omega arith
+  few = let h : N ≤ mostSegments = most in omega arith
 
   abbrev header-at : ℕ
   header-at = n % N * (B + 1) + 0

@@ -30,7 +30,7 @@ header-number N B st n old h = number-value n h
 
 -- numbers below the limit fit in four bytes
 pub number-fits : (N n : ℕ) → N ≤ mostSegments → n < numberLimit N → n < 4294967296
-unfolding mostSegments numberLimit
+unfolding numberLimit
 number-fits N n h k = omega arith
 
 -- ---- in use

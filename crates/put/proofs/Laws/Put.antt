@@ -103,7 +103,7 @@ module _ (N B : ℕ) (p : Plan) (f : Found) (b : ℕ) (c : List ℕ) (s : Image)
     room-sized = sized N B t (room-made-held .size)
 
     pub room-number : r .first .0 + r .used ≤ 4294967296
-    unfolding topNumber numberLimit mostSegments
+    unfolding topNumber numberLimit
     room-number = omega (arith, d .first, d .used, room-below, size-facts N B s (k .size) .most)
 
     -- where nothing had to be done the search before still holds

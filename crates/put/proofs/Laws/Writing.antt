@@ -60,7 +60,6 @@ module _ (N B : ℕ) (p : Plan) (b : ℕ) (c : List ℕ) (s : Image) (u : Puttab
   v = view N B s
 
   pub ranged : Ranged N B p
-  unfolding mostSegments
   ranged =
       let z = size-facts N B s (k .size) in
       let m = small N B p s k in record

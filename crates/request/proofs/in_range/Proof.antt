@@ -5,20 +5,20 @@ use Rattle.request.proofs.in_range.Statement.{statement}
 use Rattle.request.proofs.in_range.Tie as tie
 
 returns : tie.Need-returns
-unfolding inRange leastSegments mostSegments leastSlots mostSlots
+unfolding inRange
 returns c = rw (lt-leb 2 _ (c .if1 .taken))
 
 returns-2 : tie.Need-returns-2
-unfolding inRange leastSegments mostSegments leastSlots mostSlots
-returns-2 c = rw (le-leb 2 _ (c .before .if1 .left), lt-leb _ 64 (c .if2 .taken))
+unfolding inRange
+returns-2 c = rw (le-leb 2 _ (c .before .if1 .left), lt-leb _ mostSegments (c .if2 .taken))
 
 returns-3 : tie.Need-returns-3
-unfolding inRange leastSegments mostSegments leastSlots mostSlots
-returns-3 c = rw (le-leb 2 _ (c .before .before .if1 .left), le-leb _ 64 (c .before .if2 .left), lt-leb 2 _ (c .if3 .taken))
+unfolding inRange
+returns-3 c = rw (le-leb 2 _ (c .before .before .if1 .left), le-leb _ mostSegments (c .before .if2 .left), lt-leb 2 _ (c .if3 .taken))
 
 returns-4 : tie.Need-returns-4
-unfolding inRange leastSegments mostSegments leastSlots mostSlots
-returns-4 c = rw (le-leb 2 _ (c .before .before .if1 .left), le-leb _ 64 (c .before .if2 .left), le-leb 2 _ (c .if3 .left))
+unfolding inRange
+returns-4 c = rw (le-leb 2 _ (c .before .before .if1 .left), le-leb _ mostSegments (c .before .if2 .left), le-leb 2 _ (c .if3 .left))
 
 pub in-range-spec : {M : Type 1} → statement M
 in-range-spec = tie.close (tie.spec returns returns-2 returns-3 returns-4)

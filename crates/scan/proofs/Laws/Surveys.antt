@@ -100,7 +100,7 @@ module _ (N B : ℕ) (s : Image) (table : List Summary) (next : ℕ) (w : Shown 
     pub owing-disordered : orderly (capacity N B) (x .sum) ≡ false → Damaged ≡ surveyOf N B l
     owing-disordered h = sym (owing-bad N B s some at-top (orderly-is ∙ h))
 
-    pub owing-orderly : (n : SegmentNumber) (t : Bool) (d : Summary) → x .used + 1 ≡ N → orderly (capacity N B) (x .sum) ≡ true → n .0 ≡ next - 1 → length table ≡ 64
+    pub owing-orderly : (n : SegmentNumber) (t : Bool) (d : Summary) → x .used + 1 ≡ N → orderly (capacity N B) (x .sum) ≡ true → n .0 ≡ next - 1 → length table ≡ mostSegments
         → t ≡ not (isInUse (bare (getD table (next % N) d)) || isInvalid (bare (getD table (next % N) d))) → ErasePending n t ≡ surveyOf N B l
     owing-orderly n t d u h q z c =
         let i : next % N < length table = omega (arith, mod-lt next some, w .most) in
@@ -179,15 +179,15 @@ module _ (N B : ℕ) (s : Image) (table : List Summary) (next : ℕ) (w : Shown 
 -- ---- the table of an image
 
 -- N, B and the length of an image of a right size
-pub right-size : (N B : ℕ) (s : Image) → rightSize N B s ≡ true → Sized N B (length s) × (2 ≤ N) × (N ≤ 64) × (2 ≤ B)
-unfolding rightSize inRange imageLength leastSegments mostSegments leastSlots mostSlots
+pub right-size : (N B : ℕ) (s : Image) → rightSize N B s ≡ true → Sized N B (length s) × (2 ≤ N) × (N ≤ mostSegments) × (2 ≤ B)
+unfolding rightSize inRange imageLength
 right-size N B s h =
-    let a = and-eq-true-iff (leb 2 N && (leb N 64 && (leb 2 B && leb B 255))) (eqb (length s) (N * (B + 1) * 256)) .0 h in
-    let b = and-eq-true-iff (leb 2 N) (leb N 64 && (leb 2 B && leb B 255)) .0 (a .0) in
-    let c = and-eq-true-iff (leb N 64) (leb 2 B && leb B 255) .0 (b .1) in
+    let a = and-eq-true-iff (leb 2 N && (leb N mostSegments && (leb 2 B && leb B 255))) (eqb (length s) (N * (B + 1) * 256)) .0 h in
+    let b = and-eq-true-iff (leb 2 N) (leb N mostSegments && (leb 2 B && leb B 255)) .0 (a .0) in
+    let c = and-eq-true-iff (leb N mostSegments) (leb 2 B && leb B 255) .0 (b .1) in
     let d = and-eq-true-iff (leb 2 B) (leb B 255) .0 (c .1) in
     let n = leb-true 2 N (b .0) in
-    let m = leb-true N 64 (c .0) in (
+    let m = leb-true N mostSegments (c .0) in (
       record { some = omega arith; segments = omega arith; slots = leb-true B 255 (d .1); whole = eqb-true (length s) (N * (B + 1) * 256) (a .1) },
       n,
       m,
@@ -198,8 +198,8 @@ module _ (N B : ℕ) (s : Image) (table : List Summary) (next : ℕ) (right : ri
   pub table-shown : Shown N B s table next
   table-shown = let r = right-size N B s right in record { size = r .0; least = r .1; most = r .2; slots = r .3; shown = shown; after = after; below = below }
 
-  module _ (long : length table ≡ 64) (d : Summary) where
-    few : N ≤ 64
+  module _ (long : length table ≡ mostSegments) (d : Summary) where
+    few : N ≤ mostSegments
     few = right-size N B s right .2
 
     positive : 0 < N

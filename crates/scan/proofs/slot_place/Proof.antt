@@ -2,6 +2,7 @@
 use Prim.Native.Nat.{_+_, _*_, _%_, _≤_}
 use native.Mathlib.Omega.{arith}
 use native.Mathlib.Nat.{mod-lt, mul-le-mul-right}
+use Rattle.model.specs.Chip.{mostSegments}
 use Rattle.model.specs.Steps.{slotAt}
 use borrow.Author.Needs.{needs}
 use Rattle.scan.proofs.slot_place.Statement.{statement}
@@ -16,25 +17,25 @@ add-t6 c = search needs
 mul-t7 : tie.Need-mul-t7
 mul-t7 c =
     let m = mod-lt (c .args .number) (c .pre .0) in
-    let a : c .args .number % c .args .segments * (c .args .slots + 1) ≤ 64 * (c .args .slots + 1) = mul-le-mul-right (c .args .slots + 1) (omega (arith, c .pre .1)) in
+    let a : c .args .number % c .args .segments * (c .args .slots + 1) ≤ mostSegments * (c .args .slots + 1) = mul-le-mul-right (c .args .slots + 1) (omega (arith, c .pre .1)) in
     omega (arith, c .pre .2, c .pre .3)
 
 add-t8 : tie.Need-add-t8
 add-t8 c =
     let m = mod-lt (c .args .number) (c .pre .0) in
-    let a : c .args .number % c .args .segments * (c .args .slots + 1) ≤ 64 * (c .args .slots + 1) = mul-le-mul-right (c .args .slots + 1) (omega (arith, c .pre .1)) in
+    let a : c .args .number % c .args .segments * (c .args .slots + 1) ≤ mostSegments * (c .args .slots + 1) = mul-le-mul-right (c .args .slots + 1) (omega (arith, c .pre .1)) in
     omega (arith, c .pre .2, c .pre .3)
 
 add-t9 : tie.Need-add-t9
 add-t9 c =
     let m = mod-lt (c .args .number) (c .pre .0) in
-    let a : c .args .number % c .args .segments * (c .args .slots + 1) ≤ 64 * (c .args .slots + 1) = mul-le-mul-right (c .args .slots + 1) (omega (arith, c .pre .1)) in
+    let a : c .args .number % c .args .segments * (c .args .slots + 1) ≤ mostSegments * (c .args .slots + 1) = mul-le-mul-right (c .args .slots + 1) (omega (arith, c .pre .1)) in
     omega (arith, c .pre .2, c .pre .3)
 
 mul-t10 : tie.Need-mul-t10
 mul-t10 c =
     let m = mod-lt (c .args .number) (c .pre .0) in
-    let a : c .args .number % c .args .segments * (c .args .slots + 1) ≤ 64 * (c .args .slots + 1) = mul-le-mul-right (c .args .slots + 1) (omega (arith, c .pre .1)) in
+    let a : c .args .number % c .args .segments * (c .args .slots + 1) ≤ mostSegments * (c .args .slots + 1) = mul-le-mul-right (c .args .slots + 1) (omega (arith, c .pre .1)) in
     omega (arith, c .pre .2, c .pre .3)
 
 returns : tie.Need-returns

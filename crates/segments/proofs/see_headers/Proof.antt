@@ -6,6 +6,7 @@ use native.Mathlib.Omega.{arith}
 use borrow.Author.Needs.{needs}
 use denote.Ref.{now}
 use lib.ListN.{length, take, length-set}
+use Rattle.model.specs.Chip.{mostSegments}
 use Rattle.model.specs.State.{segmentsOf}
 use Rattle.model.specs.Laws.Segments.{segments-length}
 use Rattle.judge.specs.Heads.{outline, heads}
@@ -14,7 +15,7 @@ use Rattle.segments.proofs.see_headers.Statement.{statement}
 use Rattle.segments.proofs.see_headers.Tie as tie
 
 abbrev Inv-loop : tie.InvT-loop
-Inv-loop image segments slots table₀ i₀ table i = (heads i table ≡ map outline (take i (segmentsOf segments slots image))) × (i ≤ segments) × (length table ≡ 64)
+Inv-loop image segments slots table₀ i₀ table i = (heads i table ≡ map outline (take i (segmentsOf segments slots image))) × (i ≤ segments) × (length table ≡ mostSegments)
 
 abbrev μ-loop : tie.MeasureT-loop
 μ-loop image segments slots table₀ i₀ table i = segments - i

@@ -6,6 +6,7 @@ use native.Mathlib.Nat.{mod-lt}
 use borrow.Author.Needs.{needs}
 use denote.Ref.{now}
 use lib.ListN.{length, length-set}
+use Rattle.model.specs.Chip.{mostSegments}
 use Rattle.judge.specs.Parts.{rowsOn}
 use Rattle.judge.specs.Tally.{noneMet, tallies}
 use Rattle.scan.proofs.Laws.Gather.{slots-inside, gathered, gather-start, gather-turn, gather-end}
@@ -14,7 +15,7 @@ use Rattle.scan.proofs.sums.gather.Tie as tie
 
 abbrev Inv-loop : tie.InvT-loop
 Inv-loop image segments slots first used table seen₀ ring₀ i₀ seen ring i =
-    (gathered image segments slots used first i ring seen ≡ tallies (rowsOn image segments slots used first) noneMet) × (i ≤ used) × (length ring ≡ 64)
+    (gathered image segments slots used first i ring seen ≡ tallies (rowsOn image segments slots used first) noneMet) × (i ≤ used) × (length ring ≡ mostSegments)
 
 abbrev μ-loop : tie.MeasureT-loop
 μ-loop image segments slots first used table seen₀ ring₀ i₀ seen ring i = used - i
