@@ -1,7 +1,7 @@
 -- What a summary tells of a segment's header: the segment without its slots. The frame needs no more.
-use Prim.Native.Nat.{ℕ, zero, suc, _-_, _%_, max}
+use Prim.Native.Nat.{ℕ, zero, suc, _+_, _-_, _%_, max}
 use mathlib.Core.Path.{_≡_, refl, sym, ap, ap₂, _∙_}
-use mathlib.Core.Bool.{Bool, true, false, cond, _&&_, not}
+use mathlib.Core.Bool.{Bool, true, false, cond, _||_, _&&_, not}
 use mathlib.Core.List.{List, [], _∷_, map}
 use lib.ListN.{getD, take, List·getD-map}
 use lib.Dec.{eqb}
@@ -12,6 +12,8 @@ use Rattle.model.specs.Laws.Lists.{map-set}
 use Rattle.judge.specs.declared.SegmentState.{SegmentState}
 use Rattle.judge.specs.declared.SegmentState.the-variants.{Blank, Invalid, InUse, Owing}
 use Rattle.judge.specs.declared.Summary.{Summary}
+use Rattle.judge.specs.declared.HeaderCounts.{HeaderCounts}
+use Rattle.judge.specs.declared.Headers.{Headers}
 use Rattle.judge.specs.declared.Frame.{Frame}
 use Rattle.judge.specs.Cases.{frame}
 
@@ -142,10 +144,56 @@ heads N table = map bare (take N table)
 unfoldable pub stateSeen : ℕ → SegmentState
 stateSeen st = cond (eqb st erasePending) Owing InUse
 
+-- ---- counted
+
 -- none owing, all that are not in use blank
 unfoldable pub allSettled : List Segment → Bool
 allSettled l = noneOwing l && othersBlank l
 
+unfoldable pub countsOf : List Segment → HeaderCounts
+countsOf l = record { next = nextNumber l; used = usedCount l; settled = allSettled l }
+
+-- one segment more
+unfoldable pub countOne : HeaderCounts → Segment → HeaderCounts
+countOne c x = record {
+  next = max (c .next) (numberAfter x);
+  used = cond (isInUse x) (c .used + 1) (c .used);
+  settled = c .settled && (not (isOwing x) && not (isInvalid x));
+}
+
 -- the segments in use: the smallest number, how many, and whether conditions 1 to 4 hold
 unfoldable pub frameOf : ℕ → List Segment → Frame
 frameOf N l = record { first = firstNumber l; used = usedCount l; fine = frame N l }
+
+outline-frame-of : (N : ℕ) (l : List Segment) → frameOf N (map outline l) ≡ frameOf N l
+unfolding frameOf
+outline-frame-of N l = rw (outline-first l, outline-used l, outline-frame N l)
+
+-- ---- all that the headers tell
+
+-- (b) or (a) mended, if the headers show it: an owing top settled, or else a torn segment after the top taken for blank
+unfoldable pub headsMended : ℕ → List Segment → List Segment
+headsMended N l = cond (isOwing (getD l (topIndex N l) blank)) (topSettled N l) (cond (isInvalid (getD l (nextIndex N l) blank)) (nextBlanked N l) l)
+
+unfoldable pub headersOf : ℕ → List Segment → Headers
+headersOf N l = let after = getD l (nextIndex N l) blank in record {
+  next = nextNumber l;
+  owing = isOwing (getD l (topIndex N l) blank);
+  torn = isInvalid after;
+  blank = not (isInUse after || isInvalid after);
+  frame = frameOf N (headsMended N l);
+}
+
+outline-mended : (N : ℕ) (l : List Segment) → headsMended N (map outline l) ≡ map outline (headsMended N l)
+unfolding headsMended
+outline-mended N l = rw (outline-top N l, outline-after N l, outline-settled-top N l, outline-blanked N l) (go (isOwing (getD l (topIndex N l) blank)) (isInvalid (getD l (nextIndex N l) blank)))
+  where
+    go : (s t : Bool) → cond s (map outline (topSettled N l)) (cond t (map outline (nextBlanked N l)) (map outline l)) ≡ map outline (cond s (topSettled N l) (cond t (nextBlanked N l) l))
+    go true t = refl
+    go false true = refl
+    go false false = refl
+
+-- it does not look at slots
+pub outline-headers : (N : ℕ) (l : List Segment) → headersOf N (map outline l) ≡ headersOf N l
+unfolding headersOf
+outline-headers N l = rw (outline-next l, outline-top N l, outline-after N l, outline-after-use N l, outline-mended N l, outline-frame-of N (headsMended N l))

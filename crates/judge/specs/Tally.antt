@@ -1,12 +1,14 @@
 -- The rows of the segments in use, oldest first: each looked at behind those before, then added up.
-use Prim.Native.Nat.{ℕ, _+_, _*_, _≤_}
+use Prim.Native.Nat.{ℕ, suc, _+_, _*_, _≤_}
+use mathlib.Core.Path.{_≡_, refl, ap}
 use mathlib.Core.Bool.{true, false, cond}
 use mathlib.Core.List.{List, [], _∷_, map}
 use lib.ListN.{replicate}
 use lib.Dec.{ltb}
-use Rattle.model.specs.Chip.{mostSegments}
+use Rattle.model.specs.Chip.{mostSegments, mostSlots}
 use Rattle.model.specs.Slot.{Slot, kindOf}
 use Rattle.judge.specs.declared.Ending.the-variants.{Full, Bad}
+use Rattle.judge.specs.declared.SegmentState.the-variants.{InUse}
 use Rattle.judge.specs.declared.Row.{Row}
 use Rattle.judge.specs.declared.Summary.{Summary}
 use Rattle.judge.specs.declared.Sum.{Sum}
@@ -22,8 +24,21 @@ unfoldable pub tallies : List (List Slot) → List ℕ → List Row
 tallies [] s = []
 tallies (x ∷ r) s = seeAll (map kindOf x) (pass noRow s) .row ∷ tallies r (seeAll (map kindOf x) (pass noRow s) .seen)
 
+-- segments in use, by number from n, with these rows
+unfoldable pub summaryOf : ℕ → Row → Summary
+summaryOf n r = record { number = record { 0 = n }; state = InUse; row = r }
+
+unfoldable pub summariesOf : ℕ → List Row → List Summary
+summariesOf n [] = []
+summariesOf n (r ∷ rs) = summaryOf n r ∷ summariesOf (suc n) rs
+
 unfoldable pub rowOf : Summary → Row
 rowOf s = s .row
+
+pub rows-kept : (n : ℕ) (rs : List Row) → map rowOf (summariesOf n rs) ≡ rs
+unfolding summariesOf summaryOf rowOf
+rows-kept n [] = refl
+rows-kept n (r ∷ rs) = ap {B = List Row} (λ y. r ∷ y) (rows-kept (suc n) rs)
 
 -- one row more. The count of compactions ends at the first row with a dead slot
 unfoldable pub addRow : Sum → Row → Sum
@@ -49,8 +64,8 @@ badSum = record { live = 0; written = 0; compactions = 0; dead = false; ending =
 
 -- sums of at most i rows
 pub record Few (f : Sum) (i : ℕ) : Type 0 where
-  pub live : f .live ≤ 65535 * i
-  pub written : f .written ≤ 65535
+  pub live : f .live ≤ mostSlots * i
+  pub written : f .written ≤ mostSlots
   pub compactions : f .compactions ≤ i
 
 -- numbers of a frame fit

@@ -21,20 +21,30 @@ pub enum Ending {
     Bad,
 }
 
-// The slots of one segment, looked at in order: counts, how they end, and the block of the last live one.
+// The slots of one segment, looked at in order: counts, how they end, and the block of the last live one. A segment has at
+// most 255 slots, so that a byte holds a count.
 pub struct Row {
-    pub live: u16,
-    pub dead: u16,
-    pub written: u16,
+    pub live: u8,
+    pub dead: u8,
+    pub written: u8,
     pub ending: Ending,
     pub block: BlockNumber,
 }
 
-// One segment (document 01: summary).
+// One segment (document 01: summary). There is one for each of 255 segments, and a table of them is copied where it is
+// handed over: with the number first a summary takes twelve bytes.
 pub struct Summary {
-    pub state: SegmentState,
     pub number: SegmentNumber,
+    pub state: SegmentState,
     pub row: Row,
+}
+
+// The segments of a table counted: the number after the top's, or 0 if none is in use; how many are; and whether none is
+// owing and all others are blank.
+pub struct HeaderCounts {
+    pub next: usize,
+    pub used: usize,
+    pub settled: bool,
 }
 
 // The segments in use: the smallest number, how many, and whether conditions 1 to 4 of document 01's Clean hold.
@@ -42,6 +52,16 @@ pub struct Frame {
     pub first: usize,
     pub used: usize,
     pub fine: bool,
+}
+
+// What the headers tell: the number after the top's; whether the top is owing; whether the segment after it is torn, that
+// is, neither in use nor blank, or blank; and the frame once what is unfinished here is mended.
+pub struct Headers {
+    pub next: usize,
+    pub owing: bool,
+    pub torn: bool,
+    pub blank: bool,
+    pub frame: Frame,
 }
 
 // Rows added up: live slots; of the last row, how many are written, how it ends behind the others and its last live

@@ -8,7 +8,7 @@ ghost use mathlib.Core.Path.{_≡_};
 ghost use mathlib.Core.Bool.{true};
 ghost use Prim.Native.Nat.{_+_, _*_, _<_, _≤_};
 ghost use lib.ListN.{length, getD};
-ghost use Rattle.model.specs.Chip.{mostSegments, rightSize};
+ghost use Rattle.model.specs.Chip.{rightSize};
 ghost use Rattle.model.specs.State.{blank, segmentsOf, stateOf};
 ghost use Rattle.flash.specs.Pages.{Sized};
 ghost use Rattle.judge.specs.Rows.{kindsAt};
@@ -128,7 +128,7 @@ fn count_segment(
 
 // Every segment.
 fn take_census(image: &[u8], segments: usize, slots: usize) -> Census
-    requires { ⌜ Sized segments slots (length (now image)) × (segments ≤ mostSegments) ⌝ }
+    requires { ⌜ Sized segments slots (length (now image)) ⌝ }
     ensures { λ r. ⌜ r ≡ censusOf (segmentsOf segments slots (now (image .entry))) ⌝ }
 {
     let mut census = Census {

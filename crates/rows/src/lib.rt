@@ -7,11 +7,12 @@ ghost use mathlib.Core.Path.{_≡_};
 ghost use mathlib.Core.Bool.{cond};
 ghost use Prim.Native.Nat.{_+_, _*_, _≤_};
 ghost use lib.ListN.{length};
+ghost use Rattle.model.specs.Chip.{mostSlots};
 ghost use Rattle.judge.specs.Bitmap.{inBits, putBit};
 ghost use Rattle.judge.specs.Endings.{behind, leaveRoom};
 ghost use Rattle.judge.specs.Rows.{pass, see, seeAll, noRow, kindsAt, Small};
 
-pub fn wide(x: u16) -> usize
+fn wide(x: u16) -> usize
     ensures { λ r. ⌜ r ≡ x ⌝ }
 {
     x as usize
@@ -63,9 +64,22 @@ fn live_ending(again: bool) -> Ending
     }
 }
 
-// The next slot of a row: it is counted, and the number of a live one is met, whatever came before.
+// A row before its first slot.
+pub fn no_row() -> Row
+    ensures { λ r. ⌜ r ≡ noRow ⌝ }
+{
+    Row {
+        live: 0,
+        dead: 0,
+        written: 0,
+        ending: Ending::Full,
+        block: BlockNumber(0),
+    }
+}
+
+// The next slot of a row: it is counted, and the number of a live one is met, whatever came before. A row of 255 has no next.
 fn count(row: Row, kind: SlotKind, seen: &mut [u64; 1024]) -> Row
-    requires { ⌜ Small row 1000 ⌝ }
+    requires { ⌜ Small row 254 ⌝ }
     ensures { λ r. ⌜ pass r (now (seen .exit)) ≡ see kind (pass row (now (seen .entry))) ⌝ }
 {
     let ending = row.ending;
@@ -117,16 +131,10 @@ fn count(row: Row, kind: SlotKind, seen: &mut [u64; 1024]) -> Row
 
 // The slots of a segment, from the offset of the first one.
 pub fn scan_row(image: &[u8], at: usize, slots: usize, seen: &mut [u64; 1024]) -> Row
-    requires { ⌜ (at + slots * 256 ≤ length (now image)) × (slots ≤ 255) ⌝ }
+    requires { ⌜ (at + slots * 256 ≤ length (now image)) × (slots ≤ mostSlots) ⌝ }
     ensures { λ r. ⌜ (pass r (now (seen .exit)) ≡ seeAll (kindsAt (now (image .entry)) at slots) (pass noRow (now (seen .entry)))) × Small r slots ⌝ }
 {
-    let mut row = Row {
-        live: 0,
-        dead: 0,
-        written: 0,
-        ending: Ending::Full,
-        block: BlockNumber(0),
-    };
+    let mut row = no_row();
     let mut i: usize = 0;
     while i < slots {
         let a = at + i * 256;

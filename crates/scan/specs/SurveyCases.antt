@@ -2,7 +2,7 @@
 use Prim.Native.Nat.{ℕ, _+_, _-_, _*_, _≤_, _<_}
 use mathlib.Core.Path.{_≡_, refl, sym, ap, ap₂, _∙_, subst}
 use mathlib.Core.Bool.{Bool, true, false, cond, _||_, not, and-eq-true-iff}
-use mathlib.Core.List.{List, map}
+use mathlib.Core.List.{List}
 use native.Mathlib.Omega.{arith}
 use lib.ListN.{length, getD, length-set}
 use lib.Dec.{leb, eqb}
@@ -16,7 +16,7 @@ use Rattle.scan.specs.declared.Exam.{Exam}
 use Rattle.scan.specs.declared.Surveyed.the-variants.{Clean, TornSegment, ErasePending, TornSlot, OldSlot, Damaged}
 use Rattle.judge.specs.Endings.{inOrder, endsTorn, endsTwin}
 use Rattle.judge.specs.Cases.{frame, mendedState, stateBy, state-by, frame-ring, view-top, view-block}
-use Rattle.judge.specs.Heads.{outline, outline-used, outline-first}
+use Rattle.judge.specs.Heads.{frameOf}
 use Rattle.judge.specs.Tally.{badSum}
 use Rattle.judge.specs.Verdict.{orderly, tornWithin, twinWithin, verdict, Told}
 use Rattle.scan.specs.Surveys.{surveyIn, mendIn, surveyOf, examOf}
@@ -28,7 +28,7 @@ module _ (N B : ℕ) (s : Image) (some : 0 < N) where
 
   -- a list of segments examined
   abbrev pub examined : List Segment → Exam
-  examined m = examOf N B s (map outline m)
+  examined m = examOf N B s (frameOf N m)
 
   size : length l ≡ N
   size = segments-length N B s
@@ -115,26 +115,26 @@ module _ (N B : ℕ) (s : Image) (some : 0 < N) where
   framed-told f = subst (λ (x : Sum). Told N B (viewOf N l .first) (viewOf N l .slots) x) (sym (exam-sum N B s some l ∙ rw f)) (exam-told N B s some l size (within-same l) f)
 
   exam-first : examined l .first ≡ viewOf N l .first
-  unfolding examOf viewOf
-  exam-first = outline-first l
+  unfolding examOf frameOf viewOf
+  exam-first = refl
 
   exam-used : examined l .used ≡ length (viewOf N l .slots)
-  unfolding examOf viewOf
-  exam-used = outline-used l ∙ sym (slots-length N l (usedCount l) (firstNumber l))
+  unfolding examOf frameOf viewOf
+  exam-used = sym (slots-length N l (usedCount l) (firstNumber l))
 
   -- some segment is in use
   pub framed-some : frame N l ≡ true → 1 ≤ examined l .used
-  framed-some f = let r = frame-ring N l size f in let e : examined l .used ≡ usedCount l = (unfold examOf in outline-used l) in omega (arith, r .some)
+  framed-some f = let r = frame-ring N l size f in let e : examined l .used ≡ usedCount l = (unfold examOf frameOf in refl) in omega (arith, r .some)
 
   -- as many numbers from the first on are in use
   pub framed-chain : frame N l ≡ true → numbersFrom N l (examined l .used) (examined l .first) ≡ true
-  unfolding examOf
-  framed-chain f = ap₂ (numbersFrom N l) (outline-used l) (outline-first l) ∙ frame-ring N l size f .chain
+  unfolding examOf frameOf
+  framed-chain f = frame-ring N l size f .chain
 
   -- and their rows are the view
   pub exam-view : record { first = examined l .first; slots = slotsFrom N l (examined l .used) (examined l .first) } ≡ viewOf N l
-  unfolding examOf viewOf
-  exam-view = rw (outline-used l, outline-first l)
+  unfolding examOf frameOf viewOf
+  exam-view = refl
 
   pub twin-held : (C : ℕ) → twinWithin C (examined l .sum) ≡ true → holds (examined l .sum .block .0) (entriesIn (viewOf N l)) ≡ true
   unfolding entriesIn

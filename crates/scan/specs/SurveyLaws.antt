@@ -1,4 +1,4 @@
--- What a table of summaries examined says of an image: conditions 1 to 8 of a mended list, and the state of its slots.
+-- What the segments in use, examined, say of an image: conditions 1 to 8 of a mended list, and the state of its slots.
 use Prim.Native.Nat.{ℕ, zero, suc, _-_, _%_, _<_}
 use mathlib.Core.Path.{_≡_, refl, sym, ap, ap₂, _∙_, subst}
 use mathlib.Core.Logic.{_≢_}
@@ -23,7 +23,7 @@ use Rattle.judge.specs.Endings.{inOrder, endsTorn, endsTwin}
 use Rattle.judge.specs.Cases.{frame, fine, slotState, frame-ring}
 use Rattle.judge.specs.Rows.{slotsAt}
 use Rattle.judge.specs.Parts.{slotsOffset, rowsOn, used-rows}
-use Rattle.judge.specs.Heads.{outline, outline-frame, outline-used, outline-first}
+use Rattle.judge.specs.Heads.{frameOf}
 use Rattle.judge.specs.Tally.{noneMet, tallies, addRows, noSum, badSum}
 use Rattle.judge.specs.TallyLaws.{Narrow, NarrowRows}
 use Rattle.judge.specs.Verdict.{orderly, tornWithin, twinWithin, verdict, Told, told}
@@ -108,7 +108,7 @@ within-settled N l z p i h = elim (ℕ-discrete i (topIndex N l)) [
     top : {y : Segment} → y ≡ settled (getD l (topIndex N l) blank) → (numberAfter (getD l (topIndex N l) blank) ≡ numberAfter y) × (slotsIn (getD l (topIndex N l) blank) ≡ slotsIn y)
     top e = (number (getD l (topIndex N l) blank) ∙ ap numberAfter (sym e), slots (getD l (topIndex N l) blank) ∙ ap slotsIn (sym e))
 
--- ---- a table examined
+-- ---- examined
 
 pub bad-orderly : (C : ℕ) → orderly C badSum ≡ false
 unfolding orderly badSum inOrder
@@ -133,22 +133,22 @@ module _ (N B : ℕ) (s : Image) (some : 0 < N) where
       subst (λ (y : List (List Slot)). Told N B (firstNumber m) y (addRows (tallies (rowsOn s N B (usedCount m) (firstNumber m)) noneMet) noSum)) e
       (told N B (firstNumber m) (rowsOn s N B (usedCount m) (firstNumber m)) (omega (arith, r .some)) (narrow-rows s N B (usedCount m) (firstNumber m)))
 
-  pub exam-sum : (m : List Segment) → examOf N B s (map outline m) .sum ≡ cond (frame N m) (sumOn s N B (usedCount m) (firstNumber m)) badSum
-  unfolding examOf
-  exam-sum m = rw (outline-frame N m, outline-used m, outline-first m)
+  pub exam-sum : (m : List Segment) → examOf N B s (frameOf N m) .sum ≡ cond (frame N m) (sumOn s N B (usedCount m) (firstNumber m)) badSum
+  unfolding examOf frameOf
+  exam-sum m = refl
 
   -- orderly sums: conditions 1 to 8
-  pub exam-orderly : (m : List Segment) → length m ≡ N → Within m l → (frame N m && fine N B (viewOf N m)) ≡ orderly (capacity N B) (examOf N B s (map outline m) .sum)
+  pub exam-orderly : (m : List Segment) → length m ≡ N → Within m l → (frame N m && fine N B (viewOf N m)) ≡ orderly (capacity N B) (examOf N B s (frameOf N m) .sum)
   exam-orderly m z w = go (frame N m) refl
     where
-      go : (t : Bool) → frame N m ≡ t → (frame N m && fine N B (viewOf N m)) ≡ orderly (capacity N B) (examOf N B s (map outline m) .sum)
+      go : (t : Bool) → frame N m ≡ t → (frame N m && fine N B (viewOf N m)) ≡ orderly (capacity N B) (examOf N B s (frameOf N m) .sum)
       go true f = rw f (exam-told m z w f .fine ∙ ap (orderly (capacity N B)) (sym (exam-sum m ∙ rw f)))
-      go false f = let e : examOf N B s (map outline m) .sum ≡ badSum = exam-sum m ∙ rw f in rw (f, e) (sym (bad-orderly (capacity N B)))
+      go false f = let e : examOf N B s (frameOf N m) .sum ≡ badSum = exam-sum m ∙ rw f in rw (f, e) (sym (bad-orderly (capacity N B)))
 
   -- the state of the slots, if the top is not owing and the segment after it not torn
-  pub exam-verdict : cond (frame N l) (slotState N B (viewOf N l)) damaged ≡ verdict (capacity N B) (examOf N B s (map outline l) .sum)
+  pub exam-verdict : cond (frame N l) (slotState N B (viewOf N l)) damaged ≡ verdict (capacity N B) (examOf N B s (frameOf N l) .sum)
   exam-verdict = go (frame N l) refl
     where
-      go : (t : Bool) → frame N l ≡ t → cond t (slotState N B (viewOf N l)) damaged ≡ verdict (capacity N B) (examOf N B s (map outline l) .sum)
+      go : (t : Bool) → frame N l ≡ t → cond t (slotState N B (viewOf N l)) damaged ≡ verdict (capacity N B) (examOf N B s (frameOf N l) .sum)
       go true f = exam-told l (segments-length N B s) (within-same l) f .state ∙ ap (verdict (capacity N B)) (sym (exam-sum l ∙ rw f))
-      go false f = let e : examOf N B s (map outline l) .sum ≡ badSum = exam-sum l ∙ rw f in rw e (sym (bad-verdict (capacity N B)))
+      go false f = let e : examOf N B s (frameOf N l) .sum ≡ badSum = exam-sum l ∙ rw f in rw e (sym (bad-verdict (capacity N B)))

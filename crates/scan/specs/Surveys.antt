@@ -1,24 +1,26 @@
 -- What a survey of an image says: its state, and what a request needs in that state.
 use Prim.Native.Nat.{ℕ, _+_, _-_, _*_, _≤_}
 use mathlib.Core.Path.{_≡_, refl}
-use mathlib.Core.Bool.{cond, _||_, not}
-use mathlib.Core.List.{List, map}
+use mathlib.Core.Bool.{cond, _||_, _&&_, not}
+use mathlib.Core.List.{List}
 use lib.ListN.{length, getD}
-use Rattle.model.specs.Chip.{Image, mostSegments}
-use Rattle.model.specs.State.{Segment, blank, segmentsOf, isInUse, isInvalid, nextNumber, nextIndex, usedCount, firstNumber, viewOf, entriesIn, lastSlot, older, Exception, caseA, caseB, caseC, caseD, State, clean, unfinished, damaged, stateOf}
+use lib.Dec.{eqb}
+use Rattle.model.specs.Chip.{Image, mostSegments, mostSlots}
+use Rattle.model.specs.State.{Segment, blank, segmentsOf, isInUse, isInvalid, nextNumber, nextIndex, viewOf, entriesIn, capacity, lastSlot, older, Exception, caseA, caseB, caseC, caseD, State, clean, unfinished, damaged, stateOf}
 use Rattle.model.specs.Steps.{slotAt, topRow, firstEmpty, compactions}
 use Rattle.flash.specs.Pages.{Sized}
 use Rattle.judge.specs.declared.Sum.{Sum}
-use Rattle.judge.specs.declared.Summary.{Summary}
+use Rattle.judge.specs.declared.Frame.{Frame}
+use Rattle.judge.specs.declared.Headers.{Headers}
 use Rattle.scan.specs.declared.Exam.{Exam}
 use Rattle.find.specs.declared.Found.{Found}
 use Rattle.find.specs.declared.Found.the-variants.{At, Nothing}
 use Rattle.scan.specs.declared.Surveyed.{Surveyed}
 use Rattle.scan.specs.declared.Surveyed.the-variants.{Clean, TornSegment, ErasePending, TornSlot, OldSlot, Damaged}
-use Rattle.judge.specs.Cases.{frame}
-use Rattle.judge.specs.Heads.{outline, heads}
+use Rattle.judge.specs.Heads.{headersOf}
 use Rattle.judge.specs.Parts.{rowsOn}
 use Rattle.judge.specs.Tally.{noneMet, tallies, addRows, noSum, badSum}
+use Rattle.judge.specs.Verdict.{orderly}
 
 -- ---- a survey
 
@@ -58,13 +60,20 @@ survey-state N B l = go (stateOf N B l)
     go (unfinished caseD) = unfold surveyIn mendIn stateIn in refl
     go damaged = unfold surveyIn stateIn in refl
 
--- ---- a table of summaries examined: the rows are looked at only if conditions 1 to 4 hold
+-- ---- the segments in use examined: their rows are looked at only if conditions 1 to 4 hold
 
 unfoldable pub sumOn : Image → ℕ → ℕ → ℕ → ℕ → Sum
 sumOn s N B u n = addRows (tallies (rowsOn s N B u n) noneMet) noSum
 
-unfoldable pub examOf : ℕ → ℕ → Image → List Segment → Exam
-examOf N B s h = record { first = firstNumber h; used = usedCount h; sum = cond (frame N h) (sumOn s N B (usedCount h) (firstNumber h)) badSum }
+unfoldable pub examOf : ℕ → ℕ → Image → Frame → Exam
+examOf N B s f = record { first = f .first; used = f .used; sum = cond (f .fine) (sumOn s N B (f .used) (f .first)) badSum }
+
+-- the survey where the top is owing, and where the segment after it is torn
+unfoldable pub owingIn : ℕ → ℕ → Headers → Exam → Surveyed
+owingIn N B h e = cond (eqb (e .used + 1) N && orderly (capacity N B) (e .sum)) (ErasePending (record { 0 = h .next - 1 }) (h .blank)) Damaged
+
+unfoldable pub tornIn : ℕ → ℕ → Headers → Exam → Surveyed
+tornIn N B h e = cond (orderly (capacity N B) (e .sum)) (TornSegment (record { 0 = h .next - 1 })) Damaged
 
 -- the survey of a clean image, and of one with an older slot that was searched
 unfoldable pub cleanIn : Exam → Surveyed
@@ -74,18 +83,18 @@ unfoldable pub oldIn : Found → Surveyed
 oldIn (At p n) = OldSlot p
 oldIn Nothing = Damaged
 
--- a table shows the segments of an image of a right size, and the number after its top's
-pub record Shown (N B : ℕ) (s : Image) (table : List Summary) (next : ℕ) : Type 0 where
-  pub size : Sized N B (length s)
-  pub least : 2 ≤ N
-  pub most : N ≤ mostSegments
-  pub slots : 2 ≤ B
-  pub shown : heads N table ≡ map outline (segmentsOf N B s)
-  pub after : next ≡ nextNumber (heads N table)
-  pub below : next ≤ 4294967296
-
 -- the numbers of an exam fit
 pub record Bounded (e : Exam) : Type 0 where
   pub whole : e .first + e .used ≤ 4294967296
   pub used : e .used ≤ mostSegments
-  pub written : e .sum .written ≤ 65535
+  pub written : e .sum .written ≤ mostSlots
+
+-- the headers of an image of a right size, and the segments in use that they tell of, examined
+pub record Looked (N B : ℕ) (s : Image) (h : Headers) (e : Exam) : Type 0 where
+  pub size : Sized N B (length s)
+  pub least : 2 ≤ N
+  pub slots : 2 ≤ B
+  pub headers : h ≡ headersOf N (segmentsOf N B s)
+  pub below : h .next ≤ 4294967296
+  pub exam : e ≡ examOf N B s (h .frame)
+  pub bounded : Bounded e

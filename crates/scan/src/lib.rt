@@ -2,21 +2,19 @@
 mod sums;
 
 use find::Found;
+use judge::Headers;
 use judge::Sum;
-use judge::Summary;
-use model::MOST_SEGMENTS;
 use model::SegmentNumber;
 use model::SlotPlace;
 ghost use mathlib.Core.Path.{_≡_};
 ghost use mathlib.Core.Bool.{true, false};
 ghost use Prim.Native.Nat.{_+_, _-_, _*_, _<_, _≤_};
-ghost use lib.ListN.{length, getD};
-ghost use Rattle.model.specs.State.{blank, isInvalid, isOwing, numbersFrom, segmentsOf, slotsFrom, topIndex, nextIndex};
+ghost use lib.ListN.{length};
+ghost use Rattle.model.specs.Chip.{mostSegments, mostSlots, rightSize};
+ghost use Rattle.model.specs.State.{numbersFrom, segmentsOf, slotsFrom};
 ghost use Rattle.model.specs.Steps.{slotAt};
 ghost use Rattle.flash.specs.Pages.{Sized};
-ghost use Rattle.scan.specs.Surveys.{surveyOf, cleanIn, oldIn, Shown};
-ghost use Rattle.model.specs.Chip.{mostSegments, rightSize};
-ghost use Rattle.judge.specs.Heads.{heads};
+ghost use Rattle.scan.specs.Surveys.{surveyOf, owingIn, tornIn, cleanIn, oldIn, Looked};
 ghost use Rattle.scan.specs.Find.{foundIn};
 
 // The segments in use that a table of summaries shows, and their rows added up.
@@ -67,64 +65,39 @@ fn top_number(next: usize) -> SegmentNumber
 
 // The place of a slot of the segment with a number.
 fn slot_place(segments: usize, slots: usize, number: usize, slot: usize) -> SlotPlace
-    requires { ⌜ (0 < segments) × (segments ≤ mostSegments) × (slots ≤ 255) × (slot ≤ 65535) ⌝ }
+    requires { ⌜ (0 < segments) × (segments ≤ mostSegments) × (slots ≤ mostSlots) × (slot ≤ mostSlots) ⌝ }
     ensures { λ r. ⌜ r .0 ≡ slotAt segments slots number slot * 256 ⌝ }
 {
     SlotPlace((number % segments * (slots + 1) + 1 + slot) * 256)
 }
 
 // The survey where the top is owing: all is fine once its old segment, the one after it, is taken for erased.
-fn survey_owing(
-    image: &[u8],
-    segments: usize,
-    slots: usize,
-    table: [Summary; MOST_SEGMENTS],
-    next: usize,
-) -> Surveyed
-    requires { ⌜ Shown segments slots (now image) table next × (isOwing (getD (heads segments table) (topIndex segments (heads segments table)) blank) ≡ true) ⌝ }
-    ensures { λ r. ⌜ r ≡ surveyOf segments slots (segmentsOf segments slots (now (image .entry))) ⌝ }
+fn survey_owing(segments: usize, slots: usize, seen: Headers, exam: Exam) -> Surveyed
+    requires { ⌜ (2 ≤ segments) × (segments ≤ mostSegments) × (2 ≤ slots) × (slots ≤ mostSlots) × (seen .next ≤ 4294967296) × (exam .used ≤ mostSegments) ⌝ }
+    ensures { λ r. ⌜ r ≡ owingIn segments slots seen exam ⌝ }
 {
-    let exam = sums::examine(
-        image,
-        segments,
-        slots,
-        segments::top_settled(table, segments, next),
-    );
     let sum = exam.sum;
     if exam.used + 1 != segments {
         return Surveyed::Damaged;
     }
     if sums::orderly(sum, request::capacity(segments, slots)) {
-        let after = next % segments;
-        let top = top_number(next);
+        let top = top_number(seen.next);
         return Surveyed::ErasePending {
             top,
-            blank: segments::shows_blank(table[after]),
+            blank: seen.blank,
         };
     }
     Surveyed::Damaged
 }
 
 // The survey where the segment after the top is neither in use nor blank: all is fine once it is taken for blank.
-fn survey_torn(
-    image: &[u8],
-    segments: usize,
-    slots: usize,
-    table: [Summary; MOST_SEGMENTS],
-    next: usize,
-) -> Surveyed
-    requires { ⌜ Shown segments slots (now image) table next × (isOwing (getD (heads segments table) (topIndex segments (heads segments table)) blank) ≡ false) × (isInvalid (getD (heads segments table) (nextIndex segments (heads segments table)) blank) ≡ true) ⌝ }
-    ensures { λ r. ⌜ r ≡ surveyOf segments slots (segmentsOf segments slots (now (image .entry))) ⌝ }
+fn survey_torn(segments: usize, slots: usize, seen: Headers, exam: Exam) -> Surveyed
+    requires { ⌜ (2 ≤ segments) × (segments ≤ mostSegments) × (2 ≤ slots) × (slots ≤ mostSlots) × (seen .next ≤ 4294967296) ⌝ }
+    ensures { λ r. ⌜ r ≡ tornIn segments slots seen exam ⌝ }
 {
-    let exam = sums::examine(
-        image,
-        segments,
-        slots,
-        segments::next_blanked(table, segments, next),
-    );
     let sum = exam.sum;
     if sums::orderly(sum, request::capacity(segments, slots)) {
-        let top = top_number(next);
+        let top = top_number(seen.next);
         return Surveyed::TornSegment { top };
     }
     Surveyed::Damaged
@@ -148,7 +121,7 @@ fn clean_survey(exam: Exam) -> Surveyed
 
 // The survey where the block of the slot written last has an older live slot, which is searched.
 fn old_slot(image: &[u8], segments: usize, slots: usize, exam: Exam) -> Surveyed
-    requires { ⌜ Sized segments slots (length (now image)) × (exam .used ≤ mostSegments) × (exam .first < 4294967296) × (numbersFrom segments (segmentsOf segments slots (now image)) (exam .used) (exam .first) ≡ true) × (exam .first + exam .used ≤ 4294967296) ⌝ }
+    requires { ⌜ Sized segments slots (length (now image)) × (exam .first < 4294967296) × (numbersFrom segments (segmentsOf segments slots (now image)) (exam .used) (exam .first) ≡ true) × (exam .first + exam .used ≤ 4294967296) ⌝ }
     ensures { λ r. ⌜ r ≡ oldIn (foundIn segments slots (exam .sum .block .0) (record { first = exam .first; slots = slotsFrom segments (segmentsOf segments slots (now (image .entry))) (exam .used) (exam .first) })) ⌝ }
 {
     let sum = exam.sum;
@@ -162,24 +135,17 @@ fn old_slot(image: &[u8], segments: usize, slots: usize, exam: Exam) -> Surveyed
 }
 
 // The survey where the top is not owing and the segment after it is blank or in use: the slots decide.
-fn survey_slots(
-    image: &[u8],
-    segments: usize,
-    slots: usize,
-    table: [Summary; MOST_SEGMENTS],
-    next: usize,
-) -> Surveyed
-    requires { ⌜ Shown segments slots (now image) table next × (isOwing (getD (heads segments table) (topIndex segments (heads segments table)) blank) ≡ false) × (isInvalid (getD (heads segments table) (nextIndex segments (heads segments table)) blank) ≡ false) ⌝ }
+fn survey_slots(image: &[u8], segments: usize, slots: usize, seen: Headers, exam: Exam) -> Surveyed
+    requires { ⌜ Looked segments slots (now image) seen exam × (seen .owing ≡ false) × (seen .torn ≡ false) ⌝ }
     ensures { λ r. ⌜ r ≡ surveyOf segments slots (segmentsOf segments slots (now (image .entry))) ⌝ }
 {
-    let exam = sums::examine(image, segments, slots, table);
     let sum = exam.sum;
     let most = request::capacity(segments, slots);
     if sums::orderly(sum, most) {
         return clean_survey(exam);
     }
     if sums::torn_within(sum, most) {
-        let number = segments::less(next, 1);
+        let number = segments::less(seen.next, 1);
         let place = slot_place(segments, slots, number, segments::less(sum.written, 1));
         return Surveyed::TornSlot { place };
     }
@@ -195,15 +161,14 @@ pub fn survey(image: &[u8], segments: usize, slots: usize) -> Surveyed
     requires { ⌜ rightSize segments slots (now image) ≡ true ⌝ }
     ensures { λ r. ⌜ r ≡ surveyOf segments slots (segmentsOf segments slots (now (image .entry))) ⌝ }
 {
-    let table = segments::see_headers(image, segments, slots);
-    let next = segments::next_number(table, segments);
-    let top = segments::less(next, 1) % segments;
-    if segments::is_owing(table[top]) {
-        return survey_owing(image, segments, slots, table, next);
+    let seen = segments::see_headers(image, segments, slots);
+    let frame = seen.frame;
+    let exam = sums::examine(image, segments, slots, frame);
+    if seen.owing {
+        return survey_owing(segments, slots, seen, exam);
     }
-    let after = next % segments;
-    if segments::is_invalid(table[after]) {
-        return survey_torn(image, segments, slots, table, next);
+    if seen.torn {
+        return survey_torn(segments, slots, seen, exam);
     }
-    survey_slots(image, segments, slots, table, next)
+    survey_slots(image, segments, slots, seen, exam)
 }

@@ -1,51 +1,60 @@
 // The rows of the segments in use, oldest first, gathered and added up.
 use crate::Exam;
 use judge::Ending;
+use judge::Frame;
 use judge::Row;
+use judge::SegmentState;
 use judge::Sum;
 use judge::Summary;
 use model::BlockNumber;
 use model::MOST_SEGMENTS;
+use model::SegmentNumber;
 ghost use mathlib.Core.Path.{_≡_};
 ghost use mathlib.Core.List.{map};
-ghost use Prim.Native.Nat.{_≤_};
+ghost use Prim.Native.Nat.{_+_, _≤_};
 ghost use lib.ListN.{length, take};
-ghost use Rattle.model.specs.Chip.{mostSegments};
+ghost use Rattle.model.specs.Chip.{mostSegments, mostSlots};
 ghost use Rattle.flash.specs.Pages.{Sized};
 ghost use Rattle.judge.specs.Endings.{inOrder, endsTorn, endsTwin};
 ghost use Rattle.judge.specs.Verdict.{orderly, tornWithin, twinWithin};
 ghost use Rattle.scan.specs.Surveys.{examOf, Bounded};
-ghost use Rattle.judge.specs.Heads.{heads};
 ghost use Rattle.judge.specs.Parts.{rowsOn};
-ghost use Rattle.judge.specs.Tally.{noneMet, tallies, rowOf, addRow, addRows, noSum, Few};
+ghost use Rattle.judge.specs.Tally.{noneMet, tallies, summaryOf, summariesOf, rowOf, addRow, addRows, noSum, Few, Ranged};
 
-fn with_row(s: Summary, row: Row) -> Summary
-    ensures { λ r. ⌜ (r .state ≡ s .state) × (r .number ≡ s .number) × (rowOf r ≡ row) ⌝ }
+fn wide(x: u8) -> usize
+    ensures { λ r. ⌜ r ≡ x ⌝ }
 {
-    let state = s.state;
-    let number = s.number;
-    Summary { state, number, row }
+    x as usize
 }
 
-// The summaries of the segments in use, oldest first, with their rows, each looked at behind those before.
+// The summary of a segment in use whose slots were looked at.
+fn in_use(number: SegmentNumber, row: Row) -> Summary
+    ensures { λ r. ⌜ r ≡ summaryOf (number .0) row ⌝ }
+{
+    let state = SegmentState::InUse;
+    Summary { number, state, row }
+}
+
+// The summaries of the segments in use, oldest first, each looked at behind those before.
 fn gather(
     image: &[u8],
     segments: usize,
     slots: usize,
-    table: [Summary; MOST_SEGMENTS],
     first: usize,
     used: usize,
 ) -> [Summary; MOST_SEGMENTS]
-    requires { ⌜ Sized segments slots (length (now image)) × (segments ≤ mostSegments) × (first ≤ 4294967296) × (used ≤ mostSegments) ⌝ }
-    ensures { λ r. ⌜ (map rowOf (take used r) ≡ tallies (rowsOn (now (image .entry)) segments slots used first) noneMet) ⌝ }
+    requires { ⌜ Sized segments slots (length (now image)) × (first + used ≤ 4294967296) × (used ≤ mostSegments) ⌝ }
+    ensures { λ r. ⌜ take used r ≡ summariesOf first (tallies (rowsOn (now (image .entry)) segments slots used first) noneMet) ⌝ }
 {
     let mut seen = [0u64; 1024];
-    let mut ring = table;
+    let none = in_use(SegmentNumber(0), rows::no_row());
+    let mut ring = [none; MOST_SEGMENTS];
     let mut i: usize = 0;
     while i < used {
-        let index = (first + i) % segments;
-        let at = (index * (slots + 1) + 1) * 256;
-        ring[i] = with_row(table[index], rows::scan_row(image, at, slots, &mut seen));
+        let number = first + i;
+        let at = (number % segments * (slots + 1) + 1) * 256;
+        let row = rows::scan_row(image, at, slots, &mut seen);
+        ring[i] = in_use(SegmentNumber(number as u32), row);
         i += 1;
     }
     ring
@@ -53,13 +62,13 @@ fn gather(
 
 fn add_row(sum: Sum, row: Row) -> Sum
     requires { ⌜ Few sum 1000 ⌝ }
-    ensures { λ r. ⌜ (r ≡ addRow sum row) × (row .live ≤ 65535) × (row .written ≤ 65535) ⌝ }
+    ensures { λ r. ⌜ (r ≡ addRow sum row) × (row .live ≤ mostSlots) × (row .written ≤ mostSlots) ⌝ }
 {
     let block = row.block;
     let before = sum.ending;
     let then = row.ending;
-    let live = sum.live + rows::wide(row.live);
-    let written = rows::wide(row.written);
+    let live = sum.live + wide(row.live);
+    let written = wide(row.written);
     let ending = rows::behind(before, then);
     if sum.dead {
         return Sum {
@@ -83,7 +92,7 @@ fn add_row(sum: Sum, row: Row) -> Sum
 
 fn sum_rows(ring: [Summary; MOST_SEGMENTS], used: usize) -> Sum
     requires { ⌜ used ≤ mostSegments ⌝ }
-    ensures { λ r. ⌜ (r ≡ addRows (map rowOf (take used ring)) noSum) × (r .written ≤ 65535) ⌝ }
+    ensures { λ r. ⌜ (r ≡ addRows (map rowOf (take used ring)) noSum) × (r .written ≤ mostSlots) ⌝ }
 {
     let mut sum = Sum {
         live: 0,
@@ -175,16 +184,15 @@ pub fn twin_within(sum: Sum, most: usize) -> bool
     }
 }
 
-// A table examined: the frame, and the rows if it is fine.
-pub fn examine(image: &[u8], segments: usize, slots: usize, table: [Summary; MOST_SEGMENTS]) -> Exam
-    requires { ⌜ Sized segments slots (length (now image)) × (segments ≤ mostSegments) ⌝ }
-    ensures { λ r. ⌜ (r ≡ examOf segments slots (now (image .entry)) (heads segments table)) × Bounded r ⌝ }
+// The segments in use examined, where their frame is fine.
+pub fn examine(image: &[u8], segments: usize, slots: usize, frame: Frame) -> Exam
+    requires { ⌜ Sized segments slots (length (now image)) × Ranged frame ⌝ }
+    ensures { λ r. ⌜ (r ≡ examOf segments slots (now (image .entry)) frame) × Bounded r ⌝ }
 {
-    let f = segments::see_frame(table, segments);
-    let first = f.first;
-    let used = f.used;
-    if f.fine {
-        let sum = sum_rows(gather(image, segments, slots, table, first, used), used);
+    let first = frame.first;
+    let used = frame.used;
+    if frame.fine {
+        let sum = sum_rows(gather(image, segments, slots, first, used), used);
         return Exam { first, used, sum };
     }
     let sum = Sum {

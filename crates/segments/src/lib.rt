@@ -2,6 +2,8 @@
 use header::HeaderSeen;
 use judge::Ending;
 use judge::Frame;
+use judge::HeaderCounts;
+use judge::Headers;
 use judge::Row;
 use judge::SegmentState;
 use judge::Summary;
@@ -9,14 +11,14 @@ use model::BlockNumber;
 use model::MOST_SEGMENTS;
 use model::SegmentNumber;
 ghost use mathlib.Core.Path.{_≡_};
-ghost use mathlib.Core.Bool.{not, _||_};
+ghost use mathlib.Core.Bool.{cond, not, _&&_, _||_};
 ghost use mathlib.Core.List.{map};
-ghost use Prim.Native.Nat.{_-_, _<_, _≤_, max};
+ghost use Prim.Native.Nat.{_+_, _-_, _<_, _≤_, max};
 ghost use lib.ListN.{length, getD};
 ghost use Rattle.model.specs.Chip.{mostSegments};
-ghost use Rattle.model.specs.State.{blank, isInUse, isInvalid, isOwing, numberAfter, nextNumber, usedCount, numbersFrom, segmentsOf, nextBlanked, settled, topSettled};
+ghost use Rattle.model.specs.State.{blank, isInUse, isInvalid, isOwing, numberAfter, numbersFrom, segmentsOf, settled};
 ghost use Rattle.flash.specs.Pages.{Sized};
-ghost use Rattle.judge.specs.Heads.{bareOf, bare, outline, heads, stateSeen, allSettled, frameOf};
+ghost use Rattle.judge.specs.Heads.{bareOf, bare, outline, heads, stateSeen, countsOf, countOne, frameOf, headersOf};
 ghost use Rattle.judge.specs.Tally.{Ranged};
 
 // A segment before its slots are looked at.
@@ -30,7 +32,7 @@ fn head(state: SegmentState, number: SegmentNumber) -> Summary
         ending: Ending::Full,
         block: BlockNumber(0),
     };
-    Summary { state, number, row }
+    Summary { number, state, row }
 }
 
 fn state_seen(status: u8) -> SegmentState
@@ -63,8 +65,8 @@ fn see_segment(image: &[u8], segments: usize, slots: usize, index: usize) -> Sum
 }
 
 // Every segment, by its header.
-pub fn see_headers(image: &[u8], segments: usize, slots: usize) -> [Summary; MOST_SEGMENTS]
-    requires { ⌜ Sized segments slots (length (now image)) × (segments ≤ mostSegments) ⌝ }
+fn see_table(image: &[u8], segments: usize, slots: usize) -> [Summary; MOST_SEGMENTS]
+    requires { ⌜ Sized segments slots (length (now image)) ⌝ }
     ensures { λ r. ⌜ heads segments r ≡ map outline (segmentsOf segments slots (now (image .entry))) ⌝ }
 {
     let none = head(SegmentState::Blank, SegmentNumber(0));
@@ -91,7 +93,19 @@ fn number_after(s: Summary) -> usize
     }
 }
 
-pub fn is_invalid(s: Summary) -> bool
+fn is_in_use(s: Summary) -> bool
+    ensures { λ r. ⌜ r ≡ isInUse (bare s) ⌝ }
+{
+    let state = s.state;
+    match state {
+        SegmentState::Blank => false,
+        SegmentState::Invalid => false,
+        SegmentState::InUse => true,
+        SegmentState::Owing => true,
+    }
+}
+
+fn is_invalid(s: Summary) -> bool
     ensures { λ r. ⌜ r ≡ isInvalid (bare s) ⌝ }
 {
     let state = s.state;
@@ -103,7 +117,7 @@ pub fn is_invalid(s: Summary) -> bool
     }
 }
 
-pub fn is_owing(s: Summary) -> bool
+fn is_owing(s: Summary) -> bool
     ensures { λ r. ⌜ r ≡ isOwing (bare s) ⌝ }
 {
     let state = s.state;
@@ -115,16 +129,24 @@ pub fn is_owing(s: Summary) -> bool
     }
 }
 
-fn is_in_use(s: Summary) -> bool
-    ensures { λ r. ⌜ r ≡ isInUse (bare s) ⌝ }
+// Whether a summary shows a blank segment.
+fn shows_blank(s: Summary) -> bool
+    ensures { λ r. ⌜ r ≡ not (isInUse (bare s) || isInvalid (bare s)) ⌝ }
 {
-    let state = s.state;
-    match state {
-        SegmentState::Blank => false,
-        SegmentState::Invalid => false,
-        SegmentState::InUse => true,
-        SegmentState::Owing => true,
+    if is_in_use(s) {
+        return false;
     }
+    !is_invalid(s)
+}
+
+// Whether a segment needs no mending: it is in use and not owing, or blank.
+fn is_settled(s: Summary) -> bool
+    ensures { λ r. ⌜ r ≡ (not (isOwing (bare s)) && not (isInvalid (bare s))) ⌝ }
+{
+    if is_owing(s) {
+        return false;
+    }
+    !is_invalid(s)
 }
 
 fn larger(a: usize, b: usize) -> usize
@@ -139,39 +161,48 @@ pub fn less(a: usize, b: usize) -> usize
     if a < b { 0 } else { a - b }
 }
 
-// The number after the top's, or 0 if none is in use.
-pub fn next_number(table: [Summary; MOST_SEGMENTS], segments: usize) -> usize
-    requires { ⌜ segments ≤ mostSegments ⌝ }
-    ensures { λ r. ⌜ (r ≡ nextNumber (heads segments table)) × (r ≤ 4294967296) ⌝ }
+// One segment more.
+fn count_one(counts: HeaderCounts, s: Summary) -> HeaderCounts
+    requires { ⌜ (counts .used < mostSegments) × (counts .next ≤ 4294967296) ⌝ }
+    ensures { λ r. ⌜ (r ≡ countOne counts (bare s)) × (r .used ≤ counts .used + 1) × (r .next ≤ 4294967296) ⌝ }
 {
-    let mut next: usize = 0;
-    let mut i: usize = 0;
-    while i < segments {
-        next = larger(next, number_after(table[i]));
-        i += 1;
+    let next = larger(counts.next, number_after(s));
+    let settled = counts.settled && is_settled(s);
+    if is_in_use(s) {
+        return HeaderCounts {
+            next,
+            used: counts.used + 1,
+            settled,
+        };
     }
-    next
+    HeaderCounts {
+        next,
+        used: counts.used,
+        settled,
+    }
 }
 
-// How many segments are in use.
-fn used_count(table: [Summary; MOST_SEGMENTS], segments: usize) -> usize
+// The segments that a table shows, counted.
+fn count_headers(table: [Summary; MOST_SEGMENTS], segments: usize) -> HeaderCounts
     requires { ⌜ segments ≤ mostSegments ⌝ }
-    ensures { λ r. ⌜ (r ≡ usedCount (heads segments table)) × (r ≤ segments) ⌝ }
+    ensures { λ r. ⌜ (r ≡ countsOf (heads segments table)) × (r .next ≤ 4294967296) × (r .used ≤ segments) ⌝ }
 {
-    let mut used: usize = 0;
+    let mut counts = HeaderCounts {
+        next: 0,
+        used: 0,
+        settled: true,
+    };
     let mut i: usize = 0;
     while i < segments {
-        if is_in_use(table[i]) {
-            used += 1;
-        }
+        counts = count_one(counts, table[i]);
         i += 1;
     }
-    used
+    counts
 }
 
 // Whether as many numbers from the first on are each in use.
 fn consecutive(table: [Summary; MOST_SEGMENTS], segments: usize, first: usize, used: usize) -> bool
-    requires { ⌜ (0 < segments) × (segments ≤ mostSegments) × (first < 5000000000) × (used ≤ mostSegments) ⌝ }
+    requires { ⌜ (0 < segments) × (segments ≤ mostSegments) × (first ≤ 4294967296) × (used ≤ mostSegments) ⌝ }
     ensures { λ r. ⌜ r ≡ numbersFrom segments (heads segments table) used first ⌝ }
 {
     let mut i: usize = 0;
@@ -186,31 +217,13 @@ fn consecutive(table: [Summary; MOST_SEGMENTS], segments: usize, first: usize, u
     true
 }
 
-// Whether none is owing, and all that are not in use are blank.
-fn all_settled(table: [Summary; MOST_SEGMENTS], segments: usize) -> bool
-    requires { ⌜ segments ≤ mostSegments ⌝ }
-    ensures { λ r. ⌜ r ≡ allSettled (heads segments table) ⌝ }
-{
-    let mut i: usize = 0;
-    while i < segments {
-        if is_owing(table[i]) {
-            return false;
-        }
-        if is_invalid(table[i]) {
-            return false;
-        }
-        i += 1;
-    }
-    true
-}
-
-pub fn see_frame(table: [Summary; MOST_SEGMENTS], segments: usize) -> Frame
+fn see_frame(table: [Summary; MOST_SEGMENTS], segments: usize) -> Frame
     requires { ⌜ (0 < segments) × (segments ≤ mostSegments) ⌝ }
     ensures { λ r. ⌜ (r ≡ frameOf segments (heads segments table)) × Ranged r ⌝ }
 {
-    let next = next_number(table, segments);
-    let used = used_count(table, segments);
-    let first = less(next, used);
+    let counts = count_headers(table, segments);
+    let used = counts.used;
+    let first = less(counts.next, used);
     if used == 0 {
         return Frame {
             first,
@@ -225,29 +238,33 @@ pub fn see_frame(table: [Summary; MOST_SEGMENTS], segments: usize) -> Frame
             fine: false,
         };
     }
-    if !consecutive(table, segments, first, used) {
+    if !counts.settled {
         return Frame {
             first,
             used,
             fine: false,
         };
     }
-    let fine = all_settled(table, segments);
+    let fine = consecutive(table, segments, first, used);
     Frame { first, used, fine }
 }
 
-// The segment after the top taken for blank.
-pub fn next_blanked(table: [Summary; MOST_SEGMENTS], segments: usize, next: usize) -> [Summary; MOST_SEGMENTS]
-    requires { ⌜ (0 < segments) × (segments ≤ mostSegments) × (next ≡ nextNumber (heads segments table)) ⌝ }
-    ensures { λ r. ⌜ heads segments r ≡ nextBlanked segments (heads segments table) ⌝ }
+// ---- what is unfinished in the headers, taken as mended
+
+// The segment after the top: blank where the top is owing, whatever it holds, and where it is neither in use nor blank.
+fn next_mended(s: Summary, owing: bool) -> Summary
+    ensures { λ r. ⌜ bare r ≡ cond (owing || isInvalid (bare s)) blank (bare s) ⌝ }
 {
-    let mut mended = table;
-    let after = next % segments;
-    mended[after] = head(SegmentState::Blank, SegmentNumber(0));
-    mended
+    if owing {
+        return head(SegmentState::Blank, SegmentNumber(0));
+    }
+    if is_invalid(s) {
+        return head(SegmentState::Blank, SegmentNumber(0));
+    }
+    s
 }
 
-// A segment whose old one is erased.
+// The top: its old segment is erased.
 fn settled(s: Summary) -> Summary
     ensures { λ r. ⌜ bare r ≡ settled (bare s) ⌝ }
 {
@@ -258,23 +275,29 @@ fn settled(s: Summary) -> Summary
     s
 }
 
-// The segment after the top taken for blank, and the top for one whose old segment is erased.
-pub fn top_settled(table: [Summary; MOST_SEGMENTS], segments: usize, next: usize) -> [Summary; MOST_SEGMENTS]
-    requires { ⌜ (0 < segments) × (segments ≤ mostSegments) × (next ≡ nextNumber (heads segments table)) ⌝ }
-    ensures { λ r. ⌜ heads segments r ≡ topSettled segments (heads segments table) ⌝ }
+// What the headers of an image tell. The table is mended where it stands: it is large, and each hand-over copies it.
+pub fn see_headers(image: &[u8], segments: usize, slots: usize) -> Headers
+    requires { ⌜ Sized segments slots (length (now image)) × (2 ≤ segments) ⌝ }
+    ensures { λ r. ⌜ (r ≡ headersOf segments (segmentsOf segments slots (now (image .entry)))) × (r .next ≤ 4294967296) × Ranged (r .frame) ⌝ }
 {
-    let mut mended = next_blanked(table, segments, next);
+    let mut table = see_table(image, segments, slots);
+    let counts = count_headers(table, segments);
+    let next = counts.next;
     let top = less(next, 1) % segments;
-    mended[top] = settled(table[top]);
-    mended
-}
-
-// Whether a summary shows a blank segment.
-pub fn shows_blank(s: Summary) -> bool
-    ensures { λ r. ⌜ r ≡ not (isInUse (bare s) || isInvalid (bare s)) ⌝ }
-{
-    if is_in_use(s) {
-        return false;
+    let after = next % segments;
+    let high = table[top];
+    let beyond = table[after];
+    let owing = is_owing(high);
+    let torn = is_invalid(beyond);
+    let blank = shows_blank(beyond);
+    table[top] = settled(high);
+    table[after] = next_mended(beyond, owing);
+    let frame = see_frame(table, segments);
+    Headers {
+        next,
+        owing,
+        torn,
+        blank,
+        frame,
     }
-    !is_invalid(s)
 }

@@ -1,5 +1,5 @@
 -- `qbx_report::report_on`: the state and the census. Assumes nothing.
-use Rattle.scan.proofs.Laws.Surveys.{right-size}
+use Rattle.flash.proofs.Pages.{sized}
 use Rattle.qbx_report.specs.Census.{reportOf}
 use borrow.Author.Needs.{needs}
 use Rattle.qbx_report.proofs.report_on.Statement.{statement}
@@ -9,7 +9,7 @@ condition-of-requires : tie.Need-condition-of-requires
 condition-of-requires c κs = search needs
 
 take-census-requires : tie.Need-take-census-requires
-take-census-requires c κs = let f = right-size _ _ _ (c .before .before .pre) in (f .0, f .2)
+take-census-requires c κs = sized _ _ _ (c .before .before .pre)
 
 returns : tie.Need-returns
 unfolding reportOf

@@ -25,7 +25,7 @@ unfolding censusOf
 loop-holds c = (omega arith, omega arith, refl)
 
 count-segment-requires : tie.Need-count-segment-requires Inv-loop μ-loop
-count-segment-requires c κs = let k = c .before in (k .before .before .pre .0, c .loop-test .taken, omega (arith, k .before .before .pre .1, k .loop .inv .1))
+count-segment-requires c κs = let k = c .before in (k .before .before .pre, c .loop-test .taken, omega (arith, k .before .before .pre .segments, k .loop .inv .1))
 
 add-i : tie.Need-add-i Inv-loop μ-loop
 add-i c = search needs

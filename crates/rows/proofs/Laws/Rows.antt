@@ -9,7 +9,11 @@ use Rattle.model.specs.Lists.{chunk}
 use Rattle.model.specs.Slot.{slotOf, kindOf}
 use Rattle.model.specs.declared.SlotKind.{SlotKind}
 use Rattle.model.specs.declared.SlotKind.the-variants.{Empty, Torn, Live, Dead, Wrong}
-use Rattle.judge.specs.Rows.{Pass, see, seeAll, kindsAt, slotsAt, Small}
+use Rattle.judge.specs.Rows.{Pass, noRow, see, seeAll, kindsAt, slotsAt, Small}
+
+pub none-small : Small noRow 0
+unfolding noRow
+none-small = record { live = omega arith; dead = omega arith; written = omega arith }
 
 pub see-small : (k : SlotKind) (p : Pass) (i : ℕ) → Small (p .row) i → Small (see k p .row) (i + 1)
 unfolding see

@@ -10,7 +10,7 @@ use lib.ListN.{take, drop, length-take, length-drop}
 use Rattle.model.specs.Slot.{slotOf, kindOf}
 use Rattle.model.specs.declared.SlotKind.{SlotKind}
 use Rattle.judge.specs.Rows.{Pass, pass, see, seeAll, noRow, kindsAt, Small}
-use Rattle.rows.proofs.Laws.Rows.{see-small, row-next, row-end, page-part}
+use Rattle.rows.proofs.Laws.Rows.{none-small, see-small, row-next, row-end, page-part}
 use Rattle.rows.proofs.scan_row.Statement.{statement}
 use Rattle.rows.proofs.scan_row.Tie as tie
 
@@ -21,21 +21,23 @@ Inv-loop image at slots seen₀ row₀ i₀ seen row i =
 abbrev μ-loop : tie.MeasureT-loop
 μ-loop image at slots seen₀ row₀ i₀ seen row i = slots - i
 
+no-row-requires : tie.Need-no-row-requires Inv-loop μ-loop
+no-row-requires c κs = search needs
+
 loop-holds : tie.Need-loop-holds Inv-loop μ-loop
-unfolding noRow
 loop-holds c =
-    let a = c .before .args in
+    let a = c .before .before .args in
     let e : a .at + 0 * 256 ≡ a .at = omega arith in
-    (rw (e, sub-zero), omega arith, record { live = omega arith; dead = omega arith; written = omega arith })
+    (rw (e, sub-zero, c .no-row .ensures), omega arith, rw (c .no-row .ensures) none-small)
 
 mul-a : tie.Need-mul-a Inv-loop μ-loop
-mul-a c = omega (arith, c .before .before .before .pre)
+mul-a c = omega (arith, c .before .before .before .before .pre)
 
 add-a : tie.Need-add-a Inv-loop μ-loop
-add-a c = omega (arith, c .before .before .before .pre)
+add-a c = omega (arith, c .before .before .before .before .pre)
 
 add-e : tie.Need-add-e Inv-loop μ-loop
-add-e c = omega (arith, c .before .before .before .pre)
+add-e c = omega (arith, c .before .before .before .before .pre)
 
 sub-slot-kind : tie.Need-sub-slot-kind Inv-loop μ-loop
 sub-slot-kind c = search needs
@@ -44,15 +46,15 @@ part-slot-kind-start : tie.Need-part-slot-kind-start Inv-loop μ-loop
 part-slot-kind-start c = search needs
 
 part-slot-kind-end : tie.Need-part-slot-kind-end Inv-loop μ-loop
-part-slot-kind-end c = omega (arith, c .before .before .before .pre)
+part-slot-kind-end c = omega (arith, c .before .before .before .before .pre)
 
 slot-kind-requires : tie.Need-slot-kind-requires Inv-loop μ-loop
-slot-kind-requires c κs = simp (length-take, length-drop) (omega (arith, c .before .before .before .before .pre))
+slot-kind-requires c κs = simp (length-take, length-drop) (omega (arith, c .before .before .before .before .before .pre))
 
 count-requires : tie.Need-count-requires Inv-loop μ-loop
 count-requires c κs =
     let k = c .before .before .before .before .loop .inv .2 in
-    let p = c .before .before .before .before .before .before .pre in
+    let p = c .before .before .before .before .before .before .before .pre in
     record { live = omega arith; dead = omega arith; written = omega arith }
 
 add-i : tie.Need-add-i Inv-loop μ-loop
@@ -63,7 +65,7 @@ loop-less c = search needs
 
 loop-again : tie.Need-loop-again Inv-loop μ-loop
 loop-again c =
-    let a = c .before .before .before .before .before .before .before .args in
+    let a = c .before .before .before .before .before .before .before .before .args in
     let l = c .before .before .before .before .before .loop in
     let t = c .before .before .before .before .loop-test .taken in
     let o = a .at + l .i * 256 in
@@ -76,7 +78,7 @@ loop-again c =
 
 returns : tie.Need-returns Inv-loop μ-loop
 returns c =
-    let a = c .before .before .before .args in
+    let a = c .before .before .before .before .args in
     let l = c .before .loop in
     let k = l .inv .2 in (
       sym (row-end (now (a .image)) (a .at + l .i * 256) (l .i) (a .slots) (pass (l .row) (l .seen)) (c .loop-test .left)) ∙ l .inv .0,
@@ -89,6 +91,7 @@ scan-row-spec =
     (tie.spec
     Inv-loop
     μ-loop
+    no-row-requires
     loop-holds
     mul-a
     add-a

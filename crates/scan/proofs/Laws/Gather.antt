@@ -8,46 +8,42 @@ use native.Mathlib.Nat.{sub-zero, suc-mul, mul-le-mul-right}
 use native.Mathlib.Numerals.{add-one}
 use lib.ListN.{length, getD, take, drop, set}
 use lib.Seq.{drop-cons, take-suc-set, append-snoc}
-use Rattle.model.specs.Chip.{Image}
+use Rattle.model.specs.Chip.{Image, mostSlots}
 use Rattle.judge.specs.declared.Row.{Row}
 use Rattle.judge.specs.declared.Summary.{Summary}
 use Rattle.judge.specs.declared.Sum.{Sum}
 use Rattle.judge.specs.Rows.{Pass, pass, seeAll, noRow, kindsAt}
 use Rattle.judge.specs.Parts.{slotsOffset, rowsOn}
-use Rattle.judge.specs.Tally.{noneMet, tallies, rowOf, addRow, addRows, noSum, Few}
+use Rattle.judge.specs.Tally.{noneMet, tallies, summaryOf, summariesOf, rowOf, addRow, addRows, noSum, Few}
 
 -- the slots of a segment lie inside the image
 pub slots-inside : (N B i : ℕ) → i < N → slotsOffset B i + B * 256 ≤ N * (B + 1) * 256
 slots-inside N B i h = omega (arith, suc-mul i (B + 1), mul-le-mul-right (B + 1) h)
 
-map-snoc : (x : List Summary) (v : Summary) → map rowOf (x ++ (v ∷ [])) ≡ map rowOf x ++ (rowOf v ∷ [])
-map-snoc [] v = refl
-map-snoc (a ∷ x) v = ap {B = List Row} (λ y. rowOf a ∷ y) (map-snoc x v)
-
 module _ (m : Image) (N B u n : ℕ) where
   -- what is gathered and what is left, once i rows are
-  unfoldable pub gathered : ℕ → List Summary → List ℕ → List Row
-  gathered i ring s = map rowOf (take i ring) ++ tallies (rowsOn m N B (u - i) (n + i)) s
+  unfoldable pub gathered : ℕ → List Summary → List ℕ → List Summary
+  gathered i ring s = take i ring ++ summariesOf (n + i) (tallies (rowsOn m N B (u - i) (n + i)) s)
 
-  pub gather-start : (ring : List Summary) → gathered 0 ring noneMet ≡ tallies (rowsOn m N B u n) noneMet
+  pub gather-start : (ring : List Summary) → gathered 0 ring noneMet ≡ summariesOf n (tallies (rowsOn m N B u n) noneMet)
   unfolding gathered
   gather-start ring = let e : n + 0 ≡ n = omega arith in rw (sub-zero u, e)
 
-  pub gather-turn : (i : ℕ) (ring : List Summary) (s z : List ℕ) (r : Row) (v : Summary) (whole : List Row) → i < u → i < length ring → rowOf v ≡ r
+  pub gather-turn : (i : ℕ) (ring : List Summary) (s z : List ℕ) (r : Row) (v : Summary) (whole : List Summary) → i < u → i < length ring → v ≡ summaryOf (n + i) r
       → pass r z ≡ seeAll (kindsAt m (((n + i) % N * (B + 1) + 1) * 256) B) (pass noRow s) → gathered i ring s ≡ whole → gathered (i + 1) (set ring i v) z ≡ whole
-  unfolding gathered tallies rowsOn kindsAt
+  unfolding gathered summariesOf tallies rowsOn kindsAt
   gather-turn i ring s z r v whole h k q e w =
       let d : u - i ≡ suc (u - (i + 1)) = omega arith in
       let f : n + (i + 1) ≡ suc (n + i) = omega arith in
-      rw (f, add-one i, take-suc-set ring i v k, ← (add-one i), map-snoc (take i ring) v, q)
-      (append-snoc (map rowOf (take i ring)) r (tallies (rowsOn m N B (u - (i + 1)) (suc (n + i))) z)
-      ∙ (ap (λ (p : Pass). map rowOf (take i ring) ++ (p .row ∷ tallies (rowsOn m N B (u - (i + 1)) (suc (n + i))) (p .seen))) e ∙ (rw d at w)))
+      rw (f, add-one i, take-suc-set ring i v k, ← (add-one i), q)
+      (append-snoc (take i ring) (summaryOf (n + i) r) (summariesOf (suc (n + i)) (tallies (rowsOn m N B (u - (i + 1)) (suc (n + i))) z))
+      ∙ (ap (λ (p : Pass). take i ring ++ (summaryOf (n + i) (p .row) ∷ summariesOf (suc (n + i)) (tallies (rowsOn m N B (u - (i + 1)) (suc (n + i))) (p .seen)))) e ∙ (rw d at w)))
 
-  pub gather-end : (i : ℕ) (ring : List Summary) (s : List ℕ) (whole : List Row) → i ≡ u → gathered i ring s ≡ whole → map rowOf (take u ring) ≡ whole
-  unfolding gathered tallies rowsOn
+  pub gather-end : (i : ℕ) (ring : List Summary) (s : List ℕ) (whole : List Summary) → i ≡ u → gathered i ring s ≡ whole → take u ring ≡ whole
+  unfolding gathered summariesOf tallies rowsOn
   gather-end i ring s whole e w =
       let d : u - i ≡ 0 = omega arith in
-      ap (λ (k : ℕ). map rowOf (take k ring)) (sym e) ∙ (sym (append-nil (map rowOf (take i ring))) ∙ (rw d at w))
+      ap (λ (k : ℕ). take k ring) (sym e) ∙ (sym (append-nil (take i ring)) ∙ (rw d at w))
 
 -- ---- added up
 
@@ -71,7 +67,7 @@ pub few-start : Few noSum 0
 unfolding noSum
 few-start = record { live = omega arith; written = omega arith; compactions = omega arith }
 
-pub few-more : (f : Sum) (r : Row) (i : ℕ) → r .live ≤ 65535 → r .written ≤ 65535 → Few f i → Few (addRow f r) (i + 1)
+pub few-more : (f : Sum) (r : Row) (i : ℕ) → r .live ≤ mostSlots → r .written ≤ mostSlots → Few f i → Few (addRow f r) (i + 1)
 few-more f r i h m k = go (f .dead) refl
   where
     live : addRow f r .live ≡ f .live + r .live

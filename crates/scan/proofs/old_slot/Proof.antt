@@ -24,14 +24,14 @@ unfolding oldIn
 returns c =
     let a = c .before .before .before .before .before .before .before .before in
     ap oldIn (sym (c .before .found .given .1) ∙ (c .before .before .before .find .ensures
-    ∙ numbered-found (a .args .segments) (a .args .slots) (a .args .exam .sum .block .0) (now (a .args .image)) (a .pre .0 .some) (a .args .exam .used) (a .args .exam .first) (a .pre .3)))
+    ∙ numbered-found (a .args .segments) (a .args .slots) (a .args .exam .sum .block .0) (now (a .args .image)) (a .pre .0 .some) (a .args .exam .used) (a .args .exam .first) (a .pre .2)))
 
 returns-2 : tie.Need-returns-2
 unfolding oldIn
 returns-2 c =
     let a = c .before .before .before .before .before .before .before in
     ap oldIn (sym (c .enum-told .given .1) ∙ (c .before .before .find .ensures
-    ∙ numbered-found (a .args .segments) (a .args .slots) (a .args .exam .sum .block .0) (now (a .args .image)) (a .pre .0 .some) (a .args .exam .used) (a .args .exam .first) (a .pre .3)))
+    ∙ numbered-found (a .args .segments) (a .args .slots) (a .args .exam .sum .block .0) (now (a .args .image)) (a .pre .0 .some) (a .args .exam .used) (a .args .exam .first) (a .pre .2)))
 
 pub old-slot-spec : {M : Type 1} → statement M
 old-slot-spec =

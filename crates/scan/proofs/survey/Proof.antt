@@ -1,9 +1,7 @@
 -- `scan::survey` is the survey of the definition. Assumes nothing.
-use mathlib.Core.Path.{sym, _∙_}
-use native.Mathlib.Omega.{arith}
-use native.Mathlib.Nat.{mod-lt}
+use mathlib.Core.Path.{_∙_}
 use denote.Ref.{now}
-use Rattle.scan.proofs.Laws.Surveys.{right-size, table-shown, top-owing, after-invalid}
+use Rattle.scan.proofs.Laws.Surveys.{right-size, looked, owing-survey, torn-survey}
 use borrow.Author.Needs.{needs}
 use Rattle.scan.proofs.survey.Statement.{statement}
 use Rattle.scan.proofs.survey.Tie as tie
@@ -12,100 +10,56 @@ see-headers-requires : tie.Need-see-headers-requires
 see-headers-requires c κs =
     let s = c .before in
     let r = right-size (s .args .segments) (s .args .slots) (now (s .args .image)) (s .pre) in
-    (r .0, r .2)
+    (r .0, r .1)
 
-next-number-requires : tie.Need-next-number-requires
-next-number-requires c κs =
-    let s = c .before .before in
-    let r = right-size (s .args .segments) (s .args .slots) (now (s .args .image)) (s .pre) in
-    r .2
-
-less-requires : tie.Need-less-requires
-less-requires c κs = search needs
-
-rem-top : tie.Need-rem-top
-rem-top c =
-    let s = c .before .before .before .before in
-    let r = right-size (s .args .segments) (s .args .slots) (now (s .args .image)) (s .pre) in
-    omega (arith, r .1)
-
-mul-is-owing : tie.Need-mul-is-owing
-mul-is-owing c =
-    let s = c .before .before .before .before in
-    let r = right-size (s .args .segments) (s .args .slots) (now (s .args .image)) (s .pre) in
-    omega (arith, r .2, mod-lt (c .less .result) (r .0 .some))
-
-array-copy-out-is-owing : tie.Need-array-copy-out-is-owing
-array-copy-out-is-owing c =
-    let s = c .before .before .before .before in
-    let r = right-size (s .args .segments) (s .args .slots) (now (s .args .image)) (s .pre) in
-    omega (arith, r .2, mod-lt (c .less .result) (r .0 .some))
-
-is-owing-requires : tie.Need-is-owing-requires
-is-owing-requires c κs = search needs
+examine-requires : tie.Need-examine-requires
+examine-requires c κs =
+    let s = c .before .before .before in
+    (right-size (s .args .segments) (s .args .slots) (now (s .args .image)) (s .pre) .0, c .before .see-headers .ensures .2)
 
 survey-owing-requires : tie.Need-survey-owing-requires
 survey-owing-requires c κs =
-    let s = c .before .before .before .before .before .before .before in
-    (table-shown (s .args .segments) (s .args .slots) (now (s .args .image)) (c .before .before .before .before .before .see-headers .result) (c .before .before .before .before .next-number .result) (s .pre) (c .before .before .before .before .before .see-headers .ensures) (c .before .before .before .before .next-number .ensures .0) (c .before .before .before .before .next-number .ensures .1), top-owing (s .args .segments) (s .args .slots) (now (s .args .image)) (c .before .before .before .before .before .see-headers .result) (c .before .before .before .before .next-number .result) (s .pre) (c .before .before .before .before .before .see-headers .ensures) (c .before .before .before .before .next-number .ensures .0) (c .before .before .before .before .next-number .ensures .1) (omega (arith, c .before .before .before .before .before .see-headers)) _ (c .before .before .before .less .result) (c .before .before .before .less .ensures) ∙ (sym (c .before .is-owing .ensures) ∙ c .if1 .taken))
+    let s = c .before .before .before .before .before in
+    let h = c .before .before .before .see-headers in
+    let w = looked (s .args .segments) (s .args .slots) (now (s .args .image)) (h .result) (c .before .examine .result) (s .pre) (h .ensures .0) (h .ensures .1) (c .before .examine .ensures .0) (c .before .examine .ensures .1) in
+    (w .least, w .size .segments, w .slots, w .size .slots, w .below, w .bounded .used)
 
 returns : tie.Need-returns
-returns c = c .survey-owing .ensures
-
-rem-after : tie.Need-rem-after
-rem-after c =
-    let s = c .before .before .before .before .before .before .before in
-    let r = right-size (s .args .segments) (s .args .slots) (now (s .args .image)) (s .pre) in
-    omega (arith, r .1)
-
-mul-is-invalid : tie.Need-mul-is-invalid
-mul-is-invalid c =
-    let s = c .before .before .before .before .before .before .before in
-    let r = right-size (s .args .segments) (s .args .slots) (now (s .args .image)) (s .pre) in
-    omega (arith, r .2, mod-lt (c .before .before .before .before .next-number .result) (r .0 .some))
-
-array-copy-out-is-invalid : tie.Need-array-copy-out-is-invalid
-array-copy-out-is-invalid c =
-    let s = c .before .before .before .before .before .before .before in
-    let r = right-size (s .args .segments) (s .args .slots) (now (s .args .image)) (s .pre) in
-    omega (arith, r .2, mod-lt (c .before .before .before .before .next-number .result) (r .0 .some))
-
-is-invalid-requires : tie.Need-is-invalid-requires
-is-invalid-requires c κs = search needs
+returns c =
+    let s = c .before .before .before .before .before .before in
+    let h = c .before .before .before .before .see-headers in
+    c .survey-owing .ensures ∙ owing-survey (s .args .segments) (s .args .slots) (now (s .args .image)) (h .result) (c .before .before .examine .result) (looked (s .args .segments) (s .args .slots) (now (s .args .image)) (h .result) (c .before .before .examine .result) (s .pre) (h .ensures .0) (h .ensures .1) (c .before .before .examine .ensures .0) (c .before .before .examine .ensures .1)) (c .before .if1 .taken)
 
 survey-torn-requires : tie.Need-survey-torn-requires
 survey-torn-requires c κs =
-    let s = c .before .before .before .before .before .before .before .before .before .before in
-    (table-shown (s .args .segments) (s .args .slots) (now (s .args .image)) (c .before .before .before .before .before .before .before .before .see-headers .result) (c .before .before .before .before .before .before .before .next-number .result) (s .pre) (c .before .before .before .before .before .before .before .before .see-headers .ensures) (c .before .before .before .before .before .before .before .next-number .ensures .0) (c .before .before .before .before .before .before .before .next-number .ensures .1), top-owing (s .args .segments) (s .args .slots) (now (s .args .image)) (c .before .before .before .before .before .before .before .before .see-headers .result) (c .before .before .before .before .before .before .before .next-number .result) (s .pre) (c .before .before .before .before .before .before .before .before .see-headers .ensures) (c .before .before .before .before .before .before .before .next-number .ensures .0) (c .before .before .before .before .before .before .before .next-number .ensures .1) (omega (arith, c .before .before .before .before .before .before .before .before .see-headers)) _ (c .before .before .before .before .before .before .less .result) (c .before .before .before .before .before .before .less .ensures) ∙ (sym (c .before .before .before .before .is-owing .ensures) ∙ c .before .before .before .if1 .left), after-invalid (s .args .segments) (s .args .slots) (now (s .args .image)) (c .before .before .before .before .before .before .before .before .see-headers .result) (c .before .before .before .before .before .before .before .next-number .result) (s .pre) (c .before .before .before .before .before .before .before .before .see-headers .ensures) (c .before .before .before .before .before .before .before .next-number .ensures .0) (c .before .before .before .before .before .before .before .next-number .ensures .1) (omega (arith, c .before .before .before .before .before .before .before .before .see-headers)) _ ∙ (sym (c .before .is-invalid .ensures) ∙ c .if2 .taken))
+    let s = c .before .before .before .before .before .before in
+    let h = c .before .before .before .before .see-headers in
+    let w = looked (s .args .segments) (s .args .slots) (now (s .args .image)) (h .result) (c .before .before .examine .result) (s .pre) (h .ensures .0) (h .ensures .1) (c .before .before .examine .ensures .0) (c .before .before .examine .ensures .1) in
+    (w .least, w .size .segments, w .slots, w .size .slots, w .below)
 
 returns-2 : tie.Need-returns-2
-returns-2 c = c .survey-torn .ensures
+returns-2 c =
+    let s = c .before .before .before .before .before .before .before in
+    let h = c .before .before .before .before .before .see-headers in
+    c .survey-torn .ensures ∙ torn-survey (s .args .segments) (s .args .slots) (now (s .args .image)) (h .result) (c .before .before .before .examine .result) (looked (s .args .segments) (s .args .slots) (now (s .args .image)) (h .result) (c .before .before .before .examine .result) (s .pre) (h .ensures .0) (h .ensures .1) (c .before .before .before .examine .ensures .0) (c .before .before .before .examine .ensures .1)) (c .before .before .if1 .left) (c .before .if2 .taken)
 
 survey-slots-requires : tie.Need-survey-slots-requires
 survey-slots-requires c κs =
-    let s = c .before .before .before .before .before .before .before .before .before .before in
-    (table-shown (s .args .segments) (s .args .slots) (now (s .args .image)) (c .before .before .before .before .before .before .before .before .see-headers .result) (c .before .before .before .before .before .before .before .next-number .result) (s .pre) (c .before .before .before .before .before .before .before .before .see-headers .ensures) (c .before .before .before .before .before .before .before .next-number .ensures .0) (c .before .before .before .before .before .before .before .next-number .ensures .1), top-owing (s .args .segments) (s .args .slots) (now (s .args .image)) (c .before .before .before .before .before .before .before .before .see-headers .result) (c .before .before .before .before .before .before .before .next-number .result) (s .pre) (c .before .before .before .before .before .before .before .before .see-headers .ensures) (c .before .before .before .before .before .before .before .next-number .ensures .0) (c .before .before .before .before .before .before .before .next-number .ensures .1) (omega (arith, c .before .before .before .before .before .before .before .before .see-headers)) _ (c .before .before .before .before .before .before .less .result) (c .before .before .before .before .before .before .less .ensures) ∙ (sym (c .before .before .before .before .is-owing .ensures) ∙ c .before .before .before .if1 .left), after-invalid (s .args .segments) (s .args .slots) (now (s .args .image)) (c .before .before .before .before .before .before .before .before .see-headers .result) (c .before .before .before .before .before .before .before .next-number .result) (s .pre) (c .before .before .before .before .before .before .before .before .see-headers .ensures) (c .before .before .before .before .before .before .before .next-number .ensures .0) (c .before .before .before .before .before .before .before .next-number .ensures .1) (omega (arith, c .before .before .before .before .before .before .before .before .see-headers)) _ ∙ (sym (c .before .is-invalid .ensures) ∙ c .if2 .left))
+    let s = c .before .before .before .before .before .before in
+    let h = c .before .before .before .before .see-headers in
+    (looked (s .args .segments) (s .args .slots) (now (s .args .image)) (h .result) (c .before .before .examine .result) (s .pre) (h .ensures .0) (h .ensures .1) (c .before .before .examine .ensures .0) (c .before .before .examine .ensures .1), c .before .if1 .left, c .if2 .left)
 
 returns-3 : tie.Need-returns-3
-returns-3 c = c .survey-slots .ensures
+returns-3 c = search needs
 
 pub survey-spec : {M : Type 1} → statement M
 survey-spec =
     tie.close
     (tie.spec
     see-headers-requires
-    next-number-requires
-    less-requires
-    rem-top
-    mul-is-owing
-    array-copy-out-is-owing
-    is-owing-requires
+    examine-requires
     survey-owing-requires
     returns
-    rem-after
-    mul-is-invalid
-    array-copy-out-is-invalid
-    is-invalid-requires
     survey-torn-requires
     returns-2
     survey-slots-requires

@@ -1,21 +1,28 @@
 -- The frame from its parts, and tables with a summary changed.
 use Prim.Native.Nat.{ℕ, _-_, _%_, _≤_, _<_}
 use mathlib.Core.Path.{_≡_, refl, sym, ap, ap₂, _∙_}
-use mathlib.Core.Bool.{Bool, true, false, _&&_, false≢true, true≢false}
+use mathlib.Core.Logic.{_≢_}
+use mathlib.Core.Bool.{Bool, true, false, cond, _||_, _&&_, not, and-false, and-true, false≢true, true≢false}
 use mathlib.Core.List.{List, map}
 use native.Mathlib.Omega.{arith}
 use native.Mathlib.Nat.{mod-lt}
 use lib.ListN.{length, getD, take, set}
-use lib.Seq.{take-set-lt}
+use lib.Seq.{take-set-lt, set-getD, set-comm}
 use borrow.Author.Tests.{le-leb, lt-leb}
-use Rattle.model.specs.State.{Segment, blank, isOwing, nextNumber, usedCount, firstNumber, someInUse, numbersFrom, consecutive, nextIndex, topIndex, nextBlanked, settled, topSettled}
-use Rattle.model.specs.Laws.Lists.{map-set}
+use Rattle.model.specs.State.{Segment, blank, invalid, inUse, isInUse, isInvalid, isOwing, numberAfter, nextNumber, usedCount, firstNumber, someInUse, numbersFrom, consecutive, nextIndex, topIndex, nextBlanked, settled, topSettled}
+use Rattle.model.specs.Laws.Lists.{map-set, mod-inj}
+use Rattle.model.specs.Laws.Ring.{next-ge}
 use Rattle.judge.specs.declared.SegmentState.{SegmentState}
 use Rattle.judge.specs.declared.SegmentState.the-variants.{Blank, Invalid, InUse, Owing}
 use Rattle.judge.specs.declared.Summary.{Summary}
+use Rattle.judge.specs.declared.HeaderCounts.{HeaderCounts}
+use Rattle.judge.specs.declared.Frame.{Frame}
 use Rattle.judge.specs.Cases.{frame}
-use Rattle.judge.specs.Heads.{bareOf, bare, heads, allSettled, frameOf}
+use Rattle.judge.specs.Heads.{bareOf, bare, outline, heads, allSettled, countsOf, frameOf, headsMended, headersOf, outline-headers}
 use Rattle.segments.proofs.Laws.Tables.{heads-get}
+
+pub counted-next : (l : List Segment) (c : HeaderCounts) → c ≡ countsOf l → c .next ≡ nextNumber l
+counted-next l c e = ap (λ (y : HeaderCounts). y .next) e ∙ (unfold countsOf in refl)
 
 module _ (N : ℕ) (l : List Segment) where
   frame-none : usedCount l ≡ 0 → frame N l ≡ false
@@ -30,33 +37,41 @@ module _ (N : ℕ) (l : List Segment) where
   unfolding frame someInUse consecutive allSettled
   frame-inside p h = rw (le-leb 1 (usedCount l) (omega arith), le-leb (usedCount l) (N - 1) (omega arith))
 
-  module _ (next u f : ℕ) (a : next ≡ nextNumber l) (b : u ≡ usedCount l) (c : f ≡ next - u) where
+  module _ (c : HeaderCounts) (e : c ≡ countsOf l) (f : ℕ) (q : f ≡ c .next - c .used) where
+    used-is : c .used ≡ usedCount l
+    used-is = ap (λ (y : HeaderCounts). y .used) e ∙ (unfold countsOf in refl)
+
+    settled-is : c .settled ≡ allSettled l
+    settled-is = ap (λ (y : HeaderCounts). y .settled) e ∙ (unfold countsOf in refl)
+
     first-is : f ≡ firstNumber l
-    unfolding firstNumber
-    first-is = c ∙ rw (a, b)
+    first-is = q ∙ (ap (λ (y : HeaderCounts). y .next - y .used) e ∙ (unfold countsOf firstNumber in refl))
 
-    frame-is : (t : Bool) → t ≡ frame N l → record { first = f; used = u; fine = t } ≡ frameOf N l
+    frame-is : (t : Bool) → t ≡ frame N l → record { first = f; used = c .used; fine = t } ≡ frameOf N l
     unfolding frameOf
-    frame-is t e = rw (← first-is, ← b, ← e)
+    frame-is t h = rw (← first-is, ← used-is, ← h)
 
-    pub frame-unused : u ≡ 0 → record { first = f; used = u; fine = false } ≡ frameOf N l
-    frame-unused e = frame-is false (sym (frame-none (sym b ∙ e)))
+    pub frame-unused : c .used ≡ 0 → record { first = f; used = c .used; fine = false } ≡ frameOf N l
+    frame-unused z = frame-is false (sym (frame-none (sym used-is ∙ z)))
 
-    pub frame-crowded : 0 < N → N ≤ u → record { first = f; used = u; fine = false } ≡ frameOf N l
-    frame-crowded p h = frame-is false (sym (frame-many p (omega arith)))
+    pub frame-crowded : 0 < N → N ≤ c .used → record { first = f; used = c .used; fine = false } ≡ frameOf N l
+    frame-crowded p h = frame-is false (sym (frame-many p (omega (arith, used-is))))
 
-    pub frame-tested : (u ≡ 0 → ⊥) → u < N → (t : Bool) → t ≡ numbersFrom N l u f → (s : Bool) → s ≡ (t && allSettled l) → record { first = f; used = u; fine = s } ≡ frameOf N l
-    frame-tested p h t e s q = frame-is s (q ∙ (ap (λ (x : Bool). x && allSettled l) (e ∙ ap₂ (numbersFrom N l) b first-is) ∙ sym (frame-inside (omega arith) (omega arith))))
+    module _ (some : c .used ≡ 0 → ⊥) (spare : c .used < N) where
+      inside : frame N l ≡ (numbersFrom N l (usedCount l) (firstNumber l) && c .settled)
+      inside = rw settled-is (frame-inside (omega (arith, used-is)) (omega (arith, used-is)))
+
+      pub frame-unsettled : c .settled ≡ false → record { first = f; used = c .used; fine = false } ≡ frameOf N l
+      frame-unsettled h = frame-is false (sym (inside ∙ rw h (and-false (numbersFrom N l (usedCount l) (firstNumber l)))))
+
+      pub frame-settled : c .settled ≡ true → (t : Bool) → t ≡ numbersFrom N l (c .used) f → record { first = f; used = c .used; fine = t } ≡ frameOf N l
+      frame-settled h t w = frame-is t (w ∙ (ap₂ (numbersFrom N l) used-is first-is ∙ sym (inside ∙ rw h (and-true (numbersFrom N l (usedCount l) (firstNumber l))))))
 
 -- ---- a summary changed
 
 heads-set : (N i : ℕ) (table : List Summary) (v : Summary) → i < N → heads N (set table i v) ≡ set (heads N table) i (bare v)
 unfolding heads
 heads-set N i table v h = ap (map bare) (take-set-lt N table i v h) ∙ map-set bare (take N table) i v
-
-pub blanked-table : (N next : ℕ) (table : List Summary) (v : Summary) → 0 < N → next ≡ nextNumber (heads N table) → bare v ≡ bareOf Blank 0 → heads N (set table (next % N) v) ≡ nextBlanked N (heads N table)
-unfolding nextBlanked nextIndex bareOf
-blanked-table N next table v p e q = heads-set N (next % N) table v (mod-lt next p) ∙ rw (q, e)
 
 pub settled-owing : (x : SegmentState) (n : ℕ) → isOwing (bareOf x n) ≡ true → bareOf InUse n ≡ settled (bareOf x n)
 unfolding bareOf isOwing settled
@@ -72,10 +87,84 @@ settled-other Invalid n h = refl
 settled-other InUse n h = refl
 settled-other Owing n h = absurd (true≢false h)
 
-pub settled-table : (N next top : ℕ) (table mended : List Summary) (d v : Summary) → 0 < N → next ≡ nextNumber (heads N table) → top ≡ next - 1 → top % N < length table
-    → heads N mended ≡ nextBlanked N (heads N table) → bare v ≡ settled (bare (getD table (top % N) d)) → heads N (set mended (top % N) v) ≡ topSettled N (heads N table)
-unfolding topSettled topIndex
-settled-table N next top table mended d v p e t i h q =
-    let k : top ≡ nextNumber (heads N table) - 1 = omega arith in
-    let g : bare v ≡ settled (getD (heads N table) (top % N) blank) = q ∙ ap settled (sym (heads-get N (top % N) table d (mod-lt top p) i)) in
-    heads-set N (top % N) mended v (mod-lt top p) ∙ rw (h, g, k)
+settled-same : (x : Summary) → isOwing (bare x) ≡ false → settled (bare x) ≡ bare x
+unfolding bare
+settled-same x h = sym (settled-other (x .state) (x .number .0) h)
+
+-- the segment before a number is not the one at it
+apart : (N n : ℕ) → 2 ≤ N → 0 < n → (n - 1) % N ≢ n % N
+apart N n two some e = let q = mod-inj N (n - 1) n (omega arith) (omega arith) e in omega arith
+
+owing-some : (x : Segment) → isOwing x ≡ true → 0 < numberAfter x
+unfolding isOwing numberAfter
+owing-some blank h = absurd (false≢true h)
+owing-some invalid h = absurd (false≢true h)
+owing-some (inUse st n ks) h = omega arith
+
+-- a table mended where it stands: the top as settled, then the segment after it
+module _ (N : ℕ) (table : List Summary) (d : Summary) (two : 2 ≤ N) (long : N ≤ length table) (next top : ℕ) (e : next ≡ nextNumber (heads N table)) (t : top ≡ next - 1) where
+  abbrev h : List Segment
+  h = heads N table
+
+  some : 0 < N
+  some = omega arith
+
+  pub top-get : getD h (topIndex N h) blank ≡ bare (getD table (top % N) d)
+  unfolding topIndex
+  top-get = let k : nextNumber h - 1 ≡ top = omega arith in rw k (heads-get N (top % N) table d (mod-lt top some) (omega (arith, mod-lt top some)))
+
+  pub after-get : getD h (nextIndex N h) blank ≡ bare (getD table (next % N) d)
+  unfolding nextIndex
+  after-get = rw (← e) (heads-get N (next % N) table d (mod-lt next some) (omega (arith, mod-lt next some)))
+
+  pub mended-table : (v w : Summary) → bare v ≡ settled (bare (getD table (top % N) d))
+      → bare w ≡ cond (isOwing (bare (getD table (top % N) d)) || isInvalid (bare (getD table (next % N) d))) blank (bare (getD table (next % N) d))
+      → heads N (set (set table (top % N) v) (next % N) w) ≡ headsMended N h
+  mended-table v w p q =
+      heads-set N (next % N) (set table (top % N) v) w (mod-lt next some)
+      ∙ (ap₂ (λ (x : List Segment) (y : Segment). set x (next % N) y) (heads-set N (top % N) table v (mod-lt top some)) q
+      ∙ go (isOwing (bare (getD table (top % N) d))) (isInvalid (bare (getD table (next % N) d))) refl refl)
+    where
+      index : topIndex N h ≡ top % N
+      index = unfold topIndex in (let k : nextNumber h - 1 ≡ top = omega arith in rw k)
+
+      after : nextIndex N h ≡ next % N
+      after = unfold nextIndex in rw e
+
+      blanked : nextBlanked N h ≡ set h (next % N) blank
+      blanked = unfold nextBlanked in rw after
+
+      -- the top stays where it is not owing
+      same : isOwing (bare (getD table (top % N) d)) ≡ false → set h (top % N) (bare v) ≡ h
+      same o =
+          let b : bare v ≡ getD h (top % N) blank = p ∙ (settled-same (getD table (top % N) d) o ∙ (sym top-get ∙ ap (λ (k : ℕ). getD h k blank) index)) in
+          ap (λ (y : Segment). set h (top % N) y) b ∙ set-getD h (top % N) blank
+
+      go : (o i : Bool) → isOwing (bare (getD table (top % N) d)) ≡ o → isInvalid (bare (getD table (next % N) d)) ≡ i
+          → set (set h (top % N) (bare v)) (next % N) (cond (o || i) blank (bare (getD table (next % N) d))) ≡ headsMended N h
+      go true i a b =
+          let n : 0 < next = omega (arith, owing-some (getD h (topIndex N h) blank) (ap isOwing top-get ∙ a), next-ge h (topIndex N h)) in
+          let f : top % N ≢ next % N = (λ z. apart N next two n (ap (λ (k : ℕ). k % N) (sym t) ∙ z)) in
+          set-comm h (top % N) (next % N) (bare v) blank f
+          ∙ (ap₂ (λ (x : List Segment) (y : Segment). set x (top % N) y) (sym blanked) (p ∙ ap settled (sym top-get))
+          ∙ (unfold headsMended topSettled in rw (ap isOwing top-get ∙ a, index)))
+      go false true a b = ap (λ (x : List Segment). set x (next % N) blank) (same a) ∙ (sym blanked ∙ (unfold headsMended in rw (ap isOwing top-get ∙ a, ap isInvalid after-get ∙ b)))
+      go false false a b =
+          ap₂ (λ (x : List Segment) (y : Segment). set x (next % N) y) (same a) (sym after-get ∙ ap (λ (k : ℕ). getD h k blank) after)
+          ∙ (set-getD h (next % N) blank ∙ (unfold headsMended in rw (ap isOwing top-get ∙ a, ap isInvalid after-get ∙ b)))
+
+  -- all that the headers tell, from what was found of the table
+  pub headers-found : (l : List Segment) (o i b : Bool) (v w : Summary) (f : Frame) → h ≡ map outline l → o ≡ isOwing (bare (getD table (top % N) d)) → i ≡ isInvalid (bare (getD table (next % N) d))
+      → b ≡ not (isInUse (bare (getD table (next % N) d)) || isInvalid (bare (getD table (next % N) d))) → bare v ≡ settled (bare (getD table (top % N) d))
+      → bare w ≡ cond (o || isInvalid (bare (getD table (next % N) d))) blank (bare (getD table (next % N) d)) → f ≡ frameOf N (heads N (set (set table (top % N) v) (next % N) w))
+      → record { next = next; owing = o; torn = i; blank = b; frame = f } ≡ headersOf N l
+  headers-found l o i b v w f shown a c g p q r = found ∙ (ap (headersOf N) shown ∙ outline-headers N l)
+    where
+      found : record { next = next; owing = o; torn = i; blank = b; frame = f } ≡ headersOf N h
+      found = unfold headersOf in rw (
+        e,
+        a ∙ sym (ap isOwing top-get),
+        c ∙ sym (ap isInvalid after-get),
+        g ∙ sym (ap (λ (x : Segment). not (isInUse x || isInvalid x)) after-get),
+        r ∙ ap (frameOf N) (mended-table v w p (q ∙ ap (λ (x : Bool). cond (x || isInvalid (bare (getD table (next % N) d))) blank (bare (getD table (next % N) d))) a)),
+      )

@@ -1,7 +1,7 @@
 -- A table of summaries walked through: what is left of it.
 use Prim.Native.Nat.{ℕ, suc, _+_, _-_, _%_, _≤_, _<_, max}
-use mathlib.Core.Path.{_≡_, refl, ap, _∙_}
-use mathlib.Core.Bool.{true, false, cond, _&&_, not, and-false}
+use mathlib.Core.Path.{_≡_, refl, sym, ap, _∙_}
+use mathlib.Core.Bool.{Bool, true, false, cond, _&&_, not, and-false, and-true}
 use mathlib.Core.List.{List, [], _∷_, map}
 use native.Mathlib.Omega.{arith}
 use native.Mathlib.Nat.{sub-zero}
@@ -13,7 +13,8 @@ use borrow.Author.Tests.{eq-eqb, ne-eqb}
 use Rattle.model.specs.Lists.{all, count}
 use Rattle.model.specs.State.{Segment, blank, isInUse, isInvalid, isOwing, numberAfter, nextNumber, usedCount, numbersFrom, noneOwing, othersBlank}
 use Rattle.judge.specs.declared.Summary.{Summary}
-use Rattle.judge.specs.Heads.{bare, heads, allSettled}
+use Rattle.judge.specs.declared.HeaderCounts.{HeaderCounts}
+use Rattle.judge.specs.Heads.{bare, heads, allSettled, countsOf, countOne}
 
 -- the segments that the summaries from i on show
 unfoldable pub headsFrom : ℕ → ℕ → List Summary → List Segment
@@ -35,37 +36,47 @@ pub heads-get : (N i : ℕ) (table : List Summary) (d : Summary) → i < N → i
 unfolding heads
 heads-get N i table d h k = Rattle.model.specs.Laws.Lists.map-get bare (take N table) i d blank (omega (arith, lib.ListN.length-take N table)) ∙ ap bare (getD-take N table i d h)
 
+-- ---- counted: what was counted so far, and what is left
+
+unfoldable pub counted : HeaderCounts → List Segment → HeaderCounts
+counted c l = record { next = max (c .next) (nextNumber l); used = c .used + usedCount l; settled = c .settled && allSettled l }
+
+counted-cons : (c : HeaderCounts) (x : Segment) (l : List Segment) → counted c (x ∷ l) ≡ counted (countOne c x) l
+unfolding counted countOne nextNumber usedCount count allSettled noneOwing othersBlank all
+counted-cons c x l =
+    let n : max (c .next) (max (numberAfter x) (nextNumber l)) ≡ max (max (c .next) (numberAfter x)) (nextNumber l) = omega arith in
+    rw (n, used (isInUse x), settled (c .settled) (isOwing x) (isInvalid x) (noneOwing l))
+  where
+    used : (t : Bool) → c .used + cond t (suc (usedCount l)) (usedCount l) ≡ cond t (c .used + 1) (c .used) + usedCount l
+    used true = omega arith
+    used false = refl
+
+    settled : (s o v t : Bool) → (s && ((not o && t) && (not v && othersBlank l))) ≡ ((s && (not o && not v)) && (t && othersBlank l))
+    settled false o v t = refl
+    settled true true v t = refl
+    settled true false v false = rw (and-false (not v))
+    settled true false true true = refl
+    settled true false false true = refl
+
 module _ (N : ℕ) (table : List Summary) where
-  pub next-start : max 0 (nextNumber (headsFrom N 0 table)) ≡ nextNumber (heads N table)
-  next-start = rw (heads-all N table) (omega arith)
+  pub counted-start : counted (record { next = 0; used = 0; settled = true }) (headsFrom N 0 table) ≡ countsOf (heads N table)
+  unfolding counted countsOf
+  counted-start =
+      let l = heads N table in
+      let m : max 0 (nextNumber l) ≡ nextNumber l = omega arith in
+      let u : 0 + usedCount l ≡ usedCount l = omega arith in
+      rw (heads-all N table, m, u)
 
-  pub next-turn : (i : ℕ) (d : Summary) (m k : ℕ) → i < N → i < length table → k ≡ max m (numberAfter (bare (getD table i d)))
-      → max m (nextNumber (headsFrom N i table)) ≡ nextNumber (heads N table) → max k (nextNumber (headsFrom N (i + 1) table)) ≡ nextNumber (heads N table)
-  next-turn i d m k h l e q =
-      let s : nextNumber (headsFrom N i table) ≡ max (numberAfter (bare (getD table i d))) (nextNumber (headsFrom N (i + 1) table)) = ap nextNumber (heads-next N i table d h l) ∙ (unfold nextNumber in refl) in
-      omega arith
+  pub counted-turn : (i : ℕ) (d : Summary) (c k whole : HeaderCounts) → i < N → i < length table → k ≡ countOne c (bare (getD table i d)) → counted c (headsFrom N i table) ≡ whole → counted k (headsFrom N (i + 1) table) ≡ whole
+  counted-turn i d c k whole h l e q =
+      ap (λ (y : HeaderCounts). counted y (headsFrom N (i + 1) table)) e ∙ (sym (ap (counted c) (heads-next N i table d h l) ∙ counted-cons c (bare (getD table i d)) (headsFrom N (i + 1) table)) ∙ q)
 
-  pub next-end : (i m : ℕ) → N ≤ i → max m (nextNumber (headsFrom N i table)) ≡ nextNumber (heads N table) → m ≡ nextNumber (heads N table)
-  next-end i m h q = let s : nextNumber (headsFrom N i table) ≡ 0 = ap nextNumber (heads-end N i table h) ∙ (unfold nextNumber in refl) in omega arith
-
-  -- ---- how many are in use
-
-  pub used-start : 0 + usedCount (headsFrom N 0 table) ≡ usedCount (heads N table)
-  used-start = rw (heads-all N table) (omega arith)
-
-  used-cons : (i : ℕ) (d : Summary) → i < N → i < length table → usedCount (headsFrom N i table) ≡ cond (isInUse (bare (getD table i d))) (suc (usedCount (headsFrom N (i + 1) table))) (usedCount (headsFrom N (i + 1) table))
-  used-cons i d h l = ap usedCount (heads-next N i table d h l) ∙ (unfold usedCount count in refl)
-
-  pub used-turn : (i : ℕ) (d : Summary) (u : ℕ) → i < N → i < length table → isInUse (bare (getD table i d)) ≡ true
-      → u + usedCount (headsFrom N i table) ≡ usedCount (heads N table) → u + 1 + usedCount (headsFrom N (i + 1) table) ≡ usedCount (heads N table)
-  used-turn i d u h l e q = let s : usedCount (headsFrom N i table) ≡ suc (usedCount (headsFrom N (i + 1) table)) = used-cons i d h l ∙ rw e in omega arith
-
-  pub used-pass : (i : ℕ) (d : Summary) (u : ℕ) → i < N → i < length table → isInUse (bare (getD table i d)) ≡ false
-      → u + usedCount (headsFrom N i table) ≡ usedCount (heads N table) → u + usedCount (headsFrom N (i + 1) table) ≡ usedCount (heads N table)
-  used-pass i d u h l e q = let s : usedCount (headsFrom N i table) ≡ usedCount (headsFrom N (i + 1) table) = used-cons i d h l ∙ rw e in omega arith
-
-  pub used-end : (i u : ℕ) → N ≤ i → u + usedCount (headsFrom N i table) ≡ usedCount (heads N table) → u ≡ usedCount (heads N table)
-  used-end i u h q = let s : usedCount (headsFrom N i table) ≡ 0 = ap usedCount (heads-end N i table h) ∙ (unfold usedCount count in refl) in omega arith
+  pub counted-end : (i : ℕ) (c whole : HeaderCounts) → N ≤ i → counted c (headsFrom N i table) ≡ whole → c ≡ whole
+  counted-end i c whole h q = sym (ap (counted c) (heads-end N i table h) ∙ none) ∙ q
+    where
+      none : counted c [] ≡ c
+      none = unfold counted nextNumber usedCount count allSettled noneOwing othersBlank all in
+          (let m : max (c .next) 0 ≡ c .next = omega arith in let u : c .used + 0 ≡ c .used = omega arith in rw (m, u, and-true (c .settled)))
 
   -- ---- numbers from the first on
 
@@ -92,27 +103,3 @@ module _ (N : ℕ) (table : List Summary) where
     pub numbers-end : (i : ℕ) → u ≤ i → numbersFrom N (heads N table) (u - i) (n + i) ≡ true
     unfolding numbersFrom
     numbers-end i h = let e : u - i ≡ 0 = omega arith in rw e
-
-  -- ---- none owing, all others blank
-
-  pub settled-start : allSettled (headsFrom N 0 table) ≡ allSettled (heads N table)
-  settled-start = rw (heads-all N table)
-
-  settled-cons : (i : ℕ) (d : Summary) → i < N → i < length table → allSettled (headsFrom N i table)
-      ≡ ((not (isOwing (bare (getD table i d))) && noneOwing (headsFrom N (i + 1) table)) && (not (isInvalid (bare (getD table i d))) && othersBlank (headsFrom N (i + 1) table)))
-  unfolding allSettled noneOwing othersBlank all
-  settled-cons i d h l = rw (heads-next N i table d h l)
-
-  pub settled-owing : (i : ℕ) (d : Summary) → i < N → i < length table → isOwing (bare (getD table i d)) ≡ true → allSettled (headsFrom N i table) ≡ false
-  settled-owing i d h l e = settled-cons i d h l ∙ rw e
-
-  pub settled-invalid : (i : ℕ) (d : Summary) → i < N → i < length table → isInvalid (bare (getD table i d)) ≡ true → allSettled (headsFrom N i table) ≡ false
-  settled-invalid i d h l e = settled-cons i d h l ∙ rw e (and-false (not (isOwing (bare (getD table i d))) && noneOwing (headsFrom N (i + 1) table)))
-
-  pub settled-turn : (i : ℕ) (d : Summary) → i < N → i < length table → isOwing (bare (getD table i d)) ≡ false → isInvalid (bare (getD table i d)) ≡ false
-      → allSettled (headsFrom N i table) ≡ allSettled (headsFrom N (i + 1) table)
-  settled-turn i d h l e f = settled-cons i d h l ∙ rw (e, f) (unfold allSettled in refl)
-
-  pub settled-end : (i : ℕ) → N ≤ i → allSettled (headsFrom N i table) ≡ true
-  unfolding allSettled noneOwing othersBlank all
-  settled-end i h = rw (heads-end N i table h)

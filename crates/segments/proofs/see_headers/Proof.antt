@@ -1,77 +1,110 @@
--- `segments::see_headers` shows the segments of the image. Assumes nothing.
-use Prim.Native.Nat.{_-_, _≤_}
-use mathlib.Core.Path.{_≡_, refl}
-use mathlib.Core.List.{map}
+-- `segments::see_headers` tells of the headers what the definition does. Assumes nothing.
+use Prim.Native.Nat.{_≤_}
+use mathlib.Core.Path.{_≡_}
 use native.Mathlib.Omega.{arith}
-use borrow.Author.Needs.{needs}
+use native.Mathlib.Nat.{mod-lt}
 use denote.Ref.{now}
-use lib.ListN.{length, take, length-set}
-use Rattle.model.specs.Chip.{mostSegments}
-use Rattle.model.specs.State.{segmentsOf}
-use Rattle.model.specs.Laws.Segments.{segments-length}
-use Rattle.judge.specs.Heads.{outline, heads}
-use Rattle.segments.proofs.Laws.Heads.{filled-turn, filled-end}
+use lib.ListN.{length}
+use Rattle.model.specs.State.{segmentsOf, nextNumber}
+use Rattle.judge.specs.Heads.{heads}
+use Rattle.segments.proofs.Laws.Frames.{counted-next, headers-found}
+use borrow.Author.Needs.{needs}
 use Rattle.segments.proofs.see_headers.Statement.{statement}
 use Rattle.segments.proofs.see_headers.Tie as tie
 
-abbrev Inv-loop : tie.InvT-loop
-Inv-loop image segments slots table₀ i₀ table i = (heads i table ≡ map outline (take i (segmentsOf segments slots image))) × (i ≤ segments) × (length table ≡ mostSegments)
+see-table-requires : tie.Need-see-table-requires
+see-table-requires c κs = search needs
 
-abbrev μ-loop : tie.MeasureT-loop
-μ-loop image segments slots table₀ i₀ table i = segments - i
+count-headers-requires : tie.Need-count-headers-requires
+count-headers-requires c κs = search needs
 
-head-requires : tie.Need-head-requires Inv-loop μ-loop
-head-requires c κs = search needs
+less-requires : tie.Need-less-requires
+less-requires c κs = search needs
 
-loop-holds : tie.Need-loop-holds Inv-loop μ-loop
-unfolding heads
-loop-holds c = (refl, omega arith, refl)
+rem-top : tie.Need-rem-top
+rem-top c = search needs
 
-see-segment-requires : tie.Need-see-segment-requires Inv-loop μ-loop
-see-segment-requires c κs = let s = c .before .before .before .before in (s .pre .0, c .loop-test .taken)
+rem-after : tie.Need-rem-after
+rem-after c = search needs
 
-mul-table : tie.Need-mul-table Inv-loop μ-loop
-mul-table c = omega (arith, c .before .before .before .before .before .pre .1)
+mul-high : tie.Need-mul-high
+mul-high c = let s = c .before .before .before .before in omega (arith, s .pre .0 .segments, mod-lt (c .less .result) (s .pre .0 .some))
 
-array-set-from-table : tie.Need-array-set-from-table Inv-loop μ-loop
-array-set-from-table c = omega (arith, c .before .before .before .before .before .pre .1)
+array-copy-out-high : tie.Need-array-copy-out-high
+array-copy-out-high c = let s = c .before .before .before .before in omega (arith, s .pre .0 .segments, mod-lt (c .less .result) (s .pre .0 .some))
 
-add-i : tie.Need-add-i Inv-loop μ-loop
-add-i c = omega (arith, c .before .before .before .before .before .pre .1)
+mul-beyond : tie.Need-mul-beyond
+mul-beyond c = let s = c .before .before .before .before .before in omega (arith, s .pre .0 .segments, mod-lt (c .before .before .count-headers .result .next) (s .pre .0 .some))
 
-loop-less : tie.Need-loop-less Inv-loop μ-loop
-loop-less c = omega arith
+array-copy-out-beyond : tie.Need-array-copy-out-beyond
+array-copy-out-beyond c = let s = c .before .before .before .before .before in omega (arith, s .pre .0 .segments, mod-lt (c .before .before .count-headers .result .next) (s .pre .0 .some))
 
-loop-again : tie.Need-loop-again Inv-loop μ-loop
-loop-again c =
-    let s = c .before .before .before .before .before in
-    let l = c .before .before .loop in
-    let t = c .before .loop-test .taken in
-    let image = now (s .args .image) in
-    let z = segments-length (s .args .segments) (s .args .slots) image in (
-      filled-turn (segmentsOf (s .args .segments) (s .args .slots) image) (l .table) (l .i) (c .see-segment .result) (omega (arith, l .inv .2, s .pre .1)) (omega arith) (c .see-segment .ensures) (l .inv .0),
-      omega arith,
-      simp length-set (l .inv .2),
-    )
+is-owing-requires : tie.Need-is-owing-requires
+is-owing-requires c κs = search needs
 
-returns : tie.Need-returns Inv-loop μ-loop
+is-invalid-requires : tie.Need-is-invalid-requires
+is-invalid-requires c κs = search needs
+
+shows-blank-requires : tie.Need-shows-blank-requires
+shows-blank-requires c κs = search needs
+
+settled-requires : tie.Need-settled-requires
+settled-requires c κs = search needs
+
+mul-table : tie.Need-mul-table
+mul-table c = let s = c .before .before .before .before .before .before .before .before .before .before in omega (arith, s .pre .0 .segments, mod-lt (c .before .before .before .before .before .before .less .result) (s .pre .0 .some))
+
+array-set-from-table : tie.Need-array-set-from-table
+array-set-from-table c = let s = c .before .before .before .before .before .before .before .before .before .before in omega (arith, s .pre .0 .segments, mod-lt (c .before .before .before .before .before .before .less .result) (s .pre .0 .some))
+
+next-mended-requires : tie.Need-next-mended-requires
+next-mended-requires c κs = search needs
+
+mul-table-2 : tie.Need-mul-table-2
+mul-table-2 c = let s = c .before .before .before .before .before .before .before .before .before .before .before in omega (arith, s .pre .0 .segments, mod-lt (c .before .before .before .before .before .before .before .before .count-headers .result .next) (s .pre .0 .some))
+
+array-set-from-table-2 : tie.Need-array-set-from-table-2
+array-set-from-table-2 c = let s = c .before .before .before .before .before .before .before .before .before .before .before in omega (arith, s .pre .0 .segments, mod-lt (c .before .before .before .before .before .before .before .before .count-headers .result .next) (s .pre .0 .some))
+
+see-frame-requires : tie.Need-see-frame-requires
+see-frame-requires c κs = let s = c .before .before .before .before .before .before .before .before .before .before .before in (s .pre .0 .some, s .pre .0 .segments)
+
+returns : tie.Need-returns
 returns c =
-    let s = c .before .before .before .before in
-    let l = c .before .loop in
-    filled-end (s .args .segments) (s .args .slots) (l .i) (now (s .args .image)) (l .table) (omega arith) (l .inv .0)
+    let s = c .before .before .before .before .before .before .before .before .before .before .before .before in
+    let t = c .before .before .before .before .before .before .before .before .before .before .see-table in
+    let k = c .before .before .before .before .before .before .before .before .before .count-headers in
+    let N = s .args .segments in
+    let e : k .result .next ≡ nextNumber (heads N (t .result)) = counted-next (heads N (t .result)) (k .result) (k .ensures .0) in
+    let z : N ≤ length (t .result) = omega (arith, s .pre .0 .segments, t) in (
+      headers-found N (t .result) _ (s .pre .1) z (k .result .next) (c .before .before .before .before .before .before .before .before .less .result) e (c .before .before .before .before .before .before .before .before .less .ensures) (segmentsOf N (s .args .slots) (now (s .args .image)))
+          (c .before .before .before .before .before .is-owing .result) (c .before .before .before .before .is-invalid .result) (c .before .before .before .shows-blank .result) (c .before .before .settled .result) (c .before .next-mended .result) (c .see-frame .result) (t .ensures)
+          (c .before .before .before .before .before .is-owing .ensures) (c .before .before .before .before .is-invalid .ensures) (c .before .before .before .shows-blank .ensures) (c .before .before .settled .ensures) (c .before .next-mended .ensures) (c .see-frame .ensures .0),
+      k .ensures .1,
+      c .see-frame .ensures .1,
+    )
 
 pub see-headers-spec : {M : Type 1} → statement M
 see-headers-spec =
     tie.close
     (tie.spec
-    Inv-loop
-    μ-loop
-    head-requires
-    loop-holds
-    see-segment-requires
+    see-table-requires
+    count-headers-requires
+    less-requires
+    rem-top
+    rem-after
+    mul-high
+    array-copy-out-high
+    mul-beyond
+    array-copy-out-beyond
+    is-owing-requires
+    is-invalid-requires
+    shows-blank-requires
+    settled-requires
     mul-table
     array-set-from-table
-    add-i
-    loop-less
-    loop-again
+    next-mended-requires
+    mul-table-2
+    array-set-from-table-2
+    see-frame-requires
     returns)

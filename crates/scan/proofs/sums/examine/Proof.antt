@@ -1,15 +1,11 @@
--- `scan::sums::examine` examines a table as the definition does. Assumes nothing.
+-- `scan::sums::examine` examines the segments in use as the definition does. Assumes nothing.
 use native.Mathlib.Omega.{arith}
 use denote.Ref.{now}
-use Rattle.judge.specs.Heads.{heads}
 use Rattle.judge.specs.Tally.{badSum}
 use Rattle.scan.proofs.Laws.Surveys.{exam-looked, exam-skipped}
 use borrow.Author.Needs.{needs}
 use Rattle.scan.proofs.sums.examine.Statement.{statement}
 use Rattle.scan.proofs.sums.examine.Tie as tie
-
-see-frame-requires : tie.Need-see-frame-requires
-see-frame-requires c κs = search needs
 
 gather-requires : tie.Need-gather-requires
 gather-requires c κs = search needs
@@ -19,21 +15,18 @@ sum-rows-requires c κs = search needs
 
 returns : tie.Need-returns
 returns c =
-    let s = c .before .before .before .before .before in
-    let f = c .before .before .before .see-frame in (
-      exam-looked (s .args .segments) (s .args .slots) (now (s .args .image)) (heads (s .args .segments) (s .args .table)) (f .result) (f .ensures .0) _ (c .sum-rows .result) (c .before .before .if1 .taken) (c .before .gather .ensures) (c .sum-rows .ensures .0),
-      record { whole = f .ensures .1 .whole; used = f .ensures .1 .used; written = c .sum-rows .ensures .1 },
+    let s = c .before .before .before .before in (
+      exam-looked (s .args .segments) (s .args .slots) (now (s .args .image)) (s .args .frame) (c .before .gather .result) (c .sum-rows .result) (c .before .before .if1 .taken) (c .before .gather .ensures) (c .sum-rows .ensures .0),
+      record { whole = s .pre .1 .whole; used = s .pre .1 .used; written = c .sum-rows .ensures .1 },
     )
 
 returns-2 : tie.Need-returns-2
 unfolding badSum
 returns-2 c =
-    let s = c .before .before .before in
-    let f = c .before .see-frame in (
-      exam-skipped (s .args .segments) (s .args .slots) (now (s .args .image)) (heads (s .args .segments) (s .args .table)) (f .result) (f .ensures .0) (c .if1 .left),
-      record { whole = f .ensures .1 .whole; used = f .ensures .1 .used; written = omega arith },
+    let s = c .before .before in (
+      exam-skipped (s .args .segments) (s .args .slots) (now (s .args .image)) (s .args .frame) (c .if1 .left),
+      record { whole = s .pre .1 .whole; used = s .pre .1 .used; written = omega arith },
     )
 
 pub examine-spec : {M : Type 1} → statement M
-examine-spec =
-    tie.close (tie.spec see-frame-requires gather-requires sum-rows-requires returns returns-2)
+examine-spec = tie.close (tie.spec gather-requires sum-rows-requires returns returns-2)
