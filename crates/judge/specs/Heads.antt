@@ -153,6 +153,9 @@ allSettled l = noneOwing l && othersBlank l
 unfoldable pub countsOf : List Segment → HeaderCounts
 countsOf l = record { next = nextNumber l; used = usedCount l; settled = allSettled l }
 
+unfoldable pub noCounts : HeaderCounts
+noCounts = record { next = 0; used = 0; settled = true }
+
 -- one segment more
 unfoldable pub countOne : HeaderCounts → Segment → HeaderCounts
 countOne c x = record {
@@ -175,14 +178,12 @@ outline-frame-of N l = rw (outline-first l, outline-used l, outline-frame N l)
 unfoldable pub headsMended : ℕ → List Segment → List Segment
 headsMended N l = cond (isOwing (getD l (topIndex N l) blank)) (topSettled N l) (cond (isInvalid (getD l (nextIndex N l) blank)) (nextBlanked N l) l)
 
+-- of the number after the top's, the top, the segment after it, and the frame
+unfoldable pub headersBy : ℕ → Segment → Segment → Frame → Headers
+headersBy next top after f = record { next = next; owing = isOwing top; torn = isInvalid after; blank = not (isInUse after || isInvalid after); frame = f }
+
 unfoldable pub headersOf : ℕ → List Segment → Headers
-headersOf N l = let after = getD l (nextIndex N l) blank in record {
-  next = nextNumber l;
-  owing = isOwing (getD l (topIndex N l) blank);
-  torn = isInvalid after;
-  blank = not (isInUse after || isInvalid after);
-  frame = frameOf N (headsMended N l);
-}
+headersOf N l = headersBy (nextNumber l) (getD l (topIndex N l) blank) (getD l (nextIndex N l) blank) (frameOf N (headsMended N l))
 
 outline-mended : (N : ℕ) (l : List Segment) → headsMended N (map outline l) ≡ map outline (headsMended N l)
 unfolding headsMended
@@ -195,5 +196,5 @@ outline-mended N l = rw (outline-top N l, outline-after N l, outline-settled-top
 
 -- it does not look at slots
 pub outline-headers : (N : ℕ) (l : List Segment) → headersOf N (map outline l) ≡ headersOf N l
-unfolding headersOf
+unfolding headersOf headersBy
 outline-headers N l = rw (outline-next l, outline-top N l, outline-after N l, outline-after-use N l, outline-mended N l, outline-frame-of N (headsMended N l))

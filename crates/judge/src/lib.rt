@@ -32,11 +32,11 @@ pub struct Row {
 }
 
 // One segment (document 01: summary). There is one for each of 255 segments, and a table of them is copied where it is
-// handed over: with the number first a summary takes twelve bytes.
+// handed over: in this order, without a gap inside, a summary takes twelve bytes.
 pub struct Summary {
     pub number: SegmentNumber,
-    pub state: SegmentState,
     pub row: Row,
+    pub state: SegmentState,
 }
 
 // The segments of a table counted: the number after the top's, or 0 if none is in use; how many are; and whether none is

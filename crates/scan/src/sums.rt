@@ -32,7 +32,7 @@ fn in_use(number: SegmentNumber, row: Row) -> Summary
     ensures { λ r. ⌜ r ≡ summaryOf (number .0) row ⌝ }
 {
     let state = SegmentState::InUse;
-    Summary { number, state, row }
+    Summary { number, row, state }
 }
 
 // The summaries of the segments in use, oldest first, each looked at behind those before.

@@ -12,13 +12,13 @@ use model::MOST_SEGMENTS;
 use model::SegmentNumber;
 ghost use mathlib.Core.Path.{_≡_};
 ghost use mathlib.Core.Bool.{cond, not, _&&_, _||_};
-ghost use mathlib.Core.List.{map};
 ghost use Prim.Native.Nat.{_+_, _-_, _<_, _≤_, max};
 ghost use lib.ListN.{length, getD};
+ghost use lib.Dec.{ltb};
 ghost use Rattle.model.specs.Chip.{mostSegments};
-ghost use Rattle.model.specs.State.{blank, isInUse, isInvalid, isOwing, numberAfter, numbersFrom, segmentsOf, settled};
+ghost use Rattle.model.specs.State.{blank, isInUse, isInvalid, isOwing, numberAfter, segmentsOf, settled};
 ghost use Rattle.flash.specs.Pages.{Sized};
-ghost use Rattle.judge.specs.Heads.{bareOf, bare, outline, heads, stateSeen, countsOf, countOne, frameOf, headersOf};
+ghost use Rattle.judge.specs.Heads.{bareOf, bare, outline, heads, stateSeen, noCounts, countOne, frameOf, headersBy, headersOf};
 ghost use Rattle.judge.specs.Tally.{Ranged};
 
 // A segment before its slots are looked at.
@@ -32,7 +32,7 @@ fn head(state: SegmentState, number: SegmentNumber) -> Summary
         ending: Ending::Full,
         block: BlockNumber(0),
     };
-    Summary { number, state, row }
+    Summary { number, row, state }
 }
 
 fn state_seen(status: u8) -> SegmentState
@@ -62,21 +62,6 @@ fn see_segment(image: &[u8], segments: usize, slots: usize, index: usize) -> Sum
         return head(SegmentState::Invalid, SegmentNumber(0));
     };
     head(state_seen(status), number)
-}
-
-// Every segment, by its header.
-fn see_table(image: &[u8], segments: usize, slots: usize) -> [Summary; MOST_SEGMENTS]
-    requires { ⌜ Sized segments slots (length (now image)) ⌝ }
-    ensures { λ r. ⌜ heads segments r ≡ map outline (segmentsOf segments slots (now (image .entry))) ⌝ }
-{
-    let none = head(SegmentState::Blank, SegmentNumber(0));
-    let mut table = [none; MOST_SEGMENTS];
-    let mut i: usize = 0;
-    while i < segments {
-        table[i] = see_segment(image, segments, slots, i);
-        i += 1;
-    }
-    table
 }
 
 // One more than the number of a segment in use, or 0.
@@ -161,6 +146,17 @@ pub fn less(a: usize, b: usize) -> usize
     if a < b { 0 } else { a - b }
 }
 
+// Before the first segment.
+fn none_counted() -> HeaderCounts
+    ensures { λ r. ⌜ r ≡ noCounts ⌝ }
+{
+    HeaderCounts {
+        next: 0,
+        used: 0,
+        settled: true,
+    }
+}
+
 // One segment more.
 fn count_one(counts: HeaderCounts, s: Summary) -> HeaderCounts
     requires { ⌜ (counts .used < mostSegments) × (counts .next ≤ 4294967296) ⌝ }
@@ -182,80 +178,66 @@ fn count_one(counts: HeaderCounts, s: Summary) -> HeaderCounts
     }
 }
 
-// The segments that a table shows, counted.
-fn count_headers(table: [Summary; MOST_SEGMENTS], segments: usize) -> HeaderCounts
-    requires { ⌜ segments ≤ mostSegments ⌝ }
-    ensures { λ r. ⌜ (r ≡ countsOf (heads segments table)) × (r .next ≤ 4294967296) × (r .used ≤ segments) ⌝ }
+// Whether the frame may be fine by what was counted: some are in use, not all, and none needs mending.
+fn may_be_fine(counts: HeaderCounts, segments: usize) -> bool
+    ensures { λ r. ⌜ r ≡ (ltb 0 (counts .used) && (ltb (counts .used) segments && counts .settled)) ⌝ }
 {
-    let mut counts = HeaderCounts {
-        next: 0,
-        used: 0,
-        settled: true,
-    };
+    if counts.used == 0 {
+        return false;
+    }
+    if counts.used >= segments {
+        return false;
+    }
+    counts.settled
+}
+
+// The frame of the segments that a table shows.
+fn see_frame(table: [Summary; MOST_SEGMENTS], segments: usize) -> Frame
+    requires { ⌜ (0 < segments) × (segments ≤ mostSegments) ⌝ }
+    ensures { λ r. ⌜ (r ≡ frameOf segments (heads segments table)) × Ranged r ⌝ }
+{
+    let mut counts = none_counted();
     let mut i: usize = 0;
     while i < segments {
         counts = count_one(counts, table[i]);
         i += 1;
     }
-    counts
-}
-
-// Whether as many numbers from the first on are each in use.
-fn consecutive(table: [Summary; MOST_SEGMENTS], segments: usize, first: usize, used: usize) -> bool
-    requires { ⌜ (0 < segments) × (segments ≤ mostSegments) × (first ≤ 4294967296) × (used ≤ mostSegments) ⌝ }
-    ensures { λ r. ⌜ r ≡ numbersFrom segments (heads segments table) used first ⌝ }
-{
-    let mut i: usize = 0;
-    while i < used {
-        let number = first + i;
-        let index = number % segments;
-        if number_after(table[index]) != number + 1 {
-            return false;
-        }
-        i += 1;
-    }
-    true
-}
-
-fn see_frame(table: [Summary; MOST_SEGMENTS], segments: usize) -> Frame
-    requires { ⌜ (0 < segments) × (segments ≤ mostSegments) ⌝ }
-    ensures { λ r. ⌜ (r ≡ frameOf segments (heads segments table)) × Ranged r ⌝ }
-{
-    let counts = count_headers(table, segments);
     let used = counts.used;
     let first = less(counts.next, used);
-    if used == 0 {
+    if !may_be_fine(counts, segments) {
         return Frame {
             first,
             used,
             fine: false,
         };
     }
-    if used >= segments {
-        return Frame {
-            first,
-            used,
-            fine: false,
-        };
+    let mut k: usize = 0;
+    while k < used {
+        let number = first + k;
+        let index = number % segments;
+        if number_after(table[index]) != number + 1 {
+            return Frame {
+                first,
+                used,
+                fine: false,
+            };
+        }
+        k += 1;
     }
-    if !counts.settled {
-        return Frame {
-            first,
-            used,
-            fine: false,
-        };
+    Frame {
+        first,
+        used,
+        fine: true,
     }
-    let fine = consecutive(table, segments, first, used);
-    Frame { first, used, fine }
 }
 
 // ---- what is unfinished in the headers, taken as mended
 
 // The segment after the top: blank where the top is owing, whatever it holds, and where it is neither in use nor blank.
-fn next_mended(s: Summary, owing: bool) -> Summary
-    ensures { λ r. ⌜ bare r ≡ cond (owing || isInvalid (bare s)) blank (bare s) ⌝ }
+fn next_mended(s: Summary, top: Summary) -> Summary
+    ensures { λ r. ⌜ bare r ≡ cond (isOwing (bare top) || isInvalid (bare s)) blank (bare s) ⌝ }
 {
-    if owing {
+    if is_owing(top) {
         return head(SegmentState::Blank, SegmentNumber(0));
     }
     if is_invalid(s) {
@@ -275,24 +257,12 @@ fn settled(s: Summary) -> Summary
     s
 }
 
-// What the headers of an image tell. The table is mended where it stands: it is large, and each hand-over copies it.
-pub fn see_headers(image: &[u8], segments: usize, slots: usize) -> Headers
-    requires { ⌜ Sized segments slots (length (now image)) × (2 ≤ segments) ⌝ }
-    ensures { λ r. ⌜ (r ≡ headersOf segments (segmentsOf segments slots (now (image .entry)))) × (r .next ≤ 4294967296) × Ranged (r .frame) ⌝ }
+fn tell(next: usize, top: Summary, after: Summary, frame: Frame) -> Headers
+    ensures { λ r. ⌜ r ≡ headersBy next (bare top) (bare after) frame ⌝ }
 {
-    let mut table = see_table(image, segments, slots);
-    let counts = count_headers(table, segments);
-    let next = counts.next;
-    let top = less(next, 1) % segments;
-    let after = next % segments;
-    let high = table[top];
-    let beyond = table[after];
-    let owing = is_owing(high);
-    let torn = is_invalid(beyond);
-    let blank = shows_blank(beyond);
-    table[top] = settled(high);
-    table[after] = next_mended(beyond, owing);
-    let frame = see_frame(table, segments);
+    let owing = is_owing(top);
+    let torn = is_invalid(after);
+    let blank = shows_blank(after);
     Headers {
         next,
         owing,
@@ -300,4 +270,30 @@ pub fn see_headers(image: &[u8], segments: usize, slots: usize) -> Headers
         blank,
         frame,
     }
+}
+
+// What the headers of an image tell. The table is filled, counted and mended here, since a hand-over would copy it.
+pub fn see_headers(image: &[u8], segments: usize, slots: usize) -> Headers
+    requires { ⌜ Sized segments slots (length (now image)) × (2 ≤ segments) ⌝ }
+    ensures { λ r. ⌜ (r ≡ headersOf segments (segmentsOf segments slots (now (image .entry)))) × (r .next ≤ 4294967296) × Ranged (r .frame) ⌝ }
+{
+    let none = head(SegmentState::Blank, SegmentNumber(0));
+    let mut table = [none; MOST_SEGMENTS];
+    let mut counts = none_counted();
+    let mut i: usize = 0;
+    while i < segments {
+        let s = see_segment(image, segments, slots, i);
+        table[i] = s;
+        counts = count_one(counts, s);
+        i += 1;
+    }
+    let next = counts.next;
+    let top = less(next, 1) % segments;
+    let after = next % segments;
+    let high = table[top];
+    let beyond = table[after];
+    table[top] = settled(high);
+    table[after] = next_mended(beyond, high);
+    let frame = see_frame(table, segments);
+    tell(next, high, beyond, frame)
 }

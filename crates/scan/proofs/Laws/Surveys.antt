@@ -23,7 +23,7 @@ use Rattle.scan.specs.declared.Exam.{Exam}
 use Rattle.scan.specs.declared.Surveyed.{Surveyed}
 use Rattle.scan.specs.declared.Surveyed.the-variants.{TornSegment, ErasePending, TornSlot, OldSlot, Damaged}
 use Rattle.judge.specs.Cases.{frame}
-use Rattle.judge.specs.Heads.{frameOf, headsMended, headersOf}
+use Rattle.judge.specs.Heads.{frameOf, headsMended, headersBy, headersOf}
 use Rattle.judge.specs.Parts.{rowsOn}
 use Rattle.judge.specs.Tally.{noneMet, tallies, summariesOf, rowOf, rows-kept, addRows, noSum, badSum}
 use Rattle.judge.specs.Verdict.{orderly, tornWithin, twinWithin}
@@ -66,19 +66,19 @@ module _ (N B : ℕ) (s : Image) (h : Headers) (x : Exam) (w : Looked N B s h x)
   some = w .size .some
 
   next-is : h .next ≡ nextNumber l
-  next-is = ap (λ (y : Headers). y .next) (w .headers) ∙ (unfold headersOf in refl)
+  next-is = ap (λ (y : Headers). y .next) (w .headers) ∙ (unfold headersOf headersBy in refl)
 
   owing-is : h .owing ≡ isOwing (getD l (topIndex N l) blank)
-  owing-is = ap (λ (y : Headers). y .owing) (w .headers) ∙ (unfold headersOf in refl)
+  owing-is = ap (λ (y : Headers). y .owing) (w .headers) ∙ (unfold headersOf headersBy in refl)
 
   torn-is : h .torn ≡ isInvalid (getD l (nextIndex N l) blank)
-  torn-is = ap (λ (y : Headers). y .torn) (w .headers) ∙ (unfold headersOf in refl)
+  torn-is = ap (λ (y : Headers). y .torn) (w .headers) ∙ (unfold headersOf headersBy in refl)
 
   blank-is : h .blank ≡ not (isInUse (getD l (nextIndex N l) blank) || isInvalid (getD l (nextIndex N l) blank))
-  blank-is = ap (λ (y : Headers). y .blank) (w .headers) ∙ (unfold headersOf in refl)
+  blank-is = ap (λ (y : Headers). y .blank) (w .headers) ∙ (unfold headersOf headersBy in refl)
 
   frame-is : h .frame ≡ frameOf N (headsMended N l)
-  frame-is = ap (λ (y : Headers). y .frame) (w .headers) ∙ (unfold headersOf in refl)
+  frame-is = ap (λ (y : Headers). y .frame) (w .headers) ∙ (unfold headersOf headersBy in refl)
 
   -- the exam is that of a list of segments, if that is how they are mended
   exam-of : (m : List Segment) → headsMended N l ≡ m → x ≡ examOf N B s (frameOf N m)

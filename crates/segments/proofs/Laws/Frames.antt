@@ -2,23 +2,25 @@
 use Prim.Native.Nat.{ℕ, _-_, _%_, _≤_, _<_}
 use mathlib.Core.Path.{_≡_, refl, sym, ap, ap₂, _∙_}
 use mathlib.Core.Logic.{_≢_}
-use mathlib.Core.Bool.{Bool, true, false, cond, _||_, _&&_, not, and-false, and-true, false≢true, true≢false}
+use mathlib.Core.Bool.{Bool, true, false, cond, _||_, _&&_, and-false, and-true, false≢true, true≢false}
 use mathlib.Core.List.{List, map}
 use native.Mathlib.Omega.{arith}
 use native.Mathlib.Nat.{mod-lt}
 use lib.ListN.{length, getD, take, set}
 use lib.Seq.{take-set-lt, set-getD, set-comm}
-use borrow.Author.Tests.{le-leb, lt-leb}
-use Rattle.model.specs.State.{Segment, blank, invalid, inUse, isInUse, isInvalid, isOwing, numberAfter, nextNumber, usedCount, firstNumber, someInUse, numbersFrom, consecutive, nextIndex, topIndex, nextBlanked, settled, topSettled}
-use Rattle.model.specs.Laws.Lists.{map-set, mod-inj}
+use lib.Dec.{ltb}
+use borrow.Author.Tests.{le-leb, lt-leb, ltb-true, ltb-false}
+use Rattle.model.specs.State.{Segment, blank, invalid, inUse, isInvalid, isOwing, numberAfter, nextNumber, usedCount, firstNumber, someInUse, numbersFrom, consecutive, nextIndex, topIndex, nextBlanked, settled, topSettled}
+use Rattle.model.specs.Laws.Lists.{and-left, and-right, map-set, mod-inj}
 use Rattle.model.specs.Laws.Ring.{next-ge}
 use Rattle.judge.specs.declared.SegmentState.{SegmentState}
 use Rattle.judge.specs.declared.SegmentState.the-variants.{Blank, Invalid, InUse, Owing}
 use Rattle.judge.specs.declared.Summary.{Summary}
 use Rattle.judge.specs.declared.HeaderCounts.{HeaderCounts}
 use Rattle.judge.specs.declared.Frame.{Frame}
+use Rattle.judge.specs.declared.Headers.{Headers}
 use Rattle.judge.specs.Cases.{frame}
-use Rattle.judge.specs.Heads.{bareOf, bare, outline, heads, allSettled, countsOf, frameOf, headsMended, headersOf, outline-headers}
+use Rattle.judge.specs.Heads.{bareOf, bare, outline, heads, allSettled, countsOf, frameOf, headsMended, headersBy, headersOf, outline-headers}
 use Rattle.segments.proofs.Laws.Tables.{heads-get}
 
 pub counted-next : (l : List Segment) (c : HeaderCounts) → c ≡ countsOf l → c .next ≡ nextNumber l
@@ -51,21 +53,28 @@ module _ (N : ℕ) (l : List Segment) where
     unfolding frameOf
     frame-is t h = rw (← first-is, ← used-is, ← h)
 
-    pub frame-unused : c .used ≡ 0 → record { first = f; used = c .used; fine = false } ≡ frameOf N l
-    frame-unused z = frame-is false (sym (frame-none (sym used-is ∙ z)))
+    -- the test of the counts, and the numbers
+    pub frame-refused : 0 < N → (ltb 0 (c .used) && (ltb (c .used) N && c .settled)) ≡ false → record { first = f; used = c .used; fine = false } ≡ frameOf N l
+    frame-refused p h = frame-is false (sym (go (ltb 0 (c .used)) (ltb (c .used) N) (c .settled) refl refl refl h))
+      where
+        go : (a b t : Bool) → ltb 0 (c .used) ≡ a → ltb (c .used) N ≡ b → c .settled ≡ t → (a && (b && t)) ≡ false → frame N l ≡ false
+        go false b t i j k z = frame-none (let e = ltb-false 0 (c .used) i in omega (arith, used-is))
+        go true false t i j k z = frame-many p (let e = ltb-false (c .used) N j in omega (arith, used-is))
+        go true true false i j k z =
+            let d = ltb-true 0 (c .used) i in
+            let e = ltb-true (c .used) N j in
+            frame-inside (omega (arith, used-is)) (omega (arith, used-is)) ∙ rw (sym settled-is ∙ k) (and-false (numbersFrom N l (usedCount l) (firstNumber l)))
+        go true true true i j k z = absurd (true≢false z)
 
-    pub frame-crowded : 0 < N → N ≤ c .used → record { first = f; used = c .used; fine = false } ≡ frameOf N l
-    frame-crowded p h = frame-is false (sym (frame-many p (omega (arith, used-is))))
-
-    module _ (some : c .used ≡ 0 → ⊥) (spare : c .used < N) where
-      inside : frame N l ≡ (numbersFrom N l (usedCount l) (firstNumber l) && c .settled)
-      inside = rw settled-is (frame-inside (omega (arith, used-is)) (omega (arith, used-is)))
-
-      pub frame-unsettled : c .settled ≡ false → record { first = f; used = c .used; fine = false } ≡ frameOf N l
-      frame-unsettled h = frame-is false (sym (inside ∙ rw h (and-false (numbersFrom N l (usedCount l) (firstNumber l)))))
-
-      pub frame-settled : c .settled ≡ true → (t : Bool) → t ≡ numbersFrom N l (c .used) f → record { first = f; used = c .used; fine = t } ≡ frameOf N l
-      frame-settled h t w = frame-is t (w ∙ (ap₂ (numbersFrom N l) used-is first-is ∙ sym (inside ∙ rw h (and-true (numbersFrom N l (usedCount l) (firstNumber l))))))
+    pub frame-tested : (ltb 0 (c .used) && (ltb (c .used) N && c .settled)) ≡ true → (t : Bool) → t ≡ numbersFrom N l (c .used) f → record { first = f; used = c .used; fine = t } ≡ frameOf N l
+    frame-tested h t w =
+        let a = ltb 0 (c .used) in
+        let b = ltb (c .used) N in
+        let i = ltb-true 0 (c .used) (and-left a (b && c .settled) h) in
+        let r = and-right a (b && c .settled) h in
+        let j = ltb-true (c .used) N (and-left b (c .settled) r) in
+        let k : allSettled l ≡ true = sym settled-is ∙ and-right b (c .settled) r in
+        frame-is t (w ∙ (ap₂ (numbersFrom N l) used-is first-is ∙ sym (frame-inside (omega (arith, used-is)) (omega (arith, used-is)) ∙ rw k (and-true (numbersFrom N l (usedCount l) (firstNumber l))))))
 
 -- ---- a summary changed
 
@@ -153,18 +162,19 @@ module _ (N : ℕ) (table : List Summary) (d : Summary) (two : 2 ≤ N) (long : 
           ap₂ (λ (x : List Segment) (y : Segment). set x (next % N) y) (same a) (sym after-get ∙ ap (λ (k : ℕ). getD h k blank) after)
           ∙ (set-getD h (next % N) blank ∙ (unfold headsMended in rw (ap isOwing top-get ∙ a, ap isInvalid after-get ∙ b)))
 
-  -- all that the headers tell, from what was found of the table
-  pub headers-found : (l : List Segment) (o i b : Bool) (v w : Summary) (f : Frame) → h ≡ map outline l → o ≡ isOwing (bare (getD table (top % N) d)) → i ≡ isInvalid (bare (getD table (next % N) d))
-      → b ≡ not (isInUse (bare (getD table (next % N) d)) || isInvalid (bare (getD table (next % N) d))) → bare v ≡ settled (bare (getD table (top % N) d))
-      → bare w ≡ cond (o || isInvalid (bare (getD table (next % N) d))) blank (bare (getD table (next % N) d)) → f ≡ frameOf N (heads N (set (set table (top % N) v) (next % N) w))
-      → record { next = next; owing = o; torn = i; blank = b; frame = f } ≡ headersOf N l
-  headers-found l o i b v w f shown a c g p q r = found ∙ (ap (headersOf N) shown ∙ outline-headers N l)
+  -- all that the headers tell, once the table is mended
+  pub headers-found : (l : List Segment) (v w : Summary) (f : Frame) → h ≡ map outline l → bare v ≡ settled (bare (getD table (top % N) d))
+      → bare w ≡ cond (isOwing (bare (getD table (top % N) d)) || isInvalid (bare (getD table (next % N) d))) blank (bare (getD table (next % N) d))
+      → f ≡ frameOf N (heads N (set (set table (top % N) v) (next % N) w)) → headersBy next (bare (getD table (top % N) d)) (bare (getD table (next % N) d)) f ≡ headersOf N l
+  headers-found l v w f shown p q r = found ∙ (ap (headersOf N) shown ∙ outline-headers N l)
     where
-      found : record { next = next; owing = o; torn = i; blank = b; frame = f } ≡ headersOf N h
-      found = unfold headersOf in rw (
-        e,
-        a ∙ sym (ap isOwing top-get),
-        c ∙ sym (ap isInvalid after-get),
-        g ∙ sym (ap (λ (x : Segment). not (isInUse x || isInvalid x)) after-get),
-        r ∙ ap (frameOf N) (mended-table v w p (q ∙ ap (λ (x : Bool). cond (x || isInvalid (bare (getD table (next % N) d))) blank (bare (getD table (next % N) d))) a)),
-      )
+      found : headersBy next (bare (getD table (top % N) d)) (bare (getD table (next % N) d)) f ≡ headersOf N h
+      found = unfold headersOf in rw (top-get, after-get, ← e) (ap (headersBy next (bare (getD table (top % N) d)) (bare (getD table (next % N) d))) (r ∙ ap (frameOf N) (mended-table v w p q)))
+
+-- the number and the frame that are told
+module _ (next : ℕ) (x y : Segment) (f : Frame) (r : Headers) (e : r ≡ headersBy next x y f) where
+  pub told-next : r .next ≡ next
+  told-next = ap (λ (z : Headers). z .next) e ∙ (unfold headersBy in refl)
+
+  pub told-frame : r .frame ≡ f
+  told-frame = ap (λ (z : Headers). z .frame) e ∙ (unfold headersBy in refl)

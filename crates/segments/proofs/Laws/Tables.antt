@@ -1,40 +1,28 @@
 -- A table of summaries walked through: what is left of it.
 use Prim.Native.Nat.{ℕ, suc, _+_, _-_, _%_, _≤_, _<_, max}
-use mathlib.Core.Path.{_≡_, refl, sym, ap, _∙_}
+use mathlib.Core.Path.{_≡_, refl, sym, ap, ap₂, _∙_}
 use mathlib.Core.Bool.{Bool, true, false, cond, _&&_, not, and-false, and-true}
 use mathlib.Core.List.{List, [], _∷_, map}
 use native.Mathlib.Omega.{arith}
 use native.Mathlib.Nat.{sub-zero}
 use native.Mathlib.Numerals.{add-one}
-use lib.ListN.{length, getD, take, drop}
-use lib.Seq.{drop-cons, getD-take}
+use lib.ListN.{length, getD, take, drop, length-take, length-map}
+use lib.Seq.{drop-cons, drop-length, getD-take}
 use lib.Dec.{eqb}
 use borrow.Author.Tests.{eq-eqb, ne-eqb}
 use Rattle.model.specs.Lists.{all, count}
 use Rattle.model.specs.State.{Segment, blank, isInUse, isInvalid, isOwing, numberAfter, nextNumber, usedCount, numbersFrom, noneOwing, othersBlank}
 use Rattle.judge.specs.declared.Summary.{Summary}
 use Rattle.judge.specs.declared.HeaderCounts.{HeaderCounts}
-use Rattle.judge.specs.Heads.{bare, heads, allSettled, countsOf, countOne}
-
--- the segments that the summaries from i on show
-unfoldable pub headsFrom : ℕ → ℕ → List Summary → List Segment
-headsFrom N i table = map bare (take (N - i) (drop i table))
-
-pub heads-all : (N : ℕ) (table : List Summary) → headsFrom N 0 table ≡ heads N table
-unfolding headsFrom heads
-heads-all N table = rw (sub-zero N)
-
-pub heads-next : (N i : ℕ) (table : List Summary) (d : Summary) → i < N → i < length table → headsFrom N i table ≡ bare (getD table i d) ∷ headsFrom N (i + 1) table
-unfolding headsFrom
-heads-next N i table d h k = let e : N - i ≡ suc (N - (i + 1)) = omega arith in rw (e, drop-cons table i d k, add-one i)
-
-pub heads-end : (N i : ℕ) (table : List Summary) → N ≤ i → headsFrom N i table ≡ []
-unfolding headsFrom
-heads-end N i table h = let e : N - i ≡ 0 = omega arith in rw e
+use Rattle.judge.specs.Heads.{bare, outline, outline-get, heads, allSettled, countsOf, noCounts, countOne}
 
 pub heads-get : (N i : ℕ) (table : List Summary) (d : Summary) → i < N → i < length table → getD (heads N table) i blank ≡ bare (getD table i d)
 unfolding heads
-heads-get N i table d h k = Rattle.model.specs.Laws.Lists.map-get bare (take N table) i d blank (omega (arith, lib.ListN.length-take N table)) ∙ ap bare (getD-take N table i d h)
+heads-get N i table d h k = Rattle.model.specs.Laws.Lists.map-get bare (take N table) i d blank (omega (arith, length-take N table)) ∙ ap bare (getD-take N table i d h)
+
+heads-length : (N : ℕ) (table : List Summary) → N ≤ length table → length (heads N table) ≡ N
+unfolding heads
+heads-length N table h = length-map (take N table) bare ∙ omega (arith, length-take N table)
 
 -- ---- counted: what was counted so far, and what is left
 
@@ -58,26 +46,45 @@ counted-cons c x l =
     settled true false true true = refl
     settled true false false true = refl
 
-module _ (N : ℕ) (table : List Summary) where
-  pub counted-start : counted (record { next = 0; used = 0; settled = true }) (headsFrom N 0 table) ≡ countsOf (heads N table)
-  unfolding counted countsOf
+-- a list counted up to a place
+module _ (l : List Segment) where
+  pub counted-start : counted noCounts (drop 0 l) ≡ countsOf l
+  unfolding counted countsOf noCounts
   counted-start =
-      let l = heads N table in
       let m : max 0 (nextNumber l) ≡ nextNumber l = omega arith in
       let u : 0 + usedCount l ≡ usedCount l = omega arith in
-      rw (heads-all N table, m, u)
+      rw (m, u)
 
-  pub counted-turn : (i : ℕ) (d : Summary) (c k whole : HeaderCounts) → i < N → i < length table → k ≡ countOne c (bare (getD table i d)) → counted c (headsFrom N i table) ≡ whole → counted k (headsFrom N (i + 1) table) ≡ whole
-  counted-turn i d c k whole h l e q =
-      ap (λ (y : HeaderCounts). counted y (headsFrom N (i + 1) table)) e ∙ (sym (ap (counted c) (heads-next N i table d h l) ∙ counted-cons c (bare (getD table i d)) (headsFrom N (i + 1) table)) ∙ q)
+  pub counted-turn : (i : ℕ) (c k whole : HeaderCounts) → i < length l → k ≡ countOne c (getD l i blank) → counted c (drop i l) ≡ whole → counted k (drop (i + 1) l) ≡ whole
+  counted-turn i c k whole h e q =
+      let d : drop (i + 1) l ≡ drop (suc i) l = rw (add-one i) in
+      ap₂ counted e d ∙ (sym (ap (counted c) (drop-cons l i blank h) ∙ counted-cons c (getD l i blank) (drop (suc i) l)) ∙ q)
 
-  pub counted-end : (i : ℕ) (c whole : HeaderCounts) → N ≤ i → counted c (headsFrom N i table) ≡ whole → c ≡ whole
-  counted-end i c whole h q = sym (ap (counted c) (heads-end N i table h) ∙ none) ∙ q
+  pub counted-end : (i : ℕ) (c whole : HeaderCounts) → i ≡ length l → counted c (drop i l) ≡ whole → c ≡ whole
+  counted-end i c whole h q = sym (ap (λ (k : ℕ). counted c (drop k l)) h ∙ (ap (counted c) (drop-length l) ∙ none)) ∙ q
     where
       none : counted c [] ≡ c
       none = unfold counted nextNumber usedCount count allSettled noneOwing othersBlank all in
           (let m : max (c .next) 0 ≡ c .next = omega arith in let u : c .used + 0 ≡ c .used = omega arith in rw (m, u, and-true (c .settled)))
 
+-- of the image's segments as summaries show them
+module _ (l : List Segment) where
+  pub seen-turn : (i : ℕ) (c k whole : HeaderCounts) (v : Summary) → i < length l → k ≡ countOne c (bare v) → bare v ≡ outline (getD l i blank)
+      → counted c (drop i (map outline l)) ≡ whole → counted k (drop (i + 1) (map outline l)) ≡ whole
+  seen-turn i c k whole v h e f q = counted-turn (map outline l) i c k whole (omega (arith, length-map l outline)) (e ∙ ap (countOne c) (f ∙ sym (outline-get l i))) q
+
+  pub seen-end : (i : ℕ) (c whole : HeaderCounts) → i ≡ length l → counted c (drop i (map outline l)) ≡ whole → c ≡ whole
+  seen-end i c whole h q = counted-end (map outline l) i c whole (h ∙ sym (length-map l outline)) q
+
+-- of those that a table shows
+module _ (N : ℕ) (table : List Summary) (long : N ≤ length table) where
+  pub table-turn : (d : Summary) (i : ℕ) (c k whole : HeaderCounts) → i < N → k ≡ countOne c (bare (getD table i d)) → counted c (drop i (heads N table)) ≡ whole → counted k (drop (i + 1) (heads N table)) ≡ whole
+  table-turn d i c k whole h e q = counted-turn (heads N table) i c k whole (omega (arith, heads-length N table long)) (e ∙ ap (countOne c) (sym (heads-get N i table d h (omega arith)))) q
+
+  pub table-end : (i : ℕ) (c whole : HeaderCounts) → i ≡ N → counted c (drop i (heads N table)) ≡ whole → c ≡ whole
+  table-end i c whole h q = counted-end (heads N table) i c whole (h ∙ sym (heads-length N table long)) q
+
+module _ (N : ℕ) (table : List Summary) where
   -- ---- numbers from the first on
 
   module _ (u n : ℕ) where
