@@ -195,7 +195,7 @@ fn example_11_sizes_and_no_allowance() {
     for (n, b, length) in [
         (4, 1, 4 * 2 * 256),
         (1, 15, 16 * 256),
-        (65, 2, 65 * 3 * 256),
+        (256, 2, 256 * 3 * 256),
         (4, 15, 4 * 16 * 256 - 1),
     ] {
         let g = Geometry { n, b };
