@@ -2,18 +2,11 @@
 //! before live on.
 
 use crate::cuts;
-use crate::harness::Store;
+use crate::harness::{put_of, Store};
 use crate::images::{self, blank, formatted, with_empty_records};
 use crate::prng::Rng;
 use crate::reference::*;
 use crate::sequences::table_of;
-
-fn put_of(block: u16, contents: &[u8]) -> Request {
-    Request::Put {
-        block,
-        contents: contents.to_vec(),
-    }
-}
 
 /// Images for each answer that a put could have, were its contents not empty.
 fn images_by_answer(g: Geometry) -> Vec<(u8, Vec<u8>)> {

@@ -1,18 +1,11 @@
 //! The bench examples of document 01.
 
-use crate::harness::Store;
+use crate::harness::{put_of, Store};
 use crate::images::{blank, formatted};
 use crate::reference::*;
 
 const SMALLEST: Geometry = Geometry { n: 2, b: 2 };
 const MIDDLE: Geometry = Geometry { n: 4, b: 15 };
-
-fn put_of(block: u16, contents: &[u8]) -> Request {
-    Request::Put {
-        block,
-        contents: contents.to_vec(),
-    }
-}
 
 /// The contents of a block that is stored.
 fn contents(store: &Store, image: &[u8], g: Geometry, block: u16) -> Vec<u8> {
