@@ -76,6 +76,13 @@ fn disturbed_images() {
         (2, 255, 200),
         (16, 255, 12),
         (64, 255, 4),
+        (65, 2, 200),
+        (128, 2, 150),
+        (254, 2, 150),
+        (255, 2, 300),
+        (255, 3, 100),
+        (128, 255, 2),
+        (255, 255, 2),
     ] {
         let g = Geometry { n, b };
         for _ in 0..images {
@@ -122,7 +129,15 @@ fn every_bit_flipped() {
 fn noise() {
     let store = Store::new("noise");
     let mut rng = Rng::new(0x4015E);
-    for (n, b, images) in [(2, 2, 1_500), (3, 3, 800), (4, 15, 60), (64, 255, 1)] {
+    for (n, b, images) in [
+        (2, 2, 1_500),
+        (3, 3, 800),
+        (4, 15, 60),
+        (64, 255, 1),
+        (128, 2, 6),
+        (255, 2, 10),
+        (255, 255, 1),
+    ] {
         let g = Geometry { n, b };
         for round in 0..images {
             let mut image = rng.bytes(n * g.segment_len());
@@ -149,7 +164,15 @@ fn noise() {
 fn wrong_sizes() {
     let store = Store::new("wrong sizes");
     let mut rng = Rng::new(0x512E);
-    for (n, b) in [(2, 2), (3, 2), (4, 15), (2, 255), (64, 2)] {
+    for (n, b) in [
+        (2, 2),
+        (3, 2),
+        (4, 15),
+        (2, 255),
+        (64, 2),
+        (65, 2),
+        (255, 2),
+    ] {
         let g = Geometry { n, b };
         let shape = images::shape(&mut rng, g);
         let image = images::clean(&mut rng, g, shape);
@@ -176,6 +199,8 @@ fn wrong_sizes() {
             Geometry { n: 0, b },
             Geometry { n: 1, b },
             Geometry { n: 65, b },
+            Geometry { n: 254, b },
+            Geometry { n: 256, b },
             Geometry { n: 256 + n, b },
             Geometry { n, b: 0 },
             Geometry { n, b: 1 },
@@ -209,6 +234,9 @@ fn wrong_sizes() {
         ((6, 3), (4, 5)),
         ((2, 5), (4, 2)),
         ((3, 7), (8, 2)),
+        ((128, 3), (64, 7)),
+        ((255, 2), (3, 254)),
+        ((3, 254), (255, 2)),
     ] {
         let made = Geometry {
             n: made.0,
@@ -226,10 +254,10 @@ fn wrong_sizes() {
             try_all(&store, &mut rng, &image, asked);
         }
     }
-    // An image of any N and B up to 70 and 300.
+    // An image of any N and B up to 300.
     for _ in 0..3_000 {
         let g = Geometry {
-            n: rng.below(70),
+            n: rng.below(300),
             b: rng.below(300),
         };
         let length = if rng.once_in(2) {
@@ -254,6 +282,8 @@ fn the_end_of_a_chip() {
         (6, 2, 30),
         (4, 15, 10),
         (64, 2, 4),
+        (128, 2, 1),
+        (255, 2, 2),
     ] {
         let g = Geometry { n, b };
         for _ in 0..images {
@@ -299,7 +329,7 @@ fn the_end_of_a_chip() {
 fn numbers_at_the_limit() {
     let store = Store::new("numbers at the limit");
     let mut rng = Rng::new(0x11417);
-    for (n, b) in [(2, 2), (3, 2), (7, 3), (64, 2)] {
+    for (n, b) in [(2, 2), (3, 2), (7, 3), (64, 2), (65, 2), (254, 2), (255, 2)] {
         let g = Geometry { n, b };
         for number in g.wear_limit() - 3..g.wear_limit() + 3 {
             for status in [OPENED, SETTLED, OWING] {
@@ -313,7 +343,7 @@ fn numbers_at_the_limit() {
                 try_all(&store, &mut rng, &image, g);
             }
         }
-        for number in [u32::MAX, u32::MAX - 63, 1 << 31, 0x0100_0000] {
+        for number in [u32::MAX, u32::MAX - 63, 1 << 31, 0x0200_0000] {
             let mut image = images::blank(g);
             images::write_header(&mut image, g, number, OPENED);
             assert_eq!(state_of(&image, g), State::Damaged);
