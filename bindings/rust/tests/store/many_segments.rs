@@ -156,6 +156,36 @@ fn every_allowance_of_format_delete_and_recover() {
     }
 }
 
+/// Answer 8 by the count of compactions, up to 254 of them: only the segment at this place has a
+/// dead slot.
+#[test]
+fn worn_after_many_compactions() {
+    let store = Store::new("worn after many compactions");
+    for g in CHIPS {
+        let used = g.n - 1;
+        for place in [1, 2, used / 2, used / 2 + 1, used - 1, used] {
+            // The last compaction would give the limit, or the number before it.
+            for (last, code) in [(g.wear_limit(), WORN), (g.wear_limit() - 1, DONE)] {
+                let oldest = last - place as u32 - (used as u32 - 1);
+                let dead = (place, 2);
+                let mut image = with_statuses(g, (oldest, used), b"x", |place, slot| {
+                    if (place, slot) == dead {
+                        DEAD
+                    } else {
+                        LIVE
+                    }
+                });
+                let reply = store.perform(&mut image, g, &put_of(1, b"y"), UNLIMITED);
+                assert_eq!(reply.code, code);
+                if code == DONE {
+                    let compactions = 20 * place + 6 * (2 * place - 1);
+                    assert_eq!(reply.steps, compactions as u64 + 6 + 1);
+                }
+            }
+        }
+    }
+}
+
 /// Each bit of the headers of segments 253, 254 and 0, the newest three, of the blank one after them
 /// and of the oldest.
 #[test]
