@@ -1,11 +1,12 @@
 /* Qanbillox: a proved record store on NOR flash.
  *
- * Every request takes the whole image, the number of segments n (2 to 64) and of slots in each b (2 to 255).
+ * Every request takes the whole image, the number of segments n (2 to 255) and of slots in each b (2 to 255).
  * Any arguments get an answer from the table below; a refused request (1 to 8) changes no byte of the image.
  * budget is the most flash steps to take: when it is spent the request stops as if the power had gone, and
  * answers QBX_CUT. Recover before the next request then, as after any loss of power.
  *
- * No function allocates, keeps a pointer or has state of its own. Link with libqanbillox.a. */
+ * No function allocates, keeps a pointer or has state of its own. A request takes at most STACK_FIGURE bytes of stack on
+ * x86-64, measured up to n = 255 and b = 255 (bench/stack.c). Link with libqanbillox.a. */
 #ifndef QANBILLOX_H
 #define QANBILLOX_H
 

@@ -26,7 +26,7 @@ const CONTENTS: [u8; 100] = [0x41; 100];
 
 fn main() {
     blank_row(16 * 1024 * 1024, 51);
-    for (n, b, runs) in [(4, 15, 401), (16, 255, 101), (64, 255, 51)] {
+    for (n, b, runs) in [(4, 15, 401), (16, 255, 101), (64, 255, 51), (255, 255, 31)] {
         let g = Geometry { n, b };
         let capacity = g.capacity();
         for (fill, blocks) in [("half full", capacity / 2), ("full", capacity)] {
@@ -36,6 +36,31 @@ fn main() {
             chip(g, blocks, runs);
             println!();
         }
+    }
+    by_segments(&[16, 64, 128, 255], 1001);
+}
+
+/// How the time grows with the number of segments, each with the fewest slots. The block that is
+/// read is the last one.
+fn by_segments(numbers: &[usize], runs: usize) {
+    println!("B=2, full: the library's time for each segment");
+    println!("  {:<8}{:>14}{:>28}", "N", "read", "recover, nothing to do");
+    for &n in numbers {
+        let g = Geometry { n, b: 2 };
+        let blocks = g.capacity();
+        let mut image = written(g, blocks, blocks, 0);
+        let mut times = [Vec::new(), Vec::new()];
+        for _ in 0..runs {
+            let last = Block(blocks as u16);
+            let (read, time) = timed(|| typed(g).read(black_box(&image), last));
+            assert!(read.into_result().is_ok());
+            times[0].push(time);
+            let (outcome, time) = timed(|| typed(g).recover(black_box(&mut image), UNLIMITED));
+            assert!(outcome.into_result().is_ok());
+            times[1].push(time);
+        }
+        let [read, recover] = times.map(|times| median(times) * 1e9 / n as f64);
+        println!("  {n:<8}{read:>11.0} ns{recover:>25.0} ns");
     }
 }
 
@@ -175,19 +200,28 @@ struct Times([Vec<Duration>; 3]);
 impl Times {
     /// Adds how long a side takes.
     fn add<T>(&mut self, side: usize, work: impl FnOnce() -> T) -> T {
-        let start = Instant::now();
-        let result = black_box(work());
-        self.0[side].push(start.elapsed());
+        let (result, time) = timed(work);
+        self.0[side].push(time);
         result
     }
 
     /// The medians in microseconds.
     fn medians(self) -> [f64; 3] {
-        self.0.map(|mut times| {
-            times.sort();
-            times[times.len() / 2].as_secs_f64() * 1e6
-        })
+        self.0.map(|times| median(times) * 1e6)
     }
+}
+
+/// What some work gives, and how long it takes.
+fn timed<T>(work: impl FnOnce() -> T) -> (T, Duration) {
+    let start = Instant::now();
+    let result = black_box(work());
+    (result, start.elapsed())
+}
+
+/// The median in seconds.
+fn median(mut times: Vec<Duration>) -> f64 {
+    times.sort();
+    times[times.len() / 2].as_secs_f64()
 }
 
 /// The order of the sides in a run: each goes first in turn.

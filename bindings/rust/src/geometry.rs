@@ -5,7 +5,7 @@ pub const MAX_CONTENTS: usize = 248;
 
 /// The shape of a chip: N segments of one header page and B slot pages each.
 ///
-/// A segment is what one erase clears, and a slot holds one block. The store takes 2 to 64 segments
+/// A segment is what one erase clears, and a slot holds one block. The store takes 2 to 255 segments
 /// of 2 to 255 slots, and answers [`Size`](crate::Answer::Size) to any other geometry.
 ///
 /// ```
@@ -16,7 +16,12 @@ pub const MAX_CONTENTS: usize = 248;
 /// assert_eq!(chip.image_len(), Some(1_048_576));
 /// assert_eq!(chip.capacity(), Some(3_824));
 ///
-/// assert_eq!(Geometry { segments: 65, slots: 255 }.image_len(), None);
+/// // The largest: 255 of the 256 segments of a chip of 16 MiB.
+/// let largest = Geometry { segments: 255, slots: 255 };
+/// assert_eq!(largest.image_len(), Some(16_711_680));
+/// assert_eq!(largest.capacity(), Some(64_769));
+///
+/// assert_eq!(Geometry { segments: 256, slots: 255 }.image_len(), None);
 /// ```
 #[derive(Clone, Copy, Debug, PartialEq, Eq, Hash)]
 pub struct Geometry {
@@ -29,7 +34,7 @@ pub struct Geometry {
 impl Geometry {
     /// Whether the store takes this geometry.
     pub const fn is_valid(self) -> bool {
-        2 <= self.segments && self.segments <= 64 && 2 <= self.slots && self.slots <= 255
+        2 <= self.segments && self.segments <= 255 && 2 <= self.slots && self.slots <= 255
     }
 
     /// The length in bytes that an image of this geometry has, or `None` for a geometry that the
@@ -63,14 +68,16 @@ mod tests {
         let size = |segments, slots| Geometry { segments, slots }.image_len();
         assert_eq!(size(2, 2), Some(1_536));
         assert_eq!(size(64, 255), Some(4_194_304));
-        for (segments, slots) in [(1, 2), (65, 2), (2, 1), (2, 256), (0, 0)] {
+        assert_eq!(size(65, 2), Some(49_920));
+        assert_eq!(size(255, 2), Some(195_840));
+        assert_eq!(size(255, 255), Some(16_711_680));
+        for (segments, slots) in [(1, 2), (256, 2), (2, 1), (2, 256), (0, 0)] {
             assert_eq!(size(segments, slots), None);
         }
         assert_eq!(size(usize::MAX, usize::MAX), None);
-        let smallest = Geometry {
-            segments: 2,
-            slots: 2,
-        };
-        assert_eq!(smallest.capacity(), Some(1));
+        let capacity = |segments, slots| Geometry { segments, slots }.capacity();
+        assert_eq!(capacity(2, 2), Some(1));
+        assert_eq!(capacity(255, 255), Some(64_769));
+        assert_eq!(capacity(256, 255), None);
     }
 }

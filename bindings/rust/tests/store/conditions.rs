@@ -131,7 +131,7 @@ fn by_the_letter(image: &[u8], g: Geometry) -> char {
     states.first().copied().unwrap_or('!')
 }
 
-fn by_the_reference(image: &[u8], g: Geometry) -> char {
+pub fn by_the_reference(image: &[u8], g: Geometry) -> char {
     match state_of(image, g) {
         State::Clean(_) => '-',
         State::Unfinished(Unfinished::A { .. }) => 'a',
@@ -234,9 +234,19 @@ fn one_condition_after_the_other() {
 #[test]
 fn one_pass_finds_the_state_by_the_letter() {
     let mut rng = Rng::new(0x1E77E9);
-    for (n, b) in [(2, 2), (2, 4), (3, 2), (3, 3), (4, 2), (6, 2)] {
+    for (n, b, images) in [
+        (2, 2, 20_000),
+        (2, 4, 20_000),
+        (3, 2, 20_000),
+        (3, 3, 20_000),
+        (4, 2, 20_000),
+        (6, 2, 20_000),
+        (65, 2, 300),
+        (128, 2, 150),
+        (255, 2, 150),
+    ] {
         let g = Geometry { n, b };
-        for _ in 0..20_000 {
+        for _ in 0..images {
             let shape = images::shape(&mut rng, g);
             let mut image = images::clean(&mut rng, g, shape);
             for _ in 0..rng.pick(&[1, 1, 2, 3]) {

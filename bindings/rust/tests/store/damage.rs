@@ -76,6 +76,13 @@ fn disturbed_images() {
         (2, 255, 200),
         (16, 255, 12),
         (64, 255, 4),
+        (65, 2, 200),
+        (128, 2, 150),
+        (254, 2, 150),
+        (255, 2, 300),
+        (255, 3, 100),
+        (128, 255, 2),
+        (255, 255, 2),
     ] {
         let g = Geometry { n, b };
         for _ in 0..images {
@@ -122,7 +129,15 @@ fn every_bit_flipped() {
 fn noise() {
     let store = Store::new("noise");
     let mut rng = Rng::new(0x4015E);
-    for (n, b, images) in [(2, 2, 1_500), (3, 3, 800), (4, 15, 60), (64, 255, 1)] {
+    for (n, b, images) in [
+        (2, 2, 1_500),
+        (3, 3, 800),
+        (4, 15, 60),
+        (64, 255, 1),
+        (128, 2, 6),
+        (255, 2, 10),
+        (255, 255, 1),
+    ] {
         let g = Geometry { n, b };
         for round in 0..images {
             let mut image = rng.bytes(n * g.segment_len());
@@ -144,92 +159,65 @@ fn noise() {
     }
 }
 
-/// Images cut short or with bytes more, and geometries that do not belong to the image.
+/// Images cut short or with bytes more.
+fn wrong_lengths(store: &Store, rng: &mut Rng, image: &[u8], g: Geometry) {
+    let whole = image.len();
+    for length in [0, 1, 16, 17, 255, 256, 257] {
+        try_all(store, rng, &image[..length], g);
+    }
+    for length in [whole / 2, whole - 256, whole - 1] {
+        try_all(store, rng, &image[..length], g);
+    }
+    for more in [1, 256, whole] {
+        let longer = [image, &vec![0xFF; more]].concat();
+        try_all(store, rng, &longer, g);
+    }
+}
+
+/// Geometries that do not belong to the image.
+fn wrong_geometries(store: &Store, rng: &mut Rng, image: &[u8], g: Geometry) {
+    let Geometry { n, b } = g;
+    for other in [0, 1, 65, 254, 256, 256 + n] {
+        try_all(store, rng, image, Geometry { n: other, b });
+    }
+    for other in [0, 1, 256, 256 + b] {
+        try_all(store, rng, image, Geometry { n, b: other });
+    }
+    for (n, b) in [
+        (b, n),
+        // products that are the right length again once they have overflowed
+        (n + (1 << 56), b),
+        (n, b + (1 << 56)),
+        (1 << 32, (1 << 32) - 1),
+        (usize::MAX, usize::MAX),
+    ] {
+        try_all(store, rng, image, Geometry { n, b });
+    }
+}
+
 #[test]
 fn wrong_sizes() {
     let store = Store::new("wrong sizes");
     let mut rng = Rng::new(0x512E);
-    for (n, b) in [(2, 2), (3, 2), (4, 15), (2, 255), (64, 2)] {
+    for (n, b) in [
+        (2, 2),
+        (3, 2),
+        (4, 15),
+        (2, 255),
+        (64, 2),
+        (65, 2),
+        (255, 2),
+    ] {
         let g = Geometry { n, b };
         let shape = images::shape(&mut rng, g);
         let image = images::clean(&mut rng, g, shape);
-        let whole = image.len();
-        for length in [
-            0,
-            1,
-            16,
-            17,
-            255,
-            256,
-            257,
-            whole / 2,
-            whole - 256,
-            whole - 1,
-        ] {
-            try_all(&store, &mut rng, &image[..length], g);
-        }
-        for more in [1, 256, whole] {
-            let longer = [&image[..], &vec![0xFF; more]].concat();
-            try_all(&store, &mut rng, &longer, g);
-        }
-        for other in [
-            Geometry { n: 0, b },
-            Geometry { n: 1, b },
-            Geometry { n: 65, b },
-            Geometry { n: 256 + n, b },
-            Geometry { n, b: 0 },
-            Geometry { n, b: 1 },
-            Geometry { n, b: 256 },
-            Geometry { n, b: 256 + b },
-            Geometry { n: b, b: n },
-            // products that are the right length again once they have overflowed
-            Geometry {
-                n: n + (1 << 56),
-                b,
-            },
-            Geometry {
-                n,
-                b: b + (1 << 56),
-            },
-            Geometry {
-                n: 1 << 32,
-                b: (1 << 32) - 1,
-            },
-            Geometry {
-                n: usize::MAX,
-                b: usize::MAX,
-            },
-        ] {
-            try_all(&store, &mut rng, &image, other);
-        }
+        wrong_lengths(&store, &mut rng, &image, g);
+        wrong_geometries(&store, &mut rng, &image, g);
     }
-    // Another geometry of the same length: the headers say otherwise.
-    for (made, asked) in [
-        ((4, 5), (6, 3)),
-        ((6, 3), (4, 5)),
-        ((2, 5), (4, 2)),
-        ((3, 7), (8, 2)),
-    ] {
-        let made = Geometry {
-            n: made.0,
-            b: made.1,
-        };
-        let asked = Geometry {
-            n: asked.0,
-            b: asked.1,
-        };
-        for _ in 0..20 {
-            let shape = images::shape(&mut rng, made);
-            let image = images::clean(&mut rng, made, shape);
-            assert!(asked.fits(image.len()));
-            assert_eq!(state_of(&image, asked), State::Damaged);
-            try_all(&store, &mut rng, &image, asked);
-        }
-    }
-    // An image of any N and B up to 70 and 300.
+    // Any N and B up to 300.
     for _ in 0..3_000 {
         let g = Geometry {
-            n: rng.below(70),
+            n: rng.below(300),
             b: rng.below(300),
         };
         let length = if rng.once_in(2) {
@@ -238,6 +226,31 @@ fn wrong_sizes() {
             g.n * (g.b + 1) * 256
         };
         try_all(&store, &mut rng, &vec![0xFF; length.min(20_000)], g);
+    }
+}
+
+/// Another geometry of the same length: the headers say otherwise.
+#[test]
+fn another_geometry() {
+    let store = Store::new("another geometry of the same length");
+    let mut rng = Rng::new(0x512F);
+    for (made, asked) in [
+        ((4, 5), (6, 3)),
+        ((6, 3), (4, 5)),
+        ((2, 5), (4, 2)),
+        ((3, 7), (8, 2)),
+        ((128, 3), (64, 7)),
+        ((255, 2), (3, 254)),
+        ((3, 254), (255, 2)),
+    ] {
+        let [made, asked] = [made, asked].map(|(n, b)| Geometry { n, b });
+        for _ in 0..20 {
+            let shape = images::shape(&mut rng, made);
+            let image = images::clean(&mut rng, made, shape);
+            assert!(asked.fits(image.len()));
+            assert_eq!(state_of(&image, asked), State::Damaged);
+            try_all(&store, &mut rng, &image, asked);
+        }
     }
 }
 
@@ -254,6 +267,8 @@ fn the_end_of_a_chip() {
         (6, 2, 30),
         (4, 15, 10),
         (64, 2, 4),
+        (128, 2, 1),
+        (255, 2, 2),
     ] {
         let g = Geometry { n, b };
         for _ in 0..images {
@@ -299,7 +314,7 @@ fn the_end_of_a_chip() {
 fn numbers_at_the_limit() {
     let store = Store::new("numbers at the limit");
     let mut rng = Rng::new(0x11417);
-    for (n, b) in [(2, 2), (3, 2), (7, 3), (64, 2)] {
+    for (n, b) in [(2, 2), (3, 2), (7, 3), (64, 2), (65, 2), (254, 2), (255, 2)] {
         let g = Geometry { n, b };
         for number in g.wear_limit() - 3..g.wear_limit() + 3 {
             for status in [OPENED, SETTLED, OWING] {
@@ -313,7 +328,7 @@ fn numbers_at_the_limit() {
                 try_all(&store, &mut rng, &image, g);
             }
         }
-        for number in [u32::MAX, u32::MAX - 63, 1 << 31, 0x0100_0000] {
+        for number in [u32::MAX, u32::MAX - 63, 1 << 31, 0x0200_0000] {
             let mut image = images::blank(g);
             images::write_header(&mut image, g, number, OPENED);
             assert_eq!(state_of(&image, g), State::Damaged);

@@ -2,18 +2,11 @@
 //! before live on.
 
 use crate::cuts;
-use crate::harness::Store;
+use crate::harness::{put_of, Store};
 use crate::images::{self, blank, formatted, with_empty_records};
 use crate::prng::Rng;
 use crate::reference::*;
 use crate::sequences::table_of;
-
-fn put_of(block: u16, contents: &[u8]) -> Request {
-    Request::Put {
-        block,
-        contents: contents.to_vec(),
-    }
-}
 
 /// Images for each answer that a put could have, were its contents not empty.
 fn images_by_answer(g: Geometry) -> Vec<(u8, Vec<u8>)> {
@@ -44,7 +37,15 @@ fn images_by_answer(g: Geometry) -> Vec<(u8, Vec<u8>)> {
 #[test]
 fn refused_in_its_place() {
     let store = Store::new("a put of 0 bytes");
-    for (n, b) in [(2, 2), (3, 2), (4, 15), (2, 255), (64, 2)] {
+    for (n, b) in [
+        (2, 2),
+        (3, 2),
+        (4, 15),
+        (2, 255),
+        (64, 2),
+        (65, 2),
+        (255, 2),
+    ] {
         let g = Geometry { n, b };
         for (code, mut image) in images_by_answer(g) {
             let with_contents = put_of(60_000, b"x");
@@ -80,7 +81,17 @@ fn empty_record(store: &Store, image: &[u8], g: Geometry, block: u16) -> usize {
 #[test]
 fn those_from_before_live_on() {
     let store = Store::new("empty records from before");
-    for (n, b) in [(2, 3), (3, 2), (4, 15), (5, 4), (16, 16), (64, 2), (2, 255)] {
+    for (n, b) in [
+        (2, 3),
+        (3, 2),
+        (4, 15),
+        (5, 4),
+        (16, 16),
+        (64, 2),
+        (2, 255),
+        (128, 2),
+        (255, 2),
+    ] {
         let g = Geometry { n, b };
         let last = g.capacity() as u16 - 1;
         let mut image = with_empty_records(g, 1..=last);
@@ -101,7 +112,7 @@ fn those_from_before_live_on() {
             store.done(&mut image, g, &request);
         }
         let table = table_of(&image, g).expect("clean");
-        assert_eq!(table.len(), 1 + (usize::from(last) + 1) / 2);
+        assert_eq!(table.len(), 1 + usize::from(last).div_ceil(2));
         assert!(table.values().all(|contents| !contents.is_empty()));
     }
 }

@@ -1,18 +1,11 @@
 //! The bench examples of document 01.
 
-use crate::harness::Store;
+use crate::harness::{put_of, Store};
 use crate::images::{blank, formatted};
 use crate::reference::*;
 
 const SMALLEST: Geometry = Geometry { n: 2, b: 2 };
 const MIDDLE: Geometry = Geometry { n: 4, b: 15 };
-
-fn put_of(block: u16, contents: &[u8]) -> Request {
-    Request::Put {
-        block,
-        contents: contents.to_vec(),
-    }
-}
 
 /// The contents of a block that is stored.
 fn contents(store: &Store, image: &[u8], g: Geometry, block: u16) -> Vec<u8> {
@@ -195,7 +188,7 @@ fn example_11_sizes_and_no_allowance() {
     for (n, b, length) in [
         (4, 1, 4 * 2 * 256),
         (1, 15, 16 * 256),
-        (65, 2, 65 * 3 * 256),
+        (256, 2, 256 * 3 * 256),
         (4, 15, 4 * 16 * 256 - 1),
     ] {
         let g = Geometry { n, b };

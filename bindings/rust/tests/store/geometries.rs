@@ -34,9 +34,14 @@ fn visit(store: &Store, rng: &mut Rng, g: Geometry) {
 fn every_n() {
     let store = Store::new("every N");
     let mut rng = Rng::new(0x4);
-    for n in 2..=64 {
-        for b in [2, rng.between(3, 12), rng.between(13, 255)] {
-            visit(&store, &mut rng, Geometry { n, b });
+    for n in 2..=255 {
+        let few = rng.between(3, 12);
+        let many = rng.between(13, 255);
+        visit(&store, &mut rng, Geometry { n, b: 2 });
+        visit(&store, &mut rng, Geometry { n, b: few });
+        // Large images take long: above 64, one N in sixteen.
+        if n <= 64 || n % 16 == 15 {
+            visit(&store, &mut rng, Geometry { n, b: many });
         }
     }
 }

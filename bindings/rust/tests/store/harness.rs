@@ -10,6 +10,14 @@ use crate::reference::{self, Geometry, ReadReply, Reply, Request, CUT, DONE};
 use std::cell::Cell;
 use std::io::Write;
 
+/// A put as a value.
+pub fn put_of(block: u16, contents: &[u8]) -> Request {
+    Request::Put {
+        block,
+        contents: contents.to_vec(),
+    }
+}
+
 pub struct Store {
     test: &'static str,
     requests: Cell<u64>,
@@ -140,7 +148,10 @@ mod library {
             library, reply,
             "left the library, right the reference: {request:?} with allowance {allowance}, {g:?}"
         );
-        if let Some(at) = (0..after.len()).find(|&at| image[at] != after[at]) {
+        // The place is looked for only if there is one: going byte by byte takes long.
+        if image != after {
+            let differs = |&at: &usize| image[at] != after[at];
+            let at = (0..after.len()).find(differs).expect("equal lengths");
             panic!(
                 "byte {at}: the library has {:02X}, the reference {:02X}; \
                  {request:?} with allowance {allowance}, {g:?}",

@@ -124,6 +124,62 @@ pub fn with_empty_records(g: Geometry, blocks: RangeInclusive<u16>) -> Vec<u8> {
     image
 }
 
+/// A chip with so many segments in use, from the number `oldest` on. Each slot has the status that
+/// is given for the place of its segment among them, from 1, and its own; 255 leaves it empty. The
+/// blocks are 1, 2, 3 and so on, all with the same contents.
+pub fn with_statuses(
+    g: Geometry,
+    (oldest, used): (u32, usize),
+    contents: &[u8],
+    status: impl Fn(usize, usize) -> u8,
+) -> Vec<u8> {
+    let mut image = blank(g);
+    let mut block = 0;
+    for place in 1..=used {
+        let number = oldest + place as u32 - 1;
+        write_header(&mut image, g, number, SETTLED);
+        for slot in 1..=g.b {
+            let status = status(place, slot);
+            if status != 0xFF {
+                block += 1;
+                let at = g.page(g.index(number), slot);
+                write_slot_page(&mut image[at..at + PAGE], status, block, contents);
+            }
+        }
+    }
+    image
+}
+
+/// A ring at its capacity, every slot written, its top at this number. The only dead slot is the
+/// first of the oldest segment; the contents are of one byte.
+pub fn full_ring(g: Geometry, top: u32) -> Vec<u8> {
+    let used = g.n - 1;
+    let oldest = (top + 1).checked_sub(used as u32).expect("a full ring");
+    with_statuses(g, (oldest, used), b"x", |place, slot| {
+        if (place, slot) == (1, 1) {
+            DEAD
+        } else {
+            LIVE
+        }
+    })
+}
+
+/// A rewrite of a block in the second oldest segment. On a full ring it compacts once, since the
+/// dead slot is in the oldest; and it leaves one in the segment that is the oldest then, so that
+/// the next such rewrite compacts once too.
+pub fn rewrite_in_turn(image: &[u8], g: Geometry) -> Request {
+    let State::Clean(view) = state_of(image, g) else {
+        panic!("a clean image");
+    };
+    let second = g.index(view.oldest + 1);
+    let mut slots = (1..=g.b).map(|slot| g.page(second, slot));
+    let at = slots.find(|&at| image[at] == LIVE).expect("a live slot");
+    Request::Put {
+        block: u16::from_le_bytes([image[at + 2], image[at + 3]]),
+        contents: b"y".to_vec(),
+    }
+}
+
 /// A random shape. Full rings, full tops and numbers near the wear limit come often.
 pub fn shape(rng: &mut Rng, g: Geometry) -> Shape {
     let used = if rng.once_in(3) {

@@ -10,6 +10,8 @@ mod examples;
 mod geometries;
 mod harness;
 mod images;
+mod largest_chip;
+mod many_segments;
 mod pages;
 mod power_cuts;
 mod prng;

@@ -62,7 +62,7 @@ fn check_cut(
 
 /// Cuts a request after each step and inside each: `subsets` is how many of the ways to cut a step
 /// inside are tried, at most.
-fn cut_everywhere(
+pub fn cut_everywhere(
     store: &Store,
     rng: &mut Rng,
     g: Geometry,
@@ -215,10 +215,16 @@ fn a_long_life_with_cuts() {
         (16, 40, 250),
         (16, 255, 60),
         (64, 255, 16),
+        (65, 2, 300),
+        (128, 2, 300),
+        (254, 2, 300),
+        (255, 2, 700),
+        (255, 255, 10),
     ] {
         let g = Geometry { n, b };
         let mut image = formatted(g);
-        if n * b > 600 {
+        // Fresh, these would end before they compact.
+        if n * b > 600 || n > 128 {
             let mut shape = images::shape(&mut rng, g);
             shape.oldest = 3 * n as u32;
             shape.used = n - 1;
@@ -280,7 +286,15 @@ fn a_long_life_with_cuts() {
 fn cut_formats() {
     let store = Store::new("cut formats");
     let mut rng = Rng::new(0xF0F0);
-    for (n, b) in [(2, 2), (3, 5), (64, 2), (4, 15)] {
+    for (n, b) in [
+        (2, 2),
+        (3, 5),
+        (64, 2),
+        (4, 15),
+        (65, 2),
+        (254, 2),
+        (255, 2),
+    ] {
         let g = Geometry { n, b };
         let shape = images::shape(&mut rng, g);
         let image = images::clean(&mut rng, g, shape);

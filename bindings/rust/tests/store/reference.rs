@@ -56,7 +56,7 @@ pub struct Geometry {
 impl Geometry {
     /// Whether N and B are in range and an image of this length belongs to them.
     pub fn fits(self, image_len: usize) -> bool {
-        (2..=64).contains(&self.n)
+        (2..=255).contains(&self.n)
             && (2..=255).contains(&self.b)
             && image_len == self.n * self.segment_len()
     }
@@ -286,7 +286,7 @@ pub enum State {
 
 /// The state of an image of a right size, in one pass over its bytes.
 pub fn state_of(image: &[u8], g: Geometry) -> State {
-    let mut headers = [None; 64];
+    let mut headers = [None; 255];
     let mut top: Option<InUse> = None;
     for (index, entry) in headers.iter_mut().enumerate().take(g.n) {
         *entry = header(image, g, index);

@@ -45,21 +45,22 @@ fn mark(g: Geometry) -> Vec<(usize, u8)> {
     ]
 }
 
-/// Bytes 8-15 of numbers below 256.
-fn number(value: u8) -> Vec<(usize, u8)> {
+/// Bytes 8-15 of numbers below 65,536.
+fn number(value: u16) -> Vec<(usize, u8)> {
+    let (low, high) = ((value % 256) as u8, (value / 256) as u8);
     vec![
-        (8, value),
-        (9, 0),
+        (8, low),
+        (9, high),
         (10, 0),
         (11, 0),
-        (12, !value),
-        (13, 0xFF),
+        (12, !low),
+        (13, !high),
         (14, 0xFF),
         (15, 0xFF),
     ]
 }
 
-fn opening_list(g: Geometry, value: u8) -> Vec<Step> {
+fn opening_list(g: Geometry, value: u16) -> Vec<Step> {
     let bytes = [vec![(5, 0x7F)], mark(g), number(value), vec![(5, 0x3F)]].concat();
     at_page(g.page(g.index(value.into()), 0), &bytes)
 }
@@ -97,17 +98,19 @@ fn put_opens_then_writes_then_marks() {
     assert_eq!(steps_of(&image, g, &delete), (DONE, expected));
 }
 
-/// The third put of example 5: the old segment 0 holds the block dead and live.
-fn tidying_list(g: Geometry) -> Vec<Step> {
+/// Tidying of the segment `old`, with one live slot, into the segment of number `value`.
+fn tidying_list(g: Geometry, old: u8, value: u16, block: u16, contents: &[u8]) -> Vec<Step> {
+    let target = g.index(value.into());
+    let header = g.page(target, 0);
     [
         at_page(
-            g.page(1, 0),
-            &[vec![(5, 0xDF)], mark(g), vec![(16, 0)]].concat(),
+            header,
+            &[vec![(5, 0xDF)], mark(g), vec![(16, old)]].concat(),
         ),
-        slot_list(g.page(1, 1), 7, b"b"),
-        at_page(g.page(1, 0), &[number(1), vec![(5, 0x9F)]].concat()),
-        vec![Step::Erase { index: 0 }],
-        at_page(g.page(1, 0), &[(5, 0x8F)]),
+        slot_list(g.page(target, 1), block, contents),
+        at_page(header, &[number(value), vec![(5, 0x9F)]].concat()),
+        vec![Step::Erase { index: old.into() }],
+        at_page(header, &[(5, 0x8F)]),
     ]
     .concat()
 }
@@ -129,14 +132,34 @@ fn third_put() -> Request {
 #[test]
 fn put_tidies_and_marks_where_tidying_left_the_block() {
     let g = SMALLEST;
+    // The old segment 0 holds the block dead and live.
     let expected = [
-        tidying_list(g),
+        tidying_list(g, 0, 1, 7, b"b"),
         slot_list(g.page(1, 2), 7, b"c"),
         at_page(g.page(1, 1), &[(0, 0xDF)]),
     ]
     .concat();
     assert_eq!(expected.len(), 33);
     assert_eq!(steps_of(&two_puts(), g, &third_put()), (DONE, expected));
+}
+
+/// N=255: byte 7 is a step that changes nothing, and the segment after index 254 is 0.
+#[test]
+fn put_tidies_past_index_254() {
+    let g = Geometry { n: 255, b: 2 };
+    for (value, target, old, second) in [(508, 253, 254, 0), (509, 254, 0, 1), (510, 0, 1, 2)] {
+        // Block 1 is dead and block 2 live in the oldest segment, block 3 the first of the second.
+        let image = images::full_ring(g, u32::from(value) - 1);
+        let expected = [
+            tidying_list(g, old, value, 2, b"x"),
+            slot_list(g.page(target, 2), 3, b"y"),
+            at_page(g.page(second, 1), &[(0, 0xDF)]),
+        ]
+        .concat();
+        assert_eq!(expected.len(), 33);
+        let request = images::rewrite_in_turn(&image, g);
+        assert_eq!(steps_of(&image, g, &request), (DONE, expected));
+    }
 }
 
 #[test]
@@ -168,7 +191,7 @@ fn recovery_takes_what_each_cut_left() {
 }
 
 /// Each allowance leaves exactly the first steps of the list done.
-fn every_allowance(store: &Store, image: &[u8], g: Geometry, request: &Request) {
+pub fn every_allowance(store: &Store, image: &[u8], g: Geometry, request: &Request) {
     let (code, list) = steps_of(image, g, request);
     let mut expected = image.to_vec();
     for allowance in 0..=list.len() + 1 {

@@ -1,0 +1,200 @@
+/* How much stack does a request take? Each is made on a stack of our own that was painted before, and how far the
+ * paint is gone says how deep it went.
+ *
+ *     rt staticlib qanbillox                                        (at the root of the repository)
+ *     cc -O2 -Wall -Wextra -Werror -Iinclude bench/stack.c target/staticlib/libqanbillox.a -o target/stack
+ *     target/stack [BYTES]
+ *
+ * It prints the most bytes that each request took on any of the chips below; with BYTES it ends with 1 if one took
+ * more. Counted is all that the call of a request puts on the stack, down to the deepest byte written: the arguments
+ * that find no register, its frames, and those of memcpy and memset. Not counted is what an empty call puts there too,
+ * the return address. The images are made by the library's own requests, with budgets for cuts. */
+#define _XOPEN_SOURCE 700
+#include "qanbillox.h"
+
+#include <stdio.h>
+#include <stdlib.h>
+#include <string.h>
+#include <ucontext.h>
+
+enum { STACK = 128 * 1024, PAINT = 0xA5, LONGEST = 255 * 256 * 256 };
+
+/* Every slot of a full ring is written first. On the largest chip that takes half a minute, and changes no figure. */
+static const struct {
+    size_t n, b;
+    int full_ring;
+} chips[] = {{2, 2, 1}, {16, 255, 1}, {255, 2, 1}, {255, 255, 0}};
+
+/* The chip at hand. Requests work on image; base and cut are what they begin with. */
+static size_t n, b, length;
+static uint8_t image[LONGEST], base[LONGEST], cut[LONGEST];
+
+/* The block that the requests are about, and what is put: once there is room, that takes SLOT steps for a block that
+ * is stored already. */
+enum { BLOCK = 1, OTHER = 2, SLOT = 5 + QBX_MOST_CONTENTS + 1 };
+static const uint8_t contents[QBX_MOST_CONTENTS];
+
+static struct {
+    const char *name;
+    size_t bytes;
+} rows[] = {{"format", 0},      {"put, with room", 0}, {"put, opening a segment", 0}, {"put, compacting first", 0},
+            {"read", 0},        {"delete", 0},         {"recover, nothing to do", 0}, {"recover (a)", 0},
+            {"recover (b)", 0}, {"recover (c)", 0},    {"recover (d)", 0},            {"blank test", 0}};
+enum { ROWS = sizeof rows / sizeof rows[0] };
+
+static void stop(const char *what)
+{
+    fprintf(stderr, "stack: not as expected: %s, n = %zu, b = %zu\n", what, n, b);
+    exit(2);
+}
+
+/* ---- One request on the painted stack ---- */
+
+enum request { NOTHING, FORMAT, PUT, READ, DELETE, RECOVER, BLANK };
+
+static enum request request;
+static uint64_t result;
+static ucontext_t caller, painted;
+
+static uint64_t nothing(void) { return 0; }
+static uint64_t (*volatile empty_call)(void) = nothing;
+
+static void make_request(void)
+{
+    switch (request) {
+    case NOTHING: result = empty_call(); break;
+    case FORMAT: result = qbx_format(image, length, n, b, UINT64_MAX); break;
+    case PUT: result = qbx_put(image, length, n, b, BLOCK, contents, sizeof contents, UINT64_MAX); break;
+    case READ: result = qbx_read(image, length, n, b, BLOCK); break;
+    case DELETE: result = qbx_delete(image, length, n, b, BLOCK, UINT64_MAX); break;
+    case RECOVER: result = qbx_recover(image, length, n, b, UINT64_MAX); break;
+    /* the last segment but for three bytes, so that the last group is a shorter one */
+    case BLANK: result = qbx_is_blank(image + length - length / n, length / n - 3); break;
+    }
+}
+
+/* The bytes that have lost their paint after this request. */
+static size_t depth_of(enum request wanted)
+{
+    static _Alignas(16) uint8_t stack[STACK];
+    size_t painted_still = 0;
+
+    request = wanted;
+    memset(stack, PAINT, sizeof stack);
+    if (getcontext(&painted) != 0)
+        stop("getcontext");
+    painted.uc_stack.ss_sp = stack;
+    painted.uc_stack.ss_size = sizeof stack;
+    painted.uc_link = &caller;
+    makecontext(&painted, make_request, 0);
+    if (swapcontext(&caller, &painted) != 0)
+        stop("swapcontext");
+    while (painted_still < sizeof stack && stack[painted_still] == PAINT)
+        painted_still++;
+    return sizeof stack - painted_still;
+}
+
+/* ---- What is measured ---- */
+
+/* A request on a copy of this image. */
+static void measure(const char *name, enum request wanted, const uint8_t *before)
+{
+    size_t empty = depth_of(NOTHING), bytes = 0, row = 0;
+
+    /* Twice: in the first the dynamic linker may look for memcpy and memset, on this stack. */
+    for (int turn = 0; turn < 2; turn++) {
+        memcpy(image, before, length);
+        bytes = depth_of(wanted) - empty;
+    }
+    if (wanted == BLANK ? !qbx_blank_of(result) : qbx_answer_of(result) != QBX_DONE)
+        stop(name);
+    while (strcmp(rows[row].name, name) != 0)
+        row++;
+    if (rows[row].bytes < bytes)
+        rows[row].bytes = bytes;
+}
+
+static uint64_t put(uint16_t block, uint64_t budget)
+{
+    return qbx_put(image, length, n, b, block, contents, sizeof contents, budget);
+}
+
+/* The recovery of the base image after a put that was cut with so many steps left; it has to take so many. */
+static void measure_recovery(const char *name, uint64_t left, uint64_t steps)
+{
+    uint64_t whole;
+
+    memcpy(image, base, length);
+    whole = qbx_steps_of(put(BLOCK, UINT64_MAX));
+    memcpy(image, base, length);
+    put(BLOCK, whole - left);
+    memcpy(cut, image, length);
+    measure(name, RECOVER, cut);
+    if (qbx_steps_of(result) != steps)
+        stop(name);
+}
+
+/* The base image: a fresh chip with so many slots written, the first by BLOCK and the others, if it holds two blocks,
+ * by OTHER. */
+static void write_slots(size_t slots)
+{
+    uint16_t then = qbx_capacity(n, b) > 1 ? OTHER : BLOCK;
+
+    if (qbx_answer_of(qbx_format(image, length, n, b, UINT64_MAX)) != QBX_DONE)
+        stop("format");
+    for (size_t i = 0; i < slots; i++)
+        if (qbx_answer_of(put(i == 0 ? BLOCK : then, UINT64_MAX)) != QBX_DONE)
+            stop("put");
+    memcpy(base, image, length);
+}
+
+static void measure_chip(int full_ring)
+{
+    write_slots(1);
+    measure("format", FORMAT, base);
+    measure("put, with room", PUT, base);
+    measure("read", READ, base);
+    measure("delete", DELETE, base);
+    measure("recover, nothing to do", RECOVER, base);
+    measure_recovery("recover (c)", 2, 1);
+    measure_recovery("recover (d)", 1, 1);
+    measure("blank test", BLANK, base);
+    if (n > 2) {
+        write_slots(b);
+        measure("put, opening a segment", PUT, base);
+        measure_recovery("recover (a)", SLOT + 3, 1);
+    }
+    if (full_ring) {
+        write_slots((n - 1) * b);
+        measure("put, compacting first", PUT, base);
+        measure_recovery("recover (a)", SLOT + 3, 1);
+        measure_recovery("recover (b)", SLOT + 2, 2);
+    }
+}
+
+int main(int count, char **words)
+{
+    char *rest = "";
+    unsigned long long limit = count > 1 ? strtoull(words[1], &rest, 10) : UINT64_MAX;
+    size_t most = 0;
+
+    if (*rest != '\0') {
+        fprintf(stderr, "usage: stack [BYTES]\n");
+        return 2;
+    }
+    for (size_t i = 0; i < sizeof chips / sizeof chips[0]; i++) {
+        n = chips[i].n;
+        b = chips[i].b;
+        length = qbx_image_length(n, b);
+        measure_chip(chips[i].full_ring);
+    }
+    for (size_t row = 0; row < ROWS; row++) {
+        printf("%-24s%8zu bytes of stack\n", rows[row].name, rows[row].bytes);
+        if (rows[row].bytes > limit)
+            fprintf(stderr, "stack: %s: %zu bytes, more than %llu\n", rows[row].name, rows[row].bytes, limit);
+        if (rows[row].bytes > most)
+            most = rows[row].bytes;
+    }
+    printf("%-24s%8zu bytes of stack\n", "the most", most);
+    return most > limit;
+}
