@@ -8,7 +8,7 @@ use native.Mathlib.Omega.{arith}
 use lib.ListN.{length, take, drop, length-take}
 use lib.Dec.{leb, eqb}
 use borrow.Author.Tests.{leb-true, eqb-true}
-use Rattle.model.specs.Chip.{Image, Page, Step, leastSegments, mostSegments, leastSlots, mostSlots, inRange, imageLength, rightSize}
+use Rattle.model.specs.Chip.{Image, Page, Step, mostSegments, inRange, imageLength, rightSize}
 use Rattle.model.specs.Steps.{programs, programPart, onPage, headerAt}
 use Rattle.model.specs.Laws.Lists.{and-left, and-right}
 use Rattle.flash.specs.Ran.{Programmed, shifted, Within}

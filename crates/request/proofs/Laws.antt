@@ -7,7 +7,7 @@ use native.Mathlib.Omega.{arith}
 use lib.ListN.{length}
 use lib.Dec.{leb, ltb, eqb}
 use borrow.Author.Tests.{leb-true, lt-ltb, not-true, not-false}
-use Rattle.model.specs.Chip.{Image, leastSegments, mostSegments, leastSlots, mostSlots, inRange, imageLength, rightSize}
+use Rattle.model.specs.Chip.{Image, mostSegments, mostSlots, inRange, imageLength, rightSize}
 use Rattle.model.specs.Laws.Lists.{and-left, and-right}
 
 -- an image has at most 255 segments of 256 pages

@@ -7,7 +7,7 @@ use lib.ListN.{length, take, replicate, length-replicate}
 use lib.Dec.{eqb}
 use borrow.Author.Tests.{eq-eqb}
 use Rattle.model.specs.Lists.{same, all, count, chunk}
-use Rattle.model.specs.Chip.{Image, Page, leastSegments, mostSegments, leastSlots, mostSlots, numberLimit, imageLength, inRange, rightSize, pagesOf, bySegment, clear, erased}
+use Rattle.model.specs.Chip.{Image, Page, numberLimit, imageLength, inRange, rightSize, pagesOf, bySegment, clear, erased}
 use Rattle.model.specs.Header.{numberBytes, inverted, value, statusInUse, headerPage, headerStatus, headerNumber, oldIndex, headerInUse, isBlank, allBlank}
 use Rattle.model.specs.Slot.{mostContents, numberOk, slotPage, pageBlock, pageContents, slotFits, slotOf, isEmpty, isTorn, isDead, isWrong, entryOf, holding}
 use Rattle.model.specs.State.{segmentOf, segmentsFrom, segmentsOn, segmentsOf, isInUse, isInvalid, isOwing, numberAfter, slotsIn, nextNumber, topIndex, nextIndex, topSlots, usedCount, firstNumber, slotsFrom, viewOf, entries, entriesIn, someInUse, numbersFrom, consecutive, noneOwing, othersBlank, noneWrongOrTorn, holds, distinct, blocksDistinct, emptyLast, onlyTopEmpty, emptySlotsLast, capacity, withinCapacity, conditions, isClean, nextBlanked, isA, settled, topSettled, isB, withSlot, filled, lastSlot, lastKind, tornMarked, isC, slotFrom, placeFrom, placeOf, blockIn, lastBlock, copies, older, olderMarked, isD, stateOf, view}
@@ -16,7 +16,7 @@ use Rattle.model.specs.Table.{lookup, contentsFound}
 use Rattle.model.specs.Answers.{Request, format, read, recover, Work, firstOf, isDamaged, isUnfinished, lengthOk, isFull, absentRefusals, refusals, stepsFor, workOn, workOf, codeUnder, outcomeOf, ReadOutcome, contentsAt, readOutcome}
 use Rattle.model.specs.Sequences.{Call, play, erasesIn, Observed, observe, observed, among, removed, inserted, storedAfter, replaces, start, tallied, tally, eraseCount}
 use Rattle.model.specs.Pages.{programPage, stepPages, runPages}
-use Rattle.model.specs.Bench.{call, whole, Setup, andThen, formatted, recorded, left, Bench, bench, Example, sizes, begins, answers, reads, counts, cuts, contentsIn, isCleanIn, cutHolds, exampleHolds, failing, upFrom, putEach, examples}
+use Rattle.model.specs.Bench.{call, whole, Setup, andThen, formatted, recorded, left, Bench, bench, Example, sizes, ranges, olds, begins, answers, reads, counts, cuts, contentsIn, isCleanIn, cutHolds, exampleHolds, failing, upFrom, putEach, examples}
 use Rattle.model.specs.Laws.Chunk.{chunk-replicate}
 use Rattle.model.specs.Laws.Chip.{run-length}
 use Rattle.model.specs.Laws.Pages.{pages-run}
@@ -172,6 +172,8 @@ cut-same u r n b bytes (k ∷ ks) =
 example-same : (x : Example) → exampleHolds bench x ≡ exampleHolds benchPages x
 unfolding exampleHolds
 example-same (sizes N B l c) = refl
+example-same (ranges N B t) = refl
+example-same (olds N i old) = refl
 example-same (begins u p bytes) = rw (pages-same u)
 example-same (answers u r code n e) = rw (work-same u r)
 example-same (reads u b code at n) = rw (found-same u b)

@@ -8,7 +8,7 @@ use native.Mathlib.Omega.{arith}
 use lib.ListN.{length, getD, take, length-set, length-append, length-take, length-drop, length-replicate}
 use lib.Dec.{leb, eqb}
 use borrow.Author.Tests.{leb-true, eqb-true}
-use Rattle.model.specs.Chip.{Image, Step, program, erase, clear, erased, withSegment, segmentBytes, step, run, runFirst, Raised, Inside, Cut, leastSegments, mostSegments, leastSlots, mostSlots, imageLength, inRange, rightSize}
+use Rattle.model.specs.Chip.{Image, Step, program, erase, clear, erased, withSegment, segmentBytes, step, run, runFirst, Raised, Inside, Cut, mostSegments, imageLength, inRange, rightSize}
 use Rattle.model.specs.Laws.Lists.{and-left, and-right}
 
 -- ---- lists of steps

@@ -1,10 +1,10 @@
 -- Laws of a header page: its fields are what it encodes, and the other way round; what keeps it from being in use; what its steps leave of an erased page.
 use Prim.Native.Nat.{ℕ, suc, _+_, _-_, _/_, _%_, _≤_, _<_}
 use mathlib.Core.Path.{_≡_, refl, sym, ap, _∙_}
-use mathlib.Core.Bool.{true, false, _&&_}
+use mathlib.Core.Bool.{Bool, true, false, cond, _&&_}
 use mathlib.Core.List.{List, [], _∷_, _++_}
 use native.Mathlib.Omega.{arith}
-use native.Mathlib.Nat.{mod-eq-of-lt, mod-add-mod, add-mod-right}
+use native.Mathlib.Nat.{mod-eq-of-lt, mod-add-mod, mod-lt, add-mod-right}
 use lib.ListN.{getD}
 use lib.Dec.{ltb, eqb}
 use borrow.Author.Tests.{eq-eqb, ne-eqb, eqb-true, lt-ltb, ltb-true}
@@ -45,6 +45,15 @@ header-in-use N B st n hN hs hn =
 -- the old segment of number o, when all but one are in use: its index comes after the target's
 pub old-index : (N o n : ℕ) → suc n ≡ o + N → (n % N + 1) % N ≡ o % N
 old-index N o n e = let q : n + 1 ≡ o + N = omega arith in mod-add-mod n N 1 ∙ (ap (λ (y : ℕ). y % N) q ∙ add-mod-right o N)
+
+-- byte 16 stays free to mean none: it is 255 in an opened segment only, whatever the index
+pub none-opened : (N i st : ℕ) → 0 < N → N ≤ mostSegments → eqb (oldIndex N i st) noOldSegment ≡ eqb st opened
+unfolding oldIndex
+none-opened N i st p h = go (eqb st opened)
+  where
+    go : (t : Bool) → eqb (cond t noOldSegment ((i + 1) % N)) noOldSegment ≡ t
+    go true = refl
+    go false = ne-eqb ((i + 1) % N) noOldSegment (λ e. omega (arith, mod-lt (i + 1) p))
 
 pub record InUseFacts (N B i : ℕ) (h : Page) : Type 0 where
   pub status : statusInUse (headerStatus h) ≡ true

@@ -7,7 +7,7 @@ use native.Mathlib.Omega.{arith}
 use lib.ListN.{length, length-append}
 use lib.Dec.{ltb, leb}
 use borrow.Author.Tests.{lt-ltb, ltb-true, leb-false}
-use Rattle.model.specs.Chip.{Image, numberLimit, mostSegments, run}
+use Rattle.model.specs.Chip.{Image, numberLimit, run}
 use Rattle.model.specs.Slot.{mostContents}
 use Rattle.model.specs.State.{segmentsOf, View, view, clean, state}
 use Rattle.model.specs.Steps.{onPage, slotAt, writeSlot, writeAtTop, markOld, topRow, topNumber, hasRoom, firstEmpty, Room, roomFor, compactions, newNumbers, isWorn, putSteps}

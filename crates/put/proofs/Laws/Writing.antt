@@ -9,7 +9,7 @@ use denote.Enum.Declared.{tagOf}
 use types.Run.{OneOf}
 use lib.Dec.{ltb, leb, eqb}
 use borrow.Author.Tests.{lt-ltb, le-ltb, leb-false}
-use Rattle.model.specs.Chip.{Image, numberLimit, mostSegments}
+use Rattle.model.specs.Chip.{Image, numberLimit}
 use Rattle.model.specs.State.{View, capacity, view}
 use Rattle.model.specs.Steps.{topNumber, newNumbers, isWorn}
 use Rattle.model.specs.Answers.{codeOf, put, isFull}

@@ -1,6 +1,6 @@
 -- `request::in_range`: the tests of the definition, in its order. Assumes nothing.
 use borrow.Author.Tests.{le-leb, lt-leb}
-use Rattle.model.specs.Chip.{leastSegments, mostSegments, leastSlots, mostSlots, inRange}
+use Rattle.model.specs.Chip.{mostSegments, inRange}
 use Rattle.request.proofs.in_range.Statement.{statement}
 use Rattle.request.proofs.in_range.Tie as tie
 

@@ -1,5 +1,4 @@
 -- `segments::count_one` counts a segment as the definition does. Assumes nothing.
-use Prim.Native.Nat.{_≤_}
 use mathlib.Core.Path.{_≡_, sym, _∙_}
 use mathlib.Core.Bool.{_&&_, not}
 use mathlib.Core.Logic.{⊎-elim}
