@@ -1,0 +1,25 @@
+-- `qbx_buffers::small`: the buffer holds the image and a byte more. Assumes nothing.
+use Prim.Native.Nat.{_<_}
+use native.Mathlib.Omega.{arith}
+use Rattle.request.specs.Request.{sizeOf}
+use Rattle.qbx_buffers.specs.Buffers.{roomOf}
+use Rattle.qbx_buffers.proofs.Laws.{as-many, longer}
+use borrow.Author.Needs.{needs}
+use Rattle.qbx_buffers.proofs.small.Statement.{statement}
+use Rattle.qbx_buffers.proofs.small.Tie as tie
+
+slice-aggregate-obey : tie.Need-slice-aggregate-obey
+slice-aggregate-obey c = as-many 1048577 255
+
+obey-requires : tie.Need-obey-requires
+unfolding roomOf
+obey-requires c κs =
+    let k = c .before .before .before in
+    let h : sizeOf (k .args .command .segments) (k .args .command .slots) < 1048577 = omega (arith, k .pre) in
+    longer 1048577 _ 255 h
+
+returns : tie.Need-returns
+returns c = search needs
+
+pub small-spec : {M : Type 1} → statement M
+small-spec = tie.close (tie.spec slice-aggregate-obey obey-requires returns)
