@@ -14,7 +14,7 @@ fn usage(fd: i32) {
     );
     io::write_all(
         fd,
-        b"IMAGE is the file, of N segments (2 to 255) with B slots each (2 to 255).\n\n",
+        b"IMAGE is the file, of N segments (2 to 255) with B slots each (2 to 255).\nOne above 4 MiB needs a stack of 24576 KiB: ./qbx raises the limit where it may.\n\n",
     );
     io::write_all(
         fd,

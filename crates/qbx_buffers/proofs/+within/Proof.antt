@@ -4,7 +4,6 @@ use mathlib.Core.Path.{_≡_, sym, _∙_, subst}
 use mathlib.Core.Bool.{true}
 use native.Mathlib.Omega.{arith}
 use lib.Dec.{leb}
-use borrow.Author.Needs.{needs}
 use borrow.Fn.Kinds.{In}
 use borrow.Fn.PlainCycle.{Measures, is, falls, and}
 use Rattle.request.specs.Request.{sizeOf}
@@ -46,6 +45,22 @@ claims t = (
   large-reads.Learnt,
 )
 
+-- what is asked of the buffers and of what is told stands first: an edit is refused for that
+small-requires : (t : ℕ) → within-lts.Need-small-requires (claims t) (at t) within.Post
+unfolding roomOf
+small-requires t c κs = fits _ _ _ (c .before .before .size-of .ensures .0) (omega (arith, c .if4 .left))
+
+middle-requires : (t : ℕ) → within-lts.Need-middle-requires (claims t) (at t) within.Post
+unfolding roomOf
+middle-requires t c κs = fits _ _ _ (c .before .before .before .size-of .ensures .0) (omega (arith, c .if6 .left))
+
+large-requires : (t : ℕ) → within-lts.Need-large-requires (claims t) (at t) within.Post
+unfolding roomOf
+large-requires t c κs = let k = c .before .before .before .before in fits _ _ _ (k .size-of .ensures .0) (k .size-of .ensures .1)
+
+lack-stack-requires : (t : ℕ) → within-lts.Need-lack-stack-requires (claims t) (at t) within.Post
+lack-stack-requires t c κs = omega (arith, c .if7 .taken)
+
 sub-within : (t : ℕ) → within-lts.Need-sub-within (claims t) (at t) within.Post
 sub-within t c = omega arith
 
@@ -53,7 +68,7 @@ within-requires : (t : ℕ) → within-lts.Need-within-requires (claims t) (at t
 within-requires t c κs = (omega (arith, c .before .before .before .pre .0), tt)
 
 returns : (t : ℕ) → within-lts.Need-returns (claims t) (at t) within.Post
-returns t c = 
+returns t c =
     let k = c .before .before in
     let a = k .before .before .before .args in
     let n : suc (a .last - 1) ≡ a .last = omega (arith, k .if1 .taken) in
@@ -66,10 +81,6 @@ returns-2 : (t : ℕ) → within-lts.Need-returns-2 (claims t) (at t) within.Pos
 unfolding roomOf
 returns-2 t c = holds-not _ _ _ (c .before .before .size-of .ensures .0) 0 (c .before .if3 .taken) (c .if4 .taken)
 
-small-requires : (t : ℕ) → within-lts.Need-small-requires (claims t) (at t) within.Post
-unfolding roomOf
-small-requires t c κs = fits _ _ _ (c .before .before .size-of .ensures .0) (c .if4 .left)
-
 returns-3 : (t : ℕ) → within-lts.Need-returns-3 (claims t) (at t) within.Post
 unfolding roomOf
 returns-3 t c = holds _ _ _ (c .before .before .before .size-of .ensures .0) 0 (c .before .before .if3 .taken) (c .before .if4 .left)
@@ -78,10 +89,6 @@ returns-4 : (t : ℕ) → within-lts.Need-returns-4 (claims t) (at t) within.Pos
 unfolding roomOf
 returns-4 t c = holds-not _ _ _ (c .before .before .before .size-of .ensures .0) 1 (c .before .if5 .taken) (c .if6 .taken)
 
-middle-requires : (t : ℕ) → within-lts.Need-middle-requires (claims t) (at t) within.Post
-unfolding roomOf
-middle-requires t c κs = fits _ _ _ (c .before .before .before .size-of .ensures .0) (c .if6 .left)
-
 returns-5 : (t : ℕ) → within-lts.Need-returns-5 (claims t) (at t) within.Post
 unfolding roomOf
 returns-5 t c = holds _ _ _ (c .before .before .before .before .size-of .ensures .0) 1 (c .before .before .if5 .taken) (c .before .if6 .left)
@@ -89,15 +96,8 @@ returns-5 t c = holds _ _ _ (c .before .before .before .before .size-of .ensures
 allowed-requires : (t : ℕ) → within-lts.Need-allowed-requires (claims t) (at t) within.Post
 allowed-requires t c κs = tt
 
-lack-stack-requires : (t : ℕ) → within-lts.Need-lack-stack-requires (claims t) (at t) within.Post
-lack-stack-requires t c κs = c .if7 .taken
-
 returns-6 : (t : ℕ) → within-lts.Need-returns-6 (claims t) (at t) within.Post
 returns-6 t c = let k = c .before .before .before in holds-any _ _ _ (k .before .before .size-of .ensures .0) (k .before .if3 .left) (k .if5 .left) (k .before .before .size-of .ensures .1)
-
-large-requires : (t : ℕ) → within-lts.Need-large-requires (claims t) (at t) within.Post
-unfolding roomOf
-large-requires t c κs = let k = c .before .before .before .before in fits _ _ _ (k .size-of .ensures .0) (k .size-of .ensures .1)
 
 returns-7 : (t : ℕ) → within-lts.Need-returns-7 (claims t) (at t) within.Post
 returns-7 t c = let k = c .before .before .before in holds-any _ _ _ (k .before .before .size-of .ensures .0) (k .before .if3 .left) (k .if5 .left) (k .before .before .size-of .ensures .1)
