@@ -14,7 +14,7 @@ fn usage(fd: i32) {
     );
     io::write_all(
         fd,
-        b"IMAGE is the file, of N segments (2 to 255) with B slots each (2 to 255).\n\n",
+        b"IMAGE is the file, of N segments (2 to 255) with B slots each (2 to 255).\nOne above 4 MiB needs a stack of 24576 KiB: ./qbx raises the limit where it may.\n\n",
     );
     io::write_all(
         fd,
@@ -45,7 +45,7 @@ fn word(i: usize, buf: &mut [u8; 64]) -> usize
 }
 
 // The contents to put are on standard input. A byte more than fits is read, so that too many are seen.
-fn put(image: &mut [u8], path: &[u8], command: Command) {
+fn put(path: &[u8], command: Command) {
     let mut contents = [0u8; 249];
     let filled = qbx_files::fill(STDIN_FILENO, &mut contents);
     if !filled.whole {
@@ -53,26 +53,19 @@ fn put(image: &mut [u8], path: &[u8], command: Command) {
         return;
     }
     let n = filled.count;
-    qbx_work::obey(
-        image,
-        path,
-        command,
-        &contents[..n],
-        STDOUT_FILENO,
-        STDERR_FILENO,
-    );
+    qbx_buffers::obey(path, command, &contents[..n], STDOUT_FILENO, STDERR_FILENO);
 }
 
-fn obey(image: &mut [u8], path: &[u8], command: Command) {
+fn obey(path: &[u8], command: Command) {
     let verb = command.verb;
     if let Verb::Put = verb {
-        put(image, path, command);
+        put(path, command);
     } else {
-        qbx_work::obey(image, path, command, b"", STDOUT_FILENO, STDERR_FILENO);
+        qbx_buffers::obey(path, command, b"", STDOUT_FILENO, STDERR_FILENO);
     }
 }
 
-fn read_words(image: &mut [u8], path: &[u8]) {
+fn read_words(path: &[u8]) {
     let mut segments = [0u8; 64];
     let a = word(2, &mut segments);
     let mut slots = [0u8; 64];
@@ -94,12 +87,12 @@ fn read_words(image: &mut [u8], path: &[u8]) {
         &third[..f],
     );
     match reading {
-        Reading::Right(command) => obey(image, path, command),
+        Reading::Right(command) => obey(path, command),
         Reading::Wrong(complaint) => qbx_work::complain(complaint, STDERR_FILENO),
     }
 }
 
-fn start(image: &mut [u8]) {
+fn main() {
     let mut path = io::buffer();
     let n = os::arg(1, &mut path);
     if qbx_words::is(&path[..n], b"--help") {
@@ -118,11 +111,5 @@ fn start(image: &mut [u8]) {
         usage(STDERR_FILENO);
         return;
     }
-    read_words(image, &path[..n]);
-}
-
-// The largest image and a byte more, so that a larger file is seen to be one.
-fn main() {
-    let mut image = [255u8; 4194305];
-    start(&mut image);
+    read_words(&path[..n]);
 }

@@ -1,9 +1,9 @@
--- The name beside a path; a buffer of so many bytes; the larger of two counts.
+-- The name beside a path, and the larger of two counts.
 use Prim.Native.Nat.{ℕ, _+_, _<_, _≤_}
 use mathlib.Core.Path.{_≡_, sym, _∙_, ap}
 use mathlib.Core.List.{List, [], _∷_, _++_}
 use native.Mathlib.Omega.{arith}
-use lib.ListN.{length, take, drop, replicate, length-append, length-take, length-replicate}
+use lib.ListN.{length, take, drop, length-append, length-take}
 use lib.Seq.{take-length, take-append-seam, take-append-add}
 use lib.IntN.{ℤ, pos, negsuc}
 use borrow.Author.Tests.{le-leb, lt-leb}
@@ -31,10 +31,6 @@ module _ (path name mid part more rest : List ℕ) (fits : length path + 4 ≤ l
   beside-made =
       let n : length path + 4 ≡ length (take (length path + 4) (take (length path) mid ++ (part ++ rest))) = sym (ap length starts ∙ length-append path ending) in
       ((omega (arith, length-take (length path + 4) (take (length path) mid ++ (part ++ rest))), n), rw (le-leb (length path + 4) (length name) fits) starts)
-
--- so many bytes alike; over any count, so that none is counted out
-pub as-many : (n v : ℕ) → n ≡ length (replicate n v)
-as-many n v = sym (length-replicate n v)
 
 pub larger-count : (z : ℤ) (k : ℕ) → k ≤ largerOf z k
 unfolding largerOf

@@ -6,6 +6,7 @@ pub use say::say_complaint;
 pub use say::say_performed;
 pub use say::say_report;
 pub use say::say_size;
+pub use say::say_stack;
 
 // A line that is being put together.
 pub struct Line {

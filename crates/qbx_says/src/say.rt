@@ -10,11 +10,11 @@ use model::Performed;
 use qbx_words::Complaint;
 ghost use mathlib.Core.Path.{_≡_};
 ghost use mathlib.Core.List.{_++_};
-ghost use Prim.Native.Nat.{_+_, _≤_};
+ghost use Prim.Native.Nat.{_+_, _<_, _≤_};
 ghost use lib.ListN.{length};
 ghost use Rattle.qbx_says.specs.Lines.{said, Added};
 ghost use Rattle.qbx_says.specs.Decimal.{decimal};
-ghost use Rattle.qbx_says.specs.Said.{verdict, reason, stepsWord, answerText, performedText, performedLine, askedText, sizeLine, complaintText, conditionText, slotsText, reportText};
+ghost use Rattle.qbx_says.specs.Said.{verdict, reason, stepsWord, answerText, performedText, performedLine, askedText, sizeLine, complaintText, stackNeeded, stackLine, conditionText, slotsText, reportText};
 
 // ---- answers
 
@@ -136,6 +136,17 @@ pub fn say_complaint(complaint: Complaint) -> Line
         ),
         Complaint::Budget => add(line, b"qbx: STEPS is not a number\n"),
     }
+}
+
+// That the stack is too small for an image of so many bytes: the KiB that it needs, and those that are allowed.
+pub fn say_stack(bytes: u64, allowed: u64) -> Line
+    requires { ⌜ allowed < stackNeeded ⌝ }
+    ensures { λ r. ⌜ (said r ≡ stackLine bytes allowed) × (r .count ≤ 160) ⌝ }
+{
+    let image = add_count(empty(), b"qbx: an image of ", bytes);
+    let needed = b" bytes needs a stack of 24576 KiB (ulimit -s 24576), and ";
+    let counted = add_count(image, needed, allowed);
+    add(counted, b" KiB are allowed\n")
 }
 
 // ---- the state of an image

@@ -25,7 +25,7 @@ fn word(line: &[u8], k: usize) -> &[u8]
 }
 
 // The words of a command, and what stands behind '<'.
-fn obey(image: &mut [u8], line: &[u8], contents: &[u8]) {
+fn obey(line: &[u8], contents: &[u8]) {
     let reading = qbx_words::command_of(
         word(line, 1),
         word(line, 2),
@@ -35,8 +35,7 @@ fn obey(image: &mut [u8], line: &[u8], contents: &[u8]) {
         word(line, 6),
     );
     match reading {
-        Reading::Right(command) => qbx_work::obey(
-            image,
+        Reading::Right(command) => qbx_buffers::obey(
             word(line, 0),
             command,
             contents,
@@ -47,24 +46,24 @@ fn obey(image: &mut [u8], line: &[u8], contents: &[u8]) {
     }
 }
 
-fn step(image: &mut [u8], line: &[u8]) {
+fn step(line: &[u8]) {
     io::write_all(STDOUT_FILENO, b"$ qbx ");
     io::write_all(STDOUT_FILENO, line);
     io::write_all(STDOUT_FILENO, b"\n");
     let end = bytes::scan::find(line, 0, line.len(), b'<');
     if line.len() - end < 2 {
-        obey(image, line, b"");
+        obey(line, b"");
         return;
     }
     let start = end + 2;
-    obey(image, &line[..end], &line[start..]);
+    obey(&line[..end], &line[start..]);
 }
 
-fn play_lines(image: &mut [u8], script: &[u8]) {
+fn play_lines(script: &[u8]) {
     let mut at = 0;
     while at < script.len() {
         let end = bytes::scan::find(script, at, script.len(), b'\n');
-        step(image, &script[at..end]);
+        step(&script[at..end]);
         if end == script.len() {
             return;
         }
@@ -73,15 +72,9 @@ fn play_lines(image: &mut [u8], script: &[u8]) {
 }
 
 // The script is on standard input.
-fn play_on(image: &mut [u8]) {
+pub fn play() {
     let mut script = io::large_buffer();
     let filled = qbx_files::fill(STDIN_FILENO, &mut script);
     let n = filled.count;
-    play_lines(image, &script[..n]);
-}
-
-// The buffer holds the largest image and a byte more, as that of qbx does.
-pub fn play() {
-    let mut image = [255u8; 4194305];
-    play_on(&mut image);
+    play_lines(&script[..n]);
 }

@@ -7,8 +7,10 @@ use qbx_words::Command;
 use qbx_words::Complaint;
 use qbx_words::Verb;
 ghost use mathlib.Core.Path.{_≡_};
-ghost use Prim.Native.Nat.{_≤_};
+ghost use Prim.Native.Nat.{_<_, _≤_};
 ghost use lib.ListN.{length};
+ghost use Rattle.request.specs.Request.{sizeOf};
+ghost use Rattle.qbx_says.specs.Said.{stackNeeded};
 
 // Says a line.
 fn print(fd: i32, line: Line)
@@ -51,6 +53,7 @@ fn unread() -> ImageFile
 
 // Has the image's file in the buffer: the file's own bytes, or a chip from the factory where format finds none.
 fn present(image: &mut [u8], path: &[u8], command: Command) -> ImageFile
+    requires { ⌜ sizeOf (command .segments) (command .slots) < length (now image) ⌝ }
     ensures { λ r. ⌜ r .count ≤ length (now (image .exit)) ⌝ }
 {
     let fd = os::open_read(path);
@@ -73,6 +76,7 @@ fn present(image: &mut [u8], path: &[u8], command: Command) -> ImageFile
 
 // The file could not be opened.
 fn absent(image: &mut [u8], command: Command, error: i32) -> ImageFile
+    requires { ⌜ sizeOf (command .segments) (command .slots) < length (now image) ⌝ }
     ensures { λ r. ⌜ r .count ≤ length (now (image .exit)) ⌝ }
 {
     let verb = command.verb;
@@ -81,9 +85,6 @@ fn absent(image: &mut [u8], command: Command, error: i32) -> ImageFile
     };
     let count = request::size_of(command.segments as usize, command.slots as usize);
     if error != libc::ENOENT {
-        return unread();
-    }
-    if image.len() < count {
         return unread();
     }
     qbx_requests::blank(&mut image[..count]);
@@ -192,9 +193,11 @@ fn act(
     }
 }
 
-// A command on the image's file. What it says goes to the one descriptor, and what is wrong to the other, beside a read's
-// answer: its contents go out alone.
-pub fn obey(image: &mut [u8], path: &[u8], command: Command, contents: &[u8], out: i32, err: i32) {
+// A command on the image's file, in a buffer that holds the image and more, so that a larger file is seen to be one. What it
+// says goes to the one descriptor, and what is wrong to the other, beside a read's answer: its contents go out alone.
+pub fn obey(image: &mut [u8], path: &[u8], command: Command, contents: &[u8], out: i32, err: i32)
+    requires { ⌜ sizeOf (command .segments) (command .slots) < length (now image) ⌝ }
+{
     let file = present(image, path, command);
     if !file.whole {
         fail(err, b"read ", path);
@@ -210,6 +213,14 @@ pub fn obey(image: &mut [u8], path: &[u8], command: Command, contents: &[u8], ou
         out,
         err,
     );
+}
+
+// That a command's image asks for more stack than so many KiB.
+pub fn lack_stack(command: Command, allowed: u64, err: i32)
+    requires { ⌜ allowed < stackNeeded ⌝ }
+{
+    let size = request::size_of(command.segments as usize, command.slots as usize);
+    print(err, qbx_says::say_stack(size as u64, allowed));
 }
 
 // What is wrong with a command's words.

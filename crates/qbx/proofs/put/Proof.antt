@@ -30,9 +30,6 @@ slice-aggregate-obey c = sym (length-take-le _ _ (omega arith))
 obey-requires : tie.Need-obey-requires
 obey-requires c κs = search needs
 
-same-length : tie.Need-same-length
-same-length c = search needs
-
 returns-2 : tie.Need-returns-2
 returns-2 c = search needs
 
@@ -48,5 +45,4 @@ put-spec =
     array-share-prefix-contents
     slice-aggregate-obey
     obey-requires
-    same-length
     returns-2)

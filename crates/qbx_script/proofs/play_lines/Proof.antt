@@ -1,16 +1,15 @@
 -- `qbx_script::play_lines`. The invariant: each line begins within the script. Assumes nothing.
 use Prim.Native.Nat.{_-_, _≤_}
-use mathlib.Core.Path.{_≡_}
 use lib.ListN.{length}
 use borrow.Author.Needs.{needs}
 use Rattle.qbx_script.proofs.play_lines.Statement.{statement}
 use Rattle.qbx_script.proofs.play_lines.Tie as tie
 
 abbrev Inv-loop : tie.InvT-loop
-Inv-loop image₀ script at₀ image at = (at ≤ length script) × (length image ≡ length image₀)
+Inv-loop script at₀ at = at ≤ length script
 
 abbrev μ-loop : tie.MeasureT-loop
-μ-loop image₀ script at₀ image at = length script - at
+μ-loop script at₀ at = length script - at
 
 loop-holds : tie.Need-loop-holds Inv-loop μ-loop
 loop-holds c = search needs
@@ -30,9 +29,6 @@ part-step-end c = search needs
 step-requires : tie.Need-step-requires Inv-loop μ-loop
 step-requires c κs = search needs
 
-same-length : tie.Need-same-length Inv-loop μ-loop
-same-length c = search needs
-
 returns : tie.Need-returns Inv-loop μ-loop
 returns c = search needs
 
@@ -44,9 +40,6 @@ loop-less c = search needs
 
 loop-again : tie.Need-loop-again Inv-loop μ-loop
 loop-again c = search needs
-
-same-length-2 : tie.Need-same-length-2 Inv-loop μ-loop
-same-length-2 c = search needs
 
 returns-2 : tie.Need-returns-2 Inv-loop μ-loop
 returns-2 c = search needs
@@ -63,10 +56,8 @@ play-lines-spec =
     part-step-start
     part-step-end
     step-requires
-    same-length
     returns
     add-at
     loop-less
     loop-again
-    same-length-2
     returns-2)

@@ -33,9 +33,6 @@ slice-aggregate-obey c = search needs
 obey-requires : tie.Need-obey-requires
 obey-requires c κs = search needs
 
-same-length : tie.Need-same-length
-same-length c = search needs
-
 returns : tie.Need-returns
 returns c = search needs
 
@@ -57,9 +54,6 @@ part-obey-end c = search needs
 obey-requires-2 : tie.Need-obey-requires-2
 obey-requires-2 c κs = search needs
 
-same-length-2 : tie.Need-same-length-2
-same-length-2 c = search needs
-
 returns-2 : tie.Need-returns-2
 returns-2 c = search needs
 
@@ -76,7 +70,6 @@ step-spec =
     sub-if1
     slice-aggregate-obey
     obey-requires
-    same-length
     returns
     add-start
     slice-aggregate-obey-2
@@ -84,5 +77,4 @@ step-spec =
     part-obey-start
     part-obey-end
     obey-requires-2
-    same-length-2
     returns-2)

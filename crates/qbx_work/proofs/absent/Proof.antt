@@ -24,12 +24,6 @@ unread-requires-2 c κs = search needs
 returns-2 : tie.Need-returns-2
 returns-2 c = search needs
 
-unread-requires-3 : tie.Need-unread-requires-3
-unread-requires-3 c κs = search needs
-
-returns-3 : tie.Need-returns-3
-returns-3 c = search needs
-
 slice-relend-prefix-blank : tie.Need-slice-relend-prefix-blank
 slice-relend-prefix-blank c = search needs
 
@@ -42,8 +36,8 @@ blank-requires c κs = search needs
 same-length : tie.Need-same-length
 same-length c = search needs
 
-returns-4 : tie.Need-returns-4
-returns-4 c = search needs
+returns-3 : tie.Need-returns-3
+returns-3 c = search needs
 
 pub absent-spec : {M : Type 1} → statement M
 absent-spec =
@@ -55,10 +49,8 @@ absent-spec =
     size-of-requires
     unread-requires-2
     returns-2
-    unread-requires-3
-    returns-3
     slice-relend-prefix-blank
     slice-aggregate-blank
     blank-requires
     same-length
-    returns-4)
+    returns-3)

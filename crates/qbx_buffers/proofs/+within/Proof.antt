@@ -1,0 +1,121 @@
+-- `qbx_buffers::within`. It calls itself at last - 1, so its measure is last. Assumes nothing.
+use Prim.Native.Nat.{ℕ, suc, _-_, _<_}
+use mathlib.Core.Path.{_≡_, sym, _∙_, subst}
+use mathlib.Core.Bool.{true}
+use native.Mathlib.Omega.{arith}
+use lib.Dec.{leb}
+use borrow.Fn.Kinds.{In}
+use borrow.Fn.PlainCycle.{Measures, is, falls, and}
+use Rattle.request.specs.Request.{sizeOf}
+use Rattle.qbx_buffers.specs.Buffers.{roomOf}
+use Rattle.qbx_buffers.proofs.Laws.{grows, fits, holds, holds-not, holds-any}
+use Rattle.qbx_buffers.proofs.within.Reads as within
+use Rattle.qbx_buffers.proofs.within.Kinds as within-kinds
+use Rattle.qbx_buffers.proofs.+within.Lts-within as within-lts
+use Rattle.qbx_buffers.proofs.large.Reads as large-reads
+use Rattle.qbx_buffers.proofs.middle.Reads as middle-reads
+use Rattle.qbx_buffers.proofs.small.Reads as small-reads
+use Rattle.qbx_stack.proofs.allowed.Reads as allowed-reads
+use Rattle.qbx_work.proofs.lack_stack.Reads as lack-stack-reads
+use Rattle.request.proofs.size_of.Reads as size-of-reads
+use Rattle.qbx_buffers.proofs.+within.{statement}
+use Rattle.qbx_buffers.proofs.+within.Tie.{close}
+
+abbrev μ-within : Measures 2 within-kinds.ps ℕ
+μ-within κs a = a .0
+
+abbrev at : ℕ → In 2 within-kinds.ps
+at t = and 2 within-kinds.ps (is 2 within-kinds.ps μ-within t) within.Pre
+
+abbrev claims : ℕ → within-lts.Claims
+claims t = (
+  and 2 within-kinds.ps (falls 2 within-kinds.ps _<_ μ-within t) within.Pre,
+  within.Post,
+  size-of-reads.Asked,
+  size-of-reads.Learnt,
+  small-reads.Asked,
+  small-reads.Learnt,
+  middle-reads.Asked,
+  middle-reads.Learnt,
+  allowed-reads.Asked,
+  allowed-reads.Learnt,
+  lack-stack-reads.Asked,
+  lack-stack-reads.Learnt,
+  large-reads.Asked,
+  large-reads.Learnt,
+)
+
+-- what is asked of the buffers and of what is told stands first: an edit is refused for that
+small-requires : (t : ℕ) → within-lts.Need-small-requires (claims t) (at t) within.Post
+unfolding roomOf
+small-requires t c κs = fits _ _ _ (c .before .before .size-of .ensures .0) (omega (arith, c .if4 .left))
+
+middle-requires : (t : ℕ) → within-lts.Need-middle-requires (claims t) (at t) within.Post
+unfolding roomOf
+middle-requires t c κs = fits _ _ _ (c .before .before .before .size-of .ensures .0) (omega (arith, c .if6 .left))
+
+large-requires : (t : ℕ) → within-lts.Need-large-requires (claims t) (at t) within.Post
+unfolding roomOf
+large-requires t c κs = let k = c .before .before .before .before in fits _ _ _ (k .size-of .ensures .0) (k .size-of .ensures .1)
+
+lack-stack-requires : (t : ℕ) → within-lts.Need-lack-stack-requires (claims t) (at t) within.Post
+lack-stack-requires t c κs = omega (arith, c .if7 .taken)
+
+sub-within : (t : ℕ) → within-lts.Need-sub-within (claims t) (at t) within.Post
+sub-within t c = omega arith
+
+within-requires : (t : ℕ) → within-lts.Need-within-requires (claims t) (at t) within.Post
+within-requires t c κs = (omega (arith, c .before .before .before .pre .0), tt)
+
+returns : (t : ℕ) → within-lts.Need-returns (claims t) (at t) within.Post
+returns t c =
+    let k = c .before .before in
+    let a = k .before .before .before .args in
+    let n : suc (a .last - 1) ≡ a .last = omega (arith, k .if1 .taken) in
+    subst (λ (y : ℕ). true ≡ leb (sizeOf (a .command .segments) (a .command .slots)) (roomOf y)) n (grows (a .last - 1) _ (sym (c .before .within .ensures) ∙ c .if2 .taken))
+
+size-of-requires : (t : ℕ) → within-lts.Need-size-of-requires (claims t) (at t) within.Post
+size-of-requires t c κs = tt
+
+returns-2 : (t : ℕ) → within-lts.Need-returns-2 (claims t) (at t) within.Post
+unfolding roomOf
+returns-2 t c = holds-not _ _ _ (c .before .before .size-of .ensures .0) 0 (c .before .if3 .taken) (c .if4 .taken)
+
+returns-3 : (t : ℕ) → within-lts.Need-returns-3 (claims t) (at t) within.Post
+unfolding roomOf
+returns-3 t c = holds _ _ _ (c .before .before .before .size-of .ensures .0) 0 (c .before .before .if3 .taken) (c .before .if4 .left)
+
+returns-4 : (t : ℕ) → within-lts.Need-returns-4 (claims t) (at t) within.Post
+unfolding roomOf
+returns-4 t c = holds-not _ _ _ (c .before .before .before .size-of .ensures .0) 1 (c .before .if5 .taken) (c .if6 .taken)
+
+returns-5 : (t : ℕ) → within-lts.Need-returns-5 (claims t) (at t) within.Post
+unfolding roomOf
+returns-5 t c = holds _ _ _ (c .before .before .before .before .size-of .ensures .0) 1 (c .before .before .if5 .taken) (c .before .if6 .left)
+
+allowed-requires : (t : ℕ) → within-lts.Need-allowed-requires (claims t) (at t) within.Post
+allowed-requires t c κs = tt
+
+returns-6 : (t : ℕ) → within-lts.Need-returns-6 (claims t) (at t) within.Post
+returns-6 t c = let k = c .before .before .before in holds-any _ _ _ (k .before .before .size-of .ensures .0) (k .before .if3 .left) (k .if5 .left) (k .before .before .size-of .ensures .1)
+
+returns-7 : (t : ℕ) → within-lts.Need-returns-7 (claims t) (at t) within.Post
+returns-7 t c = let k = c .before .before .before in holds-any _ _ _ (k .before .before .size-of .ensures .0) (k .before .if3 .left) (k .if5 .left) (k .before .before .size-of .ensures .1)
+
+pub +within-spec : {M : Type 1} → statement M
++within-spec = close μ-within (λ t. within-lts.spec (claims t) (at t) within.Post
+    (sub-within t)
+    (within-requires t)
+    (returns t)
+    (size-of-requires t)
+    (returns-2 t)
+    (small-requires t)
+    (returns-3 t)
+    (returns-4 t)
+    (middle-requires t)
+    (returns-5 t)
+    (allowed-requires t)
+    (lack-stack-requires t)
+    (returns-6 t)
+    (large-requires t)
+    (returns-7 t))
