@@ -247,12 +247,22 @@ fn empty_record() {
     read(&image, 3, 2, 1);
 }
 
+// Images of just the length that N and B ask for, so that N alone decides.
+fn many_segments() {
+    let mut over = [0u8; 196608];
+    told(b"N=256", store::format(&mut over, 256, 2, ENOUGH));
+    let mut some = [0u8; 49920];
+    told(b"N=65", store::format(&mut some, 65, 2, ENOUGH));
+    let mut most = [0u8; 195840];
+    told(b"N=255", store::format(&mut most, 255, 2, ENOUGH));
+}
+
 fn example_11() {
     text(b"example 11\n");
     let mut image = [0u8; 16384];
     told(b"B=1", store::format(&mut image, 4, 1, ENOUGH));
     told(b"N=1", store::format(&mut image, 1, 15, ENOUGH));
-    told(b"N=65", store::format(&mut image, 65, 15, ENOUGH));
+    many_segments();
     let mut short = [0u8; 16383];
     told(b"a byte too few", store::format(&mut short, 4, 15, ENOUGH));
     told(b"format", store::format(&mut image, 4, 15, ENOUGH));
