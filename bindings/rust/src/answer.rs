@@ -77,7 +77,7 @@ impl fmt::Display for Answer {
             Answer::Done => "done",
             Answer::Size => "geometry or image length out of range",
             Answer::Number => "block number out of range",
-            Answer::Length => "contents too long",
+            Answer::Length => "no contents, or too long",
             Answer::Damaged => "image damaged",
             Answer::Unfinished => "recovery needed first",
             Answer::Absent => "block not stored",
