@@ -271,7 +271,7 @@ module _ (N B : ℕ) (s : Image) (z : rightSize N B s ≡ true) where
   accepted-length (readOr b f) e = omega arith
   accepted-length recover e = omega (arith, recover-length N B (segmentsOf N B s) (stateOf N B (segmentsOf N B s)))
 
--- every request's list has fewer steps than the largest image has bytes
+-- every request's list has at most as many steps as the largest image has bytes
 pub few-steps : (N B : ℕ) (s : Image) (r : Request) → length (workOf N B s r .steps) ≤ largestImage
 few-steps N B s r = go (eqb (workOf N B s r .code) 0) refl
   where

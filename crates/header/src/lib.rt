@@ -115,11 +115,7 @@ fn old_index(segments: usize, index: usize, status: u8) -> u8
     if status == OPENED {
         return NO_OLD_SEGMENT;
     }
-    let next = index + 1;
-    if next == segments {
-        return 0;
-    }
-    next as u8
+    ((index + 1) % segments) as u8
 }
 
 fn status_in_use(status: u8) -> bool

@@ -4,7 +4,7 @@ use mathlib.Core.Path.{_≡_, refl, sym, ap, ap₂, _∙_}
 use mathlib.Core.Bool.{Bool, true, false, cond, _||_, _&&_, not}
 use mathlib.Core.List.{List, [], _∷_, map}
 use lib.ListN.{getD, take, List·getD-map}
-use lib.Dec.{eqb}
+use lib.Dec.{ltb, eqb}
 use Rattle.model.specs.Lists.{all, count}
 use Rattle.model.specs.Header.{erasePending, compacted}
 use Rattle.model.specs.State.{Segment, blank, invalid, inUse, isInUse, isInvalid, isOwing, numberAfter, nextNumber, topIndex, nextIndex, usedCount, firstNumber, someInUse, numbersFrom, consecutive, noneOwing, othersBlank, nextBlanked, settled, topSettled}
@@ -163,6 +163,10 @@ countOne c x = record {
   used = cond (isInUse x) (c .used + 1) (c .used);
   settled = c .settled && (not (isOwing x) && not (isInvalid x));
 }
+
+-- what conditions 1, 3 and 4 ask of the counts: some in use, not all, none owing and all others blank
+unfoldable pub mayBeFine : ℕ → HeaderCounts → Bool
+mayBeFine N c = ltb 0 (c .used) && (ltb (c .used) N && c .settled)
 
 -- the segments in use: the smallest number, how many, and whether conditions 1 to 4 hold
 unfoldable pub frameOf : ℕ → List Segment → Frame

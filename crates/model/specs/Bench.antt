@@ -1,11 +1,11 @@
 -- Document 01, "Bench examples": those marked "Proved", 1 to 8, the lengths of 10 with what request #105 keeps, and the sizes of 11 with what request #108 takes: entries of one table under one statement (Laws.Bench).
 use Prim.Native.Nat.{ℕ, zero, suc, _+_, _*_}
-use mathlib.Core.Bool.{Bool, true, false, cond, _||_, _&&_, not}
+use mathlib.Core.Bool.{Bool, true, cond, _||_, _&&_, not}
 use mathlib.Core.List.{List, [], _∷_, _++_}
 use lib.ListN.{length, getD, take, replicate}
 use lib.Dec.{eqb}
 use Rattle.model.specs.Lists.{same}
-use Rattle.model.specs.Chip.{Image, Page, imageLength, inRange, pagesOf, run}
+use Rattle.model.specs.Chip.{Image, Page, imageLength, pagesOf, run}
 use Rattle.model.specs.Header
 use Rattle.model.specs.Header.{erasePending, oldIndex}
 use Rattle.model.specs.Slot.{Entry}
@@ -68,8 +68,6 @@ bench = record {
 pub data Example : Type 0 where
   -- N, B: the image's length and the capacity
   sizes : ℕ → ℕ → ℕ → ℕ → Example
-  -- whether an image can have so many segments and slots
-  ranges : ℕ → ℕ → Bool → Example
   -- byte 16 in the header of the segment at an index, of N, that a tidying made
   olds : ℕ → ℕ → ℕ → Example
   -- the first bytes of a page
@@ -102,7 +100,6 @@ cutHolds m u r count b bytes (k ∷ ks) =
 
 unfoldable pub exampleHolds : Bench → Example → Bool
 exampleHolds m (sizes N B len cap) = eqb (imageLength N B) len && eqb (capacity N B) cap
-exampleHolds m (ranges N B t) = cond (inRange N B) t (not t)
 exampleHolds m (olds N i old) = eqb (oldIndex N i erasePending) old && eqb (oldIndex N i Header.compacted) old
 exampleHolds m (begins u p bytes) = same (take (length bytes) (getD (m .pages u) p [])) bytes
 exampleHolds m (answers u r code count erases) = let w = m .work u r in
@@ -203,12 +200,12 @@ examples =
     ∷ answers (after 2 2 (call (seven 1) 3 ∷ [])) (put 7 []) 3 0 0
     ∷ answers (after 2 2 (sevens (1 ∷ []))) (put 8 []) 3 0 0
     -- 11: B=1, N=1 and (request #108) N=256 answer 1, 65 and 255 are taken
-    ∷ ranges 4 1 false
-    ∷ ranges 1 15 false
-    ∷ ranges 256 15 false
-    ∷ ranges 65 15 true
-    ∷ ranges 255 255 true
-    -- with 255 segments byte 7 is 255, as erased, and byte 16 names the last index but one, and after the last index the first
+    ∷ answers (after 4 1 []) format 1 0 0
+    ∷ answers (after 1 15 []) format 1 0 0
+    ∷ answers (after 256 2 []) format 1 0 0
+    ∷ answers (after 65 2 []) format 0 82 65
+    ∷ answers (after 255 2 []) format 0 272 255
+    -- of 255 segments byte 7 is 255, as erased; byte 16 names the last index at the last but one, and at the last the first
     ∷ begins (after 255 2 []) 0 (0x53 ∷ 0x4C ∷ 0x54 ∷ 0x01 ∷ 0x00 ∷ 0x3F ∷ 0x02 ∷ 0xFF ∷ 0x00 ∷ 0x00 ∷ 0x00 ∷ 0x00 ∷ 0xFF ∷ 0xFF ∷ 0xFF ∷ 0xFF ∷ 0xFF ∷ [])
     ∷ olds 255 253 254
     ∷ olds 255 254 0

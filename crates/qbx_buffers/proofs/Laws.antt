@@ -1,13 +1,15 @@
 -- A buffer of so many bytes, and what the buffers hold.
 use Prim.Native.Nat.{ℕ, zero, suc, _<_, _≤_}
 use mathlib.Core.Path.{_≡_, refl, sym, subst}
-use mathlib.Core.Bool.{true, false}
+use mathlib.Core.Bool.{Bool, true, false, cond}
 use native.Mathlib.Omega.{arith}
 use lib.ListN.{length, replicate, length-replicate}
 use lib.Dec.{leb}
 use borrow.Author.Tests.{leb-true, le-leb, lt-leb}
-use Rattle.model.specs.Chip.{largestImage}
-use Rattle.qbx_buffers.specs.Buffers.{roomOf}
+use Rattle.model.specs.Chip.{largestImage, inRange, imageLength}
+use Rattle.request.specs.Request.{sizeOf}
+use Rattle.request.proofs.Laws.{in-bounds, most-pages}
+use Rattle.qbx_buffers.specs.Buffers.{roomOf, needOf}
 
 -- so many bytes alike; over any count, so that none is counted out
 pub as-many : (n v : ℕ) → n ≡ length (replicate n v)
@@ -23,21 +25,35 @@ grows zero s h = sym (le-leb s 4194304 (omega (arith, leb-true s 1048576 h)))
 grows (suc zero) s h = sym (le-leb s largestImage (omega (arith, leb-true s 4194304 h)))
 grows (suc (suc k)) s h = sym h
 
-pub fits : (s size n : ℕ) → size ≡ s → size ≤ n → s ≤ n
-fits s size n is h = omega arith
+-- those after the second are the last
+pub last-room : (k : ℕ) → ((k ≡ 0) → ⊥) → ((k ≡ 1) → ⊥) → roomOf k ≡ roomOf 2
+unfolding roomOf
+last-room zero f g = absurd (f refl)
+last-room (suc zero) f g = absurd (g refl)
+last-room (suc (suc k)) f g = refl
 
-module _ (k s size : ℕ) (is : size ≡ s) where
-  pub holds : (m : ℕ) → k ≡ m → size ≤ roomOf m → true ≡ leb s (roomOf k)
-  holds m e h = sym (le-leb s (roomOf k) (rw (e, ← is) h))
+pub last-need : (k : ℕ) → ((k ≡ 0) → ⊥) → ((k ≡ 1) → ⊥) → needOf k ≡ needOf 2
+unfolding needOf
+last-need zero f g = absurd (f refl)
+last-need (suc zero) f g = absurd (g refl)
+last-need (suc (suc k)) f g = refl
 
-  pub holds-not : (m : ℕ) → k ≡ m → roomOf m < size → false ≡ leb s (roomOf k)
-  holds-not m e h = sym (lt-leb s (roomOf k) (rw (e, ← is) h))
+-- whether a buffer holds an image, and its stack is allowed, by what was reckoned
+module _ (k s : ℕ) {size room : ℕ} (is : size ≡ s) (holds : room ≡ roomOf k) where
+  pub held : size ≤ room → true ≡ leb s (roomOf k)
+  held h = sym (le-leb s (roomOf k) (omega arith))
 
-  -- the last one holds every image
-  pub holds-any : ((k ≡ 0) → ⊥) → ((k ≡ 1) → ⊥) → size ≤ largestImage → true ≡ leb s (roomOf k)
-  unfolding roomOf
-  holds-any f g h = sym (le-leb s (roomOf k) (subst (λ (y : ℕ). s ≤ y) (widest k f g) (subst (λ (y : ℕ). y ≤ largestImage) is h))) where
-    widest : (k : ℕ) → ((k ≡ 0) → ⊥) → ((k ≡ 1) → ⊥) → largestImage ≡ roomOf k
-    widest zero f g = absurd (f refl)
-    widest (suc zero) f g = absurd (g refl)
-    widest (suc (suc k)) f g = refl
+  pub not-held : room < size → false ≡ leb s (roomOf k)
+  not-held h = sym (lt-leb s (roomOf k) (omega arith))
+
+  pub taken : (m : ℕ) {needed allowed : ℕ} → size ≤ room → needed ≡ needOf k → needed ≤ allowed → roomOf k ≡ roomOf m → needOf k ≡ needOf m → (s ≤ roomOf m) × (needOf m ≤ allowed)
+  taken m h n a e f = (omega arith, omega arith)
+
+-- the last buffer holds every image
+pub any-held : (N B : ℕ) → leb (sizeOf N B) (roomOf 2) ≡ true
+unfolding sizeOf roomOf
+any-held N B = le-leb (sizeOf N B) largestImage (go (inRange N B) refl)
+  where
+    go : (t : Bool) → inRange N B ≡ t → cond t (imageLength N B) 0 ≤ largestImage
+    go true e = unfold imageLength in (let b = in-bounds N B e in omega (arith, most-pages N B (b .0) (b .1)))
+    go false e = omega arith

@@ -66,14 +66,9 @@ complaintText Block = text "qbx: BLOCK is not a number up to 65535\n"
 complaintText NoOption = text "qbx: only --budget STEPS may follow, and only a verb that writes\n"
 complaintText Budget = text "qbx: STEPS is not a number\n"
 
--- the stack that an image above 4 MiB needs, in KiB
-abbrev pub stackNeeded : ℕ
-stackNeeded = 24576
-
--- as "qbx: an image of 16711680 bytes needs a stack of 24576 KiB (ulimit -s 24576), and 8192 KiB are allowed"
-unfoldable pub stackLine : ℕ → ℕ → List ℕ
-stackLine bytes allowed =
-    (text "qbx: an image of " ++ decimal bytes) ++ (text " bytes needs a stack of " ++ decimal stackNeeded ++ text " KiB (ulimit -s " ++ decimal stackNeeded ++ text "), and " ++ decimal allowed) ++ text " KiB are allowed\n"
+-- as "qbx: an image of 16711680 bytes needs a stack of 24576 KiB, and 8192 KiB are allowed: raise it with ulimit -s"
+unfoldable pub stackLine : ℕ → ℕ → ℕ → List ℕ
+stackLine bytes needed allowed = text "qbx: an image of " ++ decimal bytes ++ (text " bytes needs a stack of " ++ decimal needed) ++ (text " KiB, and " ++ decimal allowed) ++ text " KiB are allowed: raise it with ulimit -s\n"
 
 -- ---- the state of an image
 

@@ -14,7 +14,7 @@ ghost use Prim.Native.Nat.{_+_, _<_, _≤_};
 ghost use lib.ListN.{length};
 ghost use Rattle.qbx_says.specs.Lines.{said, Added};
 ghost use Rattle.qbx_says.specs.Decimal.{decimal};
-ghost use Rattle.qbx_says.specs.Said.{verdict, reason, stepsWord, answerText, performedText, performedLine, askedText, sizeLine, complaintText, stackNeeded, stackLine, conditionText, slotsText, reportText};
+ghost use Rattle.qbx_says.specs.Said.{verdict, reason, stepsWord, answerText, performedText, performedLine, askedText, sizeLine, complaintText, stackLine, conditionText, slotsText, reportText};
 
 // ---- answers
 
@@ -139,14 +139,14 @@ pub fn say_complaint(complaint: Complaint) -> Line
 }
 
 // That the stack is too small for an image of so many bytes: the KiB that it needs, and those that are allowed.
-pub fn say_stack(bytes: u64, allowed: u64) -> Line
-    requires { ⌜ allowed < stackNeeded ⌝ }
-    ensures { λ r. ⌜ (said r ≡ stackLine bytes allowed) × (r .count ≤ 160) ⌝ }
+pub fn say_stack(bytes: u64, needed: u64, allowed: u64) -> Line
+    requires { ⌜ allowed < needed ⌝ }
+    ensures { λ r. ⌜ (said r ≡ stackLine bytes needed allowed) × (r .count ≤ 160) ⌝ }
 {
     let image = add_count(empty(), b"qbx: an image of ", bytes);
-    let needed = b" bytes needs a stack of 24576 KiB (ulimit -s 24576), and ";
-    let counted = add_count(image, needed, allowed);
-    add(counted, b" KiB are allowed\n")
+    let stack = add_count(image, b" bytes needs a stack of ", needed);
+    let counted = add_count(stack, b" KiB, and ", allowed);
+    add(counted, b" KiB are allowed: raise it with ulimit -s\n")
 }
 
 // ---- the state of an image

@@ -35,13 +35,15 @@ fn obey(line: &[u8], contents: &[u8]) {
         word(line, 6),
     );
     match reading {
-        Reading::Right(command) => qbx_buffers::obey(
-            word(line, 0),
-            command,
-            contents,
-            STDOUT_FILENO,
-            STDOUT_FILENO,
-        ),
+        Reading::Right(command) => {
+            qbx_buffers::obey(
+                word(line, 0),
+                command,
+                contents,
+                STDOUT_FILENO,
+                STDOUT_FILENO,
+            );
+        }
         Reading::Wrong(complaint) => qbx_work::complain(complaint, STDOUT_FILENO),
     }
 }

@@ -1,7 +1,7 @@
 // How much stack the process may use.
 
-// The soft limit in bytes, by the system's word, of which nothing is proved. Where there is no limit it is the largest number,
-// and where the system does not tell it 0.
+// The soft limit in bytes. It is the system's word, so nothing is promised of it. By POSIX no limit is the largest number, and a
+// call that fails leaves the 0.
 pub fn allowed() -> u64 {
     let mut limit = libc::types::rlimit {
         rlim_cur: 0,

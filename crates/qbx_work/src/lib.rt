@@ -10,7 +10,6 @@ ghost use mathlib.Core.Path.{_≡_};
 ghost use Prim.Native.Nat.{_<_, _≤_};
 ghost use lib.ListN.{length};
 ghost use Rattle.request.specs.Request.{sizeOf};
-ghost use Rattle.qbx_says.specs.Said.{stackNeeded};
 
 // Says a line.
 fn print(fd: i32, line: Line)
@@ -215,12 +214,12 @@ pub fn obey(image: &mut [u8], path: &[u8], command: Command, contents: &[u8], ou
     );
 }
 
-// That a command's image asks for more stack than so many KiB.
-pub fn lack_stack(command: Command, allowed: u64, err: i32)
-    requires { ⌜ allowed < stackNeeded ⌝ }
+// Says that a command's image needs more KiB of stack than are allowed.
+pub fn lack_stack(command: Command, needed: u64, allowed: u64, err: i32)
+    requires { ⌜ allowed < needed ⌝ }
 {
     let size = request::size_of(command.segments as usize, command.slots as usize);
-    print(err, qbx_says::say_stack(size as u64, allowed));
+    print(err, qbx_says::say_stack(size as u64, needed, allowed));
 }
 
 // What is wrong with a command's words.

@@ -14,11 +14,10 @@ ghost use mathlib.Core.Path.{_≡_};
 ghost use mathlib.Core.Bool.{cond, not, _&&_, _||_};
 ghost use Prim.Native.Nat.{_+_, _-_, _<_, _≤_, max};
 ghost use lib.ListN.{length, getD};
-ghost use lib.Dec.{ltb};
 ghost use Rattle.model.specs.Chip.{mostSegments};
 ghost use Rattle.model.specs.State.{blank, isInUse, isInvalid, isOwing, numberAfter, segmentsOf, settled};
 ghost use Rattle.flash.specs.Pages.{Sized};
-ghost use Rattle.judge.specs.Heads.{bareOf, bare, outline, heads, stateSeen, noCounts, countOne, frameOf, headersBy, headersOf};
+ghost use Rattle.judge.specs.Heads.{bareOf, bare, outline, heads, stateSeen, noCounts, countOne, mayBeFine, frameOf, headersBy, headersOf};
 ghost use Rattle.judge.specs.Tally.{Ranged};
 
 // A segment before its slots are looked at.
@@ -180,7 +179,7 @@ fn count_one(counts: HeaderCounts, s: Summary) -> HeaderCounts
 
 // Whether the frame may be fine by what was counted: some are in use, not all, and none needs mending.
 fn may_be_fine(counts: HeaderCounts, segments: usize) -> bool
-    ensures { λ r. ⌜ r ≡ (ltb 0 (counts .used) && (ltb (counts .used) segments && counts .settled)) ⌝ }
+    ensures { λ r. ⌜ r ≡ mayBeFine segments counts ⌝ }
 {
     if counts.used == 0 {
         return false;
@@ -257,6 +256,7 @@ fn settled(s: Summary) -> Summary
     s
 }
 
+// What the top, the segment after it and the frame tell.
 fn tell(next: usize, top: Summary, after: Summary, frame: Frame) -> Headers
     ensures { λ r. ⌜ r ≡ headersBy next (bare top) (bare after) frame ⌝ }
 {
@@ -288,12 +288,12 @@ pub fn see_headers(image: &[u8], segments: usize, slots: usize) -> Headers
         i += 1;
     }
     let next = counts.next;
-    let top = less(next, 1) % segments;
-    let after = next % segments;
-    let high = table[top];
-    let beyond = table[after];
-    table[top] = settled(high);
-    table[after] = next_mended(beyond, high);
+    let top_index = less(next, 1) % segments;
+    let after_index = next % segments;
+    let top = table[top_index];
+    let after = table[after_index];
+    table[top_index] = settled(top);
+    table[after_index] = next_mended(after, top);
     let frame = see_frame(table, segments);
-    tell(next, high, beyond, frame)
+    tell(next, top, after, frame)
 }

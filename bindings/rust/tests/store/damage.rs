@@ -177,7 +177,7 @@ fn wrong_lengths(store: &Store, rng: &mut Rng, image: &[u8], g: Geometry) {
 /// Geometries that do not belong to the image.
 fn wrong_geometries(store: &Store, rng: &mut Rng, image: &[u8], g: Geometry) {
     let Geometry { n, b } = g;
-    for other in [0, 1, 65, 254, 256, 256 + n] {
+    for other in [0, 1, n - 1, n + 1, 256, 256 + n] {
         try_all(store, rng, image, Geometry { n: other, b });
     }
     for other in [0, 1, 256, 256 + b] {

@@ -3,7 +3,7 @@ use Prim.Native.Nat.{ℕ, zero, suc, _+_, _-_, _*_, _/_, _%_, _≤_, _<_}
 use mathlib.Core.Path.{_≡_, refl, sym, ap, _∙_}
 use mathlib.Core.Bool.{Bool, true, false, _&&_, and-false, and-assoc}
 use mathlib.Core.List.{List, [], _∷_}
-use native.Mathlib.Nat.{add-zero, mod-self, mod-eq-of-lt}
+use native.Mathlib.Nat.{add-zero}
 use native.Mathlib.Numerals.{add-one}
 use native.Mathlib.Omega.{arith}
 use lib.ListN.{length, getD, take, drop, replicate, length-drop, drop-of-length-le}
@@ -84,16 +84,9 @@ pub old-opened : (N i st : ℕ) → st ≡ opened → oldIndex N i st ≡ 255
 unfolding oldIndex
 old-opened N i st e = rw e
 
-old-next : (N i st : ℕ) → (st ≡ opened → ⊥) → oldIndex N i st ≡ (i + 1) % N
+pub old-next : (N i st : ℕ) → (st ≡ opened → ⊥) → oldIndex N i st ≡ (i + 1) % N
 unfolding oldIndex
 old-next N i st n = rw (ne-eqb st opened n)
-
--- after the last index comes the first
-pub old-first : (N i st : ℕ) → (st ≡ opened → ⊥) → i + 1 ≡ N → oldIndex N i st ≡ 0
-old-first N i st n e = old-next N i st n ∙ (ap (λ (k : ℕ). k % N) e ∙ mod-self N)
-
-pub old-after : (N i st : ℕ) → (st ≡ opened → ⊥) → i < N → (i + 1 ≡ N → ⊥) → oldIndex N i st ≡ i + 1
-old-after N i st n h e = old-next N i st n ∙ mod-eq-of-lt (let k : i + 1 < N = omega arith in k)
 
 -- ---- in use
 

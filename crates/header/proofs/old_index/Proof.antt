@@ -1,6 +1,9 @@
 -- `header::old_index` is byte 16 of the definition. Assumes nothing.
+use Prim.Native.Nat.{_+_}
 use mathlib.Core.Path.{sym}
-use Rattle.header.proofs.Laws.Tests.{old-opened, old-first, old-after}
+use native.Mathlib.Omega.{arith}
+use native.Mathlib.Nat.{mod-lt}
+use Rattle.header.proofs.Laws.Tests.{old-opened, old-next}
 use borrow.Author.Needs.{needs}
 use Rattle.header.proofs.old_index.Statement.{statement}
 use Rattle.header.proofs.old_index.Tie as tie
@@ -8,17 +11,17 @@ use Rattle.header.proofs.old_index.Tie as tie
 returns : tie.Need-returns
 returns c = sym (old-opened _ _ _ (c .if1 .taken))
 
-add-next : tie.Need-add-next
-add-next c = search needs
+add-result : tie.Need-add-result
+add-result c = search needs
 
-returns-2 : tie.Need-returns-2
-returns-2 c = sym (old-first _ _ _ (c .before .if1 .left) (c .if2 .taken))
+rem-result : tie.Need-rem-result
+rem-result c = search needs
 
 cast-result : tie.Need-cast-result
-cast-result c = search needs
+cast-result c = record { fits = omega (arith, mod-lt (c .before .args .index + 1) {m = c .before .args .segments} (omega arith)) }
 
-returns-3 : tie.Need-returns-3
-returns-3 c = sym (old-after _ _ _ (c .before .if1 .left) (c .before .before .pre .0) (c .if2 .left))
+returns-2 : tie.Need-returns-2
+returns-2 c = sym (old-next _ _ _ (c .if1 .left))
 
 pub old-index-spec : {M : Type 1} → statement M
-old-index-spec = tie.close (tie.spec returns add-next returns-2 cast-result returns-3)
+old-index-spec = tie.close (tie.spec returns add-result rem-result cast-result returns-2)

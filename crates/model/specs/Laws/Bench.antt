@@ -16,7 +16,7 @@ use Rattle.model.specs.Table.{lookup, contentsFound}
 use Rattle.model.specs.Answers.{Request, format, read, recover, Work, firstOf, isDamaged, isUnfinished, lengthOk, isFull, absentRefusals, refusals, stepsFor, workOn, workOf, codeUnder, outcomeOf, ReadOutcome, contentsAt, readOutcome}
 use Rattle.model.specs.Sequences.{Call, play, erasesIn, Observed, observe, observed, among, removed, inserted, storedAfter, replaces, start, tallied, tally, eraseCount}
 use Rattle.model.specs.Pages.{programPage, stepPages, runPages}
-use Rattle.model.specs.Bench.{call, whole, Setup, andThen, formatted, recorded, left, Bench, bench, Example, sizes, ranges, olds, begins, answers, reads, counts, cuts, contentsIn, isCleanIn, cutHolds, exampleHolds, failing, upFrom, putEach, examples}
+use Rattle.model.specs.Bench.{call, whole, Setup, andThen, formatted, recorded, left, Bench, bench, Example, sizes, olds, begins, answers, reads, counts, cuts, contentsIn, isCleanIn, cutHolds, exampleHolds, failing, upFrom, putEach, examples}
 use Rattle.model.specs.Laws.Chunk.{chunk-replicate}
 use Rattle.model.specs.Laws.Chip.{run-length}
 use Rattle.model.specs.Laws.Pages.{pages-run}
@@ -172,7 +172,6 @@ cut-same u r n b bytes (k ∷ ks) =
 example-same : (x : Example) → exampleHolds bench x ≡ exampleHolds benchPages x
 unfolding exampleHolds
 example-same (sizes N B l c) = refl
-example-same (ranges N B t) = refl
 example-same (olds N i old) = refl
 example-same (begins u p bytes) = rw (pages-same u)
 example-same (answers u r code n e) = rw (work-same u r)

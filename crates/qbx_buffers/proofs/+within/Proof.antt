@@ -1,21 +1,22 @@
 -- `qbx_buffers::within`. It calls itself at last - 1, so its measure is last. Assumes nothing.
 use Prim.Native.Nat.{ℕ, suc, _-_, _<_}
-use mathlib.Core.Path.{_≡_, sym, _∙_, subst}
+use mathlib.Core.Path.{_≡_, sym, ap, _∙_, subst}
 use mathlib.Core.Bool.{true}
 use native.Mathlib.Omega.{arith}
 use lib.Dec.{leb}
 use borrow.Fn.Kinds.{In}
 use borrow.Fn.PlainCycle.{Measures, is, falls, and}
 use Rattle.request.specs.Request.{sizeOf}
-use Rattle.qbx_buffers.specs.Buffers.{roomOf}
-use Rattle.qbx_buffers.proofs.Laws.{grows, fits, holds, holds-not, holds-any}
+use Rattle.qbx_buffers.specs.Buffers.{roomOf, needOf}
+use Rattle.qbx_buffers.proofs.Laws.{grows, last-room, last-need, held, not-held, taken}
 use Rattle.qbx_buffers.proofs.within.Reads as within
 use Rattle.qbx_buffers.proofs.within.Kinds as within-kinds
 use Rattle.qbx_buffers.proofs.+within.Lts-within as within-lts
 use Rattle.qbx_buffers.proofs.large.Reads as large-reads
 use Rattle.qbx_buffers.proofs.middle.Reads as middle-reads
+use Rattle.qbx_buffers.proofs.need_of.Reads as need-of-reads
+use Rattle.qbx_buffers.proofs.room_of.Reads as room-of-reads
 use Rattle.qbx_buffers.proofs.small.Reads as small-reads
-use Rattle.qbx_stack.proofs.allowed.Reads as allowed-reads
 use Rattle.qbx_work.proofs.lack_stack.Reads as lack-stack-reads
 use Rattle.request.proofs.size_of.Reads as size-of-reads
 use Rattle.qbx_buffers.proofs.+within.{statement}
@@ -33,33 +34,32 @@ claims t = (
   within.Post,
   size-of-reads.Asked,
   size-of-reads.Learnt,
+  room-of-reads.Asked,
+  room-of-reads.Learnt,
+  need-of-reads.Asked,
+  need-of-reads.Learnt,
+  lack-stack-reads.Asked,
+  lack-stack-reads.Learnt,
   small-reads.Asked,
   small-reads.Learnt,
   middle-reads.Asked,
   middle-reads.Learnt,
-  allowed-reads.Asked,
-  allowed-reads.Learnt,
-  lack-stack-reads.Asked,
-  lack-stack-reads.Learnt,
   large-reads.Asked,
   large-reads.Learnt,
 )
 
 -- what is asked of the buffers and of what is told stands first: an edit is refused for that
-small-requires : (t : ℕ) → within-lts.Need-small-requires (claims t) (at t) within.Post
-unfolding roomOf
-small-requires t c κs = fits _ _ _ (c .before .before .size-of .ensures .0) (omega (arith, c .if4 .left))
+large-requires : (t : ℕ) → within-lts.Need-large-requires (claims t) (at t) within.Post
+large-requires t c κs = taken (c .before .before .before .before .before .before .before .before .before .before .args .last) _ (c .before .before .before .before .before .before .size-of .ensures .0) (c .before .before .before .before .before .room-of .ensures) 2 (omega (arith, c .before .before .before .before .if3 .left)) (c .before .before .before .need-of .ensures) (omega (arith, c .before .before .if4 .left)) (last-room (c .before .before .before .before .before .before .before .before .before .before .args .last) (c .before .if5 .left) (c .if6 .left)) (last-need (c .before .before .before .before .before .before .before .before .before .before .args .last) (c .before .if5 .left) (c .if6 .left))
 
 middle-requires : (t : ℕ) → within-lts.Need-middle-requires (claims t) (at t) within.Post
-unfolding roomOf
-middle-requires t c κs = fits _ _ _ (c .before .before .before .size-of .ensures .0) (omega (arith, c .if6 .left))
+middle-requires t c κs = taken (c .before .before .before .before .before .before .before .before .before .before .args .last) _ (c .before .before .before .before .before .before .size-of .ensures .0) (c .before .before .before .before .before .room-of .ensures) 1 (omega (arith, c .before .before .before .before .if3 .left)) (c .before .before .before .need-of .ensures) (omega (arith, c .before .before .if4 .left)) (ap roomOf (c .if6 .taken)) (ap needOf (c .if6 .taken))
 
-large-requires : (t : ℕ) → within-lts.Need-large-requires (claims t) (at t) within.Post
-unfolding roomOf
-large-requires t c κs = let k = c .before .before .before .before in fits _ _ _ (k .size-of .ensures .0) (k .size-of .ensures .1)
+small-requires : (t : ℕ) → within-lts.Need-small-requires (claims t) (at t) within.Post
+small-requires t c κs = taken (c .before .before .before .before .before .before .before .before .before .args .last) _ (c .before .before .before .before .before .size-of .ensures .0) (c .before .before .before .before .room-of .ensures) 0 (omega (arith, c .before .before .before .if3 .left)) (c .before .before .need-of .ensures) (omega (arith, c .before .if4 .left)) (ap roomOf (c .if5 .taken)) (ap needOf (c .if5 .taken))
 
 lack-stack-requires : (t : ℕ) → within-lts.Need-lack-stack-requires (claims t) (at t) within.Post
-lack-stack-requires t c κs = omega (arith, c .if7 .taken)
+lack-stack-requires t c κs = omega (arith, c .if4 .taken)
 
 sub-within : (t : ℕ) → within-lts.Need-sub-within (claims t) (at t) within.Post
 sub-within t c = omega arith
@@ -77,30 +77,26 @@ returns t c =
 size-of-requires : (t : ℕ) → within-lts.Need-size-of-requires (claims t) (at t) within.Post
 size-of-requires t c κs = tt
 
+room-of-requires : (t : ℕ) → within-lts.Need-room-of-requires (claims t) (at t) within.Post
+room-of-requires t c κs = tt
+
 returns-2 : (t : ℕ) → within-lts.Need-returns-2 (claims t) (at t) within.Post
-unfolding roomOf
-returns-2 t c = holds-not _ _ _ (c .before .before .size-of .ensures .0) 0 (c .before .if3 .taken) (c .if4 .taken)
+returns-2 t c = not-held (c .before .before .before .before .before .before .args .last) _ (c .before .before .size-of .ensures .0) (c .before .room-of .ensures) (c .if3 .taken)
+
+need-of-requires : (t : ℕ) → within-lts.Need-need-of-requires (claims t) (at t) within.Post
+need-of-requires t c κs = tt
 
 returns-3 : (t : ℕ) → within-lts.Need-returns-3 (claims t) (at t) within.Post
-unfolding roomOf
-returns-3 t c = holds _ _ _ (c .before .before .before .size-of .ensures .0) 0 (c .before .before .if3 .taken) (c .before .if4 .left)
+returns-3 t c = held (c .before .before .before .before .before .before .before .before .before .args .last) _ (c .before .before .before .before .before .size-of .ensures .0) (c .before .before .before .before .room-of .ensures) (omega (arith, c .before .before .before .if3 .left))
 
 returns-4 : (t : ℕ) → within-lts.Need-returns-4 (claims t) (at t) within.Post
-unfolding roomOf
-returns-4 t c = holds-not _ _ _ (c .before .before .before .size-of .ensures .0) 1 (c .before .if5 .taken) (c .if6 .taken)
+returns-4 t c = held (c .before .before .before .before .before .before .before .before .before .before .args .last) _ (c .before .before .before .before .before .before .size-of .ensures .0) (c .before .before .before .before .before .room-of .ensures) (omega (arith, c .before .before .before .before .if3 .left))
 
 returns-5 : (t : ℕ) → within-lts.Need-returns-5 (claims t) (at t) within.Post
-unfolding roomOf
-returns-5 t c = holds _ _ _ (c .before .before .before .before .size-of .ensures .0) 1 (c .before .before .if5 .taken) (c .before .if6 .left)
-
-allowed-requires : (t : ℕ) → within-lts.Need-allowed-requires (claims t) (at t) within.Post
-allowed-requires t c κs = tt
+returns-5 t c = held (c .before .before .before .before .before .before .before .before .before .before .before .args .last) _ (c .before .before .before .before .before .before .before .size-of .ensures .0) (c .before .before .before .before .before .before .room-of .ensures) (omega (arith, c .before .before .before .before .before .if3 .left))
 
 returns-6 : (t : ℕ) → within-lts.Need-returns-6 (claims t) (at t) within.Post
-returns-6 t c = let k = c .before .before .before in holds-any _ _ _ (k .before .before .size-of .ensures .0) (k .before .if3 .left) (k .if5 .left) (k .before .before .size-of .ensures .1)
-
-returns-7 : (t : ℕ) → within-lts.Need-returns-7 (claims t) (at t) within.Post
-returns-7 t c = let k = c .before .before .before in holds-any _ _ _ (k .before .before .size-of .ensures .0) (k .before .if3 .left) (k .if5 .left) (k .before .before .size-of .ensures .1)
+returns-6 t c = held (c .before .before .before .before .before .before .before .before .before .before .before .args .last) _ (c .before .before .before .before .before .before .before .size-of .ensures .0) (c .before .before .before .before .before .before .room-of .ensures) (omega (arith, c .before .before .before .before .before .if3 .left))
 
 pub +within-spec : {M : Type 1} → statement M
 +within-spec = close μ-within (λ t. within-lts.spec (claims t) (at t) within.Post
@@ -108,14 +104,14 @@ pub +within-spec : {M : Type 1} → statement M
     (within-requires t)
     (returns t)
     (size-of-requires t)
+    (room-of-requires t)
     (returns-2 t)
-    (small-requires t)
+    (need-of-requires t)
+    (lack-stack-requires t)
     (returns-3 t)
+    (small-requires t)
     (returns-4 t)
     (middle-requires t)
     (returns-5 t)
-    (allowed-requires t)
-    (lack-stack-requires t)
-    (returns-6 t)
     (large-requires t)
-    (returns-7 t))
+    (returns-6 t))

@@ -1,4 +1,5 @@
 -- `request::in_range`: the tests of the definition, in its order. Assumes nothing.
+use native.Mathlib.Omega.{arith}
 use borrow.Author.Tests.{le-leb, lt-leb}
 use Rattle.model.specs.Chip.{mostSegments, inRange}
 use Rattle.request.proofs.in_range.Statement.{statement}
@@ -10,7 +11,7 @@ returns c = rw (lt-leb 2 _ (c .if1 .taken))
 
 returns-2 : tie.Need-returns-2
 unfolding inRange
-returns-2 c = rw (le-leb 2 _ (c .before .if1 .left), lt-leb _ mostSegments (c .if2 .taken))
+returns-2 c = rw (le-leb 2 _ (c .before .if1 .left), lt-leb (c .before .before .args .segments) mostSegments (omega (arith, c .if2 .taken)))
 
 returns-3 : tie.Need-returns-3
 unfolding inRange

@@ -20,7 +20,7 @@ use Rattle.judge.specs.declared.HeaderCounts.{HeaderCounts}
 use Rattle.judge.specs.declared.Frame.{Frame}
 use Rattle.judge.specs.declared.Headers.{Headers}
 use Rattle.judge.specs.Cases.{frame}
-use Rattle.judge.specs.Heads.{bareOf, bare, outline, heads, allSettled, countsOf, frameOf, headsMended, headersBy, headersOf, outline-headers}
+use Rattle.judge.specs.Heads.{bareOf, bare, outline, heads, allSettled, countsOf, mayBeFine, frameOf, headsMended, headersBy, headersOf, outline-headers}
 use Rattle.segments.proofs.Laws.Tables.{heads-get}
 
 pub counted-next : (l : List Segment) (c : HeaderCounts) → c ≡ countsOf l → c .next ≡ nextNumber l
@@ -54,7 +54,8 @@ module _ (N : ℕ) (l : List Segment) where
     frame-is t h = rw (← first-is, ← used-is, ← h)
 
     -- the test of the counts, and the numbers
-    pub frame-refused : 0 < N → (ltb 0 (c .used) && (ltb (c .used) N && c .settled)) ≡ false → record { first = f; used = c .used; fine = false } ≡ frameOf N l
+    pub frame-refused : 0 < N → mayBeFine N c ≡ false → record { first = f; used = c .used; fine = false } ≡ frameOf N l
+    unfolding mayBeFine
     frame-refused p h = frame-is false (sym (go (ltb 0 (c .used)) (ltb (c .used) N) (c .settled) refl refl refl h))
       where
         go : (a b t : Bool) → ltb 0 (c .used) ≡ a → ltb (c .used) N ≡ b → c .settled ≡ t → (a && (b && t)) ≡ false → frame N l ≡ false
@@ -66,7 +67,8 @@ module _ (N : ℕ) (l : List Segment) where
             frame-inside (omega (arith, used-is)) (omega (arith, used-is)) ∙ rw (sym settled-is ∙ k) (and-false (numbersFrom N l (usedCount l) (firstNumber l)))
         go true true true i j k z = absurd (true≢false z)
 
-    pub frame-tested : (ltb 0 (c .used) && (ltb (c .used) N && c .settled)) ≡ true → (t : Bool) → t ≡ numbersFrom N l (c .used) f → record { first = f; used = c .used; fine = t } ≡ frameOf N l
+    pub frame-tested : mayBeFine N c ≡ true → (t : Bool) → t ≡ numbersFrom N l (c .used) f → record { first = f; used = c .used; fine = t } ≡ frameOf N l
+    unfolding mayBeFine
     frame-tested h t w =
         let a = ltb 0 (c .used) in
         let b = ltb (c .used) N in

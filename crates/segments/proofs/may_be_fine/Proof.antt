@@ -1,16 +1,20 @@
--- `segments::may_be_fine` is the test that it says. Assumes nothing.
+-- `segments::may_be_fine` is the test of the definition. Assumes nothing.
 use native.Mathlib.Omega.{arith}
 use borrow.Author.Tests.{lt-ltb, le-ltb}
+use Rattle.judge.specs.Heads.{mayBeFine}
 use Rattle.segments.proofs.may_be_fine.Statement.{statement}
 use Rattle.segments.proofs.may_be_fine.Tie as tie
 
 returns : tie.Need-returns
+unfolding mayBeFine
 returns c = rw (c .if1 .taken)
 
 returns-2 : tie.Need-returns-2
-returns-2 c = let a = c .before .before .before .before .args in rw (lt-ltb 0 (a .counts .used) (omega (arith, c .before .before .if1 .left)), le-ltb (a .counts .used) (a .segments) (c .if2 .taken))
+unfolding mayBeFine
+returns-2 c = let a = c .before .before .before .before .args in rw (lt-ltb 0 (a .counts .used) (omega (arith, c .before .before .if1 .left)), le-ltb (a .counts .used) (a .segments) (omega (arith, c .if2 .taken)))
 
 returns-3 : tie.Need-returns-3
+unfolding mayBeFine
 returns-3 c = let a = c .before .before .before .before .args in rw (lt-ltb 0 (a .counts .used) (omega (arith, c .before .before .if1 .left)), lt-ltb (a .counts .used) (a .segments) (omega (arith, c .if2 .left)))
 
 pub may-be-fine-spec : {M : Type 1} → statement M

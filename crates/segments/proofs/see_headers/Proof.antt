@@ -71,23 +71,23 @@ loop-again c =
 less-requires : tie.Need-less-requires Inv-loop μ-loop
 less-requires c κs = search needs
 
-rem-top : tie.Need-rem-top Inv-loop μ-loop
-rem-top c = omega (arith, c .before .before .before .before .before .before .pre .1)
+rem-top-index : tie.Need-rem-top-index Inv-loop μ-loop
+rem-top-index c = omega (arith, c .before .before .before .before .before .before .pre .1)
 
-rem-after : tie.Need-rem-after Inv-loop μ-loop
-rem-after c = omega (arith, c .before .before .before .before .before .before .pre .1)
+rem-after-index : tie.Need-rem-after-index Inv-loop μ-loop
+rem-after-index c = omega (arith, c .before .before .before .before .before .before .pre .1)
 
-mul-high : tie.Need-mul-high Inv-loop μ-loop
-mul-high c = let s = c .before .before .before .before .before .before in omega (arith, s .pre .0 .segments, mod-lt (c .less .result) (s .pre .0 .some))
+mul-top : tie.Need-mul-top Inv-loop μ-loop
+mul-top c = let s = c .before .before .before .before .before .before in omega (arith, s .pre .0 .segments, mod-lt (c .less .result) (s .pre .0 .some))
 
-array-copy-out-high : tie.Need-array-copy-out-high Inv-loop μ-loop
-array-copy-out-high c = let s = c .before .before .before .before .before .before in omega (arith, s .pre .0 .segments, mod-lt (c .less .result) (s .pre .0 .some))
+array-copy-out-top : tie.Need-array-copy-out-top Inv-loop μ-loop
+array-copy-out-top c = let s = c .before .before .before .before .before .before in omega (arith, s .pre .0 .segments, mod-lt (c .less .result) (s .pre .0 .some))
 
-mul-beyond : tie.Need-mul-beyond Inv-loop μ-loop
-mul-beyond c = let s = c .before .before .before .before .before .before .before in omega (arith, s .pre .0 .segments, mod-lt (c .before .before .before .loop .counts .next) (s .pre .0 .some))
+mul-after : tie.Need-mul-after Inv-loop μ-loop
+mul-after c = let s = c .before .before .before .before .before .before .before in omega (arith, s .pre .0 .segments, mod-lt (c .before .before .before .loop .counts .next) (s .pre .0 .some))
 
-array-copy-out-beyond : tie.Need-array-copy-out-beyond Inv-loop μ-loop
-array-copy-out-beyond c = let s = c .before .before .before .before .before .before .before in omega (arith, s .pre .0 .segments, mod-lt (c .before .before .before .loop .counts .next) (s .pre .0 .some))
+array-copy-out-after : tie.Need-array-copy-out-after Inv-loop μ-loop
+array-copy-out-after c = let s = c .before .before .before .before .before .before .before in omega (arith, s .pre .0 .segments, mod-lt (c .before .before .before .loop .counts .next) (s .pre .0 .some))
 
 settled-requires : tie.Need-settled-requires Inv-loop μ-loop
 settled-requires c κs = search needs
@@ -146,12 +146,12 @@ see-headers-spec =
     loop-less
     loop-again
     less-requires
-    rem-top
-    rem-after
-    mul-high
-    array-copy-out-high
-    mul-beyond
-    array-copy-out-beyond
+    rem-top-index
+    rem-after-index
+    mul-top
+    array-copy-out-top
+    mul-after
+    array-copy-out-after
     settled-requires
     mul-table-2
     array-set-from-table-2

@@ -1,7 +1,6 @@
--- `qbx_says::say::say_stack`: its parts, one after the other; the number in the text is that of the definition. Assumes nothing.
+-- `qbx_says::say::say_stack`: its parts, one after the other. Assumes nothing.
 use native.Mathlib.Omega.{arith}
 use Rattle.qbx_words.specs.Text.{text}
-use Rattle.qbx_says.specs.Decimal.{decimal, decimalOf}
 use Rattle.qbx_says.specs.Said.{stackLine}
 use Rattle.qbx_says.proofs.Laws.Lines.{more}
 use borrow.Author.Needs.{needs}
@@ -17,8 +16,17 @@ slice-aggregate-add-count c = search needs
 add-count-requires : tie.Need-add-count-requires
 add-count-requires c κs = search needs
 
+slice-aggregate-add-count-2 : tie.Need-slice-aggregate-add-count-2
+slice-aggregate-add-count-2 c = search needs
+
 add-count-requires-2 : tie.Need-add-count-requires-2
 add-count-requires-2 c κs = search needs
+
+slice-aggregate-add-count-3 : tie.Need-slice-aggregate-add-count-3
+slice-aggregate-add-count-3 c = search needs
+
+add-count-requires-3 : tie.Need-add-count-requires-3
+add-count-requires-3 c κs = search needs
 
 slice-aggregate-add : tie.Need-slice-aggregate-add
 slice-aggregate-add c = search needs
@@ -27,10 +35,9 @@ add-requires : tie.Need-add-requires
 add-requires c κs = search needs
 
 returns : tie.Need-returns
-unfolding text decimal decimalOf stackLine
+unfolding text stackLine
 returns c =
-    let k = c .before .before in
-    (more (c .add .ensures) (more (k .add-count2 .ensures .0) (more (k .before .before .before .add-count .ensures .0) (k .before .before .before .before .before .empty .ensures .0))), omega arith)
+    (more (c .add .ensures) (more (c .before .before .add-count3 .ensures .0) (more (c .before .before .before .before .add-count2 .ensures .0) (more (c .before .before .before .before .before .before .add-count .ensures .0) (c .before .before .before .before .before .before .before .before .empty .ensures .0)))), omega arith)
 
 pub say-stack-spec : {M : Type 1} → statement M
 say-stack-spec =
@@ -39,7 +46,10 @@ say-stack-spec =
     empty-requires
     slice-aggregate-add-count
     add-count-requires
+    slice-aggregate-add-count-2
     add-count-requires-2
+    slice-aggregate-add-count-3
+    add-count-requires-3
     slice-aggregate-add
     add-requires
     returns)
