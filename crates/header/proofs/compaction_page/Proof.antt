@@ -11,6 +11,10 @@ cast-index c = search needs
 rem-index : tie.Need-rem-index
 rem-index c = search needs
 
+-- what is found at the index stands before the ranges: an edit of the index is refused for that
+returns : tie.Need-returns
+returns c = search needs
+
 cast-header-page : tie.Need-cast-header-page
 cast-header-page c =
     let a = c .before .args in
@@ -18,9 +22,6 @@ cast-header-page c =
 
 header-page-requires : tie.Need-header-page-requires
 header-page-requires c κs = search needs
-
-returns : tie.Need-returns
-returns c = search needs
 
 pub compaction-page-spec : {M : Type 1} → statement M
 compaction-page-spec =

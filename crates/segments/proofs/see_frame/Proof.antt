@@ -73,6 +73,20 @@ returns c =
 loop2-holds : tie.Need-loop2-holds Inv-loop μ-loop Inv-loop2 μ-loop2
 loop2-holds c = let s = c .before .before .before .before .before .before in (numbers-start (s .args .segments) (s .args .t1) (c .before .before .before .before .loop .counts .used) (c .before .before .less .result), omega arith)
 
+-- what is found at the index stands before the ranges: an edit of the index is refused for that
+returns-2 : tie.Need-returns-2 Inv-loop μ-loop Inv-loop2 μ-loop2
+returns-2 c =
+    let s = c .before .before .before .before .before .before .before .before .before .before .before in
+    let l = c .before .before .before .before .before .before .before .before .before .loop in
+    let z : s .args .segments ≤ length (s .args .t1) = omega (arith, s .good, s .pre .1) in
+    let e = table-end (s .args .segments) (s .args .t1) z (l .i) (l .counts) _ (omega (arith, l .inv .3, c .before .before .before .before .before .before .before .before .loop-test .left)) (l .inv .0) in
+    let a = c .before .before .before .before .before .before .before .less in
+    let j = c .before .before .before .before .loop2 in
+    let m = mod-lt (c .before .before .before .before .before .before .before .less .result + c .before .before .before .before .loop2 .k) (c .before .before .before .before .before .before .before .before .before .before .before .pre .0) in
+    let h : (a .result + j .k) % s .args .segments < length (s .args .t1) = omega arith in
+    let n = sym (j .inv .0) ∙ numbers-stop (s .args .segments) (s .args .t1) (l .counts .used) (a .result) (j .k) _ (c .before .before .before .loop2-test .taken) m h (λ q. c .if2 .taken (c .before .number-after .ensures .0 ∙ q)) in
+    (frame-tested (s .args .segments) (heads (s .args .segments) (s .args .t1)) (l .counts) e (a .result) (a .ensures) (sym (c .before .before .before .before .before .before .may-be-fine .ensures) ∙ not-false _ (c .before .before .before .before .before .if1 .left)) false (sym n), record { whole = omega (arith, c .before .before .before .before .before .before .before .less .ensures, l .inv .1, l .inv .2, l .inv .3, s .pre .1); used = omega (arith, l .inv .1, l .inv .3, s .pre .1) })
+
 add-number : tie.Need-add-number Inv-loop μ-loop Inv-loop2 μ-loop2
 add-number c = omega (arith, c .before .before .before .before .less .ensures, c .before .before .before .before .before .before .loop .inv .1, c .before .before .before .before .before .before .loop .inv .2, c .before .before .before .before .before .before .loop .inv .3, c .before .before .before .before .before .before .before .before .pre .1)
 
@@ -90,19 +104,6 @@ number-after-requires c κs = search needs
 
 add-if2 : tie.Need-add-if2 Inv-loop μ-loop Inv-loop2 μ-loop2
 add-if2 c = omega (arith, c .before .before .before .before .before .before .less .ensures, c .before .before .before .before .before .before .before .before .loop .inv .1, c .before .before .before .before .before .before .before .before .loop .inv .2, c .before .before .before .before .before .before .before .before .loop .inv .3, c .before .before .before .before .before .before .before .before .before .before .pre .1)
-
-returns-2 : tie.Need-returns-2 Inv-loop μ-loop Inv-loop2 μ-loop2
-returns-2 c =
-    let s = c .before .before .before .before .before .before .before .before .before .before .before in
-    let l = c .before .before .before .before .before .before .before .before .before .loop in
-    let z : s .args .segments ≤ length (s .args .t1) = omega (arith, s .good, s .pre .1) in
-    let e = table-end (s .args .segments) (s .args .t1) z (l .i) (l .counts) _ (omega (arith, l .inv .3, c .before .before .before .before .before .before .before .before .loop-test .left)) (l .inv .0) in
-    let a = c .before .before .before .before .before .before .before .less in
-    let j = c .before .before .before .before .loop2 in
-    let m = mod-lt (c .before .before .before .before .before .before .before .less .result + c .before .before .before .before .loop2 .k) (c .before .before .before .before .before .before .before .before .before .before .before .pre .0) in
-    let h : (a .result + j .k) % s .args .segments < length (s .args .t1) = omega arith in
-    let n = sym (j .inv .0) ∙ numbers-stop (s .args .segments) (s .args .t1) (l .counts .used) (a .result) (j .k) _ (c .before .before .before .loop2-test .taken) m h (λ q. c .if2 .taken (c .before .number-after .ensures .0 ∙ q)) in
-    (frame-tested (s .args .segments) (heads (s .args .segments) (s .args .t1)) (l .counts) e (a .result) (a .ensures) (sym (c .before .before .before .before .before .before .may-be-fine .ensures) ∙ not-false _ (c .before .before .before .before .before .if1 .left)) false (sym n), record { whole = omega (arith, c .before .before .before .before .before .before .before .less .ensures, l .inv .1, l .inv .2, l .inv .3, s .pre .1); used = omega (arith, l .inv .1, l .inv .3, s .pre .1) })
 
 add-k : tie.Need-add-k Inv-loop μ-loop Inv-loop2 μ-loop2
 add-k c = omega (arith, c .before .before .before .before .before .before .before .before .before .loop .inv .1, c .before .before .before .before .before .before .before .before .before .loop .inv .3, c .before .before .before .before .before .before .before .before .before .before .before .pre .1)
