@@ -29,18 +29,6 @@ in-use-requires c κs = search needs
 loop-holds : tie.Need-loop-holds Inv-loop μ-loop
 loop-holds c = let s = c .before .before .before in (gather-start (now (s .args .image)) (s .args .segments) (s .args .slots) (s .args .used) (s .args .first) _, omega arith, refl)
 
--- what is found at the index stands before the ranges: an edit of the index is refused for that
-loop-again : tie.Need-loop-again Inv-loop μ-loop
-loop-again c =
-    let s = c .before .before .before .before .before .before .before .before in
-    let l = c .before .before .before .before .loop in
-    let t = c .before .before .before .loop-test .taken in
-    let k : l .i < length (l .ring) = omega (arith, l .inv .2, s .pre) in (
-      gather-turn (now (s .args .image)) (s .args .segments) (s .args .slots) (s .args .used) (s .args .first) (l .i) (l .ring) (l .seen) _ _ (c .in-use2 .result) _ t k (c .in-use2 .ensures) (c .before .scan-row .ensures .0) (l .inv .0),
-      omega arith,
-      simp length-set (l .inv .2),
-    )
-
 add-number : tie.Need-add-number Inv-loop μ-loop
 add-number c = omega (arith, c .before .before .before .before .before .pre)
 
@@ -99,6 +87,17 @@ add-i c = omega (arith, c .before .before .before .before .before .before .befor
 
 loop-less : tie.Need-loop-less Inv-loop μ-loop
 loop-less c = omega arith
+
+loop-again : tie.Need-loop-again Inv-loop μ-loop
+loop-again c =
+    let s = c .before .before .before .before .before .before .before .before in
+    let l = c .before .before .before .before .loop in
+    let t = c .before .before .before .loop-test .taken in
+    let k : l .i < length (l .ring) = omega (arith, l .inv .2, s .pre) in (
+      gather-turn (now (s .args .image)) (s .args .segments) (s .args .slots) (s .args .used) (s .args .first) (l .i) (l .ring) (l .seen) _ _ (c .in-use2 .result) _ t k (c .in-use2 .ensures) (c .before .scan-row .ensures .0) (l .inv .0),
+      omega arith,
+      simp length-set (l .inv .2),
+    )
 
 returns : tie.Need-returns Inv-loop μ-loop
 returns c =
