@@ -178,7 +178,7 @@ outline-frame-of N l = rw (outline-first l, outline-used l, outline-frame N l)
 
 -- ---- all that the headers tell
 
--- (b) or (a) mended, if the headers show it: an owing top settled, or else a torn segment after the top taken for blank
+-- (b) or (a) mended, if the headers show it: an owing top settled and the segment after it taken for blank, or else a torn segment after the top
 unfoldable pub headsMended : ℕ → List Segment → List Segment
 headsMended N l = cond (isOwing (getD l (topIndex N l) blank)) (topSettled N l) (cond (isInvalid (getD l (nextIndex N l) blank)) (nextBlanked N l) l)
 

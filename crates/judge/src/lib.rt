@@ -54,8 +54,8 @@ pub struct Frame {
     pub fine: bool,
 }
 
-// What the headers tell: the number after the top's; whether the top is owing; whether the segment after it is torn, that
-// is, neither in use nor blank, or blank; and the frame once what is unfinished here is mended.
+// What the headers tell: the number after the top's; whether the top is owing; whether the segment after it is torn (neither in
+// use nor blank), and whether it is blank; and the frame once what is unfinished here is mended.
 pub struct Headers {
     pub next: usize,
     pub owing: bool,
