@@ -9,7 +9,7 @@ use borrow.Author.Tests.{leb-true, le-leb, lt-leb}
 use Rattle.model.specs.Chip.{largestImage, inRange, imageLength}
 use Rattle.request.specs.Request.{sizeOf}
 use Rattle.request.proofs.Laws.{in-bounds, most-pages}
-use Rattle.qbx_buffers.specs.Buffers.{roomOf, needOf}
+use Rattle.qbx_buffers.specs.Buffers.{forBuffer, roomOf, needOf}
 
 -- so many bytes alike; over any count, so that none is counted out
 pub as-many : (n v : ℕ) → n ≡ length (replicate n v)
@@ -20,23 +20,16 @@ longer n s v h = subst (λ (y : ℕ). s < y) (as-many n v) h
 
 -- what a buffer holds the next one holds
 pub grows : (k s : ℕ) → leb s (roomOf k) ≡ true → true ≡ leb s (roomOf (suc k))
-unfolding roomOf
+unfolding roomOf forBuffer
 grows zero s h = sym (le-leb s 4194304 (omega (arith, leb-true s 1048576 h)))
 grows (suc zero) s h = sym (le-leb s largestImage (omega (arith, leb-true s 4194304 h)))
 grows (suc (suc k)) s h = sym h
 
--- those after the second are the last
-pub last-room : (k : ℕ) → ((k ≡ 0) → ⊥) → ((k ≡ 1) → ⊥) → roomOf k ≡ roomOf 2
-unfolding roomOf
-last-room zero f g = absurd (f refl)
-last-room (suc zero) f g = absurd (g refl)
-last-room (suc (suc k)) f g = refl
-
-pub last-need : (k : ℕ) → ((k ≡ 0) → ⊥) → ((k ≡ 1) → ⊥) → needOf k ≡ needOf 2
-unfolding needOf
-last-need zero f g = absurd (f refl)
-last-need (suc zero) f g = absurd (g refl)
-last-need (suc (suc k)) f g = refl
+pub last-one : (a b c k : ℕ) → ((k ≡ 0) → ⊥) → ((k ≡ 1) → ⊥) → forBuffer a b c k ≡ c
+unfolding forBuffer
+last-one a b c zero f g = absurd (f refl)
+last-one a b c (suc zero) f g = absurd (g refl)
+last-one a b c (suc (suc k)) f g = refl
 
 -- whether a buffer holds an image, and its stack is allowed, by what was reckoned
 module _ (k s : ℕ) {size room : ℕ} (is : size ≡ s) (holds : room ≡ roomOf k) where
@@ -51,7 +44,7 @@ module _ (k s : ℕ) {size room : ℕ} (is : size ≡ s) (holds : room ≡ roomO
 
 -- the last buffer holds every image
 pub any-held : (N B : ℕ) → leb (sizeOf N B) (roomOf 2) ≡ true
-unfolding sizeOf roomOf
+unfolding sizeOf roomOf forBuffer
 any-held N B = le-leb (sizeOf N B) largestImage (go (inRange N B) refl)
   where
     go : (t : Bool) → inRange N B ≡ t → cond t (imageLength N B) 0 ≤ largestImage

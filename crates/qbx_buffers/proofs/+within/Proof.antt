@@ -7,8 +7,8 @@ use lib.Dec.{leb}
 use borrow.Fn.Kinds.{In}
 use borrow.Fn.PlainCycle.{Measures, is, falls, and}
 use Rattle.request.specs.Request.{sizeOf}
-use Rattle.qbx_buffers.specs.Buffers.{roomOf, needOf}
-use Rattle.qbx_buffers.proofs.Laws.{grows, last-room, last-need, held, not-held, taken}
+use Rattle.qbx_buffers.specs.Buffers.{forBuffer, roomOf, needOf}
+use Rattle.qbx_buffers.proofs.Laws.{grows, last-one, held, not-held, taken}
 use Rattle.qbx_buffers.proofs.within.Reads as within
 use Rattle.qbx_buffers.proofs.within.Kinds as within-kinds
 use Rattle.qbx_buffers.proofs.+within.Lts-within as within-lts
@@ -50,7 +50,8 @@ claims t = (
 
 -- what is asked of the buffers and of what is told stands first: an edit is refused for that
 large-requires : (t : ℕ) → within-lts.Need-large-requires (claims t) (at t) within.Post
-large-requires t c κs = taken (c .before .before .before .before .before .before .before .before .before .before .args .last) _ (c .before .before .before .before .before .before .size-of .ensures .0) (c .before .before .before .before .before .room-of .ensures) 2 (omega (arith, c .before .before .before .before .if3 .left)) (c .before .before .before .need-of .ensures) (omega (arith, c .before .before .if4 .left)) (last-room (c .before .before .before .before .before .before .before .before .before .before .args .last) (c .before .if5 .left) (c .if6 .left)) (last-need (c .before .before .before .before .before .before .before .before .before .before .args .last) (c .before .if5 .left) (c .if6 .left))
+unfolding roomOf needOf forBuffer
+large-requires t c κs = taken (c .before .before .before .before .before .before .before .before .before .before .args .last) _ (c .before .before .before .before .before .before .size-of .ensures .0) (c .before .before .before .before .before .room-of .ensures) 2 (omega (arith, c .before .before .before .before .if3 .left)) (c .before .before .before .need-of .ensures) (omega (arith, c .before .before .if4 .left)) (last-one _ _ _ (c .before .before .before .before .before .before .before .before .before .before .args .last) (c .before .if5 .left) (c .if6 .left)) (last-one _ _ _ (c .before .before .before .before .before .before .before .before .before .before .args .last) (c .before .if5 .left) (c .if6 .left))
 
 middle-requires : (t : ℕ) → within-lts.Need-middle-requires (claims t) (at t) within.Post
 middle-requires t c κs = taken (c .before .before .before .before .before .before .before .before .before .before .args .last) _ (c .before .before .before .before .before .before .size-of .ensures .0) (c .before .before .before .before .before .room-of .ensures) 1 (omega (arith, c .before .before .before .before .if3 .left)) (c .before .before .before .need-of .ensures) (omega (arith, c .before .before .if4 .left)) (ap roomOf (c .if6 .taken)) (ap needOf (c .if6 .taken))

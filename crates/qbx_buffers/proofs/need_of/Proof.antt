@@ -1,21 +1,21 @@
 -- `qbx_buffers::need_of` is the number of the definition. Assumes nothing.
-use mathlib.Core.Path.{sym, ap, _∙_}
-use Rattle.qbx_buffers.specs.Buffers.{needOf}
-use Rattle.qbx_buffers.proofs.Laws.{last-need}
+use mathlib.Core.Path.{sym, ap}
+use Rattle.qbx_buffers.specs.Buffers.{forBuffer, needOf}
+use Rattle.qbx_buffers.proofs.Laws.{last-one}
 use Rattle.qbx_buffers.proofs.need_of.Statement.{statement}
 use Rattle.qbx_buffers.proofs.need_of.Tie as tie
 
 returns : tie.Need-returns
-unfolding needOf
+unfolding needOf forBuffer
 returns c = sym (ap needOf (c .if1 .taken))
 
 returns-2 : tie.Need-returns-2
-unfolding needOf
+unfolding needOf forBuffer
 returns-2 c = sym (ap needOf (c .if2 .taken))
 
 returns-3 : tie.Need-returns-3
-unfolding needOf
-returns-3 c = sym (last-need _ (c .before .if1 .left) (c .if2 .left))
+unfolding needOf forBuffer
+returns-3 c = sym (last-one _ _ _ _ (c .before .if1 .left) (c .if2 .left))
 
 pub need-of-spec : {M : Type 1} → statement M
 need-of-spec = tie.close (tie.spec returns returns-2 returns-3)
