@@ -81,21 +81,22 @@ fn copy_live(
 }
 
 // Compacts an old segment into the one that a number belongs to: the target is begun, the live slots are copied, the
-// target is in use, and only then is the old segment erased.
+// target is in use, with this total of recoveries' erases, and only then is the old segment erased.
 pub fn compact_segment(
     image: &mut [u8],
     segments: usize,
     slots: usize,
+    total: usize,
     old: SegmentNumber,
     number: SegmentNumber,
     budget: u64,
 ) -> Compacted
     requires { ⌜ Sized segments slots (length (now image)) × Apart segments (old .0) (number .0) ⌝ }
-    ensures { λ r. ⌜ Compaction segments slots (old .0) (number .0) budget (r .left) (r .copied) (now (image .entry)) (now (image .exit)) ⌝ }
+    ensures { λ r. ⌜ Compaction segments slots total (old .0) (number .0) budget (r .left) (r .copied) (now (image .entry)) (now (image .exit)) ⌝ }
 {
-    let begun = header::begin_compaction(image, segments, slots, old, number, budget);
+    let begun = header::begin_compaction(image, segments, slots, total, old, number, budget);
     let copy = copy_live(image, segments, slots, old, number, begun);
-    let pending = header::finish_copy(image, segments, slots, old, number, copy.left);
+    let pending = header::finish_copy(image, segments, slots, total, old, number, copy.left);
     let erased = flash::erase_segment(image, index_of(segments, old), slots, pending);
     let left = header::settle(image, segments, slots, number, erased);
     Compacted {

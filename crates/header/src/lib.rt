@@ -4,16 +4,28 @@ ghost use mathlib.Core.Path.{_≡_};
 ghost use Prim.Native.Nat.{_+_, _*_, _%_, _<_, _≤_};
 ghost use lib.ListN.{length};
 ghost use Rattle.model.specs.Lists.{same};
-ghost use Rattle.model.specs.Header.{erasePending, headerPage, headerNumber, headerInUse, oldIndex, statusInUse};
-ghost use Rattle.model.specs.Steps.{headerAt, openSegment, settle};
+ghost use Rattle.model.specs.Header.{erasePending, newVersion, isFormer, clearedIn, clearedBits, headerPage, headerNumber, headerVersion, headerInUse, oldIndex, statusInUse};
+ghost use Rattle.model.specs.Steps.{onPage, headerAt, openSegment, settle, highestBit, countErase};
 ghost use Rattle.flash.specs.Ran.{Programmed};
 ghost use Rattle.flash.specs.Pages.{Sized};
-ghost use Rattle.header.specs.Parts.{headerBegun, headerFinished, headerSeen, beginCompaction, finishCopy};
+ghost use Rattle.header.specs.Parts.{headerTotal, headerFields, tallyFits, bitCleared, zerosBefore, tallySeen, headerIn, headerBegun, headerFinished, headerSeen, beginCompaction, finishCopy};
 
-// A header page: the status and number of a segment in use.
+// A header page: of a segment in use, whether it has version 1, its status and its number.
 pub enum HeaderSeen {
-    InUse { status: u8, number: SegmentNumber },
+    InUse {
+        former: bool,
+        status: u8,
+        number: SegmentNumber,
+    },
     NotInUse,
+}
+
+// What a header tells of recoveries' erases: whether it has version 1, which counts none; how many there are, those
+// carried on from former headers and those since; and whether it has no bit left to count one more.
+pub struct Tally {
+    pub former: bool,
+    pub count: usize,
+    pub used_up: bool,
 }
 
 // Status bytes, by the names of the model's definitions.
@@ -30,15 +42,22 @@ const COMPACTED: u8 = 0x8F;
 // The index of the old segment where there is none.
 const NO_OLD_SEGMENT: u8 = 255;
 
-// The bytes of a header before those that stay erased.
+// The bytes of a header that both versions have; in version 2 the total follows, bytes that stay erased, and the bits.
 const FIELDS: usize = 17;
 
-// Segment numbers stay below this times the count of segments.
-const NUMBERS_EACH: usize = 100000;
+const TOTAL_END: usize = 21;
+
+const BITS: usize = 32;
+
+// The version that counts recoveries' erases.
+const VERSION_2: u8 = 2;
+
+// Totals stay below this, and segment numbers below this times the count of segments.
+const ERASE_LIMIT: usize = 100000;
 
 // ---- taken apart
 
-fn low_byte(x: u32) -> u8
+fn low_byte(x: usize) -> u8
     ensures { λ r. ⌜ r ≡ x % 256 ⌝ }
 {
     (x % 256) as u8
@@ -59,23 +78,39 @@ fn header_number(page: &[u8]) -> SegmentNumber
     SegmentNumber(long(page[8], page[9], page[10], page[11]))
 }
 
-// A header page, made up among erased bytes.
-fn header_page(
+// The total in a header page, in use or not.
+fn header_total(page: &[u8]) -> usize
+    requires { ⌜ length (now page) ≡ 256 ⌝ }
+    ensures { λ r. ⌜ r ≡ headerTotal (now (page .entry)) ⌝ }
+{
+    long(page[17], page[18], page[19], page[20]) as usize
+}
+
+fn is_former(page: &[u8]) -> bool
+    requires { ⌜ length (now page) ≡ 256 ⌝ }
+    ensures { λ r. ⌜ r ≡ isFormer (headerVersion (now (page .entry))) ⌝ }
+{
+    page[3] != VERSION_2
+}
+
+// The fields that both versions have, made up among erased bytes.
+fn header_fields(
     segments: usize,
     slots: usize,
+    former: bool,
     status: u8,
     number: SegmentNumber,
     old: u8,
 ) -> [u8; 256]
     requires { ⌜ (segments ≤ 255) × (slots ≤ 255) ⌝ }
-    ensures { λ r. ⌜ r ≡ headerPage segments slots status (number .0) old ⌝ }
+    ensures { λ r. ⌜ r ≡ headerFields segments slots former status (number .0) old ⌝ }
 {
-    let n = number.0;
+    let n = number.0 as usize;
     let mut page = [255u8; 256];
     page[0] = b'S';
     page[1] = b'L';
     page[2] = b'T';
-    page[3] = 1;
+    page[3] = if former { 1 } else { VERSION_2 };
     page[4] = 0;
     page[5] = status;
     page[6] = slots as u8;
@@ -89,6 +124,26 @@ fn header_page(
     page[14] = 255 - page[10];
     page[15] = 255 - page[11];
     page[16] = old;
+    page
+}
+
+// A new header page, of version 2: this total, and every bit set.
+fn header_page(
+    segments: usize,
+    slots: usize,
+    total: usize,
+    status: u8,
+    number: SegmentNumber,
+    old: u8,
+) -> [u8; 256]
+    requires { ⌜ (segments ≤ 255) × (slots ≤ 255) ⌝ }
+    ensures { λ r. ⌜ r ≡ headerPage segments slots (newVersion total) status (number .0) old ⌝ }
+{
+    let mut page = header_fields(segments, slots, false, status, number, old);
+    page[17] = low_byte(total);
+    page[18] = low_byte(total / 256);
+    page[19] = low_byte(total / 256 / 256);
+    page[20] = low_byte(total / 256 / 256 / 256);
     page
 }
 
@@ -130,6 +185,23 @@ fn status_in_use(status: u8) -> bool
     status == COMPACTED
 }
 
+// Whether what follows the fields that both versions have is as the header's version wants it. What stays erased is left to
+// the blank test, which looks at eight bytes at a time.
+fn tally_fits(page: &[u8]) -> bool
+    requires { ⌜ length (now page) ≡ 256 ⌝ }
+    ensures { λ r. ⌜ r ≡ tallyFits (now (page .entry)) ⌝ }
+{
+    if is_former(page) {
+        let rest = flash::blank_test(&page[FIELDS..]);
+        return rest.blank;
+    }
+    if header_total(page) >= ERASE_LIMIT {
+        return false;
+    }
+    let between = flash::blank_test(&page[TOTAL_END..BITS]);
+    between.blank
+}
+
 // Whether a header is that of a segment in use at an index.
 pub fn header_in_use(page: &[u8], segments: usize, slots: usize, index: usize) -> bool
     requires { ⌜ (length (now page) ≡ 256) × (0 < segments) × (segments ≤ 255) × (slots ≤ 255) ⌝ }
@@ -141,15 +213,16 @@ pub fn header_in_use(page: &[u8], segments: usize, slots: usize, index: usize) -
     }
     let number = header_number(page);
     let n = number.0 as usize;
-    if n >= NUMBERS_EACH * segments {
+    if n >= ERASE_LIMIT * segments {
         return false;
     }
     if n % segments != index {
         return false;
     }
-    let fitting = header_page(
+    let fitting = header_fields(
         segments,
         slots,
+        is_former(page),
         status,
         number,
         old_index(segments, index, status),
@@ -157,23 +230,103 @@ pub fn header_in_use(page: &[u8], segments: usize, slots: usize, index: usize) -
     if !same_bytes(&page[0..FIELDS], &fitting[0..FIELDS]) {
         return false;
     }
-    // What follows stays erased in every header, and the blank test looks at eight bytes at a time.
-    let rest = flash::blank_test(&page[FIELDS..]);
-    rest.blank
+    tally_fits(page)
 }
 
-// The status and the number of a segment in use.
+// What the header of a segment in use says.
 pub fn see_header(page: &[u8], segments: usize, slots: usize, index: usize) -> HeaderSeen
     requires { ⌜ (length (now page) ≡ 256) × (0 < segments) × (segments ≤ 255) × (slots ≤ 255) ⌝ }
     ensures { λ r. ⌜ r ≡ headerSeen segments slots index (now (page .entry)) ⌝ }
 {
     if header_in_use(page, segments, slots, index) {
         return HeaderSeen::InUse {
+            former: is_former(page),
             status: page[5],
             number: header_number(page),
         };
     }
     HeaderSeen::NotInUse
+}
+
+// ---- the tally
+
+// 1 for a bit that is cleared.
+fn bit_cleared(x: u8, value: u8) -> usize
+    requires { ⌜ 0 < value ⌝ }
+    ensures { λ r. ⌜ r ≡ bitCleared x value ⌝ }
+{
+    if x / value % 2 == 0 { 1 } else { 0 }
+}
+
+fn cleared_in(x: u8) -> usize
+    ensures { λ r. ⌜ (r ≡ clearedIn x) × (r ≤ 8) ⌝ }
+{
+    bit_cleared(x, 128)
+        + bit_cleared(x, 64)
+        + bit_cleared(x, 32)
+        + bit_cleared(x, 16)
+        + bit_cleared(x, 8)
+        + bit_cleared(x, 4)
+        + bit_cleared(x, 2)
+        + bit_cleared(x, 1)
+}
+
+fn cleared_bits(bytes: &[u8]) -> usize
+    requires { ⌜ length (now bytes) ≤ 256 ⌝ }
+    ensures { λ r. ⌜ (r ≡ clearedBits (now (bytes .entry))) × (r ≤ 2048) ⌝ }
+{
+    let mut sum: usize = 0;
+    let mut i: usize = 0;
+    while i < bytes.len() {
+        sum += cleared_in(bytes[i]);
+        i += 1;
+    }
+    sum
+}
+
+// How many bytes come before the first that is not 0.
+fn zeros_before(bytes: &[u8]) -> usize
+    ensures { λ r. ⌜ r ≡ zerosBefore (now (bytes .entry)) ⌝ }
+{
+    let mut i: usize = 0;
+    while i < bytes.len() {
+        if bytes[i] != 0 {
+            return i;
+        }
+        i += 1;
+    }
+    i
+}
+
+// The highest set bit of a byte.
+fn highest_bit(x: u8) -> u8
+    ensures { λ r. ⌜ (r ≡ highestBit x) × (r ≤ x) ⌝ }
+{
+    let mut value: u8 = 128;
+    while value > x {
+        value = value / 2;
+    }
+    value
+}
+
+// What a header page tells of recoveries' erases.
+fn see_tally(page: &[u8]) -> Tally
+    requires { ⌜ length (now page) ≡ 256 ⌝ }
+    ensures { λ r. ⌜ r ≡ tallySeen (headerVersion (now (page .entry))) ⌝ }
+{
+    if is_former(page) {
+        return Tally {
+            former: true,
+            count: 0,
+            used_up: false,
+        };
+    }
+    let bits = &page[BITS..];
+    Tally {
+        former: false,
+        count: header_total(page) + cleared_bits(bits),
+        used_up: zeros_before(bits) == bits.len(),
+    }
 }
 
 // ---- made up and programmed
@@ -190,14 +343,15 @@ fn header_place(segments: usize, slots: usize, number: SegmentNumber) -> usize
 fn compaction_page(
     segments: usize,
     slots: usize,
+    total: usize,
     old: SegmentNumber,
     number: SegmentNumber,
 ) -> [u8; 256]
     requires { ⌜ (0 < segments) × (segments ≤ 255) × (slots ≤ 255) ⌝ }
-    ensures { λ r. ⌜ r ≡ headerPage segments slots erasePending (number .0) (old .0 % segments) ⌝ }
+    ensures { λ r. ⌜ r ≡ headerPage segments slots (newVersion total) erasePending (number .0) (old .0 % segments) ⌝ }
 {
     let index = old.0 as usize % segments;
-    header_page(segments, slots, ERASE_PENDING, number, index as u8)
+    header_page(segments, slots, total, ERASE_PENDING, number, index as u8)
 }
 
 // The first steps in a header: a status, then what every segment's header has.
@@ -210,12 +364,13 @@ fn begin_header(header: &mut [u8], made: &[u8], status: u8, budget: u64) -> u64
     flash::program_part(header, made, 6, 2, marked)
 }
 
-// The last steps in a header: the number, then a status.
+// The last steps in a header: the total, the number, then a status.
 fn finish_header(header: &mut [u8], made: &[u8], status: u8, budget: u64) -> u64
     requires { ⌜ (length (now header) ≡ 256) × (length (now made) ≡ 256) ⌝ }
     ensures { λ r. ⌜ Programmed (headerFinished (now (made .entry)) status) budget r (now (header .entry)) (now (header .exit)) ⌝ }
 {
-    let numbered = flash::program_part(header, made, 8, 8, budget);
+    let tallied = flash::program_part(header, made, 17, 4, budget);
+    let numbered = flash::program_part(header, made, 8, 8, tallied);
     flash::program_byte(header, 5, status, numbered)
 }
 
@@ -224,13 +379,14 @@ pub fn open_header(
     image: &mut [u8],
     segments: usize,
     slots: usize,
+    total: usize,
     number: SegmentNumber,
     budget: u64,
 ) -> u64
     requires { ⌜ Sized segments slots (length (now image)) ⌝ }
-    ensures { λ r. ⌜ Programmed (openSegment segments slots (number .0)) budget r (now (image .entry)) (now (image .exit)) ⌝ }
+    ensures { λ r. ⌜ Programmed (openSegment segments slots (newVersion total) (number .0)) budget r (now (image .entry)) (now (image .exit)) ⌝ }
 {
-    let made = header_page(segments, slots, OPENED, number, NO_OLD_SEGMENT);
+    let made = header_page(segments, slots, total, OPENED, number, NO_OLD_SEGMENT);
     let at = header_place(segments, slots, number);
     let end = at + 256;
     let header = &mut image[at..end];
@@ -243,14 +399,15 @@ pub fn begin_compaction(
     image: &mut [u8],
     segments: usize,
     slots: usize,
+    total: usize,
     old: SegmentNumber,
     number: SegmentNumber,
     budget: u64,
 ) -> u64
     requires { ⌜ Sized segments slots (length (now image)) ⌝ }
-    ensures { λ r. ⌜ Programmed (beginCompaction segments slots (old .0) (number .0)) budget r (now (image .entry)) (now (image .exit)) ⌝ }
+    ensures { λ r. ⌜ Programmed (beginCompaction segments slots (newVersion total) (old .0) (number .0)) budget r (now (image .entry)) (now (image .exit)) ⌝ }
 {
-    let made = compaction_page(segments, slots, old, number);
+    let made = compaction_page(segments, slots, total, old, number);
     let at = header_place(segments, slots, number);
     let end = at + 256;
     let header = &mut image[at..end];
@@ -263,14 +420,15 @@ pub fn finish_copy(
     image: &mut [u8],
     segments: usize,
     slots: usize,
+    total: usize,
     old: SegmentNumber,
     number: SegmentNumber,
     budget: u64,
 ) -> u64
     requires { ⌜ Sized segments slots (length (now image)) ⌝ }
-    ensures { λ r. ⌜ Programmed (finishCopy segments slots (old .0) (number .0)) budget r (now (image .entry)) (now (image .exit)) ⌝ }
+    ensures { λ r. ⌜ Programmed (finishCopy segments slots (newVersion total) (old .0) (number .0)) budget r (now (image .entry)) (now (image .exit)) ⌝ }
 {
-    let made = compaction_page(segments, slots, old, number);
+    let made = compaction_page(segments, slots, total, old, number);
     let at = header_place(segments, slots, number);
     let end = at + 256;
     finish_header(&mut image[at..end], &made, ERASE_PENDING, budget)
@@ -289,4 +447,41 @@ pub fn settle(
 {
     let at = header_place(segments, slots, number);
     flash::program_byte(image, at + 5, COMPACTED, budget)
+}
+
+// What the header of the segment that a number belongs to tells of recoveries' erases.
+pub fn tally_in(image: &[u8], segments: usize, slots: usize, number: SegmentNumber) -> Tally
+    requires { ⌜ Sized segments slots (length (now image)) ⌝ }
+    ensures { λ r. ⌜ r ≡ tallySeen (headerVersion (headerIn segments slots (number .0) (now (image .entry)))) ⌝ }
+{
+    let at = header_place(segments, slots, number);
+    let end = at + 256;
+    see_tally(&image[at..end])
+}
+
+// Counts an erase that a recovery is about to make, in the header of the segment that a number belongs to: the highest set bit of
+// the first byte that has one is cleared. A header of version 1 counts none, and one without a bit left no more.
+pub fn count_erase(
+    image: &mut [u8],
+    segments: usize,
+    slots: usize,
+    number: SegmentNumber,
+    budget: u64,
+) -> u64
+    requires { ⌜ Sized segments slots (length (now image)) ⌝ }
+    ensures { λ r. ⌜ Programmed (onPage (headerAt segments slots (number .0)) (countErase (headerVersion (headerIn segments slots (number .0) (now (image .entry)))))) budget r (now (image .entry)) (now (image .exit)) ⌝ }
+{
+    let at = header_place(segments, slots, number);
+    let end = at + 256;
+    let page = &image[at..end];
+    if is_former(page) {
+        return budget;
+    }
+    let bits = &page[BITS..];
+    let k = zeros_before(bits);
+    if k >= bits.len() {
+        return budget;
+    }
+    let x = bits[k];
+    flash::program_byte(image, at + BITS + k, x - highest_bit(x), budget)
 }

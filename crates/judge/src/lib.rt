@@ -37,14 +37,18 @@ pub struct Summary {
     pub number: SegmentNumber,
     pub row: Row,
     pub state: SegmentState,
+    // of version 1
+    pub former: bool,
 }
 
-// The segments of a table counted: the number after the top's, or 0 if none is in use; how many are; and whether none is
-// owing and all others are blank.
+// The segments of a table counted: the number after the top's, or 0 if none is in use; how many are; whether none is
+// owing and all others are blank; and whether all in use have version 1, and whether all have version 2.
 pub struct HeaderCounts {
     pub next: usize,
     pub used: usize,
     pub settled: bool,
+    pub former: bool,
+    pub second: bool,
 }
 
 // The segments in use: the smallest number, how many, and whether conditions 1 to 4 of document 01's Clean hold.

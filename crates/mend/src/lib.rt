@@ -18,6 +18,7 @@ ghost use Rattle.flash.specs.Pages.{Sized};
 ghost use Rattle.scan.specs.Surveys.{surveyOf};
 ghost use Rattle.request.specs.Request.{Carried};
 ghost use Rattle.mend.specs.Marks.{PageAt, MarkedAt};
+ghost use Rattle.mend.specs.Erasing.{counting, erasing};
 
 // Marks a slot dead.
 pub fn mark_slot(image: &mut [u8], place: SlotPlace, budget: u64) -> Performed
@@ -28,26 +29,22 @@ pub fn mark_slot(image: &mut [u8], place: SlotPlace, budget: u64) -> Performed
     request::finished(budget, left, budget, 1)
 }
 
-// Erases the segment after the top, unless it is blank.
-fn erase_next(
+// Erases the segment after the top.
+fn erase_after(
     image: &mut [u8],
     segments: usize,
     slots: usize,
     top: SegmentNumber,
-    blank: bool,
     budget: u64,
 ) -> u64
     requires { ⌜ Sized segments slots (length (now image)) ⌝ }
-    ensures { λ r. ⌜ Ran (cond blank [] (erase ((top .0 + 1) % segments) ∷ [])) slots budget r (now (image .entry)) (now (image .exit)) ⌝ }
+    ensures { λ r. ⌜ Ran (erase ((top .0 + 1) % segments) ∷ []) slots budget r (now (image .entry)) (now (image .exit)) ⌝ }
 {
-    if blank {
-        return budget;
-    }
     let index = (top.0 as usize + 1) % segments;
     flash::erase_segment(image, index, slots, budget)
 }
 
-// Erases the segment after the top.
+// Erases the segment after the top, which is counted in the top's header before.
 fn erase_torn(
     image: &mut [u8],
     segments: usize,
@@ -56,10 +53,30 @@ fn erase_torn(
     budget: u64,
 ) -> Performed
     requires { ⌜ Sized segments slots (length (now image)) ⌝ }
-    ensures { λ r. ⌜ Carried [] (erase ((top .0 + 1) % segments) ∷ []) slots budget r (now (image .entry)) (now (image .exit)) ⌝ }
+    ensures { λ r. ⌜ Carried (counting segments slots (top .0) (now (image .entry))) (erase ((top .0 + 1) % segments) ∷ []) slots budget r (now (image .entry)) (now (image .exit)) ⌝ }
 {
-    let left = erase_next(image, segments, slots, top, false, budget);
-    request::finished(budget, left, budget, 1)
+    let counted = header::count_erase(image, segments, slots, top, budget);
+    let left = erase_after(image, segments, slots, top, counted);
+    request::finished(budget, left, counted, 1)
+}
+
+// The same, unless it is blank.
+fn erase_old(
+    image: &mut [u8],
+    segments: usize,
+    slots: usize,
+    top: SegmentNumber,
+    blank: bool,
+    budget: u64,
+) -> u64
+    requires { ⌜ Sized segments slots (length (now image)) ⌝ }
+    ensures { λ r. ⌜ Ran (cond blank [] (erasing segments slots (top .0) (now (image .entry)))) slots budget r (now (image .entry)) (now (image .exit)) ⌝ }
+{
+    if blank {
+        return budget;
+    }
+    let counted = header::count_erase(image, segments, slots, top, budget);
+    erase_after(image, segments, slots, top, counted)
 }
 
 // Erases the segment after the top, unless it is blank, and then settles the top's status.
@@ -72,9 +89,9 @@ fn erase_pending(
     budget: u64,
 ) -> Performed
     requires { ⌜ Sized segments slots (length (now image)) ⌝ }
-    ensures { λ r. ⌜ Carried (cond blank [] (erase ((top .0 + 1) % segments) ∷ [])) (settle segments slots (top .0)) slots budget r (now (image .entry)) (now (image .exit)) ⌝ }
+    ensures { λ r. ⌜ Carried (cond blank [] (erasing segments slots (top .0) (now (image .entry)))) (settle segments slots (top .0)) slots budget r (now (image .entry)) (now (image .exit)) ⌝ }
 {
-    let erased = erase_next(image, segments, slots, top, blank, budget);
+    let erased = erase_old(image, segments, slots, top, blank, budget);
     let left = header::settle(image, segments, slots, top, erased);
     request::finished(budget, left, erased, 1)
 }

@@ -5,6 +5,7 @@ use mathlib.Core.List.{List, [], _∷_}
 use lib.ListN.{length, take, drop}
 use lib.Dec.{ltb, leb, eqb}
 use Rattle.model.specs.Chip.{Image, Step, rightSize, run}
+use Rattle.model.specs.Header.{isFormer}
 use Rattle.model.specs.Slot.{mostContents, numberOk}
 use Rattle.model.specs.State.{Segment, segmentsOf, View, viewOf, entriesIn, holds, capacity, Place, placeOf, State, clean, unfinished, damaged, stateOf, view}
 use Rattle.model.specs.Steps.{slotAt, putSteps, deleteSteps, formatSteps, recoverSteps, isWorn}
@@ -12,7 +13,7 @@ use Rattle.model.specs.Table.{lookup, contentsFound}
 use Rattle.model.specs.declared.Answer.{Answer}
 use Rattle.model.specs.declared.Performed.{Performed}
 use Rattle.model.specs.declared.Located.{Located}
-use Rattle.model.specs.declared.Answer.the-variants.{Done, Size, Number, Length, Damaged, Unfinished, Absent, Full, Worn, Cut}
+use Rattle.model.specs.declared.Answer.the-variants.{Done, Size, Number, Length, Damaged, Unfinished, Absent, Full, Worn, Cut, FormerVersion}
 
 -- the paper's number of an answer
 unfoldable pub codeOf : Answer → ℕ
@@ -26,6 +27,7 @@ codeOf Absent = 6
 codeOf Full = 7
 codeOf Worn = 8
 codeOf Cut = 9
+codeOf FormerVersion = 11
 
 pub data Request : Type 0 where
   format : Request
@@ -46,7 +48,7 @@ infix 5 _when_
 abbrev pub _when_ : ℕ → Bool → Refusal
 n when t = record { number = n; applies = t }
 
--- the smallest number that applies, or 0
+-- the number of the first that applies, or 0
 unfoldable pub firstOf : List Refusal → ℕ
 firstOf [] = 0
 firstOf (x ∷ r) = cond (x .applies) (x .number) (firstOf r)
@@ -88,6 +90,7 @@ refusals N B sized l (put b c) = let st = stateOf N B l in let v = viewOf N l in
     ∷ (3 when not (lengthOk (length c)))
     ∷ (4 when isDamaged st)
     ∷ (5 when isUnfinished st)
+    ∷ (11 when isFormer (v .version))
     ∷ (7 when isFull N B b v)
     ∷ (8 when isWorn N v)
     ∷ []
@@ -110,7 +113,7 @@ pub record Work : Type 0 where
   pub code : ℕ
   pub steps : List Step
 
--- codes 1 to 8 take no step
+-- codes but 0 take no step
 unfoldable pub workOn : ℕ → ℕ → Bool → List Segment → Request → Work
 workOn N B sized l r =
     let code = firstOf (refusals N B sized l r) in

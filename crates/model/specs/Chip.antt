@@ -39,9 +39,13 @@ mostSlots = 255
 abbrev pub largestImage : ℕ
 largestImage = mostSegments * (mostSlots + 1) * 256
 
+-- the erases of one segment that a chip is good for
+abbrev pub eraseLimit : ℕ
+eraseLimit = 100000
+
 -- segment numbers stay below this
 unfoldable pub numberLimit : ℕ → ℕ
-numberLimit N = 100000 * N
+numberLimit N = eraseLimit * N
 
 unfoldable pub imageLength : ℕ → ℕ → ℕ
 imageLength N B = N * (B + 1) * 256

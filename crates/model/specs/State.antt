@@ -6,20 +6,20 @@ use lib.ListN.{length, getD, drop, set}
 use lib.Dec.{ltb, leb, eqb}
 use Rattle.model.specs.Lists.{all, count}
 use Rattle.model.specs.Chip.{Image, Page, pagesOf, bySegment}
-use Rattle.model.specs.Header.{erasePending, compacted, headerStatus, headerNumber, headerInUse, allBlank}
+use Rattle.model.specs.Header.{erasePending, compacted, Version, version1, versionNumber, headerVersion, headerStatus, headerNumber, headerInUse, allBlank}
 use Rattle.model.specs.Slot.{Slot, empty, dead, slotOf, isEmpty, isTorn, isWrong, Entry, entryOf}
 
 -- ---- segments
 
--- blank; in use, with its status, number and slots; or neither
+-- blank; in use, with its version, status, number and slots; or neither
 pub data Segment : Type 0 where
   blank invalid : Segment
-  inUse : ℕ → ℕ → List Slot → Segment
+  inUse : Version → ℕ → ℕ → List Slot → Segment
 
 -- the segment at index i, of its pages
 unfoldable pub segmentOf : ℕ → ℕ → ℕ → List Page → Segment
 segmentOf N B i ps = let h = getD ps 0 [] in
-    cond (headerInUse N B i h) (inUse (headerStatus h) (headerNumber h) (map slotOf (drop 1 ps)))
+    cond (headerInUse N B i h) (inUse (headerVersion h) (headerStatus h) (headerNumber h) (map slotOf (drop 1 ps)))
     (cond (allBlank ps) blank invalid)
 
 unfoldable pub segmentsFrom : ℕ → ℕ → ℕ → List (List Page) → List Segment
@@ -36,28 +36,40 @@ segmentsOf N B s = segmentsOn N B (pagesOf N B s)
 unfoldable pub isInUse : Segment → Bool
 isInUse blank = false
 isInUse invalid = false
-isInUse (inUse st n ks) = true
+isInUse (inUse e st n ks) = true
 
 unfoldable pub isInvalid : Segment → Bool
 isInvalid blank = false
 isInvalid invalid = true
-isInvalid (inUse st n ks) = false
+isInvalid (inUse e st n ks) = false
 
 unfoldable pub isOwing : Segment → Bool
 isOwing blank = false
 isOwing invalid = false
-isOwing (inUse st n ks) = eqb st erasePending
+isOwing (inUse e st n ks) = eqb st erasePending
 
 -- one more than its number, or 0 if not in use
 unfoldable pub numberAfter : Segment → ℕ
 numberAfter blank = 0
 numberAfter invalid = 0
-numberAfter (inUse st n ks) = suc n
+numberAfter (inUse e st n ks) = suc n
 
 unfoldable pub slotsIn : Segment → List Slot
 slotsIn blank = []
 slotsIn invalid = []
-slotsIn (inUse st n ks) = ks
+slotsIn (inUse e st n ks) = ks
+
+-- its version; one that is not in use has none
+unfoldable pub versionIn : Segment → Version
+versionIn blank = version1
+versionIn invalid = version1
+versionIn (inUse e st n ks) = e
+
+-- not in use, or of this version
+unfoldable pub ofVersion : ℕ → Segment → Bool
+ofVersion k blank = true
+ofVersion k invalid = true
+ofVersion k (inUse e st n ks) = eqb (versionNumber e) k
 
 -- ---- the top: the one in use with the largest number
 
@@ -76,6 +88,9 @@ nextIndex N l = nextNumber l % N
 unfoldable pub topSlots : ℕ → List Segment → List Slot
 topSlots N l = slotsIn (getD l (topIndex N l) blank)
 
+unfoldable pub topVersion : ℕ → List Segment → Version
+topVersion N l = versionIn (getD l (topIndex N l) blank)
+
 -- ---- the segments in use, oldest first
 
 unfoldable pub usedCount : List Segment → ℕ
@@ -90,13 +105,14 @@ unfoldable pub slotsFrom : ℕ → List Segment → ℕ → ℕ → List (List S
 slotsFrom N l zero n = []
 slotsFrom N l (suc u) n = slotsIn (getD l (n % N) blank) ∷ slotsFrom N l u (suc n)
 
--- what the segments in use hold: the smallest number, and their slots, oldest first, so that the top's come last
+-- what the segments in use hold: the smallest number; their slots, oldest first, so that the top's come last; and the top's version, with the image's tally
 pub record View : Type 0 where
   pub first : ℕ
   pub slots : List (List Slot)
+  pub version : Version
 
 unfoldable pub viewOf : ℕ → List Segment → View
-viewOf N l = record { first = firstNumber l; slots = slotsFrom N l (usedCount l) (firstNumber l) }
+viewOf N l = record { first = firstNumber l; slots = slotsFrom N l (usedCount l) (firstNumber l); version = topVersion N l }
 
 -- what their live slots hold
 unfoldable pub entries : List Slot → List Entry
@@ -111,13 +127,16 @@ entriesIn v = entries (flatten (v .slots))
 unfoldable pub someInUse : ℕ → List Segment → Bool
 someInUse N l = leb 1 (usedCount l) && leb (usedCount l) (N - 1)
 
--- 2. their numbers consecutive: u numbers from n are each in use
+-- 2. their numbers consecutive: u numbers from n are each in use; and (request #104) one version
 unfoldable pub numbersFrom : ℕ → List Segment → ℕ → ℕ → Bool
 numbersFrom N l zero n = true
 numbersFrom N l (suc u) n = eqb (numberAfter (getD l (n % N) blank)) (suc n) && numbersFrom N l u (suc n)
 
 unfoldable pub consecutive : ℕ → List Segment → Bool
 consecutive N l = numbersFrom N l (usedCount l) (firstNumber l)
+
+unfoldable pub oneVersion : List Segment → Bool
+oneVersion l = all (λ x. ofVersion 1 x) l || all (λ x. ofVersion 2 x) l
 
 -- 3. none owing
 unfoldable pub noneOwing : List Segment → Bool
@@ -166,7 +185,7 @@ withinCapacity N B v = leb (length (entriesIn v)) (capacity N B)
 -- conditions 5 to 8 look at the slots of the segments in use only
 unfoldable pub conditions : ℕ → ℕ → List Segment → List Bool
 conditions N B l = let v = viewOf N l in
-    someInUse N l ∷ consecutive N l ∷ noneOwing l ∷ othersBlank l
+    someInUse N l ∷ (consecutive N l && oneVersion l) ∷ noneOwing l ∷ othersBlank l
     ∷ noneWrongOrTorn v ∷ blocksDistinct v ∷ emptySlotsLast v ∷ withinCapacity N B v ∷ []
 
 unfoldable pub isClean : ℕ → ℕ → List Segment → Bool
@@ -185,7 +204,7 @@ isA N B l = isInvalid (getD l (nextIndex N l) blank) && isClean N B (nextBlanked
 unfoldable pub settled : Segment → Segment
 settled blank = blank
 settled invalid = invalid
-settled (inUse st n ks) = inUse compacted n ks
+settled (inUse e st n ks) = inUse e compacted n ks
 
 unfoldable pub topSettled : ℕ → List Segment → List Segment
 topSettled N l = set (nextBlanked N l) (topIndex N l) (settled (getD l (topIndex N l) blank))
@@ -197,7 +216,7 @@ isB N B l = isOwing (getD l (topIndex N l) blank) && (eqb (usedCount (topSettled
 unfoldable pub withSlot : ℕ → Slot → Segment → Segment
 withSlot j k blank = blank
 withSlot j k invalid = invalid
-withSlot j k (inUse st n ks) = inUse st n (set ks j k)
+withSlot j k (inUse e st n ks) = inUse e st n (set ks j k)
 
 -- how many slots there are up to the last that is not empty, and that slot's place
 unfoldable pub filled : List Slot → ℕ

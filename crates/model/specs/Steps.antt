@@ -1,14 +1,14 @@
 -- Document 01, "The step lists". The order of steps is fixed, and one byte is one step even if it changes nothing.
-use Prim.Native.Nat.{ℕ, zero, suc, _+_, _-_, _*_, _%_}
+use Prim.Native.Nat.{ℕ, zero, suc, _+_, _-_, _*_, _/_, _%_}
 use mathlib.Core.Bool.{Bool, cond, _||_, _&&_, not}
 use mathlib.Core.List.{List, [], _∷_, _++_, map}
 use lib.ListN.{length, getD, take, drop, replicate}
-use lib.Dec.{ltb, leb}
+use lib.Dec.{ltb, leb, eqb}
 use Rattle.model.specs.Lists.{all}
-use Rattle.model.specs.Chip.{Page, Step, program, erase, numberLimit}
-use Rattle.model.specs.Header.{openingBegun, opened, compactionBegun, erasePending, compacted, noOldSegment, headerPage}
+use Rattle.model.specs.Chip.{Page, Step, program, erase, eraseLimit}
+use Rattle.model.specs.Header.{openingBegun, opened, compactionBegun, erasePending, compacted, Version, version1, version2, newVersion, bitValues, tallyOf, noBitLeft, noOldSegment, headerPage}
 use Rattle.model.specs.Slot.{Slot, empty, slotPage, writeBegun, written, isEmpty, isDead, Entry, holding}
-use Rattle.model.specs.State.{Segment, blank, isInUse, isInvalid, nextNumber, nextIndex, View, entries, entriesIn, holds, lastSlot, Place, placeOf, older, Exception, caseA, caseB, caseC, caseD, State, clean, unfinished, damaged}
+use Rattle.model.specs.State.{Segment, blank, isInUse, isInvalid, nextNumber, nextIndex, topVersion, View, entries, entriesIn, holds, lastSlot, Place, placeOf, older, Exception, caseA, caseB, caseC, caseD, State, clean, unfinished, damaged}
 
 -- ---- steps within one page
 
@@ -48,11 +48,11 @@ markPlace N B p = onPage (slotAt N B (p .number) (p .slot)) markDead
 
 -- ---- a segment taken into use
 
--- opening, with number n: status 7F; bytes 0-4, 6, 7; 8-15; status 3F
-unfoldable pub openSegment : ℕ → ℕ → ℕ → List Step
-openSegment N B n = let h = headerPage N B opened n noOldSegment in
+-- opening, with number n: status 7F; bytes 0-4, 6, 7; 17-20; 8-15; status 3F
+unfoldable pub openSegment : ℕ → ℕ → Version → ℕ → List Step
+openSegment N B e n = let h = headerPage N B e opened n noOldSegment in
     onPage (headerAt N B n)
-    (program 5 openingBegun ∷ (programPart h 0 5 ++ (programPart h 6 2 ++ (programPart h 8 8 ++ (program 5 opened ∷ [])))))
+    (program 5 openingBegun ∷ (programPart h 0 5 ++ (programPart h 6 2 ++ (programPart h 17 4 ++ (programPart h 8 8 ++ (program 5 opened ∷ []))))))
 
 -- entries written to the slots of the segment with number n, from slot j on
 unfoldable pub copyEntries : ℕ → ℕ → ℕ → ℕ → List Entry → List Step
@@ -60,18 +60,18 @@ copyEntries N B n j [] = []
 copyEntries N B n j (e ∷ es) = onPage (slotAt N B n j) (writeSlot (e .block) (e .contents)) ++ copyEntries N B n (suc j) es
 
 -- tidying of the segment with number o, which holds these entries, to a target that gets number n.
--- Status DF; bytes 0-4, 6, 7; 16; each live slot; bytes 8-15; status 9F; then the old segment is erased; status 8F
-unfoldable pub copyOut : ℕ → ℕ → ℕ → ℕ → List Entry → List Step
-copyOut N B o n es = let h = headerPage N B erasePending n (o % N) in
+-- Status DF; bytes 0-4, 6, 7; 16; each live slot; bytes 17-20; 8-15; status 9F; then the old segment is erased; status 8F
+unfoldable pub copyOut : ℕ → ℕ → Version → ℕ → ℕ → List Entry → List Step
+copyOut N B e o n es = let h = headerPage N B e erasePending n (o % N) in
     onPage (headerAt N B n) (program 5 compactionBegun ∷ (programPart h 0 5 ++ (programPart h 6 2 ++ programPart h 16 1)))
     ++ (copyEntries N B n 0 es
-    ++ onPage (headerAt N B n) (programPart h 8 8 ++ (program 5 erasePending ∷ [])))
+    ++ onPage (headerAt N B n) (programPart h 17 4 ++ (programPart h 8 8 ++ (program 5 erasePending ∷ []))))
 
 unfoldable pub settle : ℕ → ℕ → ℕ → List Step
 settle N B n = onPage (headerAt N B n) (program 5 compacted ∷ [])
 
-unfoldable pub compact : ℕ → ℕ → ℕ → ℕ → List Entry → List Step
-compact N B o n es = copyOut N B o n es ++ (erase (o % N) ∷ settle N B n)
+unfoldable pub compact : ℕ → ℕ → Version → ℕ → ℕ → List Entry → List Step
+compact N B e o n es = copyOut N B e o n es ++ (erase (o % N) ∷ settle N B n)
 
 -- ---- room for a put
 
@@ -100,17 +100,21 @@ pub record Room : Type 0 where
   pub steps : List Step
   pub result : View
 
+-- the version of each new header: it carries the tally on
+unfoldable pub nextVersion : View → Version
+nextVersion v = newVersion (tallyOf (v .version))
+
 unfoldable pub openNext : ℕ → ℕ → View → Room
 openNext N B v = record {
-  steps = openSegment N B (suc (topNumber v));
-  result = record { first = v .first; slots = v .slots ++ (replicate B empty ∷ []) };
+  steps = openSegment N B (nextVersion v) (suc (topNumber v));
+  result = record { first = v .first; slots = v .slots ++ (replicate B empty ∷ []); version = nextVersion v };
 }
 
 -- the old segment is the in-use one with the smallest number, the target is the blank one after the top
 unfoldable pub compactOldest : ℕ → ℕ → View → Room
 compactOldest N B v = let es = entries (getD (v .slots) 0 []) in record {
-  steps = compact N B (v .first) (suc (topNumber v)) es;
-  result = record { first = suc (v .first); slots = drop 1 (v .slots) ++ (copied B es ∷ []) };
+  steps = compact N B (nextVersion v) (v .first) (suc (topNumber v)) es;
+  result = record { first = suc (v .first); slots = drop 1 (v .slots) ++ (copied B es ∷ []); version = nextVersion v };
 }
 
 -- tidy until the top has an empty slot, at most k times
@@ -150,14 +154,36 @@ eraseFirst zero = []
 eraseFirst (suc k) = eraseFirst k ++ (erase k ∷ [])
 
 unfoldable pub formatSteps : ℕ → ℕ → List Step
-formatSteps N B = eraseFirst N ++ openSegment N B 0
+formatSteps N B = eraseFirst N ++ openSegment N B (newVersion 0) 0
 
-unfoldable pub eraseUnlessBlank : ℕ → Segment → List Step
-eraseUnlessBlank i x = cond (isInUse x || isInvalid x) (erase i ∷ []) []
+-- the highest set bit of a byte that is not 0
+unfoldable pub highestOf : List ℕ → ℕ → ℕ
+highestOf [] x = 0
+highestOf (m ∷ ms) x = cond (leb m x) m (highestOf ms x)
+
+unfoldable pub highestBit : ℕ → ℕ
+highestBit x = highestOf bitValues x
+
+-- of bytes from an offset on: the highest set bit of the first that is not 0 is cleared; none, if all are 0
+unfoldable pub clearNext : ℕ → List ℕ → List Step
+clearNext at [] = []
+clearNext at (x ∷ xs) = cond (eqb x 0) (clearNext (suc at) xs) (program at (x - highestBit x) ∷ [])
+
+-- one more erase of a recovery: a bit of bytes 32-255 is cleared, if one is left
+unfoldable pub countErase : Version → List Step
+countErase version1 = []
+countErase (version2 total bits) = clearNext 32 bits
+
+-- the segment after the top erased by a recovery, which counts that in the top's header before
+unfoldable pub eraseNext : ℕ → ℕ → List Segment → List Step
+eraseNext N B l = onPage (headerAt N B (nextNumber l - 1)) (countErase (topVersion N l)) ++ (erase (nextIndex N l) ∷ [])
+
+unfoldable pub unlessBlank : Segment → List Step → List Step
+unlessBlank x xs = cond (isInUse x || isInvalid x) xs []
 
 unfoldable pub mendSteps : ℕ → ℕ → List Segment → Exception → List Step
-mendSteps N B l caseA = erase (nextIndex N l) ∷ []
-mendSteps N B l caseB = eraseUnlessBlank (nextIndex N l) (getD l (nextIndex N l) blank) ++ settle N B (nextNumber l - 1)
+mendSteps N B l caseA = eraseNext N B l
+mendSteps N B l caseB = unlessBlank (getD l (nextIndex N l) blank) (eraseNext N B l) ++ settle N B (nextNumber l - 1)
 mendSteps N B l caseC = markPlace N B (record { number = nextNumber l - 1; slot = lastSlot N l })
 mendSteps N B l caseD = markPlace N B (older N l)
 
@@ -167,7 +193,7 @@ recoverSteps N B l clean = []
 recoverSteps N B l (unfinished x) = mendSteps N B l x
 recoverSteps N B l damaged = []
 
--- ---- wear, reckoned from segment numbers alone
+-- ---- wear, reckoned from segment numbers and the tally
 
 -- the count of tidyings: the place, from 1, of the first in-use segment by number that has a dead slot
 unfoldable pub compactions : List (List Slot) → ℕ
@@ -178,6 +204,6 @@ compactions (s ∷ r) = cond (all (λ k. not (isDead k)) s) (suc (compactions r)
 unfoldable pub newNumbers : ℕ → View → ℕ
 newNumbers N v = cond (hasRoom v) 0 (cond (ltb (length (v .slots)) (N - 1)) 1 (compactions (v .slots)))
 
--- a put would give a segment a number of the limit or more
+-- a put needs a new header, and no bit is left or the whole part of the number that it would give divided by N, plus the tally, reaches the limit
 unfoldable pub isWorn : ℕ → View → Bool
-isWorn N v = not (hasRoom v) && leb (numberLimit N) (topNumber v + newNumbers N v)
+isWorn N v = not (hasRoom v) && (noBitLeft (v .version) || leb eraseLimit ((topNumber v + newNumbers N v) / N + tallyOf (v .version)))

@@ -22,7 +22,7 @@ pub enum SlotKind {
     Wrong,
 }
 
-// What comes back, in the order of document 01's table of answers.
+// What comes back, in the order of document 01's table of answers, and 11 of request #104.
 pub enum Answer {
     Done,
     Size,
@@ -34,6 +34,7 @@ pub enum Answer {
     Full,
     Worn,
     Cut,
+    FormerVersion,
 }
 
 // A writing request's answer, and the flash steps that it took.

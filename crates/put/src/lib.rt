@@ -1,8 +1,10 @@
 // A put on a clean image.
 use find::Found;
+use header::Tally;
 use model::Answer;
 use model::BlockNumber;
 use model::Performed;
+use model::SegmentNumber;
 use model::SlotPlace;
 use room::Plan;
 use room::Room;
@@ -10,32 +12,52 @@ ghost use mathlib.Core.Path.{_≡_};
 ghost use mathlib.Core.Bool.{false};
 ghost use Prim.Native.Nat.{_+_, _-_, _*_, _≤_, _<_};
 ghost use lib.ListN.{length};
+ghost use Rattle.model.specs.Chip.{mostSegments};
 ghost use Rattle.model.specs.Steps.{slotAt};
 ghost use Rattle.model.specs.Answers.{performed, outcomeOf, put};
 ghost use Rattle.find.specs.Search.{rowsAt, foundIn};
 ghost use Rattle.flash.specs.Pages.{Sized};
-ghost use Rattle.put.specs.Writing.{Ranged, wornBy, fullBy, answerFor, foundBefore, Puttable, Accepted, Ready, Wrote};
+ghost use Rattle.put.specs.Writing.{Ranged, newNumbersBy, wornBy, fullBy, answerFor, foundBefore, Puttable, Accepted, Ready, Wrote};
 
-// Segment numbers stay below this times the count of segments.
-const NUMBERS_EACH: usize = 100000;
+// The erases of one segment that a chip is good for.
+const ERASE_LIMIT: usize = 100000;
 
 // The steps that write a slot, besides one for each byte of contents.
 const SLOT_STEPS: u64 = 5;
 
-// Whether room for a put would take a segment number of the limit or more. It is found out before the first step.
-fn is_worn(segments: usize, slots: usize, plan: Plan) -> bool
-    requires { ⌜ Ranged segments slots plan ⌝ }
-    ensures { λ r. ⌜ r ≡ wornBy segments slots plan ⌝ }
+// The number of the top.
+fn top_number(plan: Plan) -> SegmentNumber
+    requires { ⌜ (1 ≤ plan .used) × (plan .used ≤ mostSegments) × (plan .first .0 + plan .used ≤ 4294967296) ⌝ }
+    ensures { λ r. ⌜ r .0 ≡ plan .first .0 + plan .used - 1 ⌝ }
+{
+    SegmentNumber((plan.first.0 as usize + plan.used - 1) as u32)
+}
+
+// How many segments a put without room gives a number.
+fn new_numbers(segments: usize, plan: Plan) -> usize
+    ensures { λ r. ⌜ r ≡ newNumbersBy segments plan ⌝ }
+{
+    if plan.used + 1 < segments {
+        return 1;
+    }
+    plan.compactions
+}
+
+// Whether room for a put would wear the chip: a new header is needed, and the top's has no bit left, or the erases by number
+// and by the tally reach the limit. It is found out before the first step.
+fn is_worn(segments: usize, slots: usize, plan: Plan, tally: Tally) -> bool
+    requires { ⌜ Ranged segments slots plan × (tally .count ≤ 4294967295) ⌝ }
+    ensures { λ r. ⌜ r ≡ wornBy segments slots plan tally ⌝ }
 {
     if plan.slot < slots {
         return false;
     }
-    let limit = NUMBERS_EACH * segments;
-    let top = plan.first.0 as usize + plan.used - 1;
-    if plan.used + 1 < segments {
-        return limit <= top + 1;
+    if tally.used_up {
+        return true;
     }
-    limit <= top + plan.compactions
+    let top = plan.first.0 as usize + plan.used - 1;
+    let number = top + new_numbers(segments, plan);
+    ERASE_LIMIT <= number / segments + tally.count
 }
 
 // Whether a put of a block that is not stored finds as many slots live as may be.
@@ -65,14 +87,14 @@ fn slot_before(image: &[u8], segments: usize, slots: usize, plan: Plan, block: B
 }
 
 // The answer of a put on a clean image, but for a cut.
-fn put_answer(segments: usize, slots: usize, plan: Plan, found: Found) -> Answer
-    requires { ⌜ Ranged segments slots plan ⌝ }
-    ensures { λ r. ⌜ r ≡ answerFor segments slots plan found ⌝ }
+fn put_answer(segments: usize, slots: usize, plan: Plan, tally: Tally, found: Found) -> Answer
+    requires { ⌜ Ranged segments slots plan × (tally .count ≤ 4294967295) ⌝ }
+    ensures { λ r. ⌜ r ≡ answerFor segments slots plan tally found ⌝ }
 {
     if is_full(segments, slots, plan, found) {
         return Answer::Full;
     }
-    if is_worn(segments, slots, plan) {
+    if is_worn(segments, slots, plan, tally) {
         return Answer::Worn;
     }
     Answer::Done
@@ -137,15 +159,16 @@ fn put_accepted(
     segments: usize,
     slots: usize,
     plan: Plan,
+    total: usize,
     found: Found,
     block: BlockNumber,
     contents: &[u8],
     budget: u64,
 ) -> Performed
-    requires { ⌜ Accepted segments slots plan found (block .0) (now contents) (now image) ⌝ }
+    requires { ⌜ Accepted segments slots plan total found (block .0) (now contents) (now image) ⌝ }
     ensures { λ r. ⌜ performed r (now (image .exit)) ≡ outcomeOf segments slots (now (image .entry)) budget (put (block .0) (now (contents .entry))) ⌝ }
 {
-    let room = room::make_room(image, segments, slots, plan, budget);
+    let room = room::make_room(image, segments, slots, plan, total, budget);
     if room.left == 0 {
         return request::finished(budget, 0, 0, 1);
     }
@@ -154,7 +177,7 @@ fn put_accepted(
     write_block(image, segments, slots, room, old, block, contents, budget)
 }
 
-// A put on a clean image.
+// A put on a clean image. One of version 1 takes none.
 pub fn put_clean(
     image: &mut [u8],
     segments: usize,
@@ -167,10 +190,14 @@ pub fn put_clean(
     requires { ⌜ Puttable segments slots plan (block .0) (now contents) (now image) ⌝ }
     ensures { λ r. ⌜ performed r (now (image .exit)) ≡ outcomeOf segments slots (now (image .entry)) budget (put (block .0) (now (contents .entry))) ⌝ }
 {
+    let tally = header::tally_in(&image[..], segments, slots, top_number(plan));
+    if tally.former {
+        return request::refused(Answer::FormerVersion);
+    }
     let found = slot_before(&image[..], segments, slots, plan, block);
-    let answer = put_answer(segments, slots, plan, found);
+    let answer = put_answer(segments, slots, plan, tally, found);
     let Answer::Done = answer else {
         return request::refused(answer);
     };
-    put_accepted(image, segments, slots, plan, found, block, contents, budget)
+    put_accepted(image, segments, slots, plan, tally.count, found, block, contents, budget)
 }

@@ -31,8 +31,15 @@ fn after(number: SegmentNumber, count: usize) -> SegmentNumber
 }
 
 // Compacts the oldest segment, as often as it takes.
-fn compact_oldest(image: &mut [u8], segments: usize, slots: usize, plan: Plan, budget: u64) -> Room
-    requires { ⌜ Writable segments slots plan (now image) × Full segments slots plan ⌝ }
+fn compact_oldest(
+    image: &mut [u8],
+    segments: usize,
+    slots: usize,
+    plan: Plan,
+    total: usize,
+    budget: u64,
+) -> Room
+    requires { ⌜ Writable segments slots plan total (now image) × Full segments slots plan ⌝ }
     ensures { λ r. ⌜ Roomed segments slots budget r (now (image .entry)) (now (image .exit)) ⌝ }
 {
     let mut left = budget;
@@ -41,7 +48,7 @@ fn compact_oldest(image: &mut [u8], segments: usize, slots: usize, plan: Plan, b
     while i < plan.compactions {
         let old = after(plan.first, i);
         let number = after(plan.first, plan.used + i);
-        let done = compact::compact_segment(image, segments, slots, old, number, left);
+        let done = compact::compact_segment(image, segments, slots, total, old, number, left);
         left = done.left;
         slot = done.copied;
         i += 1;
@@ -56,9 +63,17 @@ fn compact_oldest(image: &mut [u8], segments: usize, slots: usize, plan: Plan, b
     }
 }
 
-// Makes room: nothing, if the top has an empty slot; else one more segment is opened, if two are left; else the oldest are compacted.
-pub fn make_room(image: &mut [u8], segments: usize, slots: usize, plan: Plan, budget: u64) -> Room
-    requires { ⌜ Writable segments slots plan (now image) ⌝ }
+// Makes room: nothing, if the top has an empty slot; else one more segment is opened, if two are left; else the oldest are
+// compacted. Each new header carries this total of recoveries' erases on.
+pub fn make_room(
+    image: &mut [u8],
+    segments: usize,
+    slots: usize,
+    plan: Plan,
+    total: usize,
+    budget: u64,
+) -> Room
+    requires { ⌜ Writable segments slots plan total (now image) ⌝ }
     ensures { λ r. ⌜ Roomed segments slots budget r (now (image .entry)) (now (image .exit)) ⌝ }
 {
     let first = plan.first;
@@ -72,7 +87,7 @@ pub fn make_room(image: &mut [u8], segments: usize, slots: usize, plan: Plan, bu
         };
     }
     if used + 1 < segments {
-        let left = header::open_header(image, segments, slots, after(first, used), budget);
+        let left = header::open_header(image, segments, slots, total, after(first, used), budget);
         return Room {
             left,
             first,
@@ -80,5 +95,5 @@ pub fn make_room(image: &mut [u8], segments: usize, slots: usize, plan: Plan, bu
             slot: 0,
         };
     }
-    compact_oldest(image, segments, slots, plan, budget)
+    compact_oldest(image, segments, slots, plan, total, budget)
 }

@@ -32,7 +32,12 @@ fn in_use(number: SegmentNumber, row: Row) -> Summary
     ensures { λ r. ⌜ r ≡ summaryOf (number .0) row ⌝ }
 {
     let state = SegmentState::InUse;
-    Summary { number, row, state }
+    Summary {
+        number,
+        row,
+        state,
+        former: false,
+    }
 }
 
 // The summaries of the segments in use, oldest first, each looked at behind those before.

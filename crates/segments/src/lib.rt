@@ -15,14 +15,14 @@ ghost use mathlib.Core.Bool.{cond, not, _&&_, _||_};
 ghost use Prim.Native.Nat.{_+_, _-_, _<_, _≤_, max};
 ghost use lib.ListN.{length, getD};
 ghost use Rattle.model.specs.Chip.{mostSegments};
-ghost use Rattle.model.specs.State.{blank, isInUse, isInvalid, isOwing, numberAfter, segmentsOf, settled};
+ghost use Rattle.model.specs.State.{blank, isInUse, isInvalid, isOwing, numberAfter, ofVersion, segmentsOf, settled};
 ghost use Rattle.flash.specs.Pages.{Sized};
 ghost use Rattle.judge.specs.Heads.{bareOf, bare, outline, heads, stateSeen, noCounts, countOne, mayBeFine, frameOf, headersBy, headersOf};
 ghost use Rattle.judge.specs.Tally.{Ranged};
 
 // A segment before its slots are looked at.
-fn head(state: SegmentState, number: SegmentNumber) -> Summary
-    ensures { λ r. ⌜ bare r ≡ bareOf state (number .0) ⌝ }
+fn head(state: SegmentState, former: bool, number: SegmentNumber) -> Summary
+    ensures { λ r. ⌜ bare r ≡ bareOf state former (number .0) ⌝ }
 {
     let row = Row {
         live: 0,
@@ -31,7 +31,12 @@ fn head(state: SegmentState, number: SegmentNumber) -> Summary
         ending: Ending::Full,
         block: BlockNumber(0),
     };
-    Summary { number, row, state }
+    Summary {
+        number,
+        row,
+        state,
+        former,
+    }
 }
 
 fn state_seen(status: u8) -> SegmentState
@@ -52,15 +57,19 @@ fn see_segment(image: &[u8], segments: usize, slots: usize, index: usize) -> Sum
     let at = index * (slots + 1) * 256;
     let first = at + 256;
     let seen = header::see_header(&image[at..first], segments, slots, index);
-    let HeaderSeen::InUse { status, number } = seen else {
+    let HeaderSeen::InUse {
+        former,
+        status,
+        number,
+    } = seen else {
         let end = at + (slots + 1) * 256;
         let whole = flash::blank_test(&image[at..end]);
         if whole.blank {
-            return head(SegmentState::Blank, SegmentNumber(0));
+            return head(SegmentState::Blank, false, SegmentNumber(0));
         }
-        return head(SegmentState::Invalid, SegmentNumber(0));
+        return head(SegmentState::Invalid, false, SegmentNumber(0));
     };
-    head(state_seen(status), number)
+    head(state_seen(status), former, number)
 }
 
 // One more than the number of a segment in use, or 0.
@@ -113,6 +122,26 @@ fn is_owing(s: Summary) -> bool
     }
 }
 
+// Whether a segment is not in use, or has version 1.
+fn is_former(s: Summary) -> bool
+    ensures { λ r. ⌜ r ≡ ofVersion 1 (bare s) ⌝ }
+{
+    if is_in_use(s) {
+        return s.former;
+    }
+    true
+}
+
+// Whether a segment is not in use, or has version 2.
+fn is_second(s: Summary) -> bool
+    ensures { λ r. ⌜ r ≡ ofVersion 2 (bare s) ⌝ }
+{
+    if is_in_use(s) {
+        return !s.former;
+    }
+    true
+}
+
 // Whether a summary shows a blank segment.
 fn shows_blank(s: Summary) -> bool
     ensures { λ r. ⌜ r ≡ not (isInUse (bare s) || isInvalid (bare s)) ⌝ }
@@ -153,6 +182,8 @@ fn none_counted() -> HeaderCounts
         next: 0,
         used: 0,
         settled: true,
+        former: true,
+        second: true,
     }
 }
 
@@ -163,21 +194,27 @@ fn count_one(counts: HeaderCounts, s: Summary) -> HeaderCounts
 {
     let next = larger(counts.next, number_after(s));
     let settled = counts.settled && is_settled(s);
+    let former = counts.former && is_former(s);
+    let second = counts.second && is_second(s);
     if is_in_use(s) {
         return HeaderCounts {
             next,
             used: counts.used + 1,
             settled,
+            former,
+            second,
         };
     }
     HeaderCounts {
         next,
         used: counts.used,
         settled,
+        former,
+        second,
     }
 }
 
-// Whether the frame may be fine by what was counted: some are in use, not all, and none needs mending.
+// Whether the frame may be fine by what was counted: some are in use, not all, of one version, and none needs mending.
 fn may_be_fine(counts: HeaderCounts, segments: usize) -> bool
     ensures { λ r. ⌜ r ≡ mayBeFine segments counts ⌝ }
 {
@@ -187,7 +224,13 @@ fn may_be_fine(counts: HeaderCounts, segments: usize) -> bool
     if counts.used >= segments {
         return false;
     }
-    counts.settled
+    if counts.former {
+        return counts.settled;
+    }
+    if counts.second {
+        return counts.settled;
+    }
+    false
 }
 
 // The frame of the segments that a table shows.
@@ -237,10 +280,10 @@ fn next_mended(s: Summary, top: Summary) -> Summary
     ensures { λ r. ⌜ bare r ≡ cond (isOwing (bare top) || isInvalid (bare s)) blank (bare s) ⌝ }
 {
     if is_owing(top) {
-        return head(SegmentState::Blank, SegmentNumber(0));
+        return head(SegmentState::Blank, false, SegmentNumber(0));
     }
     if is_invalid(s) {
-        return head(SegmentState::Blank, SegmentNumber(0));
+        return head(SegmentState::Blank, false, SegmentNumber(0));
     }
     s
 }
@@ -251,7 +294,7 @@ fn settled(s: Summary) -> Summary
 {
     let number = s.number;
     if is_owing(s) {
-        return head(SegmentState::InUse, number);
+        return head(SegmentState::InUse, s.former, number);
     }
     s
 }
@@ -277,7 +320,7 @@ pub fn see_headers(image: &[u8], segments: usize, slots: usize) -> Headers
     requires { ⌜ Sized segments slots (length (now image)) × (2 ≤ segments) ⌝ }
     ensures { λ r. ⌜ (r ≡ headersOf segments (segmentsOf segments slots (now (image .entry)))) × (r .next ≤ 4294967296) × Ranged (r .frame) ⌝ }
 {
-    let none = head(SegmentState::Blank, SegmentNumber(0));
+    let none = head(SegmentState::Blank, false, SegmentNumber(0));
     let mut table = [none; MOST_SEGMENTS];
     let mut counts = none_counted();
     let mut i: usize = 0;

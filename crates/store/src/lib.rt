@@ -22,7 +22,7 @@ ghost use Rattle.model.specs.Answers.{performed, outcomeOf, format, put, delete
 const ABSENT: u8 = 6;
 
 // How many steps open a segment.
-const OPENING: u64 = 17;
+const OPENING: u64 = 21;
 
 // Erases every segment and opens the first.
 pub fn format(image: &mut [u8], segments: usize, slots: usize, budget: u64) -> Performed
@@ -32,7 +32,7 @@ pub fn format(image: &mut [u8], segments: usize, slots: usize, budget: u64) -> P
         return request::refused(Answer::Size);
     }
     let erased = erasing::erase_all(image, segments, slots, budget);
-    let left = header::open_header(image, segments, slots, SegmentNumber(0), erased);
+    let left = header::open_header(image, segments, slots, 0, SegmentNumber(0), erased);
     request::finished(budget, left, erased, OPENING)
 }
 
