@@ -5,12 +5,12 @@ use mathlib.Core.List.{List, [], _∷_, _++_}
 use lib.ListN.{length, getD, take, replicate}
 use lib.Dec.{eqb}
 use Rattle.model.specs.Lists.{same}
-use Rattle.model.specs.Chip.{Image, Page, imageLength, pagesOf, run}
+use Rattle.model.specs.Chip.{Image, Page, Step, imageLength, pagesOf, run}
 use Rattle.model.specs.Header
-use Rattle.model.specs.Header.{erasePending, oldIndex}
+use Rattle.model.specs.Header.{erasePending, headerPage, Version, version1, version2, newVersion, oldIndex}
 use Rattle.model.specs.Slot.{Entry}
 use Rattle.model.specs.State.{segmentsOn, viewOf, entriesIn, capacity, stateOf}
-use Rattle.model.specs.Steps.{copyEntries}
+use Rattle.model.specs.Steps.{programs, onPage, headerAt, openSegment, copyEntries, eraseFirst}
 use Rattle.model.specs.Answers.{Request, format, put, delete, recover, Work, workOf, codeUnder, isDamaged, isUnfinished, ReadOutcome, readOutcome}
 use Rattle.model.specs.Table.{lookup, contentsFound}
 use Rattle.model.specs.Sequences.{Call, play, observed, Observed, erasesIn, start, tally, eraseCount}
@@ -24,26 +24,36 @@ call r allowance = record { request = r; allowance = allowance }
 abbrev pub whole : Request → Call
 whole r = call r 1000
 
--- N, B, records that stand in the first slots, and the calls after that
+-- N, B, the first segment's header, records that stand in its first slots, and the calls after that
 pub record Setup : Type 0 where
   pub segments : ℕ
   pub slots : ℕ
+  -- version and number, as a format leaves them, a store from before request #104, or one that has worn the chip; and the bytes from 32 on that are not 255
+  pub version : Version
+  pub number : ℕ
+  pub bits : List ℕ
   -- as a store from before request #105 may have left them
   pub records : List Entry
   pub calls : List Call
 
+-- after a format
 abbrev pub after : ℕ → ℕ → List Call → Setup
-after N B xs = record { segments = N; slots = B; records = []; calls = xs }
+after N B xs = record { segments = N; slots = B; version = newVersion 0; number = 0; bits = []; records = []; calls = xs }
 
 abbrev pub andThen : Setup → List Call → Setup
-andThen u xs = record { segments = u .segments; slots = u .slots; records = u .records; calls = u .calls ++ xs }
+andThen u xs = record { segments = u .segments; slots = u .slots; version = u .version; number = u .number; bits = u .bits; records = u .records; calls = u .calls ++ xs }
 
--- a chip full of zero bytes, formatted, and the records written
-unfoldable pub formatted : ℕ → ℕ → Image
-formatted N B = play N B (replicate (imageLength N B) 0) (whole format ∷ [])
+-- the steps of a format, but for the header's version and number; the bits cleared since; and the records written
+unfoldable pub recording : Setup → List Step
+recording u = let N = u .segments in let B = u .slots in let n = u .number in
+    eraseFirst N
+    ++ (openSegment N B (u .version) n
+    ++ (onPage (headerAt N B n) (programs 32 (u .bits))
+    ++ copyEntries N B n 0 (u .records)))
 
+-- on a chip full of zero bytes
 unfoldable pub recorded : Setup → Image
-recorded u = run (u .slots) (copyEntries (u .segments) (u .slots) 0 0 (u .records)) (formatted (u .segments) (u .slots))
+recorded u = run (u .slots) (recording u) (replicate (imageLength (u .segments) (u .slots)) 0)
 
 unfoldable pub left : Setup → Image
 left u = play (u .segments) (u .slots) (recorded u) (u .calls)
@@ -140,6 +150,9 @@ abbrev shelf : List Call → Setup
 shelf xs = record {
   segments = 3;
   slots = 3;
+  version = newVersion 0;
+  number = 0;
+  bits = [];
   records = record { block = 1; contents = [] } ∷ record { block = 2; contents = 1 ∷ [] } ∷ record { block = 4; contents = [] } ∷ [];
   calls = xs;
 }
@@ -154,6 +167,32 @@ compacting = put 3 (2 ∷ [])
 abbrev compacted : Setup
 compacted = shelf (filling ++ (whole compacting ∷ []))
 
+-- request #104: a board of version 1; and one of version 2 with this number, total and bits, whose first segment block 7 has filled
+abbrev board : ℕ → ℕ → List Call → Setup
+board N B xs = record { segments = N; slots = B; version = version1; number = 0; bits = []; records = record { block = 7; contents = 1 ∷ [] } ∷ []; calls = xs }
+
+abbrev aged : ℕ → ℕ → List ℕ → List Call → Setup
+aged n total bits xs = record { segments = 2; slots = 2; version = newVersion total; number = n; bits = bits; records = []; calls = sevens (1 ∷ 2 ∷ []) ++ xs }
+
+-- 21 bits cleared, so that one is left in each of three bytes; and all but one
+abbrev fewBits : List ℕ
+fewBits = 0x10 ∷ 0x01 ∷ 0x80 ∷ []
+
+abbrev lastBit : List ℕ
+lastBit = 0x01 ∷ replicate 223 0
+
+-- the third put, cut before the owing mark, and recoveries that are cut before they erase
+abbrev torn : List Call
+torn = call (seven 3) 20 ∷ []
+
+abbrev counting : ℕ → List Call
+counting zero = []
+counting (suc k) = call recover 1 ∷ counting k
+
+-- three segments of two slots, where a put of block 4 tidies twice; it is cut, three recoveries are counted, and it is done
+abbrev twice : Setup
+twice = after 3 2 (putEach (1 ∷ 2 ∷ 4 ∷ 4 ∷ []) ++ (call (put 4 (2 ∷ [])) 20 ∷ (counting 2 ++ (whole recover ∷ whole (put 4 (2 ∷ [])) ∷ []))))
+
 unfoldable pub examples : List Example
 examples =
     -- 1
@@ -162,10 +201,11 @@ examples =
     -- request #108: the largest image
     ∷ sizes 255 255 16711680 64769
     -- 2
-    ∷ begins (after 4 15 []) 0 (0x53 ∷ 0x4C ∷ 0x54 ∷ 0x01 ∷ 0x00 ∷ 0x3F ∷ 0x0F ∷ 0x04 ∷ 0x00 ∷ 0x00 ∷ 0x00 ∷ 0x00 ∷ 0xFF ∷ 0xFF ∷ 0xFF ∷ 0xFF ∷ 0xFF ∷ [])
+    ∷ begins (board 4 15 (whole format ∷ [])) 0
+    (0x53 ∷ 0x4C ∷ 0x54 ∷ 0x02 ∷ 0x00 ∷ 0x3F ∷ 0x0F ∷ 0x04 ∷ 0x00 ∷ 0x00 ∷ 0x00 ∷ 0x00 ∷ 0xFF ∷ 0xFF ∷ 0xFF ∷ 0xFF ∷ 0xFF ∷ 0x00 ∷ 0x00 ∷ 0x00 ∷ 0x00 ∷ replicate 235 0xFF)
     -- 3: three full segments of fifteen slots, and the put that tidies the first to segment 3
     ∷ begins (after 4 15 (putEach (upFrom 1 44 ++ (1 ∷ 1 ∷ [])))) (3 * 16)
-    (0x53 ∷ 0x4C ∷ 0x54 ∷ 0x01 ∷ 0x00 ∷ 0x8F ∷ 0x0F ∷ 0x04 ∷ 0x03 ∷ 0x00 ∷ 0x00 ∷ 0x00 ∷ 0xFC ∷ 0xFF ∷ 0xFF ∷ 0xFF ∷ 0x00 ∷ [])
+    (0x53 ∷ 0x4C ∷ 0x54 ∷ 0x02 ∷ 0x00 ∷ 0x8F ∷ 0x0F ∷ 0x04 ∷ 0x03 ∷ 0x00 ∷ 0x00 ∷ 0x00 ∷ 0xFC ∷ 0xFF ∷ 0xFF ∷ 0xFF ∷ 0x00 ∷ 0x00 ∷ 0x00 ∷ 0x00 ∷ 0x00 ∷ replicate 235 0xFF)
     -- 4
     ∷ begins (after 4 15 (whole (put 7 (0x41 ∷ 0x31 ∷ [])) ∷ [])) 1 (0x3F ∷ 0x02 ∷ 0x07 ∷ 0x00 ∷ 0xFF ∷ 0xFF ∷ 0xFF ∷ 0xFF ∷ 0x41 ∷ 0x31 ∷ replicate 246 0xFF)
     ∷ answers (after 4 15 []) (put 7 (0x41 ∷ 0x31 ∷ [])) 0 7 0
@@ -173,7 +213,7 @@ examples =
     -- 5
     ∷ answers (after 2 2 (sevens [])) (seven 1) 0 6 0
     ∷ answers (after 2 2 (sevens (1 ∷ []))) (seven 2) 0 7 0
-    ∷ answers (after 2 2 (sevens (1 ∷ 2 ∷ []))) (seven 3) 0 33 1
+    ∷ answers (after 2 2 (sevens (1 ∷ 2 ∷ []))) (seven 3) 0 37 1
     ∷ counts (after 2 2 (sevens (1 ∷ 2 ∷ 3 ∷ []))) 1 2 1
     -- 6
     ∷ answers (after 2 2 (sevens (1 ∷ 2 ∷ 3 ∷ []))) (put 8 (1 ∷ [])) 7 0 0
@@ -183,12 +223,12 @@ examples =
     ∷ cuts (after 2 2 (sevens (1 ∷ []))) (seven 2) (6 ∷ []) 1 7 (2 ∷ [])
     -- 8: the third put, cut after each number of steps: before the owing mark; at it; after the erase; with the tidying done; then as in 7
     ∷ cuts (after 2 2 (sevens (1 ∷ 2 ∷ []))) (seven 3) (0 ∷ []) 0 7 (2 ∷ [])
-    ∷ cuts (after 2 2 (sevens (1 ∷ 2 ∷ []))) (seven 3) (upFrom 1 23) 1 7 (2 ∷ [])
-    ∷ cuts (after 2 2 (sevens (1 ∷ 2 ∷ []))) (seven 3) (24 ∷ []) 2 7 (2 ∷ [])
-    ∷ cuts (after 2 2 (sevens (1 ∷ 2 ∷ []))) (seven 3) (25 ∷ []) 1 7 (2 ∷ [])
-    ∷ cuts (after 2 2 (sevens (1 ∷ 2 ∷ []))) (seven 3) (26 ∷ []) 0 7 (2 ∷ [])
-    ∷ cuts (after 2 2 (sevens (1 ∷ 2 ∷ []))) (seven 3) (upFrom 27 5) 1 7 (2 ∷ [])
-    ∷ cuts (after 2 2 (sevens (1 ∷ 2 ∷ []))) (seven 3) (32 ∷ []) 1 7 (3 ∷ [])
+    ∷ cuts (after 2 2 (sevens (1 ∷ 2 ∷ []))) (seven 3) (upFrom 1 27) 2 7 (2 ∷ [])
+    ∷ cuts (after 2 2 (sevens (1 ∷ 2 ∷ []))) (seven 3) (28 ∷ []) 3 7 (2 ∷ [])
+    ∷ cuts (after 2 2 (sevens (1 ∷ 2 ∷ []))) (seven 3) (29 ∷ []) 1 7 (2 ∷ [])
+    ∷ cuts (after 2 2 (sevens (1 ∷ 2 ∷ []))) (seven 3) (30 ∷ []) 0 7 (2 ∷ [])
+    ∷ cuts (after 2 2 (sevens (1 ∷ 2 ∷ []))) (seven 3) (upFrom 31 5) 1 7 (2 ∷ [])
+    ∷ cuts (after 2 2 (sevens (1 ∷ 2 ∷ []))) (seven 3) (36 ∷ []) 1 7 (3 ∷ [])
     -- 10: contents of 1 and 248 bytes are taken, 0 (request #105) and 249 answer 3
     ∷ answers (after 4 15 []) (put 1 (1 ∷ [])) 0 6 0
     ∷ answers (after 4 15 []) (put 65534 (replicate 248 1)) 0 253 0
@@ -203,24 +243,51 @@ examples =
     ∷ answers (after 4 1 []) format 1 0 0
     ∷ answers (after 1 15 []) format 1 0 0
     ∷ answers (after 256 2 []) format 1 0 0
-    ∷ answers (after 65 2 []) format 0 82 65
-    ∷ answers (after 255 2 []) format 0 272 255
+    ∷ answers (after 65 2 []) format 0 86 65
+    ∷ answers (after 255 2 []) format 0 276 255
     -- of 255 segments byte 7 is 255, as erased; byte 16 names the last index at the last but one, and at the last the first
-    ∷ begins (after 255 2 []) 0 (0x53 ∷ 0x4C ∷ 0x54 ∷ 0x01 ∷ 0x00 ∷ 0x3F ∷ 0x02 ∷ 0xFF ∷ 0x00 ∷ 0x00 ∷ 0x00 ∷ 0x00 ∷ 0xFF ∷ 0xFF ∷ 0xFF ∷ 0xFF ∷ 0xFF ∷ [])
+    ∷ begins (after 255 2 []) 0 (0x53 ∷ 0x4C ∷ 0x54 ∷ 0x02 ∷ 0x00 ∷ 0x3F ∷ 0x02 ∷ 0xFF ∷ 0x00 ∷ 0x00 ∷ 0x00 ∷ 0x00 ∷ 0xFF ∷ 0xFF ∷ 0xFF ∷ 0xFF ∷ 0xFF ∷ [])
     ∷ olds 255 253 254
     ∷ olds 255 254 0
+    -- request #104: a put on a board of version 1 answers 11, after 5 and before 7; the rest is as before, and a format makes version 2
+    ∷ answers (board 2 2 []) (seven 2) 11 0 0
+    ∷ answers (board 2 2 []) (put 8 (1 ∷ [])) 11 0 0
+    ∷ answers (board 2 2 []) (put 8 []) 3 0 0
+    ∷ reads (board 2 2 []) 7 0 (1 * 256 + 8) 1
+    ∷ answers (board 2 2 []) (delete 7) 0 1 0
+    ∷ answers (board 2 2 (whole format ∷ [])) (seven 2) 0 6 0
+    -- a recovery clears a bit of the top's header before it erases: the first byte's highest one; after five such, byte 32 is 07
+    ∷ begins (aged 0 0 [] (torn ++ (whole recover ∷ []))) 0 (headerPage 2 2 (version2 0 (0x7F ∷ replicate 223 0xFF)) 0x3F 0 0xFF)
+    ∷ begins (aged 0 0 [] (torn ++ counting 5)) 0 (headerPage 2 2 (version2 0 (0x07 ∷ replicate 223 0xFF)) 0x3F 0 0xFF)
+    ∷ begins (aged 0 0 fewBits (torn ++ counting 2)) 0 (headerPage 2 2 (version2 0 (0x00 ∷ 0x00 ∷ 0x80 ∷ replicate 221 0xFF)) 0x3F 0 0xFF)
+    -- a new header carries total and bits on, with every bit set; the second of a put does not add the bits again
+    ∷ begins (aged 0 300 fewBits (whole (seven 3) ∷ [])) 3 (headerPage 2 2 (newVersion 321) 0x8F 1 0)
+    ∷ begins twice 6 (headerPage 3 2 (newVersion 3) 0x8F 2 0)
+    ∷ begins twice 0 (headerPage 3 2 (newVersion 3) 0x8F 3 1)
+    -- with no bit left recovery does not count, and a put that needs a new header answers 8
+    ∷ answers (aged 0 0 lastBit torn) recover 0 2 1
+    ∷ answers (aged 0 0 lastBit (torn ++ counting 1)) recover 0 1 1
+    ∷ answers (aged 0 0 lastBit (torn ++ (whole recover ∷ []))) (seven 3) 8 0 0
+    -- worn by the total, by total and bits, and by the number: the whole part of 199,999 by 2 is one less than the limit
+    ∷ answers (aged 0 99999 [] []) (seven 3) 0 37 1
+    ∷ answers (aged 0 99999 (0x7F ∷ []) []) (seven 3) 8 0 0
+    ∷ answers (aged 0 99978 fewBits []) (seven 3) 0 37 1
+    ∷ answers (aged 0 99979 fewBits []) (seven 3) 8 0 0
+    ∷ answers (aged 199998 0 [] []) (seven 3) 0 37 1
+    ∷ answers (aged 199998 1 [] []) (seven 3) 8 0 0
+    ∷ answers (aged 199999 0 [] []) (seven 3) 8 0 0
     -- request #105: an empty record from before is read, deleted, and rewritten, which opens a segment here
     ∷ reads (shelf []) 1 0 (1 * 256 + 8) 0
     ∷ reads (shelf []) 4 0 (3 * 256 + 8) 0
     ∷ answers (shelf []) (delete 1) 0 1 0
-    ∷ answers (shelf []) (put 1 (2 ∷ [])) 0 (17 + 6 + 1) 0
+    ∷ answers (shelf []) (put 1 (2 ∷ [])) 0 (21 + 6 + 1) 0
     -- a tidying copies two in 5 steps each, to the first slots of the target, where they are read
-    ∷ answers (shelf filling) compacting 0 (20 + 5 + 5 + 6 + 1) 1
+    ∷ answers (shelf filling) compacting 0 (24 + 5 + 5 + 6 + 1) 1
     ∷ begins compacted 9 (0x3F ∷ 0x00 ∷ 0x01 ∷ 0x00 ∷ replicate 252 0xFF)
     ∷ begins compacted 10 (0x3F ∷ 0x00 ∷ 0x04 ∷ 0x00 ∷ replicate 252 0xFF)
     ∷ reads compacted 1 0 (9 * 256 + 8) 0
     ∷ reads compacted 4 0 (10 * 256 + 8) 0
     -- so they are if that put is cut and recovered: before the owing mark the old slots stand, from it on the copies
-    ∷ reads (shelf (filling ++ (call compacting 27 ∷ whole recover ∷ []))) 4 0 (3 * 256 + 8) 0
-    ∷ reads (shelf (filling ++ (call compacting 28 ∷ whole recover ∷ []))) 4 0 (10 * 256 + 8) 0
+    ∷ reads (shelf (filling ++ (call compacting 31 ∷ whole recover ∷ []))) 4 0 (3 * 256 + 8) 0
+    ∷ reads (shelf (filling ++ (call compacting 32 ∷ whole recover ∷ []))) 4 0 (10 * 256 + 8) 0
     ∷ []

@@ -22,6 +22,7 @@ pub mod Ring
 pub mod Clean
 pub mod View
 pub mod Exclusive
+pub mod Counted
 -- the corners of the blank test
 pub mod Blank
 -- the bench table

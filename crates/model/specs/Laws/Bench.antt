@@ -8,22 +8,22 @@ use lib.Dec.{eqb}
 use borrow.Author.Tests.{eq-eqb}
 use Rattle.model.specs.Lists.{same, all, count, chunk}
 use Rattle.model.specs.Chip.{Image, Page, numberLimit, imageLength, inRange, rightSize, pagesOf, bySegment, clear, erased}
-use Rattle.model.specs.Header.{numberBytes, inverted, value, statusInUse, headerPage, headerStatus, headerNumber, oldIndex, headerInUse, isBlank, allBlank}
+use Rattle.model.specs.Header.{numberBytes, inverted, value, statusInUse, newVersion, isFormer, versionNumber, totalFits, bitValues, clearedIn, clearedBits, tallyOf, noBitLeft, tallyBytes, headerPage, headerStatus, headerNumber, headerVersion, oldIndex, headerInUse, isBlank, allBlank}
 use Rattle.model.specs.Slot.{mostContents, numberOk, slotPage, pageBlock, pageContents, slotFits, slotOf, isEmpty, isTorn, isDead, isWrong, entryOf, holding}
-use Rattle.model.specs.State.{segmentOf, segmentsFrom, segmentsOn, segmentsOf, isInUse, isInvalid, isOwing, numberAfter, slotsIn, nextNumber, topIndex, nextIndex, topSlots, usedCount, firstNumber, slotsFrom, viewOf, entries, entriesIn, someInUse, numbersFrom, consecutive, noneOwing, othersBlank, noneWrongOrTorn, holds, distinct, blocksDistinct, emptyLast, onlyTopEmpty, emptySlotsLast, capacity, withinCapacity, conditions, isClean, nextBlanked, isA, settled, topSettled, isB, withSlot, filled, lastSlot, lastKind, tornMarked, isC, slotFrom, placeFrom, placeOf, blockIn, lastBlock, copies, older, olderMarked, isD, stateOf, view}
-use Rattle.model.specs.Steps.{programs, programPart, onPage, headerAt, slotAt, writeSlot, markDead, markPlace, openSegment, copyEntries, copyOut, settle, compact, topRow, topNumber, hasRoom, firstEmpty, copied, openNext, compactOldest, compactUntilRoom, roomFor, markOld, writeAtTop, putSteps, deleteSteps, eraseFirst, formatSteps, eraseUnlessBlank, mendSteps, recoverSteps, compactions, newNumbers, isWorn}
+use Rattle.model.specs.State.{segmentOf, segmentsFrom, segmentsOn, segmentsOf, isInUse, isInvalid, isOwing, numberAfter, slotsIn, versionIn, ofVersion, nextNumber, topIndex, nextIndex, topSlots, topVersion, usedCount, firstNumber, slotsFrom, viewOf, entries, entriesIn, someInUse, numbersFrom, consecutive, oneVersion, noneOwing, othersBlank, noneWrongOrTorn, holds, distinct, blocksDistinct, emptyLast, onlyTopEmpty, emptySlotsLast, capacity, withinCapacity, conditions, isClean, nextBlanked, isA, settled, topSettled, isB, withSlot, filled, lastSlot, lastKind, tornMarked, isC, slotFrom, placeFrom, placeOf, blockIn, lastBlock, copies, older, olderMarked, isD, stateOf, view}
+use Rattle.model.specs.Steps.{programs, programPart, onPage, headerAt, slotAt, writeSlot, markDead, markPlace, openSegment, copyEntries, copyOut, settle, compact, topRow, topNumber, hasRoom, firstEmpty, copied, nextVersion, openNext, compactOldest, compactUntilRoom, roomFor, markOld, writeAtTop, putSteps, deleteSteps, eraseFirst, formatSteps, highestOf, highestBit, clearNext, countErase, eraseNext, unlessBlank, mendSteps, recoverSteps, compactions, newNumbers, isWorn}
 use Rattle.model.specs.Table.{lookup, contentsFound}
 use Rattle.model.specs.Answers.{Request, format, read, recover, Work, firstOf, isDamaged, isUnfinished, lengthOk, isFull, absentRefusals, refusals, stepsFor, workOn, workOf, codeUnder, outcomeOf, ReadOutcome, contentsAt, readOutcome}
 use Rattle.model.specs.Sequences.{Call, play, erasesIn, Observed, observe, observed, among, removed, inserted, storedAfter, replaces, start, tallied, tally, eraseCount}
 use Rattle.model.specs.Pages.{programPage, stepPages, runPages}
-use Rattle.model.specs.Bench.{call, whole, Setup, andThen, formatted, recorded, left, Bench, bench, Example, sizes, olds, begins, answers, reads, counts, cuts, contentsIn, isCleanIn, cutHolds, exampleHolds, failing, upFrom, putEach, examples}
+use Rattle.model.specs.Bench.{call, whole, Setup, andThen, recording, recorded, left, Bench, bench, Example, sizes, olds, begins, answers, reads, counts, cuts, contentsIn, isCleanIn, cutHolds, exampleHolds, failing, upFrom, putEach, examples}
 use Rattle.model.specs.Laws.Chunk.{chunk-replicate}
 use Rattle.model.specs.Laws.Chip.{run-length}
 use Rattle.model.specs.Laws.Pages.{pages-run}
 
 -- every definition unfolds where this name does
 unfoldable pub evaluate : ℕ
-unfolding flatMap flatten same all count chunk numberLimit imageLength inRange bySegment clear erased numberBytes inverted value statusInUse headerPage headerStatus headerNumber oldIndex headerInUse isBlank allBlank mostContents numberOk slotPage pageBlock pageContents slotFits slotOf isEmpty isTorn isDead isWrong entryOf holding segmentOf segmentsFrom segmentsOn isInUse isInvalid isOwing numberAfter slotsIn nextNumber topIndex nextIndex topSlots usedCount firstNumber slotsFrom viewOf entries entriesIn someInUse numbersFrom consecutive noneOwing othersBlank noneWrongOrTorn holds distinct blocksDistinct emptyLast onlyTopEmpty emptySlotsLast capacity withinCapacity conditions isClean nextBlanked isA settled topSettled isB withSlot filled lastSlot lastKind tornMarked isC slotFrom placeFrom placeOf blockIn lastBlock copies older olderMarked isD stateOf programs programPart onPage headerAt slotAt writeSlot markDead markPlace openSegment copyEntries copyOut settle compact topRow topNumber hasRoom firstEmpty copied openNext compactOldest compactUntilRoom roomFor markOld writeAtTop putSteps deleteSteps eraseFirst formatSteps eraseUnlessBlank mendSteps recoverSteps compactions newNumbers isWorn lookup contentsFound firstOf isDamaged isUnfinished lengthOk isFull absentRefusals refusals stepsFor workOn codeUnder erasesIn among removed inserted storedAfter replaces start tallied tally eraseCount programPage stepPages runPages contentsIn isCleanIn cutHolds exampleHolds failing upFrom putEach examples
+unfolding flatMap flatten same all count chunk numberLimit imageLength inRange bySegment clear erased numberBytes inverted value statusInUse newVersion isFormer versionNumber totalFits bitValues clearedIn clearedBits tallyOf noBitLeft tallyBytes headerPage headerStatus headerNumber headerVersion oldIndex headerInUse isBlank allBlank mostContents numberOk slotPage pageBlock pageContents slotFits slotOf isEmpty isTorn isDead isWrong entryOf holding segmentOf segmentsFrom segmentsOn isInUse isInvalid isOwing numberAfter slotsIn versionIn ofVersion nextNumber topIndex nextIndex topSlots topVersion usedCount firstNumber slotsFrom viewOf entries entriesIn someInUse numbersFrom consecutive oneVersion noneOwing othersBlank noneWrongOrTorn holds distinct blocksDistinct emptyLast onlyTopEmpty emptySlotsLast capacity withinCapacity conditions isClean nextBlanked isA settled topSettled isB withSlot filled lastSlot lastKind tornMarked isC slotFrom placeFrom placeOf blockIn lastBlock copies older olderMarked isD stateOf programs programPart onPage headerAt slotAt writeSlot markDead markPlace openSegment copyEntries copyOut settle compact topRow topNumber hasRoom firstEmpty copied nextVersion openNext compactOldest compactUntilRoom roomFor markOld writeAtTop putSteps deleteSteps eraseFirst formatSteps highestOf highestBit clearNext countErase eraseNext unlessBlank mendSteps recoverSteps compactions newNumbers isWorn lookup contentsFound firstOf isDamaged isUnfinished lengthOk isFull absentRefusals refusals stepsFor workOn codeUnder erasesIn among removed inserted storedAfter replaces start tallied tally eraseCount programPage stepPages runPages contentsIn isCleanIn cutHolds exampleHolds failing upFrom putEach examples
 evaluate = 0
 
 -- ---- the bench over pages
@@ -49,11 +49,8 @@ readPages N B ps b =
     (record { code = 0; offset = contentsAt N B (placeOf b v); length = length (contentsFound (lookup b (entriesIn v))) })
     (record { code = code; offset = 0; length = 0 })
 
-formattedPages : ℕ → ℕ → List Page
-formattedPages N B = playPages N B (replicate (N * (B + 1)) (replicate 256 0)) (whole format ∷ [])
-
 recordedPages : Setup → List Page
-recordedPages u = runPages (u .slots) (copyEntries (u .segments) (u .slots) 0 0 (u .records)) (formattedPages (u .segments) (u .slots))
+recordedPages u = runPages (u .slots) (recording u) (replicate (u .segments * (u .slots + 1)) (replicate 256 0))
 
 leftPages : Setup → List Page
 leftPages u = playPages (u .segments) (u .slots) (recordedPages u) (u .calls)
@@ -67,7 +64,7 @@ benchPages = record {
 }
 
 computed : failing benchPages 0 examples ≡ []
-unfolding evaluate workPages playPages seenPages readPages formattedPages recordedPages leftPages benchPages contentsAt
+unfolding evaluate workPages playPages seenPages readPages recording recordedPages leftPages benchPages contentsAt
 computed = refl
 
 -- ---- the bench over pages is the bench over the image
@@ -110,37 +107,27 @@ seen-pages N B (x ∷ xs) s h =
     (seen-pages N B xs (outcomeOf N B s (x .allowance) (x .request) .image) (outcome-length N B s (x .allowance) (x .request) h)
     ∙ ap (λ y. seenPages N B y xs) (outcome-pages N B s x h))
 
-zeros : ℕ → ℕ → Image
-zeros N B = replicate (imageLength N B) 0
-
-zeros-length : (N B : ℕ) → length (zeros N B) ≡ imageLength N B
-unfolding zeros
-zeros-length N B = length-replicate (imageLength N B) 0
-
-formatted-length : (N B : ℕ) → length (formatted N B) ≡ imageLength N B
-unfolding formatted zeros
-formatted-length N B = play-length N B (whole format ∷ []) (zeros N B) (zeros-length N B)
-
-formatted-pages : (N B : ℕ) → pagesOf N B (formatted N B) ≡ formattedPages N B
-unfolding formatted formattedPages zeros
-formatted-pages N B = play-pages N B (whole format ∷ []) (zeros N B) (zeros-length N B) ∙ ap (λ y. playPages N B y (whole format ∷ [])) blank-pages
-  where
-    blank-pages : pagesOf N B (zeros N B) ≡ replicate (N * (B + 1)) (replicate 256 0)
-    blank-pages = unfold pagesOf imageLength in chunk-replicate (N * (B + 1)) 256 0
-
 read-pages : (N B : ℕ) (s : Image) (b : ℕ) → length s ≡ imageLength N B → readOutcome N B s b ≡ readPages N B (pagesOf N B s) b
 unfolding readOutcome readPages view segmentsOf
 read-pages N B s b h = rw (work-pages N B s (read b) h)
 
+zeros : Setup → Image
+zeros u = replicate (imageLength (u .segments) (u .slots)) 0
+
+zeros-length : (u : Setup) → length (zeros u) ≡ imageLength (u .segments) (u .slots)
+unfolding zeros
+zeros-length u = length-replicate (imageLength (u .segments) (u .slots)) 0
+
 recorded-length : (u : Setup) → length (recorded u) ≡ imageLength (u .segments) (u .slots)
-unfolding recorded
-recorded-length u = run-length (u .slots) (copyEntries (u .segments) (u .slots) 0 0 (u .records)) (formatted (u .segments) (u .slots)) ∙ formatted-length (u .segments) (u .slots)
+unfolding recorded zeros
+recorded-length u = run-length (u .slots) (recording u) (zeros u) ∙ zeros-length u
 
 recorded-pages : (u : Setup) → pagesOf (u .segments) (u .slots) (recorded u) ≡ recordedPages u
-unfolding recorded recordedPages
-recorded-pages u = let xs = copyEntries (u .segments) (u .slots) 0 0 (u .records) in
-    pages-run (u .segments) (u .slots) xs (formatted (u .segments) (u .slots)) (formatted-length (u .segments) (u .slots))
-    ∙ ap (λ y. runPages (u .slots) xs y) (formatted-pages (u .segments) (u .slots))
+unfolding recorded recordedPages zeros
+recorded-pages u = pages-run (u .segments) (u .slots) (recording u) (zeros u) (zeros-length u) ∙ ap (λ y. runPages (u .slots) (recording u) y) blank-pages
+  where
+    blank-pages : pagesOf (u .segments) (u .slots) (zeros u) ≡ replicate (u .segments * (u .slots + 1)) (replicate 256 0)
+    blank-pages = unfold pagesOf imageLength in chunk-replicate (u .segments * (u .slots + 1)) 256 0
 
 left-length : (u : Setup) → length (left u) ≡ imageLength (u .segments) (u .slots)
 unfolding left

@@ -2,7 +2,7 @@
 use Prim.Native.Nat.{ℕ, zero, suc, _+_, _-_, _%_, _≤_, _<_}
 use mathlib.Core.Path.{_≡_, refl, ap}
 use mathlib.Core.Logic.{_≢_}
-use mathlib.Core.Bool.{Bool, true, false, cond, not, true≢false}
+use mathlib.Core.Bool.{Bool, true, false, cond, _&&_, not, true≢false}
 use mathlib.Core.List.{List}
 use native.Mathlib.Omega.{arith}
 use native.Mathlib.Nat.{mod-lt}
@@ -10,7 +10,7 @@ use lib.ListN.{length, getD}
 use lib.Dec.{leb}
 use borrow.Author.Tests.{leb-true, le-leb, not-true}
 use Rattle.model.specs.Lists.{all}
-use Rattle.model.specs.State.{Segment, blank, invalid, inUse, isInUse, isInvalid, numberAfter, slotsIn, nextNumber, nextIndex, usedCount, firstNumber, View, viewOf, someInUse, numbersFrom, consecutive, noneOwing, othersBlank, noneWrongOrTorn, blocksDistinct, emptySlotsLast, withinCapacity, conditions, isClean, isA, isB, isC, isD, caseA, caseB, caseC, caseD, clean, unfinished, damaged, stateOf}
+use Rattle.model.specs.State.{Segment, blank, invalid, inUse, isInUse, isInvalid, numberAfter, slotsIn, versionIn, nextNumber, nextIndex, usedCount, firstNumber, View, viewOf, someInUse, numbersFrom, consecutive, oneVersion, noneOwing, othersBlank, noneWrongOrTorn, blocksDistinct, emptySlotsLast, withinCapacity, conditions, isClean, isA, isB, isC, isD, caseA, caseB, caseC, caseD, clean, unfinished, damaged, stateOf}
 use Rattle.model.specs.Laws.Lists.{and-left, and-right, all-get}
 use Rattle.model.specs.Laws.Ring.{next-ge, numbers-get, only-numbered, Apart, apart-before, slots-length}
 
@@ -20,6 +20,7 @@ pub record RingFacts (N : ℕ) (l : List Segment) : Type 0 where
   pub some : 1 ≤ usedCount l
   pub spare : usedCount l ≤ N - 1
   pub chain : numbersFrom N l (usedCount l) (firstNumber l) ≡ true
+  pub one : oneVersion l ≡ true
   pub paid : noneOwing l ≡ true
   pub others : othersBlank l ≡ true
 
@@ -37,11 +38,13 @@ condition N B l i h b = all-get (λ t. t) (conditions N B l) i true h (unfold co
 pub clean-ring : (N B : ℕ) (l : List Segment) → length l ≡ N → isClean N B l ≡ true → RingFacts N l
 unfolding conditions someInUse consecutive
 clean-ring N B l e h =
-    let one : someInUse N l ≡ true = condition N B l 0 h (omega arith) in record {
+    let first : someInUse N l ≡ true = condition N B l 0 h (omega arith) in
+    let second : (consecutive N l && oneVersion l) ≡ true = condition N B l 1 h (omega arith) in record {
       size = e;
-      some = leb-true 1 (usedCount l) (and-left (leb 1 (usedCount l)) (leb (usedCount l) (N - 1)) one);
-      spare = leb-true (usedCount l) (N - 1) (and-right (leb 1 (usedCount l)) (leb (usedCount l) (N - 1)) one);
-      chain = condition N B l 1 h (omega arith);
+      some = leb-true 1 (usedCount l) (and-left (leb 1 (usedCount l)) (leb (usedCount l) (N - 1)) first);
+      spare = leb-true (usedCount l) (N - 1) (and-right (leb 1 (usedCount l)) (leb (usedCount l) (N - 1)) first);
+      chain = and-left (consecutive N l) (oneVersion l) second;
+      one = and-right (consecutive N l) (oneVersion l) second;
       paid = condition N B l 2 h (omega arith);
       others = condition N B l 3 h (omega arith);
     }
@@ -58,7 +61,7 @@ clean-slots N B l h = record {
 -- and together again
 pub ring-clean : (N B : ℕ) (l : List Segment) → RingFacts N l → SlotFacts N B (viewOf N l) → isClean N B l ≡ true
 unfolding isClean conditions all someInUse consecutive
-ring-clean N B l r s = rw (le-leb 1 (usedCount l) (r .some), le-leb (usedCount l) (N - 1) (r .spare), r .chain, r .paid, r .others, s .sound, s .once, s .last, s .within)
+ring-clean N B l r s = rw (le-leb 1 (usedCount l) (r .some), le-leb (usedCount l) (N - 1) (r .spare), r .chain, r .one, r .paid, r .others, s .sound, s .once, s .last, s .within)
 
 -- the state is clean exactly if Clean holds
 pub state-clean : (N B : ℕ) (l : List Segment) → stateOf N B l ≡ clean → isClean N B l ≡ true
@@ -120,7 +123,7 @@ module _ (N : ℕ) (l : List Segment) (r : RingFacts N l) where
       go : (x : Segment) → isInUse x ≡ false → isInvalid x ≡ false → x ≡ blank
       go blank p q = refl
       go invalid p q = absurd (true≢false (unfold isInvalid in q))
-      go (inUse st n ks) p q = absurd (true≢false (unfold isInUse in p))
+      go (inUse ver st n ks) p q = absurd (true≢false (unfold isInUse in p))
 
   -- the view has a row for each segment in use
   pub view-length : length (viewOf N l .slots) ≡ usedCount l
@@ -128,8 +131,8 @@ module _ (N : ℕ) (l : List Segment) (r : RingFacts N l) where
   view-length = slots-length N l (usedCount l) (firstNumber l)
 
 -- a segment by its number
-pub in-use-numbered : (x : Segment) (n : ℕ) → numberAfter x ≡ suc n → (st : ℕ) × (x ≡ inUse st n (slotsIn x))
-unfolding numberAfter slotsIn
+pub in-use-numbered : (x : Segment) (n : ℕ) → numberAfter x ≡ suc n → (st : ℕ) × (x ≡ inUse (versionIn x) st n (slotsIn x))
+unfolding numberAfter slotsIn versionIn
 in-use-numbered blank n e = absurd (omega arith)
 in-use-numbered invalid n e = absurd (omega arith)
-in-use-numbered (inUse st m ks) n e = (st, ap (λ (y : ℕ). inUse st y ks) (omega arith))
+in-use-numbered (inUse ver st m ks) n e = (st, ap (λ (y : ℕ). inUse ver st y ks) (omega arith))

@@ -6,13 +6,13 @@ use native.Mathlib.Omega.{arith}
 use native.Mathlib.Nat.{mod-lt}
 use lib.ListN.{length, getD, drop, set, replicate, length-set}
 use lib.Seq.{getD-set-same, getD-set-other, sets, length-sets}
-use Rattle.model.specs.Chip.{Image, Page, Step, erased, run, mostSegments, numberLimit, imageLength}
-use Rattle.model.specs.Header.{erasePending, headerPage, oldIndex}
+use Rattle.model.specs.Chip.{Image, Page, Step, erased, run, mostSegments, eraseLimit, numberLimit, imageLength}
+use Rattle.model.specs.Header.{erasePending, Version, newVersion, headerPage, oldIndex}
 use Rattle.model.specs.Slot.{Slot, empty, slotPage, slotOf, Entry, holding}
 use Rattle.model.specs.State.{Segment, blank, inUse, segmentOf, segmentsOf}
 use Rattle.model.specs.Steps.{onPage, headerAt, slotAt, writeSlot, copyEntries, copyOut, copied}
 use Rattle.model.specs.Laws.Chip.{run-append, run-length}
-use Rattle.model.specs.Laws.HeaderPage.{compactionHeader, pendingHeader, copy-out-pages, compaction-in-page, pending-in-page, begunPage, compaction-run, pending-run}
+use Rattle.model.specs.Laws.HeaderPage.{new-fits, compactionHeader, pendingHeader, copy-out-pages, compaction-in-page, pending-in-page, begunPage, compaction-run, pending-run}
 use Rattle.model.specs.Laws.SlotPage.{Valid, slot-live, write-in-page, write-run}
 use Rattle.model.specs.Laws.Segments.{partOf, part-size, Only, only-trans, only-segments, only-run, page-in-segment, InSegment, in-segment-append, part-run}
 use Rattle.model.specs.Laws.Effects.{blank-page, blank-slots, headed, header-run, pending-status, pending-old, few}
@@ -83,10 +83,13 @@ module _ (N B : ℕ) (two : 2 ≤ N) (n : ℕ) where
       (λ q lo hi. ap (λ (y : List Page). getD y q []) here ∙ (getD-set-other (partOf N B i s) (suc j) q page [] (λ w. omega arith) ∙ e q (omega arith) (omega arith)))
       ∙ ap (λ (y : List Page). sets y (suc (suc j)) (entryPages es)) here)
 
-module _ (N B : ℕ) (two : 2 ≤ N) (most : N ≤ mostSegments) (mostB : B < 256) (s : Image) (z : length s ≡ imageLength N B) (o n : ℕ) (below : n < numberLimit N)
+module _ (N B : ℕ) (two : 2 ≤ N) (most : N ≤ mostSegments) (mostB : B < 256) (s : Image) (z : length s ≡ imageLength N B) (t o n : ℕ) (total : t < eraseLimit) (below : n < numberLimit N)
     (ring : o % N ≡ (n % N + 1) % N) (es : List Entry) (valid : Valids es) (fit : length es ≤ B) (free : getD (segmentsOf N B s) (n % N) blank ≡ blank) where
   abbrev i : ℕ
   i = n % N
+
+  abbrev ver : Version
+  ver = newVersion t
 
   abbrev ps : List Page
   ps = partOf N B i s
@@ -95,7 +98,7 @@ module _ (N B : ℕ) (two : 2 ≤ N) (most : N ≤ mostSegments) (mostB : B < 25
   old-byte = let p : 0 < N = omega arith in let q = mod-lt o p in omega (arith, few N B two most mostB s z n below)
 
   abbrev begin : List Step
-  begin = onPage (headerAt N B n) (compactionHeader N B n (o % N))
+  begin = onPage (headerAt N B n) (compactionHeader N B ver n (o % N))
 
   abbrev s1 : Image
   s1 = run B begin s
@@ -106,10 +109,10 @@ module _ (N B : ℕ) (two : 2 ≤ N) (most : N ≤ mostSegments) (mostB : B < 25
   -- the header begun
   pub begun : (Only N B i s s1) × (partOf N B i s1 ≡ set ps 0 (begunPage N B (o % N)))
   begun =
-      let r = header-run N B two most mostB s z n below (compactionHeader N B n (o % N)) (compaction-in-page N B n (o % N)) in (
+      let r = header-run N B two most mostB s z n below (compactionHeader N B ver n (o % N)) (compaction-in-page N B ver n (o % N)) in (
         r .0,
-        r .1 ∙ ap (λ (y : Page). set ps 0 y) (ap (λ (y : Page). run B (compactionHeader N B n (o % N)) y) (blank-page N B two s z i 0 (target N B two n) (omega arith) free)
-            ∙ compaction-run N B n (few N B two most mostB s z n below) mostB (o % N) old-byte),
+        r .1 ∙ ap (λ (y : Page). set ps 0 y) (ap (λ (y : Page). run B (compactionHeader N B ver n (o % N)) y) (blank-page N B two s z i 0 (target N B two n) (omega arith) free)
+            ∙ compaction-run N B t n (few N B two most mostB s z n below) mostB (o % N) old-byte),
       )
 
   abbrev copying : List Step
@@ -143,28 +146,28 @@ module _ (N B : ℕ) (two : 2 ≤ N) (most : N ≤ mostSegments) (mostB : B < 25
       go (q ∷ qs) e l = ap (λ (y : List Page). map slotOf (drop 1 y)) (sets-cons (begunPage N B (o % N)) qs 0 (entryPages es)) ∙ entry-slots es qs B valid e fit
 
   abbrev finish : List Step
-  finish = onPage (headerAt N B n) (pendingHeader N B n (o % N))
+  finish = onPage (headerAt N B n) (pendingHeader N B ver n (o % N))
 
   abbrev s3 : Image
   s3 = run B finish s2
 
-  finished : (Only N B i s2 s3) × (partOf N B i s3 ≡ set pages2 0 (headerPage N B erasePending n (oldIndex N i erasePending)))
+  finished : (Only N B i s2 s3) × (partOf N B i s3 ≡ set pages2 0 (headerPage N B ver erasePending n (oldIndex N i erasePending)))
   finished =
-      let r = header-run N B two most mostB s2 z2 n below (pendingHeader N B n (o % N)) (pending-in-page N B n (o % N)) in (
+      let r = header-run N B two most mostB s2 z2 n below (pendingHeader N B ver n (o % N)) (pending-in-page N B ver n (o % N)) in (
         r .0,
-        r .1 ∙ ap (λ (y : List Page). set y 0 (run B (pendingHeader N B n (o % N)) (getD y 0 []))) (copied-pages .1)
-            ∙ ap (λ (y : Page). set pages2 0 y) (ap (λ (y : Page). run B (pendingHeader N B n (o % N)) y) head2 ∙ (pending-run N B n (o % N)
-            ∙ ap (λ (y : ℕ). headerPage N B erasePending n y) (ring ∙ sym (pending-old N i)))),
+        r .1 ∙ ap (λ (y : List Page). set y 0 (run B (pendingHeader N B ver n (o % N)) (getD y 0 []))) (copied-pages .1)
+            ∙ ap (λ (y : Page). set pages2 0 y) (ap (λ (y : Page). run B (pendingHeader N B ver n (o % N)) y) head2 ∙ (pending-run N B t n (o % N)
+            ∙ ap (λ (y : ℕ). headerPage N B ver erasePending n y) (ring ∙ sym (pending-old N i)))),
       )
 
-  the-run : run B (copyOut N B o n es) s ≡ s3
-  the-run = ap (λ (y : List Step). run B y s) (copy-out-pages N B o n es) ∙ (run-append B begin (copying ++ finish) s ∙ run-append B copying finish s1)
+  the-run : run B (copyOut N B (newVersion t) o n es) s ≡ s3
+  the-run = ap (λ (y : List Step). run B y s) (copy-out-pages N B ver o n es) ∙ (run-append B begin (copying ++ finish) s ∙ run-append B copying finish s1)
 
-  pub copy-out-effect : segmentsOf N B (run B (copyOut N B o n es) s) ≡ set (segmentsOf N B s) (n % N) (inUse erasePending n (copied B es))
+  pub copy-out-effect : segmentsOf N B (run B (copyOut N B (newVersion t) o n es) s) ≡ set (segmentsOf N B s) (n % N) (inUse (newVersion t) erasePending n (copied B es))
   copy-out-effect =
       ap (λ y. segmentsOf N B y) the-run
       ∙ (only-segments N B i s s3 (only-trans N B i s s2 s3 (only-trans N B i s s1 s2 (begun .0) (copied-pages .0)) (finished .0))
       ∙ ap (λ (y : Segment). set (segmentsOf N B s) i y) (ap (λ y. segmentOf N B i y) (finished .1)
-      ∙ (headed N B erasePending n pages2 most pending-status below
+      ∙ (headed N B ver erasePending n pages2 most pending-status (new-fits t total) below
       (omega (arith, length-sets (set ps 0 (begunPage N B (o % N))) 1 (entryPages es), length-set ps 0 (begunPage N B (o % N)), part-size N B i s (target N B two n)))
-      ∙ ap (λ y. inUse erasePending n y) slots2)))
+      ∙ ap (λ y. inUse ver erasePending n y) slots2)))

@@ -8,8 +8,8 @@ use native.Mathlib.Nat.{mod-lt}
 use lib.ListN.{length, getD, drop, set, replicate, length-drop}
 use lib.Seq.{getD-drop}
 use Rattle.model.specs.Lists.{all, chunk}
-use Rattle.model.specs.Chip.{Image, Page, Step, erase, erased, withSegment, step, run, mostSegments, numberLimit, imageLength, Cut}
-use Rattle.model.specs.Header.{opened, erasePending, compacted, noOldSegment, statusInUse, headerPage, headerStatus, headerNumber, oldIndex, headerInUse, isBlank, allBlank}
+use Rattle.model.specs.Chip.{Image, Page, Step, erase, erased, withSegment, step, run, mostSegments, eraseLimit, numberLimit, imageLength, Cut}
+use Rattle.model.specs.Header.{opened, erasePending, compacted, Version, newVersion, totalFits, noOldSegment, statusInUse, headerPage, headerStatus, headerNumber, headerVersion, oldIndex, headerInUse, isBlank, allBlank}
 use Rattle.model.specs.Slot.{Slot, empty, dead, live, slotOf}
 use Rattle.model.specs.State.{Segment, blank, invalid, inUse, segmentOf, segmentsOf, numberAfter, withSlot}
 use Rattle.model.specs.Steps.{onPage, headerAt, slotAt, writeSlot, markDead, openSegment, settle}
@@ -17,30 +17,31 @@ use Rattle.model.specs.Laws.Lists.{all-get, map-set, map-length, map-get
 use Rattle.model.specs.Laws.Chunk.{chunk-replicate}
 use Rattle.model.specs.Laws.Bytes.{blank-erased, erased-blank, erased-length}
 use Rattle.model.specs.Laws.Pages.{InPage}
-use Rattle.model.specs.Laws.HeaderPage.{header-status, header-number, header-in-use, number-fits, in-use-facts, openingHeader, settledHeader, open-segment-page, settle-page, opening-in-page, settled-in-page, opening-run, settled-run, erased-unused}
+use Rattle.model.specs.Laws.HeaderPage.{header-status, header-number, header-version, new-fits, header-in-use, number-fits, in-use-facts, openingHeader, settledHeader, open-segment-page, settle-page, opening-in-page, settled-in-page, opening-run, settled-run, erased-unused}
 use Rattle.model.specs.Laws.SlotPage.{Valid, slot-live, erased-empty, empty-erased, Markable, marked-dead, mark-in-page, write-in-page, write-run}
 use Rattle.model.specs.Laws.Segments.{partOf, part-size, page-size, segment-at, Only, only-segments, only-part, page-in-segment, only-run, only-cut, part-run, part-cut, replaced-parts, erased-image}
 
 -- ---- a segment, taken apart
 
 -- what a segment in use says of its pages
-pub record InUseParts (N B i : ℕ) (ps : List Page) (st n : ℕ) (ks : List Slot) : Type 0 where
+pub record InUseParts (N B i : ℕ) (ps : List Page) (ver : Version) (st n : ℕ) (ks : List Slot) : Type 0 where
   pub header : headerInUse N B i (getD ps 0 []) ≡ true
+  pub version : headerVersion (getD ps 0 []) ≡ ver
   pub status : headerStatus (getD ps 0 []) ≡ st
   pub number : headerNumber (getD ps 0 []) ≡ n
   pub slots : map slotOf (drop 1 ps) ≡ ks
 
-in-use-only : (a b : ℕ) (x : List Slot) (c d : ℕ) (y : List Slot) → inUse a b x ≡ inUse c d y → (a ≡ c) × (b ≡ d) × (x ≡ y)
-in-use-only a b x c d y e = (cc, cc, cc)
+in-use-only : (v : Version) (a b : ℕ) (x : List Slot) (w : Version) (c d : ℕ) (y : List Slot) → inUse v a b x ≡ inUse w c d y → (v ≡ w) × (a ≡ c) × (b ≡ d) × (x ≡ y)
+in-use-only v a b x w c d y e = (cc, cc, cc, cc)
 
-pub in-use-parts : (N B i : ℕ) (ps : List Page) (st n : ℕ) (ks : List Slot) → segmentOf N B i ps ≡ inUse st n ks → InUseParts N B i ps st n ks
+pub in-use-parts : (N B i : ℕ) (ps : List Page) (ver : Version) (st n : ℕ) (ks : List Slot) → segmentOf N B i ps ≡ inUse ver st n ks → InUseParts N B i ps ver st n ks
 unfolding segmentOf
-in-use-parts N B i ps st n ks e = go (headerInUse N B i (getD ps 0 [])) refl (allBlank ps) e
+in-use-parts N B i ps ver st n ks e = go (headerInUse N B i (getD ps 0 [])) refl (allBlank ps) e
   where
     go : (t : Bool) → headerInUse N B i (getD ps 0 []) ≡ t → (b : Bool)
-        → cond t (inUse (headerStatus (getD ps 0 [])) (headerNumber (getD ps 0 [])) (map slotOf (drop 1 ps))) (cond b blank invalid) ≡ inUse st n ks → InUseParts N B i ps st n ks
-    go true h b q = let r = in-use-only (headerStatus (getD ps 0 [])) (headerNumber (getD ps 0 [])) (map slotOf (drop 1 ps)) st n ks q in
-        record { header = h; status = r .0; number = r .1; slots = r .2 }
+        → cond t (inUse (headerVersion (getD ps 0 [])) (headerStatus (getD ps 0 [])) (headerNumber (getD ps 0 [])) (map slotOf (drop 1 ps))) (cond b blank invalid) ≡ inUse ver st n ks → InUseParts N B i ps ver st n ks
+    go true h b q = let r = in-use-only (headerVersion (getD ps 0 [])) (headerStatus (getD ps 0 [])) (headerNumber (getD ps 0 [])) (map slotOf (drop 1 ps)) ver st n ks q in
+        record { header = h; version = r .0; status = r .1; number = r .2; slots = r .3 }
     go false h true q = absurd (false≢true cc)
     go false h false q = absurd (false≢true cc)
 
@@ -52,15 +53,15 @@ numbered-at N B s i n h e = go (getD (segmentsOf N B s) i blank) refl e
     go : (x : Segment) → getD (segmentsOf N B s) i blank ≡ x → numberAfter x ≡ suc n → (n % N ≡ i) × (n < numberLimit N)
     go blank q d = absurd (omega arith)
     go invalid q d = absurd (omega arith)
-    go (inUse st m ks) q d =
-        let u = in-use-parts N B i (partOf N B i s) st m ks (sym (segment-at N B i s h) ∙ q) in
+    go (inUse ver st m ks) q d =
+        let u = in-use-parts N B i (partOf N B i s) ver st m ks (sym (segment-at N B i s h) ∙ q) in
         let f = in-use-facts N B i (getD (partOf N B i s) 0 []) (u .header) in
         let w : headerNumber (getD (partOf N B i s) 0 []) ≡ n = u .number ∙ omega arith in
         (rw w at (f .place), rw w at (f .below))
 
 -- a header in use
 pub segment-in-use : (N B i : ℕ) (ps : List Page) → headerInUse N B i (getD ps 0 []) ≡ true
-    → segmentOf N B i ps ≡ inUse (headerStatus (getD ps 0 [])) (headerNumber (getD ps 0 [])) (map slotOf (drop 1 ps))
+    → segmentOf N B i ps ≡ inUse (headerVersion (getD ps 0 [])) (headerStatus (getD ps 0 [])) (headerNumber (getD ps 0 [])) (map slotOf (drop 1 ps))
 unfolding segmentOf
 segment-in-use N B i ps h = rw h
 
@@ -68,7 +69,7 @@ pub blank-parts : (N B i : ℕ) (ps : List Page) → segmentOf N B i ps ≡ blan
 unfolding segmentOf
 blank-parts N B i ps e = go (headerInUse N B i (getD ps 0 [])) (allBlank ps) refl e
   where
-    go : (t b : Bool) → allBlank ps ≡ b → cond t (inUse (headerStatus (getD ps 0 [])) (headerNumber (getD ps 0 [])) (map slotOf (drop 1 ps))) (cond b blank invalid) ≡ blank → allBlank ps ≡ true
+    go : (t b : Bool) → allBlank ps ≡ b → cond t (inUse (headerVersion (getD ps 0 [])) (headerStatus (getD ps 0 [])) (headerNumber (getD ps 0 [])) (map slotOf (drop 1 ps))) (cond b blank invalid) ≡ blank → allBlank ps ≡ true
     go t true h q = h
     go true false h q = cc
     go false false h q = cc
@@ -93,7 +94,7 @@ slot-part N B i j ps x h = rw (header ps, h, slots ps)
 
 -- the header page replaced
 pub head-part : (N B i : ℕ) (ps : List Page) (h : Page) → 0 < length ps → headerInUse N B i h ≡ true
-    → segmentOf N B i (set ps 0 h) ≡ inUse (headerStatus h) (headerNumber h) (map slotOf (drop 1 ps))
+    → segmentOf N B i (set ps 0 h) ≡ inUse (headerVersion h) (headerStatus h) (headerNumber h) (map slotOf (drop 1 ps))
 head-part N B i [] h l e = absurd (omega arith)
 head-part N B i (p ∷ ps) h l e = segment-in-use N B i (h ∷ ps) e
 
@@ -121,13 +122,13 @@ module _ (N B : ℕ) (two : 2 ≤ N) (s : Image) (z : length s ≡ imageLength N
 
   -- ---- steps in one slot
 
-  module _ (k j st n : ℕ) (ks : List Slot) (inside : j < B) (used : getD (segmentsOf N B s) (k % N) blank ≡ inUse st n ks) where
+  module _ (k j : ℕ) (ver : Version) (st n : ℕ) (ks : List Slot) (inside : j < B) (used : getD (segmentsOf N B s) (k % N) blank ≡ inUse ver st n ks) where
     -- its page, and its kind
     abbrev pub slotPageAt : Page
     slotPageAt = getD (partOf N B (k % N) s) (suc j) []
 
-    used-parts : InUseParts N B (k % N) (partOf N B (k % N) s) st n ks
-    used-parts = in-use-parts N B (k % N) (partOf N B (k % N) s) st n ks (sym (segment-at N B (k % N) s (index k)) ∙ used)
+    used-parts : InUseParts N B (k % N) (partOf N B (k % N) s) ver st n ks
+    used-parts = in-use-parts N B (k % N) (partOf N B (k % N) s) ver st n ks (sym (segment-at N B (k % N) s (index k)) ∙ used)
 
     pub slot-kind : slotOf slotPageAt ≡ getD ks j empty
     slot-kind =
@@ -226,12 +227,14 @@ unfolding oldIndex
 compacted-old N i = refl
 
 -- a segment with a finished header
-pub headed : (N B st n : ℕ) (ps : List Page) → N ≤ mostSegments → statusInUse st ≡ true → n < numberLimit N → 0 < length ps
-    → segmentOf N B (n % N) (set ps 0 (headerPage N B st n (oldIndex N (n % N) st))) ≡ inUse st n (map slotOf (drop 1 ps))
-headed N B st n ps m e l p =
+pub headed : (N B : ℕ) (ver : Version) (st n : ℕ) (ps : List Page) → N ≤ mostSegments → statusInUse st ≡ true → totalFits ver ≡ true → n < numberLimit N → 0 < length ps
+    → segmentOf N B (n % N) (set ps 0 (headerPage N B ver st n (oldIndex N (n % N) st))) ≡ inUse ver st n (map slotOf (drop 1 ps))
+headed N B ver st n ps m e t l p =
     let old = oldIndex N (n % N) st in
-    head-part N B (n % N) ps (headerPage N B st n old) p (header-in-use N B st n m e l)
-    ∙ ap₂ (λ a b. inUse a b (map slotOf (drop 1 ps))) (header-status N B st n old) (header-number N B st n old (number-fits N n m l))
+    let h = headerPage N B ver st n old in
+    head-part N B (n % N) ps h p (header-in-use N B ver st n m e t l)
+    ∙ (ap (λ y. inUse y (headerStatus h) (headerNumber h) (map slotOf (drop 1 ps))) (header-version N B ver st n old t)
+    ∙ ap₂ (λ a b. inUse ver a b (map slotOf (drop 1 ps))) (header-status N B ver st n old) (header-number N B ver st n old (number-fits N n m l)))
 
 module _ (N B : ℕ) (two : 2 ≤ N) (most : N ≤ mostSegments) (mostB : B < 256) (s : Image) (z : length s ≡ imageLength N B) (n : ℕ) (below : n < numberLimit N) where
   pub place : n % N < N
@@ -255,34 +258,44 @@ module _ (N B : ℕ) (two : 2 ≤ N) (most : N ≤ mostSegments) (mostB : B < 25
   header-run xs p = rw (at-header xs)
       (only-run N B (n % N) (onPage header-at xs) s place (page-in-segment B (n % N) 0 xs (omega arith) p), part-run N B (n % N) 0 place (omega arith) xs p s z)
 
-  -- a blank segment opened
-  pub open-effect : getD (segmentsOf N B s) (n % N) blank ≡ blank → segmentsOf N B (run B (openSegment N B n) s) ≡ set (segmentsOf N B s) (n % N) (inUse opened n (replicate B empty))
-  open-effect e =
+  -- what a cut of them leaves: some page that is a cut of the header alone
+  pub header-cut : (xs : List Step) → InPage xs → (u : Image) → Cut B (onPage (headerAt N B n) xs) s u
+      → (x : Page) × Cut B xs (getD (partOf N B (n % N) s) 0 []) x × (partOf N B (n % N) u ≡ set (partOf N B (n % N) s) 0 x)
+  header-cut xs p u c = part-cut N B (n % N) 0 place (omega arith) xs p s z u (rw (at-header xs) at c)
+
+  -- a blank segment opened, with a total that fits
+  pub open-effect : (t : ℕ) → t < eraseLimit → getD (segmentsOf N B s) (n % N) blank ≡ blank
+      → segmentsOf N B (run B (openSegment N B (newVersion t) n) s) ≡ set (segmentsOf N B s) (n % N) (inUse (newVersion t) opened n (replicate B empty))
+  open-effect t fits e =
+      let ver = newVersion t in
       let ps = partOf N B (n % N) s in
-      let r = header-run (openingHeader N B n) (opening-in-page N B n) in
-      let page : run B (openingHeader N B n) (getD ps 0 []) ≡ headerPage N B opened n (oldIndex N (n % N) opened) =
-      ap (λ (y : Page). run B (openingHeader N B n) y) (blank-page N B two s z (n % N) 0 place (omega arith) e)
-      ∙ (opening-run N B n few mostB ∙ ap (λ (y : ℕ). headerPage N B opened n y) (sym (open-old N (n % N)))) in
-      ap (λ (y : List Step). segmentsOf N B (run B y s)) (open-segment-page N B n)
-      ∙ (only-segments N B (n % N) s (run B (onPage (headerAt N B n) (openingHeader N B n)) s) (r .0)
+      let r = header-run (openingHeader N B ver n) (opening-in-page N B ver n) in
+      let page : run B (openingHeader N B ver n) (getD ps 0 []) ≡ headerPage N B ver opened n (oldIndex N (n % N) opened) =
+      ap (λ (y : Page). run B (openingHeader N B ver n) y) (blank-page N B two s z (n % N) 0 place (omega arith) e)
+      ∙ (opening-run N B t n few mostB ∙ ap (λ (y : ℕ). headerPage N B ver opened n y) (sym (open-old N (n % N)))) in
+      ap (λ (y : List Step). segmentsOf N B (run B y s)) (open-segment-page N B ver n)
+      ∙ (only-segments N B (n % N) s (run B (onPage (headerAt N B n) (openingHeader N B ver n)) s) (r .0)
       ∙ ap (λ (y : Segment). set (segmentsOf N B s) (n % N) y)
       (ap (λ y. segmentOf N B (n % N) y) (r .1 ∙ ap (λ (y : Page). set ps 0 y) page)
-      ∙ (headed N B opened n ps most open-status below (omega (arith, part-size N B (n % N) s place)) ∙ ap (λ y. inUse opened n y) (blank-slots N B two s z (n % N) place e))))
+      ∙ (headed N B ver opened n ps most open-status (new-fits t fits) below (omega (arith, part-size N B (n % N) s place))
+      ∙ ap (λ y. inUse ver opened n y) (blank-slots N B two s z (n % N) place e))))
 
   -- the old segment erased: an owing segment settled
-  pub settle-effect : (ks : List Slot) → getD (segmentsOf N B s) (n % N) blank ≡ inUse erasePending n ks → segmentsOf N B (run B (settle N B n) s) ≡ set (segmentsOf N B s) (n % N) (inUse compacted n ks)
-  settle-effect ks e =
+  pub settle-effect : (ver : Version) (ks : List Slot) → getD (segmentsOf N B s) (n % N) blank ≡ inUse ver erasePending n ks
+      → segmentsOf N B (run B (settle N B n) s) ≡ set (segmentsOf N B s) (n % N) (inUse ver compacted n ks)
+  settle-effect ver ks e =
       let ps = partOf N B (n % N) s in
       let h = getD ps 0 [] in
-      let u = in-use-parts N B (n % N) ps erasePending n ks (sym (segment-at N B (n % N) s place) ∙ e) in
+      let u = in-use-parts N B (n % N) ps ver erasePending n ks (sym (segment-at N B (n % N) s place) ∙ e) in
       let f = in-use-facts N B (n % N) h (u .header) in
       let r = header-run settledHeader settled-in-page in
-      let page : h ≡ headerPage N B erasePending n ((n % N + 1) % N) =
-      f .page ∙ ap₂ (λ a b. headerPage N B a b (oldIndex N (n % N) a)) (u .status) (u .number) ∙ ap (λ (y : ℕ). headerPage N B erasePending n y) (pending-old N (n % N)) in
-      let page2 : run B settledHeader h ≡ headerPage N B compacted n (oldIndex N (n % N) compacted) =
-      ap (λ (y : Page). run B settledHeader y) page ∙ (settled-run N B n ((n % N + 1) % N) ∙ ap (λ (y : ℕ). headerPage N B compacted n y) (sym (compacted-old N (n % N)))) in
+      let page : h ≡ headerPage N B ver erasePending n ((n % N + 1) % N) =
+      f .page ∙ ap (λ y. headerPage N B y (headerStatus h) (headerNumber h) (oldIndex N (n % N) (headerStatus h))) (u .version)
+      ∙ ap₂ (λ a b. headerPage N B ver a b (oldIndex N (n % N) a)) (u .status) (u .number) ∙ ap (λ (y : ℕ). headerPage N B ver erasePending n y) (pending-old N (n % N)) in
+      let page2 : run B settledHeader h ≡ headerPage N B ver compacted n (oldIndex N (n % N) compacted) =
+      ap (λ (y : Page). run B settledHeader y) page ∙ (settled-run N B ver n ((n % N + 1) % N) ∙ ap (λ (y : ℕ). headerPage N B ver compacted n y) (sym (compacted-old N (n % N)))) in
       ap (λ (y : List Step). segmentsOf N B (run B y s)) (settle-page N B n)
       ∙ (only-segments N B (n % N) s (run B (onPage (headerAt N B n) settledHeader) s) (r .0)
       ∙ ap (λ (y : Segment). set (segmentsOf N B s) (n % N) y)
       (ap (λ y. segmentOf N B (n % N) y) (r .1 ∙ ap (λ (y : Page). set ps 0 y) page2)
-      ∙ (headed N B compacted n ps most compacted-status below (omega (arith, part-size N B (n % N) s place)) ∙ ap (λ y. inUse compacted n y) (u .slots))))
+      ∙ (headed N B ver compacted n ps most compacted-status (rw (u .version) at (f .fits)) below (omega (arith, part-size N B (n % N) s place)) ∙ ap (λ y. inUse ver compacted n y) (u .slots))))

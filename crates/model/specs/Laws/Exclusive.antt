@@ -26,7 +26,7 @@ inside f l i d e h = elim (decLt i (length l)) [ yes p ↦ p | no p ↦ absurd (
 pub invalid-paid : (x : Segment) → isInvalid x ≡ true → isOwing blank ≡ isOwing x
 invalid-paid blank h = refl
 invalid-paid invalid h = unfold isOwing in refl
-invalid-paid (inUse st n ks) h = absurd (false≢true (unfold isInvalid in h))
+invalid-paid (inUse ver st n ks) h = absurd (false≢true (unfold isInvalid in h))
 
 -- ---- what is never clean
 
@@ -126,7 +126,7 @@ module _ (N B : ℕ) (l : List Segment) (size : length l ≡ N) where
     unfolding isInvalid isInUse numberAfter slotsIn
     unused blank q = absurd (false≢true q)
     unused invalid q = (refl, refl, refl)
-    unused (inUse st n ks) q = absurd (false≢true q)
+    unused (inUse ver st n ks) q = absurd (false≢true q)
 
     blanked-next : nextNumber (nextBlanked N l) ≡ nextNumber l
     unfolding nextBlanked

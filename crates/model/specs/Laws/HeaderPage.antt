@@ -9,8 +9,8 @@ use lib.ListN.{getD}
 use lib.Dec.{ltb, eqb}
 use borrow.Author.Tests.{eq-eqb, ne-eqb, eqb-true, lt-ltb, ltb-true}
 use Rattle.model.specs.Lists.{same}
-use Rattle.model.specs.Chip.{Page, Step, program, erased, clear, step, run, mostSegments, numberLimit}
-use Rattle.model.specs.Header.{numberBytes, inverted, value, openingBegun, opened, compactionBegun, erasePending, compacted, noOldSegment, statusInUse, headerPage, headerStatus, headerNumber, oldIndex, headerInUse}
+use Rattle.model.specs.Chip.{Page, Step, program, erased, clear, step, run, mostSegments, eraseLimit, numberLimit}
+use Rattle.model.specs.Header.{numberBytes, inverted, value, openingBegun, opened, compactionBegun, erasePending, compacted, Version, version1, version2, newVersion, versionNumber, totalFits, tallyBytes, noOldSegment, statusInUse, headerPage, headerStatus, headerNumber, headerVersion, oldIndex, headerInUse}
 use Rattle.model.specs.Slot.{Entry}
 use Rattle.model.specs.Steps.{programs, programPart, onPage, headerAt, openSegment, copyEntries, copyOut, settle}
 use Rattle.model.specs.Laws.Lists.{and-left, and-right}
@@ -20,13 +20,23 @@ use Rattle.model.specs.Laws.AnyByte
 
 -- ---- the fields of an encoded page
 
-pub header-status : (N B st n old : ℕ) → headerStatus (headerPage N B st n old) ≡ st
+pub header-status : (N B : ℕ) (ver : Version) (st n old : ℕ) → headerStatus (headerPage N B ver st n old) ≡ st
 unfolding headerStatus headerPage
-header-status N B st n old = refl
+header-status N B ver st n old = refl
 
-pub header-number : (N B st n old : ℕ) → n < 4294967296 → headerNumber (headerPage N B st n old) ≡ n
+pub header-number : (N B : ℕ) (ver : Version) (st n old : ℕ) → n < 4294967296 → headerNumber (headerPage N B ver st n old) ≡ n
 unfolding headerNumber headerPage numberBytes
-header-number N B st n old h = number-value n h
+header-number N B ver st n old h = number-value n h
+
+pub header-version : (N B : ℕ) (ver : Version) (st n old : ℕ) → totalFits ver ≡ true → headerVersion (headerPage N B ver st n old) ≡ ver
+unfolding headerVersion headerPage numberBytes inverted versionNumber tallyBytes totalFits erased
+header-version N B version1 st n old h = refl
+header-version N B (version2 total bits) st n old h = ap (λ (y : ℕ). version2 y bits) (number-value total (let b = ltb-true total eraseLimit h in omega arith))
+
+-- a new header's total
+pub new-fits : (t : ℕ) → t < eraseLimit → totalFits (newVersion t) ≡ true
+unfolding totalFits newVersion
+new-fits t h = lt-ltb t eraseLimit h
 
 -- numbers below the limit fit in four bytes
 pub number-fits : (N n : ℕ) → N ≤ mostSegments → n < numberLimit N → n < 4294967296
@@ -35,12 +45,14 @@ number-fits N n h k = omega arith
 
 -- ---- in use
 
-pub header-in-use : (N B st n : ℕ) → N ≤ mostSegments → statusInUse st ≡ true → n < numberLimit N
-    → headerInUse N B (n % N) (headerPage N B st n (oldIndex N (n % N) st)) ≡ true
+pub header-in-use : (N B : ℕ) (ver : Version) (st n : ℕ) → N ≤ mostSegments → statusInUse st ≡ true → totalFits ver ≡ true → n < numberLimit N
+    → headerInUse N B (n % N) (headerPage N B ver st n (oldIndex N (n % N) st)) ≡ true
 unfolding headerInUse
-header-in-use N B st n hN hs hn =
-    let h = headerPage N B st n (oldIndex N (n % N) st) in
-    rw (header-status N B st n (oldIndex N (n % N) st), header-number N B st n (oldIndex N (n % N) st) (number-fits N n hN hn), hs, lt-ltb n (numberLimit N) hn, eq-eqb (n % N) (n % N) refl) (same-refl h)
+header-in-use N B ver st n hN hs ht hn =
+    let old = oldIndex N (n % N) st in
+    let h = headerPage N B ver st n old in
+    rw (header-version N B ver st n old ht, header-status N B ver st n old, header-number N B ver st n old (number-fits N n hN hn), hs, ht, lt-ltb n (numberLimit N) hn, eq-eqb (n % N) (n % N) refl)
+    (same-refl h)
 
 -- the old segment of number o, when all but one are in use: its index comes after the target's
 pub old-index : (N o n : ℕ) → suc n ≡ o + N → (n % N + 1) % N ≡ o % N
@@ -57,21 +69,25 @@ none-opened N i st p h = go (eqb st opened)
 
 pub record InUseFacts (N B i : ℕ) (h : Page) : Type 0 where
   pub status : statusInUse (headerStatus h) ≡ true
+  pub fits : totalFits (headerVersion h) ≡ true
   pub below : headerNumber h < numberLimit N
   pub place : headerNumber h % N ≡ i
-  pub page : h ≡ headerPage N B (headerStatus h) (headerNumber h) (oldIndex N i (headerStatus h))
+  pub page : h ≡ headerPage N B (headerVersion h) (headerStatus h) (headerNumber h) (oldIndex N i (headerStatus h))
 
 pub in-use-facts : (N B i : ℕ) (h : Page) → headerInUse N B i h ≡ true → InUseFacts N B i h
 unfolding headerInUse
 in-use-facts N B i h e =
     let a = statusInUse (headerStatus h) in
+    let t = totalFits (headerVersion h) in
     let b = ltb (headerNumber h) (numberLimit N) in
     let c = eqb (headerNumber h % N) i in
-    let p = headerPage N B (headerStatus h) (headerNumber h) (oldIndex N i (headerStatus h)) in
-    let e1 = and-right a (b && (c && same h p)) e in
+    let p = headerPage N B (headerVersion h) (headerStatus h) (headerNumber h) (oldIndex N i (headerStatus h)) in
+    let e0 = and-right a (t && (b && (c && same h p))) e in
+    let e1 = and-right t (b && (c && same h p)) e0 in
     let e2 = and-right b (c && same h p) e1 in
     record {
-      status = and-left a (b && (c && same h p)) e;
+      status = and-left a (t && (b && (c && same h p))) e;
+      fits = and-left t (b && (c && same h p)) e0;
       below = ltb-true (headerNumber h) (numberLimit N) (and-left b (c && same h p) e1);
       place = eqb-true (headerNumber h % N) i (and-left c (same h p) e2);
       page = same-eq h p (and-right c (same h p) e2);
@@ -118,55 +134,56 @@ number-raised N B i h n hN hn u low =
     (digit _ (n / 256 / 256 % 256) (getD h 10 0) (getD h 14 0) (omega arith) (omega arith) (get 10) (get 14) (low 2 (omega arith)) (low 6 (omega arith)))
     (digit _ (n / 256 / 256 / 256 % 256) (getD h 11 0) (getD h 15 0) (omega arith) (omega arith) (get 11) (get 15) (low 3 (omega arith)) (low 7 (omega arith)))
   where
-    get : (k : ℕ) → getD h k 0 ≡ getD (headerPage N B (headerStatus h) (headerNumber h) (oldIndex N i (headerStatus h))) k 0
+    get : (k : ℕ) → getD h k 0 ≡ getD (headerPage N B (headerVersion h) (headerStatus h) (headerNumber h) (oldIndex N i (headerStatus h))) k 0
     get k = ap (λ y. getD y k 0) (in-use-facts N B i h u .page)
 
 -- ---- the steps within a header page
 
-unfoldable pub openingHeader : ℕ → ℕ → ℕ → List Step
-openingHeader N B n = let h = headerPage N B opened n noOldSegment in
-    program 5 openingBegun ∷ (programPart h 0 5 ++ (programPart h 6 2 ++ (programPart h 8 8 ++ (program 5 opened ∷ []))))
+unfoldable pub openingHeader : ℕ → ℕ → Version → ℕ → List Step
+openingHeader N B ver n = let h = headerPage N B ver opened n noOldSegment in
+    program 5 openingBegun ∷ (programPart h 0 5 ++ (programPart h 6 2 ++ (programPart h 17 4 ++ (programPart h 8 8 ++ (program 5 opened ∷ [])))))
 
 -- a compaction's header, before the slots are copied and after; old is the index of the old segment
-unfoldable pub compactionHeader : ℕ → ℕ → ℕ → ℕ → List Step
-compactionHeader N B n old = let h = headerPage N B erasePending n old in
+unfoldable pub compactionHeader : ℕ → ℕ → Version → ℕ → ℕ → List Step
+compactionHeader N B ver n old = let h = headerPage N B ver erasePending n old in
     program 5 compactionBegun ∷ (programPart h 0 5 ++ (programPart h 6 2 ++ programPart h 16 1))
 
-unfoldable pub pendingHeader : ℕ → ℕ → ℕ → ℕ → List Step
-pendingHeader N B n old = programPart (headerPage N B erasePending n old) 8 8 ++ (program 5 erasePending ∷ [])
+unfoldable pub pendingHeader : ℕ → ℕ → Version → ℕ → ℕ → List Step
+pendingHeader N B ver n old = let h = headerPage N B ver erasePending n old in programPart h 17 4 ++ (programPart h 8 8 ++ (program 5 erasePending ∷ []))
 
 unfoldable pub settledHeader : List Step
 settledHeader = program 5 compacted ∷ []
 
-pub open-segment-page : (N B n : ℕ) → openSegment N B n ≡ onPage (headerAt N B n) (openingHeader N B n)
+pub open-segment-page : (N B : ℕ) (ver : Version) (n : ℕ) → openSegment N B ver n ≡ onPage (headerAt N B n) (openingHeader N B ver n)
 unfolding openSegment openingHeader
-open-segment-page N B n = refl
+open-segment-page N B ver n = refl
 
-pub copy-out-pages : (N B o n : ℕ) (es : List Entry)
-    → copyOut N B o n es ≡ onPage (headerAt N B n) (compactionHeader N B n (o % N)) ++ (copyEntries N B n 0 es ++ onPage (headerAt N B n) (pendingHeader N B n (o % N)))
+pub copy-out-pages : (N B : ℕ) (ver : Version) (o n : ℕ) (es : List Entry)
+    → copyOut N B ver o n es ≡ onPage (headerAt N B n) (compactionHeader N B ver n (o % N)) ++ (copyEntries N B n 0 es ++ onPage (headerAt N B n) (pendingHeader N B ver n (o % N)))
 unfolding copyOut compactionHeader pendingHeader
-copy-out-pages N B o n es = refl
+copy-out-pages N B ver o n es = refl
 
 pub settle-page : (N B n : ℕ) → settle N B n ≡ onPage (headerAt N B n) settledHeader
 unfolding settle settledHeader
 settle-page N B n = refl
 
-pub opening-in-page : (N B n : ℕ) → InPage (openingHeader N B n)
+pub opening-in-page : (N B : ℕ) (ver : Version) (n : ℕ) → InPage (openingHeader N B ver n)
 unfolding openingHeader
-opening-in-page N B n = let h = headerPage N B opened n noOldSegment in (
+opening-in-page N B ver n = let h = headerPage N B ver opened n noOldSegment in (
   omega arith,
   in-append (programPart h 0 5) _ (in-part h 0 5 (omega arith)) (in-append (programPart h 6 2) _ (in-part h 6 2 (omega arith))
-      (in-append (programPart h 8 8) _ (in-part h 8 8 (omega arith)) (omega arith, tt))),
+      (in-append (programPart h 17 4) _ (in-part h 17 4 (omega arith)) (in-append (programPart h 8 8) _ (in-part h 8 8 (omega arith)) (omega arith, tt)))),
 )
 
-pub compaction-in-page : (N B n old : ℕ) → InPage (compactionHeader N B n old)
+pub compaction-in-page : (N B : ℕ) (ver : Version) (n old : ℕ) → InPage (compactionHeader N B ver n old)
 unfolding compactionHeader
-compaction-in-page N B n old = let h = headerPage N B erasePending n old in
+compaction-in-page N B ver n old = let h = headerPage N B ver erasePending n old in
     (omega arith, in-append (programPart h 0 5) _ (in-part h 0 5 (omega arith)) (in-append (programPart h 6 2) _ (in-part h 6 2 (omega arith)) (in-part h 16 1 (omega arith))))
 
-pub pending-in-page : (N B n old : ℕ) → InPage (pendingHeader N B n old)
+pub pending-in-page : (N B : ℕ) (ver : Version) (n old : ℕ) → InPage (pendingHeader N B ver n old)
 unfolding pendingHeader
-pending-in-page N B n old = let h = headerPage N B erasePending n old in in-append (programPart h 8 8) _ (in-part h 8 8 (omega arith)) (omega arith, tt)
+pending-in-page N B ver n old = let h = headerPage N B ver erasePending n old in
+    in-append (programPart h 17 4) _ (in-part h 17 4 (omega arith)) (in-append (programPart h 8 8) _ (in-part h 8 8 (omega arith)) (omega arith, tt))
 
 pub settled-in-page : InPage settledHeader
 unfolding settledHeader
@@ -176,9 +193,10 @@ settled-in-page = (omega arith, tt)
 
 -- the page of a target while slots are copied
 unfoldable pub begunPage : ℕ → ℕ → ℕ → Page
-begunPage N B old = 0x53 ∷ 0x4C ∷ 0x54 ∷ 1 ∷ 0 ∷ compactionBegun ∷ B ∷ N ∷ 255 ∷ 255 ∷ 255 ∷ 255 ∷ 255 ∷ 255 ∷ 255 ∷ 255 ∷ old ∷ erased 239
+begunPage N B old = 0x53 ∷ 0x4C ∷ 0x54 ∷ 2 ∷ 0 ∷ compactionBegun ∷ B ∷ N ∷ 255 ∷ 255 ∷ 255 ∷ 255 ∷ 255 ∷ 255 ∷ 255 ∷ 255 ∷ old ∷ 255 ∷ 255 ∷ 255 ∷ 255 ∷ (erased 11 ++ erased 224)
 
-front : erased 256 ≡ 255 ∷ 255 ∷ 255 ∷ 255 ∷ 255 ∷ 255 ∷ 255 ∷ 255 ∷ 255 ∷ 255 ∷ 255 ∷ 255 ∷ 255 ∷ 255 ∷ 255 ∷ 255 ∷ 255 ∷ erased 239
+front : erased 256
+    ≡ 255 ∷ 255 ∷ 255 ∷ 255 ∷ 255 ∷ 255 ∷ 255 ∷ 255 ∷ 255 ∷ 255 ∷ 255 ∷ 255 ∷ 255 ∷ 255 ∷ 255 ∷ 255 ∷ 255 ∷ 255 ∷ 255 ∷ 255 ∷ 255 ∷ (erased 11 ++ erased 224)
 unfolding erased
 front = refl
 
@@ -200,27 +218,29 @@ digit-byte x = omega arith
 inverted-byte : (x : ℕ) → (255 - x) % 256 ≡ 255 - x
 inverted-byte x = omega arith
 
-pub pending-run : (N B n old : ℕ) → run B (pendingHeader N B n old) (begunPage N B old) ≡ headerPage N B erasePending n old
-unfolding pendingHeader begunPage run step programPart programs headerPage numberBytes inverted
-pending-run N B n old = simp (clear-byte, digit-byte, inverted-byte, clear-compaction)
+-- of a new header, with any total
 
-module _ (N B n : ℕ) (hN : N < 256) (hB : B < 256) where
-  pub opening-run : run B (openingHeader N B n) (erased 256) ≡ headerPage N B opened n noOldSegment
-  unfolding openingHeader run step programPart programs headerPage numberBytes inverted
+pub pending-run : (N B t n old : ℕ) → run B (pendingHeader N B (newVersion t) n old) (begunPage N B old) ≡ headerPage N B (newVersion t) erasePending n old
+unfolding pendingHeader begunPage run step programPart programs headerPage numberBytes inverted newVersion versionNumber tallyBytes
+pending-run N B t n old = simp (clear-byte, digit-byte, inverted-byte, clear-compaction)
+
+module _ (N B t n : ℕ) (hN : N < 256) (hB : B < 256) where
+  pub opening-run : run B (openingHeader N B (newVersion t) n) (erased 256) ≡ headerPage N B (newVersion t) opened n noOldSegment
+  unfolding openingHeader run step programPart programs headerPage numberBytes inverted newVersion versionNumber tallyBytes
   opening-run =
       let eN : N % 256 ≡ N = mod-eq-of-lt hN in
       let eB : B % 256 ≡ B = mod-eq-of-lt hB in
-      ap (λ y. run B (openingHeader N B n) y) front ∙ simp (clear-byte, digit-byte, inverted-byte, eN, eB, clear-begun)
+      ap (λ y. run B (openingHeader N B (newVersion t) n) y) front ∙ simp (clear-byte, digit-byte, inverted-byte, eN, eB, clear-begun)
 
   module _ (old : ℕ) (ho : old < 256) where
-    pub compaction-run : run B (compactionHeader N B n old) (erased 256) ≡ begunPage N B old
-    unfolding compactionHeader begunPage run step programPart programs headerPage numberBytes inverted
+    pub compaction-run : run B (compactionHeader N B (newVersion t) n old) (erased 256) ≡ begunPage N B old
+    unfolding compactionHeader begunPage run step programPart programs headerPage numberBytes inverted newVersion versionNumber tallyBytes
     compaction-run =
         let eN : N % 256 ≡ N = mod-eq-of-lt hN in
         let eB : B % 256 ≡ B = mod-eq-of-lt hB in
         let eo : old % 256 ≡ old = mod-eq-of-lt ho in
-        ap (λ y. run B (compactionHeader N B n old) y) front ∙ simp (clear-byte, eN, eB, eo)
+        ap (λ y. run B (compactionHeader N B (newVersion t) n old) y) front ∙ simp (clear-byte, eN, eB, eo)
 
-pub settled-run : (N B n old : ℕ) → run B settledHeader (headerPage N B erasePending n old) ≡ headerPage N B compacted n old
+pub settled-run : (N B : ℕ) (ver : Version) (n old : ℕ) → run B settledHeader (headerPage N B ver erasePending n old) ≡ headerPage N B ver compacted n old
 unfolding settledHeader run step headerPage
-settled-run N B n old = rw clear-pending
+settled-run N B ver n old = rw clear-pending

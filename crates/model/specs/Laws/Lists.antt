@@ -58,6 +58,12 @@ all-get f [] i d h l = absurd (omega arith)
 all-get f (x ∷ xs) zero d h l = and-left (f x) (all f xs) h
 all-get f (x ∷ xs) (suc i) d h l = all-get f xs i d (and-right (f x) (all f xs) h) (omega arith)
 
+pub all-same : {A : Type 0} (f : A → Bool) (l : List A) (i : ℕ) (y d : A) → f y ≡ f (getD l i d) → all f (set l i y) ≡ all f l
+unfolding all
+all-same f [] i y d e = refl
+all-same f (x ∷ l) zero y d e = ap (λ t. t && all f l) e
+all-same f (x ∷ l) (suc i) y d e = ap (λ t. f x && t) (all-same f l i y d e)
+
 pub all-set : {A : Type 0} (f : A → Bool) (xs : List A) (i : ℕ) (y : A) → all f xs ≡ true → f y ≡ true → all f (set xs i y) ≡ true
 unfolding all
 all-set f [] i y h k = refl

@@ -7,7 +7,7 @@ use native.Mathlib.Omega.{arith}
 use lib.ListN.{length, getD, set}
 use lib.Seq.{set-getD, getD-set-same}
 use Rattle.model.specs.Chip.{Image, Page, Step, program, clear, erased, step, run, Cut}
-use Rattle.model.specs.Header.{openingBegun, opened, compactionBegun, erasePending, noOldSegment, headerPage}
+use Rattle.model.specs.Header.{openingBegun, opened, compactionBegun, erasePending, Version, newVersion, noOldSegment, headerPage}
 use Rattle.model.specs.Slot.{writeBegun, written, slotPage, empty, torn, live, slotOf}
 use Rattle.model.specs.Steps.{programPart, writeSlot}
 use Rattle.model.specs.Laws.Chip.{run-append, cut-append}
@@ -95,18 +95,19 @@ mark-bit a (inr e) = rw (e, clear-torn) torn-dead-bit
 -- ---- a header: finished, or bit 6 of its status is still set
 
 -- the steps of an opening between the two of the status
-openingMiddle : ℕ → ℕ → ℕ → List Step
-openingMiddle N B n = let h = headerPage N B opened n noOldSegment in programPart h 0 5 ++ (programPart h 6 2 ++ programPart h 8 8)
+openingMiddle : ℕ → ℕ → Version → ℕ → List Step
+openingMiddle N B ver n = let h = headerPage N B ver opened n noOldSegment in programPart h 0 5 ++ (programPart h 6 2 ++ (programPart h 17 4 ++ programPart h 8 8))
 
-opening-parts : (N B n : ℕ) → openingHeader N B n ≡ program 5 openingBegun ∷ (openingMiddle N B n ++ (program 5 opened ∷ []))
+opening-parts : (N B : ℕ) (ver : Version) (n : ℕ) → openingHeader N B ver n ≡ program 5 openingBegun ∷ (openingMiddle N B ver n ++ (program 5 opened ∷ []))
 unfolding openingHeader openingMiddle
-opening-parts N B n = simp append-assoc
+opening-parts N B ver n = simp append-assoc
 
-opening-spares : (N B n : ℕ) → Spares 5 (openingMiddle N B n)
+opening-spares : (N B : ℕ) (ver : Version) (n : ℕ) → Spares 5 (openingMiddle N B ver n)
 unfolding openingMiddle
-opening-spares N B n = let h = headerPage N B opened n noOldSegment in
+opening-spares N B ver n = let h = headerPage N B ver opened n noOldSegment in
     spares-append 5 (programPart h 0 5) _ (spares-part 5 h 0 5 (inr (omega arith)))
-    (spares-append 5 (programPart h 6 2) _ (spares-part 5 h 6 2 (inl (omega arith))) (spares-part 5 h 8 8 (inl (omega arith))))
+    (spares-append 5 (programPart h 6 2) _ (spares-part 5 h 6 2 (inl (omega arith)))
+    (spares-append 5 (programPart h 17 4) _ (spares-part 5 h 17 4 (inl (omega arith))) (spares-part 5 h 8 8 (inl (omega arith)))))
 
 bit-6 : (st : ℕ) (u : Page) → getD u 5 0 ≡ st → st / 64 % 2 ≡ 1 → getD u 5 0 / 64 % 2 ≡ 1
 bit-6 st u e h = rw e h
@@ -117,21 +118,21 @@ unwritten u e = bit-6 (getD (erased 256) 5 0) u (ap (λ y. getD y 5 0) e) erased
 erased-status : getD (erased 256) 5 0 ≡ 255
 erased-status = erased-get 256 5 (omega arith)
 
-pub opening-cut : (N B n : ℕ) (u : Page) → N < 256 → B < 256 → Cut B (openingHeader N B n) (erased 256) u
-    → (getD u 5 0 / 64 % 2 ≡ 1) ⊎ (u ≡ headerPage N B opened n noOldSegment)
-opening-cut N B n u hN hB k =
+pub opening-cut : (N B t n : ℕ) (u : Page) → N < 256 → B < 256 → Cut B (openingHeader N B (newVersion t) n) (erased 256) u
+    → (getD u 5 0 / 64 % 2 ≡ 1) ⊎ (u ≡ headerPage N B (newVersion t) opened n noOldSegment)
+opening-cut N B t n u hN hB k =
     let e = erased-status in
     let f : clear 255 openingBegun ≡ openingBegun = clear-erased openingBegun (omega arith) in
     ⊎-elim (λ h. inl (unwritten u h))
-    (λ h. ⊎-elim (λ g. inl (bit-6 openingBegun u (rw (e, f) at g) refl)) (λ g. inr (g ∙ (ap (λ y. run B y (erased 256)) (sym (opening-parts N B n)) ∙ opening-run N B n hN hB))) h)
-    (status-cut B 5 openingBegun opened (openingMiddle N B n) (erased 256) u (omega (arith, erased-length 256)) (rw (e, f) begun-bit) (rw (e, f, clear-begun) written-bit)
-    (opening-spares N B n) (rw (opening-parts N B n) at k))
+    (λ h. ⊎-elim (λ g. inl (bit-6 openingBegun u (rw (e, f) at g) refl)) (λ g. inr (g ∙ (ap (λ y. run B y (erased 256)) (sym (opening-parts N B (newVersion t) n)) ∙ opening-run N B t n hN hB))) h)
+    (status-cut B 5 openingBegun opened (openingMiddle N B (newVersion t) n) (erased 256) u (omega (arith, erased-length 256)) (rw (e, f) begun-bit) (rw (e, f, clear-begun) written-bit)
+    (opening-spares N B (newVersion t) n) (rw (opening-parts N B (newVersion t) n) at k))
 
 -- while slots are copied it is never finished
-pub compaction-cut : (N B n old : ℕ) (u : Page) → Cut B (compactionHeader N B n old) (erased 256) u → getD u 5 0 / 64 % 2 ≡ 1
+pub compaction-cut : (N B : ℕ) (ver : Version) (n old : ℕ) (u : Page) → Cut B (compactionHeader N B ver n old) (erased 256) u → getD u 5 0 / 64 % 2 ≡ 1
 unfolding compactionHeader
-compaction-cut N B n old u k =
-    let h = headerPage N B erasePending n old in
+compaction-cut N B ver n old u k =
+    let h = headerPage N B ver erasePending n old in
     let e = erased-status in
     let f : clear 255 compactionBegun ≡ compactionBegun = clear-erased compactionBegun (omega arith) in
     ⊎-elim (λ g. unwritten u g) (λ g. bit-6 compactionBegun u (rw (e, f) at g) refl)
@@ -146,11 +147,12 @@ begun-status N B old = refl
 pub begun-bit-6 : (N B old : ℕ) → getD (begunPage N B old) 5 0 / 64 % 2 ≡ 1
 begun-bit-6 N B old = bit-6 compactionBegun (begunPage N B old) (begun-status N B old) refl
 
-pub pending-cut : (N B n old : ℕ) (u : Page) → Cut B (pendingHeader N B n old) (begunPage N B old) u
-    → (getD u 5 0 / 64 % 2 ≡ 1) ⊎ (u ≡ headerPage N B erasePending n old)
-unfolding pendingHeader
-pending-cut N B n old u k =
-    let h = headerPage N B erasePending n old in
+pub pending-cut : (N B t n old : ℕ) (u : Page) → Cut B (pendingHeader N B (newVersion t) n old) (begunPage N B old) u
+    → (getD u 5 0 / 64 % 2 ≡ 1) ⊎ (u ≡ headerPage N B (newVersion t) erasePending n old)
+pending-cut N B t n old u k =
+    let h = headerPage N B (newVersion t) erasePending n old in
     let e = begun-status N B old in
-    ⊎-elim (λ g. inl (bit-6 compactionBegun u (g ∙ e) refl)) (λ g. inr (g ∙ pending-run N B n old))
-    (finish-cut B 5 erasePending (programPart h 8 8) (begunPage N B old) u (rw (e, clear-compaction) erase-pending-bit) (spares-part 5 h 8 8 (inl (omega arith))) k)
+    let parts : pendingHeader N B (newVersion t) n old ≡ (programPart h 17 4 ++ programPart h 8 8) ++ (program 5 erasePending ∷ []) = (unfold pendingHeader in simp append-assoc) in
+    ⊎-elim (λ g. inl (bit-6 compactionBegun u (g ∙ e) refl)) (λ g. inr (g ∙ (ap (λ y. run B y (begunPage N B old)) (sym parts) ∙ pending-run N B t n old)))
+    (finish-cut B 5 erasePending (programPart h 17 4 ++ programPart h 8 8) (begunPage N B old) u (rw (e, clear-compaction) erase-pending-bit)
+    (spares-append 5 (programPart h 17 4) (programPart h 8 8) (spares-part 5 h 17 4 (inl (omega arith))) (spares-part 5 h 8 8 (inl (omega arith)))) (rw parts at k))

@@ -155,7 +155,7 @@ pub number-in-use : (x : Segment) (n : ℕ) → numberAfter x ≡ suc n → isIn
 unfolding numberAfter isInUse
 number-in-use blank n e = absurd (omega arith)
 number-in-use invalid n e = absurd (omega arith)
-number-in-use (inUse st m ks) n e = refl
+number-in-use (inUse ver st m ks) n e = refl
 
 -- where as many are in use as are numbered, no other is in use
 pub only-numbered : (N : ℕ) (l : List Segment) (u n i : ℕ) → length l ≡ N → u ≤ N → numbersFrom N l u n ≡ true → usedCount l ≡ u → i < N → Apart N u n i → isInUse (getD l i blank) ≡ false
