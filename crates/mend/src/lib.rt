@@ -55,7 +55,7 @@ fn erase_torn(
     requires { ⌜ Sized segments slots (length (now image)) ⌝ }
     ensures { λ r. ⌜ Carried (counting segments slots (top .0) (now (image .entry))) (erase ((top .0 + 1) % segments) ∷ []) slots budget r (now (image .entry)) (now (image .exit)) ⌝ }
 {
-    let counted = header::count_erase(image, segments, slots, top, budget);
+    let counted = tally::count_erase(image, segments, slots, top, budget);
     let left = erase_after(image, segments, slots, top, counted);
     request::finished(budget, left, counted, 1)
 }
@@ -75,7 +75,7 @@ fn erase_old(
     if blank {
         return budget;
     }
-    let counted = header::count_erase(image, segments, slots, top, budget);
+    let counted = tally::count_erase(image, segments, slots, top, budget);
     erase_after(image, segments, slots, top, counted)
 }
 

@@ -1,6 +1,5 @@
 // A put on a clean image.
 use find::Found;
-use header::Tally;
 use model::Answer;
 use model::BlockNumber;
 use model::Performed;
@@ -8,6 +7,7 @@ use model::SegmentNumber;
 use model::SlotPlace;
 use room::Plan;
 use room::Room;
+use tally::Tally;
 ghost use mathlib.Core.Path.{_≡_};
 ghost use mathlib.Core.Bool.{false};
 ghost use Prim.Native.Nat.{_+_, _-_, _*_, _≤_, _<_};
@@ -190,7 +190,7 @@ pub fn put_clean(
     requires { ⌜ Puttable segments slots plan (block .0) (now contents) (now image) ⌝ }
     ensures { λ r. ⌜ performed r (now (image .exit)) ≡ outcomeOf segments slots (now (image .entry)) budget (put (block .0) (now (contents .entry))) ⌝ }
 {
-    let tally = header::tally_in(&image[..], segments, slots, top_number(plan));
+    let tally = tally::tally_in(&image[..], segments, slots, top_number(plan));
     if tally.former {
         return request::refused(Answer::FormerVersion);
     }
