@@ -8,6 +8,7 @@ use lib.ListN.{length}
 use lib.Dec.{ltb, leb, eqb}
 use borrow.Author.Tests.{leb-true, leb-false, ltb-true, lt-ltb, not-false, eqb-true}
 use Rattle.model.specs.Chip.{Image, rightSize}
+use Rattle.model.specs.Header.{isFormer}
 use Rattle.model.specs.Slot.{mostContents, numberOk}
 use Rattle.model.specs.State.{segmentsOf, View, viewOf, view, entriesIn, holds, capacity, state, clean}
 use Rattle.model.specs.Steps.{recoverSteps, isWorn}
@@ -18,7 +19,7 @@ use Rattle.bridge.specs.Predicted.{Fits}
 -- ---- the code and the list
 
 module _ (N B : ℕ) (s : Image) where
-  -- the smallest number that applies to a request
+  -- the number of the first refusal that applies to a request
   abbrev pub refusal : Request → ℕ
   refusal r = firstOf (refusals N B (rightSize N B s) (segmentsOf N B s) r)
 
@@ -83,6 +84,7 @@ not-full N B b v h = go (holds b (entriesIn v)) (leb (capacity N B) (length (ent
 pub record PutPassed (N B b : ℕ) (c : List ℕ) (v : View) : Type 0 where
   pub number : numberOk b ≡ true
   pub short : length c ≤ mostContents
+  pub second : isFormer (v .version) ≡ false
   pub fit : Fits N B b v
   pub fresh : isWorn N v ≡ false
 
@@ -95,9 +97,11 @@ put-passed N B s b c h =
     let contents = passed 2 (not (lengthOk (length c))) _ (number .1) in
     let damage = passed 3 _ _ (contents .1) .1 in
     let whole = passed 4 _ _ damage .1 in
-    let full = passed 6 (isFull N B b v) _ whole in record {
+    let former = passed 10 (isFormer (v .version)) _ whole in
+    let full = passed 6 (isFull N B b v) _ (former .1) in record {
       number = not-false (numberOk b) (number .0);
       short = taken-short (length c) (not-false (lengthOk (length c)) (contents .0));
+      second = former .0;
       fit = not-full N B b v (full .0);
       fresh = passed 7 (isWorn N v) _ (full .1) .0;
     }

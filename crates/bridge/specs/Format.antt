@@ -10,9 +10,9 @@ use lib.Seq.{take-all, take-append-add, take-at, set-append-seam, drop-cons, get
 use borrow.Author.Tests.{le-leb}
 use Rattle.model.specs.Lists.{all, count}
 use Rattle.model.specs.Chip.{Image, Bytes, numberLimit, imageLength, rightSize, erase, erased, withSegment, step, run}
-use Rattle.model.specs.Header.{opened}
+use Rattle.model.specs.Header.{opened, newVersion, versionNumber}
 use Rattle.model.specs.Slot.{Slot, empty}
-use Rattle.model.specs.State.{Segment, blank, inUse, isInUse, isInvalid, isOwing, numberAfter, slotsIn, segmentsOf, nextNumber, usedCount, firstNumber, slotsFrom, numbersFrom, viewOf, view, entries, entriesIn, distinct, capacity, noneOwing, othersBlank, state, clean}
+use Rattle.model.specs.State.{Segment, blank, inUse, isInUse, isInvalid, isOwing, numberAfter, slotsIn, versionIn, ofVersion, segmentsOf, nextNumber, topIndex, topVersion, usedCount, firstNumber, slotsFrom, numbersFrom, viewOf, view, entries, entriesIn, distinct, capacity, noneOwing, othersBlank, state, clean}
 use Rattle.model.specs.Steps.{openSegment, eraseFirst, formatSteps}
 use Rattle.model.specs.Laws.Lists.{all-set, all-replicate}
 use Rattle.model.specs.Laws.Chip.{run-append, run-length, size-facts, run-size}
@@ -21,6 +21,7 @@ use Rattle.model.specs.Laws.Segments.{segments-length}
 use Rattle.model.specs.Laws.Effects.{erase-effect, open-effect}
 use Rattle.model.specs.Laws.Ring.{used-more, next-raised}
 use Rattle.model.specs.Laws.Clean.{RingFacts}
+use Rattle.model.specs.Laws.View.{seconds-one}
 use Rattle.bridge.specs.Predicted.{fresh, CleanView}
 use Rattle.bridge.specs.Views.Slots.{copied-none}
 use Rattle.bridge.specs.Views.Shape.{shape-clean, added-shape, added-entries, rowAdded}
@@ -60,7 +61,7 @@ format-bytes N B s z =
     let u = run B (eraseFirst N) s in
     let size : length s ≡ N * (B + 1) * 256 = size-facts N B s z .whole in
     let whole : take (N * ((B + 1) * 256)) u ≡ u = take-all (N * ((B + 1) * 256)) u (omega (arith, run-length B (eraseFirst N) s)) in
-    rw (run-append B (eraseFirst N) (openSegment N B 0) s) (run-bytes B (openSegment N B 0) u (rw whole at (first-bytes B N s (omega arith))))
+    rw (run-append B (eraseFirst N) (openSegment N B (newVersion 0) 0) s) (run-bytes B (openSegment N B (newVersion 0) 0) u (rw whole at (first-bytes B N s (omega arith))))
 
 -- ---- segments
 
@@ -87,7 +88,7 @@ all-erased N B s z =
     erased-first N B N s z (omega arith)
     ∙ (ap (λ (y : List Segment). replicate N blank ++ y) (drop-of-length-le (segmentsOf N B s) h) ∙ append-nil (replicate N blank))
 
-opened-segments : (N B : ℕ) (s : Image) → rightSize N B s ≡ true → segmentsOf N B (run B (formatSteps N B) s) ≡ set (replicate N blank) 0 (inUse opened 0 (replicate B empty))
+opened-segments : (N B : ℕ) (s : Image) → rightSize N B s ≡ true → segmentsOf N B (run B (formatSteps N B) s) ≡ set (replicate N blank) 0 (inUse (newVersion 0) opened 0 (replicate B empty))
 unfolding formatSteps numberLimit
 opened-segments N B s z =
     let u = run B (eraseFirst N) s in
@@ -96,16 +97,16 @@ opened-segments N B s z =
     let zero-index : 0 % N ≡ 0 = mod-eq-of-lt p in
     let size = size-facts N B s z in
     let l = all-erased N B s z in
-    ap (λ y. segmentsOf N B y) (run-append B (eraseFirst N) (openSegment N B 0) s)
-    ∙ (open-effect N B two (size .most) (size-facts N B s z .mostB) u (run-length B (eraseFirst N) s ∙ size .whole) 0 (omega arith)
+    ap (λ y. segmentsOf N B y) (run-append B (eraseFirst N) (openSegment N B (newVersion 0) 0) s)
+    ∙ (open-effect N B two (size .most) (size-facts N B s z .mostB) u (run-length B (eraseFirst N) s ∙ size .whole) 0 (omega arith) 0 (omega arith)
     (ap₂ (λ (x : List Segment) (y : ℕ). getD x y blank) l zero-index ∙ getD-replicate N 0 blank blank p)
-    ∙ ap₂ (λ (x : List Segment) (y : ℕ). set x y (inUse opened 0 (replicate B empty))) l zero-index)
+    ∙ ap₂ (λ (x : List Segment) (y : ℕ). set x y (inUse (newVersion 0) opened 0 (replicate B empty))) l zero-index)
 
 -- ---- one empty segment
 
 module _ (N B : ℕ) (two : 2 ≤ N) where
   abbrev l : List Segment
-  l = set (replicate N blank) 0 (inUse opened 0 (replicate B empty))
+  l = set (replicate N blank) 0 (inUse (newVersion 0) opened 0 (replicate B empty))
 
   none-used : (c : ℕ) → count isInUse (replicate c blank) ≡ 0
   unfolding count isInUse
@@ -122,11 +123,11 @@ module _ (N B : ℕ) (two : 2 ≤ N) where
 
   one-used : usedCount l ≡ 1
   unfolding usedCount isInUse
-  one-used = used-more (replicate N blank) 0 (inUse opened 0 (replicate B empty)) inside (ap isInUse (getD-replicate N 0 blank blank (omega arith))) refl ∙ ap suc (none-used N)
+  one-used = used-more (replicate N blank) 0 (inUse (newVersion 0) opened 0 (replicate B empty)) inside (ap isInUse (getD-replicate N 0 blank blank (omega arith))) refl ∙ ap suc (none-used N)
 
   next-one : nextNumber l ≡ 1
   unfolding numberAfter
-  next-one = next-raised (replicate N blank) 0 (inUse opened 0 (replicate B empty)) inside (omega (arith, none-numbered N))
+  next-one = next-raised (replicate N blank) 0 (inUse (newVersion 0) opened 0 (replicate B empty)) inside (omega (arith, none-numbered N))
 
   first-zero : firstNumber l ≡ 0
   unfolding firstNumber
@@ -135,34 +136,39 @@ module _ (N B : ℕ) (two : 2 ≤ N) where
   zero-index : 0 % N ≡ 0
   zero-index = let p : 0 < N = omega arith in mod-eq-of-lt p
 
-  here : getD l (0 % N) blank ≡ inUse opened 0 (replicate B empty)
-  here = rw zero-index (getD-set-same (replicate N blank) 0 (inUse opened 0 (replicate B empty)) blank inside)
+  here : getD l (0 % N) blank ≡ inUse (newVersion 0) opened 0 (replicate B empty)
+  here = rw zero-index (getD-set-same (replicate N blank) 0 (inUse (newVersion 0) opened 0 (replicate B empty)) blank inside)
 
   fresh-ring : RingFacts N l
-  unfolding numbersFrom noneOwing othersBlank isOwing isInvalid numberAfter
+  unfolding numbersFrom noneOwing othersBlank isOwing isInvalid ofVersion versionNumber newVersion numberAfter
   fresh-ring = record {
-    size = length-set (replicate N blank) 0 (inUse opened 0 (replicate B empty)) ∙ length-replicate N blank;
+    size = length-set (replicate N blank) 0 (inUse (newVersion 0) opened 0 (replicate B empty)) ∙ length-replicate N blank;
     some = rw one-used (omega arith);
     spare = rw one-used (omega arith);
     chain = rw (one-used, first-zero, here) refl;
-    paid = all-set (λ x. not (isOwing x)) (replicate N blank) 0 (inUse opened 0 (replicate B empty)) (all-replicate (λ x. not (isOwing x)) blank refl N) refl;
-    others = all-set (λ x. not (isInvalid x)) (replicate N blank) 0 (inUse opened 0 (replicate B empty)) (all-replicate (λ x. not (isInvalid x)) blank refl N) refl;
+    one = seconds-one l (all-set (λ x. ofVersion 2 x) (replicate N blank) 0 (inUse (newVersion 0) opened 0 (replicate B empty)) (all-replicate (λ x. ofVersion 2 x) blank refl N) refl);
+    paid = all-set (λ x. not (isOwing x)) (replicate N blank) 0 (inUse (newVersion 0) opened 0 (replicate B empty)) (all-replicate (λ x. not (isOwing x)) blank refl N) refl;
+    others = all-set (λ x. not (isInvalid x)) (replicate N blank) 0 (inUse (newVersion 0) opened 0 (replicate B empty)) (all-replicate (λ x. not (isInvalid x)) blank refl N) refl;
   }
+
+  top-here : topVersion N l ≡ newVersion 0
+  unfolding topVersion topIndex versionIn
+  top-here = rw (next-one, here) refl
 
   fresh-view : viewOf N l ≡ fresh B
   unfolding viewOf slotsFrom slotsIn fresh
-  fresh-view = rw (one-used, first-zero, here) refl
+  fresh-view = rw (one-used, first-zero, here, top-here) refl
 
 -- a fresh view is the view of no rows with one added
 pub fresh-clean : (N B : ℕ) → 2 ≤ N → 2 ≤ B → CleanView N B (fresh B)
 unfolding fresh rowAdded all flatten flatMap entries distinct capacity
 fresh-clean N B n b =
-    let e : fresh B ≡ rowAdded B 0 [] [] = ap (λ (y : List Slot). record { first = 0; slots = y ∷ [] }) (copied-none B) in
-    rw e (shape-clean (added-shape N B 0 [] [] (omega arith) tt refl refl (omega arith)) (rw (added-entries B 0 [] []) refl) (rw (added-entries B 0 [] []) (omega arith)))
+    let e : fresh B ≡ rowAdded (newVersion 0) B 0 [] [] = ap (λ (y : List Slot). record { first = 0; slots = y ∷ []; version = newVersion 0 }) (copied-none B) in
+    rw e (shape-clean (added-shape (newVersion 0) N B 0 [] [] (omega arith) tt refl refl (omega arith)) (rw (added-entries (newVersion 0) B 0 [] []) refl) (rw (added-entries (newVersion 0) B 0 [] []) (omega arith)))
 
 pub fresh-table : (B : ℕ) → entriesIn (fresh B) ≡ []
 unfolding fresh rowAdded flatten flatMap entries
-fresh-table B = ap (λ (y : List Slot). entriesIn (record { first = 0; slots = y ∷ [] })) (copied-none B) ∙ added-entries B 0 [] []
+fresh-table B = ap (λ (y : List Slot). entriesIn (record { first = 0; slots = y ∷ []; version = newVersion 0 })) (copied-none B) ∙ added-entries (newVersion 0) B 0 [] []
 
 pub format-held : (N B : ℕ) (s : Image) → rightSize N B s ≡ true → Held N B (run B (formatSteps N B) s) (fresh B)
 unfolding view

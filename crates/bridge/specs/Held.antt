@@ -8,8 +8,9 @@ use native.Mathlib.Nat.{mod-lt}
 use lib.ListN.{length, getD, drop, length-drop}
 use lib.Seq.{getD-drop}
 use Rattle.model.specs.Chip.{Image, Page, Bytes, pagesOf, rightSize}
+use Rattle.model.specs.Header.{Version}
 use Rattle.model.specs.Slot.{Slot, empty, torn, dead, wrong, live, slotOf, entryOf}
-use Rattle.model.specs.State.{Segment, blank, inUse, segmentsOf, numberAfter, slotsIn, nextNumber, usedCount, firstNumber, slotsFrom, View, viewOf, entries, entriesIn, isClean, clean, state, view}
+use Rattle.model.specs.State.{Segment, blank, inUse, segmentsOf, numberAfter, slotsIn, versionIn, nextNumber, usedCount, firstNumber, slotsFrom, View, viewOf, entries, entriesIn, isClean, clean, state, view}
 use Rattle.model.specs.Steps.{topNumber}
 use Rattle.model.specs.Table.{tableOf}
 use Rattle.model.specs.Laws.Chip.{size-facts}
@@ -50,7 +51,7 @@ module _ (N B : ℕ) (s : Image) (v : View) (h : Held N B s v) where
   held-top = omega (arith, held-next, held-count, h .ring .some)
 
   -- row k is the segment with number first + k
-  pub held-row : (k : ℕ) → k < length (v .slots) → (st : ℕ) × (getD l ((v .first + k) % N) blank ≡ inUse st (v .first + k) (getD (v .slots) k []))
+  pub held-row : (k : ℕ) → k < length (v .slots) → (ver : Version) × (st : ℕ) × (getD l ((v .first + k) % N) blank ≡ inUse ver st (v .first + k) (getD (v .slots) k []))
   held-row k b =
       let n = v .first + k in
       let e = held-first in
@@ -59,11 +60,11 @@ module _ (N B : ℕ) (s : Image) (v : View) (h : Held N B s v) where
       let r = in-use-numbered (getD l (n % N) blank) n num in
       let row : getD (v .slots) k [] ≡ slotsIn (getD l (n % N) blank) =
       ap (λ (y : List (List Slot)). getD y k []) held-rows ∙ (slots-get N l (usedCount l) (firstNumber l) k (omega arith) ∙ ap (λ (y : ℕ). slotsIn (getD l ((y + k) % N) blank)) (sym e)) in
-      (r .0, r .1 ∙ ap (λ y. inUse (r .0) n y) (sym row))
+      (versionIn (getD l (n % N) blank), r .0, r .1 ∙ ap (λ y. inUse (versionIn (getD l (n % N) blank)) (r .0) n y) (sym row))
 
   row-length : (k : ℕ) → k < length (v .slots) → length (getD (v .slots) k []) ≡ B
   row-length k b = let r = held-row k b in let size = size-facts N B s (h .size) in
-      slot-count N B (size .two) s (size .whole) (v .first + k) 0 (r .0) (v .first + k) (getD (v .slots) k []) (omega (arith, size .slots)) (r .1)
+      slot-count N B (size .two) s (size .whole) (v .first + k) 0 (r .0) (r .1) (v .first + k) (getD (v .slots) k []) (omega (arith, size .slots)) (r .2)
 
   pub held-lengths : Rows B (v .slots)
   held-lengths = rows (v .slots) (λ k b. row-length k b)
@@ -133,6 +134,6 @@ row-valid N B s v h bs k b =
     let n = v .first + k in
     let ps = partOf N B (n % N) s in
     let i = mod-lt n p in
-    let parts = in-use-parts N B (n % N) ps (r .0) n (getD (v .slots) k []) (sym (segment-at N B (n % N) s i) ∙ r .1) in
+    let parts = in-use-parts N B (n % N) ps (r .0) (r .1) n (getD (v .slots) k []) (sym (segment-at N B (n % N) s i) ∙ r .2) in
     subst (λ (y : List Slot). Valids (entries y)) (parts .slots)
     (valid-entries (drop 1 ps) (λ q c. rw (getD-drop 1 ps q [], part-page N B (n % N) (1 + q) s i (omega (arith, length-drop 1 ps, part-size N B (n % N) s i))) (chunk-bytes (N * (B + 1)) 256 _ s bs)))

@@ -11,10 +11,10 @@ use lib.Seq.{take-at}
 use lib.Dec.{ltb, eqb}
 use borrow.Author.Tests.{eqb-true}
 use Rattle.model.specs.Chip.{Image, Page, Step, program, erase, erased, mostSegments, largestImage, rightSize}
-use Rattle.model.specs.Header.{numberBytes, inverted, headerPage, headerStatus, headerNumber, headerInUse, allBlank}
+use Rattle.model.specs.Header.{numberBytes, inverted, Version, version1, version2, newVersion, tallyOf, tallyBytes, headerPage, headerVersion, headerStatus, headerNumber, headerInUse, allBlank}
 use Rattle.model.specs.Slot.{Slot, empty, torn, dead, wrong, live, slotPage, slotOf, mostContents, Entry, entryOf}
-use Rattle.model.specs.State.{Segment, blank, invalid, inUse, isInUse, isInvalid, slotsIn, segmentOf, segmentsOf, nextNumber, nextIndex, usedCount, firstNumber, slotsFrom, View, viewOf, entries, entriesIn, holds, lastSlot, Place, placeOf, placeFrom, view, older, Exception, caseA, caseB, caseC, caseD, State, clean, unfinished, damaged, stateOf}
-use Rattle.model.specs.Steps.{topRow, topNumber, firstEmpty, programs, programPart, onPage, headerAt, slotAt, writeSlot, markDead, markPlace, openSegment, copyEntries, copyOut, settle, compact, copied, Room, hasRoom, openNext, compactOldest, compactUntilRoom, roomFor, markOld, writeAtTop, putSteps, deleteSteps, eraseFirst, formatSteps, eraseUnlessBlank, mendSteps, recoverSteps}
+use Rattle.model.specs.State.{Segment, blank, invalid, inUse, isInUse, isInvalid, slotsIn, segmentOf, segmentsOf, nextNumber, nextIndex, topVersion, usedCount, firstNumber, slotsFrom, View, viewOf, entries, entriesIn, holds, lastSlot, Place, placeOf, placeFrom, view, older, Exception, caseA, caseB, caseC, caseD, State, clean, unfinished, damaged, stateOf}
+use Rattle.model.specs.Steps.{topRow, topNumber, firstEmpty, programs, programPart, onPage, headerAt, slotAt, writeSlot, markDead, markPlace, openSegment, copyEntries, copyOut, settle, compact, copied, Room, hasRoom, nextVersion, openNext, compactOldest, compactUntilRoom, roomFor, markOld, writeAtTop, putSteps, deleteSteps, eraseFirst, formatSteps, highestBit, clearNext, countErase, eraseNext, unlessBlank, mendSteps, recoverSteps}
 use Rattle.model.specs.Table.{present, lookup, contentsFound}
 use Rattle.model.specs.Answers.{Request, format, put, delete, read, readOr, recover, stepsFor, workOf, outcomeOf, ReadOutcome, readOutcome, contentsAt}
 use Rattle.model.specs.Laws.Lists.{map-length}
@@ -52,9 +52,9 @@ pub mark-length : (p : ℕ) → length (onPage p markDead) ≡ 1
 unfolding markDead
 mark-length p = page-length p markDead
 
-pub open-length : (N B n : ℕ) → length (openSegment N B n) ≡ 17
-unfolding openSegment headerPage numberBytes inverted programPart programs
-open-length N B n = page-length _ _ ∙ refl
+pub open-length : (N B t n : ℕ) → length (openSegment N B (newVersion t) n) ≡ 21
+unfolding openSegment headerPage numberBytes inverted newVersion tallyBytes programPart programs
+open-length N B t n = page-length _ _ ∙ refl
 
 pub settle-length : (N B n : ℕ) → length (settle N B n) ≡ 1
 unfolding settle
@@ -77,12 +77,12 @@ copy-length N B n j (e ∷ es) s =
     let xs = onPage (slotAt N B n j) (writeSlot (e .block) (e .contents)) in
     omega (arith, length-append xs (copyEntries N B n (suc j) es), page-length (slotAt N B n j) (writeSlot (e .block) (e .contents)), write-length (e .block) (e .contents), s .0, copy-length N B n (suc j) es (s .1))
 
-compact-length : (N B o n : ℕ) (es : List Entry) → Short es → length (compact N B o n es) ≤ 20 + 253 * length es
+compact-length : (N B : ℕ) (ver : Version) (o n : ℕ) (es : List Entry) → Short es → length (compact N B ver o n es) ≤ 24 + 253 * length es
 unfolding compact copyOut
-compact-length N B o n es s =
-    let h = headerPage N B 0x9F n (o % N) in
+compact-length N B ver o n es s =
+    let h = headerPage N B ver 0x9F n (o % N) in
     let first = program 5 0xDF ∷ (programPart h 0 5 ++ (programPart h 6 2 ++ programPart h 16 1)) in
-    let last = programPart h 8 8 ++ (program 5 0x9F ∷ []) in
+    let last = programPart h 17 4 ++ (programPart h 8 8 ++ (program 5 0x9F ∷ [])) in
     let a = onPage (headerAt N B n) first in
     let b = copyEntries N B n 0 es in
     let c = onPage (headerAt N B n) last in
@@ -97,10 +97,12 @@ compact-length N B o n es s =
       settle-length N B n,
       length-append (programPart h 0 5) (programPart h 6 2 ++ programPart h 16 1),
       length-append (programPart h 6 2) (programPart h 16 1),
+      length-append (programPart h 17 4) (programPart h 8 8 ++ (program 5 0x9F ∷ [])),
       length-append (programPart h 8 8) (program 5 0x9F ∷ []),
       part-length h 0 5,
       part-length h 6 2,
       part-length h 16 1,
+      part-length h 17 4,
       part-length h 8 8,
       copy-length N B n 0 es s,
     )
@@ -124,7 +126,7 @@ unfolding segmentOf
 segment-row N B i ps h = go (headerInUse N B i (getD ps 0 [])) (allBlank ps)
   where
     used : Segment
-    used = inUse (headerStatus (getD ps 0 [])) (headerNumber (getD ps 0 [])) (map slotOf (drop 1 ps))
+    used = inUse (headerVersion (getD ps 0 [])) (headerStatus (getD ps 0 [])) (headerNumber (getD ps 0 [])) (map slotOf (drop 1 ps))
 
     go : (t u : Bool) → Short (entries (slotsIn (cond t used (cond u blank invalid)))) × (length (slotsIn (cond t used (cond u blank invalid))) ≤ B)
     go true u = unfold slotsIn in (short-pages (drop 1 ps), omega (arith, map-length slotOf (drop 1 ps), length-drop 1 ps))
@@ -162,7 +164,7 @@ oldest-row B (y ∷ l) r = (r .0, r .1)
 
 -- one compaction
 abbrev most : ℕ → ℕ
-most B = 20 + 253 * B
+most B = 24 + 253 * B
 
 one-length : (N B : ℕ) (v : View) → RowsOk B (v .slots) → (length (compactOldest N B v .steps) ≤ most B) × RowsOk B (compactOldest N B v .result .slots)
 unfolding compactOldest
@@ -171,7 +173,7 @@ one-length N B v r =
     let es = entries (getD (v .slots) 0 []) in
     let e = entries-length (getD (v .slots) 0 []) in
     let o1 = o .1 in
-    (omega (arith, compact-length N B (v .first) (suc (topNumber v)) es (o .0)), rows-added B (drop 1 (v .slots)) (copied B es) (rows-rest B (v .slots) r) (rw (copied-entries B es) (o .0)) (omega (arith, copied-length B es (omega arith))))
+    (omega (arith, compact-length N B (nextVersion v) (v .first) (suc (topNumber v)) es (o .0)), rows-added B (drop 1 (v .slots)) (copied B es) (rows-rest B (v .slots) r) (rw (copied-entries B es) (o .0)) (omega (arith, copied-length B es (omega arith))))
 
 until-length : (N B k : ℕ) (v : View) → RowsOk B (v .slots) → length (compactUntilRoom N B k v .steps) ≤ k * most B
 unfolding compactUntilRoom
@@ -188,16 +190,16 @@ until-length N B (suc k) v r = go (hasRoom v) (until-length N B k (compactOldest
     go true h = omega arith
     go false h = omega (arith, length-append (compactOldest N B v .steps) (compactUntilRoom N B k w .steps), one-length N B v r .0)
 
-room-length : (N B : ℕ) (v : View) → RowsOk B (v .slots) → length (roomFor N B v .steps) ≤ 17 + (N - 1) * most B
-unfolding roomFor openNext
+room-length : (N B : ℕ) (v : View) → RowsOk B (v .slots) → length (roomFor N B v .steps) ≤ 21 + (N - 1) * most B
+unfolding roomFor openNext nextVersion
 room-length N B v r = go (hasRoom v) (ltb (length (v .slots)) (N - 1))
   where
     steps : Bool → Bool → List Step
     steps t u = (cond {A = Room} t (record { steps = []; result = v }) (cond u (openNext N B v) (compactUntilRoom N B (N - 1) v))) .steps
 
-    go : (t u : Bool) → length (steps t u) ≤ 17 + (N - 1) * most B
+    go : (t u : Bool) → length (steps t u) ≤ 21 + (N - 1) * most B
     go true u = omega arith
-    go false true = omega (arith, open-length N B (suc (topNumber v)))
+    go false true = omega (arith, open-length N B (tallyOf (v .version)) (suc (topNumber v)))
     go false false = omega (arith, until-length N B (N - 1) v r)
 
 -- ---- the requests
@@ -206,7 +208,7 @@ place-length : (N B : ℕ) (p : Place) → length (markPlace N B p) ≡ 1
 unfolding markPlace
 place-length N B p = mark-length (slotAt N B (p .number) (p .slot))
 
-put-length : (N B b : ℕ) (c : List ℕ) (v : View) → RowsOk B (v .slots) → length c ≤ 248 → length (putSteps N B b c v) ≤ 271 + (N - 1) * most B
+put-length : (N B b : ℕ) (c : List ℕ) (v : View) → RowsOk B (v .slots) → length c ≤ 248 → length (putSteps N B b c v) ≤ 275 + (N - 1) * most B
 unfolding putSteps writeAtTop markOld
 put-length N B b c v r h =
     let w = roomFor N B v .result in
@@ -224,26 +226,47 @@ unfolding eraseFirst
 erase-length zero = refl
 erase-length (suc k) = length-append (eraseFirst k) (erase k ∷ []) ∙ omega (arith, erase-length k)
 
-mend-length : (N B : ℕ) (l : List Segment) (x : Exception) → length (mendSteps N B l x) ≤ 2
-unfolding mendSteps eraseUnlessBlank
-mend-length N B l caseA = omega arith
+-- a recovery counts in one step, if at all
+clear-length : (at : ℕ) (bits : List ℕ) → length (clearNext at bits) ≤ 1
+unfolding clearNext
+clear-length at [] = omega arith
+clear-length at (x ∷ xs) = go (eqb x 0) (clear-length (suc at) xs)
+  where
+    go : (t : Bool) → length (clearNext (suc at) xs) ≤ 1 → length (cond t (clearNext (suc at) xs) (program at (x - highestBit x) ∷ [])) ≤ 1
+    go true h = h
+    go false h = omega arith
+
+count-length : (ver : Version) → length (countErase ver) ≤ 1
+unfolding countErase
+count-length version1 = omega arith
+count-length (version2 total bits) = clear-length 32 bits
+
+next-length : (N B : ℕ) (l : List Segment) → length (eraseNext N B l) ≤ 2
+unfolding eraseNext
+next-length N B l =
+    let p = headerAt N B (nextNumber l - 1) in
+    let xs = countErase (topVersion N l) in
+    omega (arith, length-append (onPage p xs) (erase (nextIndex N l) ∷ []), page-length p xs, count-length (topVersion N l))
+
+mend-length : (N B : ℕ) (l : List Segment) (x : Exception) → length (mendSteps N B l x) ≤ 3
+unfolding mendSteps unlessBlank
+mend-length N B l caseA = omega (arith, next-length N B l)
 mend-length N B l caseB =
-    let i = nextIndex N l in
-    let x = getD l i blank in
+    let x = getD l (nextIndex N l) blank in
     omega (
       arith,
-      length-append (cond (isInUse x || isInvalid x) (erase i ∷ []) []) (settle N B (nextNumber l - 1)),
+      length-append (cond (isInUse x || isInvalid x) (eraseNext N B l) []) (settle N B (nextNumber l - 1)),
       settle-length N B (nextNumber l - 1),
-      first (isInUse x || isInvalid x) i,
+      first (isInUse x || isInvalid x),
     )
   where
-    first : (t : Bool) (i : ℕ) → length (cond t (erase i ∷ []) []) ≤ 1
-    first true i = omega arith
-    first false i = omega arith
+    first : (t : Bool) → length (cond t (eraseNext N B l) []) ≤ 2
+    first true = next-length N B l
+    first false = omega arith
 mend-length N B l caseC = omega (arith, place-length N B (record { number = nextNumber l - 1; slot = lastSlot N l }))
 mend-length N B l caseD = omega (arith, place-length N B (older N l))
 
-recover-length : (N B : ℕ) (l : List Segment) (st : State) → length (recoverSteps N B l st) ≤ 2
+recover-length : (N B : ℕ) (l : List Segment) (st : State) → length (recoverSteps N B l st) ≤ 3
 unfolding recoverSteps
 recover-length N B l clean = omega arith
 recover-length N B l (unfinished x) = mend-length N B l x
@@ -251,18 +274,18 @@ recover-length N B l damaged = omega arith
 
 -- every list of an accepted request on an image of a right size
 module _ (N B : ℕ) (s : Image) (z : rightSize N B s ≡ true) where
-  room-bound : (N - 1) * most B ≤ (mostSegments - 1) * 64535
+  room-bound : (N - 1) * most B ≤ (mostSegments - 1) * 64539
   room-bound =
       let f = size-facts N B s z in
       let n = f .most in
       let b = f .mostB in
       let x : N - 1 ≤ mostSegments - 1 = omega arith in
-      let y : most B ≤ 64535 = omega arith in
+      let y : most B ≤ 64539 = omega arith in
       mul-le-mul x y
 
   accepted-length : (r : Request) → workOf N B s r .code ≡ 0 → length (stepsFor N B (segmentsOf N B s) r) ≤ largestImage
   unfolding stepsFor formatSteps deleteSteps mostContents viewOf
-  accepted-length format e = let n = size-facts N B s z .most in omega (arith, length-append (eraseFirst N) (openSegment N B 0), erase-length N, open-length N B 0)
+  accepted-length format e = let n = size-facts N B s z .most in omega (arith, length-append (eraseFirst N) (openSegment N B (newVersion 0) 0), erase-length N, open-length N B 0 0)
   accepted-length (put b c) e =
       let l = segmentsOf N B s in
       omega (arith, room-bound, put-length N B b c (viewOf N l) (image-rows N B s (usedCount l) (firstNumber l)) (put-passed N B s b c (accepted N B s (put b c) e .1) .short))

@@ -1,10 +1,12 @@
 -- The view after a request, predicted from the view before; and what a clean view is.
-use Prim.Native.Nat.{ℕ, _-_, _≤_}
+use Prim.Native.Nat.{ℕ, _-_, _≤_, _<_}
 use mathlib.Core.Path.{_≡_}
-use mathlib.Core.Bool.{true, cond, _||_}
+use mathlib.Core.Bool.{true, false, cond, _||_}
 use mathlib.Core.List.{List, [], _∷_}
 use lib.ListN.{length, replicate}
 use lib.Dec.{ltb}
+use Rattle.model.specs.Chip.{eraseLimit}
+use Rattle.model.specs.Header.{newVersion, isFormer, tallyOf}
 use Rattle.model.specs.Slot.{Slot, empty, dead, live}
 use Rattle.model.specs.State.{View, entriesIn, holds, capacity, Place, placeOf, noneWrongOrTorn, blocksDistinct, emptySlotsLast, withinCapacity}
 use Rattle.model.specs.Steps.{topRow, topNumber, firstEmpty, roomFor}
@@ -31,7 +33,7 @@ unfoldable pub afterDelete : ℕ → View → View
 afterDelete b v = marked (placeOf b v) v
 
 unfoldable pub fresh : ℕ → View
-fresh B = record { first = 0; slots = replicate B empty ∷ [] }
+fresh B = record { first = 0; slots = replicate B empty ∷ []; version = newVersion 0 }
 
 -- ---- a clean view
 
@@ -48,6 +50,11 @@ pub record CleanView (N B : ℕ) (v : View) : Type 0 where
   pub once : blocksDistinct v ≡ true
   pub last : emptySlotsLast v ≡ true
   pub within : withinCapacity N B v ≡ true
+
+-- new headers can carry the tally on: version 2, and a total that fits
+pub record Carries (v : View) : Type 0 where
+  pub second : isFormer (v .version) ≡ false
+  pub fits : tallyOf (v .version) < eraseLimit
 
 -- a put of this block is not refused as full
 abbrev pub Fits : ℕ → ℕ → ℕ → View → Type 0

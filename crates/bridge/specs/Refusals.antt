@@ -6,6 +6,7 @@ use mathlib.Core.List.{List, [], _∷_}
 use lib.ListN.{length}
 use lib.Dec.{eqb}
 use Rattle.model.specs.Chip.{Image, rightSize}
+use Rattle.model.specs.Header.{isFormer}
 use Rattle.model.specs.Slot.{numberOk}
 use Rattle.model.specs.State.{segmentsOf, viewOf, view, entriesIn, holds, Exception, State, clean, unfinished, damaged, state}
 use Rattle.model.specs.Steps.{isWorn}
@@ -104,16 +105,21 @@ module _ (N B : ℕ) (s : Image) where
         module _ (h : lengthOk (length c) ≡ true) where
           pub put-unclean : (state N B s ≡ clean → ⊥) → refusal N B s (put b c) ≡ codeOf (answerIn (state N B s))
           unfolding refusals firstOf state
-          put-unclean u = rw (z, n, h) (unclean (state N B s) u ((7 when isFull N B b (viewOf N (segmentsOf N B s))) ∷ (8 when isWorn N (viewOf N (segmentsOf N B s))) ∷ []))
+          put-unclean u = rw (z, n, h) (unclean (state N B s) u ((11 when isFormer (viewOf N (segmentsOf N B s) .version)) ∷ (7 when isFull N B b (viewOf N (segmentsOf N B s))) ∷ (8 when isWorn N (viewOf N (segmentsOf N B s))) ∷ []))
 
-          pub put-full : state N B s ≡ clean → isFull N B b (view N B s) ≡ true → refusal N B s (put b c) ≡ 7
+          pub put-former : state N B s ≡ clean → isFormer (view N B s .version) ≡ true → refusal N B s (put b c) ≡ 11
           unfolding refusals firstOf state view isDamaged isUnfinished
-          put-full e f = rw (z, n, h, e, f)
+          put-former e o = rw (z, n, h, e, o)
 
-          pub put-worn : state N B s ≡ clean → isFull N B b (view N B s) ≡ false → isWorn N (view N B s) ≡ true → refusal N B s (put b c) ≡ 8
-          unfolding refusals firstOf state view isDamaged isUnfinished
-          put-worn e f w = rw (z, n, h, e, f, w)
+          module _ (o : isFormer (view N B s .version) ≡ false) where
+            pub put-full : state N B s ≡ clean → isFull N B b (view N B s) ≡ true → refusal N B s (put b c) ≡ 7
+            unfolding refusals firstOf state view isDamaged isUnfinished
+            put-full e f = rw (z, n, h, e, o, f)
 
-          pub put-accepted : state N B s ≡ clean → isFull N B b (view N B s) ≡ false → isWorn N (view N B s) ≡ false → refusal N B s (put b c) ≡ 0
-          unfolding refusals firstOf state view isDamaged isUnfinished
-          put-accepted e f w = rw (z, n, h, e, f, w)
+            pub put-worn : state N B s ≡ clean → isFull N B b (view N B s) ≡ false → isWorn N (view N B s) ≡ true → refusal N B s (put b c) ≡ 8
+            unfolding refusals firstOf state view isDamaged isUnfinished
+            put-worn e f w = rw (z, n, h, e, o, f, w)
+
+            pub put-accepted : state N B s ≡ clean → isFull N B b (view N B s) ≡ false → isWorn N (view N B s) ≡ false → refusal N B s (put b c) ≡ 0
+            unfolding refusals firstOf state view isDamaged isUnfinished
+            put-accepted e f w = rw (z, n, h, e, o, f, w)

@@ -8,10 +8,12 @@ use native.Mathlib.Nat.{mod-lt}
 use lib.ListN.{length, getD}
 use lib.Dec.{ltb}
 use borrow.Author.Tests.{ltb-true, ltb-false}
-use Rattle.model.specs.Chip.{Image, Bytes, numberLimit, rightSize, run}
+use Rattle.model.specs.Lists.{count}
+use Rattle.model.specs.Chip.{Image, Bytes, erased, numberLimit, rightSize, run}
+use Rattle.model.specs.Header.{newVersion, isFormer, bitValues, clearedIn, clearedBits, tallyOf}
 use Rattle.model.specs.Slot.{Slot, empty, live}
 use Rattle.model.specs.State.{segmentsOf, View, view, entries, entriesIn, holds, Place, placeOf, noneWrongOrTorn, state, clean}
-use Rattle.model.specs.Steps.{markPlace, topNumber, hasRoom, Room, openNext, compactOldest, compactUntilRoom, roomFor, newNumbers, writeAtTop, markOld, putSteps, deleteSteps}
+use Rattle.model.specs.Steps.{markPlace, topNumber, hasRoom, Room, openNext, compactOldest, compactUntilRoom, roomFor, newNumbers, nextVersion, writeAtTop, markOld, putSteps, deleteSteps}
 use Rattle.model.specs.Table.{Agree, store}
 use Rattle.model.specs.Answers.{put, delete, stepsFor, workOf}
 use Rattle.model.specs.Laws.Lists.{all-row}
@@ -20,12 +22,12 @@ use Rattle.model.specs.Laws.Bytes.{run-bytes}
 use Rattle.model.specs.Laws.SlotPage.{Valid}
 use Rattle.model.specs.Laws.Effects.{numbered-at}
 use Rattle.model.specs.Laws.Clean.{numbered}
-use Rattle.bridge.specs.Predicted.{written, marked, putInto, afterPut, afterDelete, CleanView, Rows}
+use Rattle.bridge.specs.Predicted.{written, marked, putInto, afterPut, afterDelete, CleanView, Carries, Rows}
 use Rattle.bridge.specs.Views.Slots.{same-rows, slots-counted, sound}
 use Rattle.bridge.specs.Views.Places.{in-view, TopGap, written-place, written-holds}
 use Rattle.bridge.specs.Views.Shape.{clean-shape, shape-gap, first-live-in, opened-top}
 use Rattle.bridge.specs.Views.Room.{tidied, Made, room-made}
-use Rattle.bridge.specs.Views.Requests.{room-numbered, put-keeps-clean, put-stores, delete-keeps-clean}
+use Rattle.bridge.specs.Views.Requests.{room-numbered, worn-carries, put-keeps-clean, put-stores, delete-keeps-clean}
 use Rattle.bridge.specs.Held.{Held, held-first, held-of-clean, clean-view, clean-of-held, held-lengths, row-valid, held-next}
 use Rattle.bridge.specs.Done.{mark-held, write-held, open-held, compact-held}
 use Rattle.bridge.specs.Accepted.{PutPassed, put-passed, delete-passed, accepted}
@@ -103,21 +105,25 @@ row-fits B v r w h = go (v .slots) r h (all-row _ (v .slots) 0 w)
     go [] q k p = absurd (omega arith)
     go (x ∷ l) q k p = omega (arith, slots-counted x p, q .0)
 
-pub one-compaction : (N B : ℕ) (s : Image) (v : View) → Held N B s v → Bytes s → CleanView N B v → length (v .slots) ≡ N - 1 → suc (topNumber v) < numberLimit N
+pub carries-next : (N B : ℕ) (v : View) → Carries v → Carries (compactOldest N B v .result)
+unfolding compactOldest nextVersion newVersion isFormer tallyOf clearedBits clearedIn bitValues count erased
+carries-next N B v c = record { second = refl; fits = omega (arith, c .fits) }
+
+pub one-compaction : (N B : ℕ) (s : Image) (v : View) → Held N B s v → Bytes s → CleanView N B v → length (v .slots) ≡ N - 1 → Carries v → suc (topNumber v) < numberLimit N
     → Held N B (run B (compactOldest N B v .steps) s) (compactOldest N B v .result)
 unfolding compactOldest
-one-compaction N B s v h bs c full below =
-    compact-held N B s v h below full (entries (getD (v .slots) 0 [])) (row-valid N B s v h bs 0 (c .some)) (row-fits B v (held-lengths N B s v h) (c .sound) (c .some))
+one-compaction N B s v h bs c full carries below =
+    compact-held N B s v h carries below full (entries (getD (v .slots) 0 [])) (row-valid N B s v h bs 0 (c .some)) (row-fits B v (held-lengths N B s v h) (c .sound) (c .some))
 
 pub compacted-rows : (N B : ℕ) (v : View) → 1 ≤ length (v .slots) → length (compactOldest N B v .result .slots) ≡ length (v .slots)
 unfolding compactOldest
 compacted-rows N B v h = same-rows (v .slots) _ h
 
-compactions-held : (N B k : ℕ) (s : Image) (v : View) → Held N B s v → Bytes s → CleanView N B v → length (v .slots) ≡ N - 1
+compactions-held : (N B k : ℕ) (s : Image) (v : View) → Held N B s v → Bytes s → CleanView N B v → length (v .slots) ≡ N - 1 → Carries v
     → topNumber (compactUntilRoom N B k v .result) < numberLimit N → Held N B (run B (compactUntilRoom N B k v .steps) s) (compactUntilRoom N B k v .result)
-compactions-held N B zero s v h bs c full below = unfold compactUntilRoom run in h
-compactions-held N B (suc k) s v h bs c full below =
-    go (hasRoom v) refl below (λ t ht bt ct ft bl. compactions-held N B k t (compactOldest N B v .result) ht bt ct ft bl)
+compactions-held N B zero s v h bs c full carries below = unfold compactUntilRoom run in h
+compactions-held N B (suc k) s v h bs c full carries below =
+    go (hasRoom v) refl below (λ t ht bt ct ft bl. compactions-held N B k t (compactOldest N B v .result) ht bt ct ft (carries-next N B v carries) bl)
   where
     go : (t : Bool) → hasRoom v ≡ t → topNumber (compactUntilRoom N B (suc k) v .result) < numberLimit N
         → ((t : Image) → Held N B t (compactOldest N B v .result) → Bytes t → CleanView N B (compactOldest N B v .result) → length (compactOldest N B v .result .slots) ≡ N - 1
@@ -131,20 +137,20 @@ compactions-held N B (suc k) s v h bs c full below =
         let low : suc (topNumber v) < numberLimit N = omega (arith, top-rises N B k (compactOldest N B v .result) (t .clean), t .number, bl2) in
         let xs = compactOldest N B v .steps in
         rw (until-more N B k v e, run-append B xs (compactUntilRoom N B k (compactOldest N B v .result) .steps) s)
-        (ih (run B xs s) (one-compaction N B s v h bs c full low) (run-bytes B xs s bs) (t .clean) (compacted-rows N B v (c .some) ∙ full) bl2)
+        (ih (run B xs s) (one-compaction N B s v h bs c full carries low) (run-bytes B xs s bs) (t .clean) (compacted-rows N B v (c .some) ∙ full) bl2)
 
-pub room-held : (N B : ℕ) (s : Image) (v : View) → Held N B s v → Bytes s → CleanView N B v → topNumber (roomFor N B v .result) < numberLimit N
+pub room-held : (N B : ℕ) (s : Image) (v : View) → Held N B s v → Bytes s → CleanView N B v → (hasRoom v ≡ false → Carries v) → topNumber (roomFor N B v .result) < numberLimit N
     → Held N B (run B (roomFor N B v .steps) s) (roomFor N B v .result)
 unfolding roomFor
-room-held N B s v h bs c below = go (hasRoom v) (ltb (length (v .slots)) (N - 1)) refl below
+room-held N B s v h bs c carries below = go (hasRoom v) (ltb (length (v .slots)) (N - 1)) refl refl below
   where
     chosen : Bool → Bool → Room
     chosen t u = cond t (record { steps = []; result = v }) (cond u (openNext N B v) (compactUntilRoom N B (N - 1) v))
 
-    go : (t u : Bool) → ltb (length (v .slots)) (N - 1) ≡ u → topNumber (chosen t u .result) < numberLimit N → Held N B (run B (chosen t u .steps) s) (chosen t u .result)
-    go true u e bl = unfold run in h
-    go false true e bl = open-held N B s v h (omega (arith, bl, opened-top N B v (c .some))) (ltb-true (length (v .slots)) (N - 1) e)
-    go false false e bl = compactions-held N B (N - 1) s v h bs c (omega (arith, ltb-false (length (v .slots)) (N - 1) e, c .spare)) bl
+    go : (t u : Bool) → hasRoom v ≡ t → ltb (length (v .slots)) (N - 1) ≡ u → topNumber (chosen t u .result) < numberLimit N → Held N B (run B (chosen t u .steps) s) (chosen t u .result)
+    go true u q e bl = unfold run in h
+    go false true q e bl = open-held N B s v h (carries q) (omega (arith, bl, opened-top N B v (c .some))) (ltb-true (length (v .slots)) (N - 1) e)
+    go false false q e bl = compactions-held N B (N - 1) s v h bs c (omega (arith, ltb-false (length (v .slots)) (N - 1) e, c .spare)) (carries q) bl
 
 -- ---- the requests
 
@@ -193,8 +199,11 @@ module _ (N B : ℕ) (s : Image) (z : rightSize N B s ≡ true) (cl : state N B 
     pub roomed-below : topNumber (roomFor N B (view N B s) .result) < numberLimit N
     roomed-below = room-numbered N B two slots v cv (passes .fresh) (held-below N B s v h cv)
 
+    pub room-carries : hasRoom (view N B s) ≡ false → Carries (view N B s)
+    room-carries e = worn-carries N B two slots v (passes .second) (passes .fresh) e
+
     pub roomed-held : Held N B roomed r
-    roomed-held = room-held N B s v h bs cv roomed-below
+    roomed-held = room-held N B s v h bs cv room-carries roomed-below
 
     pub roomed-clean : CleanView N B r
     roomed-clean = made .clean

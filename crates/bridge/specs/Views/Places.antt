@@ -92,7 +92,7 @@ fill-empty-last g k m h = go (g .rowsBefore)
 
 -- the slot changed
 pub fill-changed : (v : View) (g : Gap) (k m : Slot) (n j : ℕ) → v .slots ≡ fill g k → n ≡ v .first + length (g .rowsBefore) → j ≡ length (g .before)
-    → slotChanged n j m v ≡ record { first = v .first; slots = fill g m }
+    → slotChanged n j m v ≡ record { first = v .first; slots = fill g m; version = v .version }
 unfolding slotChanged
 fill-changed v g k m n j h p q =
     let i : length (g .rowsBefore) ≡ n - v .first = omega arith in
@@ -252,7 +252,7 @@ place-earlier b n g k m h = rows n (g .rowsBefore) h
         go false e q ih = rw e (ih (rw e at q))
 
 -- marked dead, it is no longer among the entries
-pub marked-at : (b : ℕ) (v : View) (f : FirstLive b (v .first) (v .slots)) → marked (placeOf b v) v ≡ record { first = v .first; slots = fill (f .gap) dead }
+pub marked-at : (b : ℕ) (v : View) (f : FirstLive b (v .first) (v .slots)) → marked (placeOf b v) v ≡ record { first = v .first; slots = fill (f .gap) dead; version = v .version }
 unfolding marked placeOf
 marked-at b v f = fill-changed v (f .gap) (live b (f .contents)) dead (placeFrom b (v .first) (v .slots) .number) (placeFrom b (v .first) (v .slots) .slot)
     (f .split) (ap (λ p. p .number) (f .place)) (ap (λ p. p .slot) (f .place))
@@ -304,7 +304,7 @@ unfolding entriesIn entryOf
 all-before-top g = ap (λ y. entries (flatten y)) (g .split) ∙ (fill-entries (g .gap) empty ∙ rw (none-after-top g) (append-nil (entries (earlier (g .gap)))))
 
 -- a slot written there holds the last of the entries
-pub written-at : (b : ℕ) (c : List ℕ) (v : View) (g : TopGap v) → written b c v ≡ record { first = v .first; slots = fill (g .gap) (live b c) }
+pub written-at : (b : ℕ) (c : List ℕ) (v : View) (g : TopGap v) → written b c v ≡ record { first = v .first; slots = fill (g .gap) (live b c); version = v .version }
 unfolding written
 written-at b c v g = fill-changed v (g .gap) empty (live b c) (topNumber v) (firstEmpty (topRow (v .slots))) (g .split) (g .number) (g .slot)
 
@@ -312,7 +312,7 @@ pub written-entries : (b : ℕ) (c : List ℕ) (v : View) → TopGap v → entri
 unfolding entryOf
 written-entries b c v g = rw (all-before-top g, written-at b c v g) (shown (g .gap) (none-after-top g))
   where
-    shown : (p : Gap) → entries (later p) ≡ [] → entriesIn (record { first = v .first; slots = fill p (live b c) }) ≡ entries (earlier p) ++ (record { block = b; contents = c } ∷ [])
+    shown : (p : Gap) → entries (later p) ≡ [] → entriesIn (record { first = v .first; slots = fill p (live b c); version = v .version }) ≡ entries (earlier p) ++ (record { block = b; contents = c } ∷ [])
     shown p z = unfold entriesIn in (fill-entries p (live b c) ∙ rw z)
 
 -- a block's older slot is still the first once a slot of it is written

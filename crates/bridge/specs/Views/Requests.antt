@@ -1,18 +1,20 @@
 -- A put and a delete keep a view clean and make the table that they should.
-use Prim.Native.Nat.{ℕ, suc, _+_, _≤_, _<_}
+use Prim.Native.Nat.{ℕ, suc, _+_, _*_, _/_, _≤_, _<_}
 use mathlib.Core.Path.{_≡_, refl, ap, _∙_}
-use mathlib.Core.Bool.{Bool, true, false, cond, _||_, _&&_, not}
+use mathlib.Core.Bool.{Bool, true, false, cond, _||_, _&&_, not, true≢false}
 use mathlib.Core.List.{List, [], _∷_, _++_}
 use native.Mathlib.Omega.{arith}
+use native.Mathlib.Nat.{div-lt-iff-lt-mul}
 use lib.ListN.{length}
 use lib.Dec.{ltb, leb}
 use borrow.Author.Tests.{ltb-true, leb-false}
-use Rattle.model.specs.Chip.{numberLimit}
+use Rattle.model.specs.Chip.{eraseLimit, numberLimit}
+use Rattle.model.specs.Header.{isFormer, tallyOf, noBitLeft}
 use Rattle.model.specs.State.{View, entriesIn, holds, distinct, capacity, placeOf}
 use Rattle.model.specs.Steps.{topNumber, hasRoom, roomFor, newNumbers, isWorn}
 use Rattle.model.specs.Table.{lookup, without, store, Agree}
 use Rattle.model.specs.Laws.Tables.{agree-holds, agree-store, without-absent, distinct-without, without-length, without-first, without-first-append, storedLast, stored-last-agree, stored-last-distinct, stored-last-length}
-use Rattle.bridge.specs.Predicted.{written, marked, putInto, afterPut, afterDelete, CleanView, Fits}
+use Rattle.bridge.specs.Predicted.{written, marked, putInto, afterPut, afterDelete, CleanView, Carries, Fits}
 use Rattle.bridge.specs.Views.Places.{FirstLive, TopGap, marked-entries, written-entries, written-place, written-holds}
 use Rattle.bridge.specs.Views.Shape.{Shape, clean-shape, shape-clean, clean-distinct, clean-within, written-shape, marked-shape, shape-gap, first-live-in}
 use Rattle.bridge.specs.Views.Room.{Made, room-made}
@@ -73,14 +75,31 @@ module _ (N B : ℕ) (n : 2 ≤ N) (m : 2 ≤ B) where
       let r = room-made N B n m v k in
       ap (lookup a) (put-stored v b c k .entries) ∙ (stored-last-agree b c (entriesIn (roomFor N B v .result)) a ∙ agree-store b c (entriesIn (roomFor N B v .result)) (entriesIn v) (r .table) a)
 
-  pub room-numbered : (v : View) → CleanView N B v → isWorn N v ≡ false → topNumber v < numberLimit N → topNumber (roomFor N B v .result) < numberLimit N
-  unfolding isWorn newNumbers
-  room-numbered v k w l = let r = room-made N B n m v k in go (hasRoom v) refl w (r .number)
+  -- the number that the last new header gets, and the tally
+  worn-reckoned : (v : View) → hasRoom v ≡ false → isWorn N v ≡ false → (topNumber v + newNumbers N v) / N + tallyOf (v .version) < eraseLimit
+  unfolding isWorn
+  worn-reckoned v e w = go (noBitLeft (v .version)) (rw e at w)
     where
-      go : (t : Bool) → hasRoom v ≡ t → (not t && leb (numberLimit N) (topNumber v + newNumbers N v)) ≡ false → topNumber (roomFor N B v .result) ≡ topNumber v + newNumbers N v
-          → topNumber (roomFor N B v .result) < numberLimit N
-      go true e p q = let z = rw e at q in omega arith
-      go false e p q = omega (arith, leb-false (numberLimit N) (topNumber v + newNumbers N v) p)
+      reckoned : ℕ
+      reckoned = (topNumber v + newNumbers N v) / N + tallyOf (v .version)
+
+      go : (t : Bool) → (t || leb eraseLimit reckoned) ≡ false → reckoned < eraseLimit
+      go true p = absurd (true≢false p)
+      go false p = leb-false eraseLimit reckoned p
+
+  pub room-numbered : (v : View) → CleanView N B v → isWorn N v ≡ false → topNumber v < numberLimit N → topNumber (roomFor N B v .result) < numberLimit N
+  unfolding newNumbers numberLimit
+  room-numbered v k w l = go (hasRoom v) refl (room-made N B n m v k .number)
+    where
+      go : (t : Bool) → hasRoom v ≡ t → topNumber (roomFor N B v .result) ≡ topNumber v + newNumbers N v → topNumber (roomFor N B v .result) < eraseLimit * N
+      go true e q = let z = rw e at q in omega arith
+      go false e q =
+          let p : 0 < N = omega arith in
+          let d : (topNumber v + newNumbers N v) / N < eraseLimit = omega (arith, worn-reckoned v e w) in
+          omega (arith, q, div-lt-iff-lt-mul p .0 d)
+
+  pub worn-carries : (v : View) → isFormer (v .version) ≡ false → isWorn N v ≡ false → hasRoom v ≡ false → Carries v
+  worn-carries v o w e = record { second = o; fits = omega (arith, worn-reckoned v e w) }
 
 module _ (N B : ℕ) where
   pub deleted-entries : (v : View) (b : ℕ) → CleanView N B v → holds b (entriesIn v) ≡ true → entriesIn (afterDelete b v) ≡ without b (entriesIn v)

@@ -9,6 +9,7 @@ use lib.ListN.{length, length-append}
 use lib.Dec.{ltb}
 use borrow.Author.Tests.{ltb-true, ltb-false, lt-ltb, le-ltb, not-true, not-false}
 use Rattle.model.specs.Lists.{all, count}
+use Rattle.model.specs.Header.{Version, newVersion, tallyOf}
 use Rattle.model.specs.Slot.{Slot, isEmpty, isDead, isTorn, isWrong}
 use Rattle.model.specs.State.{View, entries, entriesIn, distinct, noneWrongOrTorn, capacity}
 use Rattle.model.specs.Steps.{topNumber, hasRoom, copied, openNext, compactOldest, compactUntilRoom, roomFor, compactions, newNumbers}
@@ -72,23 +73,23 @@ pub record Tidied (N B : ℕ) (v w : View) : Type 0 where
 module _ (N B : ℕ) where
   pub tidied : (v : View) → CleanView N B v → hasRoom v ≡ false → Tidied N B v (compactOldest N B v .result)
   unfolding entriesIn noneWrongOrTorn flatten all compactions topNumber rowAdded
-  tidied v c h = go (v .first) (v .slots) c h
+  tidied v c h = go (v .first) (v .slots) (v .version) c h
     where
-      go : (n : ℕ) (l : List (List Slot)) → CleanView N B (record { first = n; slots = l }) → hasRoom (record { first = n; slots = l }) ≡ false
-          → Tidied N B (record { first = n; slots = l }) (compactOldest N B (record { first = n; slots = l }) .result)
-      go n [] c h = absurd (omega (arith, c .some))
-      go n (s ∷ l) c h = record {
+      go : (n : ℕ) (l : List (List Slot)) (e : Version) → CleanView N B (record { first = n; slots = l; version = e }) → hasRoom (record { first = n; slots = l; version = e }) ≡ false
+          → Tidied N B (record { first = n; slots = l; version = e }) (compactOldest N B (record { first = n; slots = l; version = e }) .result)
+      go n [] e c h = absurd (omega (arith, c .some))
+      go n (s ∷ l) e c h = record {
         clean = shape-clean (tidied-shape (clean-shape c) h) (ap distinct now ∙ distinct-swap (entries s) (entries (flatten l)) was)
             (omega (arith, ap length now, length-append (entries (flatten l)) (entries s), counted, clean-within c));
         table = λ b. ap (lookup b) now ∙ (agree-swap (entries s) (entries (flatten l)) was b ∙ ap (lookup b) (sym (entries-append s (flatten l))));
         size = omega (arith, ap length now, length-append (entries (flatten l)) (entries s), counted);
-        number = ap topNumber (tidied-view N B n s l) ∙ (added-top B (suc n) l (entries s) ∙ omega arith);
+        number = ap topNumber (tidied-view N B n s l e) ∙ (added-top (newVersion (tallyOf e)) B (suc n) l (entries s) ∙ omega arith);
         done = λ p. rw (not-true (noneDead s) (sym room ∙ p));
         further = λ p q. later (not-false (noneDead s) (sym room ∙ p)) (sym (all-append (λ k. not (isDead k)) s (flatten l)) ∙ q);
       }
         where
-          now : entriesIn (compactOldest N B (record { first = n; slots = s ∷ l }) .result) ≡ entries (flatten l) ++ entries s
-          now = ap entriesIn (tidied-view N B n s l) ∙ added-entries B (suc n) l (entries s)
+          now : entriesIn (compactOldest N B (record { first = n; slots = s ∷ l; version = e }) .result) ≡ entries (flatten l) ++ entries s
+          now = ap entriesIn (tidied-view N B n s l e) ∙ added-entries (newVersion (tallyOf e)) B (suc n) l (entries s)
 
           was : distinct (entries s ++ entries (flatten l)) ≡ true
           was = ap distinct (sym (entries-append s (flatten l))) ∙ clean-distinct c
@@ -96,19 +97,19 @@ module _ (N B : ℕ) where
           counted : length (entries (s ++ flatten l)) ≡ length (entries s) + length (entries (flatten l))
           counted = ap length (entries-append s (flatten l)) ∙ length-append (entries s) (entries (flatten l))
 
-          room : hasRoom (compactOldest N B (record { first = n; slots = s ∷ l }) .result) ≡ not (noneDead s)
-          room = ap hasRoom (tidied-view N B n s l) ∙ (added-room B (suc n) l (entries s)
+          room : hasRoom (compactOldest N B (record { first = n; slots = s ∷ l; version = e }) .result) ≡ not (noneDead s)
+          room = ap hasRoom (tidied-view N B n s l e) ∙ (added-room (newVersion (tallyOf e)) B (suc n) l (entries s)
               ∙ row-room B s (c .rows .0) (all-parts (λ k. not (isWrong k || isTorn k)) s (flatten l) (c .sound) .0)
               (and-eq-true-iff (full s) (all (λ x. full x) l) .0 (all-full (clean-shape c) h) .0))
 
           later : noneDead s ≡ true → (noneDead s && noneDead (flatten l)) ≡ false
-              → (noneDead (flatten (compactOldest N B (record { first = n; slots = s ∷ l }) .result .slots)) ≡ false)
-              × (cond (noneDead s) (suc (compactions l)) 1 ≡ suc (compactions (compactOldest N B (record { first = n; slots = s ∷ l }) .result .slots)))
-          later e q =
-              let d : noneDead (flatten l) ≡ false = rw e at q in
-              let z : compactOldest N B (record { first = n; slots = s ∷ l }) .result .slots ≡ l ++ (copied B (entries s) ∷ []) = ap (λ y. y .slots) (tidied-view N B n s l) in (
+              → (noneDead (flatten (compactOldest N B (record { first = n; slots = s ∷ l; version = e }) .result .slots)) ≡ false)
+              × (cond (noneDead s) (suc (compactions l)) 1 ≡ suc (compactions (compactOldest N B (record { first = n; slots = s ∷ l; version = e }) .result .slots)))
+          later d0 q =
+              let d : noneDead (flatten l) ≡ false = rw d0 at q in
+              let z : compactOldest N B (record { first = n; slots = s ∷ l; version = e }) .result .slots ≡ l ++ (copied B (entries s) ∷ []) = ap (λ y. y .slots) (tidied-view N B n s l e) in (
                 rw (z, flatten-last l (copied B (entries s)), all-append (λ k. not (isDead k)) (flatten l) (copied B (entries s)), d),
-                rw (z, e, compactions-append l (copied B (entries s) ∷ []) d),
+                rw (z, d0, compactions-append l (copied B (entries s) ∷ []) d),
               )
 
   -- ---- as many as it takes

@@ -8,9 +8,10 @@ use lib.ListN.{length, length-append}
 use lib.Dec.{ltb}
 use borrow.Author.Tests.{leb-true, le-leb, lt-ltb, not-false}
 use Rattle.model.specs.Lists.{all}
+use Rattle.model.specs.Header.{Version, newVersion, tallyOf}
 use Rattle.model.specs.Slot.{Slot, empty, dead, live, isEmpty, isTorn, isWrong, Entry}
 use Rattle.model.specs.State.{View, entries, entriesIn, holds, distinct, noneWrongOrTorn, blocksDistinct, emptyLast, onlyTopEmpty, emptySlotsLast, capacity, withinCapacity, placeOf}
-use Rattle.model.specs.Steps.{topRow, topNumber, hasRoom, copied, openNext, compactOldest}
+use Rattle.model.specs.Steps.{topRow, topNumber, hasRoom, copied, nextVersion, openNext, compactOldest}
 use Rattle.model.specs.Laws.Lists.{all-append, all-join, all-parts, flatten-last}
 use Rattle.bridge.specs.Predicted.{Rows, CleanView, written, marked}
 use Rattle.bridge.specs.Views.Slots.{full, sound, entries-append, entries-length, rows-append, full-then, all-empty-last, top-row, find-top, only-top-empty, copied-entries, copied-length, copied-sound, copied-empty-last, copied-full, copied-none}
@@ -52,7 +53,7 @@ clean-within {N} {B} {v} c = leb-true (length (entriesIn v)) (capacity N B) (c .
 
 -- the other slot is sound too, and empty slots come last as before
 changed-shape : (N B : ℕ) (v : View) (g : Gap) (k m : Slot) → v .slots ≡ fill g k → not (isWrong m || isTorn m) ≡ true → onlyTopEmpty (fill g m) ≡ true
-    → Shape N B v → Shape N B (record { first = v .first; slots = fill g m })
+    → Shape N B v → Shape N B (record { first = v .first; slots = fill g m; version = v .version })
 unfolding noneWrongOrTorn emptySlotsLast
 changed-shape N B v g k m h p e s =
     let n : length (v .slots) ≡ length (fill g m) = ap length h ∙ (fill-length g k ∙ sym (fill-length g m)) in
@@ -65,7 +66,7 @@ changed-shape N B v g k m h p e s =
     }
 
 -- a sound slot at the top's first empty place
-pub filled-shape : {N B : ℕ} {v : View} (k : Slot) → not (isWrong k || isTorn k) ≡ true → isEmpty k ≡ false → Shape N B v → (g : TopGap v) → Shape N B (record { first = v .first; slots = fill (g .gap) k })
+pub filled-shape : {N B : ℕ} {v : View} (k : Slot) → not (isWrong k || isTorn k) ≡ true → isEmpty k ≡ false → Shape N B v → (g : TopGap v) → Shape N B (record { first = v .first; slots = fill (g .gap) k; version = v .version })
 filled-shape {N} {B} {v} k p q s g = changed-shape N B v (g .gap) empty k (g .split) p (ends (g .gap) (g .isTop) (g .fullRows) (g .fullBefore) (g .emptyAfter)) s
   where
     ends : (p : Gap) → p .rowsAfter ≡ [] → all (λ x. full x) (p .rowsBefore) ≡ true → full (p .before) ≡ true → all isEmpty (p .after) ≡ true → onlyTopEmpty (fill p k) ≡ true
@@ -91,13 +92,13 @@ first-live-in b v h = first-live b (v .first) (v .slots) h
 
 -- ---- a row added, which these entries were copied to
 
-unfoldable pub rowAdded : ℕ → ℕ → List (List Slot) → List Entry → View
-rowAdded B n l es = record { first = n; slots = l ++ (copied B es ∷ []) }
+unfoldable pub rowAdded : Version → ℕ → ℕ → List (List Slot) → List Entry → View
+rowAdded e B n l es = record { first = n; slots = l ++ (copied B es ∷ []); version = e }
 
-pub added-shape : (N B n : ℕ) (l : List (List Slot)) (es : List Entry) → suc (length l) ≤ N - 1 → Rows B l → sound (flatten l) ≡ true → all (λ s. full s) l ≡ true → length es ≤ B
-    → Shape N B (rowAdded B n l es)
+pub added-shape : (e : Version) (N B n : ℕ) (l : List (List Slot)) (es : List Entry) → suc (length l) ≤ N - 1 → Rows B l → sound (flatten l) ≡ true → all (λ s. full s) l ≡ true → length es ≤ B
+    → Shape N B (rowAdded e B n l es)
 unfolding noneWrongOrTorn emptySlotsLast rowAdded
-added-shape N B n l es m r s f h =
+added-shape e N B n l es m r s f h =
     let k = length-append l (copied B es ∷ []) in
     record {
       some = omega arith;
@@ -107,21 +108,21 @@ added-shape N B n l es m r s f h =
       last = rw (only-top-empty l (copied B es), f) (copied-empty-last B es);
     }
 
-pub added-entries : (B n : ℕ) (l : List (List Slot)) (es : List Entry) → entriesIn (rowAdded B n l es) ≡ entries (flatten l) ++ es
+pub added-entries : (e : Version) (B n : ℕ) (l : List (List Slot)) (es : List Entry) → entriesIn (rowAdded e B n l es) ≡ entries (flatten l) ++ es
 unfolding entriesIn rowAdded
-added-entries B n l es = rw (flatten-last l (copied B es), entries-append (flatten l) (copied B es), copied-entries B es)
+added-entries e B n l es = rw (flatten-last l (copied B es), entries-append (flatten l) (copied B es), copied-entries B es)
 
-pub added-room : (B n : ℕ) (l : List (List Slot)) (es : List Entry) → hasRoom (rowAdded B n l es) ≡ ltb (length es) B
+pub added-room : (e : Version) (B n : ℕ) (l : List (List Slot)) (es : List Entry) → hasRoom (rowAdded e B n l es) ≡ ltb (length es) B
 unfolding hasRoom rowAdded
-added-room B n l es = rw (top-row l (copied B es), copied-full B es) (twice (ltb (length es) B))
+added-room e B n l es = rw (top-row l (copied B es), copied-full B es) (twice (ltb (length es) B))
   where
     twice : (t : Bool) → not (not t) ≡ t
     twice true = refl
     twice false = refl
 
-pub added-top : (B n : ℕ) (l : List (List Slot)) (es : List Entry) → topNumber (rowAdded B n l es) ≡ n + length l
+pub added-top : (e : Version) (B n : ℕ) (l : List (List Slot)) (es : List Entry) → topNumber (rowAdded e B n l es) ≡ n + length l
 unfolding topNumber rowAdded
-added-top B n l es = omega (arith, length-append l (copied B es ∷ []))
+added-top e B n l es = omega (arith, length-append l (copied B es ∷ []))
 
 -- ---- no room: every row is full
 
@@ -135,35 +136,36 @@ all-full {v} s h =
 
 -- ---- opening
 
-pub opened-view : (N B : ℕ) (v : View) → openNext N B v .result ≡ rowAdded B (v .first) (v .slots) []
+pub opened-view : (N B : ℕ) (v : View) → openNext N B v .result ≡ rowAdded (nextVersion v) B (v .first) (v .slots) []
 unfolding openNext rowAdded
 opened-view N B v = rw (copied-none B)
 
 pub opened-shape : {N B : ℕ} {v : View} → Shape N B v → hasRoom v ≡ false → length (v .slots) < N - 1 → Shape N B (openNext N B v .result)
 unfolding noneWrongOrTorn
-opened-shape {N} {B} {v} s h k = rw (opened-view N B v) (added-shape N B (v .first) (v .slots) [] k (s .rows) (s .sound) (all-full s h) (omega arith))
+opened-shape {N} {B} {v} s h k = rw (opened-view N B v) (added-shape (nextVersion v) N B (v .first) (v .slots) [] k (s .rows) (s .sound) (all-full s h) (omega arith))
 
 pub opened-entries : (N B : ℕ) (v : View) → entriesIn (openNext N B v .result) ≡ entriesIn v
 unfolding entriesIn
-opened-entries N B v = ap entriesIn (opened-view N B v) ∙ (added-entries B (v .first) (v .slots) [] ∙ append-nil (entries (flatten (v .slots))))
+opened-entries N B v = ap entriesIn (opened-view N B v) ∙ (added-entries (nextVersion v) B (v .first) (v .slots) [] ∙ append-nil (entries (flatten (v .slots))))
 
 pub opened-room : (N B : ℕ) (v : View) → 1 ≤ B → hasRoom (openNext N B v .result) ≡ true
-opened-room N B v h = ap hasRoom (opened-view N B v) ∙ (added-room B (v .first) (v .slots) [] ∙ lt-ltb 0 B h)
+opened-room N B v h = ap hasRoom (opened-view N B v) ∙ (added-room (nextVersion v) B (v .first) (v .slots) [] ∙ lt-ltb 0 B h)
 
 pub opened-top : (N B : ℕ) (v : View) → 1 ≤ length (v .slots) → topNumber (openNext N B v .result) ≡ suc (topNumber v)
 unfolding topNumber
-opened-top N B v h = ap topNumber (opened-view N B v) ∙ (added-top B (v .first) (v .slots) [] ∙ omega arith)
+opened-top N B v h = ap topNumber (opened-view N B v) ∙ (added-top (nextVersion v) B (v .first) (v .slots) [] ∙ omega arith)
 
 -- ---- tidying: the oldest row, and the others
 
-pub tidied-view : (N B n : ℕ) (s : List Slot) (l : List (List Slot)) → compactOldest N B (record { first = n; slots = s ∷ l }) .result ≡ rowAdded B (suc n) l (entries s)
-unfolding compactOldest rowAdded
-tidied-view N B n s l = refl
+pub tidied-view : (N B n : ℕ) (s : List Slot) (l : List (List Slot)) (e : Version)
+    → compactOldest N B (record { first = n; slots = s ∷ l; version = e }) .result ≡ rowAdded (newVersion (tallyOf e)) B (suc n) l (entries s)
+unfolding compactOldest rowAdded nextVersion
+tidied-view N B n s l e = refl
 
-pub tidied-shape : {N B n : ℕ} {s : List Slot} {l : List (List Slot)} → Shape N B (record { first = n; slots = s ∷ l }) → hasRoom (record { first = n; slots = s ∷ l }) ≡ false
-    → Shape N B (compactOldest N B (record { first = n; slots = s ∷ l }) .result)
+pub tidied-shape : {N B n : ℕ} {s : List Slot} {l : List (List Slot)} {e : Version} → Shape N B (record { first = n; slots = s ∷ l; version = e }) → hasRoom (record { first = n; slots = s ∷ l; version = e }) ≡ false
+    → Shape N B (compactOldest N B (record { first = n; slots = s ∷ l; version = e }) .result)
 unfolding noneWrongOrTorn flatten all
-tidied-shape {N} {B} {n} {s} {l} c h =
+tidied-shape {N} {B} {n} {s} {l} {e} c h =
     let f = and-eq-true-iff (full s) (all (λ x. full x) l) .0 (all-full c h) in
     let p = all-parts (λ x. not (isWrong x || isTorn x)) s (flatten l) (c .sound) in
-    rw (tidied-view N B n s l) (added-shape N B (suc n) l (entries s) (c .spare) (c .rows .1) (p .1) (f .1) (omega (arith, entries-length s, c .rows .0)))
+    rw (tidied-view N B n s l e) (added-shape (newVersion (tallyOf e)) N B (suc n) l (entries s) (c .spare) (c .rows .1) (p .1) (f .1) (omega (arith, entries-length s, c .rows .0)))

@@ -10,7 +10,7 @@ use borrow.Author.Tests.{ltb-false}
 use Rattle.model.specs.Chip.{Step}
 use Rattle.model.specs.Slot.{Slot, empty, isEmpty, Entry, holding}
 use Rattle.model.specs.State.{View, entries}
-use Rattle.model.specs.Steps.{topRow, hasRoom, firstEmpty, copied, Room, compactOldest, compactUntilRoom, roomFor, compactions}
+use Rattle.model.specs.Steps.{topRow, hasRoom, firstEmpty, copied, nextVersion, Room, compactOldest, compactUntilRoom, roomFor, compactions}
 use Rattle.bridge.specs.Predicted.{CleanView}
 use Rattle.bridge.specs.Views.Slots.{noneDead, same-rows, top-row}
 use Rattle.bridge.specs.Views.Room.{compactions-some, compactions-length, Tidied, tidied, some-dead}
@@ -86,7 +86,7 @@ module _ (N B : ℕ) where
     -- the rest of the count is still to come
     pub more : i < compactions (v .slots) → Needs (compactTimes N B i v .result) × (compactions (compactTimes N B i v .result .slots) + i ≡ compactions (v .slots))
 
-  compacted-view : (v : View) → compactOldest N B v .result ≡ record { first = suc (v .first); slots = drop 1 (v .slots) ++ (copied B (entries (getD (v .slots) 0 [])) ∷ []) }
+  compacted-view : (v : View) → compactOldest N B v .result ≡ record { first = suc (v .first); slots = drop 1 (v .slots) ++ (copied B (entries (getD (v .slots) 0 [])) ∷ []); version = nextVersion v }
   unfolding compactOldest
   compacted-view v = refl
 
