@@ -12,6 +12,7 @@ use lib.Dec.{eqb}
 use borrow.Author.Tests.{eq-eqb, ne-eqb}
 use Rattle.model.specs.Lists.{count}
 use Rattle.model.specs.Chip.{Page, Step, program, erase}
+use Rattle.model.specs.Header.{Version}
 use Rattle.model.specs.Slot.{Entry}
 use Rattle.model.specs.State.{View, entriesIn, holds, Place, placeOf}
 use Rattle.model.specs.Steps.{programs, programPart, onPage, writeSlot, markDead, markPlace, openSegment, copyEntries, copyOut, settle, compact, markOld, writeAtTop, deleteSteps}
@@ -49,9 +50,9 @@ mark-none : (N B : ℕ) (p : Place) → erasesIn (markPlace N B p) ≡ []
 unfolding erasesIn markPlace markDead
 mark-none N B p = simp on-page
 
-pub open-none : (N B n : ℕ) → erasesIn (openSegment N B n) ≡ []
+pub open-none : (N B : ℕ) (ver : Version) (n : ℕ) → erasesIn (openSegment N B ver n) ≡ []
 unfolding erasesIn openSegment
-open-none N B n = simp (on-page, erases-append, part-none)
+open-none N B ver n = simp (on-page, erases-append, part-none)
 
 copy-none : (N B n j : ℕ) (es : List Entry) → erasesIn (copyEntries N B n j es) ≡ []
 unfolding erasesIn copyEntries
@@ -59,9 +60,9 @@ copy-none N B n j [] = refl
 copy-none N B n j (e ∷ es) = simp (erases-append, on-page, write-none, copy-none N B n (suc j) es)
 
 -- a tidying erases the old segment, and nothing else
-pub compact-one : (N B o n : ℕ) (es : List Entry) → erasesIn (compact N B o n es) ≡ o % N ∷ []
+pub compact-one : (N B : ℕ) (ver : Version) (o n : ℕ) (es : List Entry) → erasesIn (compact N B ver o n es) ≡ o % N ∷ []
 unfolding erasesIn compact copyOut settle
-compact-one N B o n es = simp (erases-append, on-page, part-none, copy-none)
+compact-one N B ver o n es = simp (erases-append, on-page, part-none, copy-none)
 
 -- writing the slot and marking the old one erase nothing
 pub written-none : (N B b : ℕ) (c : List ℕ) (v : View) → erasesIn (writeAtTop N B b c v ++ markOld N B b v) ≡ []

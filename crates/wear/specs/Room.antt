@@ -10,7 +10,7 @@ use lib.Dec.{ltb}
 use borrow.Author.Tests.{ltb-false}
 use Rattle.model.specs.Slot.{Slot, empty}
 use Rattle.model.specs.State.{View, entries, entriesIn}
-use Rattle.model.specs.Steps.{topNumber, hasRoom, copied, Room, openNext, compactOldest, compactUntilRoom, roomFor}
+use Rattle.model.specs.Steps.{topNumber, hasRoom, copied, Room, nextVersion, openNext, compactOldest, compactUntilRoom, roomFor}
 use Rattle.model.specs.Sequences.{erasesIn}
 use Rattle.bridge.specs.Predicted.{CleanView}
 use Rattle.bridge.specs.Views.Slots.{copied-none}
@@ -80,7 +80,7 @@ module _ (N B L R : ℕ) where
       → Moved N B L R (suc most) v (record { steps = oldest v .steps ++ more .steps; result = more .result })
   unfolding compactOldest turns
   again most v more m =
-      let one = compact-one N B (v .first) (suc (topNumber v)) (entries (getD (v .slots) 0 [])) in
+      let one = compact-one N B (nextVersion v) (v .first) (suc (topNumber v)) (entries (getD (v .slots) 0 [])) in
       record {
         inTurn = simp (erases-append, one) (sym (append-assoc (turns N (v .first)) (v .first % N ∷ []) (erasesIn (more .steps))) ∙ m .inTurn);
         few = simp (erases-append, one) (omega (arith, m .few));
@@ -126,6 +126,6 @@ module _ (N B L R : ℕ) where
           → Moved N B L R (N - 1) v (cond t (record { steps = []; result = v }) (cond u (openNext N B v) (compactUntilRoom N B (N - 1) v)))
       go true u e = unmoved (N - 1) v p
       go false true e =
-          let none = open-none N B (suc (topNumber v)) in
+          let none = open-none N B (nextVersion v) (suc (topNumber v)) in
           record { inTurn = rw none (append-nil (turns N (v .first))); few = rw none (omega arith); paid = paid-open (N - 1) B L R (v .first) (v .slots) p }
       go false false e = series-moved (N - 1) v (record { clean = c; all = omega (arith, ltb-false (length (v .slots)) (N - 1) e, c .spare); few = few; paid = p })
