@@ -8,6 +8,7 @@ pub mod Sound
 pub mod Requests
 pub mod Skeleton
 -- recovery, delete and read
+pub mod Alike
 pub mod States
 pub mod RecoverMarks
 pub mod RecoverErase

@@ -1,4 +1,4 @@
--- A plain table of C places, and all that the customer wants to know of the store: one machine over it.
+-- A plain table, and all that the customer wants to know of the store: one machine over it.
 use Prim.Native.Nat.{ℕ, suc}
 use mathlib.Core.Path.{_≡_}
 use mathlib.Core.Logic.{_⊎_}
@@ -12,6 +12,11 @@ use Rattle.model.specs.Table.{Table, lookup, without, store, contentsFound}
 use Rattle.model.specs.Answers.{Request, format, put, delete, read, readOr, recover, lengthOk}
 use Rattle.model.specs.Histories.{Reply, Seen, answered, lost, Event}
 
+-- the most blocks that a table holds; and whether the image has version 1, which takes no put (request #104)
+pub record Board : Type 0 where
+  pub places : ℕ
+  pub former : Bool
+
 -- ---- what the table answers. Of the chip it is told one thing: whether a put would wear it out
 
 -- 2 and 3: refused by the arguments alone
@@ -23,16 +28,16 @@ malformed (read b) = cond (numberOk b) 0 2
 malformed (readOr b f) = cond (numberOk b) 0 2
 malformed recover = 0
 
--- a put of a block that is not stored while C are: 7. A worn chip: 8. A delete or a read of a block that is not stored: 6
-unfoldable pub codeOnTable : ℕ → Bool → Table → Request → ℕ
+-- a put on version 1: 11. A put of a block that is not stored while C are: 7. A worn chip: 8. A delete or a read of a block that is not stored: 6
+unfoldable pub codeOnTable : Board → Bool → Table → Request → ℕ
 codeOnTable C worn t format = 0
-codeOnTable C worn t (put b c) = cond (holds b t || ltb (length t) C) (cond worn 8 0) 7
+codeOnTable C worn t (put b c) = cond (C .former) 11 (cond (holds b t || ltb (length t) (C .places)) (cond worn 8 0) 7)
 codeOnTable C worn t (delete b) = cond (holds b t) 0 6
 codeOnTable C worn t (read b) = cond (holds b t) 0 6
 codeOnTable C worn t (readOr b f) = cond (holds b t) 0 6
 codeOnTable C worn t recover = 0
 
-unfoldable pub plainCode : ℕ → Bool → Table → Request → ℕ
+unfoldable pub plainCode : Board → Bool → Table → Request → ℕ
 plainCode C worn t r = cond (eqb (malformed r) 0) (codeOnTable C worn t r) (malformed r)
 
 -- a read that answers 0 gives the stored contents, and the second form for answer 6 the factory record
@@ -44,7 +49,7 @@ plainBytes t code (read b) = cond (eqb code 0) (contentsFound (lookup b t)) []
 plainBytes t code (readOr b f) = cond (eqb code 0) (contentsFound (lookup b t)) (cond (eqb code 6) f [])
 plainBytes t code recover = []
 
-unfoldable pub plain : ℕ → Bool → Table → Request → Reply
+unfoldable pub plain : Board → Bool → Table → Request → Reply
 plain C worn t r = record { code = plainCode C worn t r; bytes = plainBytes t (plainCode C worn t r) r }
 
 -- the table that an acknowledged request, one that answers 0, makes
@@ -56,7 +61,7 @@ made t (read b) = t
 made t (readOr b f) = t
 made t recover = t
 
-unfoldable pub next : ℕ → Bool → Table → Request → Table
+unfoldable pub next : Board → Bool → Table → Request → Table
 next C worn t r = cond (eqb (plainCode C worn t r) 0) (made t r) t
 
 -- ---- the machine
@@ -100,8 +105,8 @@ Holds (settled u) t = u ≡ t
 Holds (interrupted u) t = u ≡ t
 Holds unknown t = ⊥
 
--- what may happen: C places, the chip's word on wear, a request and what it showed; the promise before and after
-pub data Moves (C : ℕ) (worn : Bool) (r : Request) (o : Seen) : Promise → Promise → Type 0 where
+-- what may happen: the board, the chip's word on wear, a request and what it showed; the promise before and after
+pub data Moves (C : Board) (worn : Bool) (r : Request) (o : Seen) : Promise → Promise → Type 0 where
   -- it answers as the plain table
   answers : {t : Table} → OnTable r → o ≡ answered (plain C worn t r) → Moves C worn r o (settled t) (settled (next C worn t r))
   -- after a cut too, if the cut left nothing to recover, or this is the recovery that finishes
@@ -118,6 +123,11 @@ pub data Moves (C : ℕ) (worn : Bool) (r : Request) (o : Seen) : Promise → Pr
   no-promise : OnTable r → Moves C worn r o unknown unknown
 
 -- a history of the machine
-abbrev pub PlainRuns : ℕ → Promise → List Event → Promise → Type 0
+abbrev pub PlainRuns : Board → Promise → List Event → Promise → Type 0
 PlainRuns C x [] y = y ≡ x
 PlainRuns C x (e ∷ es) y = (z : Promise) × Moves C (e .worn) (e .request) (e .seen) x z × PlainRuns C z es y
+
+-- events without a format
+abbrev pub NoFormat : List Event → Type 0
+NoFormat [] = Unit {0}
+NoFormat (e ∷ es) = OnTable (e .request) × NoFormat es

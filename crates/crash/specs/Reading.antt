@@ -14,33 +14,38 @@ use Rattle.model.specs.Table.{Table, present, lookup, contentsFound}
 use Rattle.model.specs.Answers.{Request, format, put, delete, read, readOr, recover}
 use Rattle.model.specs.Histories.{Reply, Seen, answered, lost}
 use Rattle.model.specs.Laws.Tables.{lookup-store-same}
-use Rattle.crash.specs.Machine.{malformed, codeOnTable, plainCode, plainBytes, plain, made, next, Promise, settled, interrupted, unknown, refused, IsCut, OnTable, WantsRecovery, Holds, Moves, answers, answers-again, asks-recovery, refuses-malformed, not-begun, wholly-done, formats, format-cut, no-promise}
+use Rattle.crash.specs.Machine.{Board, malformed, codeOnTable, plainCode, plainBytes, plain, made, next, Promise, settled, interrupted, unknown, refused, IsCut, OnTable, WantsRecovery, Holds, Moves, answers, answers-again, asks-recovery, refuses-malformed, not-begun, wholly-done, formats, format-cut, no-promise}
 use Rattle.crash.specs.Requests.{malformed-small}
 
 -- ---- what the table answers
 
 -- a stored block can always be rewritten, unless the chip is worn
-pub rewrite-always : (C : ℕ) (worn : Bool) (t : Table) (b : ℕ) (c : List ℕ) → malformed (put b c) ≡ 0 → holds b t ≡ true → plainCode C worn t (put b c) ≡ cond worn 8 0
+pub rewrite-always : (C : Board) (worn : Bool) (t : Table) (b : ℕ) (c : List ℕ) → C .former ≡ false → malformed (put b c) ≡ 0 → holds b t ≡ true → plainCode C worn t (put b c) ≡ cond worn 8 0
 unfolding plainCode codeOnTable
-rewrite-always C worn t b c m h = rw (m, h)
+rewrite-always C worn t b c f m h = rw (f, m, h)
 
 -- and so can any block be stored below the capacity
-pub room-below-capacity : (C : ℕ) (worn : Bool) (t : Table) (b : ℕ) (c : List ℕ) → malformed (put b c) ≡ 0 → length t < C → plainCode C worn t (put b c) ≡ cond worn 8 0
+pub room-below-capacity : (C : Board) (worn : Bool) (t : Table) (b : ℕ) (c : List ℕ) → C .former ≡ false → malformed (put b c) ≡ 0 → length t < C .places → plainCode C worn t (put b c) ≡ cond worn 8 0
 unfolding plainCode codeOnTable
-room-below-capacity C worn t b c m h = rw (m, lt-ltb (length t) C h, or-true (holds b t))
+room-below-capacity C worn t b c f m h = rw (f, m, lt-ltb (length t) (C .places) h, or-true (holds b t))
 
 -- at the capacity a new block is refused as full
-pub full-at-capacity : (C : ℕ) (worn : Bool) (t : Table) (b : ℕ) (c : List ℕ) → malformed (put b c) ≡ 0 → holds b t ≡ false → C ≤ length t → plainCode C worn t (put b c) ≡ 7
+pub full-at-capacity : (C : Board) (worn : Bool) (t : Table) (b : ℕ) (c : List ℕ) → C .former ≡ false → malformed (put b c) ≡ 0 → holds b t ≡ false → C .places ≤ length t → plainCode C worn t (put b c) ≡ 7
 unfolding plainCode codeOnTable
-full-at-capacity C worn t b c m h k = rw (m, h, le-ltb (length t) C k)
+full-at-capacity C worn t b c f m h k = rw (f, m, h, le-ltb (length t) (C .places) k)
+
+-- request #104: an image of version 1 takes no put, and is refused as it stands
+pub former-takes-none : (C : Board) (worn : Bool) (t : Table) (b : ℕ) (c : List ℕ) → C .former ≡ true → malformed (put b c) ≡ 0 → plainCode C worn t (put b c) ≡ 11
+unfolding plainCode codeOnTable
+former-takes-none C worn t b c f m = rw (f, m)
 
 -- a delete is done or finds nothing
-pub delete-exact : (C : ℕ) (worn : Bool) (t : Table) (b : ℕ) → numberOk b ≡ true → plain C worn t (delete b) ≡ record { code = cond (holds b t) 0 6; bytes = [] }
+pub delete-exact : (C : Board) (worn : Bool) (t : Table) (b : ℕ) → numberOk b ≡ true → plain C worn t (delete b) ≡ record { code = cond (holds b t) 0 6; bytes = [] }
 unfolding plain plainCode plainBytes codeOnTable malformed
 delete-exact C worn t b m = rw m
 
 -- a read gives the stored contents, or 6
-pub read-exact : (C : ℕ) (worn : Bool) (t : Table) (b : ℕ) → numberOk b ≡ true
+pub read-exact : (C : Board) (worn : Bool) (t : Table) (b : ℕ) → numberOk b ≡ true
     → plain C worn t (read b) ≡ cond (holds b t) (record { code = 0; bytes = contentsFound (lookup b t) }) (record { code = 6; bytes = [] })
 unfolding plain plainCode plainBytes codeOnTable malformed
 read-exact C worn t b m = rw m (go (holds b t))
@@ -51,7 +56,7 @@ read-exact C worn t b m = rw m (go (holds b t))
     go false = refl
 
 -- the second form gives the factory record with the 6
-pub readOr-exact : (C : ℕ) (worn : Bool) (t : Table) (b : ℕ) (f : List ℕ) → numberOk b ≡ true
+pub readOr-exact : (C : Board) (worn : Bool) (t : Table) (b : ℕ) (f : List ℕ) → numberOk b ≡ true
     → plain C worn t (readOr b f) ≡ cond (holds b t) (record { code = 0; bytes = contentsFound (lookup b t) }) (record { code = 6; bytes = f })
 unfolding plain plainCode plainBytes codeOnTable malformed
 readOr-exact C worn t b f m = rw m (go (holds b t))
@@ -81,37 +86,38 @@ pub not-format : (r : Request) → OnTable r → r ≡ format → ⊥
 not-format r o e = subst OnTable e o
 
 -- no table answers 9
-plain-small : (C : ℕ) (worn : Bool) (t : Table) (r : Request) → plainCode C worn t r ≤ 8
+plain-not-nine : (C : Board) (worn : Bool) (t : Table) (r : Request) → _≢_ {A = ℕ} (plainCode C worn t r) 9
 unfolding plainCode codeOnTable
-plain-small C worn t r = go (eqb (malformed r) 0) (malformed-small r) (on-table r)
+plain-not-nine C worn t r = go (eqb (malformed r) 0) (malformed-small r) (on-table r)
   where
-    put-small : (x w : Bool) → cond x (cond w 8 0) 7 ≤ 8
-    put-small true true = omega arith
-    put-small true false = omega arith
-    put-small false w = omega arith
+    put-not : (f x w : Bool) → _≢_ {A = ℕ} (cond f 11 (cond x (cond w 8 0) 7)) 9
+    put-not true x w e = omega (arith, e)
+    put-not false true true e = omega (arith, e)
+    put-not false true false e = omega (arith, e)
+    put-not false false w e = omega (arith, e)
 
-    absent-small : (x : Bool) → cond x 0 6 ≤ 8
-    absent-small true = omega arith
-    absent-small false = omega arith
+    absent-not : (x : Bool) → _≢_ {A = ℕ} (cond x 0 6) 9
+    absent-not true e = omega (arith, e)
+    absent-not false e = omega (arith, e)
 
-    on-table : (a : Request) → codeOnTable C worn t a ≤ 8
-    on-table format = omega arith
-    on-table (put b c) = put-small (holds b t || ltb (length t) C) worn
-    on-table (delete b) = absent-small (holds b t)
-    on-table (read b) = absent-small (holds b t)
-    on-table (readOr b f) = absent-small (holds b t)
-    on-table recover = omega arith
+    on-table : (a : Request) → _≢_ {A = ℕ} (codeOnTable C worn t a) 9
+    on-table format e = omega (arith, e)
+    on-table (put b c) e = put-not (C .former) (holds b t || ltb (length t) (C .places)) worn e
+    on-table (delete b) e = absent-not (holds b t) e
+    on-table (read b) e = absent-not (holds b t) e
+    on-table (readOr b f) e = absent-not (holds b t) e
+    on-table recover e = omega (arith, e)
 
-    go : (x : Bool) → malformed r ≤ 3 → codeOnTable C worn t r ≤ 8 → cond x (codeOnTable C worn t r) (malformed r) ≤ 8
-    go true p q = q
-    go false p q = omega arith
+    go : (x : Bool) → malformed r ≤ 3 → _≢_ {A = ℕ} (codeOnTable C worn t r) 9 → _≢_ {A = ℕ} (cond x (codeOnTable C worn t r) (malformed r)) 9
+    go true p q e = q e
+    go false p q e = omega (arith, e)
 
-plain-no-cut : (C : ℕ) (worn : Bool) (t : Table) (r : Request) (o : Seen) → o ≡ answered (plain C worn t r) → codeSeen o ≡ 9 → ⊥
+plain-no-cut : (C : Board) (worn : Bool) (t : Table) (r : Request) (o : Seen) → o ≡ answered (plain C worn t r) → codeSeen o ≡ 9 → ⊥
 unfolding plain
-plain-no-cut C worn t r o e n = let h : plainCode C worn t r ≡ 9 = sym (ap codeSeen e) ∙ n in omega (arith, plain-small C worn t r)
+plain-no-cut C worn t r o e n = plain-not-nine C worn t r (sym (ap codeSeen e) ∙ n)
 
 -- a finished format starts anew, from any promise
-pub format-starts : {C : ℕ} {w : Bool} {r : Request} {o : Seen} {x y : Promise} → Moves C w r o x y → r ≡ format → o ≡ refused 0 → y ≡ settled []
+pub format-starts : {C : Board} {w : Bool} {r : Request} {o : Seen} {x y : Promise} → Moves C w r o x y → r ≡ format → o ≡ refused 0 → y ≡ settled []
 format-starts {r = r} (answers k e) f g = absurd (not-format r k f)
 format-starts {r = r} (answers-again k i e) f g = absurd (not-format r k f)
 format-starts {r = r} (asks-recovery k i e) f g = absurd (subst WantsRecovery f k)
@@ -128,7 +134,7 @@ IsSettled (interrupted u) t = ⊥
 IsSettled unknown t = ⊥
 
 -- in a settled promise every answer but 9 is the plain table's, and the table after is the acknowledged one
-pub settled-exact : {C : ℕ} {w : Bool} {r : Request} {o : Seen} {x y : Promise} → Moves C w r o x y → (t : Table) → IsSettled x t → OnTable r → codeSeen o ≢ 9
+pub settled-exact : {C : Board} {w : Bool} {r : Request} {o : Seen} {x y : Promise} → Moves C w r o x y → (t : Table) → IsSettled x t → OnTable r → codeSeen o ≢ 9
     → (o ≡ answered (plain C w t r)) × (y ≡ settled (next C w t r))
 settled-exact {C} {w} {r} {o} (answers {t = u} k e) t s i n = subst (λ (v : Table). (o ≡ answered (plain C w v r)) × (settled (next C w u r) ≡ settled (next C w v r))) s (e, refl)
 settled-exact (answers-again k i e) t s j n = absurd s
@@ -141,10 +147,10 @@ settled-exact {o = o} (format-cut i e) t s j n = absurd (n (cut-code o e))
 settled-exact (no-promise k) t s j n = absurd s
 
 -- a cut may leave a request not begun, and may leave it wholly done: the store can promise neither alone
-pub cut-may-leave-old : (C : ℕ) (w : Bool) (t : Table) (r : Request) → OnTable r → Moves C w r lost (settled t) (interrupted t)
+pub cut-may-leave-old : (C : Board) (w : Bool) (t : Table) (r : Request) → OnTable r → Moves C w r lost (settled t) (interrupted t)
 cut-may-leave-old C w t r k = not-begun t refl k (inl refl)
 
-pub cut-may-leave-new : (C : ℕ) (w : Bool) (t : Table) (r : Request) → OnTable r → Moves C w r lost (settled t) (interrupted (next C w t r))
+pub cut-may-leave-new : (C : Board) (w : Bool) (t : Table) (r : Request) → OnTable r → Moves C w r lost (settled t) (interrupted (next C w t r))
 cut-may-leave-new C w t r k = wholly-done t refl k (inl refl)
 
 same-table : (x : Promise) (t u : Table) → Holds x t → Holds x u → t ≡ u
@@ -153,7 +159,7 @@ same-table (interrupted v) t u p q = sym p ∙ q
 same-table unknown t u p q = absurd p
 
 -- and it leaves nothing else: the old table or the new one, whole
-pub cut-old-or-new : {C : ℕ} {w : Bool} {r : Request} {o : Seen} {x y : Promise} → Moves C w r o x y → (t : Table) → Holds x t → OnTable r → codeSeen o ≡ 9
+pub cut-old-or-new : {C : Board} {w : Bool} {r : Request} {o : Seen} {x y : Promise} → Moves C w r o x y → (t : Table) → Holds x t → OnTable r → codeSeen o ≡ 9
     → (y ≡ interrupted t) ⊎ (y ≡ interrupted (next C w t r))
 cut-old-or-new {C} {w} {r} {o} (answers {t = u} k e) t s i n = absurd (plain-no-cut C w u r o e n)
 cut-old-or-new {C} {w} {r} {o} (answers-again {t = u} k i e) t s j n = absurd (plain-no-cut C w u r o e n)
@@ -171,7 +177,7 @@ IsInterrupted (interrupted u) t = u ≡ t
 IsInterrupted unknown t = ⊥
 
 -- the first recovery that finishes keeps the promised table
-pub recovery-keeps : {C : ℕ} {w : Bool} {r : Request} {o : Seen} {x y : Promise} → Moves C w r o x y → (t : Table) → IsInterrupted x t → r ≡ recover → codeSeen o ≢ 9
+pub recovery-keeps : {C : Board} {w : Bool} {r : Request} {o : Seen} {x y : Promise} → Moves C w r o x y → (t : Table) → IsInterrupted x t → r ≡ recover → codeSeen o ≢ 9
     → (o ≡ refused 0) × (y ≡ settled t)
 unfolding plain plainCode plainBytes codeOnTable malformed next made
 recovery-keeps (answers k e) t s f n = absurd s
@@ -186,7 +192,7 @@ recovery-keeps {o = o} (format-cut i e) t s f n = absurd (n (cut-code o e))
 recovery-keeps (no-promise k) t s f n = absurd s
 
 -- and one that is cut keeps it too, as often as it may be cut
-pub recovery-cut-keeps : {C : ℕ} {w : Bool} {r : Request} {o : Seen} {x y : Promise} → Moves C w r o x y → (t : Table) → IsInterrupted x t → r ≡ recover → codeSeen o ≡ 9
+pub recovery-cut-keeps : {C : Board} {w : Bool} {r : Request} {o : Seen} {x y : Promise} → Moves C w r o x y → (t : Table) → IsInterrupted x t → r ≡ recover → codeSeen o ≡ 9
     → y ≡ interrupted t
 unfolding plainCode codeOnTable malformed next made
 recovery-cut-keeps {C} {w} {x = x} m t s f n =
@@ -198,7 +204,7 @@ recovery-cut-keeps {C} {w} {x = x} m t s f n =
     held unknown h = absurd h
 
 -- until then a request is refused and nothing changes, or it answers as the table that the recovery would have shown
-pub interrupted-exact : {C : ℕ} {w : Bool} {r : Request} {o : Seen} {x y : Promise} → Moves C w r o x y → (t : Table) → IsInterrupted x t → OnTable r → codeSeen o ≢ 9
+pub interrupted-exact : {C : Board} {w : Bool} {r : Request} {o : Seen} {x y : Promise} → Moves C w r o x y → (t : Table) → IsInterrupted x t → OnTable r → codeSeen o ≢ 9
     → ((o ≡ answered (plain C w t r)) × (y ≡ settled (next C w t r))) ⊎ ((y ≡ interrupted t) × ((o ≡ refused 5) ⊎ ((n : ℕ) × (malformed r ≡ suc n) × (o ≡ refused (suc n)))))
 interrupted-exact (answers k e) t s i n = absurd s
 interrupted-exact {C} {w} {r} {o} (answers-again {t = u} k i e) t s j n =

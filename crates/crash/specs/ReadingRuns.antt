@@ -17,7 +17,7 @@ use Rattle.model.specs.Answers.{Request, format, put, delete, read, readOr, rec
 use Rattle.model.specs.Histories.{Reply, Seen, answered, Event}
 use Rattle.model.specs.Laws.Tables.{lookup-held, found-held, absent-free, lookup-without-same, lookup-without-other, lookup-store-same, lookup-store-other}
 use Rattle.bridge.specs.Accepted.{taken-some}
-use Rattle.crash.specs.Machine.{malformed, codeOnTable, plainCode, plainBytes, plain, made, next, Promise, settled, interrupted, unknown, refused, OnTable, Holds, Moves, answers, answers-again, asks-recovery, refuses-malformed, not-begun, wholly-done, formats, format-cut, no-promise, PlainRuns}
+use Rattle.crash.specs.Machine.{Board, malformed, codeOnTable, plainCode, plainBytes, plain, made, next, Promise, settled, interrupted, unknown, refused, OnTable, Holds, Moves, answers, answers-again, asks-recovery, refuses-malformed, not-begun, wholly-done, formats, format-cut, no-promise, PlainRuns, NoFormat}
 use Rattle.crash.specs.Reading.{codeSeen, cut-code, not-format, format-starts, read-exact, readOr-exact}
 
 -- what is lookup-held of a block, by a promise
@@ -57,7 +57,7 @@ made-from (readOr a f) t b c h = inl h
 made-from recover t b c h = inl h
 
 -- a request that is done was not malformed
-done-proper : (C : ℕ) (w : Bool) (t : Table) (r : Request) → plainCode C w t r ≡ 0 → malformed r ≡ 0
+done-proper : (C : Board) (w : Bool) (t : Table) (r : Request) → plainCode C w t r ≡ 0 → malformed r ≡ 0
 unfolding plainCode
 done-proper C w t r h = go (eqb (malformed r) 0) refl h
   where
@@ -65,7 +65,7 @@ done-proper C w t r h = go (eqb (malformed r) 0) refl h
     go true e k = eqb-true (malformed r) 0 e
     go false e k = k
 
-next-from : (C : ℕ) (w : Bool) (t : Table) (r : Request) (b : ℕ) (c : List ℕ) → lookup b (next C w t r) ≡ present c → (lookup b t ≡ present c) ⊎ ((r ≡ put b c) × (plainCode C w t r ≡ 0))
+next-from : (C : Board) (w : Bool) (t : Table) (r : Request) (b : ℕ) (c : List ℕ) → lookup b (next C w t r) ≡ present c → (lookup b t ≡ present c) ⊎ ((r ≡ put b c) × (plainCode C w t r ≡ 0))
 unfolding next
 next-from C w t r b c h = go (eqb (plainCode C w t r) 0) refl h
   where
@@ -84,7 +84,7 @@ shows-held (interrupted u) t b z k h = ap (λ (v : Table). lookup b v) (sym k) �
 shows-held unknown t b z k h = absurd k
 
 -- in one event: they were shown before, or this event put them
-pub move-from : {C : ℕ} {w : Bool} {r : Request} {o : Seen} {x y : Promise} → Moves C w r o x y → (b : ℕ) (c : List ℕ) → Shows y b (present c) → Shows x b (present c) ⊎ Puts b c r o
+pub move-from : {C : Board} {w : Bool} {r : Request} {o : Seen} {x y : Promise} → Moves C w r o x y → (b : ℕ) (c : List ℕ) → Shows y b (present c) → Shows x b (present c) ⊎ Puts b c r o
 unfolding plain lookup
 move-from {C} {w} {r} (answers {t = t} k e) b c h = ⊎-elim (λ old. inl old) (λ new. inr (new .0, done-proper C w t r (new .1), inl (ap codeSeen e ∙ new .1))) (next-from C w t r b c h)
 move-from {C} {w} {r} (answers-again {t = t} k i e) b c h = ⊎-elim (λ old. inl old) (λ new. inr (new .0, done-proper C w t r (new .1), inl (ap codeSeen e ∙ new .1))) (next-from C w t r b c h)
@@ -97,7 +97,7 @@ move-from (format-cut i e) b c h = absurd h
 move-from (no-promise k) b c h = absurd h
 
 -- over a history
-pub runs-from : (C : ℕ) (es : List Event) (x y : Promise) → PlainRuns C x es y → (b : ℕ) (c : List ℕ) → Shows y b (present c) → Shows x b (present c) ⊎ PutAmong b c es
+pub runs-from : (C : Board) (es : List Event) (x y : Promise) → PlainRuns C x es y → (b : ℕ) (c : List ℕ) → Shows y b (present c) → Shows x b (present c) ⊎ PutAmong b c es
 runs-from C [] x y e b c h = inl (subst (λ (v : Promise). Shows v b (present c)) e h)
 runs-from C (e ∷ es) x y (z, m, rest) b c h =
     ⊎-elim (λ k. ⊎-elim (λ old. inl old) (λ now. inr (inl now)) (move-from m b c k)) (λ later. inr (inr later)) (runs-from C es z y rest b c h)
@@ -121,15 +121,11 @@ Known (settled t) = Unit {0}
 Known (interrupted t) = Unit {0}
 Known unknown = ⊥
 
-abbrev pub NoFormat : List Event → Type 0
-NoFormat [] = Unit {0}
-NoFormat (e ∷ es) = OnTable (e .request) × NoFormat es
-
 pub record FinishedFormat (e : Event) : Type 0 where
   pub request : e .request ≡ format
   pub seen : e .seen ≡ refused 0
 
-move-known : {C : ℕ} {w : Bool} {r : Request} {o : Seen} {x y : Promise} → Moves C w r o x y → OnTable r → Known x → Known y
+move-known : {C : Board} {w : Bool} {r : Request} {o : Seen} {x y : Promise} → Moves C w r o x y → OnTable r → Known x → Known y
 move-known (answers k e) f h = tt
 move-known (answers-again k i e) f h = tt
 move-known (asks-recovery k i e) f h = tt
@@ -140,11 +136,11 @@ move-known (formats i e) f h = tt
 move-known {r = r} (format-cut i e) f h = absurd (not-format r f i)
 move-known (no-promise k) f h = h
 
-pub runs-known : (C : ℕ) (es : List Event) (x y : Promise) → PlainRuns C x es y → NoFormat es → Known x → Known y
+pub runs-known : (C : Board) (es : List Event) (x y : Promise) → PlainRuns C x es y → NoFormat es → Known x → Known y
 runs-known C [] x y e f h = subst Known (sym e) h
 runs-known C (e ∷ es) x y (z, m, rest) f h = runs-known C es z y rest (f .1) (move-known m (f .0) h)
 
-pub runs-append : (C : ℕ) (es ds : List Event) (x y : Promise) → PlainRuns C x (es ++ ds) y → (z : Promise) × PlainRuns C x es z × PlainRuns C z ds y
+pub runs-append : (C : Board) (es ds : List Event) (x y : Promise) → PlainRuns C x (es ++ ds) y → (z : Promise) × PlainRuns C x es z × PlainRuns C z ds y
 runs-append C [] ds x y r = (x, refl, r)
 runs-append C (e ∷ es) ds x y (z, m, rest) = let a = runs-append C es ds z y rest in (a .0, (z, m, a .1), a .2)
 
@@ -180,7 +176,7 @@ stored-if-done m x h = go (eqb m 0) refl x h
     go true e false k = absurd (omega (arith, k))
     go false e v k = absurd (eqb-false m 0 e k)
 
-plain-gives : (C : ℕ) (w : Bool) (t : Table) (r : Request) (b : ℕ) (c : List ℕ) → Reads b r → plain C w t r ≡ gives c → lookup b t ≡ present c
+plain-gives : (C : Board) (w : Bool) (t : Table) (r : Request) (b : ℕ) (c : List ℕ) → Reads b r → plain C w t r ≡ gives c → lookup b t ≡ present c
 unfolding plain plainCode codeOnTable plainBytes malformed
 plain-gives C w t format b c q h = absurd q
 plain-gives C w t (put a d) b c q h = absurd q
@@ -196,7 +192,7 @@ plain-gives C w t (readOr a f) b c q h =
 plain-gives C w t recover b c q h = absurd q
 
 -- what a read gives is what the promise shows
-pub read-shows : {C : ℕ} {w : Bool} {r : Request} {o : Seen} {x y : Promise} → Moves C w r o x y → (b : ℕ) (c : List ℕ) → Known x → Reads b r → o ≡ answered (gives c) → Shows x b (present c)
+pub read-shows : {C : Board} {w : Bool} {r : Request} {o : Seen} {x y : Promise} → Moves C w r o x y → (b : ℕ) (c : List ℕ) → Known x → Reads b r → o ≡ answered (gives c) → Shows x b (present c)
 read-shows {C} {w} {r} (answers {t = t} k e) b c h q g = plain-gives C w t r b c q (cc)
 read-shows {C} {w} {r} (answers-again {t = t} k i e) b c h q g = plain-gives C w t r b c q (cc)
 read-shows (asks-recovery k i e) b c h q g = absurd (let f : 5 ≡ 0 = sym (ap codeSeen e) ∙ ap codeSeen g in omega arith)
@@ -208,7 +204,7 @@ read-shows {r = r} (format-cut i e) b c h q g = absurd (subst (λ (v : Request).
 read-shows (no-promise k) b c h q g = absurd h
 
 -- A block never shows contents that were not put under its number since the last format.
-pub shows-only-what-was-put : (C : ℕ) (x y : Promise) (past es : List Event) (f e : Event) (b : ℕ) (c : List ℕ) → PlainRuns C x (past ++ (f ∷ (es ++ (e ∷ [])))) y
+pub shows-only-what-was-put : (C : Board) (x y : Promise) (past es : List Event) (f e : Event) (b : ℕ) (c : List ℕ) → PlainRuns C x (past ++ (f ∷ (es ++ (e ∷ [])))) y
     → FinishedFormat f → NoFormat es → Reads b (e .request) → e .seen ≡ answered (gives c) → PutAmong b c es
 unfolding lookup
 shows-only-what-was-put C x y past es f e b c runs done none q g =
@@ -233,7 +229,7 @@ abbrev pub AllSpare : ℕ → List Event → Type 0
 AllSpare b [] = Unit {0}
 AllSpare b (e ∷ es) = Spares b (e .request) × AllSpare b es
 
-next-keeps : (C : ℕ) (w : Bool) (t : Table) (r : Request) (b : ℕ) → Spares b r → lookup b (next C w t r) ≡ lookup b t
+next-keeps : (C : Board) (w : Bool) (t : Table) (r : Request) (b : ℕ) → Spares b r → lookup b (next C w t r) ≡ lookup b t
 unfolding next made
 next-keeps C w t r b q = go (eqb (plainCode C w t r) 0) refl
   where
@@ -250,7 +246,7 @@ next-keeps C w t r b q = go (eqb (plainCode C w t r) 0) refl
     go true e = made-keeps r q (eqb-true (plainCode C w t r) 0 e)
     go false e = refl
 
-move-keeps : {C : ℕ} {w : Bool} {r : Request} {o : Seen} {x y : Promise} → Moves C w r o x y → (b : ℕ) (z : Found) → Spares b r → Shows x b z → Shows y b z
+move-keeps : {C : Board} {w : Bool} {r : Request} {o : Seen} {x y : Promise} → Moves C w r o x y → (b : ℕ) (z : Found) → Spares b r → Shows x b z → Shows y b z
 move-keeps {C} {w} {r} (answers {t = t} k e) b z q h = next-keeps C w t r b q ∙ h
 move-keeps {C} {w} {r} (answers-again {t = t} k i e) b z q h = next-keeps C w t r b q ∙ h
 move-keeps (asks-recovery k i e) b z q h = h
@@ -261,16 +257,16 @@ move-keeps (formats i e) b z q h = absurd (subst (λ (v : Request). Spares b v) 
 move-keeps (format-cut i e) b z q h = absurd (subst (λ (v : Request). Spares b v) i q)
 move-keeps (no-promise k) b z q h = absurd h
 
-pub runs-keep : (C : ℕ) (es : List Event) (x y : Promise) → PlainRuns C x es y → (b : ℕ) (z : Found) → AllSpare b es → Shows x b z → Shows y b z
+pub runs-keep : (C : Board) (es : List Event) (x y : Promise) → PlainRuns C x es y → (b : ℕ) (z : Found) → AllSpare b es → Shows x b z → Shows y b z
 runs-keep C [] x y e b z q h = subst (λ (v : Promise). Shows v b z) (sym e) h
 runs-keep C (e ∷ es) x y (v, m, rest) b z q h = runs-keep C es v y rest b z (q .1) (move-keeps m b z (q .0) h)
 
-plain-done : (C : ℕ) (w : Bool) (t : Table) (r : Request) → plainCode C w t r ≡ 0 → next C w t r ≡ made t r
+plain-done : (C : Board) (w : Bool) (t : Table) (r : Request) → plainCode C w t r ≡ 0 → next C w t r ≡ made t r
 unfolding next
 plain-done C w t r e = rw e
 
 -- an acknowledged request has made its table
-move-done : {C : ℕ} {w : Bool} {r : Request} {o : Seen} {x y : Promise} → Moves C w r o x y → (b : ℕ) (z : Found) → OnTable r → Known x → codeSeen o ≡ 0
+move-done : {C : Board} {w : Bool} {r : Request} {o : Seen} {x y : Promise} → Moves C w r o x y → (b : ℕ) (z : Found) → OnTable r → Known x → codeSeen o ≡ 0
     → ((t : Table) → lookup b (made t r) ≡ z) → Shows y b z
 unfolding plain
 move-done {C} {w} {r} (answers {t = t} k e) b z i h n makes = ap (λ (v : Table). lookup b v) (plain-done C w t r (sym (ap codeSeen e) ∙ n)) ∙ makes t
@@ -293,7 +289,7 @@ unfolding contentsFound
 held-reply f t b absent h = rw (absent-free b t h)
 held-reply f t b (present c) h = rw (found-held b t c h, h)
 
-plain-read : (C : ℕ) (w : Bool) (t : Table) (r : Request) (b : ℕ) (z : Found) → Reads b r → numberOk b ≡ true → lookup b t ≡ z → plain C w t r ≡ replied (factoryOf r) z
+plain-read : (C : Board) (w : Bool) (t : Table) (r : Request) (b : ℕ) (z : Found) → Reads b r → numberOk b ≡ true → lookup b t ≡ z → plain C w t r ≡ replied (factoryOf r) z
 plain-read C w t format b z q n h = absurd q
 plain-read C w t (put a d) b z q n h = absurd q
 plain-read C w t (delete a) b z q n h = absurd q
@@ -311,7 +307,7 @@ reads-proper (readOr a f) b q n = rw (q, n)
 reads-proper recover b q n = absurd q
 
 -- a read that is neither cut nor asks for a recovery gives what the promise shows
-pub read-back : {C : ℕ} {w : Bool} {r : Request} {o : Seen} {x y : Promise} → Moves C w r o x y → (b : ℕ) (z : Found) → Shows x b z → Reads b r → numberOk b ≡ true
+pub read-back : {C : Board} {w : Bool} {r : Request} {o : Seen} {x y : Promise} → Moves C w r o x y → (b : ℕ) (z : Found) → Shows x b z → Reads b r → numberOk b ≡ true
     → codeSeen o ≢ 9 → codeSeen o ≢ 5 → o ≡ answered (replied (factoryOf r) z)
 read-back {C} {w} {r} (answers {t = t} k e) b z h q n cut asks = e ∙ ap answered (plain-read C w t r b z q n h)
 read-back {C} {w} {r} (answers-again {t = t} k i e) b z h q n cut asks = e ∙ ap answered (plain-read C w t r b z q n h)
@@ -334,7 +330,7 @@ leaves-made b absent r e = rw e (tt, λ t. lookup-without-same b t)
 leaves-made b (present c) r e = rw e (tt, λ t. lookup-store-same b c t)
 
 -- Once acknowledged, a put or a delete is what every read of that block shows until the block is put or deleted again, through every power cut and recovery.
-pub acknowledged-stays : (C : ℕ) (x y : Promise) (es : List Event) (d e : Event) (b : ℕ) (z : Found) → PlainRuns C x (d ∷ (es ++ (e ∷ []))) y → Known x
+pub acknowledged-stays : (C : Board) (x y : Promise) (es : List Event) (d e : Event) (b : ℕ) (z : Found) → PlainRuns C x (d ∷ (es ++ (e ∷ []))) y → Known x
     → Leaves b z (d .request) → codeSeen (d .seen) ≡ 0 → AllSpare b es → Reads b (e .request) → numberOk b ≡ true
     → codeSeen (e .seen) ≢ 9 → codeSeen (e .seen) ≢ 5 → e .seen ≡ answered (replied (factoryOf (e .request)) z)
 acknowledged-stays C x y es d e b z (v, doing, rest) known leaves done spare q n cut asks =

@@ -9,6 +9,7 @@ use lib.ListN.{length}
 use lib.Dec.{ltb, leb, eqb}
 use borrow.Author.Tests.{ltb-true, ltb-false, lt-leb, le-leb, ne-eqb, eqb-true}
 use Rattle.model.specs.Chip.{Image, rightSize, run}
+use Rattle.model.specs.Header.{isFormer}
 use Rattle.model.specs.Slot.{numberOk}
 use Rattle.model.specs.State.{Exception, segmentsOf, viewOf, entriesIn, holds, distinct, capacity, placeOf, unfinished, state, view}
 use Rattle.model.specs.Steps.{isWorn, formatSteps}
@@ -18,8 +19,8 @@ use Rattle.model.specs.Histories.{Reply, bytesRead, replyOf, wears, recovered, 
 use Rattle.model.specs.Laws.Tables.{agree-of, agree-holds, agree-without, agree-store, distinct-without, distinct-store}
 use Rattle.bridge.specs.Accepted.{code-of, refused-none, quiet-none, recover-none}
 use Rattle.bridge.specs.Allowance.{ends-or-stops}
-use Rattle.crash.specs.Machine.{malformed, codeOnTable, plainCode, made, OnTable, WantsRecovery}
-use Rattle.crash.specs.Sound.{SoundAs, Sound, Clean, finished, CutOf}
+use Rattle.crash.specs.Machine.{Board, malformed, codeOnTable, plainCode, made, OnTable, WantsRecovery}
+use Rattle.crash.specs.Sound.{SoundAs, Sound, Clean, finished, CutOf, formerIn, formerShown}
 
 -- ---- a request without steps
 
@@ -55,6 +56,9 @@ recovered-clean N B s h = idle-finished N B s recover (recover-none N B s h)
 pub shown-clean : (N B : ℕ) (s : Image) → Clean N B s → shown N B s ≡ tableOf N B s
 unfolding shown
 shown-clean N B s h = ap (λ y. tableOf N B y) (recovered-clean N B s h)
+
+pub former-clean : (N B : ℕ) (s : Image) → Clean N B s → formerShown N B s ≡ formerIn N B s
+former-clean N B s h = ap (λ y. formerIn N B y) (recovered-clean N B s h)
 
 pub sound-clean : (N B : ℕ) (s : Image) → Clean N B s → Sound N B s
 sound-clean N B s h = subst (λ y. SoundAs N B s (segmentsOf N B s) y) (sym h) tt
@@ -124,7 +128,11 @@ ended-or-stopped N B s allowance r = ⊎-elim
     (λ e. inr (record { reply = rw (e .code, bytes-stopped N B s r allowance (e .short)); image = e .image }))
     (ends-or-stops N B s allowance r)
 
--- ---- codes on a clean image: 2, 3, 6, 7, 8 and 0, exactly
+-- the board of an image
+abbrev pub boardOf : ℕ → ℕ → Image → Board
+boardOf N B s = record { places = capacity N B; former = formerIn N B s }
+
+-- ---- codes on a clean image: 2, 3, 6, 7, 8, 11 and 0, exactly
 
 not-ltb : (a b : ℕ) → leb a b ≡ not (ltb b a)
 not-ltb a b = go (ltb b a) refl
@@ -134,15 +142,16 @@ not-ltb a b = go (ltb b a) refl
     go false e = le-leb a b (ltb-false b a e)
 
 -- the rows of a put and of a delete or a read, with sized, damaged and unfinished decided
-put-codes : (number taken stored room worn : Bool)
-    → firstOf ((1 when false) ∷ (2 when not number) ∷ (3 when not taken) ∷ (4 when false) ∷ (5 when false) ∷ (7 when not stored && not room) ∷ (8 when worn) ∷ [])
-    ≡ cond (eqb (cond number (cond taken 0 3) 2) 0) (cond (stored || room) (cond worn 8 0) 7) (cond number (cond taken 0 3) 2)
+put-codes : (number taken former stored room worn : Bool)
+    → firstOf ((1 when false) ∷ (2 when not number) ∷ (3 when not taken) ∷ (4 when false) ∷ (5 when false) ∷ (11 when former) ∷ (7 when not stored && not room) ∷ (8 when worn) ∷ [])
+    ≡ cond (eqb (cond number (cond taken 0 3) 2) 0) (cond former 11 (cond (stored || room) (cond worn 8 0) 7)) (cond number (cond taken 0 3) 2)
 unfolding firstOf
-put-codes false taken stored room worn = refl
-put-codes true false stored room worn = refl
-put-codes true true true room worn = refl
-put-codes true true false true worn = refl
-put-codes true true false false worn = refl
+put-codes false taken former stored room worn = refl
+put-codes true false former stored room worn = refl
+put-codes true true true stored room worn = refl
+put-codes true true false true room worn = refl
+put-codes true true false false true worn = refl
+put-codes true true false false false worn = refl
 
 absent-codes : (number stored : Bool)
     → firstOf ((1 when false) ∷ (2 when not number) ∷ (4 when false) ∷ (5 when false) ∷ (6 when not stored) ∷ []) ≡ cond (eqb (cond number 0 2) 0) (cond stored 0 6) (cond number 0 2)
@@ -156,12 +165,12 @@ module _ (N B : ℕ) (s : Image) (z : rightSize N B s ≡ true) (h : Clean N B s
   unfolding absentRefusals isDamaged isUnfinished state tableOf view
   absent-clean b = rw (z, h) (absent-codes (numberOk b) (holds b (entriesIn (view N B s))))
 
-  pub code-clean : (r : Request) → OnTable r → workOf N B s r .code ≡ plainCode (capacity N B) (wears N B s) (tableOf N B s) r
+  pub code-clean : (r : Request) → OnTable r → workOf N B s r .code ≡ plainCode (boardOf N B s) (wears N B s) (tableOf N B s) r
   unfolding plainCode malformed codeOnTable refusals isDamaged isUnfinished isFull state tableOf view wears firstOf
   code-clean format o = absurd o
   code-clean (put b c) o = code-of N B s (put b c)
       ∙ rw (z, h, not-ltb (capacity N B) (length (entriesIn (view N B s))))
-      (put-codes (numberOk b) (lengthOk (length c)) (holds b (entriesIn (view N B s))) (ltb (length (entriesIn (view N B s))) (capacity N B)) (isWorn N (view N B s)))
+      (put-codes (numberOk b) (lengthOk (length c)) (isFormer (view N B s .version)) (holds b (entriesIn (view N B s))) (ltb (length (entriesIn (view N B s))) (capacity N B)) (isWorn N (view N B s)))
   code-clean (delete b) o = code-of N B s (delete b) ∙ absent-clean b
   code-clean (read b) o = code-of N B s (read b) ∙ absent-clean b
   code-clean (readOr b f) o = code-of N B s (readOr b f) ∙ absent-clean b
@@ -172,13 +181,13 @@ module _ (N B : ℕ) (s : Image) (z : rightSize N B s ≡ true) (h : Clean N B s
 abbrev pub Unfinished : ℕ → ℕ → Image → Type 0
 Unfinished N B s = (x : Exception) × (state N B s ≡ unfinished x)
 
-put-unfinished : (number taken full worn : Bool)
-    → firstOf ((1 when false) ∷ (2 when not number) ∷ (3 when not taken) ∷ (4 when false) ∷ (5 when true) ∷ (7 when full) ∷ (8 when worn) ∷ [])
+put-unfinished : (number taken former full worn : Bool)
+    → firstOf ((1 when false) ∷ (2 when not number) ∷ (3 when not taken) ∷ (4 when false) ∷ (5 when true) ∷ (11 when former) ∷ (7 when full) ∷ (8 when worn) ∷ [])
     ≡ cond (eqb (cond number (cond taken 0 3) 2) 0) 5 (cond number (cond taken 0 3) 2)
 unfolding firstOf
-put-unfinished false taken full worn = refl
-put-unfinished true false full worn = refl
-put-unfinished true true full worn = refl
+put-unfinished false taken former full worn = refl
+put-unfinished true false former full worn = refl
+put-unfinished true true former full worn = refl
 
 absent-unfinished : (number stored : Bool)
     → firstOf ((1 when false) ∷ (2 when not number) ∷ (4 when false) ∷ (5 when true) ∷ (6 when not stored) ∷ []) ≡ cond (eqb (cond number 0 2) 0) 5 (cond number 0 2)
@@ -196,7 +205,7 @@ module _ (N B : ℕ) (s : Image) (z : rightSize N B s ≡ true) (h : Unfinished 
   code-unfinished format o = absurd o
   code-unfinished (put b c) o = code-of N B s (put b c)
       ∙ rw (z, h .1)
-      (put-unfinished (numberOk b) (lengthOk (length c)) (isFull N B b (viewOf N (segmentsOf N B s))) (isWorn N (viewOf N (segmentsOf N B s))))
+      (put-unfinished (numberOk b) (lengthOk (length c)) (isFormer (viewOf N (segmentsOf N B s) .version)) (isFull N B b (viewOf N (segmentsOf N B s))) (isWorn N (viewOf N (segmentsOf N B s))))
   code-unfinished (delete b) o = code-of N B s (delete b) ∙ absent-wants b
   code-unfinished (read b) o = code-of N B s (read b) ∙ absent-wants b
   code-unfinished (readOr b f) o = code-of N B s (readOr b f) ∙ absent-wants b
@@ -235,13 +244,13 @@ malformed-small (readOr b f) = number-small (numberOk b)
 malformed-small recover = omega arith
 
 -- tables that agree answer alike
-pub code-agree : (C : ℕ) (worn : Bool) (t u : Table) → Agree t u → length t ≡ length u → (r : Request) → plainCode C worn t r ≡ plainCode C worn u r
+pub code-agree : (C : Board) (worn : Bool) (t u : Table) → Agree t u → length t ≡ length u → (r : Request) → plainCode C worn t r ≡ plainCode C worn u r
 unfolding plainCode codeOnTable
 code-agree C worn t u g e r = ap (λ y. cond (eqb (malformed r) 0) y (malformed r)) (on-table r)
   where
     on-table : (a : Request) → codeOnTable C worn t a ≡ codeOnTable C worn u a
     on-table format = refl
-    on-table (put b c) = ap₂ (λ x y. cond (x || ltb y C) (cond worn 8 0) 7) (agree-holds t u g b) e
+    on-table (put b c) = ap₂ (λ x y. cond (C .former) 11 (cond (x || ltb y (C .places)) (cond worn 8 0) 7)) (agree-holds t u g b) e
     on-table (delete b) = ap (λ x. cond x 0 6) (agree-holds t u g b)
     on-table (read b) = ap (λ x. cond x 0 6) (agree-holds t u g b)
     on-table (readOr b f) = ap (λ x. cond x 0 6) (agree-holds t u g b)

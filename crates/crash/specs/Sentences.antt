@@ -10,9 +10,9 @@ use Rattle.model.specs.Slot.{numberOk}
 use Rattle.model.specs.State.{capacity, clean, state}
 use Rattle.model.specs.Table.{Found, lookup, tableOf}
 use Rattle.model.specs.Histories.{answered, Event, History}
-use Rattle.crash.specs.Machine.{settled, unknown}
+use Rattle.crash.specs.Machine.{settled, unknown, NoFormat}
 use Rattle.crash.specs.Reading.{codeSeen, format-starts}
-use Rattle.crash.specs.ReadingRuns.{PutAmong, put-some, Known, NoFormat, FinishedFormat, runs-known, runs-append, Reads, factoryOf, gives, shows-only-what-was-put, AllSpare, runs-keep, replied, read-back, Leaves, acknowledged-stays}
+use Rattle.crash.specs.ReadingRuns.{PutAmong, put-some, Known, FinishedFormat, runs-known, runs-append, Reads, factoryOf, gives, shows-only-what-was-put, AllSpare, runs-keep, replied, read-back, Leaves, acknowledged-stays}
 use Rattle.crash.specs.Theorem.{demand2, from-clean}
 
 -- A block never shows contents that were not put under its number since the last format.

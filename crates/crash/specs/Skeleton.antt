@@ -20,11 +20,11 @@ use Rattle.bridge.specs.Views.Shape.{clean-distinct}
 use Rattle.bridge.specs.Held.{clean-view}
 use Rattle.bridge.specs.Accepted.{recover-none}
 use Rattle.bridge.specs.Format.{format-bytes}
-use Rattle.crash.specs.Machine.{malformed, plainCode, plainBytes, plain, made, next, codeOnTable, Promise, settled, interrupted, unknown, IsCut, OnTable, WantsRecovery, Holds, Moves, answers, answers-again, asks-recovery, refuses-malformed, not-begun, wholly-done, formats, format-cut, no-promise, PlainRuns}
-use Rattle.crash.specs.Demand2.{Keeps, Demand2, FromClean}
+use Rattle.crash.specs.Machine.{Board, malformed, plainCode, plainBytes, plain, made, next, codeOnTable, Promise, settled, interrupted, unknown, IsCut, OnTable, WantsRecovery, Holds, Moves, answers, answers-again, asks-recovery, refuses-malformed, not-begun, wholly-done, formats, format-cut, no-promise, PlainRuns, NoFormat}
+use Rattle.crash.specs.Demand2.{Keeps, Demand2, FromClean, FromFormer}
 use Rattle.crash.specs.Reading
-use Rattle.crash.specs.Sound.{SoundAs, Sound, Clean, finished, CutOf, DoneWith, LeftWith, RequestLaws}
-use Rattle.crash.specs.Requests.{refused-idle, idle-finished, idle-cut, read-idle, readOr-idle, readOr-work, shown-clean, sound-clean, read-refused, readOr-bytes, bytes-refused, ended, ended-or-stopped, code-clean, Unfinished, code-unfinished, code-recover, code-format, steps-format, malformed-small, code-agree, agree-made, distinct-made}
+use Rattle.crash.specs.Sound.{SoundAs, Sound, Clean, finished, CutOf, formerIn, formerShown, DoneWith, LeftWith, RequestLaws}
+use Rattle.crash.specs.Requests.{refused-idle, idle-finished, idle-cut, read-idle, readOr-idle, readOr-work, shown-clean, former-clean, sound-clean, read-refused, readOr-bytes, bytes-refused, ended, ended-or-stopped, code-clean, Unfinished, code-unfinished, code-recover, code-format, steps-format, malformed-small, code-agree, agree-made, distinct-made}
 
 -- ---- the table after a request with this code
 
@@ -50,62 +50,68 @@ distinct-after t n r q = go (eqb n 0)
 
 -- ---- the invariant: how an image stands to a promise
 
-pub record Stores (N B : ℕ) (s : Image) (t : Table) : Type 0 where
+pub record Stores (N B : ℕ) (f : Bool) (s : Image) (t : Table) : Type 0 where
   pub clean : Clean N B s
+  pub version : formerIn N B s ≡ f
   pub table : Agree (tableOf N B s) t
   pub once : distinct t ≡ true
   pub bytes : Bytes s
 
-pub record WillShow (N B : ℕ) (s : Image) (t : Table) : Type 0 where
+pub record WillShow (N B : ℕ) (f : Bool) (s : Image) (t : Table) : Type 0 where
   pub sound : Sound N B s
+  pub version : formerShown N B s ≡ f
   pub table : Agree (shown N B s) t
   pub once : distinct t ≡ true
   pub bytes : Bytes s
 
-abbrev Upholds : ℕ → ℕ → Image → Promise → Type 0
-Upholds N B s (settled t) = Stores N B s t
-Upholds N B s (interrupted t) = WillShow N B s t
-Upholds N B s unknown = Unit {0}
+abbrev Upholds : ℕ → ℕ → Bool → Image → Promise → Type 0
+Upholds N B f s (settled t) = Stores N B f s t
+Upholds N B f s (interrupted t) = WillShow N B f s t
+Upholds N B f s unknown = Unit {0}
 
-abbrev Invariant : ℕ → ℕ → Image → Promise → Type 0
-Invariant N B s x = (rightSize N B s ≡ true) × Upholds N B s x
+abbrev Invariant : ℕ → ℕ → Bool → Image → Promise → Type 0
+Invariant N B f s x = (rightSize N B s ≡ true) × Upholds N B f s x
+
+abbrev board : ℕ → ℕ → Bool → Board
+board N B f = record { places = capacity N B; former = f }
 
 -- what an event has to give: a move of the machine, and the invariant after it
-abbrev Follows : ℕ → ℕ → Bool → Request → Seen → Promise → Image → Type 0
-Follows N B w r o x m = (y : Promise) × Moves (capacity N B) w r o x y × Invariant N B m y
+abbrev Follows : ℕ → ℕ → Bool → Bool → Request → Seen → Promise → Image → Type 0
+Follows N B f w r o x m = (y : Promise) × Moves (board N B f) w r o x y × Invariant N B f m y
 
 size-finished : (N B : ℕ) (s m : Image) (r : Request) → rightSize N B s ≡ true → m ≡ finished N B s r → rightSize N B m ≡ true
 size-finished N B s m r z e = rw e (run-size N B (workOf N B s r .steps) s ∙ z)
 
-module _ (N B : ℕ) (laws : RequestLaws N B) where
+-- f tells whether the image has version 1
+module _ (N B : ℕ) (f : Bool) (laws : RequestLaws N B) where
   -- ---- a request on a clean image
 
-  idle-done : (s : Image) (r : Request) (t : Table) → Clean N B s → workOf N B s r .steps ≡ [] → t ≡ tableOf N B s → DoneWith N B (finished N B s r) t
-  idle-done s r t h e m = rw (idle-finished N B s r e) (h, agree-of (tableOf N B s) t (sym m))
+  idle-done : (s : Image) (r : Request) (t : Table) → Clean N B s → workOf N B s r .steps ≡ [] → t ≡ tableOf N B s → DoneWith N B (finished N B s r) t (formerIn N B s)
+  idle-done s r t h e m = rw (idle-finished N B s r e) (h, agree-of (tableOf N B s) t (sym m), refl)
 
-  idle-left : (s u : Image) (r : Request) (t : Table) → Clean N B s → workOf N B s r .steps ≡ [] → CutOf N B s r u → LeftWith N B u (tableOf N B s) t
-  idle-left s u r t h e c = rw (idle-cut N B s u r e c) (sound-clean N B s h, inl (agree-of (shown N B s) (tableOf N B s) (shown-clean N B s h)))
+  idle-left : (s u : Image) (r : Request) (t : Table) → Clean N B s → workOf N B s r .steps ≡ [] → CutOf N B s r u → LeftWith N B u (tableOf N B s) t (formerIn N B s)
+  idle-left s u r t h e c = rw (idle-cut N B s u r e c) (sound-clean N B s h, inl (agree-of (shown N B s) (tableOf N B s) (shown-clean N B s h)), former-clean N B s h)
 
   clean-done : (s : Image) (r : Request) → OnTable r → Proper r → rightSize N B s ≡ true → Bytes s → Clean N B s → (n : ℕ) → workOf N B s r .code ≡ n
-      → DoneWith N B (finished N B s r) (after (tableOf N B s) n r)
+      → DoneWith N B (finished N B s r) (after (tableOf N B s) n r) (formerIn N B s)
   unfolding made
   clean-done s r o p z y h (suc n) e = idle-done s r (after (tableOf N B s) (suc n) r) h (refused-idle N B s r n e) (after-refused (tableOf N B s) n r)
   clean-done s format o p z y h zero e = absurd o
   clean-done s (put b c) o p z y h zero e = laws .put-done s b c z y h p e
   clean-done s (delete b) o p z y h zero e = laws .delete-done s b z h e
   clean-done s (read b) o p z y h zero e = idle-done s (read b) (tableOf N B s) h (read-idle N B s b) refl
-  clean-done s (readOr b f) o p z y h zero e = idle-done s (readOr b f) (tableOf N B s) h (readOr-idle N B s b f) refl
+  clean-done s (readOr b g) o p z y h zero e = idle-done s (readOr b g) (tableOf N B s) h (readOr-idle N B s b g) refl
   clean-done s recover o p z y h zero e = idle-done s recover (tableOf N B s) h (recover-none N B s h) refl
 
   clean-cut : (s u : Image) (r : Request) → OnTable r → Proper r → rightSize N B s ≡ true → Bytes s → Clean N B s → CutOf N B s r u → (n : ℕ) → workOf N B s r .code ≡ n
-      → LeftWith N B u (tableOf N B s) (after (tableOf N B s) n r)
+      → LeftWith N B u (tableOf N B s) (after (tableOf N B s) n r) (formerIn N B s)
   unfolding made
   clean-cut s u r o p z y h c (suc n) e = idle-left s u r (after (tableOf N B s) (suc n) r) h (refused-idle N B s r n e) c
   clean-cut s u format o p z y h c zero e = absurd o
   clean-cut s u (put b x) o p z y h c zero e = laws .put-cut s u b x z y h p e c
   clean-cut s u (delete b) o p z y h c zero e = laws .delete-cut s u b z h e c
   clean-cut s u (read b) o p z y h c zero e = idle-left s u (read b) (tableOf N B s) h (read-idle N B s b) c
-  clean-cut s u (readOr b f) o p z y h c zero e = idle-left s u (readOr b f) (tableOf N B s) h (readOr-idle N B s b f) c
+  clean-cut s u (readOr b g) o p z y h c zero e = idle-left s u (readOr b g) (tableOf N B s) h (readOr-idle N B s b g) c
   clean-cut s u recover o p z y h c zero e = idle-left s u recover (tableOf N B s) h (recover-none N B s h) c
 
   -- the bytes that a read hands back are the table's
@@ -124,42 +130,44 @@ module _ (N B : ℕ) (laws : RequestLaws N B) where
   bytes-clean s t (put b c) z h g = refl
   bytes-clean s t (delete b) z h g = refl
   bytes-clean s t (read b) z h g = read-bytes s t b z h g (workOf N B s (read b) .code) refl
-  bytes-clean s t (readOr b f) z h g =
+  bytes-clean s t (readOr b d) z h g =
       let n = workOf N B s (read b) .code in
-      rw (readOr-work N B s b f) (readOr-bytes N B s b f ∙ (ap (λ y. cond (eqb n 6) f y) (read-bytes s t b z h g n refl) ∙ swap n (contentsFound (lookup b t)) f))
+      rw (readOr-work N B s b d) (readOr-bytes N B s b d ∙ (ap (λ y. cond (eqb n 6) d y) (read-bytes s t b z h g n refl) ∙ swap n (contentsFound (lookup b t)) d))
   bytes-clean s t recover z h g = refl
 
   -- ---- an event on a clean image that stores t
 
-  module _ (s m : Image) (t : Table) (r : Request) (o : OnTable r) (p : Proper r) (z : rightSize N B s ≡ true) (k : Stores N B s t) where
-    plain-code : workOf N B s r .code ≡ plainCode (capacity N B) (wears N B s) t r
+  module _ (s m : Image) (t : Table) (r : Request) (o : OnTable r) (p : Proper r) (z : rightSize N B s ≡ true) (k : Stores N B f s t) where
+    plain-code : workOf N B s r .code ≡ plainCode (board N B f) (wears N B s) t r
     unfolding tableOf
     plain-code = code-clean N B s z (k .clean) r o
-        ∙ code-agree (capacity N B) (wears N B s) (tableOf N B s) t (k .table) (agree-size (tableOf N B s) t (clean-distinct (clean-view N B s z (k .clean))) (k .once) (k .table)) r
+        ∙ (ap (λ (y : Bool). plainCode (board N B y) (wears N B s) (tableOf N B s) r) (k .version)
+        ∙ code-agree (board N B f) (wears N B s) (tableOf N B s) t (k .table) (agree-size (tableOf N B s) t (clean-distinct (clean-view N B s z (k .clean))) (k .once) (k .table)) r)
 
-    plain-reply : ended N B s r ≡ plain (capacity N B) (wears N B s) t r
+    plain-reply : ended N B s r ≡ plain (board N B f) (wears N B s) t r
     unfolding ended plain
     plain-reply = ap₂ (λ (n : ℕ) (y : List ℕ). reply n y) plain-code (bytes-clean s t r z (k .clean) (k .table) ∙ ap (λ (n : ℕ). plainBytes t n r) plain-code)
       where
         reply : ℕ → List ℕ → Reply
         reply n y = record { code = n; bytes = y }
 
-    plain-next : after t (workOf N B s r .code) r ≡ next (capacity N B) (wears N B s) t r
+    plain-next : after t (workOf N B s r .code) r ≡ next (board N B f) (wears N B s) t r
     unfolding next
     plain-next = ap (λ (n : ℕ). after t n r) plain-code
 
-    stored-next : m ≡ finished N B s r → Stores N B m (next (capacity N B) (wears N B s) t r)
+    stored-next : m ≡ finished N B s r → Stores N B f m (next (board N B f) (wears N B s) t r)
     stored-next e =
         let n = workOf N B s r .code in
         let d = clean-done s r o p z (k .bytes) (k .clean) n refl in
         rw (e, ← plain-next) (record {
           clean = d .0;
+          version = d .2 ∙ k .version;
           table = agree-trans (tableOf N B (finished N B s r)) (after (tableOf N B s) n r) (after t n r) (d .1) (agree-after (tableOf N B s) t n r (k .table));
           once = distinct-after t n r (k .once);
           bytes = run-bytes B (workOf N B s r .steps) s (k .bytes);
         })
 
-    clean-interrupted : (x : Promise) → Holds x t → (u : Seen) → IsCut u → CutOf N B s r m → Follows N B (wears N B s) r u x m
+    clean-interrupted : (x : Promise) → Holds x t → (u : Seen) → IsCut u → CutOf N B s r m → Follows N B f (wears N B s) r u x m
     clean-interrupted x held u i c =
         let n = workOf N B s r .code in
         let d = clean-cut s m r o p z (k .bytes) (k .clean) c n refl in
@@ -169,15 +177,16 @@ module _ (N B : ℕ) (laws : RequestLaws N B) where
         (λ old. (
           interrupted t,
           not-begun t held o i,
-          (zm, record { sound = d .0; table = agree-trans (shown N B m) (tableOf N B s) t old (k .table); once = k .once; bytes = ym }),
+          (zm, record { sound = d .0; version = d .2 ∙ k .version; table = agree-trans (shown N B m) (tableOf N B s) t old (k .table); once = k .once; bytes = ym }),
         ))
         (λ new. (
-          interrupted (next (capacity N B) (wears N B s) t r),
+          interrupted (next (board N B f) (wears N B s) t r),
           wholly-done t held o i,
           (
             zm,
             rw (← plain-next) (record {
               sound = d .0;
+              version = d .2 ∙ k .version;
               table = agree-trans (shown N B m) (after (tableOf N B s) n r) (after t n r) new (agree-after (tableOf N B s) t n r (k .table));
               once = distinct-after t n r (k .once);
               bytes = ym;
@@ -197,17 +206,18 @@ module _ (N B : ℕ) (laws : RequestLaws N B) where
       go (unfinished x) e k = inr (x, e)
       go damaged e k = absurd k
 
-  stores-clean : (s : Image) (t : Table) → Clean N B s → WillShow N B s t → Stores N B s t
+  stores-clean : (s : Image) (t : Table) → Clean N B s → WillShow N B f s t → Stores N B f s t
   stores-clean s t h k = record {
     clean = h;
+    version = sym (former-clean N B s h) ∙ k .version;
     table = agree-trans (tableOf N B s) (shown N B s) t (agree-of (tableOf N B s) (shown N B s) (sym (shown-clean N B s h))) (k .table);
     once = k .once;
     bytes = k .bytes;
   }
 
   -- refused as malformed, on any image: nothing changes
-  refuses : (s m : Image) (t : Table) (r : Request) (n : ℕ) → rightSize N B s ≡ true → WillShow N B s t → malformed r ≡ suc n → workOf N B s r .code ≡ suc n
-      → (w : Bool) (u : Seen) → u ≡ answered (ended N B s r) → m ≡ finished N B s r → Follows N B w r u (interrupted t) m
+  refuses : (s m : Image) (t : Table) (r : Request) (n : ℕ) → rightSize N B s ≡ true → WillShow N B f s t → malformed r ≡ suc n → workOf N B s r .code ≡ suc n
+      → (w : Bool) (u : Seen) → u ≡ answered (ended N B s r) → m ≡ finished N B s r → Follows N B f w r u (interrupted t) m
   unfolding ended
   refuses s m t r n z k f e w u i d = (
     interrupted t,
@@ -215,7 +225,7 @@ module _ (N B : ℕ) (laws : RequestLaws N B) where
     rw (d, idle-finished N B s r (refused-idle N B s r n e)) (z, k),
   )
 
-  module _ (s m : Image) (t : Table) (z : rightSize N B s ≡ true) (k : WillShow N B s t) (h : Unfinished N B s) where
+  module _ (s m : Image) (t : Table) (z : rightSize N B s ≡ true) (k : WillShow N B f s t) (h : Unfinished N B s) where
     wants-code : (r : Request) → WantsRecovery r → (n : ℕ) → malformed r ≡ n → workOf N B s r .code ≡ cond (eqb n 0) 5 n
     wants-code r q n e = code-unfinished N B s z h r q ∙ ap (λ (y : ℕ). cond (eqb y 0) 5 y) e
 
@@ -227,20 +237,20 @@ module _ (N B : ℕ) (laws : RequestLaws N B) where
         go zero e = refused-idle N B s r 4 e
         go (suc n) e = refused-idle N B s r n (e ∙ rw (ne-eqb (suc n) 0 (λ y. omega arith)))
 
-    wants-interrupted : (r : Request) → WantsRecovery r → OnTable r → (w : Bool) (u : Seen) → IsCut u → CutOf N B s r m → Follows N B w r u (interrupted t) m
+    wants-interrupted : (r : Request) → WantsRecovery r → OnTable r → (w : Bool) (u : Seen) → IsCut u → CutOf N B s r m → Follows N B f w r u (interrupted t) m
     wants-interrupted r q o w u i c = (interrupted t, not-begun t refl o i, rw (idle-cut N B s m r (wants-idle r q) c) (z, k))
 
-    wants-ends : (r : Request) → WantsRecovery r → (w : Bool) (u : Seen) → u ≡ answered (ended N B s r) → m ≡ finished N B s r → Follows N B w r u (interrupted t) m
+    wants-ends : (r : Request) → WantsRecovery r → (w : Bool) (u : Seen) → u ≡ answered (ended N B s r) → m ≡ finished N B s r → Follows N B f w r u (interrupted t) m
     unfolding ended
     wants-ends r q w u i d = go (malformed r) refl
       where
-        go : (n : ℕ) → malformed r ≡ n → Follows N B w r u (interrupted t) m
+        go : (n : ℕ) → malformed r ≡ n → Follows N B f w r u (interrupted t) m
         go zero e =
             let five : workOf N B s r .code ≡ 5 = wants-code r q 0 e in
             (interrupted t, asks-recovery q e (i ∙ rw (five, bytes-refused N B s r 4 five (λ six. omega (arith, six)))), rw (d, idle-finished N B s r (wants-idle r q)) (z, k))
         go (suc n) e = refuses s m t r n z k e (wants-code r q (suc n) e ∙ rw (ne-eqb (suc n) 0 (λ y. omega arith))) w u i d
 
-    recover-interrupted : (w : Bool) (u : Seen) → IsCut u → CutOf N B s recover m → Follows N B w recover u (interrupted t) m
+    recover-interrupted : (w : Bool) (u : Seen) → IsCut u → CutOf N B s recover m → Follows N B f w recover u (interrupted t) m
     recover-interrupted w u i c =
         let d = laws .recover-cut s m z (k .sound) c in (
           interrupted t,
@@ -249,6 +259,7 @@ module _ (N B : ℕ) (laws : RequestLaws N B) where
             cut-size N B (workOf N B s recover .steps) s m c ∙ z,
             record {
               sound = d .0;
+              version = d .2 ∙ k .version;
               table = agree-trans (shown N B m) (shown N B s) t (d .1) (k .table);
               once = k .once;
               bytes = cut-bytes B (workOf N B s recover .steps) s m c (k .bytes);
@@ -256,7 +267,7 @@ module _ (N B : ℕ) (laws : RequestLaws N B) where
           ),
         )
 
-    recover-ends : (w : Bool) (u : Seen) → u ≡ answered (ended N B s recover) → m ≡ finished N B s recover → Follows N B w recover u (interrupted t) m
+    recover-ends : (w : Bool) (u : Seen) → u ≡ answered (ended N B s recover) → m ≡ finished N B s recover → Follows N B f w recover u (interrupted t) m
     unfolding malformed recovered shown ended plain plainCode codeOnTable plainBytes bytesRead next made
     recover-ends w u i e = (
       settled t,
@@ -264,55 +275,55 @@ module _ (N B : ℕ) (laws : RequestLaws N B) where
       (
         size-finished N B s m recover z e,
         rw e (record
-            { clean = laws .recover-done s z (k .sound); table = k .table; once = k .once; bytes = run-bytes B (workOf N B s recover .steps) s (k .bytes) }),
+            { clean = laws .recover-done s z (k .sound); version = k .version; table = k .table; once = k .once; bytes = run-bytes B (workOf N B s recover .steps) s (k .bytes) }),
       ),
     )
 
   -- ---- one event, whatever the promise
 
-  request-cut : (s m : Image) (x : Promise) (r : Request) → OnTable r → Proper r → Invariant N B s x → (u : Seen) → IsCut u → CutOf N B s r m → Follows N B (wears N B s) r u x m
+  request-cut : (s m : Image) (x : Promise) (r : Request) → OnTable r → Proper r → Invariant N B f s x → (u : Seen) → IsCut u → CutOf N B s r m → Follows N B f (wears N B s) r u x m
   request-cut s m unknown r o p (z, k) u i c = (unknown, no-promise o, (cut-size N B (workOf N B s r .steps) s m c ∙ z, tt))
   request-cut s m (settled t) r o p (z, k) u i c = clean-interrupted s m t r o p z k (settled t) refl u i c
   request-cut s m (interrupted t) r o p (z, k) u i c =
       ⊎-elim (λ h. clean-interrupted s m t r o p z (stores-clean s t h k) (interrupted t) refl u i c) (λ h. by-request r o h c) (clean-or-unfinished s (k .sound))
     where
-      by-request : (a : Request) → OnTable a → Unfinished N B s → CutOf N B s a m → Follows N B (wears N B s) a u (interrupted t) m
+      by-request : (a : Request) → OnTable a → Unfinished N B s → CutOf N B s a m → Follows N B f (wears N B s) a u (interrupted t) m
       by-request format oa h d = absurd oa
       by-request (put b v) oa h d = wants-interrupted s m t z k h (put b v) tt tt (wears N B s) u i d
       by-request (delete b) oa h d = wants-interrupted s m t z k h (delete b) tt tt (wears N B s) u i d
       by-request (read b) oa h d = wants-interrupted s m t z k h (read b) tt tt (wears N B s) u i d
-      by-request (readOr b f) oa h d = wants-interrupted s m t z k h (readOr b f) tt tt (wears N B s) u i d
+      by-request (readOr b g) oa h d = wants-interrupted s m t z k h (readOr b g) tt tt (wears N B s) u i d
       by-request recover oa h d = recover-interrupted s m t z k h (wears N B s) u i d
 
-  request-ends : (s m : Image) (x : Promise) (r : Request) → OnTable r → Proper r → Invariant N B s x → (u : Seen) → u ≡ answered (ended N B s r) → m ≡ finished N B s r
-      → Follows N B (wears N B s) r u x m
+  request-ends : (s m : Image) (x : Promise) (r : Request) → OnTable r → Proper r → Invariant N B f s x → (u : Seen) → u ≡ answered (ended N B s r) → m ≡ finished N B s r
+      → Follows N B f (wears N B s) r u x m
   unfolding plainCode
   request-ends s m unknown r o p (z, k) u i e = (unknown, no-promise o, (size-finished N B s m r z e, tt))
   request-ends s m (settled t) r o p (z, k) u i e =
-      (settled (next (capacity N B) (wears N B s) t r), answers o (i ∙ ap answered (plain-reply s m t r o p z k)), (size-finished N B s m r z e, stored-next s m t r o p z k e))
+      (settled (next (board N B f) (wears N B s) t r), answers o (i ∙ ap answered (plain-reply s m t r o p z k)), (size-finished N B s m r z e, stored-next s m t r o p z k e))
   request-ends s m (interrupted t) r o p (z, k) u i e =
       ⊎-elim (λ h. still-clean (malformed r) refl (stores-clean s t h k)) (λ h. by-request r o h i e) (clean-or-unfinished s (k .sound))
     where
-      still-clean : (n : ℕ) → malformed r ≡ n → Stores N B s t → Follows N B (wears N B s) r u (interrupted t) m
-      still-clean zero f q =
-          (settled (next (capacity N B) (wears N B s) t r), answers-again o f (i ∙ ap answered (plain-reply s m t r o p z q)), (size-finished N B s m r z e, stored-next s m t r o p z q e))
-      still-clean (suc n) f q = refuses s m t r n z k f (plain-code s m t r o p z q ∙ rw (f, ne-eqb (suc n) 0 (λ y. omega arith))) (wears N B s) u i e
+      still-clean : (n : ℕ) → malformed r ≡ n → Stores N B f s t → Follows N B f (wears N B s) r u (interrupted t) m
+      still-clean zero proper q =
+          (settled (next (board N B f) (wears N B s) t r), answers-again o proper (i ∙ ap answered (plain-reply s m t r o p z q)), (size-finished N B s m r z e, stored-next s m t r o p z q e))
+      still-clean (suc n) bad q = refuses s m t r n z k bad (plain-code s m t r o p z q ∙ rw (bad, ne-eqb (suc n) 0 (λ y. omega arith))) (wears N B s) u i e
 
-      by-request : (a : Request) → OnTable a → Unfinished N B s → u ≡ answered (ended N B s a) → m ≡ finished N B s a → Follows N B (wears N B s) a u (interrupted t) m
+      by-request : (a : Request) → OnTable a → Unfinished N B s → u ≡ answered (ended N B s a) → m ≡ finished N B s a → Follows N B f (wears N B s) a u (interrupted t) m
       by-request format oa h ia d = absurd oa
       by-request (put b v) oa h ia d = wants-ends s m t z k h (put b v) tt (wears N B s) u ia d
       by-request (delete b) oa h ia d = wants-ends s m t z k h (delete b) tt (wears N B s) u ia d
       by-request (read b) oa h ia d = wants-ends s m t z k h (read b) tt (wears N B s) u ia d
-      by-request (readOr b f) oa h ia d = wants-ends s m t z k h (readOr b f) tt (wears N B s) u ia d
+      by-request (readOr b g) oa h ia d = wants-ends s m t z k h (readOr b g) tt (wears N B s) u ia d
       by-request recover oa h ia d = recover-ends s m t z k h (wears N B s) u ia d
 
   -- a format, from any image
-  format-interrupted : (s m : Image) (x : Promise) → rightSize N B s ≡ true → (w : Bool) (u : Seen) → IsCut u → CutOf N B s format m → Follows N B w format u x m
+  format-interrupted : (s m : Image) (x : Promise) → rightSize N B s ≡ true → (w : Bool) (u : Seen) → IsCut u → CutOf N B s format m → Follows N B f w format u x m
   format-interrupted s m x z w u i c = (unknown, format-cut refl i, (cut-size N B (workOf N B s format .steps) s m c ∙ z, tt))
 
-  format-ends : (s m : Image) (x : Promise) → rightSize N B s ≡ true → (w : Bool) (u : Seen) → u ≡ answered (ended N B s format) → m ≡ finished N B s format → Follows N B w format u x m
+  format-ends : (s m : Image) (x : Promise) → f ≡ false → rightSize N B s ≡ true → (w : Bool) (u : Seen) → u ≡ answered (ended N B s format) → m ≡ finished N B s format → Follows N B f w format u x m
   unfolding ended bytesRead distinct
-  format-ends s m x z w u i e =
+  format-ends s m x new z w u i e =
       let d = laws .format-done s z in
       let v : m ≡ run B (formatSteps N B) s = e ∙ ap (λ y. run B y s) (steps-format N B s z) in (
         settled [],
@@ -320,55 +331,99 @@ module _ (N B : ℕ) (laws : RequestLaws N B) where
         (
           size-finished N B s m format z e,
           rw v (record
-              { clean = d .0; table = agree-of (tableOf N B (run B (formatSteps N B) s)) [] (d .1); once = refl; bytes = format-bytes N B s z }),
+              { clean = d .0; version = d .2 ∙ sym new; table = agree-of (tableOf N B (run B (formatSteps N B) s)) [] (d .1); once = refl; bytes = format-bytes N B s z }),
         ),
       )
 
   -- ended, stopped at the allowance, or lost
-  on-table : (s m : Image) (x : Promise) (r : Request) → OnTable r → Proper r → Invariant N B s x → (u : Seen) → Does N B r u s m → Follows N B (wears N B s) r u x m
+  on-table : (s m : Image) (x : Promise) (r : Request) → OnTable r → Proper r → Invariant N B f s x → (u : Seen) → Does N B r u s m → Follows N B f (wears N B s) r u x m
   on-table s m x r o p k lost c = request-cut s m x r o p k lost (inl refl) c
-  on-table s m x r o p k (answered y) (allowance, e, f) = ⊎-elim
-      (λ ends. request-ends s m x r o p k (answered y) (ap answered (e ∙ ends .reply)) (f ∙ ends .image))
-      (λ stops. request-cut s m x r o p k (answered y) (inr (ap answered (e ∙ stops .reply))) (rw f (stops .image)))
+  on-table s m x r o p k (answered y) (allowance, e, left) = ⊎-elim
+      (λ ends. request-ends s m x r o p k (answered y) (ap answered (e ∙ ends .reply)) (left ∙ ends .image))
+      (λ stops. request-cut s m x r o p k (answered y) (inr (ap answered (e ∙ stops .reply))) (rw left (stops .image)))
       (ended-or-stopped N B s allowance r)
 
-  on-format : (s m : Image) (x : Promise) → rightSize N B s ≡ true → (u : Seen) → Does N B format u s m → Follows N B (wears N B s) format u x m
-  on-format s m x z lost c = format-interrupted s m x z (wears N B s) lost (inl refl) c
-  on-format s m x z (answered y) (allowance, e, f) = ⊎-elim
-      (λ ends. format-ends s m x z (wears N B s) (answered y) (ap answered (e ∙ ends .reply)) (f ∙ ends .image))
-      (λ stops. format-interrupted s m x z (wears N B s) (answered y) (inr (ap answered (e ∙ stops .reply))) (rw f (stops .image)))
+  on-format : (s m : Image) (x : Promise) → f ≡ false → rightSize N B s ≡ true → (u : Seen) → Does N B format u s m → Follows N B f (wears N B s) format u x m
+  on-format s m x new z lost c = format-interrupted s m x z (wears N B s) lost (inl refl) c
+  on-format s m x new z (answered y) (allowance, e, left) = ⊎-elim
+      (λ ends. format-ends s m x new z (wears N B s) (answered y) (ap answered (e ∙ ends .reply)) (left ∙ ends .image))
+      (λ stops. format-interrupted s m x z (wears N B s) (answered y) (inr (ap answered (e ∙ stops .reply))) (rw left (stops .image)))
       (ended-or-stopped N B s allowance format)
 
-  one-event : (s m : Image) (x : Promise) (r : Request) → Proper r → Invariant N B s x → (u : Seen) → Does N B r u s m → Follows N B (wears N B s) r u x m
-  one-event s m x format p k u d = on-format s m x (k .0) u d
-  one-event s m x (put b c) p k u d = on-table s m x (put b c) tt p k u d
-  one-event s m x (delete b) p k u d = on-table s m x (delete b) tt p k u d
-  one-event s m x (read b) p k u d = on-table s m x (read b) tt p k u d
-  one-event s m x (readOr b f) p k u d = on-table s m x (readOr b f) tt p k u d
-  one-event s m x recover p k u d = on-table s m x recover tt p k u d
+  -- an image of version 1 is one until it is formatted
+  abbrev May : Request → Type 0
+  May format = f ≡ false
+  May (put b c) = Unit {0}
+  May (delete b) = Unit {0}
+  May (read b) = Unit {0}
+  May (readOr b g) = Unit {0}
+  May recover = Unit {0}
+
+  abbrev AllMay : List Event → Type 0
+  AllMay [] = Unit {0}
+  AllMay (e ∷ es) = May (e .request) × AllMay es
+
+  one-event : (s m : Image) (x : Promise) (r : Request) → May r → Proper r → Invariant N B f s x → (u : Seen) → Does N B r u s m → Follows N B f (wears N B s) r u x m
+  one-event s m x format may p k u d = on-format s m x may (k .0) u d
+  one-event s m x (put b c) may p k u d = on-table s m x (put b c) tt p k u d
+  one-event s m x (delete b) may p k u d = on-table s m x (delete b) tt p k u d
+  one-event s m x (read b) may p k u d = on-table s m x (read b) tt p k u d
+  one-event s m x (readOr b g) may p k u d = on-table s m x (readOr b g) tt p k u d
+  one-event s m x recover may p k u d = on-table s m x recover tt p k u d
 
   -- ---- the history
 
-  history : (es : List Event) (s u : Image) (x : Promise) → Invariant N B s x → History N B s es u → (y : Promise) × PlainRuns (capacity N B) x es y × Invariant N B u y
-  history [] s u x k e = (x, refl, rw e k)
-  history (v ∷ es) s u x k (p, w, (m, d, rest)) =
-      let a = one-event s m x (v .request) p k (v .seen) d in
-      let b = history es m u (a .0) (a .2) rest in
+  history : (es : List Event) (s u : Image) (x : Promise) → AllMay es → Invariant N B f s x → History N B s es u → (y : Promise) × PlainRuns (board N B f) x es y × Invariant N B f u y
+  history [] s u x may k e = (x, refl, rw e k)
+  history (v ∷ es) s u x may k (p, w, (m, d, rest)) =
+      let a = one-event s m x (v .request) (may .0) p k (v .seen) d in
+      let b = history es m u (a .0) (may .1) (a .2) rest in
       (b .0, (a .0, rw w (a .1), b .1), b .2)
 
-  keeps : (s : Image) (x : Promise) → Invariant N B s x → Keeps N B s x
+  keeps : (s : Image) (x : Promise) → Invariant N B f s x → Keeps N B s x
   keeps s (settled t) (z, k) = (k .clean, k .table)
   keeps s (interrupted t) (z, k) = ((λ e. subst (λ y. SoundAs N B s (segmentsOf N B s) y) e (k .sound)), laws .recover-done s z (k .sound), k .table)
   keeps s unknown k = tt
 
   -- from an image that keeps a promise
-  runs-on : (es : List Event) (s u : Image) (x : Promise) → Invariant N B s x → History N B s es u → (y : Promise) × PlainRuns (capacity N B) x es y × Keeps N B u y
-  runs-on es s u x k runs = let a = history es s u x k runs in (a .0, a .1, keeps u (a .0) (a .2))
+  runs-on : (es : List Event) (s u : Image) (x : Promise) → AllMay es → Invariant N B f s x → History N B s es u → (y : Promise) × PlainRuns (board N B f) x es y × Keeps N B u y
+  runs-on es s u x may k runs = let a = history es s u x may k runs in (a .0, a .1, keeps u (a .0) (a .2))
+
+  unformatted : (es : List Event) → NoFormat es → AllMay es
+  unformatted [] h = tt
+  unformatted (e ∷ es) h = (by-request (e .request) (h .0), unformatted es (h .1))
+    where
+      by-request : (r : Request) → OnTable r → May r
+      by-request format o = absurd o
+      by-request (put b c) o = tt
+      by-request (delete b) o = tt
+      by-request (read b) o = tt
+      by-request (readOr b g) o = tt
+      by-request recover o = tt
+
+-- on version 2 a format may come at any time
+all-may : (N B : ℕ) (laws : RequestLaws N B) (es : List Event) → AllMay N B false laws es
+all-may N B laws [] = tt
+all-may N B laws (e ∷ es) = (by-request (e .request), all-may N B laws es)
+  where
+    by-request : (r : Request) → May N B false laws r
+    by-request format = refl
+    by-request (put b c) = tt
+    by-request (delete b) = tt
+    by-request (read b) = tt
+    by-request (readOr b g) = tt
+    by-request recover = tt
+
+stores : (N B : ℕ) (f : Bool) (s : Image) → rightSize N B s ≡ true → Bytes s → Clean N B s → formerIn N B s ≡ f → Stores N B f s (tableOf N B s)
+unfolding tableOf
+stores N B f s z y k v = record { clean = k; version = v; table = λ b. refl; once = clean-distinct (clean-view N B s z k); bytes = y }
 
 pub demand2-from : ((N B : ℕ) → RequestLaws N B) → Demand2
-demand2-from laws N B s u es z runs = runs-on N B (laws N B) es s u unknown (z, tt) runs
+demand2-from laws N B s u es z runs = runs-on N B false (laws N B) es s u unknown (all-may N B (laws N B) es) (z, tt) runs
 
 pub clean-from : ((N B : ℕ) → RequestLaws N B) → FromClean
-unfolding tableOf
-clean-from laws N B s u es z y k runs =
-    runs-on N B (laws N B) es s u (settled (tableOf N B s)) (z, record { clean = k; table = λ b. refl; once = clean-distinct (clean-view N B s z k); bytes = y }) runs
+clean-from laws N B s u es z y k v runs = runs-on N B false (laws N B) es s u (settled (tableOf N B s)) (all-may N B (laws N B) es) (z, stores N B false s z y k v) runs
+
+pub former-from : ((N B : ℕ) → RequestLaws N B) → FromFormer
+former-from laws N B s u es z y k v runs none =
+    runs-on N B true (laws N B) es s u (settled (tableOf N B s)) (unformatted N B true (laws N B) es none) (z, stores N B true s z y k v) runs

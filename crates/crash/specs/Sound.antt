@@ -2,12 +2,12 @@
 use Prim.Native.Nat.{ℕ, suc, _+_, _-_, _*_, _/_, _%_, _≤_}
 use mathlib.Core.Path.{_≡_}
 use mathlib.Core.Logic.{_⊎_}
-use mathlib.Core.Bool.{true}
+use mathlib.Core.Bool.{Bool, true, false}
 use mathlib.Core.List.{List, [], _∷_, _++_}
 use lib.ListN.{getD}
 use Rattle.model.specs.Chip.{Image, Bytes, rightSize, run, Cut}
-use Rattle.model.specs.Header.{numberBytes, inverted}
-use Rattle.model.specs.State.{Segment, segmentsOf, nextNumber, caseA, caseB, caseC, caseD, State, clean, unfinished, damaged, state}
+use Rattle.model.specs.Header.{numberBytes, inverted, isFormer}
+use Rattle.model.specs.State.{Segment, segmentsOf, nextNumber, caseA, caseB, caseC, caseD, State, clean, unfinished, damaged, state, view}
 use Rattle.model.specs.Steps.{headerAt, formatSteps}
 use Rattle.model.specs.Table.{Table, lookup, without, store, Agree, contentsFound, tableOf}
 use Rattle.model.specs.Answers.{Request, put, delete, read, recover, workOf, pieceRead}
@@ -55,26 +55,33 @@ Accepted N B s r = workOf N B s r .code ≡ 0
 abbrev pub CutOf : ℕ → ℕ → Image → Request → Image → Type 0
 CutOf N B s r u = Cut B (workOf N B s r .steps) s u
 
--- a finished request: clean, with this table
-abbrev pub DoneWith : ℕ → ℕ → Image → Table → Type 0
-DoneWith N B u t = Clean N B u × Agree (tableOf N B u) t
+-- whether an image has version 1, and whether the one that a finished recovery leaves has
+abbrev pub formerIn : ℕ → ℕ → Image → Bool
+formerIn N B s = isFormer (view N B s .version)
+
+abbrev pub formerShown : ℕ → ℕ → Image → Bool
+formerShown N B s = isFormer (view N B (recovered N B s) .version)
+
+-- a finished request: clean, with this table, and version 1 or not
+abbrev pub DoneWith : ℕ → ℕ → Image → Table → Bool → Type 0
+DoneWith N B u t f = Clean N B u × Agree (tableOf N B u) t × (formerIn N B u ≡ f)
 
 -- an interrupted one: a finished recovery will show the old table or the new one
-abbrev pub LeftWith : ℕ → ℕ → Image → Table → Table → Type 0
-LeftWith N B u old new = Sound N B u × (Agree (shown N B u) old ⊎ Agree (shown N B u) new)
+abbrev pub LeftWith : ℕ → ℕ → Image → Table → Table → Bool → Type 0
+LeftWith N B u old new f = Sound N B u × (Agree (shown N B u) old ⊎ Agree (shown N B u) new) × (formerShown N B u ≡ f)
 
 -- A put wants an image of bytes: tidying copies stored contents, and what is no byte can't be programmed.
 pub record RequestLaws (N B : ℕ) : Type 0 where
-  pub format-done : (s : Image) → rightSize N B s ≡ true → Clean N B (run B (formatSteps N B) s) × (tableOf N B (run B (formatSteps N B) s) ≡ [])
+  pub format-done : (s : Image) → rightSize N B s ≡ true → Clean N B (run B (formatSteps N B) s) × (tableOf N B (run B (formatSteps N B) s) ≡ []) × (formerIn N B (run B (formatSteps N B) s) ≡ false)
   pub put-done : (s : Image) (b : ℕ) (c : List ℕ) → rightSize N B s ≡ true → Bytes s → Clean N B s → Bytes c → Accepted N B s (put b c)
-      → DoneWith N B (finished N B s (put b c)) (store b c (tableOf N B s))
+      → DoneWith N B (finished N B s (put b c)) (store b c (tableOf N B s)) (formerIn N B s)
   pub put-cut : (s u : Image) (b : ℕ) (c : List ℕ) → rightSize N B s ≡ true → Bytes s → Clean N B s → Bytes c → Accepted N B s (put b c)
-      → CutOf N B s (put b c) u → LeftWith N B u (tableOf N B s) (store b c (tableOf N B s))
+      → CutOf N B s (put b c) u → LeftWith N B u (tableOf N B s) (store b c (tableOf N B s)) (formerIn N B s)
   pub delete-done : (s : Image) (b : ℕ) → rightSize N B s ≡ true → Clean N B s → Accepted N B s (delete b)
-      → DoneWith N B (finished N B s (delete b)) (without b (tableOf N B s))
+      → DoneWith N B (finished N B s (delete b)) (without b (tableOf N B s)) (formerIn N B s)
   pub delete-cut : (s u : Image) (b : ℕ) → rightSize N B s ≡ true → Clean N B s → Accepted N B s (delete b)
-      → CutOf N B s (delete b) u → LeftWith N B u (tableOf N B s) (without b (tableOf N B s))
+      → CutOf N B s (delete b) u → LeftWith N B u (tableOf N B s) (without b (tableOf N B s)) (formerIn N B s)
   pub read-done : (s : Image) (b : ℕ) → rightSize N B s ≡ true → Clean N B s → Accepted N B s (read b)
       → pieceRead N B s b ≡ contentsFound (lookup b (tableOf N B s))
   pub recover-done : (s : Image) → rightSize N B s ≡ true → Sound N B s → Clean N B (recovered N B s)
-  pub recover-cut : (s u : Image) → rightSize N B s ≡ true → Sound N B s → CutOf N B s recover u → Sound N B u × Agree (shown N B u) (shown N B s)
+  pub recover-cut : (s u : Image) → rightSize N B s ≡ true → Sound N B s → CutOf N B s recover u → Sound N B u × Agree (shown N B u) (shown N B s) × (formerShown N B u ≡ formerShown N B s)

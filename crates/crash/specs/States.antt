@@ -1,26 +1,31 @@
 -- The state of an image by its segments. The four unfinished cases alike: each passes its test, is mended to clean segments, and shows their table.
 -- An image that is mended to the same shows the same.
-use Prim.Native.Nat.{ℕ, _-_, _≤_}
+use Prim.Native.Nat.{ℕ, _-_, _%_, _≤_, _<_}
 use mathlib.Core.Path.{_≡_, refl, sym, ap, _∙_, subst}
 use mathlib.Core.Bool.{Bool, true, false, cond, _&&_}
 use mathlib.Core.List.{List, [], _∷_}
 use native.Mathlib.Omega.{arith}
-use lib.ListN.{length, getD}
+use native.Mathlib.Nat.{mod-lt}
+use lib.ListN.{length, getD, set, length-set}
 use lib.Dec.{ltb, eqb}
 use Rattle.model.specs.Lists.{count}
 use Rattle.model.specs.Chip.{Image, rightSize, run}
-use Rattle.model.specs.Slot.{isTorn}
-use Rattle.model.specs.State.{Segment, blank, isInvalid, isOwing, segmentsOf, nextIndex, topIndex, usedCount, viewOf, entriesIn, isClean, nextBlanked, isA, topSettled, isB, lastKind, tornMarked, isC, lastBlock, copies, olderMarked, isD, Exception, caseA, caseB, caseC, caseD, State, clean, unfinished, damaged, stateOf, state, view}
+use Rattle.model.specs.Header.{isFormer}
+use Rattle.model.specs.Slot.{dead, isTorn}
+use Rattle.model.specs.State.{Segment, blank, isInvalid, isOwing, segmentsOf, nextNumber, nextIndex, topIndex, topVersion, usedCount, View, viewOf, entriesIn, isClean, nextBlanked, isA, settled, topSettled, isB, withSlot, lastSlot, lastKind, tornMarked, isC, lastBlock, copies, older, olderMarked, isD, Exception, caseA, caseB, caseC, caseD, State, clean, unfinished, damaged, stateOf, state, view}
 use Rattle.model.specs.Steps.{mendSteps, recoverSteps}
 use Rattle.model.specs.Table.{Table, Agree, tableOf}
 use Rattle.model.specs.Answers.{recover, isDamaged, firstOf, refusals, stepsFor, workOn, workOf}
 use Rattle.model.specs.Histories.{recovered, shown}
 use Rattle.model.specs.Laws.Lists.{and-right}
+use Rattle.model.specs.Laws.Chip.{size-facts}
+use Rattle.model.specs.Laws.Segments.{segments-length}
 use Rattle.model.specs.Laws.Tables.{agree-of, agree-trans}
 use Rattle.model.specs.Laws.Clean.{clean-state}
 use Rattle.model.specs.Laws.Exclusive.{exclusive}
-use Rattle.crash.specs.Sound.{SoundAs, Sound, Clean, DoneWith}
-use Rattle.crash.specs.Requests.{shown-clean, sound-clean}
+use Rattle.crash.specs.Sound.{SoundAs, Sound, Clean, formerIn, formerShown, DoneWith}
+use Rattle.crash.specs.Requests.{shown-clean, former-clean, sound-clean}
+use Rattle.crash.specs.Alike.{Like, like-entries, like-clean, like-former}
 
 -- ---- the cases
 
@@ -128,20 +133,35 @@ recovered-run N B s x z e = ap (λ y. run B y s) (recover-steps N B s x z e)
 
 -- ---- what an image will show
 
--- sound, and a finished recovery shows this table
-abbrev pub SoundWith : ℕ → ℕ → Image → Table → Type 0
-SoundWith N B u t = Sound N B u × Agree (shown N B u) t
+-- sound, and a finished recovery shows this table, with version 1 or not
+abbrev pub Shows : ℕ → ℕ → Image → Table → Bool → Type 0
+Shows N B u t f = Sound N B u × Agree (shown N B u) t × (formerShown N B u ≡ f)
+
+-- what a view holds
+abbrev pub SoundWith : ℕ → ℕ → Image → View → Type 0
+SoundWith N B u v = Shows N B u (entriesIn v) (isFormer (v .version))
 
 -- what is promised of an image that a cut recovery left
 abbrev pub Kept : ℕ → ℕ → Image → Image → Type 0
-Kept N B s u = SoundWith N B u (shown N B s)
+Kept N B s u = Shows N B u (shown N B s) (formerShown N B s)
 
 pub kept-same : (N B : ℕ) (s u : Image) → Sound N B s → u ≡ s → Kept N B s u
-kept-same N B s u h e = subst (λ (y : Image). Kept N B s y) (sym e) (h, agree-of (shown N B s) (shown N B s) refl)
+kept-same N B s u h e = subst (λ (y : Image). Kept N B s y) (sym e) (h, agree-of (shown N B s) (shown N B s) refl, refl)
+
+-- of an image that keeps what another keeps, and so on
+pub kept-trans : (N B : ℕ) (s u w : Image) → Kept N B s u → Kept N B u w → Kept N B s w
+kept-trans N B s u w a b = (b .0, agree-trans (shown N B w) (shown N B u) (shown N B s) (b .1) (a .1), b .2 ∙ a .2)
+
+pub kept-shows : (N B : ℕ) (s u : Image) (t : Table) (f : Bool) → Shows N B s t f → Kept N B s u → Shows N B u t f
+kept-shows N B s u t f a b = (b .0, agree-trans (shown N B u) (shown N B s) t (b .1) (a .1), b .2 ∙ a .2)
 
 -- a clean image with this table shows it
-pub clean-shows : (N B : ℕ) (u : Image) (t : Table) → DoneWith N B u t → SoundWith N B u t
-clean-shows N B u t d = (sound-clean N B u (d .0), agree-trans (shown N B u) (tableOf N B u) t (agree-of (shown N B u) (tableOf N B u) (shown-clean N B u (d .0))) (d .1))
+pub clean-shows : (N B : ℕ) (u : Image) (t : Table) (f : Bool) → DoneWith N B u t f → Shows N B u t f
+clean-shows N B u t f d = (
+  sound-clean N B u (d .0),
+  agree-trans (shown N B u) (tableOf N B u) t (agree-of (shown N B u) (tableOf N B u) (shown-clean N B u (d .0))) (d .1),
+  former-clean N B u (d .0) ∙ d .2,
+)
 
 -- the state and the table are those of the segments
 pub segments-state : (N B : ℕ) (s u : Image) (x : State) → segmentsOf N B u ≡ segmentsOf N B s → state N B s ≡ x → state N B u ≡ x
@@ -152,41 +172,72 @@ pub table-in : (N B : ℕ) (s : Image) (l : List Segment) → segmentsOf N B s �
 unfolding tableOf view
 table-in N B s l e = ap (λ (y : List Segment). entriesIn (viewOf N y)) e
 
+pub former-in : (N B : ℕ) (s : Image) (l : List Segment) → segmentsOf N B s ≡ l → formerIn N B s ≡ isFormer (topVersion N l)
+unfolding view viewOf
+former-in N B s l e = ap (λ (y : List Segment). isFormer (topVersion N y)) e
+
 -- an image with the segments of a clean one is clean, with its table
-pub segments-show : (N B : ℕ) (s u : Image) → Clean N B s → segmentsOf N B u ≡ segmentsOf N B s → SoundWith N B u (tableOf N B s)
-segments-show N B s u h e = clean-shows N B u (tableOf N B s)
-    (segments-state N B s u clean e h, agree-of (tableOf N B u) (tableOf N B s) (table-in N B u (segmentsOf N B s) e ∙ sym (table-in N B s (segmentsOf N B s) refl)))
+pub segments-show : (N B : ℕ) (s u : Image) → Clean N B s → segmentsOf N B u ≡ segmentsOf N B s → Shows N B u (tableOf N B s) (formerIn N B s)
+segments-show N B s u h e = clean-shows N B u (tableOf N B s) (formerIn N B s) (
+  segments-state N B s u clean e h,
+  agree-of (tableOf N B u) (tableOf N B s) (table-in N B u (segmentsOf N B s) e ∙ sym (table-in N B s (segmentsOf N B s) refl)),
+  former-in N B u (segmentsOf N B s) e ∙ sym (former-in N B s (segmentsOf N B s) refl),
+)
 
--- an image has been recovered to the mended segments of the case
+-- an image has been recovered to the mended segments of the case, but for what was counted in the top
 abbrev pub Mended : ℕ → ℕ → Image → Exception → Type 0
-Mended N B s x = segmentsOf N B (recovered N B s) ≡ mended N (segmentsOf N B s) x
+Mended N B s x = Like N (mended N (segmentsOf N B s) x) (segmentsOf N B (recovered N B s))
 
-module _ (N B : ℕ) (s : Image) (x : Exception) (e : state N B s ≡ unfinished x) (m : Mended N B s x) where
-  pub mended-state : stateOf N B (mended N (segmentsOf N B s) x) ≡ clean
-  unfolding state
-  mended-state = clean-state N B (mended N (segmentsOf N B s) x) (mended-clean N B (segmentsOf N B s) x (case-of N B (segmentsOf N B s) x e))
+mended-length : (N : ℕ) (l : List Segment) (x : Exception) → length (mended N l x) ≡ length l
+unfolding mended nextBlanked topSettled tornMarked olderMarked
+mended-length N l caseA = length-set l (nextIndex N l) blank
+mended-length N l caseB = length-set (set l (nextIndex N l) blank) (topIndex N l) (settled (getD l (topIndex N l) blank)) ∙ length-set l (nextIndex N l) blank
+mended-length N l caseC = length-set l (topIndex N l) (withSlot (lastSlot N l) dead (getD l (topIndex N l) blank))
+mended-length N l caseD = let i = older N l .number % N in length-set l i (withSlot (older N l .slot) dead (getD l i blank))
+
+pub mended-inside : (N B : ℕ) (s : Image) (x : Exception) → rightSize N B s ≡ true → topIndex N (mended N (segmentsOf N B s) x) < length (mended N (segmentsOf N B s) x)
+unfolding topIndex
+mended-inside N B s x z =
+    let m = mended N (segmentsOf N B s) x in
+    let p : 0 < N = omega (arith, size-facts N B s z .two) in
+    omega (arith, mod-lt (nextNumber m - 1) p, mended-length N (segmentsOf N B s) x, segments-length N B s)
+
+module _ (N B : ℕ) (s : Image) (x : Exception) (z : rightSize N B s ≡ true) (e : state N B s ≡ unfinished x) (m : Mended N B s x) where
+  abbrev mends : List Segment
+  mends = mended N (segmentsOf N B s) x
+
+  inside : topIndex N mends < length mends
+  inside = mended-inside N B s x z
 
   pub mended-shown : shown N B s ≡ entriesIn (viewOf N (mended N (segmentsOf N B s) x))
   unfolding shown
-  mended-shown = table-in N B (recovered N B s) (mended N (segmentsOf N B s) x) m
+  mended-shown = table-in N B (recovered N B s) (segmentsOf N B (recovered N B s)) refl ∙ like-entries N mends (segmentsOf N B (recovered N B s)) m inside
+
+  pub mended-former : formerShown N B s ≡ isFormer (topVersion N (mended N (segmentsOf N B s) x))
+  mended-former = former-in N B (recovered N B s) (segmentsOf N B (recovered N B s)) refl ∙ like-former N mends (segmentsOf N B (recovered N B s)) m inside
 
   -- an image with the mended segments is clean, and shows the same
-  pub kept-clean : (u : Image) → segmentsOf N B u ≡ mended N (segmentsOf N B s) x → Kept N B s u
+  clean-like : (u : Image) → Like N (mended N (segmentsOf N B s) x) (segmentsOf N B u) → Clean N B u
   unfolding state
-  kept-clean u q =
-      clean-shows N B u (shown N B s) (
-        ap (λ (y : List Segment). stateOf N B y) q ∙ mended-state,
-        agree-of (tableOf N B u) (shown N B s) (table-in N B u (mended N (segmentsOf N B s) x) q ∙ sym mended-shown),
-      )
+  clean-like u q = clean-state N B (segmentsOf N B u) (like-clean N mends (segmentsOf N B u) q inside B ∙ mended-clean N B (segmentsOf N B s) x (case-of N B (segmentsOf N B s) x e))
+
+  pub kept-clean : (u : Image) → Like N (mended N (segmentsOf N B s) x) (segmentsOf N B u) → Kept N B s u
+  kept-clean u q = clean-shows N B u (shown N B s) (formerShown N B s) (
+    clean-like u q,
+    agree-of (tableOf N B u) (shown N B s) (table-in N B u (segmentsOf N B u) refl ∙ (like-entries N mends (segmentsOf N B u) q inside ∙ sym mended-shown)),
+    former-in N B u (segmentsOf N B u) refl ∙ (like-former N mends (segmentsOf N B u) q inside ∙ sym mended-former),
+  )
 
   pub done : Clean N B (recovered N B s)
-  unfolding state
-  done = ap (λ (y : List Segment). stateOf N B y) m ∙ mended-state
+  done = clean-like (recovered N B s) m
 
--- an image in the same case with the same mended segments shows the same
-pub kept-case : (N B : ℕ) (s u : Image) (x : Exception) → state N B s ≡ unfinished x → Mended N B s x → state N B u ≡ unfinished x → Mended N B u x
-    → mended N (segmentsOf N B u) x ≡ mended N (segmentsOf N B s) x → SoundAs N B u (segmentsOf N B u) (unfinished x) → Kept N B s u
-kept-case N B s u x e m f n q h = (
-  subst (λ y. SoundAs N B u (segmentsOf N B u) y) (sym f) h,
-  agree-of (shown N B u) (shown N B s) (mended-shown N B u x f n ∙ (ap (λ y. entriesIn (viewOf N y)) q ∙ sym (mended-shown N B s x e m))),
-)
+-- an image in the same case with the same mended segments, but for what was counted, shows the same
+pub kept-case : (N B : ℕ) (s u : Image) (x : Exception) → rightSize N B s ≡ true → rightSize N B u ≡ true → state N B s ≡ unfinished x → Mended N B s x → state N B u ≡ unfinished x → Mended N B u x
+    → Like N (mended N (segmentsOf N B s) x) (mended N (segmentsOf N B u) x) → SoundAs N B u (segmentsOf N B u) (unfinished x) → Kept N B s u
+kept-case N B s u x z zu e m f n q h =
+    let ms = mended N (segmentsOf N B s) x in
+    let mu = mended N (segmentsOf N B u) x in (
+      subst (λ y. SoundAs N B u (segmentsOf N B u) y) (sym f) h,
+      agree-of (shown N B u) (shown N B s) (mended-shown N B u x zu f n ∙ (like-entries N ms mu q (mended-inside N B s x z) ∙ sym (mended-shown N B s x z e m))),
+      mended-former N B u x zu f n ∙ (like-former N ms mu q (mended-inside N B s x z) ∙ sym (mended-former N B s x z e m)),
+    )

@@ -180,7 +180,7 @@ module _ (e : Version) where
   withVersion-number invalid = refl
   withVersion-number (inUse ver st n ks) = refl
 
-  withVersion-use : (x : Segment) → isInUse (withVersion e x) ≡ isInUse x
+  pub withVersion-use : (x : Segment) → isInUse (withVersion e x) ≡ isInUse x
   unfolding withVersion isInUse
   withVersion-use blank = refl
   withVersion-use invalid = refl
