@@ -1,6 +1,6 @@
 -- Accepted puts and deletes, done whole: a clean image with the predicted view.
 use Prim.Native.Nat.{ℕ, zero, suc, _+_, _-_, _%_, _≤_, _<_}
-use mathlib.Core.Path.{_≡_, refl, _∙_, subst}
+use mathlib.Core.Path.{_≡_, refl, sym, _∙_, subst}
 use mathlib.Core.Bool.{Bool, true, false, cond}
 use mathlib.Core.List.{List, [], _∷_, _++_}
 use native.Mathlib.Omega.{arith}
@@ -22,7 +22,7 @@ use Rattle.model.specs.Laws.Bytes.{run-bytes}
 use Rattle.model.specs.Laws.SlotPage.{Valid}
 use Rattle.model.specs.Laws.Effects.{numbered-at}
 use Rattle.model.specs.Laws.Clean.{numbered}
-use Rattle.bridge.specs.Predicted.{written, marked, putInto, afterPut, afterDelete, CleanView, Carries, Rows}
+use Rattle.bridge.specs.Predicted.{slotChanged, written, marked, putInto, afterPut, afterDelete, CleanView, Carries, Rows}
 use Rattle.bridge.specs.Views.Slots.{same-rows, slots-counted, sound}
 use Rattle.bridge.specs.Views.Places.{in-view, TopGap, written-place, written-holds}
 use Rattle.bridge.specs.Views.Shape.{clean-shape, shape-gap, first-live-in, opened-top}
@@ -139,6 +139,36 @@ compactions-held N B (suc k) s v h bs c full carries below =
         rw (until-more N B k v e, run-append B xs (compactUntilRoom N B k (compactOldest N B v .result) .steps) s)
         (ih (run B xs s) (one-compaction N B s v h bs c full carries low) (run-bytes B xs s bs) (t .clean) (compacted-rows N B v (c .some) ∙ full) bl2)
 
+until-former : (N B k : ℕ) (v : View) → isFormer (v .version) ≡ false → isFormer (compactUntilRoom N B k v .result .version) ≡ false
+unfolding compactUntilRoom
+until-former N B zero v e = e
+until-former N B (suc k) v e = go (hasRoom v) (until-former N B k (compactOldest N B v .result) (unfold compactOldest nextVersion newVersion isFormer in refl))
+  where
+    w : Room
+    w = compactUntilRoom N B k (compactOldest N B v .result)
+
+    go : (t : Bool) → isFormer (w .result .version) ≡ false
+        → isFormer ((cond {A = Room} t (record { steps = []; result = v }) (record { steps = compactOldest N B v .steps ++ w .steps; result = w .result })) .result .version) ≡ false
+    go true h = e
+    go false h = h
+
+-- new headers have version 2
+room-former : (N B : ℕ) (v : View) → isFormer (v .version) ≡ false → isFormer (roomFor N B v .result .version) ≡ isFormer (v .version)
+unfolding roomFor
+room-former N B v e = go (hasRoom v) (ltb (length (v .slots)) (N - 1)) ∙ sym e
+  where
+    go : (t u : Bool) → isFormer ((cond {A = Room} t (record { steps = []; result = v }) (cond u (openNext N B v) (compactUntilRoom N B (N - 1) v))) .result .version) ≡ false
+    go true u = e
+    go false true = unfold openNext nextVersion newVersion isFormer in refl
+    go false false = until-former N B (N - 1) v e
+
+pub put-version : (b : ℕ) (c : List ℕ) (v : View) → isFormer (putInto b c v .version) ≡ isFormer (v .version)
+put-version b c v = go (holds b (entriesIn v))
+  where
+    go : (t : Bool) → isFormer ((cond {A = View} t (marked (placeOf b v) (written b c v)) (written b c v)) .version) ≡ isFormer (v .version)
+    go true = unfold written marked slotChanged in refl
+    go false = unfold written slotChanged in refl
+
 pub room-held : (N B : ℕ) (s : Image) (v : View) → Held N B s v → Bytes s → CleanView N B v → (hasRoom v ≡ false → Carries v) → topNumber (roomFor N B v .result) < numberLimit N
     → Held N B (run B (roomFor N B v .steps) s) (roomFor N B v .result)
 unfolding roomFor
@@ -213,6 +243,14 @@ module _ (N B : ℕ) (s : Image) (z : rightSize N B s ≡ true) (cl : state N B 
 
     pub roomed-table : Agree (entriesIn (roomFor N B (view N B s) .result)) (entriesIn (view N B s))
     roomed-table = made .table
+
+    -- it is of version 2 as before
+    pub roomed-former : isFormer (roomFor N B (view N B s) .result .version) ≡ isFormer (view N B s .version)
+    roomed-former = room-former N B v (passes .second)
+
+    pub after-former : isFormer (afterPut N B b c (view N B s) .version) ≡ isFormer (view N B s .version)
+    unfolding afterPut
+    after-former = put-version b c r ∙ roomed-former
 
     pub after-clean : CleanView N B (afterPut N B b c (view N B s))
     after-clean = put-keeps-clean N B two slots v b c cv (passes .fit)

@@ -12,7 +12,7 @@ use lib.Dec.{eqb}
 use Rattle.model.specs.Header.{compacted, Version, version1, version2, isFormer, versionNumber}
 use Rattle.model.specs.State.{Segment, blank, invalid, inUse, isInUse, isInvalid, isOwing, numberAfter, versionIn, nextNumber, topIndex, nextIndex, topVersion, usedCount, viewOf, entriesIn, isClean, nextBlanked, isA, settled, topSettled, isB}
 use Rattle.model.specs.Laws.Lists.{and-left, and-right, and-both, mod-inj}
-use Rattle.model.specs.Laws.Ring.{next-kept, used-kept, get-kept}
+use Rattle.model.specs.Laws.Ring.{next-kept, used-kept}
 use Rattle.model.specs.Laws.Counted.{withVersion, withVersion-number, withVersion-use, withVersion-owing, alike-next, alike-entries, alike-clean}
 
 pub record Like (N : ℕ) (l m : List Segment) : Type 0 where
@@ -55,6 +55,10 @@ settled-with e (inUse ver st n ks) = refl
 
 pub index-apart : (N n : ℕ) → 2 ≤ N → 0 < n → (n - 1) % N ≢ n % N
 index-apart N n h k e = let q : n - 1 ≡ n = mod-inj N (n - 1) n (omega arith) (omega arith) e in omega arith
+
+like-used : (N : ℕ) (l m : List Segment) (h : Like N l m) → topIndex N l < length l → usedCount m ≡ usedCount l
+like-used N l m h inside = let x = getD l (topIndex N l) blank in
+    ap usedCount (h .segments) ∙ used-kept l (topIndex N l) (withVersion (h .version) x) inside (withVersion-use (h .version) x)
 
 module _ (N : ℕ) (l m : List Segment) (h : Like N l m) (inside : topIndex N l < length l) where
   abbrev top : ℕ
@@ -186,9 +190,7 @@ module _ (N : ℕ) (l m : List Segment) (h : Like N l m) (inside : topIndex N l 
       settled-inside = rw settled-index (omega (arith, settled-length, blanked-inside))
 
       pub like-settled-used : usedCount (topSettled N m) ≡ usedCount (topSettled N l)
-      like-settled-used = ap usedCount (like-settled .segments)
-          ∙ used-kept (topSettled N l) (topIndex N (topSettled N l)) (withVersion (h .version) (getD (topSettled N l) (topIndex N (topSettled N l)) blank))
-          settled-inside (withVersion-use (h .version) (getD (topSettled N l) (topIndex N (topSettled N l)) blank))
+      like-settled-used = like-used N (topSettled N l) (topSettled N m) like-settled settled-inside
 
 -- ---- the cases that a recovery counts in
 

@@ -6,26 +6,31 @@ use mathlib.Core.Bool.{true}
 use mathlib.Core.List.{List}
 use lib.ListN.{getD}
 use Rattle.model.specs.Chip.{Image, Step, rightSize, run}
+use Rattle.model.specs.Header.{isFormer}
 use Rattle.model.specs.Slot.{empty}
-use Rattle.model.specs.State.{blank, segmentsOf, slotsIn, placeOf, view}
+use Rattle.model.specs.State.{blank, segmentsOf, slotsIn, View, placeOf, view}
 use Rattle.model.specs.Steps.{markPlace, deleteSteps}
 use Rattle.model.specs.Table.{without, tableOf}
 use Rattle.model.specs.Answers.{delete, stepsFor, workOf}
 use Rattle.model.specs.Laws.Tables.{agree-of}
 use Rattle.bridge.specs.Views.Requests.{delete-removes}
+use Rattle.bridge.specs.Predicted.{slotChanged, marked, afterDelete}
 use Rattle.bridge.specs.Held.{clean-view}
 use Rattle.bridge.specs.Accepted.{accepted, delete-passed}
 use Rattle.bridge.specs.Requests.{delete-done}
-use Rattle.crash.specs.Sound.{Clean, finished, Accepted, CutOf, DoneWith, LeftWith}
+use Rattle.crash.specs.Sound.{Clean, finished, Accepted, CutOf, formerIn, DoneWith, LeftWith}
 use Rattle.crash.specs.States.{clean-shows}
 use Rattle.crash.specs.RecoverMarks.{Marks, live-place, live-marks, mark-whole}
 
 module _ (N B : ℕ) (s : Image) (b : ℕ) (z : rightSize N B s ≡ true) (h : Clean N B s) (a : Accepted N B s (delete b)) where
-  pub finished-delete : DoneWith N B (finished N B s (delete b)) (without b (tableOf N B s))
+  pub finished-delete : DoneWith N B (finished N B s (delete b)) (without b (tableOf N B s)) (formerIn N B s)
   unfolding tableOf
   finished-delete =
       let d = delete-done N B s z h b a in
-      (d .0, rw (d .1) (delete-removes N B (view N B s) b (clean-view N B s z h) (delete-passed N B s b (accepted N B s (delete b) a .1))))
+      (d .0, rw (d .1) (delete-removes N B (view N B s) b (clean-view N B s z h) (delete-passed N B s b (accepted N B s (delete b) a .1))), ap (λ (y : View). isFormer (y .version)) (d .1) ∙ version)
+    where
+      version : isFormer (afterDelete b (view N B s) .version) ≡ isFormer (view N B s .version)
+      version = unfold afterDelete marked slotChanged in refl
 
   steps : workOf N B s (delete b) .steps ≡ markPlace N B (placeOf b (view N B s))
   unfolding stepsFor deleteSteps view
@@ -35,11 +40,11 @@ module _ (N B : ℕ) (s : Image) (b : ℕ) (z : rightSize N B s ≡ true) (h : C
   unfolding view
   marks = live-marks (live-place N (segmentsOf N B s) b (delete-passed N B s b (accepted N B s (delete b) a .1)))
 
-  pub delete-cut : (u : Image) → CutOf N B s (delete b) u → LeftWith N B u (tableOf N B s) (without b (tableOf N B s))
+  pub delete-cut : (u : Image) → CutOf N B s (delete b) u → LeftWith N B u (tableOf N B s) (without b (tableOf N B s)) (formerIn N B s)
   delete-cut u c = ⊎-elim
-      (λ q. subst Left (sym q) (let d = clean-shows N B s (tableOf N B s) (h, agree-of (tableOf N B s) (tableOf N B s) refl) in (d .0, inl (d .1))))
-      (λ q. subst Left (sym (q ∙ ap (λ (y : List Step). run B y s) (sym steps))) (let d = clean-shows N B (finished N B s (delete b)) (without b (tableOf N B s)) finished-delete in (d .0, inr (d .1))))
+      (λ q. subst Left (sym q) (let d = clean-shows N B s (tableOf N B s) (formerIn N B s) (h, agree-of (tableOf N B s) (tableOf N B s) refl, refl) in (d .0, inl (d .1), d .2)))
+      (λ q. subst Left (sym (q ∙ ap (λ (y : List Step). run B y s) (sym steps))) (let d = clean-shows N B (finished N B s (delete b)) (without b (tableOf N B s)) (formerIn N B s) finished-delete in (d .0, inr (d .1), d .2)))
       (mark-whole N B s z (placeOf b (view N B s) .number) (placeOf b (view N B s) .slot) marks u (rw steps at c))
     where
       Left : Image → Type 0
-      Left y = LeftWith N B y (tableOf N B s) (without b (tableOf N B s))
+      Left y = LeftWith N B y (tableOf N B s) (without b (tableOf N B s)) (formerIn N B s)

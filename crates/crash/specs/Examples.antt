@@ -6,14 +6,14 @@ use mathlib.Core.List.{List, [], _∷_, _++_}
 use native.Mathlib.Omega.{arith}
 use lib.ListN.{replicate}
 use Rattle.model.specs.Chip.{Image, rightSize, pagesOf, withSegment, step, run}
-use Rattle.model.specs.State.{segmentsOf, view, capacity}
+use Rattle.model.specs.State.{segmentsOf, view}
 use Rattle.model.specs.Answers.{Request, format, put, read, recover, workOf, outcomeOf, contentsAt, readOutcome, pieceRead}
 use Rattle.model.specs.Histories.{bytesRead, replyOf, answered, Proper, wears, Event, History}
 use Rattle.model.specs.Sequences.{Call, play}
 use Rattle.model.specs.Bench.{call, whole}
 use Rattle.model.specs.Laws.Bench.{evaluate}
 use Rattle.crash.specs.Machine.{Promise, unknown, PlainRuns}
-use Rattle.crash.specs.Demand2.{Keeps}
+use Rattle.crash.specs.Demand2.{Keeps, second}
 use Rattle.crash.specs.Theorem.{demand2}
 
 -- ---- the history of some calls
@@ -64,7 +64,7 @@ left vs v k = play 2 2 zeros (calls vs v k)
 
 -- the store shows this, and so it is a history of the plain table
 abbrev pub Instance : List ℕ → ℕ → ℕ → ℕ → Type 0
-Instance vs v k c = History 2 2 zeros (told vs v c) (left vs v k) × ((x : Promise) × PlainRuns (capacity 2 2) unknown (told vs v c) x × Keeps 2 2 (left vs v k) x)
+Instance vs v k c = History 2 2 zeros (told vs v c) (left vs v k) × ((x : Promise) × PlainRuns (second 2 2) unknown (told vs v c) x × Keeps 2 2 (left vs v k) x)
 
 right-size : rightSize 2 2 zeros ≡ true
 unfolding evaluate rightSize
@@ -97,16 +97,16 @@ pub second-cut-6 : Instance (1 ∷ []) 2 6 2
 unfolding evaluateHistory
 second-cut-6 = instance (1 ∷ []) 2 6 2 (two-puts 6) refl
 
--- 8: the third put cut after 23 steps, before the owing mark; after 24, at it; after 25, with the old segment erased. The second put's contents stand
+-- 8: the third put cut after 27 steps, before the owing mark; after 28, at it; after 29, with the old segment erased. The second put's contents stand
 
-pub third-cut-23 : Instance (1 ∷ 2 ∷ []) 3 23 2
+pub third-cut-27 : Instance (1 ∷ 2 ∷ []) 3 27 2
 unfolding evaluateHistory
-third-cut-23 = instance (1 ∷ 2 ∷ []) 3 23 2 (three-puts 23) refl
+third-cut-27 = instance (1 ∷ 2 ∷ []) 3 27 2 (three-puts 27) refl
 
-pub third-cut-24 : Instance (1 ∷ 2 ∷ []) 3 24 2
+pub third-cut-28 : Instance (1 ∷ 2 ∷ []) 3 28 2
 unfolding evaluateHistory
-third-cut-24 = instance (1 ∷ 2 ∷ []) 3 24 2 (three-puts 24) refl
+third-cut-28 = instance (1 ∷ 2 ∷ []) 3 28 2 (three-puts 28) refl
 
-pub third-cut-25 : Instance (1 ∷ 2 ∷ []) 3 25 2
+pub third-cut-29 : Instance (1 ∷ 2 ∷ []) 3 29 2
 unfolding evaluateHistory
-third-cut-25 = instance (1 ∷ 2 ∷ []) 3 25 2 (three-puts 25) refl
+third-cut-29 = instance (1 ∷ 2 ∷ []) 3 29 2 (three-puts 29) refl

@@ -11,6 +11,7 @@ pub mod Skeleton
 pub mod Alike
 pub mod States
 pub mod RecoverMarks
+pub mod RecoverCount
 pub mod RecoverErase
 pub mod RecoverOwing
 pub mod Recover

@@ -4,7 +4,8 @@ use mathlib.Core.Path.{_≡_, refl, sym, ap, _∙_, subst}
 use mathlib.Core.Bool.{true}
 use mathlib.Core.List.{List}
 use Rattle.model.specs.Chip.{Image, rightSize}
-use Rattle.model.specs.State.{Segment, segmentsOf, viewOf, entriesIn, Exception, caseA, caseB, caseC, caseD, State, clean, unfinished, damaged, state}
+use Rattle.model.specs.Header.{isFormer}
+use Rattle.model.specs.State.{Segment, segmentsOf, topVersion, viewOf, entriesIn, Exception, caseA, caseB, caseC, caseD, State, clean, unfinished, damaged, state}
 use Rattle.model.specs.Steps.{mendSteps}
 use Rattle.model.specs.Answers.{recover, workOf}
 use Rattle.model.specs.Histories.{recovered, shown}
@@ -13,7 +14,7 @@ use Rattle.model.specs.Laws.Segments.{segments-length}
 use Rattle.bridge.specs.Accepted.{recover-none}
 use Rattle.crash.specs.Sound.{SoundAs, Sound, Clean, CutOf}
 use Rattle.crash.specs.Requests.{recovered-clean, idle-cut}
-use Rattle.crash.specs.States.{isCase, mended, state-case, recover-steps, SoundWith, Kept, kept-same, Mended, mended-shown, done}
+use Rattle.crash.specs.States.{isCase, mended, state-case, recover-steps, SoundWith, Kept, kept-same, Mended, mended-shown, mended-former, done}
 use Rattle.crash.specs.RecoverMarks.{mended-c, mended-d, cut-c, cut-d}
 use Rattle.crash.specs.RecoverErase.{mended-a, cut-a}
 use Rattle.crash.specs.RecoverOwing.{mended-b, cut-b}
@@ -27,25 +28,28 @@ recovery-mends N B s z caseD e = mended-d N B s z e
 
 -- an image that passes the test of a case is in that state, and shows the table of its mended segments
 module _ (N B : ℕ) (u : Image) (x : Exception) (z : rightSize N B u ≡ true) (h : isCase N B (segmentsOf N B u) x ≡ true) where
-  case-state : state N B u ≡ unfinished x
+  pub case-state : state N B u ≡ unfinished x
   unfolding state
   case-state = state-case N B (segmentsOf N B u) x (segments-length N B u) h
 
   pub case-steps : workOf N B u recover .steps ≡ mendSteps N B (segmentsOf N B u) x
   case-steps = recover-steps N B u x z case-state
 
-  pub case-shows : (m : List Segment) → mended N (segmentsOf N B u) x ≡ m → SoundAs N B u (segmentsOf N B u) (unfinished x) → SoundWith N B u (entriesIn (viewOf N m))
-  case-shows m e k = (
-    subst (λ y. SoundAs N B u (segmentsOf N B u) y) (sym case-state) k,
-    agree-of (shown N B u) (entriesIn (viewOf N m)) (mended-shown N B u x case-state (recovery-mends N B u z x case-state) ∙ ap (λ y. entriesIn (viewOf N y)) e),
-  )
+  pub case-shows : (m : List Segment) → mended N (segmentsOf N B u) x ≡ m → SoundAs N B u (segmentsOf N B u) (unfinished x) → SoundWith N B u (viewOf N m)
+  case-shows m e k =
+      let r = recovery-mends N B u z x case-state in
+      let version : isFormer (topVersion N m) ≡ isFormer (viewOf N m .version) = (unfold viewOf in refl) in (
+        subst (λ y. SoundAs N B u (segmentsOf N B u) y) (sym case-state) k,
+        agree-of (shown N B u) (entriesIn (viewOf N m)) (mended-shown N B u x z case-state r ∙ ap (λ y. entriesIn (viewOf N y)) e),
+        mended-former N B u x z case-state r ∙ (ap (λ y. isFormer (topVersion N y)) e ∙ version),
+      )
 
 pub recover-done : (N B : ℕ) (s : Image) → rightSize N B s ≡ true → Sound N B s → Clean N B (recovered N B s)
 recover-done N B s z h = go (state N B s) refl h
   where
     go : (x : State) → state N B s ≡ x → SoundAs N B s (segmentsOf N B s) x → Clean N B (recovered N B s)
     go clean e k = subst (λ (y : Image). Clean N B y) (sym (recovered-clean N B s e)) e
-    go (unfinished x) e k = done N B s x e (recovery-mends N B s z x e)
+    go (unfinished x) e k = done N B s x z e (recovery-mends N B s z x e)
     go damaged e k = absurd k
 
 pub recover-cut : (N B : ℕ) (s u : Image) → rightSize N B s ≡ true → Sound N B s → CutOf N B s recover u → Kept N B s u

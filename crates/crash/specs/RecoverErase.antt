@@ -1,26 +1,31 @@
 -- An erase that is cut inside: it changes one segment only, and bits of that only rise. With it the recovery of (a), whole and cut.
-use Prim.Native.Nat.{ℕ, _+_, _*_, _/_, _%_, _<_}
+use Prim.Native.Nat.{ℕ, suc, _+_, _-_, _*_, _/_, _%_, _≤_, _<_}
 use mathlib.Core.Path.{_≡_, refl, sym, ap, _∙_, subst}
 use mathlib.Core.Logic.{_⊎_, inl, inr, ⊎-elim}
 use mathlib.Core.Bool.{Bool, true, false, cond, false≢true}
 use mathlib.Core.List.{List, [], _∷_, _++_}
 use native.Mathlib.Omega.{arith}
-use lib.ListN.{length, getD, take, drop, set, List·getD-append}
+use lib.ListN.{length, getD, take, drop, set, length-set, List·getD-append}
 use lib.Seq.{set-getD, getD-take, getD-drop, getD-append-add, length-take-le}
 use Rattle.model.specs.Lists.{chunk}
 use Rattle.model.specs.Chip.{Image, Page, erase, clear, withSegment, segmentBytes, run, imageLength, rightSize, Raised, Cut}
 use Rattle.model.specs.Header.{allBlank}
-use Rattle.model.specs.State.{Segment, blank, invalid, inUse, segmentOf, segmentsOf, isInvalid, nextNumber, nextIndex, isClean, nextBlanked, isA, caseA, unfinished, stateOf, state}
-use Rattle.model.specs.Steps.{headerAt, mendSteps}
-use Rattle.model.specs.Answers.{recover, workOf}
-use Rattle.model.specs.Laws.Lists.{and-left}
-use Rattle.model.specs.Laws.Chip.{size-facts, raised-length, cut-size}
+use Rattle.model.specs.State.{Segment, blank, invalid, inUse, segmentOf, segmentsOf, isInvalid, numberAfter, nextNumber, topIndex, nextIndex, isClean, nextBlanked, isA, caseA, unfinished, stateOf, state}
+use Rattle.model.specs.Steps.{headerAt, eraseNext, mendSteps}
+use Rattle.model.specs.Answers.{recover}
+use Rattle.model.specs.Histories.{recovered}
+use Rattle.model.specs.Laws.Lists.{and-left, and-right}
+use Rattle.model.specs.Laws.Chip.{size-facts, raised-length, run-size, run-append, whole-cut, cut-append, cut-size}
 use Rattle.model.specs.Laws.Bytes.{raised-get, bit-6-kept}
 use Rattle.model.specs.Laws.HeaderPage.{bit-6-unused}
-use Rattle.model.specs.Laws.Segments.{partOf, only-part, only-segments, replaced-parts, page-byte, segment-fits, segment-bytes-length}
+use Rattle.model.specs.Laws.Segments.{partOf, Only, only-part, only-segments, replaced-parts, segment-fits, segment-bytes-length, segments-length}
 use Rattle.model.specs.Laws.Effects.{index, erase-effect}
+use Rattle.model.specs.Laws.Ring.{next-kept}
+use Rattle.model.specs.Laws.Clean.{clean-ring, used-next}
 use Rattle.crash.specs.Sound.{SoundAs, Sound, CutOf}
-use Rattle.crash.specs.States.{isCase, mended, case-of, recover-steps, recovered-run, Kept, kept-same, Mended, kept-clean, kept-case}
+use Rattle.crash.specs.Alike.{Like, like-of, index-apart, like-next, like-blanked, like-a}
+use Rattle.crash.specs.RecoverCount.{header-byte, other-byte, counts, counted-like}
+use Rattle.crash.specs.States.{isCase, mended, case-of, state-case, recover-steps, recovered-run, Kept, kept-same, kept-trans, Mended, kept-clean, kept-case}
 
 -- ---- a segment's bytes replaced, and an erase cut inside
 
@@ -46,10 +51,6 @@ module _ (N B i : ℕ) (h : i < N) (s : Image) (z : length s ≡ imageLength N B
       where
         old : getD (segmentBytes B i s) k 0 ≡ getD s (i * (B + 1) * 256 + k) 0
         old = unfold segmentBytes in (getD-take ((B + 1) * 256) (drop (i * (B + 1) * 256) s) k 0 (omega arith) ∙ getD-drop (i * (B + 1) * 256) s k 0)
-
--- byte k of the header page of segment i
-pub header-byte : (N B i k : ℕ) (s : Image) → i < N → k < 256 → getD (getD (partOf N B i s) 0 []) k 0 ≡ getD s (i * (B + 1) * 256 + k) 0
-header-byte N B i k s h l = let e : i * (B + 1) + 0 ≡ i * (B + 1) = omega arith in rw e at (page-byte N B i 0 k s h (omega arith) l)
 
 -- with bit 6 of its status set, a segment is blank or invalid
 unused-segment : (N B i : ℕ) (ps : List Page) → getD (getD ps 0 []) 5 0 / 64 % 2 ≡ 1 → (segmentOf N B i ps ≡ blank) ⊎ (segmentOf N B i ps ≡ invalid)
@@ -83,23 +84,77 @@ module _ (N B : ℕ) (s : Image) (z : rightSize N B s ≡ true) (e : state N B s
       is-invalid : (x : Segment) → isInvalid x ≡ true → x ≡ invalid
       is-invalid blank q = absurd (false≢true (unfold isInvalid in q))
       is-invalid invalid q = refl
-      is-invalid (inUse st n ks) q = absurd (false≢true (unfold isInvalid in q))
+      is-invalid (inUse ver st n ks) q = absurd (false≢true (unfold isInvalid in q))
 
-  steps-a : mendSteps N B l caseA ≡ erase i ∷ []
-  unfolding mendSteps nextIndex
+  blanked-same : nextNumber (nextBlanked N l) ≡ nextNumber l
+  unfolding nextBlanked nextIndex numberAfter
+  blanked-same = next-kept l i blank (ap numberAfter (sym torn-segment))
+
+  -- there is a top: a clean image has one
+  some : 0 < nextNumber l
+  unfolding state isCase isA
+  some =
+      let c = and-right (isInvalid (getD l (nextIndex N l) blank)) (isClean N B (nextBlanked N l)) (case-of N B l caseA e) in
+      let r = clean-ring N B (nextBlanked N l) (unfold nextBlanked in (length-set l (nextIndex N l) blank ∙ segments-length N B s)) c in
+      omega (arith, r .some, used-next N (nextBlanked N l) r, blanked-same)
+
+  steps-a : mendSteps N B l caseA ≡ counts N B l ++ (erase i ∷ [])
+  unfolding mendSteps eraseNext nextIndex
   steps-a = refl
 
   mended-is : mended N l caseA ≡ set l i blank
   unfolding mended nextBlanked nextIndex
   mended-is = refl
 
-  pub mended-a : Mended N B s caseA
-  unfolding run
-  mended-a = ap (λ y. segmentsOf N B y) (recovered-run N B s caseA z e ∙ ap (λ y. run B y s) steps-a) ∙ (erase-effect N B (size-facts N B s z .two) s size i inside ∙ sym mended-is)
-
   bit-a : Sound N B s → getD s (i * (B + 1) * 256 + 5) 0 / 64 % 2 ≡ 1
   unfolding headerAt
   bit-a h = subst (λ y. SoundAs N B s l y) e h
+
+  -- counted, it is (a) still, and is mended to the same
+  module _ (u : Image) (c : Cut B (counts N B (segmentsOf N B s)) s u) where
+    left : Only N B ((nextNumber l - 1) % N) s u × Like N l (segmentsOf N B u)
+    left = counted-like N B s z some u c
+
+    abbrev m : List Segment
+    m = segmentsOf N B u
+
+    two : 2 ≤ N
+    two = size-facts N B s z .two
+
+    in-list : topIndex N l < length l
+    unfolding topIndex
+    in-list = omega (arith, index N B two s size (nextNumber l - 1), segments-length N B s)
+
+    counted-state : state N B u ≡ unfinished caseA
+    unfolding state isCase
+    counted-state = state-case N B m caseA (segments-length N B u) (like-a N B l m (left .1) (segments-length N B s) two some blanked-same (case-of N B l caseA e))
+
+    counted-mended : Like N (mended N l caseA) (mended N m caseA)
+    unfolding mended
+    counted-mended = like-blanked N l m (left .1) in-list (segments-length N B s) two some blanked-same
+
+    counted-next : nextNumber m ≡ nextNumber l
+    counted-next = like-next N l m (left .1) in-list
+
+    counted-bit : Sound N B s → SoundAs N B u m (unfinished caseA)
+    unfolding headerAt
+    counted-bit h = rw counted-next (ap (λ (y : ℕ). y / 64 % 2) (other-byte N B ((nextNumber l - 1) % N) i 5 s u (left .0) (λ q. index-apart N (nextNumber l) two some (sym q)) inside (omega arith)) ∙ bit-a h)
+
+  abbrev s1 : Image
+  s1 = run B (counts N B l) s
+
+  z1 : rightSize N B s1 ≡ true
+  z1 = run-size N B (counts N B l) s ∙ z
+
+  pub mended-a : Mended N B s caseA
+  unfolding run
+  mended-a =
+      let c = whole-cut B (counts N B l) s in
+      let same : segmentsOf N B (recovered N B s) ≡ mended N (segmentsOf N B s1) caseA =
+      ap (λ y. segmentsOf N B y) (recovered-run N B s caseA z e ∙ (ap (λ y. run B y s) steps-a ∙ run-append B (counts N B l) (erase i ∷ []) s))
+      ∙ (erase-effect N B (size-facts N B s z .two) s1 (size-facts N B s1 z1 .whole) i inside
+      ∙ (unfold mended nextBlanked nextIndex in ap (λ (y : ℕ). set (segmentsOf N B s1) (y % N) blank) (sym (counted-next s1 c)))) in
+      subst (λ (y : List Segment). Like N (mended N l caseA) y) (sym same) (counted-mended s1 c)
 
 -- an image with the same segments and the bit is (a) too, and shows the same
 same-segments : (N B : ℕ) (s u : Image) → rightSize N B s ≡ true → rightSize N B u ≡ true → state N B s ≡ unfinished caseA → segmentsOf N B u ≡ segmentsOf N B s
@@ -107,11 +162,12 @@ same-segments : (N B : ℕ) (s u : Image) → rightSize N B s ≡ true → right
 unfolding state headerAt
 same-segments N B s u z zu e q b =
     let f : state N B u ≡ unfinished caseA = ap (λ y. stateOf N B y) q ∙ e in
-    kept-case N B s u caseA e (mended-a N B s z e) f (mended-a N B u zu f) (ap (λ y. mended N y caseA) q)
+    kept-case N B s u caseA z zu e (mended-a N B s z e) f (mended-a N B u zu f) (like-of N (mended N (segmentsOf N B s) caseA) (mended N (segmentsOf N B u) caseA) (ap (λ y. mended N y caseA) q))
     (subst (λ (y : List Segment). getD u (nextNumber y % N * (B + 1) * 256 + 5) 0 / 64 % 2 ≡ 1) (sym q) b)
 
-pub cut-a : (N B : ℕ) (s u : Image) → rightSize N B s ≡ true → state N B s ≡ unfinished caseA → Sound N B s → CutOf N B s recover u → Kept N B s u
-cut-a N B s u z e h c = go (rw (recover-steps N B s caseA z e ∙ steps-a N B s z e) at c)
+-- the erase cut
+erase-cut : (N B : ℕ) (s u : Image) → rightSize N B s ≡ true → state N B s ≡ unfinished caseA → Sound N B s → Cut B (erase (nextNumber (segmentsOf N B s) % N) ∷ []) s u → Kept N B s u
+erase-cut N B s u z e h c = go c
   where
     l′ : List Segment
     l′ = segmentsOf N B s
@@ -120,10 +176,10 @@ cut-a N B s u z e h c = go (rw (recover-steps N B s caseA z e ∙ steps-a N B s 
     k = nextNumber (segmentsOf N B s) % N
 
     zu : rightSize N B u ≡ true
-    zu = cut-size N B (workOf N B s recover .steps) s u c ∙ z
+    zu = cut-size N B (erase k ∷ []) s u c ∙ z
 
     blanked : segmentsOf N B u ≡ set l′ k blank → Kept N B s u
-    blanked q = kept-clean N B s caseA e (mended-a N B s z e) u (q ∙ sym (mended-is N B s z e))
+    blanked q = kept-clean N B s caseA z e (mended-a N B s z e) u (like-of N (mended N l′ caseA) (segmentsOf N B u) (q ∙ sym (mended-is N B s z e)))
 
     go : Cut B (erase k ∷ []) s u → Kept N B s u
     go (inl q) = kept-same N B s u h q
@@ -141,3 +197,19 @@ cut-a N B s u z e h c = go (rw (recover-steps N B s caseA z e ∙ steps-a N B s 
         new : segmentsOf N B u ≡ set l′ k (segmentOf N B k (partOf N B k u))
         new = subst (λ (y : Image). segmentsOf N B y ≡ set l′ k (segmentOf N B k (partOf N B k y))) (sym q) (raised-segments N B k (inside N B s z e) s (size N B s z e) v r)
     go (inr (inr q)) = blanked (ap (λ y. segmentsOf N B y) q ∙ erase-effect N B (size-facts N B s z .two) s (size N B s z e) k (inside N B s z e))
+
+pub cut-a : (N B : ℕ) (s u : Image) → rightSize N B s ≡ true → state N B s ≡ unfinished caseA → Sound N B s → CutOf N B s recover u → Kept N B s u
+cut-a N B s u z e h c = ⊎-elim (λ d. counted-kept u d) (λ d. kept-trans N B s t u (counted-kept t whole) (erase-cut N B t u (z1 N B s z e) (counted-state N B s z e t whole) (counted-kept t whole .0) (rw (counted-next N B s z e t whole) d)))
+    (cut-append B (counts N B (segmentsOf N B s)) (erase (nextNumber (segmentsOf N B s) % N) ∷ []) s u (rw (recover-steps N B s caseA z e ∙ steps-a N B s z e) at c))
+  where
+    t : Image
+    t = run B (counts N B (segmentsOf N B s)) s
+
+    whole : Cut B (counts N B (segmentsOf N B s)) s t
+    whole = whole-cut B (counts N B (segmentsOf N B s)) s
+
+    counted-kept : (w : Image) → Cut B (counts N B (segmentsOf N B s)) s w → Kept N B s w
+    counted-kept w d =
+        let zw = cut-size N B (counts N B (segmentsOf N B s)) s w d ∙ z in
+        let f = counted-state N B s z e w d in
+        kept-case N B s w caseA z zw e (mended-a N B s z e) f (mended-a N B w zw f) (counted-mended N B s z e w d) (counted-bit N B s z e w d h)

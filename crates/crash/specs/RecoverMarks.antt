@@ -10,6 +10,7 @@ use lib.ListN.{length, getD, set, List·getD-eq-default}
 use lib.Dec.{ltb, eqb}
 use borrow.Author.Tests.{eqb-true, eq-eqb, lt-ltb}
 use Rattle.model.specs.Chip.{Image, Page, clear, run, rightSize, Cut}
+use Rattle.model.specs.Header.{Version}
 use Rattle.model.specs.Slot.{Slot, empty, torn, dead, wrong, live, slotOf, isTorn, entryOf}
 use Rattle.model.specs.State.{Segment, blank, invalid, inUse, segmentsOf, slotsIn, nextNumber, topIndex, topSlots, usedCount, firstNumber, slotsFrom, viewOf, entries, entriesIn, holds, isClean, withSlot, lastSlot, lastKind, tornMarked, isC, Place, placeOf, lastBlock, copies, older, olderMarked, isD, Exception, caseC, caseD, unfinished, state}
 use Rattle.model.specs.Steps.{onPage, slotAt, markDead, markPlace, mendSteps}
@@ -27,6 +28,7 @@ use Rattle.model.specs.Laws.Effects.{index, slot-kind, slot-count, mark-effect}
 use Rattle.model.specs.Laws.Ring.{slots-get, slots-length}
 use Rattle.bridge.specs.Views.Places.{Gap, earlier, later, fill-entries, fill-length, FirstLive, first-live, gap-slot}
 use Rattle.crash.specs.Sound.{Sound, CutOf}
+use Rattle.crash.specs.Alike.{Like, like-of}
 use Rattle.crash.specs.States.{isCase, mended, case-of, recover-steps, recovered-run, Kept, kept-same, Mended, kept-clean}
 
 -- ---- slots that can be marked
@@ -49,11 +51,11 @@ marks-page p m = go (slotOf p) refl m
     go (live b c) e h = live-markable p b c e
 
 -- a slot that can be marked is one of a segment in use
-marks-in-use : (x : Segment) (j : ℕ) → Marks (getD (slotsIn x) j empty) → (st : ℕ) × (n : ℕ) × (x ≡ inUse st n (slotsIn x))
+marks-in-use : (x : Segment) (j : ℕ) → Marks (getD (slotsIn x) j empty) → (ver : Version) × (st : ℕ) × (n : ℕ) × (x ≡ inUse ver st n (slotsIn x))
 unfolding slotsIn
 marks-in-use blank j m = absurd m
 marks-in-use invalid j m = absurd m
-marks-in-use (inUse st n ks) j m = (st, n, refl)
+marks-in-use (inUse ver st n ks) j m = (ver, st, n, refl)
 
 marks-inside : (ks : List Slot) (j : ℕ) → Marks (getD ks j empty) → j < length ks
 marks-inside ks j m = elim (decLt j (length ks)) [ yes p ↦ p | no p ↦ absurd (subst Marks (List·getD-eq-default ks empty (omega arith)) m) ]
@@ -65,23 +67,23 @@ module _ (N B : ℕ) (s : Image) (z : rightSize N B s ≡ true) (k j : ℕ) (m :
   abbrev row : List Slot
   row = slotsIn (getD (segmentsOf N B s) (k % N) blank)
 
-  used : (st : ℕ) × (n : ℕ) × (getD (segmentsOf N B s) (k % N) blank ≡ inUse st n row)
+  used : (ver : Version) × (st : ℕ) × (n : ℕ) × (getD (segmentsOf N B s) (k % N) blank ≡ inUse ver st n row)
   used = marks-in-use (getD (segmentsOf N B s) (k % N) blank) j m
 
   -- a segment in use has B slots, and this is one of them
   pub slot-inside : j < B
-  slot-inside = omega (arith, marks-inside row j m, slot-count N B (size .two) s (size .whole) k 0 (used .0) (used .1) row (omega (arith, size .slots)) (used .2))
+  slot-inside = omega (arith, marks-inside row j m, slot-count N B (size .two) s (size .whole) k 0 (used .0) (used .1) (used .2) row (omega (arith, size .slots)) (used .3))
 
   -- its page has that kind
   pub page-kind : slotOf (getD (partOf N B (k % N) s) (suc j) []) ≡ getD (slotsIn (getD (segmentsOf N B s) (k % N) blank)) j empty
-  page-kind = slot-kind N B (size .two) s (size .whole) k j (used .0) (used .1) row slot-inside (used .2)
+  page-kind = slot-kind N B (size .two) s (size .whole) k j (used .0) (used .1) (used .2) row slot-inside (used .3)
 
   markable : Markable (getD (getD (partOf N B (k % N) s) (suc j) []) 0 0)
   markable = marks-page (getD (partOf N B (k % N) s) (suc j) []) (subst Marks (sym page-kind) m)
 
   pub mark-segments : segmentsOf N B (run B (markPlace N B (record { number = k; slot = j })) s) ≡ set (segmentsOf N B s) (k % N) (withSlot j dead (getD (segmentsOf N B s) (k % N) blank))
   unfolding markPlace
-  mark-segments = mark-effect N B (size .two) s (size .whole) k j (used .0) (used .1) row slot-inside (used .2) markable
+  mark-segments = mark-effect N B (size .two) s (size .whole) k j (used .0) (used .1) (used .2) row slot-inside (used .3) markable
 
   pub mark-whole : (u : Image) → Cut B (markPlace N B (record { number = k; slot = j })) s u → (u ≡ s) ⊎ (u ≡ run B (markPlace N B (record { number = k; slot = j })) s)
   unfolding markPlace onPage markDead slotAt
@@ -176,10 +178,11 @@ module _ (N B : ℕ) (s : Image) (z : rightSize N B s ≡ true) (x : Exception) 
   one-recovered = recovered-run N B s x z e ∙ ap (λ y. run B y s) (o .steps)
 
   one-mended : Mended N B s x
-  one-mended = ap (λ y. segmentsOf N B y) one-recovered ∙ (mark-segments N B s z (o .place .number) (o .place .slot) (o .marks) ∙ sym (o .same))
+  one-mended = like-of N (mended N (segmentsOf N B s) x) (segmentsOf N B (recovered N B s))
+      (ap (λ y. segmentsOf N B y) one-recovered ∙ (mark-segments N B s z (o .place .number) (o .place .slot) (o .marks) ∙ sym (o .same)))
 
   one-cut : (u : Image) → Sound N B s → CutOf N B s recover u → Kept N B s u
-  one-cut u h c = ⊎-elim (λ q. kept-same N B s u h q) (λ q. kept-clean N B s x e one-mended u (ap (λ y. segmentsOf N B y) (q ∙ sym one-recovered) ∙ one-mended))
+  one-cut u h c = ⊎-elim (λ q. kept-same N B s u h q) (λ q. kept-clean N B s x z e one-mended u (subst (λ (y : Image). Like N (mended N (segmentsOf N B s) x) (segmentsOf N B y)) (sym (q ∙ sym one-recovered)) one-mended))
       (mark-whole N B s z (o .place .number) (o .place .slot) (o .marks) u (rw (recover-steps N B s x z e ∙ o .steps) at c))
 
 module _ (N B : ℕ) (s : Image) (z : rightSize N B s ≡ true) where

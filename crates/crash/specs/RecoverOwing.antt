@@ -3,61 +3,45 @@ use Prim.Native.Nat.{ℕ, zero, suc, _+_, _-_, _*_, _%_, _≤_, _<_}
 use mathlib.Core.Path.{_≡_, refl, sym, ap, ap₂, _∙_, subst}
 use mathlib.Core.Logic.{_⊎_, inl, inr, ⊎-elim, _≢_}
 use mathlib.Core.Bool.{true, cond, _||_, _&&_, false≢true}
-use mathlib.Core.List.{List, [], _∷_, _++_}
+use mathlib.Core.List.{List, [], _∷_, _++_, append-assoc}
 use native.Mathlib.Omega.{arith}
 use native.Mathlib.Decide.{decLt}
 use lib.ListN.{length, getD, set, length-set, length-append}
 use lib.Seq.{set-getD, set-set, getD-set-other}
 use lib.Dec.{eqb}
 use borrow.Author.Tests.{eqb-true}
-use Rattle.model.specs.Chip.{Image, Page, Step, erase, erased, withSegment, run, mostSegments, numberLimit, imageLength, rightSize, Cut}
-use Rattle.model.specs.Header.{numberBytes, inverted, erasePending, compacted, headerStatus, headerNumber}
+use Rattle.model.specs.Chip.{Image, Page, Step, erase, erased, withSegment, step, run, mostSegments, numberLimit, imageLength, rightSize, Cut}
+use Rattle.model.specs.Header.{numberBytes, inverted, erasePending, compacted, Version, headerStatus, headerNumber}
 use Rattle.model.specs.Slot.{Slot}
-use Rattle.model.specs.State.{Segment, blank, invalid, inUse, segmentOf, segmentsOf, isInUse, isInvalid, isOwing, numberAfter, slotsIn, nextNumber, topIndex, nextIndex, usedCount, isClean, nextBlanked, settled, topSettled, isB, caseB, unfinished, stateOf, state}
-use Rattle.model.specs.Steps.{onPage, headerAt, settle, eraseUnlessBlank, mendSteps}
+use Rattle.model.specs.State.{Segment, blank, invalid, inUse, segmentOf, segmentsOf, isInUse, isInvalid, isOwing, numberAfter, slotsIn, versionIn, nextNumber, topIndex, nextIndex, usedCount, isClean, nextBlanked, settled, topSettled, isB, caseB, unfinished, stateOf, state}
+use Rattle.model.specs.Steps.{onPage, headerAt, settle, eraseNext, unlessBlank, mendSteps}
 use Rattle.model.specs.Answers.{recover}
 use Rattle.model.specs.Histories.{recovered}
 use Rattle.model.specs.Laws.Lists.{and-left, mod-inj}
-use Rattle.model.specs.Laws.Chip.{size-facts, run-append, run-length, whole-cut, cut-append, cut-size}
+use Rattle.model.specs.Laws.Chip.{size-facts, run-append, run-size, step-length, whole-cut, cut-append, cut-size}
 use Rattle.model.specs.Laws.Bytes.{compacted-bit, within-le, number-bytes, inverted-bytes, number-length, inverted-length, bytes-append, bytes-get, erased-get, erased-length}
 use Rattle.model.specs.Laws.HeaderPage.{number-fits, number-raised, clear-pending}
 use Rattle.model.specs.Laws.PageCuts.{one-bit-cut}
-use Rattle.model.specs.Laws.Segments.{partOf, segment-at, segments-length, erased-image}
+use Rattle.model.specs.Laws.Segments.{partOf, segment-at, segments-length, erased-image, Only}
 use Rattle.model.specs.Laws.Effects.{index, numbered-at, in-use-parts, erase-effect, settle-effect}
 use Rattle.model.specs.Laws.Ring.{next-ge, next-same}
 use Rattle.crash.specs.Sound.{AtLeast, headerByte, SoundAs, Sound, CutOf}
-use Rattle.crash.specs.States.{isCase, mended, case-of, state-case, recover-steps, recovered-run, Kept, kept-same, Mended, kept-clean, kept-case}
-use Rattle.crash.specs.RecoverErase.{replaced-byte, raised-segments, raised-byte, header-byte}
-
--- ---- the top of an image's segments
-
-next-at : (l : List Segment) → 0 < nextNumber l → (i : ℕ) × (i < length l) × (numberAfter (getD l i blank) ≡ nextNumber l)
-unfolding nextNumber
-next-at [] h = absurd (omega arith)
-next-at (x ∷ l) h = elim (decLt (numberAfter x) (nextNumber l)) [ yes p ↦ let r = next-at l (omega arith) in (suc (r .0), omega (arith, r .1), r .2 ∙ omega arith) | no p ↦ (0, omega arith, omega arith) ]
-
--- the top has the largest number
-pub top-at : (N B : ℕ) (s : Image) → 0 < nextNumber (segmentsOf N B s) → numberAfter (getD (segmentsOf N B s) ((nextNumber (segmentsOf N B s) - 1) % N) blank) ≡ nextNumber (segmentsOf N B s)
-top-at N B s h =
-    let l = segmentsOf N B s in
-    let r = next-at l h in
-    let q = numbered-at N B s (r .0) (nextNumber l - 1) (omega (arith, r .1, segments-length N B s)) (r .2 ∙ omega arith) in
-    ap (λ (y : ℕ). numberAfter (getD l y blank)) (q .0) ∙ r .2
+use Rattle.crash.specs.Alike.{Like, like-of, index-apart, like-next, like-settled, like-b}
+use Rattle.crash.specs.States.{isCase, mended, case-of, state-case, recover-steps, recovered-run, Kept, kept-same, kept-trans, Mended, kept-clean, kept-case}
+use Rattle.crash.specs.RecoverCount.{header-byte, other-byte, top-at, counts, counted-like}
+use Rattle.crash.specs.RecoverErase.{replaced-byte, raised-segments, raised-byte}
 
 owing-number : (x : Segment) → isOwing x ≡ true → 0 < numberAfter x
 unfolding isOwing numberAfter
 owing-number blank h = absurd (false≢true h)
 owing-number invalid h = absurd (false≢true h)
-owing-number (inUse st n ks) h = omega arith
+owing-number (inUse ver st n ks) h = omega arith
 
-owing-top : (x : Segment) (n : ℕ) → isOwing x ≡ true → numberAfter x ≡ suc n → x ≡ inUse erasePending n (slotsIn x)
-unfolding isOwing numberAfter slotsIn
+owing-top : (x : Segment) (n : ℕ) → isOwing x ≡ true → numberAfter x ≡ suc n → x ≡ inUse (versionIn x) erasePending n (slotsIn x)
+unfolding isOwing numberAfter slotsIn versionIn
 owing-top blank n h e = absurd (false≢true h)
 owing-top invalid n h e = absurd (false≢true h)
-owing-top (inUse st m ks) n h e = let q : m ≡ n = omega arith in ap₂ (λ a b. inUse a b ks) (eqb-true st erasePending h) q
-
-index-apart : (N n : ℕ) → 2 ≤ N → 0 < n → (n - 1) % N ≢ n % N
-index-apart N n h k e = let q : n - 1 ≡ n = mod-inj N (n - 1) n (omega arith) (omega arith) e in omega arith
+owing-top (inUse ver st m ks) n h e = let q : m ≡ n = omega arith in ap₂ (λ a b. inUse ver a b ks) (eqb-true st erasePending h) q
 
 -- ---- (b)
 
@@ -104,63 +88,50 @@ module _ (N B : ℕ) (s : Image) (z : rightSize N B s ≡ true) (e : state N B s
   abbrev slots : List Slot
   slots = slotsIn (getD l (n % N) blank)
 
-  top : getD l (n % N) blank ≡ inUse erasePending n slots
+  abbrev ver : Version
+  ver = versionIn (getD l (n % N) blank)
+
+  top : getD l (n % N) blank ≡ inUse ver erasePending n slots
   top = owing-top (getD l (n % N) blank) n owing top-number
 
   below : n < numberLimit N
   below = numbered-at N B s (n % N) n (index N B two s size n) top-number .1
 
-  -- the steps: an erase unless it is blank, then the mark
-  abbrev wipe : List Step
-  wipe = eraseUnlessBlank i (getD l i blank)
-
-  abbrev wiped : Image
-  wiped = run B wipe s
-
-  steps-b : mendSteps N B l caseB ≡ wipe ++ settle N B n
-  unfolding mendSteps nextIndex
-  steps-b = refl
-
-  wiped-segments : segmentsOf N B wiped ≡ set l i blank
-  unfolding eraseUnlessBlank
-  wiped-segments = go (getD l i blank) refl
-    where
-      erased-one : segmentsOf N B (run B (erase i ∷ []) s) ≡ set l i blank
-      erased-one = unfold run in erase-effect N B two s size i inside
-
-      go : (x : Segment) → getD l i blank ≡ x → segmentsOf N B (run B (cond (isInUse x || isInvalid x) (erase i ∷ []) []) s) ≡ set l i blank
-      go blank q = unfold run isInUse isInvalid in sym (ap (λ (y : Segment). set l i y) (sym q) ∙ set-getD l i blank)
-      go invalid q = unfold isInUse isInvalid in erased-one
-      go (inUse st m ks) q = unfold isInUse in erased-one
-
-  wiped-size : length wiped ≡ imageLength N B
-  wiped-size = run-length B wipe s ∙ size
-
-  wiped-top : getD (segmentsOf N B wiped) (n % N) blank ≡ inUse erasePending n slots
-  wiped-top = ap (λ (y : List Segment). getD y (n % N) blank) wiped-segments ∙ (getD-set-other l i (n % N) blank blank apart ∙ top)
-
-  recovered-b : recovered N B s ≡ run B (settle N B n) wiped
-  recovered-b = recovered-run N B s caseB z e ∙ (ap (λ y. run B y s) steps-b ∙ run-append B wipe (settle N B n) s)
-
-  mended-is : mended N l caseB ≡ set (set l i blank) (n % N) (inUse compacted n slots)
+  mended-is : mended N l caseB ≡ set (set l i blank) (n % N) (inUse ver compacted n slots)
   unfolding mended topSettled nextBlanked nextIndex topIndex settled
   mended-is = ap (λ (y : Segment). set (set l i blank) (n % N) (settled y)) top
 
-  pub mended-b : Mended N B s caseB
-  mended-b = ap (λ y. segmentsOf N B y) recovered-b ∙ (settle-effect N B two most (size-facts N B s z .mostB) wiped wiped-size n below slots wiped-top
-      ∙ (ap (λ (y : List Segment). set y (n % N) (inUse compacted n slots)) wiped-segments ∙ sym mended-is))
+  -- ---- the status after the erase, where the old segment is blank
 
-  -- the mark is set or not
-  settle-whole : (u : Image) → Cut B (settle N B n) wiped u → (u ≡ wiped) ⊎ (u ≡ run B (settle N B n) wiped)
-  unfolding settle onPage headerAt
-  settle-whole u c = one-bit-cut B (n % N * (B + 1) * 256 + 5) compacted wiped u (rw (byte, clear-pending) compacted-bit) c
-    where
-      here : n % N < N
-      here = index N B two s size n
+  module _ (w : Image) (zw : length w ≡ imageLength N B) (sw : segmentsOf N B w ≡ set l i blank) where
+    top-there : getD (segmentsOf N B w) (n % N) blank ≡ inUse ver erasePending n slots
+    top-there = ap (λ (y : List Segment). getD y (n % N) blank) sw ∙ (getD-set-other l i (n % N) blank blank apart ∙ top)
 
-      byte : getD wiped (n % N * (B + 1) * 256 + 5) 0 ≡ erasePending
-      byte = sym (header-byte N B (n % N) 5 wiped here (omega arith)) ∙ (unfold headerStatus in
-          in-use-parts N B (n % N) (partOf N B (n % N) wiped) erasePending n slots (sym (segment-at N B (n % N) wiped here) ∙ wiped-top) .status)
+    settled-there : segmentsOf N B (run B (settle N B n) w) ≡ mended N l caseB
+    settled-there = settle-effect N B two most (size-facts N B s z .mostB) w zw n below ver slots top-there
+        ∙ (ap (λ (y : List Segment). set y (n % N) (inUse ver compacted n slots)) sw ∙ sym mended-is)
+
+    -- the mark is set or not
+    settle-whole : (u : Image) → Cut B (settle N B n) w u → (u ≡ w) ⊎ (u ≡ run B (settle N B n) w)
+    unfolding settle onPage headerAt
+    settle-whole u c = one-bit-cut B (n % N * (B + 1) * 256 + 5) compacted w u (rw (byte, clear-pending) compacted-bit) c
+      where
+        here : n % N < N
+        here = index N B two s size n
+
+        byte : getD w (n % N * (B + 1) * 256 + 5) 0 ≡ erasePending
+        byte = sym (header-byte N B (n % N) 5 w here (omega arith)) ∙ (unfold headerStatus in
+            in-use-parts N B (n % N) (partOf N B (n % N) w) ver erasePending n slots (sym (segment-at N B (n % N) w here) ∙ top-there) .status)
+
+  -- the old segment erased
+  abbrev wiped : Image
+  wiped = step B (erase i) s
+
+  wiped-size : length wiped ≡ imageLength N B
+  wiped-size = step-length B (erase i) s ∙ size
+
+  wiped-segments : segmentsOf N B wiped ≡ set l i blank
+  wiped-segments = erase-effect N B two s size i inside
 
   -- the segment after the top has a smaller number, if any
   old-number : numberAfter (getD l i blank) < nextNumber l
@@ -190,6 +161,86 @@ module _ (N B : ℕ) (s : Image) (z : rightSize N B s ≡ true) (e : state N B s
 
     replaced-state : stateOf N B (set l i y) ≡ unfinished caseB
     replaced-state = state-case N B (set l i y) caseB (length-set l i y ∙ segments-length N B s) (unfold isCase in replaced-case)
+
+  -- ---- an erase counted: it is (b) still, and is mended to the same
+
+  blanked-same : nextNumber (nextBlanked N l) ≡ nextNumber l
+  unfolding nextBlanked nextIndex
+  blanked-same = next-same l i blank old-number (unfold numberAfter in omega arith)
+
+  module _ (u : Image) (c : Cut B (counts N B (segmentsOf N B s)) s u) where
+    left : Only N B ((nextNumber l - 1) % N) s u × Like N l (segmentsOf N B u)
+    left = counted-like N B s z some u c
+
+    abbrev counted : List Segment
+    counted = segmentsOf N B u
+
+    in-list : topIndex N l < length l
+    unfolding topIndex
+    in-list = omega (arith, index N B two s size (nextNumber l - 1), segments-length N B s)
+
+    counted-state : state N B u ≡ unfinished caseB
+    unfolding state isCase
+    counted-state = state-case N B counted caseB (segments-length N B u) (like-b N B l counted (left .1) (segments-length N B s) two some blanked-same is-b)
+
+    counted-mended : Like N (mended N l caseB) (mended N counted caseB)
+    unfolding mended
+    counted-mended = like-settled N l counted (left .1) in-list (segments-length N B s) two some blanked-same
+
+    counted-next : nextNumber counted ≡ nextNumber l
+    counted-next = like-next N l counted (left .1) in-list
+
+-- the segments after an erase of the old one and the status
+rest-segments : (N B : ℕ) (s : Image) (z : rightSize N B s ≡ true) (e : state N B s ≡ unfinished caseB)
+    → segmentsOf N B (run B (erase (nextNumber (segmentsOf N B s) % N) ∷ settle N B (nextNumber (segmentsOf N B s) - 1)) s) ≡ mended N (segmentsOf N B s) caseB
+unfolding run
+rest-segments N B s z e = settled-there N B s z e (wiped N B s z e) (wiped-size N B s z e) (wiped-segments N B s z e)
+
+module _ (N B : ℕ) (s : Image) (z : rightSize N B s ≡ true) (e : state N B s ≡ unfinished caseB) where
+  abbrev list : List Segment
+  list = segmentsOf N B s
+
+  abbrev mark : List Step
+  mark = settle N B (nextNumber (segmentsOf N B s) - 1)
+
+  -- a blank old segment, or any other
+  abbrev steps-by : Segment → List Step
+  steps-by x = unlessBlank x (eraseNext N B list) ++ mark
+
+  steps-blank : steps-by blank ≡ mark
+  unfolding unlessBlank isInUse isInvalid
+  steps-blank = refl
+
+  steps-else : (x : Segment) → (isInUse x || isInvalid x) ≡ true → steps-by x ≡ counts N B list ++ (erase (nextNumber list % N) ∷ mark)
+  unfolding unlessBlank eraseNext nextIndex
+  steps-else x q = rw q (simp append-assoc)
+
+  steps-b : mendSteps N B list caseB ≡ steps-by (getD list (nextNumber list % N) blank)
+  unfolding mendSteps nextIndex
+  steps-b = refl
+
+  -- what is said of both
+  by-old : (P : Type 0) → (getD list (nextNumber list % N) blank ≡ blank → mendSteps N B list caseB ≡ mark → P)
+      → (mendSteps N B list caseB ≡ counts N B list ++ (erase (nextNumber list % N) ∷ mark) → P) → P
+  by-old P f g = go (getD list (nextNumber list % N) blank) refl
+    where
+      go : (x : Segment) → getD list (nextNumber list % N) blank ≡ x → P
+      go blank q = f q (steps-b ∙ (ap steps-by q ∙ steps-blank))
+      go invalid q = g (steps-b ∙ (ap steps-by q ∙ steps-else invalid (unfold isInUse isInvalid in refl)))
+      go (inUse ver st a ks) q = g (steps-b ∙ (ap steps-by q ∙ steps-else (inUse ver st a ks) (unfold isInUse in refl)))
+
+  pub mended-b : Mended N B s caseB
+  mended-b = by-old (Mended N B s caseB)
+      (λ q d. like-of N (mended N list caseB) (segmentsOf N B (recovered N B s)) (ap (λ y. segmentsOf N B y) (recovered-run N B s caseB z e ∙ ap (λ y. run B y s) d)
+      ∙ settled-there N B s z e s (size-facts N B s z .whole) (sym (ap (λ (y : Segment). set list (nextNumber list % N) y) (sym q) ∙ set-getD list (nextNumber list % N) blank))))
+      (λ d.
+      let t = run B (counts N B list) s in
+      let zt = run-size N B (counts N B list) s ∙ z in
+      let c = whole-cut B (counts N B list) s in
+      let same : segmentsOf N B (recovered N B s) ≡ mended N (segmentsOf N B t) caseB =
+      ap (λ y. segmentsOf N B y) (recovered-run N B s caseB z e ∙ (ap (λ y. run B y s) d ∙ run-append B (counts N B list) (erase (nextNumber list % N) ∷ mark) s))
+      ∙ (ap (λ (y : ℕ). segmentsOf N B (run B (erase (y % N) ∷ settle N B (y - 1)) t)) (sym (counted-next N B s z e t c)) ∙ rest-segments N B t zt (counted-state N B s z e t c)) in
+      subst (λ (y : List Segment). Like N (mended N list caseB) y) (sym same) (counted-mended N B s z e t c))
 
 -- ---- bytes that are at least given ones
 
@@ -237,7 +288,8 @@ keep N B s u y z e zu q g hn b =
     let nn : nextNumber (segmentsOf N B u) ≡ m = ap nextNumber q ∙ replaced-next N B s z e y g in
     let so : SoundAs N B u (segmentsOf N B u) (unfinished caseB) =
     subst (λ (v : ℕ). (N ≤ v) × AtLeast (headerByte N B v 8) (both (v - N)) u) (sym nn) (hn, (unfold headerAt in keeps-of B (m % N) (m - N) u b)) in
-    kept-case N B s u caseB e (mended-b N B s z e) f (mended-b N B u zu f) (unfold mended in (ap (λ (v : List Segment). topSettled N v) q ∙ replaced-mended N B s z e y g)) so
+    kept-case N B s u caseB z zu e (mended-b N B s z e) f (mended-b N B u zu f)
+    (like-of N (mended N (segmentsOf N B s) caseB) (mended N (segmentsOf N B u) caseB) (unfold mended in (ap (λ (v : List Segment). topSettled N v) q ∙ replaced-mended N B s z e y g))) so
 
 module _ (N B : ℕ) (s : Image) (z : rightSize N B s ≡ true) (e : state N B s ≡ unfinished caseB) (h : Sound N B s) where
   abbrev m : ℕ
@@ -264,8 +316,8 @@ module _ (N B : ℕ) (s : Image) (z : rightSize N B s ≡ true) (e : state N B s
       go : (x : Segment) → segmentOf N B j (partOf N B j u) ≡ x → numberAfter x ≤ m
       go blank q = omega arith
       go invalid q = omega arith
-      go (inUse st a ks) q =
-          let p = in-use-parts N B j (partOf N B j u) st a ks q in
+      go (inUse ver st a ks) q =
+          let p = in-use-parts N B j (partOf N B j u) ver st a ks q in
           let small = number-fits N (m - 1) (most N B s z e) (below N B s z e) in
           let r : headerNumber page ≡ m - N = number-raised N B j page (m - N) (most N B s z e) (omega (arith, two N B s z e)) (p .header)
           (λ k l. rw (header-byte N B j (8 + k) u (inside N B s z e) (omega arith)) (b k l)) in
@@ -288,21 +340,51 @@ module _ (N B : ℕ) (s : Image) (z : rightSize N B s ≡ true) (e : state N B s
       let byte = replaced-byte N B j (inside N B s z e) s (size N B s z e) (erased ((B + 1) * 256)) (erased-length ((B + 1) * 256)) (8 + k) (omega arith) in
       omega (arith, byte, erased-get ((B + 1) * 256) (8 + k) (omega arith), both-bytes (m - N) k)))
 
-  wiping : (u : Image) → Cut B (wipe N B s z e) s u → Kept N B s u
-  unfolding eraseUnlessBlank isInUse isInvalid
-  wiping u c = go (getD (segmentsOf N B s) j blank) c
-    where
-      zu : rightSize N B u ≡ true
-      zu = cut-size N B (eraseUnlessBlank j (getD (segmentsOf N B s) j blank)) s u c ∙ z
+  -- the erase and the status cut, as a compaction ends too
+  pub rest-cut : (u : Image) → Cut B (erase (nextNumber (segmentsOf N B s) % N) ∷ settle N B (nextNumber (segmentsOf N B s) - 1)) s u → Kept N B s u
+  unfolding run
+  rest-cut u c =
+      let t = step B (erase j) s in
+      let erased = erasing t (run-size N B (erase j ∷ []) s ∙ z) (whole-cut B (erase j ∷ []) s) in
+      ⊎-elim (λ d. erasing u (cut-size N B (erase j ∷ []) s u d ∙ z) d)
+      (λ d. ⊎-elim (λ q. subst (λ (y : Image). Kept N B s y) (sym q) erased)
+      (λ q. kept-clean N B s caseB z e (mended-b N B s z e) u (like-of N (mended N (segmentsOf N B s) caseB) (segmentsOf N B u) (ap (λ y. segmentsOf N B y) q ∙ rest-segments N B s z e)))
+      (settle-whole N B s z e t (wiped-size N B s z e) (wiped-segments N B s z e) u d))
+      (cut-append B (erase j ∷ []) (settle N B (m - 1)) s u c)
 
-      go : (x : Segment) → Cut B (cond (isInUse x || isInvalid x) (erase j ∷ []) []) s u → Kept N B s u
-      go blank d = kept-same N B s u h d
-      go invalid d = erasing u zu d
-      go (inUse st a ks) d = erasing u zu d
+  -- the count cut
+  counted-kept : (u : Image) → Cut B (counts N B (segmentsOf N B s)) s u → Kept N B s u
+  unfolding headerAt
+  counted-kept u d =
+      let zu = cut-size N B (counts N B (segmentsOf N B s)) s u d ∙ z in
+      let f = counted-state N B s z e u d in
+      let bytes : Keeps B j (m - N) u = λ k l. rw (other-byte N B ((m - 1) % N) j (8 + k) s u (left N B s z e u d .0) (λ q. apart N B s z e (sym q)) (inside N B s z e) (omega arith)) (keeps k l) in
+      kept-case N B s u caseB z zu e (mended-b N B s z e) f (mended-b N B u zu f) (counted-mended N B s z e u d)
+      (subst (λ (v : ℕ). (N ≤ v) × AtLeast (headerByte N B v 8) (both (v - N)) u) (sym (counted-next N B s z e u d)) (enough, keeps-of B j (m - N) u bytes))
 
-  pub cut-b : (u : Image) → CutOf N B s recover u → Kept N B s u
-  cut-b u c = ⊎-elim (λ d. wiping u d)
-      (λ d. ⊎-elim (λ q. subst (λ (y : Image). Kept N B s y) (sym q) (wiping (wiped N B s z e) (whole-cut B (wipe N B s z e) s)))
-      (λ q. kept-clean N B s caseB e (mended-b N B s z e) u (ap (λ y. segmentsOf N B y) (q ∙ sym (recovered-b N B s z e)) ∙ mended-b N B s z e))
-      (settle-whole N B s z e u d))
-      (cut-append B (wipe N B s z e) (settle N B (m - 1)) s u (rw (recover-steps N B s caseB z e ∙ steps-b N B s z e) at c))
+-- the recovery cut
+pub cut-b : (N B : ℕ) (s : Image) (z : rightSize N B s ≡ true) (e : state N B s ≡ unfinished caseB) → Sound N B s → (u : Image) → CutOf N B s recover u → Kept N B s u
+cut-b N B s z e h u c = by-old N B s z e (Kept N B s u) blank-old (λ d. counted-old (rw (recover-steps N B s caseB z e ∙ d) at c))
+  where
+    l′ : List Segment
+    l′ = segmentsOf N B s
+
+    blank-old : getD (segmentsOf N B s) (nextNumber (segmentsOf N B s) % N) blank ≡ blank → mendSteps N B (segmentsOf N B s) caseB ≡ settle N B (nextNumber (segmentsOf N B s) - 1) → Kept N B s u
+    blank-old q d =
+        let same : segmentsOf N B s ≡ set l′ (nextNumber l′ % N) blank = sym (ap (λ (y : Segment). set l′ (nextNumber l′ % N) y) (sym q) ∙ set-getD l′ (nextNumber l′ % N) blank) in
+        let whole = size-facts N B s z .whole in
+        ⊎-elim (λ w. kept-same N B s u h w)
+        (λ w. kept-clean N B s caseB z e (mended-b N B s z e) u (like-of N (mended N l′ caseB) (segmentsOf N B u) (ap (λ y. segmentsOf N B y) w ∙ settled-there N B s z e s whole same)))
+        (settle-whole N B s z e s whole same u (rw (recover-steps N B s caseB z e ∙ d) at c))
+
+    t : Image
+    t = run B (counts N B (segmentsOf N B s)) s
+
+    first : Cut B (counts N B (segmentsOf N B s)) s t
+    first = whole-cut B (counts N B (segmentsOf N B s)) s
+
+    counted-old : Cut B (counts N B (segmentsOf N B s) ++ (erase (nextNumber (segmentsOf N B s) % N) ∷ settle N B (nextNumber (segmentsOf N B s) - 1))) s u → Kept N B s u
+    counted-old d = ⊎-elim (λ k. counted-kept N B s z e h u k)
+        (λ k. kept-trans N B s t u (counted-kept N B s z e h t first)
+        (rest-cut N B t (run-size N B (counts N B (segmentsOf N B s)) s ∙ z) (counted-state N B s z e t first) (counted-kept N B s z e h t first .0) u (rw (counted-next N B s z e t first) k)))
+        (cut-append B (counts N B (segmentsOf N B s)) (erase (nextNumber (segmentsOf N B s) % N) ∷ settle N B (nextNumber (segmentsOf N B s) - 1)) s u d)

@@ -5,31 +5,30 @@ use mathlib.Core.Logic.{⊎-elim}
 use mathlib.Core.Bool.{true, false}
 use mathlib.Core.List.{List, [], _∷_, _++_}
 use native.Mathlib.Omega.{arith}
+use native.Mathlib.Nat.{add-mod-right}
 use lib.ListN.{length, getD, set}
 use lib.Seq.{getD-set-same, getD-set-other}
 use Rattle.model.specs.Chip.{Image, Page, Step, erase, rightSize, run, numberLimit, imageLength, erased, Cut}
+use Rattle.model.specs.Header.{newVersion, isFormer, tallyOf}
 use Rattle.model.specs.Slot.{Entry}
 use Rattle.model.specs.State.{segmentOf, segmentsOf, View, entries, entriesIn}
-use Rattle.model.specs.Steps.{topNumber, hasRoom, onPage, headerAt, slotAt, writeSlot, copyEntries, copyOut, compact, settle, openNext, compactOldest}
-use Rattle.model.specs.Table.{tableOf}
-use Rattle.model.specs.Histories.{shown}
+use Rattle.model.specs.Steps.{topNumber, hasRoom, onPage, headerAt, slotAt, writeSlot, copyEntries, copyOut, compact, settle, nextVersion, openNext, compactOldest}
 use Rattle.model.specs.Laws.Chip.{run-append, run-length, run-size, cut-append, cut-size, whole-cut, SizeFacts, size-facts}
 use Rattle.model.specs.Laws.Pages.{InPage}
 use Rattle.model.specs.Laws.HeaderPage.{openingHeader, compactionHeader, pendingHeader, open-segment-page, copy-out-pages, opening-in-page, compaction-in-page, pending-in-page, begunPage, opening-run, pending-run}
 use Rattle.model.specs.Laws.SlotPage.{write-in-page}
 use Rattle.model.specs.Laws.PageCuts.{opening-cut, compaction-cut, begun-bit-6, pending-cut}
-use Rattle.model.specs.Laws.Tables.{agree-trans}
 use Rattle.model.specs.Laws.Segments.{partOf, part-size, Only, only-segments, only-trans, only-cut, part-run, part-cut}
 use Rattle.model.specs.Laws.Effects.{index, blank-page, header-only, header-run, few}
 use Rattle.model.specs.Laws.CopyOut.{Valids, copy-in-segment, begun}
-use Rattle.bridge.specs.Predicted.{CleanView}
+use Rattle.bridge.specs.Predicted.{CleanView, Carries}
 use Rattle.bridge.specs.Views.Shape.{opened-entries}
 use Rattle.bridge.specs.Views.Room.{opened-clean}
-use Rattle.bridge.specs.Held.{Held, clean-of-held, held-table}
-use Rattle.bridge.specs.Done.{next-free, open-held, old-after, copied-segments}
-use Rattle.crash.specs.States.{SoundWith, segments-show}
-use Rattle.crash.specs.Recover.{recover-cut}
-use Rattle.crash.specs.RoomTorn.{next-torn}
+use Rattle.bridge.specs.Held.{Held}
+use Rattle.bridge.specs.Done.{next-free, open-held, ring-closed, old-after, copied-segments}
+use Rattle.crash.specs.States.{SoundWith, kept-shows}
+use Rattle.crash.specs.RecoverOwing.{rest-cut}
+use Rattle.crash.specs.RoomTorn.{held-shows, next-torn}
 use Rattle.crash.specs.RoomOwing.{Full, old-valid, old-fits, Owing, owing-left}
 
 -- ---- steps in a header page
@@ -99,25 +98,30 @@ module _ (N B : ℕ) (s : Image) (v : View) (h : Held N B s v) where
   pub free-page : getD (partOf N B (suc (topNumber v) % N) s) 0 [] ≡ erased 256
   free-page = blank-page N B (size .two) s (size .whole) (suc (topNumber v) % N) 0 (index N B (size .two) s (size .whole) (suc (topNumber v))) (omega arith) (next-free N B s v h)
 
-  open-steps : openNext N B v .steps ≡ onPage (headerAt N B (suc (topNumber v))) (openingHeader N B (suc (topNumber v)))
+  open-steps : openNext N B v .steps ≡ onPage (headerAt N B (suc (topNumber v))) (openingHeader N B (nextVersion v) (suc (topNumber v)))
   unfolding openNext
-  open-steps = open-segment-page N B (suc (topNumber v))
+  open-steps = open-segment-page N B (nextVersion v) (suc (topNumber v))
 
-  pub open-cut : CleanView N B v → hasRoom v ≡ false → length (v .slots) < N - 1 → suc (topNumber v) < numberLimit N → (u : Image) → Cut B (openNext N B v .steps) s u → SoundWith N B u (entriesIn v)
-  open-cut c full few-used below u cut =
+  new-former : Carries v → isFormer (openNext N B v .result .version) ≡ isFormer (v .version)
+  unfolding openNext nextVersion newVersion isFormer
+  new-former carries = sym (carries .second)
+
+  pub open-cut : CleanView N B v → Carries v → hasRoom v ≡ false → length (v .slots) < N - 1 → suc (topNumber v) < numberLimit N → (u : Image) → Cut B (openNext N B v .steps) s u → SoundWith N B u v
+  unfolding nextVersion
+  open-cut c carries full few-used below u cut =
       let n = suc (topNumber v) in
-      let xs = openingHeader N B n in
-      let p = opening-in-page N B n in
+      let total = tallyOf (v .version) in
+      let xs = openingHeader N B (newVersion total) n in
+      let p = opening-in-page N B (newVersion total) n in
       let k = rw open-steps at cut in
       let small : N < 256 = few N B (size .two) (size .most) (size .mostB) s (size .whole) n below in
       ⊎-elim
       (λ six. next-torn N B s v h c u (cut-size N B (openNext N B v .steps) s u cut ∙ h .size) (header-touched N B s size n below xs p u k) six)
-      (λ e. let whole = header-whole N B s size n below xs p u k (e ∙ sym (ap (λ (y : Page). run B xs y) free-page ∙ opening-run N B n small (size .mostB))) in
+      (λ e. let whole = header-whole N B s size n below xs p u k (e ∙ sym (ap (λ (y : Page). run B xs y) free-page ∙ opening-run N B total n small (size .mostB))) in
       let w = run B (openNext N B v .steps) s in
-      let r = open-held N B s v h below few-used in
-      let t : tableOf N B w ≡ entriesIn v = held-table N B w (openNext N B v .result) r ∙ opened-entries N B v in
-      rw t at (segments-show N B w u (clean-of-held N B w (openNext N B v .result) r (opened-clean c full few-used)) (whole ∙ ap (λ y. segmentsOf N B (run B y s)) (sym open-steps))))
-      (opening-cut N B n (getD (partOf N B (n % N) u) 0 []) small (size .mostB) (header-cut N B s size n below xs p u k (erased 256) free-page))
+      let r = held-shows N B w (openNext N B v .result) u (open-held N B s v h carries below few-used) (opened-clean c full few-used) (whole ∙ ap (λ y. segmentsOf N B (run B y s)) (sym open-steps)) in
+      (r .0, rw (opened-entries N B v) at (r .1), r .2 ∙ new-former carries))
+      (opening-cut N B total n (getD (partOf N B (n % N) u) 0 []) small (size .mostB) (header-cut N B s size n below xs p u k (erased 256) free-page))
 
 -- ---- compaction
 
@@ -142,7 +146,7 @@ module _ (N B : ℕ) (s : Image) (v : View) (f : Full N B s v) where
 
   -- the header begun
   abbrev begin : List Step
-  begin = onPage (headerAt N B n) (compactionHeader N B n (o % N))
+  begin = onPage (headerAt N B n) (compactionHeader N B (nextVersion v) n (o % N))
 
   abbrev s1 : Image
   s1 = run B begin s
@@ -151,17 +155,18 @@ module _ (N B : ℕ) (s : Image) (v : View) (f : Full N B s v) where
   size1 = size-facts N B s1 (run-size N B begin s ∙ h .size)
 
   begun-header : Only N B i s s1 × (partOf N B i s1 ≡ set (partOf N B i s) 0 (begunPage N B (o % N)))
-  begun-header = begun N B (d .two) (d .most) (d .mostB) s (d .whole) o n (f .below) (old-after N B s v h (f .below) (f .all) es (old-valid N B s v f) (old-fits N B s v f))
+  unfolding nextVersion
+  begun-header = begun N B (d .two) (d .most) (d .mostB) s (d .whole) (tallyOf (v .version)) o n (f .carries .fits) (f .below) (old-after N B s v h (f .carries) (f .below) (f .all) es (old-valid N B s v f) (old-fits N B s v f))
       es (old-valid N B s v f) (old-fits N B s v f) (next-free N B s v h)
 
   page1 : getD (partOf N B i s1) 0 [] ≡ begunPage N B (o % N)
   page1 = ap (λ (x : List Page). getD x 0 []) (begun-header .1)
       ∙ getD-set-same (partOf N B i s) 0 (begunPage N B (o % N)) [] (omega (arith, part-size N B i s (index N B (d .two) s (d .whole) n)))
 
-  begin-cut : (u : Image) → rightSize N B u ≡ true → Cut B begin s u → SoundWith N B u (entriesIn v)
-  begin-cut u z c = let xs = compactionHeader N B n (o % N) in let p = compaction-in-page N B n (o % N) in
+  begin-cut : (u : Image) → rightSize N B u ≡ true → Cut B begin s u → SoundWith N B u v
+  begin-cut u z c = let xs = compactionHeader N B (nextVersion v) n (o % N) in let p = compaction-in-page N B (nextVersion v) n (o % N) in
       next-torn N B s v h (f .clean) u z (header-touched N B s d n (f .below) xs p u c)
-      (compaction-cut N B n (o % N) (getD (partOf N B i u) 0 []) (header-cut N B s d n (f .below) xs p u c (erased 256) (free-page N B s v h)))
+      (compaction-cut N B (nextVersion v) n (o % N) (getD (partOf N B i u) 0 []) (header-cut N B s d n (f .below) xs p u c (erased 256) (free-page N B s v h)))
 
   -- the slots copied
   abbrev copying : List Step
@@ -177,7 +182,7 @@ module _ (N B : ℕ) (s : Image) (v : View) (f : Full N B s v) where
   copy-touched u c = only-trans N B i s s1 u (begun-header .0)
       (only-cut N B i copying s1 u (index N B (d .two) s (d .whole) n) (copy-in-segment N B (d .two) n es 0 (old-valid N B s v f) copied-fit) c)
 
-  copy-cut : (u : Image) → rightSize N B u ≡ true → Cut B copying s1 u → SoundWith N B u (entriesIn v)
+  copy-cut : (u : Image) → rightSize N B u ≡ true → Cut B copying s1 u → SoundWith N B u v
   copy-cut u z c = next-torn N B s v h (f .clean) u z (copy-touched u c) (rw (copy-page u c) (begun-bit-6 N B (o % N)))
 
   -- the number and the owing mark
@@ -188,44 +193,46 @@ module _ (N B : ℕ) (s : Image) (v : View) (f : Full N B s v) where
   size2 = size-facts N B s2 (run-size N B copying s1 ∙ (run-size N B begin s ∙ h .size))
 
   abbrev finish : List Step
-  finish = onPage (headerAt N B n) (pendingHeader N B n (o % N))
+  finish = onPage (headerAt N B n) (pendingHeader N B (nextVersion v) n (o % N))
 
-  the-run : run B (copyOut N B o n es) s ≡ run B finish s2
-  the-run = ap (λ (x : List Step). run B x s) (copy-out-pages N B o n es) ∙ (run-append B begin (copying ++ finish) s ∙ run-append B copying finish s1)
+  the-run : run B (copyOut N B (nextVersion v) o n es) s ≡ run B finish s2
+  the-run = ap (λ (x : List Step). run B x s) (copy-out-pages N B (nextVersion v) o n es) ∙ (run-append B begin (copying ++ finish) s ∙ run-append B copying finish s1)
 
   touched2 : (u : Image) → Cut B finish s2 u → Only N B i s u
-  touched2 u c = only-trans N B i s s2 u (copy-touched s2 (whole-cut B copying s1)) (header-touched N B s2 size2 n (f .below) (pendingHeader N B n (o % N)) (pending-in-page N B n (o % N)) u c)
+  touched2 u c = only-trans N B i s s2 u (copy-touched s2 (whole-cut B copying s1)) (header-touched N B s2 size2 n (f .below) (pendingHeader N B (nextVersion v) n (o % N)) (pending-in-page N B (nextVersion v) n (o % N)) u c)
 
   -- with the segments of the whole of it, the image owes the erase
-  owes : (u : Image) → rightSize N B u ≡ true → Only N B i s u → segmentsOf N B u ≡ segmentsOf N B (run B (copyOut N B o n es) s) → Owing N B s v f u
-  owes u z touched e = owing-left N B s v f u z touched (e ∙ copied-segments N B s v h (f .below) (f .all) es (old-valid N B s v f) (old-fits N B s v f))
+  owes : (u : Image) → rightSize N B u ≡ true → Only N B i s u → segmentsOf N B u ≡ segmentsOf N B (run B (copyOut N B (nextVersion v) o n es) s) → Owing N B s v f u
+  owes u z touched e = owing-left N B s v f u z touched (e ∙ copied-segments N B s v h (f .carries) (f .below) (f .all) es (old-valid N B s v f) (old-fits N B s v f))
 
-  finish-cut : (u : Image) → rightSize N B u ≡ true → Cut B finish s2 u → SoundWith N B u (entriesIn v)
+  finish-cut : (u : Image) → rightSize N B u ≡ true → Cut B finish s2 u → SoundWith N B u v
+  unfolding nextVersion
   finish-cut u z c =
-      let xs = pendingHeader N B n (o % N) in
-      let p = pending-in-page N B n (o % N) in
+      let xs = pendingHeader N B (nextVersion v) n (o % N) in
+      let p = pending-in-page N B (nextVersion v) n (o % N) in
       let page2 = copy-page s2 (whole-cut B copying s1) in
       ⊎-elim
       (λ six. next-torn N B s v h (f .clean) u z (touched2 u c) six)
-      (λ e. let whole = header-whole N B s2 size2 n (f .below) xs p u c (e ∙ sym (ap (λ (x : Page). run B xs x) page2 ∙ pending-run N B n (o % N))) in
+      (λ e. let whole = header-whole N B s2 size2 n (f .below) xs p u c (e ∙ sym (ap (λ (x : Page). run B xs x) page2 ∙ pending-run N B (tallyOf (v .version)) n (o % N))) in
       owes u z (touched2 u c) (whole ∙ ap (λ x. segmentsOf N B x) (sym the-run)) .shows)
-      (pending-cut N B n (o % N) (getD (partOf N B i u) 0 []) (header-cut N B s2 size2 n (f .below) xs p u c (begunPage N B (o % N)) page2))
+      (pending-cut N B (tallyOf (v .version)) n (o % N) (getD (partOf N B i u) 0 []) (header-cut N B s2 size2 n (f .below) xs p u c (begunPage N B (o % N)) page2))
 
-  copy-out-cut : (u : Image) → Cut B (copyOut N B o n es) s u → SoundWith N B u (entriesIn v)
+  copy-out-cut : (u : Image) → Cut B (copyOut N B (nextVersion v) o n es) s u → SoundWith N B u v
   copy-out-cut u c =
-      let z = cut-size N B (copyOut N B o n es) s u c ∙ h .size in
+      let z = cut-size N B (copyOut N B (nextVersion v) o n es) s u c ∙ h .size in
       ⊎-elim (λ k. begin-cut u z k) (λ k. ⊎-elim (λ r. copy-cut u z r) (λ r. finish-cut u z r) (cut-append B copying finish s1 u k))
-      (cut-append B begin (copying ++ finish) s u (rw (copy-out-pages N B o n es) at c))
+      (cut-append B begin (copying ++ finish) s u (rw (copy-out-pages N B (nextVersion v) o n es) at c))
 
-  -- the rest, the old segment erased and the status after it, is the recovery of state (b)
-  pub compact-cut : (u : Image) → Cut B (compactOldest N B v .steps) s u → SoundWith N B u (entriesIn v)
+  -- the rest, the old segment erased and the status after it, is how the recovery of state (b) ends
+  pub compact-cut : (u : Image) → Cut B (compactOldest N B v .steps) s u → SoundWith N B u v
   unfolding compactOldest compact
   compact-cut u c =
-      let t = run B (copyOut N B o n es) s in
-      let z = run-size N B (copyOut N B o n es) s ∙ h .size in
+      let t = run B (copyOut N B (nextVersion v) o n es) s in
+      let z = run-size N B (copyOut N B (nextVersion v) o n es) s ∙ h .size in
       let w = owes t z (rw the-run (touched2 (run B finish s2) (whole-cut B finish s2))) refl in
+      let after : (o + N) % N ≡ o % N = add-mod-right o N in
+      let last : o + N - 1 ≡ n = omega (arith, ring-closed N B s v h (f .carries) (f .below) (f .all) es (old-valid N B s v f) (old-fits N B s v f)) in
       ⊎-elim
       (λ k. copy-out-cut u k)
-      (λ k. let r = recover-cut N B t u z (w .shows .0) (rw (w .steps) k) in
-      (r .0, agree-trans (shown N B u) (shown N B t) (entriesIn v) (r .1) (w .shows .1)))
-      (cut-append B (copyOut N B o n es) (erase (o % N) ∷ settle N B n) s u c)
+      (λ k. kept-shows N B t u (entriesIn v) (isFormer (v .version)) (w .shows) (rest-cut N B t z (w .pending) (w .shows .0) u (rw (w .next, after, last) k)))
+      (cut-append B (copyOut N B (nextVersion v) o n es) (erase (o % N) ∷ settle N B n) s u c)

@@ -7,7 +7,7 @@ use native.Mathlib.Omega.{arith}
 use lib.ListN.{length, getD, set}
 use lib.Seq.{set-set, set-getD, getD-set-same}
 use Rattle.model.specs.Chip.{Image, rightSize}
-use Rattle.model.specs.Header.{allBlank}
+use Rattle.model.specs.Header.{isFormer, allBlank}
 use Rattle.model.specs.State.{Segment, blank, invalid, segmentOf, segmentsOf, isInvalid, numberAfter, nextNumber, nextIndex, View, view, entriesIn, isClean, nextBlanked, isA, caseA, unfinished}
 use Rattle.model.specs.Steps.{headerAt, topNumber}
 use Rattle.model.specs.Laws.Lists.{and-both}
@@ -20,8 +20,13 @@ use Rattle.bridge.specs.Held.{Held, held-top, held-clean, clean-of-held, held-t
 use Rattle.bridge.specs.Done.{next-free}
 use Rattle.crash.specs.Sound.{SoundAs}
 use Rattle.crash.specs.States.{isCase, mended, SoundWith, segments-show}
-use Rattle.crash.specs.RecoverErase.{header-byte}
+use Rattle.crash.specs.RecoverCount.{header-byte}
 use Rattle.crash.specs.Recover.{case-shows}
+
+-- an image with the segments of a clean one that is held shows its view
+pub held-shows : (N B : ℕ) (s : Image) (v : View) (u : Image) → Held N B s v → CleanView N B v → segmentsOf N B u ≡ segmentsOf N B s → SoundWith N B u v
+held-shows N B s v u h c e = let r = segments-show N B s u (clean-of-held N B s v h c) e in
+    (r .0, rw (held-table N B s v h) at (r .1), r .2 ∙ ap (λ (y : View). isFormer (y .version)) (h .view))
 
 -- bit 6 of a status byte
 abbrev pub BitSix : ℕ → Type 0
@@ -56,19 +61,19 @@ module _ (N B : ℕ) (s : Image) (v : View) (h : Held N B s v) (c : CleanView N 
   spoilt-case = and-both (isInvalid (getD spoilt (nextNumber spoilt % N) blank)) (isClean N B (nextBlanked N spoilt))
       (rw spoilt-next (ap isInvalid (getD-set-same segments i invalid blank inside))) (ap (λ y. isClean N B y) spoilt-mended ∙ held-clean N B s v h c)
 
-  spoilt-left : (u : Image) → rightSize N B u ≡ true → segmentsOf N B u ≡ spoilt → BitSix (getD (getD (partOf N B i u) 0 []) 5 0) → SoundWith N B u (entriesIn v)
+  spoilt-left : (u : Image) → rightSize N B u ≡ true → segmentsOf N B u ≡ spoilt → BitSix (getD (getD (partOf N B i u) 0 []) 5 0) → SoundWith N B u v
   unfolding view headerAt
   spoilt-left u z e six =
       let low : i < N = omega (arith, inside, h .ring .size) in
       let bit : SoundAs N B u (segmentsOf N B u) (unfinished caseA) = rw (e, spoilt-next, ← (header-byte N B i 5 u low (omega arith))) six in
       rw (h .view) at (case-shows N B u caseA z (rw e spoilt-case) segments (rw e spoilt-mended) bit)
 
-  pub next-torn : (u : Image) → rightSize N B u ≡ true → Only N B i s u → BitSix (getD (getD (partOf N B i u) 0 []) 5 0) → SoundWith N B u (entriesIn v)
+  pub next-torn : (u : Image) → rightSize N B u ≡ true → Only N B i s u → BitSix (getD (getD (partOf N B i u) 0 []) 5 0) → SoundWith N B u v
   next-torn u z o six = go (allBlank (partOf N B i u)) refl
     where
       kind : segmentOf N B i (partOf N B i u) ≡ cond (allBlank (partOf N B i u)) blank invalid
       kind = unfold segmentOf in (rw (bit-6-unused N B i (getD (partOf N B i u) 0 []) six))
 
-      go : (t : Bool) → allBlank (partOf N B i u) ≡ t → SoundWith N B u (entriesIn v)
-      go true e = rw (held-table N B s v h) at (segments-show N B s u (clean-of-held N B s v h c) (only-segments N B i s u o ∙ (ap (λ (y : Segment). set segments i y) (kind ∙ rw e) ∙ blanked)))
+      go : (t : Bool) → allBlank (partOf N B i u) ≡ t → SoundWith N B u v
+      go true e = held-shows N B s v u h c (only-segments N B i s u o ∙ (ap (λ (y : Segment). set segments i y) (kind ∙ rw e) ∙ blanked))
       go false e = spoilt-left u z (only-segments N B i s u o ∙ ap (λ (y : Segment). set segments i y) (kind ∙ rw e)) six

@@ -2,15 +2,17 @@
 use Prim.Native.Nat.{ℕ, _<_}
 use mathlib.Core.Path.{_≡_, sym, subst}
 use mathlib.Core.Logic.{_≢_}
-use mathlib.Core.Bool.{true}
+use mathlib.Core.Bool.{true, false}
 use mathlib.Core.List.{List, [], _∷_, _++_}
 use lib.ListN.{length}
 use Rattle.model.specs.Chip.{Image, Bytes, rightSize}
+use Rattle.model.specs.Header.{isFormer}
 use Rattle.model.specs.Slot.{numberOk}
-use Rattle.model.specs.State.{capacity, clean, state}
+use Rattle.model.specs.State.{clean, state, view}
 use Rattle.model.specs.Table.{Found, lookup, tableOf}
 use Rattle.model.specs.Histories.{answered, Event, History}
 use Rattle.crash.specs.Machine.{settled, unknown, NoFormat}
+use Rattle.crash.specs.Demand2.{second}
 use Rattle.crash.specs.Reading.{codeSeen, format-starts}
 use Rattle.crash.specs.ReadingRuns.{PutAmong, put-some, Known, FinishedFormat, runs-known, runs-append, Reads, factoryOf, gives, shows-only-what-was-put, AllSpare, runs-keep, replied, read-back, Leaves, acknowledged-stays}
 use Rattle.crash.specs.Theorem.{demand2, from-clean}
@@ -20,7 +22,7 @@ pub store-shows-only-what-was-put : (N B : ℕ) (s u : Image) (past es : List Ev
     → History N B s (past ++ (f ∷ (es ++ (e ∷ [])))) u → FinishedFormat f → NoFormat es → Reads b (e .request) → e .seen ≡ answered (gives c) → PutAmong b c es
 store-shows-only-what-was-put N B s u past es f e b c z h done none q g =
     let (x, runs, keeps) = demand2 N B s u (past ++ (f ∷ (es ++ (e ∷ [])))) z h in
-    shows-only-what-was-put (capacity N B) unknown x past es f e b c runs done none q g
+    shows-only-what-was-put (second N B) unknown x past es f e b c runs done none q g
 
 -- Request #105, "a tenant saw shelves without owners": no read that answers 0 shows contents of 0 bytes, from a finished format on.
 pub store-never-shows-empty : (N B : ℕ) (s u : Image) (past es : List Event) (f e : Event) (b : ℕ) (c : List ℕ) → rightSize N B s ≡ true
@@ -34,7 +36,7 @@ pub store-acknowledged-stays : (N B : ℕ) (s u : Image) (past before es : List 
     → Leaves b z (d .request) → codeSeen (d .seen) ≡ 0 → AllSpare b es → Reads b (e .request) → numberOk b ≡ true
     → codeSeen (e .seen) ≢ 9 → codeSeen (e .seen) ≢ 5 → e .seen ≡ answered (replied (factoryOf (e .request)) z)
 store-acknowledged-stays N B s u past before es f d e b z size h done none leaves acknowledged spare q n cut asks =
-    let C = capacity N B in
+    let C = second N B in
     let (y, runs, keeps) = demand2 N B s u (past ++ (f ∷ (before ++ (d ∷ (es ++ (e ∷ [])))))) size h in
     let (start, formatted, (fresh, formatting, rest)) = runs-append C past (f ∷ (before ++ (d ∷ (es ++ (e ∷ []))))) unknown y runs in
     let (x, since, doing) = runs-append C before (d ∷ (es ++ (e ∷ []))) fresh y rest in
@@ -45,10 +47,10 @@ store-acknowledged-stays N B s u past before es f d e b z size h done none leave
 -- is what every read of that block shows until the block is put or deleted, through every put of others, every put of its own that is refused for its number
 -- or length, every power cut and recovery.
 pub store-stored-stays : (N B : ℕ) (s u : Image) (es : List Event) (e : Event) (b : ℕ) (z : Found) → rightSize N B s ≡ true → Bytes s → state N B s ≡ clean
-    → lookup b (tableOf N B s) ≡ z → History N B s (es ++ (e ∷ [])) u → AllSpare b es → Reads b (e .request) → numberOk b ≡ true
+    → isFormer (view N B s .version) ≡ false → lookup b (tableOf N B s) ≡ z → History N B s (es ++ (e ∷ [])) u → AllSpare b es → Reads b (e .request) → numberOk b ≡ true
     → codeSeen (e .seen) ≢ 9 → codeSeen (e .seen) ≢ 5 → e .seen ≡ answered (replied (factoryOf (e .request)) z)
-store-stored-stays N B s u es e b z size bytes tidy stored h spare q n cut asks =
-    let C = capacity N B in
-    let (y, runs, keeps) = from-clean N B s u (es ++ (e ∷ [])) size bytes tidy h in
+store-stored-stays N B s u es e b z size bytes tidy new stored h spare q n cut asks =
+    let C = second N B in
+    let (y, runs, keeps) = from-clean N B s u (es ++ (e ∷ [])) size bytes tidy new h in
     let (last, since, (end, reading, nothing)) = runs-append C es (e ∷ []) (settled (tableOf N B s)) y runs in
     read-back reading b z (runs-keep C es (settled (tableOf N B s)) last since b z spare stored) q n cut asks

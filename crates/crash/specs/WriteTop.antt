@@ -9,28 +9,29 @@ use lib.ListN.{length, getD, set}
 use lib.Seq.{set-set, set-getD, set-at, getD-at, getD-set-same}
 use lib.Dec.{ltb}
 use Rattle.model.specs.Chip.{Image, rightSize, run, Cut}
+use Rattle.model.specs.Header.{Version, isFormer}
 use Rattle.model.specs.Slot.{Slot, empty, torn, dead, live, isEmpty, isTorn, isWrong, entryOf, numberOk}
 use Rattle.model.specs.State.{Segment, blank, inUse, segmentsOf, slotsIn, numberAfter, nextNumber, topIndex, topSlots, firstNumber, View, viewOf, view, entries, entriesIn, holds, distinct, isClean, withSlot, filled, lastSlot, lastKind, tornMarked, isC, placeOf, blockIn, lastBlock, copies, older, olderMarked, isD, caseC, caseD}
 use Rattle.model.specs.Steps.{topRow, topNumber, firstEmpty, onPage, slotAt, writeSlot, markPlace, markOld, mendSteps, writeAtTop}
 use Rattle.model.specs.Answers.{recover, workOf}
-use Rattle.model.specs.Histories.{shown}
 use Rattle.model.specs.Laws.Lists.{and-left, and-both}
 use Rattle.model.specs.Laws.Chip.{SizeFacts, size-facts, cut-append, cut-size}
 use Rattle.model.specs.Laws.SlotPage.{Valid, write-in-page}
 use Rattle.model.specs.Laws.PageCuts.{write-cut-kind}
-use Rattle.model.specs.Laws.Tables.{copies-append, copies-cons-same, copies-none, held-copies, distinct-copies, agree-trans}
+use Rattle.model.specs.Laws.Tables.{copies-append, copies-cons-same, copies-none, held-copies, distinct-copies}
 use Rattle.model.specs.Laws.Effects.{slot-cut, empty-page, write-effect}
 use Rattle.model.specs.Laws.Ring.{next-kept}
 use Rattle.model.specs.Laws.Clean.{index-inside}
-use Rattle.model.specs.Laws.View.{slotChanged, slot-ring, slot-view}
-use Rattle.bridge.specs.Predicted.{written, putInto, CleanView}
+use Rattle.model.specs.Laws.View.{slot-ring, slot-view}
+use Rattle.bridge.specs.Predicted.{slotChanged, written, putInto, CleanView}
 use Rattle.bridge.specs.Views.Slots.{filled-at}
 use Rattle.bridge.specs.Views.Places.{fill, fill-entries, fill-changed, TopGap, written-entries, written-place, written-holds, gap-row, InView, in-view}
 use Rattle.bridge.specs.Views.Shape.{clean-shape, shape-clean, clean-distinct, clean-within, filled-shape}
-use Rattle.bridge.specs.Held.{Held, held-first, held-top, held-row, held-clean, segments-clean, clean-of-held, held-table}
-use Rattle.bridge.specs.Requests.{write-top-held, put-held}
+use Rattle.bridge.specs.Held.{Held, held-first, held-top, held-row, held-clean, segments-clean}
+use Rattle.bridge.specs.Requests.{write-top-held, put-version, put-held}
 use Rattle.crash.specs.Sound.{LeftWith}
-use Rattle.crash.specs.States.{isCase, mended, SoundWith, segments-show}
+use Rattle.crash.specs.States.{isCase, mended, SoundWith, kept-shows}
+use Rattle.crash.specs.RoomTorn.{held-shows}
 use Rattle.crash.specs.RecoverMarks.{Marks, live-place, live-marks, mark-segments}
 use Rattle.crash.specs.Recover.{case-steps, case-shows, recover-cut}
 
@@ -63,11 +64,11 @@ module _ (N B : ℕ) (s : Image) (v : View) (h : Held N B s v) (clean : CleanVie
   inside : j < B
   inside = rw (gap .slot) (place .short)
 
-  top-segment : (st : ℕ) × (getD segments (n % N) blank ≡ inUse st n (row empty))
+  top-segment : (ver : Version) × (st : ℕ) × (getD segments (n % N) blank ≡ inUse ver st n (row empty))
   top-segment =
       let x = held-row N B s v h (length (gap .gap .rowsBefore)) (place .row) in
       let r : getD (v .slots) (length (gap .gap .rowsBefore)) [] ≡ row empty = ap (λ (y : List (List Slot)). getD y (length (gap .gap .rowsBefore)) []) (gap .split) ∙ gap-row (gap .gap) empty in
-      (x .0, rw (← (gap .number), r) at (x .1))
+      (x .0, x .1, rw (← (gap .number), r) at (x .2))
 
   row-at : (k : Slot) → getD (row k) j empty ≡ k
   row-at k = getD-at (gap .gap .before) k (gap .gap .after) empty j (sym (gap .slot))
@@ -75,24 +76,24 @@ module _ (N B : ℕ) (s : Image) (v : View) (h : Held N B s v) (clean : CleanVie
   top-inside : n % N < length segments
   top-inside = index-inside N segments (h .ring) n
 
-  with-slot : (k m : Slot) (st : ℕ) → withSlot j k (inUse st n (row m)) ≡ inUse st n (row k)
+  with-slot : (k m : Slot) → withSlot j k (inUse (top-segment .0) (top-segment .1) n (row m)) ≡ inUse (top-segment .0) (top-segment .1) n (row k)
   unfolding withSlot
-  with-slot k m st = ap (λ y. inUse st n y) (set-at (gap .gap .before) m (gap .gap .after) k j (sym (gap .slot)))
+  with-slot k m = ap (λ y. inUse (top-segment .0) (top-segment .1) n y) (set-at (gap .gap .before) m (gap .gap .after) k j (sym (gap .slot)))
 
-  changed-as : (k : Slot) → changed k ≡ set segments (n % N) (inUse (top-segment .0) n (row k))
-  changed-as k = ap (λ (y : Segment). set segments (n % N) y) (ap (λ y. withSlot j k y) (top-segment .1) ∙ with-slot k empty (top-segment .0))
+  changed-as : (k : Slot) → changed k ≡ set segments (n % N) (inUse (top-segment .0) (top-segment .1) n (row k))
+  changed-as k = ap (λ (y : Segment). set segments (n % N) y) (ap (λ y. withSlot j k y) (top-segment .2) ∙ with-slot k empty)
 
-  changed-top : (k : Slot) → getD (changed k) (n % N) blank ≡ inUse (top-segment .0) n (row k)
-  changed-top k = ap (λ (y : List Segment). getD y (n % N) blank) (changed-as k) ∙ getD-set-same segments (n % N) (inUse (top-segment .0) n (row k)) blank top-inside
+  changed-top : (k : Slot) → getD (changed k) (n % N) blank ≡ inUse (top-segment .0) (top-segment .1) n (row k)
+  changed-top k = ap (λ (y : List Segment). getD y (n % N) blank) (changed-as k) ∙ getD-set-same segments (n % N) (inUse (top-segment .0) (top-segment .1) n (row k)) blank top-inside
 
   -- changed again
   changed-twice : (k m : Slot) → set (changed k) (n % N) (withSlot j m (getD (changed k) (n % N) blank)) ≡ changed m
   changed-twice k m =
-      ap₂ {C = List Segment} (λ y x. set y (n % N) x) (changed-as k) (ap (λ y. withSlot j m y) (changed-top k) ∙ with-slot m k (top-segment .0))
-      ∙ (set-set segments (n % N) (inUse (top-segment .0) n (row k)) (inUse (top-segment .0) n (row m)) ∙ sym (changed-as m))
+      ap₂ {C = List Segment} (λ y x. set y (n % N) x) (changed-as k) (ap (λ y. withSlot j m y) (changed-top k) ∙ with-slot m k)
+      ∙ (set-set segments (n % N) (inUse (top-segment .0) (top-segment .1) n (row k)) (inUse (top-segment .0) (top-segment .1) n (row m)) ∙ sym (changed-as m))
 
   changed-same : changed empty ≡ segments
-  changed-same = changed-as empty ∙ (ap (λ (y : Segment). set segments (n % N) y) (sym (top-segment .1)) ∙ set-getD segments (n % N) blank)
+  changed-same = changed-as empty ∙ (ap (λ (y : Segment). set segments (n % N) y) (sym (top-segment .2)) ∙ set-getD segments (n % N) blank)
 
   low : firstNumber segments ≤ n
   low = omega (arith, gap .number, held-first N B s v h)
@@ -100,7 +101,7 @@ module _ (N B : ℕ) (s : Image) (v : View) (h : Held N B s v) (clean : CleanVie
   high : n < nextNumber segments
   high = omega (arith, held-top N B s v h)
 
-  changed-view : (k : Slot) → viewOf N (changed k) ≡ record { first = v .first; slots = fill (gap .gap) k }
+  changed-view : (k : Slot) → viewOf N (changed k) ≡ record { first = v .first; slots = fill (gap .gap) k; version = v .version }
   unfolding view
   changed-view k = slot-view N segments (h .ring) n j k low high
       ∙ (ap (λ y. slotChanged n j k y) (h .view) ∙ fill-changed v (gap .gap) empty k n j (gap .split) (gap .number) (gap .slot))
@@ -108,7 +109,7 @@ module _ (N B : ℕ) (s : Image) (v : View) (h : Held N B s v) (clean : CleanVie
   changed-next : (k : Slot) → nextNumber (changed k) ≡ suc n
   unfolding numberAfter
   changed-next k = ap nextNumber (changed-as k)
-      ∙ (next-kept segments (n % N) (inUse (top-segment .0) n (row k)) (ap numberAfter (sym (top-segment .1))) ∙ sym (held-top N B s v h))
+      ∙ (next-kept segments (n % N) (inUse (top-segment .0) (top-segment .1) n (row k)) (ap numberAfter (sym (top-segment .2))) ∙ sym (held-top N B s v h))
 
   -- it is the last of the top that is not empty
   changed-index : (k : Slot) → topIndex N (changed k) ≡ n % N
@@ -130,7 +131,7 @@ module _ (N B : ℕ) (s : Image) (v : View) (h : Held N B s v) (clean : CleanVie
   -- ---- torn: state (c), with the old table
 
   abbrev deadView : View
-  deadView = record { first = v .first; slots = fill (gap .gap) dead }
+  deadView = record { first = v .first; slots = fill (gap .gap) dead; version = v .version }
 
   -- a dead slot holds no more than an empty one
   dead-entries : entriesIn deadView ≡ entriesIn v
@@ -151,8 +152,9 @@ module _ (N B : ℕ) (s : Image) (v : View) (h : Held N B s v) (clean : CleanVie
   torn-case = and-both (isTorn (lastKind N (changed torn))) (isClean N B (tornMarked N (changed torn))) (ap isTorn (changed-last torn refl))
       (ap (λ y. isClean N B y) torn-mended ∙ segments-clean N B (changed dead) (slot-ring N segments (h .ring) n j dead low high) (rw (changed-view dead) dead-clean))
 
-  torn-left : (u : Image) → rightSize N B u ≡ true → segmentsOf N B u ≡ changed torn → SoundWith N B u (entriesIn v)
-  torn-left u z e = rw (ap entriesIn (changed-view dead) ∙ dead-entries) at (case-shows N B u caseC z (rw e torn-case) (changed dead) (rw e torn-mended) tt)
+  torn-left : (u : Image) → rightSize N B u ≡ true → segmentsOf N B u ≡ changed torn → SoundWith N B u v
+  torn-left u z e = let r = case-shows N B u caseC z (rw e torn-case) (changed dead) (rw e torn-mended) tt in
+      (r .0, rw (ap entriesIn (changed-view dead) ∙ dead-entries) at (r .1), r .2 ∙ ap (λ (y : View). isFormer (y .version)) (changed-view dead))
 
   -- ---- live: clean if the block was not stored, and state (d) if it was, with the new table
 
@@ -165,11 +167,10 @@ module _ (N B : ℕ) (s : Image) (v : View) (h : Held N B s v) (clean : CleanVie
 
     wrote-segments : segmentsOf N B wrote ≡ changed (live b c)
     unfolding writeAtTop
-    wrote-segments = write-effect N B (size .two) s (size .whole) n j (top-segment .0) n (row empty) inside (top-segment .1) b c valid (row-at empty)
+    wrote-segments = write-effect N B (size .two) s (size .whole) n j (top-segment .0) (top-segment .1) n (row empty) inside (top-segment .2) b c valid (row-at empty)
 
-    new-left : holds b (entriesIn v) ≡ false → (u : Image) → segmentsOf N B u ≡ segmentsOf N B wrote → SoundWith N B u (entriesIn (putInto b c v))
-    new-left absent u e = rw absent
-        (rw (held-table N B wrote (written b c v) wrote-held) at (segments-show N B wrote u (clean-of-held N B wrote (written b c v) wrote-held (rw absent at after)) e))
+    new-left : holds b (entriesIn v) ≡ false → (u : Image) → segmentsOf N B u ≡ segmentsOf N B wrote → SoundWith N B u (putInto b c v)
+    new-left absent u e = rw absent (held-shows N B wrote (written b c v) u wrote-held (rw absent at after) e)
 
     module _ (stored : holds b (entriesIn v) ≡ true) where
       abbrev both : List Segment
@@ -218,43 +219,42 @@ module _ (N B : ℕ) (s : Image) (v : View) (h : Held N B s v) (clean : CleanVie
       unfolding mendSteps
       stored-steps = case-steps N B wrote caseD (wrote-held .size) both-case ∙ ap (λ y. markPlace N B y) older-place
 
-      stored-left : (u : Image) → rightSize N B u ≡ true → segmentsOf N B u ≡ segmentsOf N B wrote → SoundWith N B u (entriesIn (putInto b c v))
+      stored-left : (u : Image) → rightSize N B u ≡ true → segmentsOf N B u ≡ segmentsOf N B wrote → SoundWith N B u (putInto b c v)
       unfolding view
       stored-left u z e = rw (new-held .view) at (case-shows N B u caseD z (rw e both-case) (segmentsOf N B onlyNew) (rw e older-mended) tt)
 
-    live-left : (u : Image) → rightSize N B u ≡ true → segmentsOf N B u ≡ segmentsOf N B wrote → SoundWith N B u (entriesIn (putInto b c v))
+    live-left : (u : Image) → rightSize N B u ≡ true → segmentsOf N B u ≡ segmentsOf N B wrote → SoundWith N B u (putInto b c v)
     live-left u z e = go (holds b (entriesIn v)) refl
       where
-        go : (t : Bool) → holds b (entriesIn v) ≡ t → SoundWith N B u (entriesIn (putInto b c v))
+        go : (t : Bool) → holds b (entriesIn v) ≡ t → SoundWith N B u (putInto b c v)
         go true k = stored-left k u z e
         go false k = new-left k u e
 
     -- ---- cut in writing the slot, or in marking the old one
 
-    write-cut : (u : Image) → Cut B (writeAtTop N B b c v) s u → LeftWith N B u (entriesIn v) (entriesIn (putInto b c v))
+    write-cut : (u : Image) → Cut B (writeAtTop N B b c v) s u → LeftWith N B u (entriesIn v) (entriesIn (putInto b c v)) (isFormer (v .version))
     unfolding writeAtTop
     write-cut u k =
         let z = cut-size N B (onPage (slotAt N B n j) (writeSlot b c)) s u k ∙ h .size in
-        let x = slot-cut N B (size .two) s (size .whole) n j (top-segment .0) n (row empty) inside (top-segment .1) (writeSlot b c) (write-in-page b c (valid .short)) u k in
-        let p = rw (empty-page N B (size .two) s (size .whole) n j (top-segment .0) n (row empty) inside (top-segment .1) (row-at empty)) at (x .1) in
+        let x = slot-cut N B (size .two) s (size .whole) n j (top-segment .0) (top-segment .1) n (row empty) inside (top-segment .2) (writeSlot b c) (write-in-page b c (valid .short)) u k in
+        let p = rw (empty-page N B (size .two) s (size .whole) n j (top-segment .0) (top-segment .1) n (row empty) inside (top-segment .2) (row-at empty)) at (x .1) in
         ⊎-elim
-        (λ e. let r = rw (held-table N B s v h) at (segments-show N B s u (clean-of-held N B s v h clean) ((rw e at (x .2)) ∙ changed-same)) in (r .0, inl (r .1)))
+        (λ e. let r = held-shows N B s v u h clean ((rw e at (x .2)) ∙ changed-same) in (r .0, inl (r .1), r .2))
         (λ q. ⊎-elim
-        (λ e. let r = torn-left u z (rw e at (x .2)) in (r .0, inl (r .1)))
-        (λ e. let r = live-left u z ((rw e at (x .2)) ∙ sym wrote-segments) in (r .0, inr (r .1)))
+        (λ e. let r = torn-left u z (rw e at (x .2)) in (r .0, inl (r .1), r .2))
+        (λ e. let r = live-left u z ((rw e at (x .2)) ∙ sym wrote-segments) in (r .0, inr (r .1), r .2 ∙ put-version b c v))
         q)
         (write-cut-kind B b c (x .0) valid p)
 
-    mark-cut : (u : Image) → Cut B (markOld N B b v) wrote u → SoundWith N B u (entriesIn (putInto b c v))
+    mark-cut : (u : Image) → Cut B (markOld N B b v) wrote u → SoundWith N B u (putInto b c v)
     unfolding markOld
     mark-cut u k = go (holds b (entriesIn v)) refl k
       where
-        go : (t : Bool) → holds b (entriesIn v) ≡ t → Cut B (cond t (markPlace N B (placeOf b v)) []) wrote u → SoundWith N B u (entriesIn (putInto b c v))
+        go : (t : Bool) → holds b (entriesIn v) ≡ t → Cut B (cond t (markPlace N B (placeOf b v)) []) wrote u → SoundWith N B u (putInto b c v)
         go true e d =
             let w = stored-left e wrote (wrote-held .size) refl in
-            let r = recover-cut N B wrote u (wrote-held .size) (w .0) (rw (stored-steps e) d) in
-            (r .0, agree-trans (shown N B u) (shown N B wrote) (entriesIn (putInto b c v)) (r .1) (w .1))
+            kept-shows N B wrote u (entriesIn (putInto b c v)) (isFormer (putInto b c v .version)) w (recover-cut N B wrote u (wrote-held .size) (w .0) (rw (stored-steps e) d))
         go false e d = new-left e u (ap (λ y. segmentsOf N B y) d)
 
-    pub put-into-cut : (u : Image) → Cut B (writeAtTop N B b c v ++ markOld N B b v) s u → LeftWith N B u (entriesIn v) (entriesIn (putInto b c v))
-    put-into-cut u k = ⊎-elim (λ d. write-cut u d) (λ d. let r = mark-cut u d in (r .0, inr (r .1))) (cut-append B (writeAtTop N B b c v) (markOld N B b v) s u k)
+    pub put-into-cut : (u : Image) → Cut B (writeAtTop N B b c v ++ markOld N B b v) s u → LeftWith N B u (entriesIn v) (entriesIn (putInto b c v)) (isFormer (v .version))
+    put-into-cut u k = ⊎-elim (λ d. write-cut u d) (λ d. let r = mark-cut u d in (r .0, inr (r .1), r .2 ∙ put-version b c v)) (cut-append B (writeAtTop N B b c v) (markOld N B b v) s u k)
