@@ -9,6 +9,7 @@ pub mod Pages
 pub mod Programs
 -- one page
 pub mod AnyByte
+pub mod Bits
 pub mod HeaderPage
 pub mod SlotPage
 pub mod PageCuts
@@ -26,5 +27,6 @@ pub mod Counted
 -- the corners of the blank test
 pub mod Blank
 -- the bench table
+pub mod Begun
 pub mod Bench
 pub mod Counts

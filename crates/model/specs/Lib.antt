@@ -10,6 +10,7 @@ pub mod Table
 pub mod Answers
 pub mod Histories
 pub mod Sequences
+pub mod Begun
 pub mod Pages
 pub mod Bench
 pub mod Laws

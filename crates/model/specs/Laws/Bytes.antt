@@ -71,7 +71,7 @@ unfoldable pub allBelow : (ℕ → Bool) → ℕ → Bool
 allBelow f zero = true
 allBelow f (suc n) = f n && allBelow f n
 
-below : (f : ℕ → Bool) (n : ℕ) → allBelow f n ≡ true → (x : ℕ) → x < n → f x ≡ true
+pub below : (f : ℕ → Bool) (n : ℕ) → allBelow f n ≡ true → (x : ℕ) → x < n → f x ≡ true
 unfolding allBelow
 below f zero t x h = absurd (omega arith)
 below f (suc n) t x h = elim (decLt x n) [
@@ -79,11 +79,11 @@ below f (suc n) t x h = elim (decLt x n) [
   | no g ↦ (let e : n ≡ x = omega arith in rw (← e) (and-left (f n) (allBelow f n) t))
 ]
 
-endsOnly : ℕ → ℕ → ℕ → Bool
+unfoldable pub endsOnly : ℕ → ℕ → ℕ → Bool
 endsOnly lo hi x = not (eqb (clear lo x) lo && eqb (clear x hi) x) || (eqb x lo || eqb x hi)
 
 -- a law of all bytes, computed
-one-bit : (lo hi : ℕ) → hi < 256 → allBelow (endsOnly lo hi) 256 ≡ true → OneBit lo hi
+pub one-bit : (lo hi : ℕ) → hi < 256 → allBelow (endsOnly lo hi) 256 ≡ true → OneBit lo hi
 unfolding endsOnly
 one-bit lo hi h law x c =
     go (eqb x lo) refl (eqb x hi) refl (rw (eq-eqb (clear lo x) lo (c .0), eq-eqb (clear x hi) x (c .1)) at (below (endsOnly lo hi) 256 law x (omega (arith, clear-le-value x hi, c .1))))
@@ -153,6 +153,10 @@ inverted-bytes (x ∷ s) = (omega arith, inverted-bytes s)
 pub bytes-append : (s t : List ℕ) → Bytes s → Bytes t → Bytes (s ++ t)
 bytes-append [] t p q = q
 bytes-append (x ∷ s) t p q = (p .0, bytes-append s t (p .1) q)
+
+pub bytes-behind : (s t : List ℕ) → Bytes (s ++ t) → Bytes t
+bytes-behind [] t p = p
+bytes-behind (x ∷ s) t p = bytes-behind s t (p .1)
 
 pub bytes-take : (k : ℕ) (s : List ℕ) → Bytes s → Bytes (take k s)
 bytes-take zero s p = tt

@@ -1,33 +1,31 @@
 -- An erase that a recovery counts in the top's header: whatever a cut leaves of that step, only the bits of the tally differ. The state, the slots and the version's number are the same.
-use Prim.Native.Nat.{ℕ, zero, suc, _+_, _-_, _*_, _%_, _≤_, _<_}
+use Prim.Native.Nat.{ℕ, suc, _+_, _-_, _*_, _%_, _≤_, _<_}
 use mathlib.Core.Path.{_≡_, refl, sym, ap, ap₂, _∙_}
-use mathlib.Core.Logic.{inl, inr}
+use mathlib.Core.Logic.{_⊎_, inl, inr, ⊎-elim}
 use mathlib.Core.Bool.{Bool, true, false, cond, not}
 use mathlib.Core.List.{List, [], _∷_, _++_}
 use native.Mathlib.Omega.{arith}
 use lib.ListN.{length, getD, set, length-append}
-use lib.Seq.{set-getD, set-append-seam, getD-at}
+use lib.Seq.{set-getD, set-append-seam, getD-at, getD-append-add}
 use lib.Dec.{eqb}
 use Rattle.model.specs.Lists.{all}
-use Rattle.model.specs.Chip.{Image, Page, Step, program, erased, clear, step, run, mostSegments, numberLimit, imageLength, Cut}
+use Rattle.model.specs.Chip.{Image, Page, Bytes, pagesOf, Step, program, erased, clear, step, run, mostSegments, numberLimit, imageLength, Cut}
 use Rattle.model.specs.Header.{numberBytes, inverted, Version, version1, version2, isFormer, versionNumber, totalFits, tallyBytes, headerPage, headerStatus, headerNumber, headerVersion, oldIndex}
 use Rattle.model.specs.Slot.{Slot}
 use Rattle.model.specs.State.{Segment, blank, invalid, inUse, segmentOf, segmentsOf, isInUse, isInvalid, isOwing, numberAfter, slotsIn, versionIn, ofVersion, nextNumber, topIndex, topVersion, usedCount, firstNumber, viewOf, entriesIn, someInUse, consecutive, noneOwing, othersBlank, noneWrongOrTorn, blocksDistinct, emptySlotsLast, withinCapacity, conditions, isClean}
 use Rattle.model.specs.Steps.{onPage, headerAt, highestBit, clearNext, countErase}
 use Rattle.model.specs.Laws.Lists.{all-same}
+use Rattle.model.specs.Laws.Bytes.{chunk-bytes, bytes-behind}
+use Rattle.model.specs.Laws.Bits.{nextCleared, clear-shape, highest-bit}
 use Rattle.model.specs.Laws.Pages.{InPage}
 use Rattle.model.specs.Laws.HeaderPage.{in-use-facts}
-use Rattle.model.specs.Laws.Segments.{partOf, part-size, page-size, segment-at, Only, only-refl, only-segments}
+use Rattle.model.specs.Laws.PageCuts.{one-bit-cut}
+use Rattle.model.specs.Laws.Segments.{partOf, part-page, part-size, page-size, page-byte, segment-at, Only, only-refl, only-segments}
 use Rattle.model.specs.Laws.Effects.{InUseParts, in-use-parts, headed, place, header-only, header-run, header-cut}
 use Rattle.model.specs.Laws.Ring.{get-kept, next-kept, used-kept, numbers-kept, slots-kept}
 use Rattle.model.specs.Laws.View.{one-kept}
 
 -- ---- within the page
-
--- the bits after the step
-unfoldable pub nextCleared : List ℕ → List ℕ
-nextCleared [] = []
-nextCleared (x ∷ xs) = cond (eqb x 0) (x ∷ nextCleared xs) (clear x (x - highestBit x) ∷ xs)
 
 unfoldable pub counted : Version → Version
 counted version1 = version1
@@ -149,6 +147,32 @@ module _ (N B : ℕ) (two : 2 ≤ N) (most : N ≤ mostSegments) (mostB : B < 25
         let k = clear-cut B bits (beforeBits N B total st n old) 32 (r .0) (before-length N B total st n old) (rw page at (r .1)) in
         (o, (version2 total (k .0), (unfold versionNumber in refl), rest-in-use u (k .0) o (r .2 ∙ ap (λ (y : Page). set (partOf N B i s) 0 y) (k .1))))
 
+    page-bytes : Bytes s → Bytes (getD (partOf N B (n % N) s) 0 [])
+    unfolding pagesOf
+    page-bytes bs = rw (part-page N B (n % N) 0 s (place N B two most mostB s z n below) (omega arith)) (chunk-bytes (N * (B + 1)) 256 _ s bs)
+
+    bit-bytes : Bytes s → Bytes bits
+    bit-bytes bs = bytes-behind (beforeBits N B total st n old) bits (rw page at (page-bytes bs))
+
+    -- of an image of bytes: the bit is cleared or not
+    whole-second : Bytes s → (u : Image) → Cut B (onPage (headerAt N B n) (clearNext 32 bits)) s u → (u ≡ s) ⊎ (u ≡ run B (onPage (headerAt N B n) (clearNext 32 bits)) s)
+    whole-second bs u c = ⊎-elim (λ q. inl (none q c)) (λ q. one (q .0) (q .1) (q .2) (q .3) (q .4) c) (clear-shape bits 32 (bit-bytes bs))
+      where
+        none : clearNext 32 bits ≡ [] → Cut B (onPage (headerAt N B n) (clearNext 32 bits)) s u → u ≡ s
+        none q d = unfold onPage in rw q at d
+
+        one : (j : ℕ) → j < length bits → eqb (getD bits j 0) 0 ≡ false → getD bits j 0 < 256 → clearNext 32 bits ≡ program (32 + j) (getD bits j 0 - highestBit (getD bits j 0)) ∷ []
+            → Cut B (onPage (headerAt N B n) (clearNext 32 bits)) s u → (u ≡ s) ⊎ (u ≡ run B (onPage (headerAt N B n) (clearNext 32 bits)) s)
+        one j l e y q d = unfold onPage in (rw q (one-bit-cut B (headerAt N B n * 256 + (32 + j)) (getD bits j 0 - highestBit (getD bits j 0)) s u (rw byte (highest-bit (getD bits j 0) y e)) (rw q at d)))
+          where
+            at-page : headerAt N B n ≡ n % N * (B + 1) + 0
+            at-page = unfold headerAt in (omega arith)
+
+            byte : getD s (headerAt N B n * 256 + (32 + j)) 0 ≡ getD bits j 0
+            byte = ap (λ (p : ℕ). getD s (p * 256 + (32 + j)) 0) at-page
+                ∙ (sym (page-byte N B (n % N) 0 (32 + j) s (place N B two most mostB s z n below) (omega arith) (omega (arith, bits-length)))
+                ∙ (ap (λ (p : Page). getD p (32 + j) 0) page ∙ (ap (λ (a : ℕ). getD (beforeBits N B total st n old ++ bits) (a + j) 0) (before-length N B total st n old) ∙ getD-append-add (beforeBits N B total st n old) bits j 0)))
+
     run-second : segmentsOf N B (run B (onPage (headerAt N B n) (clearNext 32 bits)) s) ≡ set (segmentsOf N B s) (n % N) (inUse (version2 total (nextCleared bits)) st n ks)
     run-second =
         let r = header-run N B two most mostB s z n below (clearNext 32 bits) counting in
@@ -164,6 +188,17 @@ module _ (N B : ℕ) (two : 2 ≤ N) (most : N ≤ mostSegments) (mostB : B < 25
     (version1, refl, ap (λ y. segmentsOf N B y) c ∙ sym (ap (λ (y : Segment). set (segmentsOf N B s) i y) (sym used) ∙ set-getD (segmentsOf N B s) i blank)),
   )
   count-cut (version2 total bits) used u c = cut-second total bits used u c
+
+  -- of an image of bytes, all of it or nothing
+  pub count-whole : (ver : Version) → getD (segmentsOf N B s) (n % N) blank ≡ inUse ver st n ks → Bytes s → (u : Image) → Cut B (onPage (headerAt N B n) (countErase ver)) s u
+      → (u ≡ s) ⊎ (u ≡ run B (onPage (headerAt N B n) (countErase ver)) s)
+  unfolding countErase onPage
+  count-whole version1 used bs u c = inl c
+  count-whole (version2 total bits) used bs u c = whole-second total bits used bs u c
+
+  -- and the bytes of the bits
+  pub tally-bytes : (total : ℕ) (bits : List ℕ) → getD (segmentsOf N B s) (n % N) blank ≡ inUse (version2 total bits) st n ks → Bytes s → Bytes bits
+  tally-bytes total bits used bs = bit-bytes total bits used bs
 
   pub count-run : (ver : Version) → getD (segmentsOf N B s) (n % N) blank ≡ inUse ver st n ks
       → segmentsOf N B (run B (onPage (headerAt N B n) (countErase ver)) s) ≡ set (segmentsOf N B s) (n % N) (inUse (counted ver) st n ks)
