@@ -1,6 +1,7 @@
 -- `header::begin_compaction` does the first part of the definition's steps, in the header's page. Assumes nothing.
 use native.Mathlib.Omega.{arith}
 use denote.Ref.{now}
+use Rattle.model.specs.Header.{newVersion}
 use Rattle.flash.proofs.Pages.{header-inside}
 use Rattle.header.proofs.Laws.Writes.{compaction-begun}
 use borrow.Author.Needs.{needs}
@@ -47,7 +48,7 @@ same-length c = search needs
 returns : tie.Need-returns
 returns c =
     let a = c .before .before .before .before .before .before .before .before .before .before .before .before .before in
-    compaction-begun (a .args .segments) (a .args .slots) _ (now (a .args .image)) _ (a .pre) (a .args .old .0) (a .args .number .0)
+    compaction-begun (a .args .segments) (a .args .slots) _ (now (a .args .image)) _ (a .pre) (newVersion (a .args .total)) (a .args .old .0) (a .args .number .0)
     (c .before .before .before .before .before .before .before .before .before .before .header-place .ensures) (c .before .before .before .before .before .before .before .before .before .before .before .compaction-page .ensures) (c .before .before .before .before .before .before .begin-header .ensures) (c .before .before .program-part .ensures)
 
 pub begin-compaction-spec : {M : Type 1} → statement M

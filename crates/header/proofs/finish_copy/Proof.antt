@@ -1,6 +1,7 @@
 -- `header::finish_copy` does the last part of the definition's steps, in the header's page. Assumes nothing.
 use native.Mathlib.Omega.{arith}
 use denote.Ref.{now}
+use Rattle.model.specs.Header.{newVersion}
 use Rattle.flash.proofs.Pages.{header-inside}
 use Rattle.header.proofs.Laws.Writes.{copy-finished}
 use borrow.Author.Needs.{needs}
@@ -41,7 +42,7 @@ same-length c = search needs
 returns : tie.Need-returns
 returns c =
     let a = c .before .before .before .before .before .before .before .before in
-    copy-finished (a .args .segments) (a .args .slots) _ (now (a .args .image)) _ (a .pre) (a .args .old .0) (a .args .number .0)
+    copy-finished (a .args .segments) (a .args .slots) _ (now (a .args .image)) _ (a .pre) (newVersion (a .args .total)) (a .args .old .0) (a .args .number .0)
     (c .before .before .before .before .before .header-place .ensures) (c .before .before .before .before .before .before .compaction-page .ensures) (c .before .before .finish-header .ensures)
 
 pub finish-copy-spec : {M : Type 1} → statement M

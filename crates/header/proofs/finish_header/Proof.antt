@@ -7,6 +7,9 @@ use Rattle.header.proofs.finish_header.Tie as tie
 program-part-requires : tie.Need-program-part-requires
 program-part-requires c κs = search needs
 
+program-part-requires-2 : tie.Need-program-part-requires-2
+program-part-requires-2 c κs = search needs
+
 program-byte-requires : tie.Need-program-byte-requires
 program-byte-requires c κs = search needs
 
@@ -18,4 +21,10 @@ returns c = search (needs, header-finished)
 
 pub finish-header-spec : {M : Type 1} → statement M
 finish-header-spec =
-    tie.close (tie.spec program-part-requires program-byte-requires same-length returns)
+    tie.close
+    (tie.spec
+    program-part-requires
+    program-part-requires-2
+    program-byte-requires
+    same-length
+    returns)

@@ -36,13 +36,16 @@ rem-if3 c = search needs
 returns-3 : tie.Need-returns-3
 returns-3 c = sym (unused-index _ _ _ _ _ (c .before .before .before .header-number .ensures) (c .if3 .taken))
 
+is-former-requires : tie.Need-is-former-requires
+is-former-requires c κs = search needs
+
 old-index-requires : tie.Need-old-index-requires
 old-index-requires c κs =
-    let a = c .before .before .before .before .before .before .before .before .args in
-    (omega (arith, mod-lt (c .before .before .before .header-number .result .0) {m = a .segments} (omega arith)), omega arith)
+    let a = c .before .before .before .before .before .before .before .before .before .args in
+    (omega (arith, mod-lt (c .before .before .before .before .header-number .result .0) {m = a .segments} (omega arith)), omega arith)
 
-header-page-requires : tie.Need-header-page-requires
-header-page-requires c κs = search needs
+header-fields-requires : tie.Need-header-fields-requires
+header-fields-requires c κs = search needs
 
 sub-same-bytes : tie.Need-sub-same-bytes
 sub-same-bytes c = search needs
@@ -68,33 +71,28 @@ same-bytes-requires c κs = search needs
 returns-4 : tie.Need-returns-4
 returns-4 c =
     let made = c .before .before .before .before .before in
-    let fits = made .before .before in
+    let told = made .before .before in
+    let fits = told .before in
     let read = fits .before .before .before in
     let used = sym (read .before .before .status-in-use .ensures) ∙ not-false _ (read .before .if1 .left) in
-    sym (used-page _ _ _ _ _ _ _ false used (read .header-number .ensures) (omega arith) (fits .if3 .left) (made .before .old-index .ensures) (made .header-page .ensures)
-    (read .before .before .before .before .before .pre .0) (sym (not-true _ (c .if4 .taken)) ∙ c .before .same-bytes .ensures))
+    let first = read .before .before .before in
+    sym (used-page _ _ _ _ _ _ _ _ false (λ i. omega (arith, first .shared-slice-known2 .given i)) used (read .header-number .ensures) (omega arith) (fits .if3 .left) (told .is-former .ensures)
+    (made .before .old-index .ensures) (made .header-fields .ensures) (first .before .before .pre .0) (sym (not-true _ (c .if4 .taken)) ∙ c .before .same-bytes .ensures))
 
-sub-blank-test : tie.Need-sub-blank-test
-sub-blank-test c = search needs
-
-part-blank-test-start : tie.Need-part-blank-test-start
-part-blank-test-start c = search needs
-
-part-blank-test-end : tie.Need-part-blank-test-end
-part-blank-test-end c = search needs
-
-blank-test-requires : tie.Need-blank-test-requires
-blank-test-requires c κs = search needs
+tally-fits-requires : tie.Need-tally-fits-requires
+tally-fits-requires c κs = search needs
 
 returns-5 : tie.Need-returns-5
 returns-5 c =
-    let made = c .before .before .before .before .before .before .before in
-    let fits = made .before .before in
+    let made = c .before .before .before .before .before .before in
+    let told = made .before .before in
+    let fits = told .before in
     let read = fits .before .before .before in
     let used = sym (read .before .before .status-in-use .ensures) ∙ not-false _ (read .before .if1 .left) in
-    c .blank-test .ensures .0
-    ∙ sym (used-page _ _ _ _ _ _ _ true used (read .header-number .ensures) (omega arith) (fits .if3 .left) (made .before .old-index .ensures) (made .header-page .ensures)
-    (read .before .before .before .before .before .pre .0) (sym (not-false _ (c .before .before .if4 .left)) ∙ c .before .before .before .same-bytes .ensures))
+    let first = read .before .before .before in
+    c .tally-fits .ensures
+    ∙ sym (used-page _ _ _ _ _ _ _ _ true (λ i. omega (arith, first .shared-slice-known2 .given i)) used (read .header-number .ensures) (omega arith) (fits .if3 .left) (told .is-former .ensures)
+    (made .before .old-index .ensures) (made .header-fields .ensures) (first .before .before .pre .0) (sym (not-false _ (c .before .if4 .left)) ∙ c .before .before .same-bytes .ensures))
 
 pub header-in-use-spec : {M : Type 1} → statement M
 header-in-use-spec =
@@ -109,8 +107,9 @@ header-in-use-spec =
     returns-2
     rem-if3
     returns-3
+    is-former-requires
     old-index-requires
-    header-page-requires
+    header-fields-requires
     sub-same-bytes
     part-same-bytes-start
     part-same-bytes-end
@@ -119,8 +118,5 @@ header-in-use-spec =
     part-same-bytes-end-2
     same-bytes-requires
     returns-4
-    sub-blank-test
-    part-blank-test-start
-    part-blank-test-end
-    blank-test-requires
+    tally-fits-requires
     returns-5)

@@ -1,6 +1,7 @@
 -- `header::open_header` does the steps of the definition, in the header's page. Assumes nothing.
 use native.Mathlib.Omega.{arith}
 use denote.Ref.{now}
+use Rattle.model.specs.Header.{newVersion}
 use Rattle.flash.proofs.Pages.{header-inside}
 use Rattle.header.proofs.Laws.Writes.{header-opened}
 use borrow.Author.Needs.{needs}
@@ -47,7 +48,7 @@ same-length c = search needs
 returns : tie.Need-returns
 returns c =
     let a = c .before .before .before .before .before .before .before .before .before .before .before .before .before in
-    header-opened (a .args .segments) (a .args .slots) _ (now (a .args .image)) _ (a .pre) (a .args .number .0)
+    header-opened (a .args .segments) (a .args .slots) _ (now (a .args .image)) _ (a .pre) (newVersion (a .args .total)) (a .args .number .0)
     (c .before .before .before .before .before .before .before .before .before .before .header-place .ensures) (c .before .before .before .before .before .before .before .before .before .before .before .header-page .ensures) (c .before .before .before .before .before .before .begin-header .ensures) (c .before .before .finish-header .ensures)
 
 pub open-header-spec : {M : Type 1} → statement M
