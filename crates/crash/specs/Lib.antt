@@ -9,6 +9,7 @@ pub mod Requests
 pub mod Skeleton
 -- recovery, delete and read
 pub mod Alike
+pub mod Tops
 pub mod States
 pub mod RecoverMarks
 pub mod RecoverCount

@@ -10,10 +10,10 @@ use lib.ListN.{length, getD, set, length-set, length-append}
 use lib.Seq.{set-getD, set-set, getD-set-other}
 use lib.Dec.{eqb}
 use borrow.Author.Tests.{eqb-true}
-use Rattle.model.specs.Chip.{Image, Page, Step, erase, erased, withSegment, step, run, mostSegments, numberLimit, imageLength, rightSize, Cut}
+use Rattle.model.specs.Chip.{Image, Page, Step, erase, erased, withSegment, segmentBytes, step, run, mostSegments, numberLimit, imageLength, rightSize, Raised, Cut}
 use Rattle.model.specs.Header.{numberBytes, inverted, erasePending, compacted, Version, headerStatus, headerNumber}
 use Rattle.model.specs.Slot.{Slot}
-use Rattle.model.specs.State.{Segment, blank, invalid, inUse, segmentOf, segmentsOf, isInUse, isInvalid, isOwing, numberAfter, slotsIn, versionIn, nextNumber, topIndex, nextIndex, usedCount, isClean, nextBlanked, settled, topSettled, isB, caseB, unfinished, stateOf, state}
+use Rattle.model.specs.State.{Segment, blank, invalid, inUse, segmentOf, segmentsOf, isInUse, isInvalid, isOwing, numberAfter, slotsIn, versionIn, nextNumber, topIndex, nextIndex, topVersion, usedCount, isClean, nextBlanked, settled, topSettled, isB, caseB, unfinished, stateOf, state}
 use Rattle.model.specs.Steps.{onPage, headerAt, settle, eraseNext, unlessBlank, mendSteps}
 use Rattle.model.specs.Answers.{recover}
 use Rattle.model.specs.Histories.{recovered}
@@ -27,6 +27,7 @@ use Rattle.model.specs.Laws.Effects.{index, numbered-at, in-use-parts, erase-ef
 use Rattle.model.specs.Laws.Ring.{next-ge, next-same}
 use Rattle.crash.specs.Sound.{AtLeast, headerByte, SoundAs, Sound, CutOf}
 use Rattle.crash.specs.Alike.{Like, like-of, index-apart, like-next, like-settled, like-b}
+use Rattle.crash.specs.Tops.{SameTop, same-image, same-trans, same-set}
 use Rattle.crash.specs.States.{isCase, mended, case-of, state-case, recover-steps, recovered-run, Kept, kept-same, kept-trans, Mended, kept-clean, kept-case}
 use Rattle.crash.specs.RecoverCount.{header-byte, other-byte, top-at, counts, counted-like}
 use Rattle.crash.specs.RecoverErase.{replaced-byte, raised-segments, raised-byte}
@@ -111,6 +112,11 @@ module _ (N B : ℕ) (s : Image) (z : rightSize N B s ≡ true) (e : state N B s
     settled-there = settle-effect N B two most (size-facts N B s z .mostB) w zw n below ver slots top-there
         ∙ (ap (λ (y : List Segment). set y (n % N) (inUse ver compacted n slots)) sw ∙ sym mended-is)
 
+    settled-same : (u : Image) → u ≡ run B (settle N B n) w → SameTop N B w u
+    unfolding numberAfter versionIn
+    settled-same u q = same-set N B w u (n % N) (inUse ver compacted n slots)
+        (ap (λ y. segmentsOf N B y) q ∙ settle-effect N B two most (size-facts N B s z .mostB) w zw n below ver slots top-there) (ap numberAfter (sym top-there)) (ap versionIn (sym top-there))
+
     -- the mark is set or not
     settle-whole : (u : Image) → Cut B (settle N B n) w u → (u ≡ w) ⊎ (u ≡ run B (settle N B n) w)
     unfolding settle onPage headerAt
@@ -154,6 +160,13 @@ module _ (N B : ℕ) (s : Image) (z : rightSize N B s ≡ true) (e : state N B s
     replaced-top : getD (set l i y) (topIndex N (set l i y)) blank ≡ getD l (topIndex N l) blank
     unfolding topIndex
     replaced-top = rw replaced-next (getD-set-other l i (n % N) y blank apart)
+
+    replaced-top-same : (u : Image) → segmentsOf N B u ≡ set l i y → SameTop N B s u
+    unfolding topVersion topIndex
+    replaced-top-same u q = record {
+      next = ap nextNumber q ∙ replaced-next;
+      version = ap (λ (v : List Segment). topVersion N v) q ∙ rw replaced-next (ap versionIn (getD-set-other l i (n % N) y blank apart));
+    }
 
     replaced-case : isB N B (set l i y) ≡ true
     unfolding isB
@@ -323,22 +336,41 @@ module _ (N B : ℕ) (s : Image) (z : rightSize N B s ≡ true) (e : state N B s
           (λ k l. rw (header-byte N B j (8 + k) u (inside N B s z e) (omega arith)) (b k l)) in
           omega (arith, p .number, r, enough, two N B s z e)
 
+  -- an erase cut inside: one segment differs, and keeps those bytes
+  module _ (u : Image) (v : List ℕ) (r : Raised (segmentBytes B (nextNumber (segmentsOf N B s) % N) s) v) (q : u ≡ withSegment B (nextNumber (segmentsOf N B s) % N) v s) where
+    raised-new : segmentsOf N B u ≡ set (segmentsOf N B s) j (segmentOf N B j (partOf N B j u))
+    raised-new = subst (λ (y : Image). segmentsOf N B y ≡ set (segmentsOf N B s) j (segmentOf N B j (partOf N B j y))) (sym q) (raised-segments N B j (inside N B s z e) s (size N B s z e) v r)
+
+    raised-keeps : Keeps B j (m - N) u
+    raised-keeps = subst (λ (y : Image). Keeps B j (m - N) y) (sym q) (λ k l.
+        let at = j * (B + 1) * 256 + (8 + k) in
+        let up = within-le (getD s at 0) (getD (withSegment B j v s) at 0) (raised-byte N B j (inside N B s z e) s (size N B s z e) v r (8 + k) (omega arith)) in
+        omega (arith, keeps k l))
+
   erasing : (u : Image) → rightSize N B u ≡ true → Cut B (erase j ∷ []) s u → Kept N B s u
   erasing u zu (inl q) = kept-same N B s u h q
-  erasing u zu (inr (inl (v, r, q))) = keep N B s u (segmentOf N B j (partOf N B j u)) z e zu new (kept-number u raised) enough raised
-    where
-      new : segmentsOf N B u ≡ set (segmentsOf N B s) j (segmentOf N B j (partOf N B j u))
-      new = subst (λ (y : Image). segmentsOf N B y ≡ set (segmentsOf N B s) j (segmentOf N B j (partOf N B j y))) (sym q) (raised-segments N B j (inside N B s z e) s (size N B s z e) v r)
-
-      raised : Keeps B j (m - N) u
-      raised = subst (λ (y : Image). Keeps B j (m - N) y) (sym q) (λ k l.
-          let at = j * (B + 1) * 256 + (8 + k) in
-          let up = within-le (getD s at 0) (getD (withSegment B j v s) at 0) (raised-byte N B j (inside N B s z e) s (size N B s z e) v r (8 + k) (omega arith)) in
-          omega (arith, keeps k l))
+  erasing u zu (inr (inl (v, r, q))) = keep N B s u (segmentOf N B j (partOf N B j u)) z e zu (raised-new u v r q) (kept-number u (raised-keeps u v r q)) enough (raised-keeps u v r q)
   erasing u zu (inr (inr q)) = keep N B s u blank z e zu (ap (λ y. segmentsOf N B y) q ∙ erase-effect N B (two N B s z e) s (size N B s z e) j (inside N B s z e))
       (unfold numberAfter in omega arith) enough (subst (λ (y : Image). Keeps B j (m - N) y) (sym (q ∙ erased-image N B j (inside N B s z e) s (size N B s z e))) (λ k l.
       let byte = replaced-byte N B j (inside N B s z e) s (size N B s z e) (erased ((B + 1) * 256)) (erased-length ((B + 1) * 256)) (8 + k) (omega arith) in
       omega (arith, byte, erased-get ((B + 1) * 256) (8 + k) (omega arith), both-bytes (m - N) k)))
+
+  -- the top is the same
+  erasing-top : (u : Image) → Cut B (erase j ∷ []) s u → SameTop N B s u
+  erasing-top u (inl q) = same-image N B s u q
+  erasing-top u (inr (inl (v, r, q))) = replaced-top-same N B s z e (segmentOf N B j (partOf N B j u)) (kept-number u (raised-keeps u v r q)) u (raised-new u v r q)
+  erasing-top u (inr (inr q)) = replaced-top-same N B s z e blank (unfold numberAfter in omega arith) u (ap (λ y. segmentsOf N B y) q ∙ erase-effect N B (two N B s z e) s (size N B s z e) j (inside N B s z e))
+
+  pub rest-top : (u : Image) → Cut B (erase (nextNumber (segmentsOf N B s) % N) ∷ settle N B (nextNumber (segmentsOf N B s) - 1)) s u → SameTop N B s u
+  unfolding run
+  rest-top u c =
+      let t = step B (erase j) s in
+      let erased = erasing-top t (whole-cut B (erase j ∷ []) s) in
+      ⊎-elim (λ d. erasing-top u d)
+      (λ d. ⊎-elim (λ q. same-trans N B s t u erased (same-image N B t u q))
+      (λ q. same-trans N B s t u erased (settled-same N B s z e t (wiped-size N B s z e) (wiped-segments N B s z e) u q))
+      (settle-whole N B s z e t (wiped-size N B s z e) (wiped-segments N B s z e) u d))
+      (cut-append B (erase j ∷ []) (settle N B (m - 1)) s u c)
 
   -- the erase and the status cut, as a compaction ends too
   pub rest-cut : (u : Image) → Cut B (erase (nextNumber (segmentsOf N B s) % N) ∷ settle N B (nextNumber (segmentsOf N B s) - 1)) s u → Kept N B s u

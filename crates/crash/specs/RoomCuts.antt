@@ -1,7 +1,7 @@
 -- Cuts of an opening, and of a compaction up to the owing mark and beyond: the image is sound, with the old table.
 use Prim.Native.Nat.{ℕ, suc, _+_, _-_, _*_, _%_, _≤_, _<_}
 use mathlib.Core.Path.{_≡_, refl, sym, ap, _∙_}
-use mathlib.Core.Logic.{⊎-elim}
+use mathlib.Core.Logic.{_⊎_, inl, inr, ⊎-elim}
 use mathlib.Core.Bool.{true, false}
 use mathlib.Core.List.{List, [], _∷_, _++_}
 use native.Mathlib.Omega.{arith}
@@ -28,7 +28,7 @@ use Rattle.bridge.specs.Held.{Held}
 use Rattle.bridge.specs.Done.{next-free, open-held, ring-closed, old-after, copied-segments}
 use Rattle.crash.specs.States.{SoundWith, kept-shows}
 use Rattle.crash.specs.RecoverOwing.{rest-cut}
-use Rattle.crash.specs.RoomTorn.{held-shows, next-torn}
+use Rattle.crash.specs.RoomTorn.{BitSix, held-shows, next-torn}
 use Rattle.crash.specs.RoomOwing.{Full, old-valid, old-fits, Owing, owing-left}
 
 -- ---- steps in a header page
@@ -58,6 +58,10 @@ module _ (N B : ℕ) (s : Image) (d : SizeFacts N B s) (n : ℕ) (below : n < nu
   header-whole e =
       let r = header-run N B (d .two) (d .most) (d .mostB) s (d .whole) n below xs p in
       same-part N B (n % N) s u (run B (onPage (headerAt N B n) xs) s) header-touched (r .0) (header-part .2 ∙ (ap (λ (y : Page). set (partOf N B (n % N) s) 0 y) (sym header-page ∙ e) ∙ sym (r .1)))
+
+-- the segment after the top touched, with bit 6 of its status still set
+abbrev pub TornNext : ℕ → ℕ → Image → View → Image → Type 0
+TornNext N B s v u = Only N B (suc (topNumber v) % N) s u × BitSix (getD (getD (partOf N B (suc (topNumber v) % N) u) 0 []) 5 0)
 
 -- ---- copied slots leave the header
 
@@ -102,13 +106,11 @@ module _ (N B : ℕ) (s : Image) (v : View) (h : Held N B s v) where
   unfolding openNext
   open-steps = open-segment-page N B (nextVersion v) (suc (topNumber v))
 
-  new-former : Carries v → isFormer (openNext N B v .result .version) ≡ isFormer (v .version)
-  unfolding openNext nextVersion newVersion isFormer
-  new-former carries = sym (carries .second)
-
-  pub open-cut : CleanView N B v → Carries v → hasRoom v ≡ false → length (v .slots) < N - 1 → suc (topNumber v) < numberLimit N → (u : Image) → Cut B (openNext N B v .steps) s u → SoundWith N B u v
+  -- the next segment is still torn, or it is open
+  pub open-left : Carries v → suc (topNumber v) < numberLimit N → (u : Image) → Cut B (openNext N B v .steps) s u
+      → TornNext N B s v u ⊎ (segmentsOf N B u ≡ segmentsOf N B (run B (openNext N B v .steps) s))
   unfolding nextVersion
-  open-cut c carries full few-used below u cut =
+  open-left carries below u cut =
       let n = suc (topNumber v) in
       let total = tallyOf (v .version) in
       let xs = openingHeader N B (newVersion total) n in
@@ -116,12 +118,20 @@ module _ (N B : ℕ) (s : Image) (v : View) (h : Held N B s v) where
       let k = rw open-steps at cut in
       let small : N < 256 = few N B (size .two) (size .most) (size .mostB) s (size .whole) n below in
       ⊎-elim
-      (λ six. next-torn N B s v h c u (cut-size N B (openNext N B v .steps) s u cut ∙ h .size) (header-touched N B s size n below xs p u k) six)
-      (λ e. let whole = header-whole N B s size n below xs p u k (e ∙ sym (ap (λ (y : Page). run B xs y) free-page ∙ opening-run N B total n small (size .mostB))) in
-      let w = run B (openNext N B v .steps) s in
-      let r = held-shows N B w (openNext N B v .result) u (open-held N B s v h carries below few-used) (opened-clean c full few-used) (whole ∙ ap (λ y. segmentsOf N B (run B y s)) (sym open-steps)) in
-      (r .0, rw (opened-entries N B v) at (r .1), r .2 ∙ new-former carries))
+      (λ six. inl (header-touched N B s size n below xs p u k, six))
+      (λ e. inr (header-whole N B s size n below xs p u k (e ∙ sym (ap (λ (y : Page). run B xs y) free-page ∙ opening-run N B total n small (size .mostB))) ∙ ap (λ y. segmentsOf N B (run B y s)) (sym open-steps)))
       (opening-cut N B total n (getD (partOf N B (n % N) u) 0 []) small (size .mostB) (header-cut N B s size n below xs p u k (erased 256) free-page))
+
+  new-former : Carries v → isFormer (openNext N B v .result .version) ≡ isFormer (v .version)
+  unfolding openNext nextVersion newVersion isFormer
+  new-former carries = sym (carries .second)
+
+  pub open-cut : CleanView N B v → Carries v → hasRoom v ≡ false → length (v .slots) < N - 1 → suc (topNumber v) < numberLimit N → (u : Image) → Cut B (openNext N B v .steps) s u → SoundWith N B u v
+  open-cut c carries full few-used below u cut = ⊎-elim
+      (λ t. next-torn N B s v h c u (cut-size N B (openNext N B v .steps) s u cut ∙ h .size) (t .0) (t .1))
+      (λ e. let r = held-shows N B (run B (openNext N B v .steps) s) (openNext N B v .result) u (open-held N B s v h carries below few-used) (opened-clean c full few-used) e in
+      (r .0, rw (opened-entries N B v) at (r .1), r .2 ∙ new-former carries))
+      (open-left carries below u cut)
 
 -- ---- compaction
 
@@ -163,10 +173,11 @@ module _ (N B : ℕ) (s : Image) (v : View) (f : Full N B s v) where
   page1 = ap (λ (x : List Page). getD x 0 []) (begun-header .1)
       ∙ getD-set-same (partOf N B i s) 0 (begunPage N B (o % N)) [] (omega (arith, part-size N B i s (index N B (d .two) s (d .whole) n)))
 
-  begin-cut : (u : Image) → rightSize N B u ≡ true → Cut B begin s u → SoundWith N B u v
-  begin-cut u z c = let xs = compactionHeader N B (nextVersion v) n (o % N) in let p = compaction-in-page N B (nextVersion v) n (o % N) in
-      next-torn N B s v h (f .clean) u z (header-touched N B s d n (f .below) xs p u c)
-      (compaction-cut N B (nextVersion v) n (o % N) (getD (partOf N B i u) 0 []) (header-cut N B s d n (f .below) xs p u c (erased 256) (free-page N B s v h)))
+  begin-torn : (u : Image) → Cut B begin s u → TornNext N B s v u
+  begin-torn u c = let xs = compactionHeader N B (nextVersion v) n (o % N) in let p = compaction-in-page N B (nextVersion v) n (o % N) in (
+    header-touched N B s d n (f .below) xs p u c,
+    compaction-cut N B (nextVersion v) n (o % N) (getD (partOf N B i u) 0 []) (header-cut N B s d n (f .below) xs p u c (erased 256) (free-page N B s v h)),
+  )
 
   -- the slots copied
   abbrev copying : List Step
@@ -182,8 +193,8 @@ module _ (N B : ℕ) (s : Image) (v : View) (f : Full N B s v) where
   copy-touched u c = only-trans N B i s s1 u (begun-header .0)
       (only-cut N B i copying s1 u (index N B (d .two) s (d .whole) n) (copy-in-segment N B (d .two) n es 0 (old-valid N B s v f) copied-fit) c)
 
-  copy-cut : (u : Image) → rightSize N B u ≡ true → Cut B copying s1 u → SoundWith N B u v
-  copy-cut u z c = next-torn N B s v h (f .clean) u z (copy-touched u c) (rw (copy-page u c) (begun-bit-6 N B (o % N)))
+  copy-torn : (u : Image) → Cut B copying s1 u → TornNext N B s v u
+  copy-torn u c = (copy-touched u c, rw (copy-page u c) (begun-bit-6 N B (o % N)))
 
   -- the number and the owing mark
   abbrev s2 : Image
@@ -205,23 +216,42 @@ module _ (N B : ℕ) (s : Image) (v : View) (f : Full N B s v) where
   owes : (u : Image) → rightSize N B u ≡ true → Only N B i s u → segmentsOf N B u ≡ segmentsOf N B (run B (copyOut N B (nextVersion v) o n es) s) → Owing N B s v f u
   owes u z touched e = owing-left N B s v f u z touched (e ∙ copied-segments N B s v h (f .carries) (f .below) (f .all) es (old-valid N B s v f) (old-fits N B s v f))
 
-  finish-cut : (u : Image) → rightSize N B u ≡ true → Cut B finish s2 u → SoundWith N B u v
+  finish-left : (u : Image) → Cut B finish s2 u → TornNext N B s v u ⊎ (Only N B i s u × (segmentsOf N B u ≡ segmentsOf N B (run B (copyOut N B (nextVersion v) o n es) s)))
   unfolding nextVersion
-  finish-cut u z c =
+  finish-left u c =
       let xs = pendingHeader N B (nextVersion v) n (o % N) in
       let p = pending-in-page N B (nextVersion v) n (o % N) in
       let page2 = copy-page s2 (whole-cut B copying s1) in
       ⊎-elim
-      (λ six. next-torn N B s v h (f .clean) u z (touched2 u c) six)
+      (λ six. inl (touched2 u c, six))
       (λ e. let whole = header-whole N B s2 size2 n (f .below) xs p u c (e ∙ sym (ap (λ (x : Page). run B xs x) page2 ∙ pending-run N B (tallyOf (v .version)) n (o % N))) in
-      owes u z (touched2 u c) (whole ∙ ap (λ x. segmentsOf N B x) (sym the-run)) .shows)
+      inr (touched2 u c, whole ∙ ap (λ x. segmentsOf N B x) (sym the-run)))
       (pending-cut N B (tallyOf (v .version)) n (o % N) (getD (partOf N B i u) 0 []) (header-cut N B s2 size2 n (f .below) xs p u c (begunPage N B (o % N)) page2))
+
+  -- the target is still torn, or it owes the erase
+  pub copy-out-left : (u : Image) → Cut B (copyOut N B (nextVersion v) (v .first) (suc (topNumber v)) (entries (getD (v .slots) 0 []))) s u
+      → TornNext N B s v u
+      ⊎ (Only N B (suc (topNumber v) % N) s u
+      × (segmentsOf N B u ≡ segmentsOf N B (run B (copyOut N B (nextVersion v) (v .first) (suc (topNumber v)) (entries (getD (v .slots) 0 []))) s)))
+  copy-out-left u c =
+      ⊎-elim (λ k. inl (begin-torn u k)) (λ k. ⊎-elim (λ r. inl (copy-torn u r)) (λ r. finish-left u r) (cut-append B copying finish s1 u k))
+      (cut-append B begin (copying ++ finish) s u (rw (copy-out-pages N B (nextVersion v) o n es) at c))
+
+  -- whole, it owes it
+  pub owed : Owing N B s v f (run B (copyOut N B (nextVersion v) (v .first) (suc (topNumber v)) (entries (getD (v .slots) 0 []))) s)
+  owed = owes (run B (copyOut N B (nextVersion v) o n es) s) (run-size N B (copyOut N B (nextVersion v) o n es) s ∙ h .size) (rw the-run (touched2 (run B finish s2) (whole-cut B finish s2))) refl
 
   copy-out-cut : (u : Image) → Cut B (copyOut N B (nextVersion v) o n es) s u → SoundWith N B u v
   copy-out-cut u c =
       let z = cut-size N B (copyOut N B (nextVersion v) o n es) s u c ∙ h .size in
-      ⊎-elim (λ k. begin-cut u z k) (λ k. ⊎-elim (λ r. copy-cut u z r) (λ r. finish-cut u z r) (cut-append B copying finish s1 u k))
-      (cut-append B begin (copying ++ finish) s u (rw (copy-out-pages N B (nextVersion v) o n es) at c))
+      ⊎-elim (λ t. next-torn N B s v h (f .clean) u z (t .0) (t .1)) (λ t. owes u z (t .0) (t .1) .shows) (copy-out-left u c)
+
+  -- the rest's old segment and number, by the number after the top's
+  pub rest-after : (v .first + N) % N ≡ v .first % N
+  rest-after = add-mod-right o N
+
+  pub rest-last : v .first + N - 1 ≡ suc (topNumber v)
+  rest-last = omega (arith, ring-closed N B s v h (f .carries) (f .below) (f .all) es (old-valid N B s v f) (old-fits N B s v f))
 
   -- the rest, the old segment erased and the status after it, is how the recovery of state (b) ends
   pub compact-cut : (u : Image) → Cut B (compactOldest N B v .steps) s u → SoundWith N B u v
@@ -229,10 +259,8 @@ module _ (N B : ℕ) (s : Image) (v : View) (f : Full N B s v) where
   compact-cut u c =
       let t = run B (copyOut N B (nextVersion v) o n es) s in
       let z = run-size N B (copyOut N B (nextVersion v) o n es) s ∙ h .size in
-      let w = owes t z (rw the-run (touched2 (run B finish s2) (whole-cut B finish s2))) refl in
-      let after : (o + N) % N ≡ o % N = add-mod-right o N in
-      let last : o + N - 1 ≡ n = omega (arith, ring-closed N B s v h (f .carries) (f .below) (f .all) es (old-valid N B s v f) (old-fits N B s v f)) in
+      let w = owed in
       ⊎-elim
       (λ k. copy-out-cut u k)
-      (λ k. kept-shows N B t u (entriesIn v) (isFormer (v .version)) (w .shows) (rest-cut N B t z (w .pending) (w .shows .0) u (rw (w .next, after, last) k)))
+      (λ k. kept-shows N B t u (entriesIn v) (isFormer (v .version)) (w .shows) (rest-cut N B t z (w .pending) (w .shows .0) u (rw (w .next, rest-after, rest-last) k)))
       (cut-append B (copyOut N B (nextVersion v) o n es) (erase (o % N) ∷ settle N B n) s u c)

@@ -53,7 +53,7 @@ withSlot-slots j k blank = refl
 withSlot-slots j k invalid = refl
 withSlot-slots j k (inUse ver st n ks) = refl
 
-withSlot-version : (j : ℕ) (k : Slot) (x : Segment) → versionIn (withSlot j k x) ≡ versionIn x
+pub withSlot-version : (j : ℕ) (k : Slot) (x : Segment) → versionIn (withSlot j k x) ≡ versionIn x
 unfolding withSlot versionIn
 withSlot-version j k blank = refl
 withSlot-version j k invalid = refl
