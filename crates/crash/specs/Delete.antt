@@ -7,7 +7,7 @@ use mathlib.Core.List.{List}
 use lib.ListN.{getD}
 use Rattle.model.specs.Chip.{Image, Step, rightSize, run}
 use Rattle.model.specs.Header.{isFormer}
-use Rattle.model.specs.Slot.{empty}
+use Rattle.model.specs.Slot.{empty, dead}
 use Rattle.model.specs.State.{blank, segmentsOf, slotsIn, View, placeOf, view}
 use Rattle.model.specs.Steps.{markPlace, deleteSteps}
 use Rattle.model.specs.Table.{without, tableOf}
@@ -19,8 +19,9 @@ use Rattle.bridge.specs.Held.{clean-view}
 use Rattle.bridge.specs.Accepted.{accepted, delete-passed}
 use Rattle.bridge.specs.Requests.{delete-done}
 use Rattle.crash.specs.Sound.{Clean, finished, Accepted, CutOf, formerIn, DoneWith, LeftWith}
+use Rattle.crash.specs.Tops.{SameTop, same-image, same-slot}
 use Rattle.crash.specs.States.{clean-shows}
-use Rattle.crash.specs.RecoverMarks.{Marks, live-place, live-marks, mark-whole}
+use Rattle.crash.specs.RecoverMarks.{Marks, live-place, live-marks, mark-segments, mark-whole}
 
 module _ (N B : ℕ) (s : Image) (b : ℕ) (z : rightSize N B s ≡ true) (h : Clean N B s) (a : Accepted N B s (delete b)) where
   pub finished-delete : DoneWith N B (finished N B s (delete b)) (without b (tableOf N B s)) (formerIn N B s)
@@ -48,3 +49,9 @@ module _ (N B : ℕ) (s : Image) (b : ℕ) (z : rightSize N B s ≡ true) (h : C
     where
       Left : Image → Type 0
       Left y = LeftWith N B y (tableOf N B s) (without b (tableOf N B s)) (formerIn N B s)
+
+  pub delete-top : (u : Image) → CutOf N B s (delete b) u → SameTop N B s u
+  delete-top u c = ⊎-elim (λ q. same-image N B s u q)
+      (λ q. same-slot N B s u (placeOf b (view N B s) .number % N) (placeOf b (view N B s) .slot) dead
+      (ap (λ y. segmentsOf N B y) q ∙ mark-segments N B s z (placeOf b (view N B s) .number) (placeOf b (view N B s) .slot) marks))
+      (mark-whole N B s z (placeOf b (view N B s) .number) (placeOf b (view N B s) .slot) marks u (rw steps at c))

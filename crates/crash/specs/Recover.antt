@@ -56,7 +56,7 @@ pub recover-cut : (N B : ℕ) (s u : Image) → rightSize N B s ≡ true → Sou
 recover-cut N B s u z h c = go (state N B s) refl h
   where
     case : (x : Exception) → state N B s ≡ unfinished x → Kept N B s u
-    case caseA e = cut-a N B s u z e h c
+    case caseA e = cut-a N B s z e h u c
     case caseB e = cut-b N B s z e h u c
     case caseC e = cut-c N B s z u e h c
     case caseD e = cut-d N B s z u e h c

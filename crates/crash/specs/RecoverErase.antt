@@ -10,7 +10,7 @@ use lib.Seq.{set-getD, getD-take, getD-drop, getD-append-add, length-take-le}
 use Rattle.model.specs.Lists.{chunk}
 use Rattle.model.specs.Chip.{Image, Page, erase, clear, withSegment, segmentBytes, run, imageLength, rightSize, Raised, Cut}
 use Rattle.model.specs.Header.{allBlank}
-use Rattle.model.specs.State.{Segment, blank, invalid, inUse, segmentOf, segmentsOf, isInvalid, numberAfter, nextNumber, topIndex, nextIndex, isClean, nextBlanked, isA, caseA, unfinished, stateOf, state}
+use Rattle.model.specs.State.{Segment, blank, invalid, inUse, segmentOf, segmentsOf, isInvalid, numberAfter, versionIn, nextNumber, topIndex, nextIndex, isClean, nextBlanked, isA, caseA, unfinished, stateOf, state}
 use Rattle.model.specs.Steps.{headerAt, eraseNext, mendSteps}
 use Rattle.model.specs.Answers.{recover}
 use Rattle.model.specs.Histories.{recovered}
@@ -25,6 +25,7 @@ use Rattle.model.specs.Laws.Clean.{clean-ring, used-next}
 use Rattle.crash.specs.Sound.{SoundAs, Sound, CutOf}
 use Rattle.crash.specs.Alike.{Like, like-of, index-apart, like-next, like-blanked, like-a}
 use Rattle.crash.specs.RecoverCount.{header-byte, other-byte, counts, counted-like}
+use Rattle.crash.specs.Tops.{SameTop, same-image, same-set}
 use Rattle.crash.specs.States.{isCase, mended, case-of, state-case, recover-steps, recovered-run, Kept, kept-same, kept-trans, Mended, kept-clean, kept-case}
 
 -- ---- a segment's bytes replaced, and an erase cut inside
@@ -91,14 +92,14 @@ module _ (N B : ℕ) (s : Image) (z : rightSize N B s ≡ true) (e : state N B s
   blanked-same = next-kept l i blank (ap numberAfter (sym torn-segment))
 
   -- there is a top: a clean image has one
-  some : 0 < nextNumber l
+  pub some : 0 < nextNumber l
   unfolding state isCase isA
   some =
       let c = and-right (isInvalid (getD l (nextIndex N l) blank)) (isClean N B (nextBlanked N l)) (case-of N B l caseA e) in
       let r = clean-ring N B (nextBlanked N l) (unfold nextBlanked in (length-set l (nextIndex N l) blank ∙ segments-length N B s)) c in
       omega (arith, r .some, used-next N (nextBlanked N l) r, blanked-same)
 
-  steps-a : mendSteps N B l caseA ≡ counts N B l ++ (erase i ∷ [])
+  pub steps-a : mendSteps N B l caseA ≡ counts N B l ++ (erase i ∷ [])
   unfolding mendSteps eraseNext nextIndex
   steps-a = refl
 
@@ -198,18 +199,53 @@ erase-cut N B s u z e h c = go c
         new = subst (λ (y : Image). segmentsOf N B y ≡ set l′ k (segmentOf N B k (partOf N B k y))) (sym q) (raised-segments N B k (inside N B s z e) s (size N B s z e) v r)
     go (inr (inr q)) = blanked (ap (λ y. segmentsOf N B y) q ∙ erase-effect N B (size-facts N B s z .two) s (size N B s z e) k (inside N B s z e))
 
-pub cut-a : (N B : ℕ) (s u : Image) → rightSize N B s ≡ true → state N B s ≡ unfinished caseA → Sound N B s → CutOf N B s recover u → Kept N B s u
-cut-a N B s u z e h c = ⊎-elim (λ d. counted-kept u d) (λ d. kept-trans N B s t u (counted-kept t whole) (erase-cut N B t u (z1 N B s z e) (counted-state N B s z e t whole) (counted-kept t whole .0) (rw (counted-next N B s z e t whole) d)))
-    (cut-append B (counts N B (segmentsOf N B s)) (erase (nextNumber (segmentsOf N B s) % N) ∷ []) s u (rw (recover-steps N B s caseA z e ∙ steps-a N B s z e) at c))
+-- the top is the same
+erase-top : (N B : ℕ) (s u : Image) → rightSize N B s ≡ true → state N B s ≡ unfinished caseA → Sound N B s → Cut B (erase (nextNumber (segmentsOf N B s) % N) ∷ []) s u → SameTop N B s u
+erase-top N B s u z e h c = go c
   where
-    t : Image
-    t = run B (counts N B (segmentsOf N B s)) s
+    k : ℕ
+    k = nextNumber (segmentsOf N B s) % N
 
-    whole : Cut B (counts N B (segmentsOf N B s)) s t
-    whole = whole-cut B (counts N B (segmentsOf N B s)) s
+    unused : (y : Segment) → segmentsOf N B u ≡ set (segmentsOf N B s) k y → numberAfter y ≡ 0 → versionIn y ≡ versionIn blank → SameTop N B s u
+    unused y q n v = same-set N B s u k y q (n ∙ (unfold numberAfter in ap numberAfter (sym (torn-segment N B s z e)))) (v ∙ (unfold versionIn in ap versionIn (sym (torn-segment N B s z e))))
 
-    counted-kept : (w : Image) → Cut B (counts N B (segmentsOf N B s)) s w → Kept N B s w
-    counted-kept w d =
-        let zw = cut-size N B (counts N B (segmentsOf N B s)) s w d ∙ z in
-        let f = counted-state N B s z e w d in
-        kept-case N B s w caseA z zw e (mended-a N B s z e) f (mended-a N B w zw f) (counted-mended N B s z e w d) (counted-bit N B s z e w d h)
+    go : Cut B (erase k ∷ []) s u → SameTop N B s u
+    go (inl q) = same-image N B s u q
+    go (inr (inl (v, r, q))) = ⊎-elim
+        (λ p. unused blank (new ∙ ap (λ (y : Segment). set (segmentsOf N B s) k y) p) (unfold numberAfter in refl) refl)
+        (λ p. unused invalid (new ∙ ap (λ (y : Segment). set (segmentsOf N B s) k y) p) (unfold numberAfter in refl) (unfold versionIn in refl))
+        (unused-segment N B k (partOf N B k u) (rw (header-byte N B k 5 u (inside N B s z e) (omega arith)) bit))
+      where
+        bit : getD u (k * (B + 1) * 256 + 5) 0 / 64 % 2 ≡ 1
+        bit = bit-6-kept (getD s (k * (B + 1) * 256 + 5) 0) (getD u (k * (B + 1) * 256 + 5) 0)
+            (subst (λ (y : Image). clear (getD s (k * (B + 1) * 256 + 5) 0) (getD y (k * (B + 1) * 256 + 5) 0) ≡ getD s (k * (B + 1) * 256 + 5) 0) (sym q)
+            (raised-byte N B k (inside N B s z e) s (size N B s z e) v r 5 (omega arith)))
+            (bit-a N B s z e h)
+
+        new : segmentsOf N B u ≡ set (segmentsOf N B s) k (segmentOf N B k (partOf N B k u))
+        new = subst (λ (y : Image). segmentsOf N B y ≡ set (segmentsOf N B s) k (segmentOf N B k (partOf N B k y))) (sym q) (raised-segments N B k (inside N B s z e) s (size N B s z e) v r)
+    go (inr (inr q)) = unused blank (ap (λ y. segmentsOf N B y) q ∙ erase-effect N B (size-facts N B s z .two) s (size N B s z e) k (inside N B s z e)) (unfold numberAfter in refl) refl
+
+-- the count cut
+counted-kept : (N B : ℕ) (s w : Image) (z : rightSize N B s ≡ true) (e : state N B s ≡ unfinished caseA) → Sound N B s → Cut B (counts N B (segmentsOf N B s)) s w → Kept N B s w
+counted-kept N B s w z e h d =
+    let zw = cut-size N B (counts N B (segmentsOf N B s)) s w d ∙ z in
+    let f = counted-state N B s z e w d in
+    kept-case N B s w caseA z zw e (mended-a N B s z e) f (mended-a N B w zw f) (counted-mended N B s z e w d) (counted-bit N B s z e w d h)
+
+-- the erase after the count
+module _ (N B : ℕ) (s : Image) (z : rightSize N B s ≡ true) (e : state N B s ≡ unfinished caseA) (h : Sound N B s) where
+  abbrev t : Image
+  t = run B (counts N B (segmentsOf N B s)) s
+
+  whole : Cut B (counts N B (segmentsOf N B s)) s t
+  whole = whole-cut B (counts N B (segmentsOf N B s)) s
+
+  pub cut-a : (u : Image) → CutOf N B s recover u → Kept N B s u
+  cut-a u c = ⊎-elim (λ d. counted-kept N B s u z e h d)
+      (λ d. kept-trans N B s t u (counted-kept N B s t z e h whole)
+      (erase-cut N B t u (z1 N B s z e) (counted-state N B s z e t whole) (counted-kept N B s t z e h whole .0) (rw (counted-next N B s z e t whole) d)))
+      (cut-append B (counts N B (segmentsOf N B s)) (erase (nextNumber (segmentsOf N B s) % N) ∷ []) s u (rw (recover-steps N B s caseA z e ∙ steps-a N B s z e) at c))
+
+  pub erased-top : (u : Image) → Cut B (erase (nextNumber (segmentsOf N B s) % N) ∷ []) (run B (counts N B (segmentsOf N B s)) s) u → SameTop N B (run B (counts N B (segmentsOf N B s)) s) u
+  erased-top u d = erase-top N B t u (z1 N B s z e) (counted-state N B s z e t whole) (counted-kept N B s t z e h whole .0) (rw (counted-next N B s z e t whole) d)

@@ -29,6 +29,7 @@ use Rattle.model.specs.Laws.Ring.{slots-get, slots-length}
 use Rattle.bridge.specs.Views.Places.{Gap, earlier, later, fill-entries, fill-length, FirstLive, first-live, gap-slot}
 use Rattle.crash.specs.Sound.{Sound, CutOf}
 use Rattle.crash.specs.Alike.{Like, like-of}
+use Rattle.crash.specs.Tops.{SameTop, same-image, same-slot}
 use Rattle.crash.specs.States.{isCase, mended, case-of, recover-steps, recovered-run, Kept, kept-same, Mended, kept-clean}
 
 -- ---- slots that can be marked
@@ -185,6 +186,11 @@ module _ (N B : ℕ) (s : Image) (z : rightSize N B s ≡ true) (x : Exception) 
   one-cut u h c = ⊎-elim (λ q. kept-same N B s u h q) (λ q. kept-clean N B s x z e one-mended u (subst (λ (y : Image). Like N (mended N (segmentsOf N B s) x) (segmentsOf N B y)) (sym (q ∙ sym one-recovered)) one-mended))
       (mark-whole N B s z (o .place .number) (o .place .slot) (o .marks) u (rw (recover-steps N B s x z e ∙ o .steps) at c))
 
+  one-top : (u : Image) → CutOf N B s recover u → SameTop N B s u
+  one-top u c = ⊎-elim (λ q. same-image N B s u q)
+      (λ q. same-slot N B s u (o .place .number % N) (o .place .slot) dead (ap (λ y. segmentsOf N B y) q ∙ mark-segments N B s z (o .place .number) (o .place .slot) (o .marks)))
+      (mark-whole N B s z (o .place .number) (o .place .slot) (o .marks) u (rw (recover-steps N B s x z e ∙ o .steps) at c))
+
 module _ (N B : ℕ) (s : Image) (z : rightSize N B s ≡ true) where
   the-c : state N B s ≡ unfinished caseC → OneMark N B (segmentsOf N B s) caseC
   unfolding state
@@ -205,3 +211,9 @@ module _ (N B : ℕ) (s : Image) (z : rightSize N B s ≡ true) where
 
   pub cut-d : (u : Image) → state N B s ≡ unfinished caseD → Sound N B s → CutOf N B s recover u → Kept N B s u
   cut-d u e h c = one-cut N B s z caseD e (the-d e) u h c
+
+  pub top-c : (u : Image) → state N B s ≡ unfinished caseC → CutOf N B s recover u → SameTop N B s u
+  top-c u e c = one-top N B s z caseC e (the-c e) u c
+
+  pub top-d : (u : Image) → state N B s ≡ unfinished caseD → CutOf N B s recover u → SameTop N B s u
+  top-d u e c = one-top N B s z caseD e (the-d e) u c

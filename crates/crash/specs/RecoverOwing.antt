@@ -77,7 +77,7 @@ module _ (N B : ℕ) (s : Image) (z : rightSize N B s ≡ true) (e : state N B s
   unfolding isB topIndex
   owing = and-left (isOwing (getD l (n % N) blank)) (eqb (usedCount (topSettled N l)) (N - 1) && isClean N B (topSettled N l)) is-b
 
-  some : 0 < nextNumber l
+  pub some : 0 < nextNumber l
   some = omega (arith, owing-number (getD l (n % N) blank) owing, next-ge l (n % N))
 
   apart : n % N ≢ i
@@ -112,13 +112,13 @@ module _ (N B : ℕ) (s : Image) (z : rightSize N B s ≡ true) (e : state N B s
     settled-there = settle-effect N B two most (size-facts N B s z .mostB) w zw n below ver slots top-there
         ∙ (ap (λ (y : List Segment). set y (n % N) (inUse ver compacted n slots)) sw ∙ sym mended-is)
 
-    settled-same : (u : Image) → u ≡ run B (settle N B n) w → SameTop N B w u
+    pub settled-same : (u : Image) → u ≡ run B (settle N B n) w → SameTop N B w u
     unfolding numberAfter versionIn
     settled-same u q = same-set N B w u (n % N) (inUse ver compacted n slots)
         (ap (λ y. segmentsOf N B y) q ∙ settle-effect N B two most (size-facts N B s z .mostB) w zw n below ver slots top-there) (ap numberAfter (sym top-there)) (ap versionIn (sym top-there))
 
     -- the mark is set or not
-    settle-whole : (u : Image) → Cut B (settle N B n) w u → (u ≡ w) ⊎ (u ≡ run B (settle N B n) w)
+    pub settle-whole : (u : Image) → Cut B (settle N B n) w u → (u ≡ w) ⊎ (u ≡ run B (settle N B n) w)
     unfolding settle onPage headerAt
     settle-whole u c = one-bit-cut B (n % N * (B + 1) * 256 + 5) compacted w u (rw (byte, clear-pending) compacted-bit) c
       where
@@ -192,7 +192,7 @@ module _ (N B : ℕ) (s : Image) (z : rightSize N B s ≡ true) (e : state N B s
     unfolding topIndex
     in-list = omega (arith, index N B two s size (nextNumber l - 1), segments-length N B s)
 
-    counted-state : state N B u ≡ unfinished caseB
+    pub counted-state : state N B u ≡ unfinished caseB
     unfolding state isCase
     counted-state = state-case N B counted caseB (segments-length N B u) (like-b N B l counted (left .1) (segments-length N B s) two some blanked-same is-b)
 
@@ -200,7 +200,7 @@ module _ (N B : ℕ) (s : Image) (z : rightSize N B s ≡ true) (e : state N B s
     unfolding mended
     counted-mended = like-settled N l counted (left .1) in-list (segments-length N B s) two some blanked-same
 
-    counted-next : nextNumber counted ≡ nextNumber l
+    pub counted-next : nextNumber counted ≡ nextNumber l
     counted-next = like-next N l counted (left .1) in-list
 
 -- the segments after an erase of the old one and the status
@@ -233,7 +233,7 @@ module _ (N B : ℕ) (s : Image) (z : rightSize N B s ≡ true) (e : state N B s
   steps-b = refl
 
   -- what is said of both
-  by-old : (P : Type 0) → (getD list (nextNumber list % N) blank ≡ blank → mendSteps N B list caseB ≡ mark → P)
+  pub by-old : (P : Type 0) → (getD list (nextNumber list % N) blank ≡ blank → mendSteps N B list caseB ≡ mark → P)
       → (mendSteps N B list caseB ≡ counts N B list ++ (erase (nextNumber list % N) ∷ mark) → P) → P
   by-old P f g = go (getD list (nextNumber list % N) blank) refl
     where
@@ -385,7 +385,7 @@ module _ (N B : ℕ) (s : Image) (z : rightSize N B s ≡ true) (e : state N B s
       (cut-append B (erase j ∷ []) (settle N B (m - 1)) s u c)
 
   -- the count cut
-  counted-kept : (u : Image) → Cut B (counts N B (segmentsOf N B s)) s u → Kept N B s u
+  pub counted-kept : (u : Image) → Cut B (counts N B (segmentsOf N B s)) s u → Kept N B s u
   unfolding headerAt
   counted-kept u d =
       let zu = cut-size N B (counts N B (segmentsOf N B s)) s u d ∙ z in

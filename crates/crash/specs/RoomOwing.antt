@@ -12,7 +12,7 @@ use borrow.Author.Tests.{eq-eqb}
 use Rattle.model.specs.Chip.{Image, Page, Bytes, rightSize, run, numberLimit}
 use Rattle.model.specs.Header.{erasePending, compacted, numberBytes, inverted, Version, newVersion, isFormer, tallyBytes, headerPage, headerVersion, headerStatus, oldIndex}
 use Rattle.model.specs.Slot.{Entry}
-use Rattle.model.specs.State.{Segment, blank, inUse, segmentsOf, isOwing, numberAfter, nextNumber, topIndex, nextIndex, usedCount, View, viewOf, view, entries, entriesIn, isClean, nextBlanked, settled, topSettled, isB, caseB, unfinished, state}
+use Rattle.model.specs.State.{Segment, blank, inUse, segmentsOf, isOwing, numberAfter, nextNumber, topIndex, nextIndex, topVersion, versionIn, usedCount, View, viewOf, view, entries, entriesIn, isClean, nextBlanked, settled, topSettled, isB, caseB, unfinished, state}
 use Rattle.model.specs.Steps.{topNumber, hasRoom, headerAt, copied, nextVersion, compactOldest}
 use Rattle.model.specs.Laws.Chip.{size-facts}
 use Rattle.model.specs.Laws.HeaderPage.{in-use-facts}
@@ -122,6 +122,10 @@ module _ (N B : ℕ) (s : Image) (v : View) (f : Full N B s v) where
   owing-target : getD owing i blank ≡ target erasePending
   owing-target = getD-set-same segments i (target erasePending) blank target-inside
 
+  owing-version : topVersion N owing ≡ nextVersion v
+  unfolding topVersion versionIn
+  owing-version = rw (owing-top, owing-target)
+
   owing-old : getD owing (o % N) blank ≡ getD segments (o % N) blank
   owing-old = getD-set-other segments i (o % N) (target erasePending) blank apart
 
@@ -165,6 +169,7 @@ module _ (N B : ℕ) (s : Image) (v : View) (f : Full N B s v) where
     pub pending : state N B u ≡ unfinished caseB
     -- the number after the top's
     pub next : nextNumber (segmentsOf N B u) ≡ v .first + N
+    pub version : topVersion N (segmentsOf N B u) ≡ nextVersion v
 
   module _ (u : Image) (z : rightSize N B u ≡ true) (only : Only N B i s u) (e : segmentsOf N B u ≡ owing) where
     old-part : partOf N B (o % N) u ≡ partOf N B (o % N) s
@@ -200,4 +205,5 @@ module _ (N B : ℕ) (s : Image) (v : View) (f : Full N B s v) where
           shows = (shows .0, agree-trans _ (entriesIn (viewOf N moved)) (entriesIn v) (shows .1) (rw moved-view (tidied N B v (f .clean) (f .noRoom) .table)), shows .2 ∙ kept);
           pending = case-state N B u caseB z (rw e owing-case);
           next = ap nextNumber e ∙ (owing-next ∙ sym turn);
+          version = ap (λ y. topVersion N y) e ∙ owing-version;
         }

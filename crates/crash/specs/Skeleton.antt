@@ -64,19 +64,19 @@ pub record WillShow (N B : ℕ) (f : Bool) (s : Image) (t : Table) : Type 0 wher
   pub once : distinct t ≡ true
   pub bytes : Bytes s
 
-abbrev Upholds : ℕ → ℕ → Bool → Image → Promise → Type 0
+abbrev pub Upholds : ℕ → ℕ → Bool → Image → Promise → Type 0
 Upholds N B f s (settled t) = Stores N B f s t
 Upholds N B f s (interrupted t) = WillShow N B f s t
 Upholds N B f s unknown = Unit {0}
 
-abbrev Invariant : ℕ → ℕ → Bool → Image → Promise → Type 0
+abbrev pub Invariant : ℕ → ℕ → Bool → Image → Promise → Type 0
 Invariant N B f s x = (rightSize N B s ≡ true) × Upholds N B f s x
 
-abbrev board : ℕ → ℕ → Bool → Board
+abbrev pub board : ℕ → ℕ → Bool → Board
 board N B f = record { places = capacity N B; former = f }
 
 -- what an event has to give: a move of the machine, and the invariant after it
-abbrev Follows : ℕ → ℕ → Bool → Bool → Request → Seen → Promise → Image → Type 0
+abbrev pub Follows : ℕ → ℕ → Bool → Bool → Request → Seen → Promise → Image → Type 0
 Follows N B f w r o x m = (y : Promise) × Moves (board N B f) w r o x y × Invariant N B f m y
 
 size-finished : (N B : ℕ) (s m : Image) (r : Request) → rightSize N B s ≡ true → m ≡ finished N B s r → rightSize N B m ≡ true
@@ -351,7 +351,7 @@ module _ (N B : ℕ) (f : Bool) (laws : RequestLaws N B) where
       (ended-or-stopped N B s allowance format)
 
   -- an image of version 1 is one until it is formatted
-  abbrev May : Request → Type 0
+  abbrev pub May : Request → Type 0
   May format = f ≡ false
   May (put b c) = Unit {0}
   May (delete b) = Unit {0}
@@ -359,11 +359,11 @@ module _ (N B : ℕ) (f : Bool) (laws : RequestLaws N B) where
   May (readOr b g) = Unit {0}
   May recover = Unit {0}
 
-  abbrev AllMay : List Event → Type 0
+  abbrev pub AllMay : List Event → Type 0
   AllMay [] = Unit {0}
   AllMay (e ∷ es) = May (e .request) × AllMay es
 
-  one-event : (s m : Image) (x : Promise) (r : Request) → May r → Proper r → Invariant N B f s x → (u : Seen) → Does N B r u s m → Follows N B f (wears N B s) r u x m
+  pub one-event : (s m : Image) (x : Promise) (r : Request) → May r → Proper r → Invariant N B f s x → (u : Seen) → Does N B r u s m → Follows N B f (wears N B s) r u x m
   one-event s m x format may p k u d = on-format s m x may (k .0) u d
   one-event s m x (put b c) may p k u d = on-table s m x (put b c) tt p k u d
   one-event s m x (delete b) may p k u d = on-table s m x (delete b) tt p k u d

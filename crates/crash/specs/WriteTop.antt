@@ -15,7 +15,7 @@ use Rattle.model.specs.State.{Segment, blank, inUse, segmentsOf, slotsIn, numbe
 use Rattle.model.specs.Steps.{topRow, topNumber, firstEmpty, onPage, slotAt, writeSlot, markPlace, markOld, mendSteps, writeAtTop}
 use Rattle.model.specs.Answers.{recover, workOf}
 use Rattle.model.specs.Laws.Lists.{and-left, and-both}
-use Rattle.model.specs.Laws.Chip.{SizeFacts, size-facts, cut-append, cut-size}
+use Rattle.model.specs.Laws.Chip.{SizeFacts, size-facts, whole-cut, cut-append, cut-size}
 use Rattle.model.specs.Laws.SlotPage.{Valid, write-in-page}
 use Rattle.model.specs.Laws.PageCuts.{write-cut-kind}
 use Rattle.model.specs.Laws.Tables.{copies-append, copies-cons-same, copies-none, held-copies, distinct-copies}
@@ -30,9 +30,10 @@ use Rattle.bridge.specs.Views.Shape.{clean-shape, shape-clean, clean-distinct, 
 use Rattle.bridge.specs.Held.{Held, held-first, held-top, held-row, held-clean, segments-clean}
 use Rattle.bridge.specs.Requests.{write-top-held, put-version, put-held}
 use Rattle.crash.specs.Sound.{LeftWith}
+use Rattle.crash.specs.Tops.{SameTop, same-image, same-trans, same-slot}
 use Rattle.crash.specs.States.{isCase, mended, SoundWith, kept-shows}
 use Rattle.crash.specs.RoomTorn.{held-shows}
-use Rattle.crash.specs.RecoverMarks.{Marks, live-place, live-marks, mark-segments}
+use Rattle.crash.specs.RecoverMarks.{Marks, live-place, live-marks, mark-segments, mark-whole}
 use Rattle.crash.specs.Recover.{case-steps, case-shows, recover-cut}
 
 -- ---- another slot at the top's first empty place
@@ -255,6 +256,22 @@ module _ (N B : ℕ) (s : Image) (v : View) (h : Held N B s v) (clean : CleanVie
             let w = stored-left e wrote (wrote-held .size) refl in
             kept-shows N B wrote u (entriesIn (putInto b c v)) (isFormer (putInto b c v .version)) w (recover-cut N B wrote u (wrote-held .size) (w .0) (rw (stored-steps e) d))
         go false e d = new-left e u (ap (λ y. segmentsOf N B y) d)
+
+    -- the top is the same
+    pub put-into-top : (u : Image) → Cut B (writeAtTop N B b c v ++ markOld N B b v) s u → SameTop N B s u
+    unfolding writeAtTop markOld
+    put-into-top u k = ⊎-elim (λ d. write-top u d) (λ d. same-trans N B s wrote u (write-top wrote (whole-cut B (writeAtTop N B b c v) s)) (go (holds b (entriesIn v)) refl d)) (cut-append B (writeAtTop N B b c v) (markOld N B b v) s u k)
+      where
+        write-top : (w : Image) → Cut B (writeAtTop N B b c v) s w → SameTop N B s w
+        write-top w d = let x = slot-cut N B (size .two) s (size .whole) n j (top-segment .0) (top-segment .1) n (row empty) inside (top-segment .2) (writeSlot b c) (write-in-page b c (valid .short)) w (unfold writeAtTop in d) in
+            same-slot N B s w (n % N) j _ (x .2)
+
+        go : (t : Bool) → holds b (entriesIn v) ≡ t → Cut B (cond t (markPlace N B (placeOf b v)) []) wrote u → SameTop N B wrote u
+        go false e d = same-image N B wrote u d
+        go true e d = ⊎-elim (λ q. same-image N B wrote u q)
+            (λ q. same-slot N B wrote u (placeOf b v .number % N) (placeOf b v .slot) dead
+            (ap (λ y. segmentsOf N B y) q ∙ mark-segments N B wrote (wrote-held .size) (placeOf b v .number) (placeOf b v .slot) (marks e)))
+            (mark-whole N B wrote (wrote-held .size) (placeOf b v .number) (placeOf b v .slot) (marks e) u d)
 
     pub put-into-cut : (u : Image) → Cut B (writeAtTop N B b c v ++ markOld N B b v) s u → LeftWith N B u (entriesIn v) (entriesIn (putInto b c v)) (isFormer (v .version))
     put-into-cut u k = ⊎-elim (λ d. write-cut u d) (λ d. let r = mark-cut u d in (r .0, inr (r .1), r .2 ∙ put-version b c v)) (cut-append B (writeAtTop N B b c v) (markOld N B b v) s u k)
