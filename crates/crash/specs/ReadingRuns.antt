@@ -125,7 +125,7 @@ pub record FinishedFormat (e : Event) : Type 0 where
   pub request : e .request ≡ format
   pub seen : e .seen ≡ refused 0
 
-move-known : {C : Board} {w : Bool} {r : Request} {o : Seen} {x y : Promise} → Moves C w r o x y → OnTable r → Known x → Known y
+pub move-known : {C : Board} {w : Bool} {r : Request} {o : Seen} {x y : Promise} → Moves C w r o x y → OnTable r → Known x → Known y
 move-known (answers k e) f h = tt
 move-known (answers-again k i e) f h = tt
 move-known (asks-recovery k i e) f h = tt

@@ -58,11 +58,12 @@ module _ (N B : ℕ) (s : Image) (z : rightSize N B s ≡ true) (some : 0 < next
   abbrev n : ℕ
   n = nextNumber l - 1
 
-  top : (st : ℕ) × (getD l (n % N) blank ≡ inUse (topVersion N l) st n (slotsIn (getD l (n % N) blank)))
+  pub top : (st : ℕ) × (getD (segmentsOf N B s) ((nextNumber (segmentsOf N B s) - 1) % N) blank
+      ≡ inUse (topVersion N (segmentsOf N B s)) st (nextNumber (segmentsOf N B s) - 1) (slotsIn (getD (segmentsOf N B s) ((nextNumber (segmentsOf N B s) - 1) % N) blank)))
   unfolding topVersion topIndex
   top = in-use-numbered (getD l (n % N) blank) n (top-at N B s some ∙ omega (arith, some))
 
-  top-below : n < numberLimit N
+  pub top-below : nextNumber (segmentsOf N B s) - 1 < numberLimit N
   top-below = let size = size-facts N B s z in numbered-at N B s (n % N) n (index N B (size .two) s (size .whole) n) (top-at N B s some ∙ omega (arith, some)) .1
 
   -- whatever a cut leaves of them, only the top's tally differs

@@ -112,13 +112,13 @@ module _ (N B : ℕ) (s : Image) (z : rightSize N B s ≡ true) (e : state N B s
     settled-there = settle-effect N B two most (size-facts N B s z .mostB) w zw n below ver slots top-there
         ∙ (ap (λ (y : List Segment). set y (n % N) (inUse ver compacted n slots)) sw ∙ sym mended-is)
 
-    pub settled-same : (u : Image) → u ≡ run B (settle N B n) w → SameTop N B w u
+    settled-same : (u : Image) → u ≡ run B (settle N B n) w → SameTop N B w u
     unfolding numberAfter versionIn
     settled-same u q = same-set N B w u (n % N) (inUse ver compacted n slots)
         (ap (λ y. segmentsOf N B y) q ∙ settle-effect N B two most (size-facts N B s z .mostB) w zw n below ver slots top-there) (ap numberAfter (sym top-there)) (ap versionIn (sym top-there))
 
     -- the mark is set or not
-    pub settle-whole : (u : Image) → Cut B (settle N B n) w u → (u ≡ w) ⊎ (u ≡ run B (settle N B n) w)
+    settle-whole : (u : Image) → Cut B (settle N B n) w u → (u ≡ w) ⊎ (u ≡ run B (settle N B n) w)
     unfolding settle onPage headerAt
     settle-whole u c = one-bit-cut B (n % N * (B + 1) * 256 + 5) compacted w u (rw (byte, clear-pending) compacted-bit) c
       where
@@ -192,7 +192,7 @@ module _ (N B : ℕ) (s : Image) (z : rightSize N B s ≡ true) (e : state N B s
     unfolding topIndex
     in-list = omega (arith, index N B two s size (nextNumber l - 1), segments-length N B s)
 
-    pub counted-state : state N B u ≡ unfinished caseB
+    counted-state : state N B u ≡ unfinished caseB
     unfolding state isCase
     counted-state = state-case N B counted caseB (segments-length N B u) (like-b N B l counted (left .1) (segments-length N B s) two some blanked-same is-b)
 
@@ -200,7 +200,7 @@ module _ (N B : ℕ) (s : Image) (z : rightSize N B s ≡ true) (e : state N B s
     unfolding mended
     counted-mended = like-settled N l counted (left .1) in-list (segments-length N B s) two some blanked-same
 
-    pub counted-next : nextNumber counted ≡ nextNumber l
+    counted-next : nextNumber counted ≡ nextNumber l
     counted-next = like-next N l counted (left .1) in-list
 
 -- the segments after an erase of the old one and the status
@@ -385,7 +385,7 @@ module _ (N B : ℕ) (s : Image) (z : rightSize N B s ≡ true) (e : state N B s
       (cut-append B (erase j ∷ []) (settle N B (m - 1)) s u c)
 
   -- the count cut
-  pub counted-kept : (u : Image) → Cut B (counts N B (segmentsOf N B s)) s u → Kept N B s u
+  counted-kept : (u : Image) → Cut B (counts N B (segmentsOf N B s)) s u → Kept N B s u
   unfolding headerAt
   counted-kept u d =
       let zu = cut-size N B (counts N B (segmentsOf N B s)) s u d ∙ z in
@@ -393,6 +393,22 @@ module _ (N B : ℕ) (s : Image) (z : rightSize N B s ≡ true) (e : state N B s
       let bytes : Keeps B j (m - N) u = λ k l. rw (other-byte N B ((m - 1) % N) j (8 + k) s u (left N B s z e u d .0) (λ q. apart N B s z e (sym q)) (inside N B s z e) (omega arith)) (keeps k l) in
       kept-case N B s u caseB z zu e (mended-b N B s z e) f (mended-b N B u zu f) (counted-mended N B s z e u d)
       (subst (λ (v : ℕ). (N ≤ v) × AtLeast (headerByte N B v 8) (both (v - N)) u) (sym (counted-next N B s z e u d)) (enough, keeps-of B j (m - N) u bytes))
+
+-- the top after the count, and where the old segment is blank already
+module _ (N B : ℕ) (s : Image) (z : rightSize N B s ≡ true) (e : state N B s ≡ unfinished caseB) (h : Sound N B s) where
+  pub ended-top : (u : Image) → Cut B (erase (nextNumber (segmentsOf N B s) % N) ∷ settle N B (nextNumber (segmentsOf N B s) - 1)) (run B (counts N B (segmentsOf N B s)) s) u
+      → SameTop N B (run B (counts N B (segmentsOf N B s)) s) u
+  ended-top u d =
+      let t = run B (counts N B (segmentsOf N B s)) s in
+      let first = whole-cut B (counts N B (segmentsOf N B s)) s in
+      rest-top N B t (run-size N B (counts N B (segmentsOf N B s)) s ∙ z) (counted-state N B s z e t first) (counted-kept N B s z e h t first .0) u (rw (counted-next N B s z e t first) d)
+
+  pub settled-top : getD (segmentsOf N B s) (nextNumber (segmentsOf N B s) % N) blank ≡ blank → (u : Image) → Cut B (settle N B (nextNumber (segmentsOf N B s) - 1)) s u → SameTop N B s u
+  settled-top q u d =
+      let i = nextNumber (segmentsOf N B s) % N in
+      let same : segmentsOf N B s ≡ set (segmentsOf N B s) i blank = sym (ap (λ (y : Segment). set (segmentsOf N B s) i y) (sym q) ∙ set-getD (segmentsOf N B s) i blank) in
+      let whole = size-facts N B s z .whole in
+      ⊎-elim (λ w. same-image N B s u w) (λ w. settled-same N B s z e s whole same u w) (settle-whole N B s z e s whole same u d)
 
 -- the recovery cut
 pub cut-b : (N B : ℕ) (s : Image) (z : rightSize N B s ≡ true) (e : state N B s ≡ unfinished caseB) → Sound N B s → (u : Image) → CutOf N B s recover u → Kept N B s u

@@ -418,6 +418,12 @@ stores : (N B : ℕ) (f : Bool) (s : Image) → rightSize N B s ≡ true → Byt
 unfolding tableOf
 stores N B f s z y k v = record { clean = k; version = v; table = λ b. refl; once = clean-distinct (clean-view N B s z k); bytes = y }
 
+-- a finished format leaves an image that stores nothing
+pub formatted-stores : (N B : ℕ) (laws : RequestLaws N B) (s : Image) → rightSize N B s ≡ true → Stores N B false (run B (formatSteps N B) s) []
+unfolding distinct
+formatted-stores N B laws s z = let d = laws .format-done s z in
+    record { clean = d .0; version = d .2; table = agree-of (tableOf N B (run B (formatSteps N B) s)) [] (d .1); once = refl; bytes = format-bytes N B s z }
+
 pub demand2-from : ((N B : ℕ) → RequestLaws N B) → Demand2
 demand2-from laws N B s u es z runs = runs-on N B false (laws N B) es s u unknown (all-may N B (laws N B) es) (z, tt) runs
 

@@ -199,5 +199,15 @@ pub fn put_clean(
     let Answer::Done = answer else {
         return request::refused(answer);
     };
-    put_accepted(image, segments, slots, plan, tally.count, found, block, contents, budget)
+    put_accepted(
+        image,
+        segments,
+        slots,
+        plan,
+        tally.count,
+        found,
+        block,
+        contents,
+        budget,
+    )
 }

@@ -18,16 +18,11 @@ use Rattle.model.specs.State.{View, entriesIn, holds, Place, placeOf}
 use Rattle.model.specs.Steps.{programs, programPart, onPage, writeSlot, markDead, markPlace, openSegment, copyEntries, copyOut, settle, compact, markOld, writeAtTop, deleteSteps}
 use Rattle.model.specs.Sequences.{erasesIn}
 use Rattle.model.specs.Laws.Lists.{count-append}
+pub use Rattle.model.specs.Laws.Begun.{erases-append}
 
 -- ---- the erase steps of lists
 
-pub erases-append : (xs ys : List Step) → erasesIn (xs ++ ys) ≡ erasesIn xs ++ erasesIn ys
-unfolding erasesIn
-erases-append [] ys = refl
-erases-append (program at v ∷ xs) ys = erases-append xs ys
-erases-append (erase i ∷ xs) ys = ap {B = List ℕ} (λ y. i ∷ y) (erases-append xs ys)
-
-on-page : (p : ℕ) (xs : List Step) → erasesIn (onPage p xs) ≡ erasesIn xs
+pub on-page : (p : ℕ) (xs : List Step) → erasesIn (onPage p xs) ≡ erasesIn xs
 unfolding erasesIn onPage
 on-page p [] = refl
 on-page p (program at v ∷ xs) = on-page p xs
@@ -46,7 +41,7 @@ write-none : (b : ℕ) (c : List ℕ) → erasesIn (writeSlot b c) ≡ []
 unfolding erasesIn writeSlot
 write-none b c = simp (erases-append, part-none)
 
-mark-none : (N B : ℕ) (p : Place) → erasesIn (markPlace N B p) ≡ []
+pub mark-none : (N B : ℕ) (p : Place) → erasesIn (markPlace N B p) ≡ []
 unfolding erasesIn markPlace markDead
 mark-none N B p = simp on-page
 
@@ -58,6 +53,14 @@ copy-none : (N B n j : ℕ) (es : List Entry) → erasesIn (copyEntries N B n j 
 unfolding erasesIn copyEntries
 copy-none N B n j [] = refl
 copy-none N B n j (e ∷ es) = simp (erases-append, on-page, write-none, copy-none N B n (suc j) es)
+
+pub copied-none : (N B : ℕ) (ver : Version) (o n : ℕ) (es : List Entry) → erasesIn (copyOut N B ver o n es) ≡ []
+unfolding erasesIn copyOut
+copied-none N B ver o n es = simp (erases-append, on-page, part-none, copy-none)
+
+pub settle-none : (N B n : ℕ) → erasesIn (settle N B n) ≡ []
+unfolding erasesIn settle
+settle-none N B n = simp on-page
 
 -- a tidying erases the old segment, and nothing else
 pub compact-one : (N B : ℕ) (ver : Version) (o n : ℕ) (es : List Entry) → erasesIn (compact N B ver o n es) ≡ o % N ∷ []

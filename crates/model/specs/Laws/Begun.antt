@@ -36,6 +36,12 @@ taken-begun B [] s k = none k
 taken-begun B (x ∷ xs) s zero = inl (refl, refl)
 taken-begun B (x ∷ xs) s (suc k) = inr (inr (erasesIn (take k xs), erases-cons x (take k xs), taken-begun B xs (step B x s) k))
 
+-- all of it
+pub whole-begun : (B : ℕ) (xs : List Step) (s : Image) → CutBegun B xs s (run B xs s) (erasesIn xs)
+unfolding run erasesIn
+whole-begun B [] s = (refl, refl)
+whole-begun B (x ∷ xs) s = inr (inr (erasesIn xs, erases-cons x xs, whole-begun B xs (step B x s)))
+
 -- of two lists, a cut in the first, or the first done and a cut in the second
 pub begun-append : (B : ℕ) (xs ys : List Step) (s u : Image) (es : List ℕ) → CutBegun B (xs ++ ys) s u es
     → CutBegun B xs s u es ⊎ ((rest : List ℕ) × (es ≡ erasesIn xs ++ rest) × CutBegun B ys (run B xs s) u rest)

@@ -1,0 +1,280 @@
+-- The induction over histories: one lemma for each event, by what demand 2 knows of the image.
+use Prim.Native.Nat.{ℕ, zero, suc, _+_, _-_, _/_, _≤_, _<_}
+use mathlib.Core.Path.{_≡_, refl, sym, ap, _∙_, subst}
+use mathlib.Core.Logic.{_⊎_, inl, inr, ⊎-elim}
+use mathlib.Core.Bool.{Bool, true, false, cond, true≢false}
+use mathlib.Core.List.{List, [], _∷_}
+use native.Mathlib.Omega.{arith}
+use lib.ListN.{length, take}
+use lib.Dec.{eqb}
+use borrow.Author.Tests.{ne-eqb}
+use Rattle.model.specs.Lists.{count}
+use Rattle.model.specs.Chip.{Image, Bytes, rightSize, run, erased}
+use Rattle.model.specs.Header.{newVersion, isFormer, bitValues, clearedIn, clearedBits, tallyOf, noBitLeft}
+use Rattle.model.specs.State.{segmentsOf, nextNumber, topVersion, View, viewOf, view, State, clean, unfinished, damaged, state, distinct}
+use Rattle.model.specs.Steps.{formatSteps, topNumber}
+use Rattle.model.specs.Table.{tableOf}
+use Rattle.model.specs.Answers.{Request, format, put, delete, read, readOr, recover, stepsFor, workOf, outcomeOf}
+use Rattle.model.specs.Histories.{Seen, answered, lost, Proper, Does, wears}
+use Rattle.model.specs.Sequences.{erasesIn}
+use Rattle.model.specs.Begun.{CutBegun, DoesBegun, Turn, Turns, cutSeen, cutsIn, byRecovery, recoveryErases, begunOn}
+use Rattle.model.specs.Laws.Chip.{size-facts, run-size}
+use Rattle.model.specs.Laws.Begun.{begun-cut, begun-none, taken-begun}
+use Rattle.bridge.specs.Predicted.{fresh}
+use Rattle.bridge.specs.Accepted.{recover-none, accepted}
+use Rattle.bridge.specs.Held.{Held, held-top}
+use Rattle.bridge.specs.Format.{format-held, format-bytes}
+use Rattle.crash.specs.Machine.{Board, malformed, Promise, settled, interrupted, unknown, IsCut, OnTable, WantsRecovery, Holds, Moves, answers, answers-again, asks-recovery, refuses-malformed, not-begun, wholly-done, formats, format-cut, no-promise}
+use Rattle.crash.specs.Sound.{SoundAs, Sound, Clean, CutOf}
+use Rattle.crash.specs.Requests.{refused-idle, read-idle, readOr-idle, Unfinished, code-unfinished}
+use Rattle.crash.specs.ReadingRuns.{Known, move-known}
+use Rattle.crash.specs.Skeleton.{Invariant, one-event, May, formatted-stores}
+use Rattle.crash.specs.Tops.{SameTop, same-image}
+use Rattle.crash.specs.Delete.{delete-top}
+use Rattle.crash.specs.Theorem.{request-laws}
+use Rattle.wear.specs.Erases.{delete-none}
+use Rattle.tallied.specs.Law.{tallyIn, topIn, BitLeft, Unformatted, TallyTells}
+use Rattle.tallied.specs.Counts.{turnsTo, turns-bound, Advances, advances-same}
+use Rattle.tallied.specs.Puts.{put-advances}
+use Rattle.tallied.specs.Recovers.{Recovers, recover-counts}
+
+-- ---- what each event gives
+
+abbrev IsInterrupted : Promise → Type 0
+IsInterrupted (settled t) = ⊥
+IsInterrupted (interrupted t) = Unit {0}
+IsInterrupted unknown = ⊥
+
+-- a recovery on an image that is not clean, or any other request
+pub data Shown (N B : ℕ) (s m : Image) (r : Request) (es : List ℕ) (x : Promise) : Type 0 where
+  carries-on : Advances N B s m es → byRecovery r es ≡ 0 → Shown N B s m r es x
+  recovers : Recovers N B s m es → r ≡ recover → IsInterrupted x → byRecovery r es ≡ length es → Shown N B s m r es x
+
+begun-of : (N B : ℕ) (r : Request) (o : Seen) (s m : Image) (es : List ℕ) → DoesBegun N B r o s m es → CutBegun B (workOf N B s r .steps) s m es
+unfolding outcomeOf
+begun-of N B r (answered y) s m es (k, reply, image, begun) = rw (image, begun) (taken-begun B (workOf N B s r .steps) s k)
+begun-of N B r lost s m es c = c
+
+does-of : (N B : ℕ) (r : Request) (o : Seen) (s m : Image) (es : List ℕ) → DoesBegun N B r o s m es → Does N B r o s m
+does-of N B r (answered y) s m es (k, reply, image, begun) = (k, reply, image)
+does-of N B r lost s m es c = begun-cut B (workOf N B s r .steps) s m es c
+
+idle : (N B : ℕ) (s m : Image) (r : Request) (es : List ℕ) (x : Promise) → byRecovery r [] ≡ 0 → workOf N B s r .steps ≡ [] → CutBegun B (workOf N B s r .steps) s m es → Shown N B s m r es x
+idle N B s m r es x z e c = let d : CutBegun B [] s m es = rw e at c in carries-on (advances-same N B s m es (d .1) (same-image N B s m (d .0))) (ap (λ (y : List ℕ). byRecovery r y) (d .1) ∙ z)
+
+none-by : (r : Request) → byRecovery r [] ≡ 0
+unfolding byRecovery
+none-by format = refl
+none-by (put b c) = refl
+none-by (delete b) = refl
+none-by (read b) = refl
+none-by (readOr b f) = refl
+none-by recover = refl
+
+-- a request on a clean image
+on-clean : (N B : ℕ) (s m : Image) (r : Request) (es : List ℕ) (x : Promise) → OnTable r → Proper r → rightSize N B s ≡ true → Bytes s → Clean N B s → CutBegun B (workOf N B s r .steps) s m es → Shown N B s m r es x
+on-clean N B s m r es x o p z y h c = go (workOf N B s r .code) refl
+  where
+    by-request : (a : Request) → OnTable a → Proper a → workOf N B s a .code ≡ 0 → CutBegun B (workOf N B s a .steps) s m es → Shown N B s m a es x
+    by-request format oa pa e d = absurd oa
+    by-request (put b v) oa pa e d = carries-on (put-advances N B s z h b v y pa e m es d) (unfold byRecovery in refl)
+    by-request (delete b) oa pa e d =
+        let xs = workOf N B s (delete b) .steps in
+        carries-on (advances-same N B s m es (begun-none B xs s m es (delete-erases b e) d) (delete-top N B s b z h e m (begun-cut B xs s m es d))) (unfold byRecovery in refl)
+      where
+        delete-erases : (b : ℕ) → workOf N B s (delete b) .code ≡ 0 → erasesIn (workOf N B s (delete b) .steps) ≡ []
+        delete-erases b e = unfold stepsFor in (ap erasesIn (accepted N B s (delete b) e .0) ∙ delete-none N B b (viewOf N (segmentsOf N B s)))
+    by-request (read b) oa pa e d = idle N B s m (read b) es x (none-by (read b)) (read-idle N B s b) d
+    by-request (readOr b f) oa pa e d = idle N B s m (readOr b f) es x (none-by (readOr b f)) (readOr-idle N B s b f) d
+    by-request recover oa pa e d = idle N B s m recover es x (none-by recover) (recover-none N B s h) d
+
+    go : (n : ℕ) → workOf N B s r .code ≡ n → Shown N B s m r es x
+    go zero e = by-request r o p e c
+    go (suc n) e = idle N B s m r es x (none-by r) (refused-idle N B s r n e) c
+
+-- a request on an unfinished one
+on-unfinished : (N B : ℕ) (s m : Image) (r : Request) (es : List ℕ) (x : Promise) → OnTable r → rightSize N B s ≡ true → Bytes s → Sound N B s → Unfinished N B s
+    → isFormer (topVersion N (segmentsOf N B s)) ≡ false → IsInterrupted x → CutBegun B (workOf N B s r .steps) s m es → Shown N B s m r es x
+on-unfinished N B s m r es x o z y h f new i c = by-request r o c
+  where
+    asks : (a : Request) → WantsRecovery a → workOf N B s a .steps ≡ []
+    asks a w = go (malformed a) (code-unfinished N B s z f a w)
+      where
+        go : (n : ℕ) → workOf N B s a .code ≡ cond (eqb n 0) 5 n → workOf N B s a .steps ≡ []
+        go zero e = refused-idle N B s a 4 e
+        go (suc n) e = refused-idle N B s a n (e ∙ rw (ne-eqb (suc n) 0 (λ q. omega arith)))
+
+    by-request : (a : Request) → OnTable a → CutBegun B (workOf N B s a .steps) s m es → Shown N B s m a es x
+    by-request format oa d = absurd oa
+    by-request (put b v) oa d = idle N B s m (put b v) es x (none-by (put b v)) (asks (put b v) tt) d
+    by-request (delete b) oa d = idle N B s m (delete b) es x (none-by (delete b)) (asks (delete b) tt) d
+    by-request (read b) oa d = idle N B s m (read b) es x (none-by (read b)) (asks (read b) tt) d
+    by-request (readOr b g) oa d = idle N B s m (readOr b g) es x (none-by (readOr b g)) (asks (readOr b g) tt) d
+    by-request recover oa d = recovers (recover-counts N B s z h new y m es d) refl i (unfold byRecovery in refl)
+
+-- ---- the invariant
+
+-- the tally against the cuts: a cut that no recovery has finished after is still to be counted
+abbrev Below : Promise → ℕ → ℕ → Type 0
+Below (settled t) a k = a ≤ k
+Below (interrupted t) a k = a < k
+Below unknown a k = ⊥
+
+record Tallies (N B : ℕ) (s : Image) (x : Promise) (R K : ℕ) (E : ℕ → ℕ) : Type 0 where
+  second : isFormer (topVersion N (segmentsOf N B s)) ≡ false
+  counted : BitLeft N B s → (R ≤ tallyIn N B s) × Below x (tallyIn N B s) K
+  erases : (i : ℕ) → E i ≤ turnsTo N i (nextNumber (segmentsOf N B s)) + R
+
+known : (x : Promise) (a k : ℕ) → Below x a k → a ≤ k
+known (settled t) a k h = h
+known (interrupted t) a k h = omega arith
+known unknown a k h = absurd h
+
+cut-one : (o : Seen) → IsCut o → cutSeen o ≡ 1
+unfolding cutSeen
+cut-one o (inl e) = rw e
+cut-one o (inr e) = rw e
+
+-- the tally as it was
+below-same : {C : Board} {w : Bool} {r : Request} {o : Seen} {x y : Promise} → Moves C w r o x y → OnTable r → (a k : ℕ) → Below x a k → Below y a (cutSeen o + k)
+below-same (answers q e) f a k h = omega (arith, h)
+below-same (answers-again q i e) f a k h = omega (arith, h)
+below-same (asks-recovery q i e) f a k h = omega (arith, h)
+below-same (refuses-malformed n i e) f a k h = omega (arith, h)
+below-same {o = o} {x = x} (not-begun t q i e) f a k h = omega (arith, known x a k h, cut-one o e)
+below-same {o = o} {x = x} (wholly-done t q i e) f a k h = omega (arith, known x a k h, cut-one o e)
+below-same {r = r} (formats i e) f a k h = absurd (subst OnTable i f)
+below-same {r = r} (format-cut i e) f a k h = absurd (subst OnTable i f)
+below-same (no-promise q) f a k h = absurd h
+
+-- one more, by a recovery after a cut
+below-more : {C : Board} {w : Bool} {r : Request} {o : Seen} {x y : Promise} → Moves C w r o x y → r ≡ recover → IsInterrupted x → (a b k : ℕ) → b ≤ suc a → Below x a k → Below y b (cutSeen o + k)
+unfolding malformed
+below-more (answers q e) f i a b k l h = absurd i
+below-more (answers-again q m e) f i a b k l h = omega (arith, h)
+below-more (asks-recovery q m e) f i a b k l h = absurd (subst WantsRecovery f q)
+below-more (refuses-malformed n m e) f i a b k l h = absurd (let z : malformed recover ≡ suc n = subst (λ y. malformed y ≡ suc n) f m in omega (arith, z))
+below-more {o = o} {x = interrupted u} (not-begun t q m e) f i a b k l h = omega (arith, h, cut-one o e)
+below-more {o = o} {x = interrupted u} (wholly-done t q m e) f i a b k l h = omega (arith, h, cut-one o e)
+below-more {o = o} {x = settled u} (not-begun t q m e) f i a b k l h = absurd i
+below-more {o = o} {x = settled u} (wholly-done t q m e) f i a b k l h = absurd i
+below-more {o = o} {x = unknown} (not-begun t q m e) f i a b k l h = absurd i
+below-more {o = o} {x = unknown} (wholly-done t q m e) f i a b k l h = absurd i
+below-more (formats m e) f i a b k l h = absurd (subst OnTable m (subst OnTable (sym f) tt))
+below-more (format-cut m e) f i a b k l h = absurd (subst OnTable m (subst OnTable (sym f) tt))
+below-more (no-promise q) f i a b k l h = absurd h
+
+-- ---- one event
+
+left-before : (N B : ℕ) (s m : Image) → (noBitLeft (topVersion N (segmentsOf N B s)) ≡ true → noBitLeft (topVersion N (segmentsOf N B m)) ≡ true) → BitLeft N B m → BitLeft N B s
+left-before N B s m used b = go (noBitLeft (topVersion N (segmentsOf N B s))) refl
+  where
+    go : (t : Bool) → noBitLeft (topVersion N (segmentsOf N B s)) ≡ t → noBitLeft (topVersion N (segmentsOf N B s)) ≡ false
+    go true e = absurd (true≢false (sym (used e) ∙ b))
+    go false e = e
+
+count-least : (f : ℕ → Bool) (es : List ℕ) → count f es ≤ length es
+unfolding count
+count-least f [] = omega arith
+count-least f (x ∷ es) = go (f x) (count-least f es)
+  where
+    go : (t : Bool) → count f es ≤ length es → cond t (suc (count f es)) (count f es) ≤ suc (length es)
+    go true h = omega arith
+    go false h = omega arith
+
+step-tallies : (N B : ℕ) (s m : Image) (r : Request) (o : Seen) (es : List ℕ) (x y : Promise) (R K : ℕ) (E : ℕ → ℕ) {C : Board} {w : Bool} → OnTable r → Moves C w r o x y → Tallies N B s x R K E
+    → Shown N B s m r es x → Tallies N B m y (byRecovery r es + R) (cutSeen o + K) (λ i. count (λ k. eqb i k) es + E i)
+step-tallies N B s m r o es x y R K E on moves t (carries-on a none) = record {
+  second = a .second (t .second);
+  counted = λ b. (let c = t .counted (left-before N B s m (a .used) b) in
+      (omega (arith, none, a .tally, c .0), subst (λ (q : ℕ). Below y q (cutSeen o + K)) (sym (a .tally)) (below-same moves on (tallyIn N B s) K (c .1))));
+  erases = λ i. omega (arith, none, t .erases i, a .erases i);
+}
+step-tallies N B s m r o es x y R K E on moves t (recovers a is cut by) = record {
+  second = a .second (t .second);
+  counted = λ b. (let c = t .counted (left-before N B s m (a .used) b) in let d = a .counts b in
+      (omega (arith, by, c .0, d .0), below-more moves is cut (tallyIn N B s) (tallyIn N B m) K (d .1) (c .1)));
+  erases = λ i. let n = a .next in rw n (omega (arith, by, t .erases i, count-least (λ k. eqb i k) es));
+}
+
+-- the counts in other words
+same-counts : (N B : ℕ) (s : Image) (x : Promise) (R K Q L : ℕ) (E F : ℕ → ℕ) → R ≡ Q → K ≡ L → ((i : ℕ) → F i ≡ E i) → Tallies N B s x R K E → Tallies N B s x Q L F
+same-counts N B s x R K Q L E F r k f t = record {
+  second = t .second;
+  counted = λ b. (let c = t .counted b in (omega (arith, c .0, r), subst (λ (q : ℕ). Below x (tallyIn N B s) q) k (c .1)));
+  erases = λ i. omega (arith, t .erases i, f i, r);
+}
+
+-- ---- the history
+
+module _ (N B : ℕ) where
+  event-shown : (s m : Image) (r : Request) (o : Seen) (es : List ℕ) (x : Promise) (R K : ℕ) (E : ℕ → ℕ) → OnTable r → Proper r → Invariant N B false s x → Known x
+      → Tallies N B s x R K E → DoesBegun N B r o s m es → Shown N B s m r es x
+  event-shown s m r o es (settled t) R K E on p (z, k) kn tl d = on-clean N B s m r es (settled t) on p z (k .bytes) (k .clean) (begun-of N B r o s m es d)
+  event-shown s m r o es (interrupted t) R K E on p (z, k) kn tl d = go (state N B s) refl (k .sound)
+    where
+      c : CutBegun B (workOf N B s r .steps) s m es
+      c = begun-of N B r o s m es d
+
+      go : (q : State) → state N B s ≡ q → SoundAs N B s (segmentsOf N B s) q → Shown N B s m r es (interrupted t)
+      go clean e h = on-clean N B s m r es (interrupted t) on p z (k .bytes) e c
+      go (unfinished q) e h = on-unfinished N B s m r es (interrupted t) on z (k .bytes) (k .sound) (q, e) (tl .second) tt c
+      go damaged e h = absurd h
+  event-shown s m r o es unknown R K E on p (z, k) kn tl d = absurd kn
+
+  may : (r : Request) → OnTable r → May N B false (request-laws N B) r
+  may format o = absurd o
+  may (put b c) o = tt
+  may (delete b) o = tt
+  may (read b) o = tt
+  may (readOr b f) o = tt
+  may recover o = tt
+
+  history : (es : List Turn) (s u : Image) (x : Promise) (R K : ℕ) (E : ℕ → ℕ) → Unformatted es → Invariant N B false s x → Known x → Tallies N B s x R K E → Turns N B s es u
+      → (y : Promise) × Tallies N B u y (recoveryErases es + R) (cutsIn es + K) (λ i. begunOn i es + E i)
+  unfolding recoveryErases cutsIn begunOn
+  history [] s u x R K E none inv kn t e = (x, same-counts N B u x R K (0 + R) (0 + K) E (λ i. 0 + E i) (omega arith) (omega arith) (λ i. omega arith) (subst (λ (q : Image). Tallies N B q x R K E) (sym e) t))
+  history (v ∷ es) s u x R K E none inv kn t (p, (m, d, rest)) =
+      let a = one-event N B false (request-laws N B) s m x (v .request) (may (v .request) (none .0)) p inv (v .seen) (does-of N B (v .request) (v .seen) s m (v .begun) d) in
+      let sh = event-shown s m (v .request) (v .seen) (v .begun) x R K E (none .0) p inv kn t d in
+      let t2 = step-tallies N B s m (v .request) (v .seen) (v .begun) x (a .0) R K E (none .0) (a .1) t sh in
+      let b = history es m u (a .0) (byRecovery (v .request) (v .begun) + R) (cutSeen (v .seen) + K) (λ i. count (λ k. eqb i k) (v .begun) + E i) (none .1) (a .2) (move-known (a .1) (none .0) kn) t2 rest in
+      (b .0, same-counts N B u (b .0) _ _ _ _ _ _ (omega arith) (omega arith) (λ i. omega arith) (b .1))
+
+-- ---- from a finished format
+
+module _ (N B : ℕ) (s : Image) (z : rightSize N B s ≡ true) where
+  abbrev formatted : Image
+  formatted = run B (formatSteps N B) s
+
+  held : Held N B formatted (fresh B)
+  held = format-held N B s z
+
+  fresh-version : topVersion N (segmentsOf N B formatted) ≡ newVersion 0
+  unfolding view viewOf fresh
+  fresh-version = ap (λ (y : View). y .version) (held .view)
+
+  fresh-tally : tallyOf (newVersion 0) ≡ 0
+  unfolding newVersion tallyOf clearedBits clearedIn bitValues count erased
+  fresh-tally = refl
+
+  start : Tallies N B formatted (settled []) 0 0 (λ i. 0)
+  unfolding newVersion isFormer
+  start = record {
+    second = ap isFormer fresh-version;
+    counted = λ b. (omega arith, omega (arith, ap tallyOf fresh-version ∙ fresh-tally));
+    erases = λ i. omega arith;
+  }
+
+  begins : Invariant N B false formatted (settled [])
+  begins = (run-size N B (formatSteps N B) s ∙ z, formatted-stores N B (request-laws N B) s z)
+
+pub tally-tells : TallyTells
+tally-tells N B s u es z runs none left =
+    let (y, t) = history N B es (run B (formatSteps N B) s) u (settled []) 0 0 (λ i. 0) none (begins N B s z) tt (start N B s z) runs in
+    let c = t .counted left in
+    let some : 0 < N = omega (arith, size-facts N B s z .two) in (
+      omega (arith, c .0),
+      omega (arith, known y (tallyIn N B u) (cutsIn es + 0) (c .1)),
+      λ i h. omega (arith, t .erases i, turns-bound N i some h (nextNumber (segmentsOf N B u)), c .0),
+    )
