@@ -1,6 +1,7 @@
 //! Any image and any arguments: noise, damage, wrong sizes, and chips near the end of their life.
 
 use crate::harness::Store;
+use crate::heads::Heads;
 use crate::images::{self, formatted};
 use crate::prng::Rng;
 use crate::reference::*;
@@ -115,7 +116,7 @@ fn every_bit_flipped() {
     let mut owing = formatted(g);
     put(&mut owing, g, 7, b"a", UNLIMITED);
     put(&mut owing, g, 7, b"b", UNLIMITED);
-    put(&mut owing, g, 7, b"c", 24);
+    put(&mut owing, g, 7, b"c", 28);
     for image in [clean, owing] {
         for bit in 0..image.len() * 8 {
             let mut flipped = image.clone();
@@ -274,6 +275,7 @@ fn the_end_of_a_chip() {
         for _ in 0..images {
             let mut shape = images::shape(&mut rng, g);
             shape.oldest = g.wear_limit() - shape.used as u32 - rng.below(2 * n) as u32;
+            shape.heads = Heads::Fresh;
             let mut image = images::clean(&mut rng, g, shape);
             let mut worn = 0;
             for _ in 0..6 * n * b {

@@ -9,6 +9,7 @@ mod empty_records;
 mod examples;
 mod geometries;
 mod harness;
+mod heads;
 mod images;
 mod largest_chip;
 mod many_segments;
