@@ -26,7 +26,10 @@ fn recovered(store: &Store, rng: &mut Rng, g: Geometry, image: &[u8], depth: usi
             match *step {
                 Step::Program { at, value } => {
                     let changing = (before[at] & !value).count_ones();
-                    assert_eq!(changing, 1, "recovery clears single bits: they have no inside");
+                    assert_eq!(
+                        changing, 1,
+                        "recovery clears single bits: they have no inside"
+                    );
                 }
                 Step::Erase { .. } => {
                     for _ in 0..3 {
