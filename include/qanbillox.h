@@ -21,7 +21,7 @@ extern "C" {
  *
  * A put is worn only if it needs a new segment, and then in two cases: the whole part of number / n, number being the
  * largest that it would give a segment, plus the tally of erases that recoveries have set about since the format,
- * reaches 100,000; or 1,792 of these were counted in the newest segment's header, which has no place for more. */
+ * reaches 100,000; or the newest segment's header has none of its 1,792 bits left to count one more. */
 enum qbx_answer {
     QBX_DONE = 0,       /* none below */
     QBX_SIZE = 1,       /* n, b or the image's length is wrong */

@@ -7,8 +7,10 @@ mod cuts;
 mod damage;
 mod empty_records;
 mod examples;
+mod former_board;
 mod geometries;
 mod harness;
+mod headers;
 mod heads;
 mod images;
 mod largest_chip;
@@ -19,6 +21,7 @@ mod prng;
 mod reference;
 mod sequences;
 mod step_lists;
+mod version_one;
 
 /// The reference's test for "every byte is 255".
 fn all_255(bytes: &[u8]) -> bool {
