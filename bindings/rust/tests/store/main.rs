@@ -23,6 +23,7 @@ mod reference;
 mod sequences;
 mod step_lists;
 mod tally_bits;
+mod tally_of_a_life;
 mod version_one;
 mod worn_by_tally;
 
