@@ -155,7 +155,7 @@ fn recovery_steps(image: &[u8], g: Geometry, top: u32, version: Version) -> u64 
     let after = &image[g.page(g.index(top + 1), 0)..][..g.segment_len()];
     match version {
         _ if after.iter().all(|&byte| byte == 0xFF) => 1,
-        Version::Two if bit_left(image, g, top) => 3,
+        Version::Two if tally(image, g, top).bit_left => 3,
         _ => 2,
     }
 }

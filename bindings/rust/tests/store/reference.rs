@@ -221,17 +221,23 @@ fn total(page: &[u8]) -> u32 {
     u32::from_le_bytes([page[17], page[18], page[19], page[20]])
 }
 
-/// The tally of an image with this top: the erases that recoveries have set about.
-pub fn tally(image: &[u8], g: Geometry, top: u32) -> u32 {
-    let page = &image[g.page(g.index(top), 0)..][..PAGE];
-    let cleared = page[BITS].iter().map(|byte| byte.count_zeros());
-    total(page) + cleared.sum::<u32>()
+/// What the header of a top counts: the erases that recoveries have set about.
+#[derive(Clone, Copy, Debug, PartialEq, Eq)]
+pub struct Tally {
+    /// The total and the cleared bits.
+    pub sum: u32,
+    /// Whether a bit is left to clear.
+    pub bit_left: bool,
 }
 
-/// Whether the header of this top has a bit left to clear.
-pub fn bit_left(image: &[u8], g: Geometry, top: u32) -> bool {
+/// The tally of an image of version 2 with this top.
+pub fn tally(image: &[u8], g: Geometry, top: u32) -> Tally {
     let page = &image[g.page(g.index(top), 0)..][..PAGE];
-    page[BITS].iter().any(|&byte| byte != 0)
+    let cleared: u32 = page[BITS].iter().map(|byte| byte.count_zeros()).sum();
+    Tally {
+        sum: total(page) + cleared,
+        bit_left: cleared < 8 * BITS.len() as u32,
+    }
 }
 
 /// The header of a segment in use, or `None`.
@@ -575,18 +581,9 @@ fn format_steps(chip: &mut Chip, heading: Heading) -> Result<(), Cut> {
     open(chip, heading, 0)
 }
 
-/// Room for a put. Each header that it makes has the tally of before the put as its total.
-fn make_room(chip: &mut Chip, mut view: View) -> Result<View, Cut> {
+/// Room for a put, with new headers of this kind.
+fn make_room(chip: &mut Chip, mut view: View, heading: Heading) -> Result<View, Cut> {
     let g = chip.g;
-    if view.filled < g.b {
-        return Ok(view);
-    }
-    let heading = match view.version {
-        Version::One => Heading::One,
-        Version::Two => Heading::Two {
-            total: tally(chip.image, g, view.top()),
-        },
-    };
     if view.used < g.n - 1 {
         open(chip, heading, view.top() + 1)?;
         view.used += 1;
@@ -599,10 +596,18 @@ fn make_room(chip: &mut Chip, mut view: View) -> Result<View, Cut> {
     Ok(view)
 }
 
-/// Room for a put, then the slot, then the mark on the old slot.
-fn put_steps(chip: &mut Chip, view: View, block: u16, contents: &[u8]) -> Result<(), Cut> {
+/// Room for a put, if it needs any, then the slot, then the mark on the old slot.
+fn put_steps(
+    chip: &mut Chip,
+    mut view: View,
+    heading: Option<Heading>,
+    block: u16,
+    contents: &[u8],
+) -> Result<(), Cut> {
     let g = chip.g;
-    let view = make_room(chip, view)?;
+    if let Some(heading) = heading {
+        view = make_room(chip, view, heading)?;
+    }
     let before = find(chip.image, g, view.oldest, view.used, block);
     let at = g.page(g.index(view.top()), view.filled + 1);
     write_slot(chip, at, block, contents)?;
@@ -686,7 +691,7 @@ pub enum Rules {
 /// What is left to do once nothing is refused.
 enum Work<'a> {
     Format(Heading),
-    Put(View, u16, &'a [u8]),
+    Put(View, Option<Heading>, u16, &'a [u8]),
     ClearBit5(usize),
     Recover(Unfinished),
     Nothing,
@@ -731,18 +736,24 @@ fn number_wanted(view: &View, g: Geometry) -> Option<u32> {
     }
 }
 
-/// 8: the put needs a new header, and no erase can be counted any more, or the number and the tally
-/// say that a segment has been erased as often as it stands.
-fn worn(image: &[u8], g: Geometry, view: &View) -> bool {
+/// The headers that a put makes, if it needs any: each has the tally of before the put as its total.
+/// 8 if no erase can be counted any more, or if the number and the tally say that a segment has been
+/// erased as often as it stands.
+fn new_headers(image: &[u8], g: Geometry, view: &View) -> Result<Option<Heading>, u8> {
     let Some(number) = number_wanted(view, g) else {
-        return false;
+        return Ok(None);
     };
     let rounds = number / g.n as u32;
     match view.version {
-        Version::One => rounds >= ENDURANCE,
+        Version::One if rounds < ENDURANCE => Ok(Some(Heading::One)),
+        Version::One => Err(WORN),
         Version::Two => {
-            let top = view.top();
-            !bit_left(image, g, top) || rounds + tally(image, g, top) >= ENDURANCE
+            let tally = tally(image, g, view.top());
+            if tally.bit_left && rounds + tally.sum < ENDURANCE {
+                Ok(Some(Heading::Two { total: tally.sum }))
+            } else {
+                Err(WORN)
+            }
         }
     }
 }
@@ -775,10 +786,8 @@ fn plan_put<'a>(
     if view.live == g.capacity() && find(image, g, view.oldest, view.used, block).is_none() {
         return Err(FULL);
     }
-    if worn(image, g, &view) {
-        return Err(WORN);
-    }
-    Ok(Work::Put(view, block, contents))
+    let heading = new_headers(image, g, &view)?;
+    Ok(Work::Put(view, heading, block, contents))
 }
 
 /// The offset of the block's slot.
@@ -815,7 +824,9 @@ fn carry_out(
     let end = match plan {
         Err(code) => return Reply { code, steps: 0 },
         Ok(Work::Format(heading)) => format_steps(&mut chip, heading),
-        Ok(Work::Put(view, block, contents)) => put_steps(&mut chip, view, block, contents),
+        Ok(Work::Put(view, heading, block, contents)) => {
+            put_steps(&mut chip, view, heading, block, contents)
+        }
         Ok(Work::ClearBit5(at)) => chip.program(at, CLEAR_BIT_5),
         Ok(Work::Recover(left)) => recover_steps(&mut chip, left),
         Ok(Work::Nothing) => Ok(()),

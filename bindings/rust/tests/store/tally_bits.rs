@@ -130,17 +130,17 @@ fn all_bits_by_cut_recoveries() {
             let (mut image, top) = cut_compaction(g, state);
             let (fewest, most) = if state == 'a' { (1, 2) } else { (2, 3) };
             for cleared in 0..ALL_BITS {
-                assert_eq!(tally(&image, g, top), cleared as u32);
+                assert_eq!(tally(&image, g, top).sum, cleared as u32);
                 assert_eq!(steps_of(&image, g, &Request::Recover).1.len(), most);
                 let reply = store.perform(&mut image, g, &Request::Recover, 1);
                 assert_eq!((reply.code, reply.steps), (CUT, 1));
                 assert_eq!(by_the_reference(&image, g), state);
             }
-            assert!(!bit_left(&image, g, top));
+            assert!(!tally(&image, g, top).bit_left);
             every_allowance(&store, &image, g, &Request::Recover);
             let steps = store.done(&mut image, g, &Request::Recover);
             assert_eq!(steps, fewest);
-            assert_eq!(tally(&image, g, top), ALL_BITS as u32);
+            assert_eq!(tally(&image, g, top).sum, ALL_BITS as u32);
             worn_for_good(&store, image, g);
         }
     }
@@ -186,7 +186,7 @@ fn all_bits_by_whole_recoveries() {
         let cut = store.perform(&mut image, g, &put_of(3, b"y"), allowance);
         assert_eq!(cut.code, CUT);
         assert_eq!(store.done(&mut image, g, &Request::Recover), 2);
-        let tally = tally(&image, g, 0);
+        let tally = tally(&image, g, 0).sum;
         assert_eq!(tally, cleared as u32);
         // Each could be the last: the next header has the sum.
         if cleared < ALL_BITS {
@@ -239,16 +239,16 @@ fn the_last_bits() {
                 let mut image = image.clone();
                 set_total(&mut image, g, top, 99_999);
                 leave_last(&mut image, g, top, left);
-                let before = tally(&image, g, top);
+                let before = tally(&image, g, top).sum;
                 for again in 0..left {
                     store.perform(&mut image, g, &Request::Recover, 0);
                     store.perform(&mut image, g, &Request::Recover, 1);
-                    assert_eq!(tally(&image, g, top), before + again as u32 + 1);
+                    assert_eq!(tally(&image, g, top).sum, before + again as u32 + 1);
                 }
                 every_allowance(&store, &image, g, &Request::Recover);
                 let steps = if state == 'a' { 1 } else { 2 };
                 assert_eq!(store.done(&mut image, g, &Request::Recover), steps);
-                assert_eq!(tally(&image, g, top), 99_999 + 1_792);
+                assert_eq!(tally(&image, g, top).sum, 99_999 + 1_792);
                 assert_eq!(by_the_reference(&image, g), '-');
             }
         }

@@ -89,14 +89,11 @@ impl Life {
     fn check(&self) {
         let top = self.top();
         let tally = tally(&self.image, self.g, top);
-        assert_eq!(
-            tally, self.bits,
-            "the tally is the bits cleared since the format"
-        );
-        if bit_left(&self.image, self.g, top) {
-            assert!(self.recovery_erases <= tally && tally <= self.cuts);
+        assert_eq!(tally.sum, self.bits, "the bits cleared since the format");
+        if tally.bit_left {
+            assert!(self.recovery_erases <= tally.sum && tally.sum <= self.cuts);
             let most = self.erases.iter().max().expect("a segment");
-            assert!(*most <= top / self.g.n as u32 + tally + 1);
+            assert!(*most <= top / self.g.n as u32 + tally.sum + 1);
         }
     }
 }
@@ -143,10 +140,10 @@ fn many_cuts() {
     }
 }
 
-/// Every way to cut a few rewrites and their recoveries between steps, up to two cuts.
+/// Every way to cut a few rewrites and their recoveries between steps, up to three cuts.
 #[test]
-fn every_life_with_two_cuts() {
-    let store = Store::new("the tally of every life with two cuts");
+fn every_life_with_three_cuts() {
+    let store = Store::new("the tally of every life with three cuts");
     let mut rng = Rng::new(0x11FE_3);
     for (n, b, rewrites) in [(2, 2, 5), (3, 2, 4)] {
         let g = Geometry { n, b };
@@ -162,7 +159,7 @@ fn every_life_with_two_cuts() {
             }
             level = next;
         }
-        assert!(level.iter().any(|life| life.recovery_erases == 2));
+        assert!(level.iter().any(|life| life.recovery_erases >= 2));
         assert!(level.iter().any(|life| life.bits > life.recovery_erases));
     }
 }
@@ -170,7 +167,7 @@ fn every_life_with_two_cuts() {
 /// The lives after a request: cut after each number of steps, if there are cuts left, and whole.
 fn every_end(store: &Store, rng: &mut Rng, life: &Life, request: &Request) -> Vec<Life> {
     let length = steps_of(&life.image, life.g, request).1.len();
-    let first = if life.cuts < 2 { 0 } else { length };
+    let first = if life.cuts < 3 { 0 } else { length };
     let ends = (first..=length).map(|steps| {
         let mut life = life.clone();
         life.cut(store, rng, request, steps, false);
