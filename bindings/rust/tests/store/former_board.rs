@@ -1,5 +1,6 @@
-//! Request #104: a board from the field, `tests/data/version1.img`, N=4 and B=15. It was written by the
-//! proved library as it was before this request, through this binding, by the requests in [`history`].
+//! Request #104: a board as they are in the field, `tests/data/version1.img`, N=4 and B=15. The
+//! proved library wrote it as it was just before this request, through this binding, by the
+//! requests in [`history`].
 
 use crate::harness::{put_of, Store};
 use crate::heads::{head, set_total};
@@ -12,9 +13,9 @@ const G: Geometry = Geometry { n: 4, b: 15 };
 
 static BOARD: &[u8] = include_bytes!("../data/version1.img");
 
-/// The requests that made the board, with their allowances: five tenants rewrite their records
-/// twelve times, a rewrite loses its power in its fourth step after a compaction and is recovered, a
-/// new block is put and one deleted.
+/// The requests that made the board, with their allowances: five tenants write their records twelve
+/// times, a rewrite loses its power four steps after a compaction and is recovered, a new block is
+/// put and one deleted.
 fn history() -> Vec<(Request, u64)> {
     let mut requests = vec![(Request::Format, UNLIMITED)];
     for turn in 1..=12 {

@@ -14,8 +14,8 @@ const OLDEST: u32 = 4;
 
 const VERSIONS: [Version; 2] = [Version::One, Version::Two];
 
-/// Two segments in use: the older with a live and a dead slot, the top with a live and an empty one.
-/// In version 2 the top's total is 99,999.
+/// Two segments in use: the older with a live and a dead slot, the top with a live and an empty
+/// one. In version 2 the top's total is 99,999.
 fn chip(version: Version, status: u8) -> Vec<u8> {
     let mut image = with_statuses(CHIP, (OLDEST, 2), b"x", |place, slot| match (place, slot) {
         (_, 1) => LIVE,
@@ -32,8 +32,8 @@ fn chip(version: Version, status: u8) -> Vec<u8> {
     image
 }
 
-/// The requests that show whether an image is clean, unfinished or damaged; block 1 is stored in the
-/// older segment, block 3 in the top.
+/// The requests that show whether an image is clean, unfinished or damaged; block 1 is stored in
+/// the older segment, block 3 in the top.
 fn ask(store: &Store, image: &[u8], g: Geometry) {
     store.read(image, g, 3);
     let requests = [

@@ -1,5 +1,5 @@
-//! What headers hold beside their numbers (request #104): the version, and in version 2 the total and
-//! the bits.
+//! What headers hold beside their numbers (request #104): the version, and in version 2 the total
+//! and the bits.
 
 use crate::pages::write_header_of;
 use crate::prng::Rng;
@@ -110,8 +110,8 @@ pub fn dress(rng: &mut Rng, image: &mut [u8], g: Geometry, heads: Heads, numbers
     }
 }
 
-/// Makes this header one of that version, with its number and status; in version 2 the total is 0 and
-/// every bit left.
+/// Makes this header one of that version, with its number and status; in version 2 the total is 0
+/// and every bit left.
 pub fn set_version(image: &mut [u8], g: Geometry, number: u32, version: Version) {
     let status = head(image, g, number)[5];
     write_header_of(version, image, g, number, status);

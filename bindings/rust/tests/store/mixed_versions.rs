@@ -120,8 +120,8 @@ fn one_of_many() {
     }
 }
 
-/// What may be in the segment after an owing top: nothing, or a segment in use of either version with
-/// its slots, half erased or whole.
+/// What may be in the segment after an owing top: nothing, or a segment in use of either version
+/// with its slots, half erased or whole.
 fn fill_after(rng: &mut Rng, image: &mut [u8], g: Geometry, top: u32, kind: usize) {
     let after = g.index(top + 1);
     let at = g.page(after, 0);

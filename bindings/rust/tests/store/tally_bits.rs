@@ -1,5 +1,5 @@
-//! Request #104: recovery clears a bit in the top's header before it erases: the first that is left,
-//! whatever the pattern, until none is.
+//! Request #104: recovery clears a bit in the top's header before it erases: the first that is
+//! left, whatever the pattern, until none is.
 
 use crate::conditions::by_the_reference;
 use crate::harness::{put_of, Store};
@@ -146,8 +146,8 @@ fn all_bits_by_cut_recoveries() {
     }
 }
 
-/// With no bit left in the top, puts go on until it is full, and answer 8 from then on; the blocks can
-/// be read and deleted.
+/// With no bit left in the top, puts go on until it is full, and answer 8 from then on; the blocks
+/// can be read and deleted.
 fn worn_for_good(store: &Store, mut image: Vec<u8>, g: Geometry) {
     let State::Clean(mut view) = state_of(&image, g) else {
         panic!("clean");

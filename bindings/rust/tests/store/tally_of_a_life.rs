@@ -1,7 +1,7 @@
-//! Request #104: what the tally says of a chip's life. From a format on, with cuts anywhere, it counts
-//! the bits that recoveries cleared; while the top has one left, it is at least the number of erases
-//! that recoveries began and at most that of the cuts, and the number and the tally bound the erases
-//! of each segment.
+//! Request #104: what the tally says of a chip's life. From a format on, with cuts anywhere, it
+//! counts the bits that recoveries cleared; while the top has one left, it is at least the number
+//! of erases that recoveries began and at most that of the cuts, and the number and the tally bound
+//! the erases of each segment.
 
 use crate::cuts;
 use crate::harness::{put_of, Store};

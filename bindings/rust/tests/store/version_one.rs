@@ -1,5 +1,5 @@
-//! Request #104: boards of version 1, made by the former rules, in every state. They are read, deleted
-//! from and recovered as before, are not put to, and a format makes them version 2.
+//! Request #104: boards of version 1, made by the former rules, in every state. They are read,
+//! deleted from and recovered as before, are not put to, and a format makes them version 2.
 
 use crate::conditions::by_the_reference;
 use crate::cuts;
@@ -38,8 +38,8 @@ fn former_ring(g: Geometry, top: u32) -> Vec<u8> {
     image
 }
 
-/// Clean boards: fresh, with a block, a segment full, at the capacity with room for one slot and with
-/// none, twice round the ring, with dead slots only, and worn.
+/// Clean boards: fresh, with a block, a segment full, at the capacity with room for one slot and
+/// with none, twice round the ring, with dead slots only, and worn.
 fn clean_boards(g: Geometry) -> Vec<Vec<u8>> {
     let mut boards = vec![fresh(g)];
     let mut image = fresh(g);
@@ -211,8 +211,8 @@ fn cuts_of_deletes() {
     }
 }
 
-/// The former store puts, today's deletes and recovers, with cuts anywhere: the table is that of the
-/// acknowledged requests.
+/// The former store puts, today's deletes and recovers, with cuts anywhere: the table is that of
+/// the acknowledged requests.
 #[test]
 fn a_life_under_both_stores() {
     let store = Store::new("version 1, a life under both stores");

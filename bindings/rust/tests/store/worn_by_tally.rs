@@ -1,5 +1,5 @@
-//! Request #104: answer 8 by the total, by the bits and by the number, each at its limit; and the sum
-//! that new headers carry on.
+//! Request #104: answer 8 by the total, by the bits and by the number, each at its limit; and the
+//! sum that new headers carry on.
 
 use crate::harness::{put_of, Store};
 use crate::heads::{clear_first, head, leave_last, set_total, ALL_BITS};
@@ -102,8 +102,8 @@ fn is_worn(store: &Store, image: &[u8], g: Geometry) {
     store.done(&mut image.to_vec(), g, &Request::Delete { block: 1 });
 }
 
-/// Numbers for the top: small ones, some in the middle, each where the last new number begins a round
-/// of the ring and just before that.
+/// Numbers for the top: small ones, some in the middle, each where the last new number begins a
+/// round of the ring and just before that.
 fn tops(g: Geometry, need: Need) -> Vec<u32> {
     let n = g.n as u32;
     let mut tops = Vec::new();
@@ -145,6 +145,49 @@ fn by_the_sum() {
         }
     }
     assert!(worn > 500);
+}
+
+/// The last put that fits, cut after each step and recovered: whatever the tally is then, the old
+/// table stands or the new one, and the put again is done or refused as worn.
+#[test]
+fn cuts_at_the_limit() {
+    let store = Store::new("cuts at the limit of the tally");
+    let mut rng = Rng::new(0x99_999);
+    for g in &CHIPS[..4] {
+        let g = *g;
+        for need in Need::of(g) {
+            let top = 3 * g.n as u32;
+            let rounds = (top + need.headers()) / g.n as u32;
+            for cleared in [0, 13, ALL_BITS - 1] {
+                let mut image = need.image(g, top);
+                clear_first(&mut head(&mut image, g, top)[BITS], cleared);
+                set_total(&mut image, g, top, 99_999 - rounds - cleared as u32);
+                let request = put_of(1, b"y");
+                cut_everywhere(&store, &mut rng, g, &image, &request, 2, 1);
+                let codes = put_again_after_cuts(&store, &image, g, &request);
+                assert!(codes.contains(&WORN) && codes.contains(&DONE));
+            }
+        }
+    }
+}
+
+/// What the put answers the second time, after each cut of the first and its recovery.
+fn put_again_after_cuts(store: &Store, image: &[u8], g: Geometry, request: &Request) -> Vec<u8> {
+    let old = table_of(image, g).expect("clean");
+    let mut whole = image.to_vec();
+    store.done(&mut whole, g, request);
+    let new = table_of(&whole, g).expect("clean");
+    let (_, list) = steps_of(image, g, request);
+    let again = (0..list.len()).map(|steps| {
+        let mut cut = image.to_vec();
+        store.perform(&mut cut, g, request, steps as u64);
+        store.done(&mut cut, g, &Request::Recover);
+        let code = store.perform(&mut cut, g, request, UNLIMITED).code;
+        let shown = table_of(&cut, g).expect("clean");
+        assert!(shown == new || (code == WORN && shown == old));
+        code
+    });
+    again.collect()
 }
 
 /// By the number alone, as in version 1; and with one erase counted a whole round earlier.
@@ -195,8 +238,8 @@ fn by_the_bits() {
     }
 }
 
-/// With room a put is never worn, though the tally is above the limit; once there is none it is. 7 comes
-/// before 8.
+/// With room a put is never worn, though the tally is above the limit; once there is none it is. 7
+/// comes before 8.
 #[test]
 fn not_with_room() {
     let store = Store::new("a put with room is not worn");
