@@ -162,13 +162,13 @@ static void measure_chip(int full_ring)
     if (n > 2) {
         write_slots(b);
         measure("put, opening a segment", PUT, base);
-        measure_recovery("recover (a)", SLOT + 3, 1);
+        measure_recovery("recover (a)", SLOT + 3, 2);
     }
     if (full_ring) {
         write_slots((n - 1) * b);
         measure("put, compacting first", PUT, base);
-        measure_recovery("recover (a)", SLOT + 3, 1);
-        measure_recovery("recover (b)", SLOT + 2, 2);
+        measure_recovery("recover (a)", SLOT + 3, 2);
+        measure_recovery("recover (b)", SLOT + 2, 3);
     }
 }
 

@@ -1,7 +1,7 @@
 /* Qanbillox: a proved record store on NOR flash.
  *
  * Every request takes the whole image, the number of segments n (2 to 255) and of slots in each b (2 to 255).
- * Any arguments get an answer from the table below; a refused request (1 to 8) changes no byte of the image.
+ * Any arguments get an answer from the table below; a refused request (1 to 8, 11) changes no byte of the image.
  * budget is the most flash steps to take: when it is spent the request stops as if the power had gone, and
  * answers QBX_CUT. Recover before the next request then, as after any loss of power.
  *
@@ -17,7 +17,11 @@
 extern "C" {
 #endif
 
-/* The smallest number that applies is given. */
+/* The first that applies is given, in the order 1 to 5, 11, 6 to 9.
+ *
+ * A put is worn only if it needs a new segment, and then in two cases: the whole part of number / n, number being the
+ * largest that it would give a segment, plus the tally of erases that recoveries have set about since the format,
+ * reaches 100,000; or the newest segment's header has none of its 1,792 bits left to count one more. */
 enum qbx_answer {
     QBX_DONE = 0,       /* none below */
     QBX_SIZE = 1,       /* n, b or the image's length is wrong */
@@ -27,8 +31,9 @@ enum qbx_answer {
     QBX_UNFINISHED = 5, /* put, delete, read: recover first */
     QBX_ABSENT = 6,     /* read or delete of a block that is not stored */
     QBX_FULL = 7,       /* put of a new block while (n-1)*b-1 are stored */
-    QBX_WORN = 8,       /* put would give a segment a number of 100,000*n or more */
-    QBX_CUT = 9         /* the budget ended before the steps did */
+    QBX_WORN = 8,       /* put: the chip is worn, as said above */
+    QBX_CUT = 9,        /* the budget ended before the steps did */
+    QBX_OLD_VERSION = 11 /* put on an image of version 1: it can be read, deleted from and recovered, not put to */
 };
 
 #define QBX_PAGE 256u         /* bytes in a page */
@@ -40,7 +45,7 @@ static inline size_t qbx_image_length(size_t n, size_t b) { return n * (b + 1) *
 /* The most records that it holds. */
 static inline size_t qbx_capacity(size_t n, size_t b) { return (n - 1) * b - 1; }
 
-/* Erase everything and begin anew. Answers QBX_DONE, QBX_SIZE or QBX_CUT; after QBX_CUT run it again. */
+/* Erase everything and begin anew, in version 2. Answers QBX_DONE, QBX_SIZE or QBX_CUT; after QBX_CUT run it again. */
 uint64_t qbx_format(uint8_t *image, size_t image_length, size_t n, size_t b, uint64_t budget);
 
 /* Store contents, 1 to 248 bytes, under a block number (1 to 65,534), new or again. To have nothing stored there,
@@ -51,7 +56,8 @@ uint64_t qbx_put(uint8_t *image, size_t image_length, size_t n, size_t b, uint16
 /* Forget a block. */
 uint64_t qbx_delete(uint8_t *image, size_t image_length, size_t n, size_t b, uint16_t block, uint64_t budget);
 
-/* Finish or undo what a loss of power interrupted. A clean image takes no step. */
+/* Finish or undo what a loss of power interrupted. A clean image takes no step. In version 2 an erase is counted in the
+ * header of the newest segment before it is made. */
 uint64_t qbx_recover(uint8_t *image, size_t image_length, size_t n, size_t b, uint64_t budget);
 
 /* Find a block's contents in the image. Only a record from a store that still took 0 bytes has length 0. */

@@ -50,22 +50,34 @@ static int blank(int all, uint64_t groups)
     return qbx_blank_of(result) != all || qbx_groups_of(result) != groups;
 }
 
+/* Makes the header in use, that of the last segment, one of version 1, as former stores wrote it. */
+static void make_version_1(void)
+{
+    uint8_t *header = image + sizeof image / SEGMENTS;
+
+    header[3] = 1;
+    memset(header + 17, 255, QBX_PAGE - 17);
+}
+
 int main(void)
 {
     int wrong = 0;
 
-    wrong += told("format", qbx_format(image, sizeof image, SEGMENTS, SLOTS, unlimited), QBX_DONE, 19);
+    wrong += told("format", qbx_format(image, sizeof image, SEGMENTS, SLOTS, unlimited), QBX_DONE, 23);
     wrong += blank(1, 96);
     wrong += told("put", put("A", unlimited), QBX_DONE, 6);
     wrong += told("put again", put("B", unlimited), QBX_DONE, 7);
-    wrong += told("put, cut after 24 steps", put("C", 24), QBX_CUT, 24);
-    wrong += told("recover", qbx_recover(image, sizeof image, SEGMENTS, SLOTS, unlimited), QBX_DONE, 2);
+    wrong += told("put, cut after 28 steps", put("C", 28), QBX_CUT, 28);
+    wrong += told("recover", qbx_recover(image, sizeof image, SEGMENTS, SLOTS, unlimited), QBX_DONE, 3);
     wrong += shows("B");
     wrong += told("put", put("C", unlimited), QBX_DONE, 7);
     wrong += shows("C");
     wrong += told("put of nothing", put("", unlimited), QBX_LENGTH, 0);
     wrong += shows("C");
     wrong += blank(0, 1);
+    make_version_1();
+    wrong += told("put on version 1", put("D", unlimited), QBX_OLD_VERSION, 0);
+    wrong += shows("C");
     wrong += told("an image that is too short", qbx_format(image, sizeof image - 1, SEGMENTS, SLOTS, unlimited), QBX_SIZE, 0);
     return wrong != 0;
 }

@@ -1,8 +1,8 @@
 use core::error::Error;
 use core::fmt;
 
-/// What a request answers. The numbers are those of document 01, "What comes back"; where several
-/// apply, the store gives the smallest.
+/// What a request answers. The numbers are those of document 01, "What comes back", and of the later
+/// requests. Where several apply, the store gives the smallest; but 11 comes right after 5.
 #[derive(Clone, Copy, Debug, PartialEq, Eq, PartialOrd, Ord, Hash)]
 #[repr(u8)]
 pub enum Answer {
@@ -23,16 +23,22 @@ pub enum Answer {
     /// 7: a put of a block that is not stored while [`Geometry::capacity`](crate::Geometry::capacity)
     /// blocks are.
     Full = 7,
-    /// 8: a put would erase a segment more often than the chip stands.
+    /// 8: the put needs a new segment, and the chip is worn: the whole part of the number that the
+    /// segment would get, divided by the number of segments, and the tally of erases that recoveries
+    /// made add up to 100,000 or more; or no further such erase can be counted. A put that finds room
+    /// in the newest segment is never refused so.
     Worn = 8,
     /// 9: the step budget ended before the request did. The image is as after a power cut: some
     /// first steps of the request are done, and [`recover`](crate::Geometry::recover) comes next.
     Cut = 9,
+    /// 11: a put on an image of version 1. It can be read, deleted from and recovered, but not put
+    /// to; a format makes version 2.
+    OldVersion = 11,
 }
 
 impl Answer {
     /// All answers by rising number.
-    pub const ALL: [Answer; 10] = [
+    pub const ALL: [Answer; 11] = [
         Answer::Done,
         Answer::Size,
         Answer::Number,
@@ -43,9 +49,10 @@ impl Answer {
         Answer::Full,
         Answer::Worn,
         Answer::Cut,
+        Answer::OldVersion,
     ];
 
-    /// The number of the answer in document 01.
+    /// The number of the answer.
     ///
     /// ```
     /// assert_eq!(qanbillox::Answer::Full.number(), 7);
@@ -60,12 +67,13 @@ impl Answer {
     /// use qanbillox::Answer;
     /// assert_eq!(Answer::from_number(7), Some(Answer::Full));
     /// assert_eq!(Answer::from_number(10), None);
+    /// assert_eq!(Answer::from_number(11), Some(Answer::OldVersion));
     /// ```
     pub fn from_number(number: u8) -> Option<Answer> {
-        Answer::ALL.get(usize::from(number)).copied()
+        Answer::ALL.into_iter().find(|a| a.number() == number)
     }
 
-    /// Whether this is a refusal, 1 to 8. A refused request has changed no byte of the image.
+    /// Whether this is a refusal, 1 to 8 or 11. A refused request has changed no byte of the image.
     pub const fn is_refusal(self) -> bool {
         !matches!(self, Answer::Done | Answer::Cut)
     }
@@ -84,6 +92,7 @@ impl fmt::Display for Answer {
             Answer::Full => "store full",
             Answer::Worn => "chip worn out",
             Answer::Cut => "step budget spent",
+            Answer::OldVersion => "image of version 1: no puts",
         })
     }
 }
@@ -99,19 +108,18 @@ mod tests {
         for number in 0..=u8::MAX {
             match Answer::from_number(number) {
                 Some(answer) => assert_eq!(answer.number(), number),
-                None => assert!(number > 9),
+                None => assert!(number == 10 || number > 11),
             }
         }
-        assert!(Answer::ALL
-            .iter()
-            .enumerate()
-            .all(|(i, a)| usize::from(a.number()) == i));
+        let numbers = Answer::ALL.map(Answer::number);
+        assert_eq!(numbers, [0, 1, 2, 3, 4, 5, 6, 7, 8, 9, 11]);
     }
 
     #[test]
-    fn refusals_are_one_to_eight() {
+    fn refusals_are_one_to_eight_and_eleven() {
         for answer in Answer::ALL {
-            assert_eq!(answer.is_refusal(), (1..=8).contains(&answer.number()));
+            let refusal = matches!(answer.number(), 1..=8 | 11);
+            assert_eq!(answer.is_refusal(), refusal);
         }
     }
 }

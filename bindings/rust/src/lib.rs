@@ -41,6 +41,12 @@
 //! }
 //! ```
 //!
+//! # Versions
+//!
+//! A format makes an image of version 2, which counts the erases that recoveries make. Images of
+//! version 1, from stores that did not, can be read, deleted from and recovered; a put on one answers
+//! [`OldVersion`](Answer::OldVersion).
+//!
 //! # The static library
 //!
 //! `rt staticlib qanbillox` proves the store and writes `target/staticlib/libqanbillox.a`, where

@@ -86,8 +86,8 @@ impl<'a> Read<'a> {
 
 /// The answer in the lowest byte of what the library returns.
 fn unpack_answer(packed: u64) -> Answer {
-    // The library is proved to answer 0 to 9; another number means a library of another version.
-    Answer::from_number((packed & 0xFF) as u8).expect("an answer from 0 to 9")
+    // The library is proved to answer these; another number means a library of another version.
+    Answer::from_number((packed & 0xFF) as u8).expect("an answer from 0 to 9, or 11")
 }
 
 /// The requests. Each works on an image that the caller lends for the call; the store keeps nothing
@@ -97,7 +97,8 @@ fn unpack_answer(packed: u64) -> Answer {
 /// as if the power had gone after that step, and answers [`Cut`](Answer::Cut). With [`UNLIMITED`]
 /// it runs to its end. Refusals do not depend on the budget and change no byte.
 impl Geometry {
-    /// Erases the whole image and starts an empty store. The image may hold anything before.
+    /// Erases the whole image and starts an empty store, of version 2. The image may hold anything
+    /// before.
     ///
     /// A format that was cut has to be run again.
     ///
@@ -109,8 +110,8 @@ impl Geometry {
     /// let mut image = vec![0; chip.image_len().unwrap()];
     ///
     /// let outcome = chip.format(&mut image, UNLIMITED);
-    /// assert_eq!((outcome.answer, outcome.steps), (Answer::Done, 4 + 17));
-    /// assert!(image.starts_with(b"SLT\x01\x00\x3F\x0F\x04"));
+    /// assert_eq!((outcome.answer, outcome.steps), (Answer::Done, 4 + 21));
+    /// assert!(image.starts_with(b"SLT\x02\x00\x3F\x0F\x04"));
     /// ```
     pub fn format(self, image: &mut [u8], budget: u64) -> Outcome {
         // SAFETY: pointer and length are those of a slice that is borrowed for the call.
@@ -127,6 +128,9 @@ impl Geometry {
 
     /// Stores `contents`, 1 to [`MAX_CONTENTS`](crate::MAX_CONTENTS) bytes, under `block`, in place
     /// of what is stored there. To have nothing stored there is to [`delete`](Geometry::delete).
+    ///
+    /// An image of version 1, from a store before the erases of recoveries were counted, answers
+    /// [`OldVersion`](Answer::OldVersion).
     ///
     #[cfg_attr(qbx_lib, doc = "```")]
     #[cfg_attr(not(qbx_lib), doc = "```no_run")]
@@ -196,7 +200,8 @@ impl Geometry {
     }
 
     /// Finishes or undoes what a power cut interrupted. To be called after every start of the
-    /// device: on an image where nothing is unfinished it takes no step.
+    /// device: on an image where nothing is unfinished it takes no step. An erase that it makes is
+    /// counted in the newest segment's header first, in an image of version 2.
     ///
     #[cfg_attr(qbx_lib, doc = "```")]
     #[cfg_attr(not(qbx_lib), doc = "```no_run")]
@@ -336,7 +341,7 @@ mod tests {
     fn outcomes_are_unpacked() {
         for answer in Answer::ALL {
             // The last is the longest put, on the largest chip.
-            for steps in [0, 1, 255, 256, 16_391_891] {
+            for steps in [0, 1, 255, 256, 16_392_907] {
                 let packed = u64::from(answer.number()) + 256 * steps;
                 assert_eq!(Outcome::unpack(packed), Outcome { answer, steps });
             }

@@ -3,7 +3,9 @@
 
 use crate::damage::try_all;
 use crate::harness::Store;
-use crate::images::{self, write_header, write_slot_page, Shape};
+use crate::heads::{other, owe, set_version, HEADS};
+use crate::images::{self, write_slot_page, Shape};
+use crate::pages::write_header_of;
 use crate::prng::Rng;
 use crate::reference::*;
 use std::collections::BTreeMap;
@@ -51,7 +53,9 @@ fn is_clean(image: &[u8], g: Geometry) -> bool {
     };
     let conditions = [
         !used.is_empty() && used.len() < g.n,
-        used.windows(2).all(|w| w[0].number + 1 == w[1].number),
+        // consecutive, and of one version
+        used.windows(2)
+            .all(|w| w[0].number + 1 == w[1].number && w[0].version == w[1].version),
         used.iter().all(|segment| !segment.owing),
         (0..g.n).all(|i| header(image, g, i).is_some() || is_blank(image, g, i)),
         !all.contains(&Kind::Wrong) && !all.contains(&Kind::Torn),
@@ -172,25 +176,47 @@ fn with_slots_changed(base: &[u8], slots: &[usize], stored: u16) -> Vec<Vec<u8>>
     images
 }
 
-/// Changes of headers and whole segments.
-fn change_segments(image: &mut [u8], g: Geometry, top: u32, change: usize) {
-    let after = g.page(g.index(top + 1), 0);
+/// Changes of headers and whole segments. The top and those before it have this version.
+fn change_segments(image: &mut [u8], g: Geometry, top: InUse, change: usize) {
+    let InUse {
+        number, version, ..
+    } = top;
+    let before = number.saturating_sub(1);
+    let after = g.page(g.index(number + 1), 0);
+    let old = (number + 1).checked_sub(g.n as u32);
+    let mut write = |version, number, status| write_header_of(version, image, g, number, status);
     match change {
         0 => {}
         1 => image[after + 5] = OPENING,
         2 => image[after + g.segment_len() - 1] = 0xFE,
-        3 => write_header(image, g, top, OWING),
+        3 => owe(image, g, number),
         4 => {
-            write_header(image, g, top, OWING);
+            owe(image, g, number);
             image[after + 300] = 0;
         }
-        5 => write_header(image, g, top + 1, OPENED),
-        6 => write_header(image, g, top + 1, OWING),
-        7 => write_header(image, g, top.saturating_sub(1), OWING),
-        _ => write_header(image, g, top + g.n as u32, SETTLED),
+        5 => write(version, number + 1, OPENED),
+        6 => write(version, number + 1, OWING),
+        7 => write(version, before, OWING),
+        8 => write(version, number + g.n as u32, SETTLED),
+        // the other version: the top, the one before it, the one after it
+        9 => set_version(image, g, number, other(version)),
+        10 => set_version(image, g, before, other(version)),
+        11 => write(other(version), number + 1, OPENED),
+        12 => write(other(version), number + 1, OWING),
+        // and beside an owing top: the one after it, the one before it
+        13 => {
+            if let Some(old) = old {
+                write(other(version), old, SETTLED);
+            }
+            owe(image, g, number);
+        }
+        _ => {
+            set_version(image, g, before, other(version));
+            owe(image, g, number);
+        }
     }
 }
-const SEGMENT_CHANGES: usize = 9;
+const SEGMENT_CHANGES: usize = 15;
 
 /// Every change of slots with every change of segments.
 #[test]
@@ -206,12 +232,14 @@ fn one_condition_after_the_other() {
                 used: 1 + fill / (b + 1),
                 filled: fill % (b + 1),
                 dead: 0,
+                heads: rng.pick(&HEADS),
             };
             let base = images::clean(&mut rng, g, shape);
             let stored = images::some_block(&mut rng, g, &base);
-            let top = shape.oldest + shape.used as u32 - 1;
+            let used = in_use(&base, g);
+            let top = *used.last().expect("a top");
             let mut slots = Vec::new();
-            for number in shape.oldest..=top {
+            for number in shape.oldest..=top.number {
                 slots.extend((1..=b).map(|slot| g.page(g.index(number), slot)));
             }
             for changed in with_slots_changed(&base, &slots, stored) {

@@ -1,6 +1,7 @@
 //! Any image and any arguments: noise, damage, wrong sizes, and chips near the end of their life.
 
 use crate::harness::Store;
+use crate::heads::{set_version, Heads};
 use crate::images::{self, formatted};
 use crate::prng::Rng;
 use crate::reference::*;
@@ -102,7 +103,7 @@ fn disturbed_images() {
     }
 }
 
-/// Each bit of an image flipped, one after the other.
+/// Each bit of an image flipped, one after the other, in both versions.
 #[test]
 fn every_bit_flipped() {
     let store = Store::new("every bit flipped");
@@ -115,8 +116,13 @@ fn every_bit_flipped() {
     let mut owing = formatted(g);
     put(&mut owing, g, 7, b"a", UNLIMITED);
     put(&mut owing, g, 7, b"b", UNLIMITED);
-    put(&mut owing, g, 7, b"c", 24);
-    for image in [clean, owing] {
+    put(&mut owing, g, 7, b"c", 28);
+    let mut former = [clean.clone(), owing.clone()];
+    for image in &mut former {
+        set_version(image, g, 1, Version::One);
+    }
+    set_version(&mut former[1], g, 0, Version::One);
+    for image in [clean, owing].into_iter().chain(former) {
         for bit in 0..image.len() * 8 {
             let mut flipped = image.clone();
             flipped[bit / 8] ^= 1 << (bit % 8);
@@ -274,6 +280,7 @@ fn the_end_of_a_chip() {
         for _ in 0..images {
             let mut shape = images::shape(&mut rng, g);
             shape.oldest = g.wear_limit() - shape.used as u32 - rng.below(2 * n) as u32;
+            shape.heads = Heads::Fresh;
             let mut image = images::clean(&mut rng, g, shape);
             let mut worn = 0;
             for _ in 0..6 * n * b {

@@ -1,4 +1,4 @@
-//! The bench examples of document 01.
+//! The bench examples of document 01, with the figures of version 2.
 
 use crate::harness::{put_of, Store};
 use crate::images::{blank, formatted};
@@ -42,13 +42,13 @@ fn example_1_sizes_and_capacity() {
 fn example_2_a_fresh_header() {
     let store = Store::new("example 2");
     let mut image = vec![0; 4 * 16 * 256];
-    assert_eq!(store.done(&mut image, MIDDLE, &Request::Format), 4 + 17);
+    assert_eq!(store.done(&mut image, MIDDLE, &Request::Format), 4 + 21);
     let first = [
-        0x53, 0x4C, 0x54, 0x01, 0x00, 0x3F, 0x0F, 0x04, 0x00, 0x00, 0x00, 0x00, 0xFF, 0xFF, 0xFF,
-        0xFF, 0xFF,
+        0x53, 0x4C, 0x54, 0x02, 0x00, 0x3F, 0x0F, 0x04, 0x00, 0x00, 0x00, 0x00, 0xFF, 0xFF, 0xFF,
+        0xFF, 0xFF, 0x00, 0x00, 0x00, 0x00,
     ];
-    assert_eq!(image[..17], first);
-    assert!(image[17..].iter().all(|&byte| byte == 0xFF));
+    assert_eq!(image[..21], first);
+    assert!(image[21..].iter().all(|&byte| byte == 0xFF));
 }
 
 #[test]
@@ -60,10 +60,12 @@ fn example_3_the_first_tidying() {
         store.done(&mut image, MIDDLE, &put_of(7, b"A1"));
     }
     let begins = [
-        0x53, 0x4C, 0x54, 0x01, 0x00, 0x8F, 0x0F, 0x04, 0x03, 0x00, 0x00, 0x00, 0xFC, 0xFF, 0xFF,
-        0xFF, 0x00,
+        0x53, 0x4C, 0x54, 0x02, 0x00, 0x8F, 0x0F, 0x04, 0x03, 0x00, 0x00, 0x00, 0xFC, 0xFF, 0xFF,
+        0xFF, 0x00, 0x00, 0x00, 0x00, 0x00,
     ];
-    assert_eq!(image[third..third + 17], begins);
+    assert_eq!(image[third..third + 21], begins);
+    let rest = &image[third + 21..third + PAGE];
+    assert!(rest.iter().all(|&byte| byte == 0xFF));
 }
 
 #[test]
@@ -82,7 +84,7 @@ fn example_4_a_slot() {
 fn examples_5_and_6_three_puts_and_full() {
     let store = Store::new("examples 5 and 6");
     let mut image = formatted(SMALLEST);
-    for (contents, steps, erased) in [(b"a", 6, 0), (b"b", 7, 0), (b"c", 33, 1)] {
+    for (contents, steps, erased) in [(b"a", 6, 0), (b"b", 7, 0), (b"c", 37, 1)] {
         let request = put_of(7, contents);
         assert_eq!(erases(&image, SMALLEST, &request), erased);
         assert_eq!(store.done(&mut image, SMALLEST, &request), steps);
@@ -105,9 +107,9 @@ fn examples_7_and_8_cuts() {
     for (last, allowance, recovery, stands) in [
         (1, 5, 1, b"a"),
         (1, 6, 1, b"b"),
-        (2, 23, 1, b"b"),
-        (2, 24, 2, b"b"),
-        (2, 25, 1, b"b"),
+        (2, 27, 2, b"b"),
+        (2, 28, 3, b"b"),
+        (2, 29, 1, b"b"),
     ] {
         let mut image = formatted(SMALLEST);
         for contents in &puts[..last] {
@@ -135,7 +137,7 @@ fn example_9_two_tidyings() {
     }
     assert_eq!(total, 0);
     assert_eq!(erases(&image, g, &put_of(3, b"y")), 2);
-    assert_eq!(store.done(&mut image, g, &put_of(3, b"y")), 65);
+    assert_eq!(store.done(&mut image, g, &put_of(3, b"y")), 73);
 }
 
 #[test]

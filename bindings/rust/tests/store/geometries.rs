@@ -10,7 +10,7 @@ use crate::reference::*;
 fn visit(store: &Store, rng: &mut Rng, g: Geometry) {
     let mut image = rng.bytes(64);
     image.resize(g.n * g.segment_len(), 0);
-    assert_eq!(store.done(&mut image, g, &Request::Format), g.n as u64 + 17);
+    assert_eq!(store.done(&mut image, g, &Request::Format), g.n as u64 + 21);
     for block in [1, 65_534, 1] {
         let mut contents = images::contents(rng);
         if contents.is_empty() {

@@ -1,6 +1,9 @@
 //! Images made up directly, without requests: clean ones of any fill and age, and damaged ones that
 //! differ from them in few places, where a wrong test would go unnoticed.
 
+use crate::heads::{
+    add_header, any_bits, dress, head, other, owe, set_total, set_version, Heads, HEADS,
+};
 pub use crate::pages::{write_header, write_slot_page};
 use crate::prng::Rng;
 use crate::reference::*;
@@ -53,6 +56,14 @@ pub struct Shape {
     pub filled: usize,
     /// Of each 16 slots that are not empty, about so many are dead.
     pub dead: usize,
+    /// What the headers hold beside their numbers.
+    pub heads: Heads,
+}
+
+impl Shape {
+    fn numbers(&self) -> Vec<u32> {
+        (self.oldest..self.oldest + self.used as u32).collect()
+    }
 }
 
 /// A clean image of this shape, its blocks in any order.
@@ -72,13 +83,14 @@ pub fn clean(rng: &mut Rng, g: Geometry, shape: Shape) -> Vec<u8> {
     } else {
         usize::MAX
     };
+    let numbers = shape.numbers();
+    for &number in &numbers {
+        let status = rng.pick(&[OPENED, SETTLED]);
+        write_header(&mut image, g, number, status);
+    }
+    dress(rng, &mut image, g, shape.heads, &numbers);
     for (i, block) in blocks.into_iter().enumerate() {
-        if i % g.b == 0 {
-            let number = shape.oldest + (i / g.b) as u32;
-            let status = rng.pick(&[OPENED, SETTLED]);
-            write_header(&mut image, g, number, status);
-        }
-        let number = shape.oldest + (i / g.b) as u32;
+        let number = numbers[i / g.b];
         let at = g.page(g.index(number), 1 + i % g.b);
         let page = &mut image[at..at + PAGE];
         if i == must_die || rng.below(16) < shape.dead {
@@ -87,11 +99,6 @@ pub fn clean(rng: &mut Rng, g: Geometry, shape: Shape) -> Vec<u8> {
             let contents = contents(rng);
             write_slot_page(page, LIVE, block, &contents);
         }
-    }
-    if shape.filled == 0 {
-        let number = shape.oldest + shape.used as u32 - 1;
-        let status = rng.pick(&[OPENED, SETTLED]);
-        write_header(&mut image, g, number, status);
     }
     image
 }
@@ -205,6 +212,7 @@ pub fn shape(rng: &mut Rng, g: Geometry) -> Shape {
         used,
         filled,
         dead: rng.pick(&[0, 0, 1, 4, 8, 15, 16]),
+        heads: rng.pick(&HEADS),
     }
 }
 
@@ -227,21 +235,32 @@ const HEADER_STATUSES: [u8; 12] = [
 ];
 const SLOT_STATUSES: [u8; 9] = [0x7F, 0x3F, 0x1F, 0x5F, 0xFF, 0xDF, 0x9F, 0x0F, 0x00];
 
-/// What the image has in use, by its headers alone.
-fn numbers_in_use(image: &[u8], g: Geometry) -> Vec<u32> {
-    let mut numbers: Vec<u32> = (0..g.n)
+/// Number and version of the top, by the headers alone.
+fn top_of(image: &[u8], g: Geometry) -> (u32, Version) {
+    (0..g.n)
         .filter_map(|index| header(image, g, index))
-        .map(|found| found.number)
-        .collect();
-    numbers.sort();
-    numbers
+        .max_by_key(|found| found.number)
+        .map_or((0, Version::Two), |found| (found.number, found.version))
+}
+
+/// Changes the version, the total or the bits of a header.
+fn disturb_head(rng: &mut Rng, g: Geometry, image: &mut [u8], number: u32, version: Version) {
+    match rng.below(6) {
+        0 => set_version(image, g, number, other(version)),
+        1 => {
+            let total = rng.pick(&[0, 1, 99_999, 100_000, 100_001, 1 << 17, u32::MAX]);
+            set_total(image, g, number, total);
+        }
+        2 | 3 => any_bits(rng, &mut head(image, g, number)[BITS]),
+        4 => head(image, g, number)[rng.between(17, 31)] = rng.pick(&[0, 1, 0x7F, 0xFE, 0xFF]),
+        _ => head(image, g, number)[rng.between(3, 4)] = rng.pick(&[0, 1, 2, 3, 0xFF]),
+    }
 }
 
 /// Changes the image in one place as a cut, a fault or somebody else's write might: some changes
 /// make it unfinished, most damage it, some leave it clean.
 pub fn disturb(rng: &mut Rng, g: Geometry, image: &mut [u8]) {
-    let numbers = numbers_in_use(image, g);
-    let top = numbers.last().copied().unwrap_or(0);
+    let (top, version) = top_of(image, g);
     let top_index = g.index(top);
     let after = (top_index + 1) % g.n;
     let any = rng.below(g.n);
@@ -252,7 +271,7 @@ pub fn disturb(rng: &mut Rng, g: Geometry, image: &mut [u8]) {
         .find(|&slot| kind(&image[g.page(top_index, slot)..][..PAGE]) != Kind::Empty)
         .unwrap_or(0);
     let next = filled.min(g.b - 1) + 1;
-    match rng.below(26) {
+    match rng.below(30) {
         // (a): something in the segment after the top
         0 => {
             let length = rng.between(1, g.segment_len());
@@ -260,10 +279,13 @@ pub fn disturb(rng: &mut Rng, g: Geometry, image: &mut [u8]) {
             image[g.page(after, 0)..][..length].copy_from_slice(&noise);
         }
         1 => image[g.page(after, 0) + rng.below(g.segment_len())] = rng.byte(),
-        2 => write_header(image, g, top + 1, rng.pick(&HEADER_STATUSES)),
+        2 => {
+            let status = rng.pick(&HEADER_STATUSES);
+            add_header(rng, image, g, version, (top + 1, status));
+        }
         // (b): the top owes; the one after it may hold anything
         3 | 4 => {
-            write_header(image, g, top, OWING);
+            owe(image, g, top);
             match rng.below(5) {
                 0 => {}
                 1 => {
@@ -278,7 +300,7 @@ pub fn disturb(rng: &mut Rng, g: Geometry, image: &mut [u8]) {
                 _ => {
                     if let Some(number) = (top + 1).checked_sub(g.n as u32) {
                         let status = rng.pick(&[OPENED, SETTLED, OWING]);
-                        write_header(image, g, number, status);
+                        add_header(rng, image, g, version, (number, status));
                         for slot in 1..=g.b {
                             let at = g.page(after, slot);
                             let block = rng.between(1, 60) as u16;
@@ -344,10 +366,17 @@ pub fn disturb(rng: &mut Rng, g: Geometry, image: &mut [u8]) {
                 1 => top.saturating_sub(rng.below(2 * g.n) as u32),
                 _ => g.wear_limit() - g.n as u32 + rng.below(2 * g.n) as u32,
             };
-            write_header(image, g, number, rng.pick(&[OPENED, SETTLED, OWING]));
+            let status = rng.pick(&[OPENED, SETTLED, OWING]);
+            add_header(rng, image, g, version, (number, status));
         }
         // an empty slot, or one after an empty one
         24 => image[slot..slot + PAGE].fill(0xFF),
+        // version, total and bits
+        25..=28 => {
+            let earlier = top.saturating_sub(rng.below(g.n) as u32);
+            let number = rng.pick(&[top, top, earlier]);
+            disturb_head(rng, g, image, number, version);
+        }
         _ => {
             let block = rng.between(1, 65_534) as u16;
             let contents = contents(rng);

@@ -7,17 +7,25 @@ mod cuts;
 mod damage;
 mod empty_records;
 mod examples;
+mod former_board;
 mod geometries;
 mod harness;
+mod headers;
+mod heads;
 mod images;
 mod largest_chip;
 mod many_segments;
+mod mixed_versions;
 mod pages;
 mod power_cuts;
 mod prng;
 mod reference;
 mod sequences;
 mod step_lists;
+mod tally_bits;
+mod tally_of_a_life;
+mod version_one;
+mod worn_by_tally;
 
 /// The reference's test for "every byte is 255".
 fn all_255(bytes: &[u8]) -> bool {

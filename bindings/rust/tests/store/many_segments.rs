@@ -20,12 +20,12 @@ const CHIPS: [Geometry; 5] = [
     Geometry { n: 255, b: 2 },
 ];
 
-/// The first bytes of the header that a compaction leaves, written out.
-fn compacted(g: Geometry, number: u32) -> [u8; 17] {
+/// The first bytes of the header that a compaction leaves, written out; the total is 0.
+fn compacted(g: Geometry, number: u32) -> [u8; 21] {
     let index = number as usize % g.n;
     let old = if index == g.n - 1 { 0 } else { index + 1 };
-    let mut bytes = [0; 17];
-    bytes[..6].copy_from_slice(&[0x53, 0x4C, 0x54, 0x01, 0x00, 0x8F]);
+    let mut bytes = [0; 21];
+    bytes[..6].copy_from_slice(&[0x53, 0x4C, 0x54, 0x02, 0x00, 0x8F]);
     bytes[6..8].copy_from_slice(&[g.b as u8, g.n as u8]);
     bytes[8..12].copy_from_slice(&number.to_le_bytes());
     bytes[12..16].copy_from_slice(&(!number).to_le_bytes());
@@ -41,11 +41,11 @@ fn compact_up_to(store: &Store, image: &mut [u8], g: Geometry, last: u32) {
     for number in view.top() + 1..=last {
         let request = rewrite_in_turn(image, g);
         // A compaction that copies all slots but one, a slot written, a mark; each byte is a step.
-        let steps = 20 + 6 * (g.b - 1) + 6 + 1;
+        let steps = 24 + 6 * (g.b - 1) + 6 + 1;
         assert_eq!(store.done(image, g, &request), steps as u64);
         let at = g.page(g.index(number), 0);
-        assert_eq!(image[at..at + 17], compacted(g, number));
-        assert!(image[at + 17..at + PAGE].iter().all(|&byte| byte == 0xFF));
+        assert_eq!(image[at..at + 21], compacted(g, number));
+        assert!(image[at + 21..at + PAGE].iter().all(|&byte| byte == 0xFF));
     }
 }
 
@@ -61,7 +61,7 @@ fn twice_round_the_ring() {
     let store = Store::new("twice round the ring");
     for g in CHIPS {
         let mut image = vec![0; g.n * g.segment_len()];
-        assert_eq!(store.done(&mut image, g, &Request::Format), g.n as u64 + 17);
+        assert_eq!(store.done(&mut image, g, &Request::Format), g.n as u64 + 21);
         let capacity = g.capacity() as u16;
         for block in (1..=capacity).chain([1]) {
             store.done(&mut image, g, &put_of(block, b"x"));
@@ -132,7 +132,7 @@ fn cuts_of_openings_past_the_last_index() {
             for block in [1, 9] {
                 let request = put_of(block, b"y");
                 let (_, list) = steps_of(&image, g, &request);
-                assert_eq!(list.len(), 17 + 6 + usize::from(block == 1));
+                assert_eq!(list.len(), 21 + 6 + usize::from(block == 1));
                 every_allowance(&store, &image, g, &request);
                 cut_everywhere(&store, &mut rng, g, &image, &request, 1, 0);
             }
@@ -140,7 +140,7 @@ fn cuts_of_openings_past_the_last_index() {
     }
 }
 
-/// The requests that are not cut above: N erases and 17 steps exceed a byte from N=239 on.
+/// The requests that are not cut above: N erases and 21 steps exceed a byte from N=235 on.
 #[test]
 fn every_allowance_of_format_delete_and_recover() {
     let store = Store::new("every allowance on many segments");
@@ -149,7 +149,7 @@ fn every_allowance_of_format_delete_and_recover() {
         every_allowance(&store, &image, g, &Request::Format);
         every_allowance(&store, &image, g, &Request::Delete { block: 2 });
         every_allowance(&store, &image, g, &Request::Recover);
-        assert_eq!(steps_of(&image, g, &Request::Format).1.len(), g.n + 17);
+        assert_eq!(steps_of(&image, g, &Request::Format).1.len(), g.n + 21);
         let mut fresh = image;
         store.done(&mut fresh, g, &Request::Format);
         assert!(fresh == formatted(g));
@@ -178,7 +178,7 @@ fn worn_after_many_compactions() {
                 let reply = store.perform(&mut image, g, &put_of(1, b"y"), UNLIMITED);
                 assert_eq!(reply.code, code);
                 if code == DONE {
-                    let compactions = 20 * place + 6 * (2 * place - 1);
+                    let compactions = 24 * place + 6 * (2 * place - 1);
                     assert_eq!(reply.steps, compactions as u64 + 6 + 1);
                 }
             }
@@ -186,8 +186,8 @@ fn worn_after_many_compactions() {
     }
 }
 
-/// Each bit of the headers of segments 253, 254 and 0, the newest three, of the blank one after them
-/// and of the oldest.
+/// Each bit that is given, of the headers of segments 253, 254 and 0, the newest three, of the blank
+/// one after them and of the oldest.
 #[test]
 fn every_header_bit() {
     let store = Store::new("every header bit at index 253, 254 and 0");
@@ -195,7 +195,7 @@ fn every_header_bit() {
     let g = Geometry { n: 255, b: 2 };
     let image = full_ring(g, 4 * 255);
     for index in [253, 254, 0, 1, 2] {
-        for bit in 0..18 * 8 {
+        for bit in (0..17 * 8).chain(21 * 8..32 * 8) {
             let mut flipped = image.clone();
             flipped[g.page(index, 0) + bit / 8] ^= 1 << (bit % 8);
             // Without the top, 254 is the top. With bit 4 of its status set, the top owes an erase.

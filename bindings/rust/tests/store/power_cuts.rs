@@ -2,6 +2,7 @@
 
 use crate::cuts;
 use crate::harness::Store;
+use crate::heads::Heads;
 use crate::images::{self, formatted};
 use crate::prng::Rng;
 use crate::reference::*;
@@ -22,10 +23,21 @@ fn recovered(store: &Store, rng: &mut Rng, g: Geometry, image: &[u8], depth: usi
             let reply = store.perform(&mut cut, g, &Request::Recover, done as u64);
             assert_eq!(reply.code, CUT);
             assert!(recovered(store, rng, g, &cut, depth - 1) == table);
-            for _ in 0..3 {
-                let mut inside = before.clone();
-                cuts::inside(rng, g, &mut inside, *step);
-                assert!(recovered(store, rng, g, &inside, depth - 1) == table);
+            match *step {
+                Step::Program { at, value } => {
+                    let changing = (before[at] & !value).count_ones();
+                    assert_eq!(
+                        changing, 1,
+                        "recovery clears single bits: they have no inside"
+                    );
+                }
+                Step::Erase { .. } => {
+                    for _ in 0..3 {
+                        let mut inside = before.clone();
+                        cuts::inside(rng, g, &mut inside, *step);
+                        assert!(recovered(store, rng, g, &inside, depth - 1) == table);
+                    }
+                }
             }
             step.apply(g, &mut before);
         }
@@ -187,6 +199,7 @@ fn cuts_on_many_chips() {
             shape.filled = g.b;
             shape.oldest %= 50_000;
             shape.dead = rng.pick(&[0, 1, 8]);
+            shape.heads = rng.pick(&[Heads::Fresh, Heads::Early]);
             let image = images::clean(&mut rng, g, shape);
             let request = Request::Put {
                 block: images::some_block(&mut rng, g, &image),
@@ -228,6 +241,7 @@ fn a_long_life_with_cuts() {
             let mut shape = images::shape(&mut rng, g);
             shape.oldest = 3 * n as u32;
             shape.used = n - 1;
+            shape.heads = rng.pick(&[Heads::Fresh, Heads::Early]);
             image = images::clean(&mut rng, g, shape);
         }
         let blocks = g.capacity() + 1;
@@ -299,7 +313,7 @@ fn cut_formats() {
         let shape = images::shape(&mut rng, g);
         let image = images::clean(&mut rng, g, shape);
         let (_, list) = steps_of(&image, g, &Request::Format);
-        assert_eq!(list.len(), n + 17);
+        assert_eq!(list.len(), n + 21);
         for (done, step) in list.iter().enumerate() {
             let mut cut = image.clone();
             let reply = store.perform(&mut cut, g, &Request::Format, done as u64);

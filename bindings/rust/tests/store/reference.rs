@@ -1,10 +1,12 @@
-//! A straightforward implementation of document 01, to compare the library with.
+//! A straightforward implementation of document 01 and the requests that have landed, to compare
+//! the library with.
 //!
-//! It is written from the paper alone and shares nothing with the proved code or its definitions:
-//! the same rules, read a second time. It uses the paper's words. The tests and the bench both
+//! It is written from the papers alone and shares nothing with the proved code or its definitions:
+//! the same rules, read a second time. It uses the papers' words. The tests and the bench both
 //! include this file, the bench twice: whoever includes it supplies `all_255`.
 
 use super::all_255;
+use std::ops::Range;
 
 /// Bytes in a page.
 pub const PAGE: usize = 256;
@@ -26,6 +28,8 @@ pub const ABSENT: u8 = 6;
 pub const FULL: u8 = 7;
 pub const WORN: u8 = 8;
 pub const CUT: u8 = 9;
+/// Request #104: a put on an image of version 1, checked after 5.
+pub const OLD_VERSION: u8 = 11;
 
 // Status bytes of a header page
 pub const OPENING: u8 = 0x7F;
@@ -171,11 +175,69 @@ pub fn blank_test(bytes: &[u8]) -> (bool, u64) {
 // Header page
 // ---------------------------------------------------------------------------------------------
 
+/// The versions of the header. The second came with request #104.
+#[derive(Clone, Copy, Debug, PartialEq, Eq, Hash)]
+pub enum Version {
+    One,
+    Two,
+}
+
+impl Version {
+    /// Bytes 3 and 4.
+    pub fn bytes(self) -> [u8; 2] {
+        match self {
+            Version::One => [1, 0],
+            Version::Two => [2, 0],
+        }
+    }
+}
+
+/// The bytes of a version 2 header with the total of erases that recoveries made before it.
+pub const TOTAL: Range<usize> = 17..21;
+/// Those with one bit for each such erase since, cleared once it is set about.
+pub const BITS: Range<usize> = 32..256;
+
 /// What a segment in use says of itself.
 #[derive(Clone, Copy, Debug, PartialEq, Eq)]
 pub struct InUse {
+    pub version: Version,
     pub number: u32,
     pub owing: bool,
+}
+
+/// The version of a header page whose bytes 3, 4 and 17-255 fit the table, or `None`.
+fn version(page: &[u8]) -> Option<Version> {
+    match page[3..5] {
+        [1, 0] => all_255(&page[17..]).then_some(Version::One),
+        [2, 0] => {
+            let fits = total(page) < ENDURANCE && all_255(&page[TOTAL.end..BITS.start]);
+            fits.then_some(Version::Two)
+        }
+        _ => None,
+    }
+}
+
+fn total(page: &[u8]) -> u32 {
+    u32::from_le_bytes([page[17], page[18], page[19], page[20]])
+}
+
+/// What the header of a top counts: the erases that recoveries have set about.
+#[derive(Clone, Copy, Debug, PartialEq, Eq)]
+pub struct Tally {
+    /// The total and the cleared bits.
+    pub sum: u32,
+    /// Whether a bit is left to clear.
+    pub bit_left: bool,
+}
+
+/// The tally of an image of version 2 with this top.
+pub fn tally(image: &[u8], g: Geometry, top: u32) -> Tally {
+    let page = &image[g.page(g.index(top), 0)..][..PAGE];
+    let cleared: u32 = page[BITS].iter().map(|byte| byte.count_zeros()).sum();
+    Tally {
+        sum: total(page) + cleared,
+        bit_left: cleared < 8 * BITS.len() as u32,
+    }
 }
 
 /// The header of a segment in use, or `None`.
@@ -188,15 +250,16 @@ pub fn header(image: &[u8], g: Geometry, index: usize) -> Option<InUse> {
         OWING | SETTLED => (index + 1) % g.n,
         _ => return None,
     };
-    let fits = page[0..5] == *b"SLT\x01\x00"
+    let version = version(page)?;
+    let fits = page[0..3] == *b"SLT"
         && usize::from(page[6]) == g.b
         && usize::from(page[7]) == g.n
         && inverted == !number
         && number < g.wear_limit()
         && g.index(number) == index
-        && usize::from(page[16]) == old
-        && all_255(&page[17..]);
+        && usize::from(page[16]) == old;
     fits.then_some(InUse {
+        version,
         number,
         owing: page[5] == OWING,
     })
@@ -246,6 +309,8 @@ pub fn kind(page: &[u8]) -> Kind {
 /// What the requests want to know of a clean image.
 #[derive(Clone, Copy, Debug, PartialEq, Eq)]
 pub struct View {
+    /// That of all segments in use.
+    pub version: Version,
     /// The smallest segment number in use.
     pub oldest: u32,
     /// How many segments are in use.
@@ -267,10 +332,10 @@ impl View {
 /// What a cut left, and where.
 #[derive(Clone, Copy, Debug, PartialEq, Eq)]
 pub enum Unfinished {
-    /// (a) This segment is neither in use nor blank.
-    A { index: usize },
+    /// (a) The segment after the top is neither in use nor blank.
+    A { top: InUse },
     /// (b) The top owes the erase of the segment after it.
-    B { top: usize, after: usize },
+    B { top: InUse },
     /// (c) The slot at this offset is torn.
     C { slot: usize },
     /// (d) The last slot of the top is live, and so is the older one at this offset with its number.
@@ -312,7 +377,7 @@ pub fn state_of(image: &[u8], g: Geometry) -> State {
         }
         match header {
             Some(found) => {
-                if found.owing && index != top_index {
+                if found.version != top.version || (found.owing && index != top_index) {
                     return State::Damaged;
                 }
                 used += 1;
@@ -339,6 +404,7 @@ pub fn state_of(image: &[u8], g: Geometry) -> State {
 
     // The slots, oldest segment first, so that the last one looked at is the last of the top.
     let mut view = View {
+        version: top.version,
         oldest,
         used,
         live: 0,
@@ -394,11 +460,8 @@ pub fn state_of(image: &[u8], g: Geometry) -> State {
     // Clean, or but for exactly one of the four.
     match (half, top.owing, last) {
         (false, false, None) => State::Clean(view),
-        (true, false, None) => State::Unfinished(Unfinished::A { index: after }),
-        (false, true, None) => State::Unfinished(Unfinished::B {
-            top: top_index,
-            after,
-        }),
+        (true, false, None) => State::Unfinished(Unfinished::A { top }),
+        (false, true, None) => State::Unfinished(Unfinished::B { top }),
         (false, false, Some(last)) => State::Unfinished(last),
         _ => State::Damaged,
     }
@@ -448,35 +511,52 @@ fn write_slot(chip: &mut Chip, at: usize, block: u16, contents: &[u8]) -> Result
     chip.program(at, LIVE)
 }
 
+/// What the new headers of a request hold beside their numbers.
+#[derive(Clone, Copy)]
+enum Heading {
+    /// Version 1, by the former rules.
+    One,
+    /// Version 2 with this total.
+    Two { total: u32 },
+}
+
 /// Bytes 0-4, 6 and 7 of a header.
-fn write_mark(chip: &mut Chip, at: usize) -> Result<(), Cut> {
-    chip.program_all(at, b"SLT\x01\x00")?;
+fn write_mark(chip: &mut Chip, at: usize, heading: Heading) -> Result<(), Cut> {
+    let version = match heading {
+        Heading::One => Version::One,
+        Heading::Two { .. } => Version::Two,
+    };
+    chip.program_all(at, b"SLT")?;
+    chip.program_all(at + 3, &version.bytes())?;
     chip.program_all(at + 6, &[chip.g.b as u8, chip.g.n as u8])
 }
 
-/// Bytes 8-15 of a header.
-fn write_number(chip: &mut Chip, at: usize, number: u32) -> Result<(), Cut> {
+/// Bytes 17-20 of a header of version 2, then bytes 8-15.
+fn write_number(chip: &mut Chip, at: usize, heading: Heading, number: u32) -> Result<(), Cut> {
+    if let Heading::Two { total } = heading {
+        chip.program_all(at + TOTAL.start, &total.to_le_bytes())?;
+    }
     chip.program_all(at + 8, &number.to_le_bytes())?;
     chip.program_all(at + 12, &(!number).to_le_bytes())
 }
 
-/// Opening: 17 steps.
-fn open(chip: &mut Chip, number: u32) -> Result<(), Cut> {
+/// Opening: 21 steps, 17 in version 1.
+fn open(chip: &mut Chip, heading: Heading, number: u32) -> Result<(), Cut> {
     let at = chip.g.page(chip.g.index(number), 0);
     chip.program(at + 5, OPENING)?;
-    write_mark(chip, at)?;
-    write_number(chip, at, number)?;
+    write_mark(chip, at, heading)?;
+    write_number(chip, at, heading, number)?;
     chip.program(at + 5, OPENED)
 }
 
 /// Tidying: the live slots of the segment with number `old` go to a new top, and it is erased.
-/// Returns how many were copied.
-fn tidy(chip: &mut Chip, old: u32, target: u32) -> Result<usize, Cut> {
+/// 24 steps, 20 in version 1, and those of the copies. Returns how many were copied.
+fn tidy(chip: &mut Chip, heading: Heading, old: u32, target: u32) -> Result<usize, Cut> {
     let g = chip.g;
     let (from, to) = (g.index(old), g.index(target));
     let at = g.page(to, 0);
     chip.program(at + 5, TIDYING)?;
-    write_mark(chip, at)?;
+    write_mark(chip, at, heading)?;
     chip.program(at + 16, from as u8)?;
     let mut copied = 0;
     for slot in 1..=g.b {
@@ -487,31 +567,46 @@ fn tidy(chip: &mut Chip, old: u32, target: u32) -> Result<usize, Cut> {
             write_slot(chip, g.page(to, copied), block, &page[8..8 + length])?;
         }
     }
-    write_number(chip, at, target)?;
+    write_number(chip, at, heading, target)?;
     chip.program(at + 5, OWING)?;
     chip.erase(from)?;
     chip.program(at + 5, SETTLED)?;
     Ok(copied)
 }
 
-fn format_steps(chip: &mut Chip) -> Result<(), Cut> {
+fn format_steps(chip: &mut Chip, heading: Heading) -> Result<(), Cut> {
     for index in 0..chip.g.n {
         chip.erase(index)?;
     }
-    open(chip, 0)
+    open(chip, heading, 0)
 }
 
-/// Room for a put, then the slot, then the mark on the old slot.
-fn put_steps(chip: &mut Chip, mut view: View, block: u16, contents: &[u8]) -> Result<(), Cut> {
+/// Room for a put, with new headers of this kind.
+fn make_room(chip: &mut Chip, mut view: View, heading: Heading) -> Result<View, Cut> {
     let g = chip.g;
-    if view.filled == g.b && view.used < g.n - 1 {
-        open(chip, view.top() + 1)?;
+    if view.used < g.n - 1 {
+        open(chip, heading, view.top() + 1)?;
         view.used += 1;
         view.filled = 0;
     }
     while view.filled == g.b {
-        view.filled = tidy(chip, view.oldest, view.top() + 1)?;
+        view.filled = tidy(chip, heading, view.oldest, view.top() + 1)?;
         view.oldest += 1;
+    }
+    Ok(view)
+}
+
+/// Room for a put, if it needs any, then the slot, then the mark on the old slot.
+fn put_steps(
+    chip: &mut Chip,
+    mut view: View,
+    heading: Option<Heading>,
+    block: u16,
+    contents: &[u8],
+) -> Result<(), Cut> {
+    let g = chip.g;
+    if let Some(heading) = heading {
+        view = make_room(chip, view, heading)?;
     }
     let before = find(chip.image, g, view.oldest, view.used, block);
     let at = g.page(g.index(view.top()), view.filled + 1);
@@ -522,15 +617,33 @@ fn put_steps(chip: &mut Chip, mut view: View, block: u16, contents: &[u8]) -> Re
     Ok(())
 }
 
+/// An erase of the segment after the top, by recovery. In version 2 it is counted first: of the
+/// first byte of the top's bits that has one left, the highest is cleared.
+fn counted_erase(chip: &mut Chip, top: InUse) -> Result<(), Cut> {
+    let g = chip.g;
+    if top.version == Version::Two {
+        let header = g.page(g.index(top.number), 0);
+        for at in header + BITS.start..header + BITS.end {
+            let byte = chip.image[at];
+            if byte != 0 {
+                chip.program(at, byte & !(0x80 >> byte.leading_zeros()))?;
+                break;
+            }
+        }
+    }
+    chip.erase(g.index(top.number + 1))
+}
+
 fn recover_steps(chip: &mut Chip, left: Unfinished) -> Result<(), Cut> {
     let g = chip.g;
     match left {
-        Unfinished::A { index } => chip.erase(index),
-        Unfinished::B { top, after } => {
-            if !all_255(&chip.image[g.page(after, 0)..][..g.segment_len()]) {
-                chip.erase(after)?;
+        Unfinished::A { top } => counted_erase(chip, top),
+        Unfinished::B { top } => {
+            let after = g.page(g.index(top.number + 1), 0);
+            if !all_255(&chip.image[after..][..g.segment_len()]) {
+                counted_erase(chip, top)?;
             }
-            chip.program(g.page(top, 0) + 5, SETTLED)
+            chip.program(g.page(g.index(top.number), 0) + 5, SETTLED)
         }
         Unfinished::C { slot } => chip.program(slot, CLEAR_BIT_5),
         Unfinished::D { older } => chip.program(older, CLEAR_BIT_5),
@@ -565,10 +678,20 @@ pub struct ReadReply {
     pub length: usize,
 }
 
+/// Whose rules a request goes by.
+#[derive(Clone, Copy, PartialEq, Eq)]
+pub enum Rules {
+    /// Those of today.
+    Present,
+    /// Those before request #104, on images of version 1: a format makes one, and a put takes it.
+    /// The tests make the boards in the field with them.
+    Former,
+}
+
 /// What is left to do once nothing is refused.
 enum Work<'a> {
-    Format,
-    Put(View, u16, &'a [u8]),
+    Format(Heading),
+    Put(View, Option<Heading>, u16, &'a [u8]),
     ClearBit5(usize),
     Recover(Unfinished),
     Nothing,
@@ -613,7 +736,43 @@ fn number_wanted(view: &View, g: Geometry) -> Option<u32> {
     }
 }
 
-fn plan_put<'a>(image: &[u8], g: Geometry, block: u16, contents: &'a [u8]) -> Result<Work<'a>, u8> {
+/// The headers that a put makes, if it needs any: each has the tally of before the put as its total.
+/// 8 if no erase can be counted any more, or if the number and the tally say that a segment has been
+/// erased as often as it stands.
+fn new_headers(image: &[u8], g: Geometry, view: &View) -> Result<Option<Heading>, u8> {
+    let Some(number) = number_wanted(view, g) else {
+        return Ok(None);
+    };
+    let rounds = number / g.n as u32;
+    match view.version {
+        Version::One if rounds < ENDURANCE => Ok(Some(Heading::One)),
+        Version::One => Err(WORN),
+        Version::Two => {
+            let tally = tally(image, g, view.top());
+            if tally.bit_left && rounds + tally.sum < ENDURANCE {
+                Ok(Some(Heading::Two { total: tally.sum }))
+            } else {
+                Err(WORN)
+            }
+        }
+    }
+}
+
+fn plan_format(image: &[u8], g: Geometry, rules: Rules) -> Result<Work<'static>, u8> {
+    check_size(image, g)?;
+    Ok(Work::Format(match rules {
+        Rules::Present => Heading::Two { total: 0 },
+        Rules::Former => Heading::One,
+    }))
+}
+
+fn plan_put<'a>(
+    image: &[u8],
+    g: Geometry,
+    block: u16,
+    contents: &'a [u8],
+    rules: Rules,
+) -> Result<Work<'a>, u8> {
     check_size(image, g)?;
     check_number(block)?;
     // Request #105. Slots of length 0 that are stored stay live.
@@ -621,13 +780,14 @@ fn plan_put<'a>(image: &[u8], g: Geometry, block: u16, contents: &'a [u8]) -> Re
         return Err(LENGTH);
     }
     let view = clean_view(image, g)?;
+    if rules == Rules::Present && view.version == Version::One {
+        return Err(OLD_VERSION);
+    }
     if view.live == g.capacity() && find(image, g, view.oldest, view.used, block).is_none() {
         return Err(FULL);
     }
-    if number_wanted(&view, g).is_some_and(|number| number >= g.wear_limit()) {
-        return Err(WORN);
-    }
-    Ok(Work::Put(view, block, contents))
+    let heading = new_headers(image, g, &view)?;
+    Ok(Work::Put(view, heading, block, contents))
 }
 
 /// The offset of the block's slot.
@@ -663,8 +823,10 @@ fn carry_out(
     };
     let end = match plan {
         Err(code) => return Reply { code, steps: 0 },
-        Ok(Work::Format) => format_steps(&mut chip),
-        Ok(Work::Put(view, block, contents)) => put_steps(&mut chip, view, block, contents),
+        Ok(Work::Format(heading)) => format_steps(&mut chip, heading),
+        Ok(Work::Put(view, heading, block, contents)) => {
+            put_steps(&mut chip, view, heading, block, contents)
+        }
         Ok(Work::ClearBit5(at)) => chip.program(at, CLEAR_BIT_5),
         Ok(Work::Recover(left)) => recover_steps(&mut chip, left),
         Ok(Work::Nothing) => Ok(()),
@@ -675,23 +837,50 @@ fn carry_out(
     }
 }
 
-pub fn format(image: &mut [u8], g: Geometry, allowance: u64) -> Reply {
-    let plan = check_size(image, g).map(|()| Work::Format);
+/// What a request has to do, or why it is refused.
+fn plan<'a>(image: &[u8], g: Geometry, request: &'a Request, rules: Rules) -> Result<Work<'a>, u8> {
+    match request {
+        Request::Format => plan_format(image, g, rules),
+        Request::Put { block, contents } => plan_put(image, g, *block, contents, rules),
+        Request::Delete { block } => locate(image, g, *block).map(Work::ClearBit5),
+        Request::Recover => plan_recover(image, g),
+    }
+}
+
+pub fn perform(image: &mut [u8], g: Geometry, request: &Request, allowance: u64) -> Reply {
+    perform_by(Rules::Present, image, g, request, allowance)
+}
+
+pub fn perform_by(
+    rules: Rules,
+    image: &mut [u8],
+    g: Geometry,
+    request: &Request,
+    allowance: u64,
+) -> Reply {
+    let plan = plan(image, g, request, rules);
     carry_out(image, g, plan, allowance, None)
+}
+
+/// The step list of a request and its code when nothing cuts it. The image is left alone.
+pub fn steps_of(image: &[u8], g: Geometry, request: &Request) -> (u8, Vec<Step>) {
+    steps_by(Rules::Present, image, g, request)
+}
+
+pub fn steps_by(rules: Rules, image: &[u8], g: Geometry, request: &Request) -> (u8, Vec<Step>) {
+    let mut list = Vec::new();
+    let mut copy = image.to_vec();
+    let plan = plan(image, g, request, rules);
+    let reply = carry_out(&mut copy, g, plan, UNLIMITED, Some(&mut list));
+    (reply.code, list)
+}
+
+pub fn format(image: &mut [u8], g: Geometry, allowance: u64) -> Reply {
+    perform(image, g, &Request::Format, allowance)
 }
 
 pub fn put(image: &mut [u8], g: Geometry, block: u16, contents: &[u8], allowance: u64) -> Reply {
-    let plan = plan_put(image, g, block, contents);
-    carry_out(image, g, plan, allowance, None)
-}
-
-pub fn delete(image: &mut [u8], g: Geometry, block: u16, allowance: u64) -> Reply {
-    let plan = locate(image, g, block).map(Work::ClearBit5);
-    carry_out(image, g, plan, allowance, None)
-}
-
-pub fn recover(image: &mut [u8], g: Geometry, allowance: u64) -> Reply {
-    let plan = plan_recover(image, g);
+    let plan = plan_put(image, g, block, contents, Rules::Present);
     carry_out(image, g, plan, allowance, None)
 }
 
@@ -717,27 +906,4 @@ pub fn read_or<'a>(image: &'a [u8], g: Geometry, block: u16, factory: &'a [u8]) 
         ABSENT => (found.code, factory),
         code => (code, &image[found.offset..found.offset + found.length]),
     }
-}
-
-pub fn perform(image: &mut [u8], g: Geometry, request: &Request, allowance: u64) -> Reply {
-    match request {
-        Request::Format => format(image, g, allowance),
-        Request::Put { block, contents } => put(image, g, *block, contents, allowance),
-        Request::Delete { block } => delete(image, g, *block, allowance),
-        Request::Recover => recover(image, g, allowance),
-    }
-}
-
-/// The step list of a request and its code when nothing cuts it. The image is left alone.
-pub fn steps_of(image: &[u8], g: Geometry, request: &Request) -> (u8, Vec<Step>) {
-    let mut list = Vec::new();
-    let mut copy = image.to_vec();
-    let plan = match request {
-        Request::Format => check_size(image, g).map(|()| Work::Format),
-        Request::Put { block, contents } => plan_put(image, g, *block, contents),
-        Request::Delete { block } => locate(image, g, *block).map(Work::ClearBit5),
-        Request::Recover => plan_recover(image, g),
-    };
-    let reply = carry_out(&mut copy, g, plan, UNLIMITED, Some(&mut list));
-    (reply.code, list)
 }

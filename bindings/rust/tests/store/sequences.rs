@@ -1,6 +1,7 @@
 //! Long sequences of requests without a cut: the plain table (demand 2) and the erases (demand 3).
 
 use crate::harness::Store;
+use crate::heads::Heads;
 use crate::images::{self, formatted};
 use crate::prng::Rng;
 use crate::reference::*;
@@ -223,6 +224,7 @@ fn large_chips() {
             let mut shape = images::shape(&mut rng, g);
             shape.oldest %= 90_000;
             shape.dead = rng.pick(&[0, 1]);
+            shape.heads = rng.pick(&[Heads::Fresh, Heads::Early]);
             let mut image = images::clean(&mut rng, g, shape);
             for _ in 0..requests {
                 let before = table_of(&image, g).expect("clean");
