@@ -73,7 +73,7 @@ fn header_number(page: &[u8]) -> SegmentNumber
 // The total in a header page, in use or not.
 pub fn header_total(page: &[u8]) -> usize
     requires { ⌜ length (now page) ≡ 256 ⌝ }
-    ensures { λ r. ⌜ r ≡ headerTotal (now (page .entry)) ⌝ }
+    ensures { λ r. ⌜ (r ≡ headerTotal (now (page .entry))) × (r < 4294967296) ⌝ }
 {
     long(page[17], page[18], page[19], page[20]) as usize
 }

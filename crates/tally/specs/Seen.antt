@@ -1,5 +1,5 @@
 -- What the contracts of this crate say beside the definitions of the model.
-use Prim.Native.Nat.{ℕ, suc, _*_, _/_, _%_}
+use Prim.Native.Nat.{ℕ, suc, _*_}
 use mathlib.Core.Bool.{cond}
 use mathlib.Core.List.{List, [], _∷_}
 use lib.ListN.{take, drop}
@@ -14,11 +14,7 @@ unfoldable pub headerIn : ℕ → ℕ → ℕ → Image → Page
 headerIn N B n s = take 256 (drop (headerAt N B n * 256) s)
 
 unfoldable pub tallySeen : Version → Tally
-tallySeen e = record { former = isFormer e; count = tallyOf e; usedUp = noBitLeft e }
-
--- 1 for a bit that is cleared
-unfoldable pub bitCleared : ℕ → ℕ → ℕ
-bitCleared x m = cond (eqb (x / m % 2) 0) 1 0
+tallySeen e = record { former = isFormer e; count = tallyOf e; «used_up» = noBitLeft e }
 
 -- how many bytes come before the first that is not 0
 unfoldable pub zerosBefore : List ℕ → ℕ

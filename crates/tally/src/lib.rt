@@ -7,7 +7,7 @@ ghost use Rattle.model.specs.Header.{clearedIn, clearedBits, headerVersion};
 ghost use Rattle.model.specs.Steps.{onPage, headerAt, highestBit, countErase};
 ghost use Rattle.flash.specs.Ran.{Programmed};
 ghost use Rattle.flash.specs.Pages.{Sized};
-ghost use Rattle.tally.specs.Seen.{bitCleared, zerosBefore, tallySeen, headerIn};
+ghost use Rattle.tally.specs.Seen.{zerosBefore, tallySeen, headerIn};
 
 // What a header tells of recoveries' erases: whether it has version 1, which counts none; how many there are, those
 // carried on from former headers and those since; and whether it has no bit left to count one more.
@@ -17,34 +17,26 @@ pub struct Tally {
     pub used_up: bool,
 }
 
-// Where the bits begin that recoveries clear.
+// Where the bits begin that recoveries clear, and how many bytes they fill.
 const BITS: usize = 32;
 
-// 1 for a bit that is cleared.
-fn bit_cleared(x: u8, value: u8) -> usize
-    requires { ⌜ 0 < value ⌝ }
-    ensures { λ r. ⌜ r ≡ bitCleared x value ⌝ }
-{
-    if x / value % 2 == 0 { 1 } else { 0 }
-}
+const BIT_BYTES: usize = 224;
 
 fn cleared_in(x: u8) -> usize
     ensures { λ r. ⌜ (r ≡ clearedIn x) × (r ≤ 8) ⌝ }
 {
-    bit_cleared(x, 128)
-        + bit_cleared(x, 64)
-        + bit_cleared(x, 32)
-        + bit_cleared(x, 16)
-        + bit_cleared(x, 8)
-        + bit_cleared(x, 4)
-        + bit_cleared(x, 2)
-        + bit_cleared(x, 1)
+    8 - u8::count_ones(x) as usize
 }
 
+// How many bits are cleared. Mostly none is, which the blank test finds out sooner.
 fn cleared_bits(bytes: &[u8]) -> usize
     requires { ⌜ length (now bytes) ≤ 256 ⌝ }
     ensures { λ r. ⌜ (r ≡ clearedBits (now (bytes .entry))) × (r ≤ 2048) ⌝ }
 {
+    let test = flash::blank_test(bytes);
+    if test.blank {
+        return 0;
+    }
     let mut sum: usize = 0;
     let mut i: usize = 0;
     while i < bytes.len() {
@@ -70,19 +62,18 @@ fn zeros_before(bytes: &[u8]) -> usize
 
 // The highest set bit of a byte.
 fn highest_bit(x: u8) -> u8
+    requires { ⌜ 0 < x ⌝ }
     ensures { λ r. ⌜ (r ≡ highestBit x) × (r ≤ x) ⌝ }
 {
-    let mut value: u8 = 128;
-    while value > x {
-        value = value / 2;
-    }
-    value
+    128 >> u8::leading_zeros(x)
 }
 
-// What a header page tells of recoveries' erases.
+// ---- in a header page
+
+// What it tells of recoveries' erases.
 fn see_tally(page: &[u8]) -> Tally
     requires { ⌜ length (now page) ≡ 256 ⌝ }
-    ensures { λ r. ⌜ r ≡ tallySeen (headerVersion (now (page .entry))) ⌝ }
+    ensures { λ r. ⌜ (r ≡ tallySeen (headerVersion (now (page .entry)))) × (r .count < 4294969344) ⌝ }
 {
     if header::is_former(page) {
         return Tally {
@@ -91,26 +82,45 @@ fn see_tally(page: &[u8]) -> Tally
             used_up: false,
         };
     }
-    let bits = &page[BITS..];
+    let bits = &page[BITS..256];
     Tally {
         former: false,
         count: header::header_total(page) + cleared_bits(bits),
-        used_up: zeros_before(bits) == bits.len(),
+        used_up: zeros_before(bits) >= BIT_BYTES,
     }
 }
+
+// Counts one more: the highest set bit of the first byte that has one is cleared.
+fn count_in(page: &mut [u8], budget: u64) -> u64
+    requires { ⌜ length (now page) ≡ 256 ⌝ }
+    ensures { λ r. ⌜ Programmed (countErase (headerVersion (now (page .entry)))) budget r (now (page .entry)) (now (page .exit)) ⌝ }
+{
+    if header::is_former(&page[..]) {
+        return budget;
+    }
+    let k = zeros_before(&page[BITS..256]);
+    if k >= BIT_BYTES {
+        return budget;
+    }
+    let at = BITS + k;
+    let x = page[at];
+    flash::program_byte(page, at, x - highest_bit(x), budget)
+}
+
+// ---- in an image
 
 // What the header of the segment that a number belongs to tells of recoveries' erases.
 pub fn tally_in(image: &[u8], segments: usize, slots: usize, number: SegmentNumber) -> Tally
     requires { ⌜ Sized segments slots (length (now image)) ⌝ }
-    ensures { λ r. ⌜ r ≡ tallySeen (headerVersion (headerIn segments slots (number .0) (now (image .entry)))) ⌝ }
+    ensures { λ r. ⌜ (r ≡ tallySeen (headerVersion (headerIn segments slots (number .0) (now (image .entry))))) × (r .count < 4294969344) ⌝ }
 {
     let at = header::header_place(segments, slots, number);
     let end = at + 256;
     see_tally(&image[at..end])
 }
 
-// Counts an erase that a recovery is about to make, in the header of the segment that a number belongs to: the highest set bit of
-// the first byte that has one is cleared. A header of version 1 counts none, and one without a bit left no more.
+// Counts an erase that a recovery is about to make, in the header of the segment that a number belongs to. A header of
+// version 1 counts none, and one without a bit left no more.
 pub fn count_erase(
     image: &mut [u8],
     segments: usize,
@@ -123,15 +133,5 @@ pub fn count_erase(
 {
     let at = header::header_place(segments, slots, number);
     let end = at + 256;
-    let page = &image[at..end];
-    if header::is_former(page) {
-        return budget;
-    }
-    let bits = &page[BITS..];
-    let k = zeros_before(bits);
-    if k >= bits.len() {
-        return budget;
-    }
-    let x = bits[k];
-    flash::program_byte(image, at + BITS + k, x - highest_bit(x), budget)
+    count_in(&mut image[at..end], budget)
 }

@@ -106,9 +106,9 @@ former-read h = go (eqb (getD h 3 0) 2)
     go true = refl
     go false = refl
 
-either : (h : Page) → (headerVersion h ≡ version1) ⊎ (headerVersion h ≡ version2 (headerTotal h) (drop 32 h))
+pub either-version : (h : Page) → (headerVersion h ≡ version1) ⊎ (headerVersion h ≡ version2 (headerTotal h) (drop 32 h))
 unfolding headerVersion headerTotal
-either h = go (eqb (getD h 3 0) 2) (version2 (value (take 4 (drop 17 h))) (drop 32 h))
+either-version h = go (eqb (getD h 3 0) 2) (version2 (value (take 4 (drop 17 h))) (drop 32 h))
   where
     go : (t : Bool) (e : Version) → (cond t e version1 ≡ version1) ⊎ (cond t e version1 ≡ e)
     go true e = inr refl
@@ -184,7 +184,7 @@ module _ (h : Page) (l : length h ≡ 256) (known : (k : ℕ) → getD h k 0 < 2
 
   tally-same : (totalFits (headerVersion h) && same (drop 17 h) (tallyBytes (headerVersion h))) ≡ tallyFits h
   unfolding totalFits tallyFits isFormer
-  tally-same = ⊎-elim (λ e. rw e former-tally) (λ e. rw e (ap (λ (t : Bool). ltb (headerTotal h) eraseLimit && t) second-tally)) (either h)
+  tally-same = ⊎-elim (λ e. rw e former-tally) (λ e. rw e (ap (λ (t : Bool). ltb (headerTotal h) eraseLimit && t) second-tally)) (either-version h)
 
   page-parts : (N B st n old : ℕ) (p : Page) → p ≡ headerFields N B (isFormer (headerVersion h)) st n old
       → (totalFits (headerVersion h) && same h (headerPage N B (headerVersion h) st n old)) ≡ (same (take 17 h) (take 17 p) && tallyFits h)

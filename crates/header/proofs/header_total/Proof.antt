@@ -24,7 +24,7 @@ cast-result : tie.Need-cast-result
 cast-result c = search needs
 
 returns : tie.Need-returns
-returns c = c .long .ensures ∙ total-read _ (c .before .before .before .before .before .before .pre)
+returns c = (c .long .ensures ∙ total-read _ (c .before .before .before .before .before .before .pre), search needs)
 
 pub header-total-spec : {M : Type 1} → statement M
 header-total-spec =

@@ -32,7 +32,7 @@ header-total-requires c κs = search needs
 returns-2 : tie.Need-returns-2
 returns-2 c =
     let k = c .before .before in
-    sym (total-over _ (sym (k .before .is-former .ensures) ∙ k .if1 .left) (omega (arith, c .before .header-total .ensures, c .if2 .taken)))
+    sym (total-over _ (sym (k .before .is-former .ensures) ∙ k .if1 .left) (omega (arith, c .before .header-total .ensures .0, c .if2 .taken)))
 
 sub-blank-test-2 : tie.Need-sub-blank-test-2
 sub-blank-test-2 c = search needs
@@ -49,7 +49,7 @@ blank-test-requires-2 c κs = search needs
 returns-3 : tie.Need-returns-3
 returns-3 c =
     let k = c .before .before .before .before in
-    c .blank-test2 .ensures .0 ∙ fits-second _ (sym (k .before .is-former .ensures) ∙ k .if1 .left) (omega (arith, c .before .before .before .header-total .ensures, c .before .before .if2 .left))
+    c .blank-test2 .ensures .0 ∙ fits-second _ (sym (k .before .is-former .ensures) ∙ k .if1 .left) (omega (arith, c .before .before .before .header-total .ensures .0, c .before .before .if2 .left))
 
 pub tally-fits-spec : {M : Type 1} → statement M
 tally-fits-spec =
