@@ -55,7 +55,7 @@ held-rows-at N B s v h = rows-same N B s (v .slots) (v .first) row
         let n = v .first + k in
         let r = held-row N B s v h k b in
         let i : n % N < N = mod-lt n {m = N} (omega (arith, size-facts N B s (h .size) .two)) in
-        in-use-parts N B (n % N) (partOf N B (n % N) s) (r .0) n (getD (v .slots) k []) (sym (segment-at N B (n % N) s i) ∙ r .1) .slots
+        in-use-parts N B (n % N) (partOf N B (n % N) s) (r .0) (r .1) n (getD (v .slots) k []) (sym (segment-at N B (n % N) s i) ∙ r .2) .slots
 
 -- what the search finds is by the view's entries and places
 pub held-found : (N B : ℕ) (s : Image) (v : View) (b : ℕ) → Held N B s v

@@ -1,5 +1,5 @@
 -- The state of an image by cases: conditions 1 to 4 with (a) and (b) look at headers, 5 to 8 with (c) and (d) at the view.
-use Prim.Native.Nat.{ℕ, zero, suc, _+_, _-_, _%_, _≤_, _<_}
+use Prim.Native.Nat.{ℕ, suc, _+_, _-_, _%_, _≤_, _<_}
 use mathlib.Core.Path.{_≡_, refl, sym, ap, _∙_}
 use mathlib.Core.Bool.{Bool, true, false, cond, _&&_, not, and-false}
 use mathlib.Core.List.{List, [], _∷_}
@@ -10,12 +10,12 @@ use lib.Dec.{ltb, leb, eqb}
 use borrow.Author.Tests.{leb-true, eqb-true, lt-ltb}
 use Rattle.model.specs.Lists.{all}
 use Rattle.model.specs.Slot.{Slot, empty, dead, live, isTorn, entryOf}
-use Rattle.model.specs.State.{Segment, blank, isInvalid, isOwing, nextNumber, topIndex, nextIndex, topSlots, usedCount, firstNumber, View, viewOf, entriesIn, someInUse, consecutive, noneOwing, othersBlank, noneWrongOrTorn, blocksDistinct, emptySlotsLast, withinCapacity, conditions, isClean, nextBlanked, isA, topSettled, isB, withSlot, filled, lastSlot, lastKind, tornMarked, isC, Place, placeOf, blockIn, lastBlock, copies, older, olderMarked, isD, Exception, caseA, caseB, caseC, caseD, State, clean, unfinished, damaged, stateOf}
+use Rattle.model.specs.State.{Segment, blank, isInvalid, isOwing, nextNumber, topIndex, nextIndex, topSlots, usedCount, firstNumber, View, viewOf, entriesIn, someInUse, consecutive, oneVersion, noneOwing, othersBlank, noneWrongOrTorn, blocksDistinct, emptySlotsLast, withinCapacity, conditions, isClean, nextBlanked, isA, topSettled, isB, withSlot, filled, lastSlot, lastKind, tornMarked, isC, Place, placeOf, blockIn, lastBlock, copies, older, olderMarked, isD, Exception, caseA, caseB, caseC, caseD, State, clean, unfinished, damaged, stateOf}
 use Rattle.model.specs.Steps.{topRow, topNumber}
-use Rattle.model.specs.Laws.Lists.{and-left, and-right}
+use Rattle.model.specs.Laws.Lists.{and-left, and-right, all-same}
 use Rattle.model.specs.Laws.Ring.{next-kept, used-kept, get-kept, numbers-kept, slots-get}
 use Rattle.model.specs.Laws.Clean.{RingFacts, used-next, index-inside, view-length}
-use Rattle.model.specs.Laws.View.{slotChanged, slot-view, withSlot-number, withSlot-use, withSlot-owing, withSlot-invalid}
+use Rattle.model.specs.Laws.View.{slotChanged, slot-view, withSlot-number, withSlot-use, withSlot-owing, withSlot-invalid, withSlot-of, one-kept}
 use Rattle.model.specs.Laws.Exclusive.{invalid-paid, no-owing, no-invalid}
 use Rattle.bridge.specs.Views.Places.{FirstLive, fill-length}
 use Rattle.bridge.specs.Views.Shape.{first-live-in}
@@ -25,7 +25,7 @@ use Rattle.model.specs.Laws.Tables.{holds-copies}
 
 -- conditions 1 to 4
 unfoldable pub frame : ℕ → List Segment → Bool
-frame N l = someInUse N l && (consecutive N l && (noneOwing l && othersBlank l))
+frame N l = someInUse N l && (consecutive N l && (oneVersion l && (noneOwing l && othersBlank l)))
 
 -- conditions 5 to 8
 unfoldable pub fine : ℕ → ℕ → View → Bool
@@ -66,43 +66,40 @@ stateBy N B l =
 
 -- ---- clean
 
-eight : (a b c d e f g h : Bool) → a && (b && (c && (d && (e && (f && (g && (h && true))))))) ≡ (a && (b && (c && d))) && (e && (f && (g && h)))
-eight false b c d e f g h = refl
-eight true false c d e f g h = refl
-eight true true false d e f g h = refl
-eight true true true false e f g h = refl
-eight true true true true false f g h = refl
-eight true true true true true false g h = refl
-eight true true true true true true false h = refl
-eight true true true true true true true false = refl
-eight true true true true true true true true = refl
+eight : (a b o c d e f g h : Bool) → a && ((b && o) && (c && (d && (e && (f && (g && (h && true))))))) ≡ (a && (b && (o && (c && d)))) && (e && (f && (g && h)))
+eight false b o c d e f g h = refl
+eight true false o c d e f g h = refl
+eight true true false c d e f g h = refl
+eight true true true false d e f g h = refl
+eight true true true true false e f g h = refl
+eight true true true true true false f g h = refl
+eight true true true true true true false g h = refl
+eight true true true true true true true false h = refl
+eight true true true true true true true true false = refl
+eight true true true true true true true true true = refl
 
 pub clean-split : (N B : ℕ) (l : List Segment) → isClean N B l ≡ (frame N l && fine N B (viewOf N l))
 unfolding isClean conditions all frame fine
 clean-split N B l = let v = viewOf N l in
-    eight (someInUse N l) (consecutive N l) (noneOwing l) (othersBlank l) (noneWrongOrTorn v) (blocksDistinct v) (emptySlotsLast v) (withinCapacity N B v)
+    eight (someInUse N l) (consecutive N l) (oneVersion l) (noneOwing l) (othersBlank l) (noneWrongOrTorn v) (blocksDistinct v) (emptySlotsLast v) (withinCapacity N B v)
 
 pub frame-ring : (N : ℕ) (l : List Segment) → length l ≡ N → frame N l ≡ true → RingFacts N l
 unfolding frame someInUse consecutive
 frame-ring N l e h =
-    let a = and-left (someInUse N l) (consecutive N l && (noneOwing l && othersBlank l)) h in
-    let b = and-right (someInUse N l) (consecutive N l && (noneOwing l && othersBlank l)) h in
-    let c = and-right (consecutive N l) (noneOwing l && othersBlank l) b in record {
+    let a = and-left (someInUse N l) (consecutive N l && (oneVersion l && (noneOwing l && othersBlank l))) h in
+    let b = and-right (someInUse N l) (consecutive N l && (oneVersion l && (noneOwing l && othersBlank l))) h in
+    let c = and-right (consecutive N l) (oneVersion l && (noneOwing l && othersBlank l)) b in
+    let d = and-right (oneVersion l) (noneOwing l && othersBlank l) c in record {
       size = e;
       some = leb-true 1 (usedCount l) (and-left (leb 1 (usedCount l)) (leb (usedCount l) (N - 1)) a);
       spare = leb-true (usedCount l) (N - 1) (and-right (leb 1 (usedCount l)) (leb (usedCount l) (N - 1)) a);
-      chain = and-left (consecutive N l) (noneOwing l && othersBlank l) b;
-      paid = and-left (noneOwing l) (othersBlank l) c;
-      others = and-right (noneOwing l) (othersBlank l) c;
+      chain = and-left (consecutive N l) (oneVersion l && (noneOwing l && othersBlank l)) b;
+      one = and-left (oneVersion l) (noneOwing l && othersBlank l) c;
+      paid = and-left (noneOwing l) (othersBlank l) d;
+      others = and-right (noneOwing l) (othersBlank l) d;
     }
 
 -- ---- a slot changed leaves the frame
-
-all-same : {A : Type 0} (f : A → Bool) (l : List A) (i : ℕ) (y d : A) → f y ≡ f (getD l i d) → all f (set l i y) ≡ all f l
-unfolding all
-all-same f [] i y d e = refl
-all-same f (x ∷ l) zero y d e = ap (λ t. t && all f l) e
-all-same f (x ∷ l) (suc i) y d e = ap (λ t. f x && t) (all-same f l i y d e)
 
 frame-kept : (N : ℕ) (l : List Segment) (i j : ℕ) (k : Slot) → i < length l → frame N (set l i (withSlot j k (getD l i blank))) ≡ frame N l
 unfolding frame someInUse consecutive firstNumber noneOwing othersBlank
@@ -113,6 +110,7 @@ frame-kept N l i j k h =
       used-kept l i y h (withSlot-use j k x),
       next-kept l i y (withSlot-number j k x),
       numbers-kept N i y l (usedCount l) (nextNumber l - usedCount l) (withSlot-number j k x),
+      one-kept l i y (λ n. withSlot-of j k n x),
       all-same (λ z. not (isOwing z)) l i y blank (ap not (withSlot-owing j k x)),
       all-same (λ z. not (isInvalid z)) l i y blank (ap not (withSlot-invalid j k x)),
     )

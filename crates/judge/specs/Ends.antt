@@ -7,6 +7,7 @@ use mathlib.Core.List.{List, [], _∷_, _++_, flatten, append-nil}
 use lib.ListN.{length}
 use lib.Dec.{leb}
 use Rattle.model.specs.Lists.{all}
+use Rattle.model.specs.Header.{Version}
 use Rattle.model.specs.Slot.{Slot, empty, torn, dead, wrong, live, isEmpty, isTorn, isWrong, Entry, entryOf}
 use Rattle.model.specs.State.{View, entries, entriesIn, holds, distinct, emptyLast, noneWrongOrTorn, blocksDistinct, emptySlotsLast, capacity, withinCapacity}
 use Rattle.bridge.specs.Views.Slots.{full, sound, entries-append, full-then, first-empty}
@@ -80,9 +81,9 @@ module _ (p : List Entry) where
 
 -- ---- the rows before the top must be plain
 
-module _ (n : ℕ) (l : List (List Slot)) (t : List Slot) where
+module _ (n : ℕ) (ver : Version) (l : List (List Slot)) (t : List Slot) where
   abbrev pub v : View
-  v = rowsWith n l t
+  v = rowsWith n ver l t
 
   abbrev pub ending : Ending
   ending = ring Full [] (l ++ (t ∷ []))
@@ -160,7 +161,7 @@ module _ (n : ℕ) (l : List (List Slot)) (t : List Slot) where
 
   pub fine-ending : (N B : ℕ) → fine N B v ≡ (inOrder ending && leb (length (entriesIn v)) (capacity N B))
   fine-ending N B = fine-ordered N B v ∙ ap (λ x. x && leb (length (entriesIn v)) (capacity N B))
-      (both-ways (ordered v) (inOrder ending) (λ h. ordered-ending-of (ordered-facts n l t h)) (λ h. facts-ordered n l t (ending-ordered h)))
+      (both-ways (ordered v) (inOrder ending) (λ h. ordered-ending-of (ordered-facts n ver l t h)) (λ h. facts-ordered n ver l t (ending-ordered h)))
 
   -- ---- (c)
 
@@ -169,45 +170,45 @@ module _ (n : ℕ) (l : List (List Slot)) (t : List Slot) where
   entries-of = ap entries (flatten-last l t) ∙ entries-append (flatten l) t
 
 -- one slot exchanged for another
-module _ (n : ℕ) (g : Gap) (k m : Slot) where
+module _ (n : ℕ) (ver : Version) (g : Gap) (k m : Slot) where
   pub swap-sound : not (isWrong k || isTorn k) ≡ true → not (isWrong m || isTorn m) ≡ true
-      → noneWrongOrTorn (record { first = n; slots = fill g k }) ≡ noneWrongOrTorn (record { first = n; slots = fill g m })
+      → noneWrongOrTorn (record { first = n; slots = fill g k; version = ver }) ≡ noneWrongOrTorn (record { first = n; slots = fill g m; version = ver })
   unfolding noneWrongOrTorn
   swap-sound a b = both-ways (all (λ z. not (isWrong z || isTorn z)) (flatten (fill g k))) (all (λ z. not (isWrong z || isTorn z)) (flatten (fill g m)))
       (λ h. fill-all (λ z. not (isWrong z || isTorn z)) g k m b h) (λ h. fill-all (λ z. not (isWrong z || isTorn z)) g m k a h)
 
-  pub swap-last : isEmpty k ≡ isEmpty m → emptySlotsLast (record { first = n; slots = fill g k }) ≡ emptySlotsLast (record { first = n; slots = fill g m })
+  pub swap-last : isEmpty k ≡ isEmpty m → emptySlotsLast (record { first = n; slots = fill g k; version = ver }) ≡ emptySlotsLast (record { first = n; slots = fill g m; version = ver })
   unfolding emptySlotsLast
   swap-last e = fill-empty-last g k m e
 
-module _ (N B n : ℕ) (l : List (List Slot)) (t : List Slot) where
+module _ (N B n : ℕ) (ver : Version) (l : List (List Slot)) (t : List Slot) where
   -- a torn last slot marked
   module _ (x y : List Slot) (split : t ≡ x ++ (torn ∷ y)) (rest : all isEmpty y ≡ true) where
-    torn-written : lastWritten (rowsWith n l t) ≡ torn
+    torn-written : lastWritten (rowsWith n ver l t) ≡ torn
     unfolding isEmpty
-    torn-written = rw split (last-written n l x torn y refl rest)
+    torn-written = rw split (last-written n ver l x torn y refl rest)
 
-    torn-marked : lastMarked (rowsWith n l t) ≡ rowsWith n l (x ++ (dead ∷ y))
+    torn-marked : lastMarked (rowsWith n ver l t) ≡ rowsWith n ver l (x ++ (dead ∷ y))
     unfolding isEmpty
-    torn-marked = rw split (last-marked n l x torn y refl rest)
+    torn-marked = rw split (last-marked n ver l x torn y refl rest)
 
-    torn-entries : entriesIn (lastMarked (rowsWith n l t)) ≡ entriesIn (rowsWith n l t)
+    torn-entries : entriesIn (lastMarked (rowsWith n ver l t)) ≡ entriesIn (rowsWith n ver l t)
     unfolding entryOf
-    torn-entries = ap entriesIn torn-marked ∙ (entries-of n l (x ++ (dead ∷ y)) ∙ (top-entries l x dead y rest
-        ∙ sym (entries-of n l t ∙ (ap (λ (z : List Slot). before-top l ++ entries z) split ∙ top-entries l x torn y rest))))
+    torn-entries = ap entriesIn torn-marked ∙ (entries-of n ver l (x ++ (dead ∷ y)) ∙ (top-entries l x dead y rest
+        ∙ sym (entries-of n ver l t ∙ (ap (λ (z : List Slot). before-top l ++ entries z) split ∙ top-entries l x torn y rest))))
 
-  torn-to : tornLast N B (rowsWith n l t) ≡ true → (endsTorn (ending n l t) && leb (length (entriesIn (rowsWith n l t))) (capacity N B)) ≡ true
+  torn-to : tornLast N B (rowsWith n ver l t) ≡ true → (endsTorn (ending n ver l t) && leb (length (entriesIn (rowsWith n ver l t))) (capacity N B)) ≡ true
   unfolding tornLast
   torn-to h = go (all isEmpty t) refl
     where
-      w : isTorn (lastWritten (rowsWith n l t)) ≡ true
-      w = and-eq-true-iff (isTorn (lastWritten (rowsWith n l t))) (fine N B (lastMarked (rowsWith n l t))) .0 (unfold tornLast in h) .0
+      w : isTorn (lastWritten (rowsWith n ver l t)) ≡ true
+      w = and-eq-true-iff (isTorn (lastWritten (rowsWith n ver l t))) (fine N B (lastMarked (rowsWith n ver l t))) .0 (unfold tornLast in h) .0
 
-      f : (ordered (lastMarked (rowsWith n l t)) && leb (length (entriesIn (lastMarked (rowsWith n l t)))) (capacity N B)) ≡ true
-      f = sym (fine-ordered N B (lastMarked (rowsWith n l t))) ∙ and-eq-true-iff (isTorn (lastWritten (rowsWith n l t))) (fine N B (lastMarked (rowsWith n l t))) .0 (unfold tornLast in h) .1
+      f : (ordered (lastMarked (rowsWith n ver l t)) && leb (length (entriesIn (lastMarked (rowsWith n ver l t)))) (capacity N B)) ≡ true
+      f = sym (fine-ordered N B (lastMarked (rowsWith n ver l t))) ∙ and-eq-true-iff (isTorn (lastWritten (rowsWith n ver l t))) (fine N B (lastMarked (rowsWith n ver l t))) .0 (unfold tornLast in h) .1
 
-      g : (ordered (lastMarked (rowsWith n l t)) ≡ true) × (leb (length (entriesIn (lastMarked (rowsWith n l t)))) (capacity N B) ≡ true)
-      g = and-eq-true-iff (ordered (lastMarked (rowsWith n l t))) (leb (length (entriesIn (lastMarked (rowsWith n l t)))) (capacity N B)) .0 f
+      g : (ordered (lastMarked (rowsWith n ver l t)) ≡ true) × (leb (length (entriesIn (lastMarked (rowsWith n ver l t)))) (capacity N B) ≡ true)
+      g = and-eq-true-iff (ordered (lastMarked (rowsWith n ver l t))) (leb (length (entriesIn (lastMarked (rowsWith n ver l t)))) (capacity N B)) .0 f
 
       is-torn : (k : Slot) → isTorn k ≡ true → k ≡ torn
       is-torn empty q = absurd (false≢true (unfold isTorn in q))
@@ -216,10 +217,10 @@ module _ (N B n : ℕ) (l : List (List Slot)) (t : List Slot) where
       is-torn wrong q = absurd (false≢true (unfold isTorn in q))
       is-torn (live b c) q = absurd (false≢true (unfold isTorn in q))
 
-      at-last : (x y : List Slot) → t ≡ x ++ (torn ∷ y) → all isEmpty y ≡ true → (endsTorn (ending n l t) && leb (length (entriesIn (rowsWith n l t))) (capacity N B)) ≡ true
+      at-last : (x y : List Slot) → t ≡ x ++ (torn ∷ y) → all isEmpty y ≡ true → (endsTorn (ending n ver l t) && leb (length (entriesIn (rowsWith n ver l t))) (capacity N B)) ≡ true
       at-last x y e r =
-          let o : Ordered l (x ++ (dead ∷ y)) = ordered-facts n l (x ++ (dead ∷ y)) (rw (torn-marked x y e r) at (g .0)) in
-          let s : ending n l t ≡ TornLast = rows-then n l t (ordered-rows o) ∙ stop-judge TornLast (before-top l) t (record {
+          let o : Ordered l (x ++ (dead ∷ y)) = ordered-facts n ver l (x ++ (dead ∷ y)) (rw (torn-marked x y e r) at (g .0)) in
+          let s : ending n ver l t ≡ TornLast = rows-then n ver l t (ordered-rows o) ∙ stop-judge TornLast (before-top l) t (record {
             left = x;
             slot = torn;
             right = y;
@@ -231,19 +232,19 @@ module _ (N B n : ℕ) (l : List (List Slot)) (t : List Slot) where
           }) in
           rw (s, ← (torn-entries x y e r)) (unfold endsTorn in (g .1))
 
-      go : (b : Bool) → all isEmpty t ≡ b → (endsTorn (ending n l t) && leb (length (entriesIn (rowsWith n l t))) (capacity N B)) ≡ true
-      go true e = absurd (false≢true (unfold isTorn in (sym (ap isTorn (none-written n l t e)) ∙ w)))
+      go : (b : Bool) → all isEmpty t ≡ b → (endsTorn (ending n ver l t) && leb (length (entriesIn (rowsWith n ver l t))) (capacity N B)) ≡ true
+      go true e = absurd (false≢true (unfold isTorn in (sym (ap isTorn (none-written n ver l t e)) ∙ w)))
       go false e =
           let r = find-last t e in
-          let k : r .slot ≡ torn = is-torn (r .slot) (ap isTorn (sym (ap (λ (z : List Slot). lastWritten (rowsWith n l z)) (r .split) ∙ last-written n l (r .left) (r .slot) (r .right) (r .written) (r .rest))) ∙ w) in
+          let k : r .slot ≡ torn = is-torn (r .slot) (ap isTorn (sym (ap (λ (z : List Slot). lastWritten (rowsWith n ver l z)) (r .split) ∙ last-written n ver l (r .left) (r .slot) (r .right) (r .written) (r .rest))) ∙ w) in
           at-last (r .left) (r .right) (r .split ∙ ap (λ (z : Slot). r .left ++ (z ∷ r .right)) k) (r .rest)
 
-  torn-from : (endsTorn (ending n l t) && leb (length (entriesIn (rowsWith n l t))) (capacity N B)) ≡ true → tornLast N B (rowsWith n l t) ≡ true
+  torn-from : (endsTorn (ending n ver l t) && leb (length (entriesIn (rowsWith n ver l t))) (capacity N B)) ≡ true → tornLast N B (rowsWith n ver l t) ≡ true
   unfolding tornLast
-  torn-from h = let r = rows-plain n l t TornLast (unfold isBad in refl) (is-torn (ending n l t) (g .0)) in go (r .0) (r .1)
+  torn-from h = let r = rows-plain n ver l t TornLast (unfold isBad in refl) (is-torn (ending n ver l t) (g .0)) in go (r .0) (r .1)
     where
-      g : (endsTorn (ending n l t) ≡ true) × (leb (length (entriesIn (rowsWith n l t))) (capacity N B) ≡ true)
-      g = and-eq-true-iff (endsTorn (ending n l t)) (leb (length (entriesIn (rowsWith n l t))) (capacity N B)) .0 h
+      g : (endsTorn (ending n ver l t) ≡ true) × (leb (length (entriesIn (rowsWith n ver l t))) (capacity N B) ≡ true)
+      g = and-eq-true-iff (endsTorn (ending n ver l t)) (leb (length (entriesIn (rowsWith n ver l t))) (capacity N B)) .0 h
 
       is-torn : (e : Ending) → endsTorn e ≡ true → e ≡ TornLast
       is-torn Full q = absurd (false≢true (unfold endsTorn in q))
@@ -252,14 +253,14 @@ module _ (N B n : ℕ) (l : List (List Slot)) (t : List Slot) where
       is-torn TwinLast q = absurd (false≢true (unfold endsTorn in q))
       is-torn Bad q = absurd (false≢true (unfold endsTorn in q))
 
-      go : Plain [] (flatten l) → Judged TornLast (before-top l) t → (isTorn (lastWritten (rowsWith n l t)) && fine N B (lastMarked (rowsWith n l t))) ≡ true
+      go : Plain [] (flatten l) → Judged TornLast (before-top l) t → (isTorn (lastWritten (rowsWith n ver l t)) && fine N B (lastMarked (rowsWith n ver l t))) ≡ true
       go r (inl (e, q)) = absurd (false≢true (unfold isFull in (ap isFull e)))
       go r (inr s) =
           let e : t ≡ s .left ++ (torn ∷ s .right) = s .split ∙ ap (λ (z : Slot). s .left ++ (z ∷ s .right)) (stop-torn (before-top l ++ entries (s .left)) (s .slot) (s .ending)) in
           let d : distinct (before-top l ++ entries (s .left) ++ entryOf dead) ≡ true = (unfold entryOf in (ap distinct (append-nil (before-top l ++ entries (s .left))) ∙ s .plain .once)) in
-          let o : ordered (lastMarked (rowsWith n l t)) ≡ true = ap ordered (torn-marked (s .left) (s .right) e (s .rest))
-          ∙ facts-ordered n l (s .left ++ (dead ∷ s .right)) (ordered-ending l (s .left) dead (s .right) r (s .plain) (s .rest) (unfold isWrong isTorn in refl) d) in
-          rw (torn-written (s .left) (s .right) e (s .rest), fine-ordered N B (lastMarked (rowsWith n l t)), o, torn-entries (s .left) (s .right) e (s .rest)) (unfold isTorn in (g .1))
+          let o : ordered (lastMarked (rowsWith n ver l t)) ≡ true = ap ordered (torn-marked (s .left) (s .right) e (s .rest))
+          ∙ facts-ordered n ver l (s .left ++ (dead ∷ s .right)) (ordered-ending l (s .left) dead (s .right) r (s .plain) (s .rest) (unfold isWrong isTorn in refl) d) in
+          rw (torn-written (s .left) (s .right) e (s .rest), fine-ordered N B (lastMarked (rowsWith n ver l t)), o, torn-entries (s .left) (s .right) e (s .rest)) (unfold isTorn in (g .1))
 
-  pub torn-ending : tornLast N B (rowsWith n l t) ≡ (endsTorn (ending n l t) && leb (length (entriesIn (rowsWith n l t))) (capacity N B))
-  torn-ending = both-ways (tornLast N B (rowsWith n l t)) (endsTorn (ending n l t) && leb (length (entriesIn (rowsWith n l t))) (capacity N B)) torn-to torn-from
+  pub torn-ending : tornLast N B (rowsWith n ver l t) ≡ (endsTorn (ending n ver l t) && leb (length (entriesIn (rowsWith n ver l t))) (capacity N B))
+  torn-ending = both-ways (tornLast N B (rowsWith n ver l t)) (endsTorn (ending n ver l t) && leb (length (entriesIn (rowsWith n ver l t))) (capacity N B)) torn-to torn-from

@@ -1,4 +1,4 @@
--- What a summary tells of a segment's header: the segment without its slots. The frame needs no more.
+-- What a summary tells of a segment's header: the segment without its slots and its tally. The frame needs no more.
 use Prim.Native.Nat.{ℕ, zero, suc, _+_, _-_, _%_, max}
 use mathlib.Core.Path.{_≡_, refl, sym, ap, ap₂, _∙_}
 use mathlib.Core.Bool.{Bool, true, false, cond, _||_, _&&_, not}
@@ -6,8 +6,8 @@ use mathlib.Core.List.{List, [], _∷_, map}
 use lib.ListN.{getD, take, List·getD-map}
 use lib.Dec.{ltb, eqb}
 use Rattle.model.specs.Lists.{all, count}
-use Rattle.model.specs.Header.{erasePending, compacted}
-use Rattle.model.specs.State.{Segment, blank, invalid, inUse, isInUse, isInvalid, isOwing, numberAfter, nextNumber, topIndex, nextIndex, usedCount, firstNumber, someInUse, numbersFrom, consecutive, noneOwing, othersBlank, nextBlanked, settled, topSettled}
+use Rattle.model.specs.Header.{erasePending, compacted, Version, version1, version2, versionNumber, isFormer}
+use Rattle.model.specs.State.{Segment, blank, invalid, inUse, isInUse, isInvalid, isOwing, numberAfter, ofVersion, nextNumber, topIndex, nextIndex, usedCount, firstNumber, someInUse, numbersFrom, consecutive, oneVersion, noneOwing, othersBlank, nextBlanked, settled, topSettled}
 use Rattle.model.specs.Laws.Lists.{map-set}
 use Rattle.judge.specs.declared.SegmentState.{SegmentState}
 use Rattle.judge.specs.declared.SegmentState.the-variants.{Blank, Invalid, InUse, Owing}
@@ -17,21 +17,26 @@ use Rattle.judge.specs.declared.Headers.{Headers}
 use Rattle.judge.specs.declared.Frame.{Frame}
 use Rattle.judge.specs.Cases.{frame}
 
--- the segment that a state and a number stand for, its slots left out
-unfoldable pub bareOf : SegmentState → ℕ → Segment
-bareOf Blank n = blank
-bareOf Invalid n = invalid
-bareOf InUse n = inUse compacted n []
-bareOf Owing n = inUse erasePending n []
+-- a version without its tally
+unfoldable pub bareVersion : Bool → Version
+bareVersion true = version1
+bareVersion false = version2 0 []
+
+-- the segment that a state, whether it is of version 1, and a number stand for, its slots left out
+unfoldable pub bareOf : SegmentState → Bool → ℕ → Segment
+bareOf Blank t n = blank
+bareOf Invalid t n = invalid
+bareOf InUse t n = inUse (bareVersion t) compacted n []
+bareOf Owing t n = inUse (bareVersion t) erasePending n []
 
 unfoldable pub bare : Summary → Segment
-bare s = bareOf (s .state) (s .number .0)
+bare s = bareOf (s .state) (s .former) (s .number .0)
 
 -- a segment as a summary shows it
 unfoldable pub outline : Segment → Segment
 outline blank = blank
 outline invalid = invalid
-outline (inUse st n ks) = inUse (cond (eqb st erasePending) erasePending compacted) n []
+outline (inUse ver st n ks) = inUse (bareVersion (isFormer ver)) (cond (eqb st erasePending) erasePending compacted) n []
 
 -- ---- what the frame looks at is kept
 
@@ -39,35 +44,42 @@ outline-number : (x : Segment) → numberAfter (outline x) ≡ numberAfter x
 unfolding outline numberAfter
 outline-number blank = refl
 outline-number invalid = refl
-outline-number (inUse st n ks) = refl
+outline-number (inUse ver st n ks) = refl
 
 outline-use : (x : Segment) → isInUse (outline x) ≡ isInUse x
 unfolding outline isInUse
 outline-use blank = refl
 outline-use invalid = refl
-outline-use (inUse st n ks) = refl
+outline-use (inUse ver st n ks) = refl
 
 outline-invalid : (x : Segment) → isInvalid (outline x) ≡ isInvalid x
 unfolding outline isInvalid
 outline-invalid blank = refl
 outline-invalid invalid = refl
-outline-invalid (inUse st n ks) = refl
+outline-invalid (inUse ver st n ks) = refl
 
 outline-owing : (x : Segment) → isOwing (outline x) ≡ isOwing x
 unfolding outline isOwing
 outline-owing blank = refl
 outline-owing invalid = refl
-outline-owing (inUse st n ks) = go (eqb st erasePending)
+outline-owing (inUse ver st n ks) = go (eqb st erasePending)
   where
     go : (t : Bool) → eqb (cond t erasePending compacted) erasePending ≡ t
     go true = refl
     go false = refl
 
+outline-of : (k : ℕ) (x : Segment) → ofVersion k (outline x) ≡ ofVersion k x
+unfolding outline ofVersion versionNumber isFormer bareVersion
+outline-of k blank = refl
+outline-of k invalid = refl
+outline-of k (inUse version1 st n ks) = refl
+outline-of k (inUse (version2 total bits) st n ks) = refl
+
 outline-settled : (x : Segment) → settled (outline x) ≡ outline (settled x)
 unfolding outline settled
 outline-settled blank = refl
 outline-settled invalid = refl
-outline-settled (inUse st n ks) = refl
+outline-settled (inUse ver st n ks) = refl
 
 pub outline-get : (l : List Segment) (i : ℕ) → getD (map outline l) i blank ≡ outline (getD l i blank)
 unfolding outline
@@ -102,11 +114,13 @@ unfolding firstNumber
 outline-first l = rw (outline-next l, outline-used l)
 
 pub outline-frame : (N : ℕ) (l : List Segment) → frame N (map outline l) ≡ frame N l
-unfolding frame someInUse consecutive noneOwing othersBlank
+unfolding frame someInUse consecutive oneVersion noneOwing othersBlank
 outline-frame N l = rw (
   outline-used l,
   outline-first l,
   outline-numbers N l (usedCount l) (firstNumber l),
+  all-map (λ x. ofVersion 1 x) outline (λ x. outline-of 1 x) l,
+  all-map (λ x. ofVersion 2 x) outline (λ x. outline-of 2 x) l,
   all-map (λ x. not (isOwing x)) outline (λ x. ap not (outline-owing x)) l,
   all-map (λ x. not (isInvalid x)) outline (λ x. ap not (outline-invalid x)) l,
 )
@@ -151,10 +165,10 @@ unfoldable pub allSettled : List Segment → Bool
 allSettled l = noneOwing l && othersBlank l
 
 unfoldable pub countsOf : List Segment → HeaderCounts
-countsOf l = record { next = nextNumber l; used = usedCount l; settled = allSettled l }
+countsOf l = record { next = nextNumber l; used = usedCount l; settled = allSettled l; former = all (λ x. ofVersion 1 x) l; second = all (λ x. ofVersion 2 x) l }
 
 unfoldable pub noCounts : HeaderCounts
-noCounts = record { next = 0; used = 0; settled = true }
+noCounts = record { next = 0; used = 0; settled = true; former = true; second = true }
 
 -- one segment more
 unfoldable pub countOne : HeaderCounts → Segment → HeaderCounts
@@ -162,11 +176,13 @@ countOne c x = record {
   next = max (c .next) (numberAfter x);
   used = cond (isInUse x) (c .used + 1) (c .used);
   settled = c .settled && (not (isOwing x) && not (isInvalid x));
+  former = c .former && ofVersion 1 x;
+  second = c .second && ofVersion 2 x;
 }
 
--- what conditions 1, 3 and 4 ask of the counts: some in use, not all, none owing and all others blank
+-- what conditions 1 to 4 ask of the counts: some in use, not all, of one version, none owing and all others blank
 unfoldable pub mayBeFine : ℕ → HeaderCounts → Bool
-mayBeFine N c = ltb 0 (c .used) && (ltb (c .used) N && c .settled)
+mayBeFine N c = ltb 0 (c .used) && (ltb (c .used) N && ((c .former || c .second) && c .settled))
 
 -- the segments in use: the smallest number, how many, and whether conditions 1 to 4 hold
 unfoldable pub frameOf : ℕ → List Segment → Frame

@@ -7,6 +7,7 @@ use native.Mathlib.Omega.{arith}
 use lib.ListN.{length, getD, length-append}
 use lib.Seq.{getD-at, set-at}
 use Rattle.model.specs.Lists.{all}
+use Rattle.model.specs.Header.{Version}
 use Rattle.model.specs.Slot.{Slot, empty, torn, dead, wrong, live, isEmpty, isTorn, isWrong, Entry, entryOf}
 use Rattle.model.specs.State.{View, entries, entriesIn, distinct, emptyLast, onlyTopEmpty, noneWrongOrTorn, blocksDistinct, emptySlotsLast, filled, blockIn}
 use Rattle.model.specs.Steps.{topRow, topNumber}
@@ -20,8 +21,8 @@ use Rattle.judge.specs.Judged.{Plain, distinct-front}
 unfoldable pub ordered : View → Bool
 ordered v = noneWrongOrTorn v && (blocksDistinct v && emptySlotsLast v)
 
-abbrev pub rowsWith : ℕ → List (List Slot) → List Slot → View
-rowsWith n l t = record { first = n; slots = l ++ (t ∷ []) }
+abbrev pub rowsWith : ℕ → Version → List (List Slot) → List Slot → View
+rowsWith n ver l t = record { first = n; slots = l ++ (t ∷ []); version = ver }
 
 -- the entries of the rows before the top
 abbrev pub before-top : List (List Slot) → List Entry
@@ -34,9 +35,9 @@ pub record Ordered (l : List (List Slot)) (t : List Slot) : Type 0 where
   pub fullRows : full (flatten l) ≡ true
   pub last : emptyLast t ≡ true
 
-pub ordered-facts : (n : ℕ) (l : List (List Slot)) (t : List Slot) → ordered (rowsWith n l t) ≡ true → Ordered l t
+pub ordered-facts : (n : ℕ) (ver : Version) (l : List (List Slot)) (t : List Slot) → ordered (rowsWith n ver l t) ≡ true → Ordered l t
 unfolding ordered noneWrongOrTorn blocksDistinct emptySlotsLast entriesIn
-ordered-facts n l t h =
+ordered-facts n ver l t h =
     let s : sound (flatten (l ++ (t ∷ []))) ≡ true = and-eq-true-iff (sound (flatten (l ++ (t ∷ [])))) (distinct (entries (flatten (l ++ (t ∷ [])))) && onlyTopEmpty (l ++ (t ∷ []))) .0 h .0 in
     let r = and-eq-true-iff (sound (flatten (l ++ (t ∷ [])))) (distinct (entries (flatten (l ++ (t ∷ [])))) && onlyTopEmpty (l ++ (t ∷ []))) .0 h .1 in
     let d = and-eq-true-iff (distinct (entries (flatten (l ++ (t ∷ []))))) (onlyTopEmpty (l ++ (t ∷ []))) .0 r in
@@ -50,9 +51,9 @@ ordered-facts n l t h =
       last = e .1;
     }
 
-pub facts-ordered : (n : ℕ) (l : List (List Slot)) (t : List Slot) → Ordered l t → ordered (rowsWith n l t) ≡ true
+pub facts-ordered : (n : ℕ) (ver : Version) (l : List (List Slot)) (t : List Slot) → Ordered l t → ordered (rowsWith n ver l t) ≡ true
 unfolding ordered noneWrongOrTorn blocksDistinct emptySlotsLast entriesIn
-facts-ordered n l t h =
+facts-ordered n ver l t h =
     let s : sound (flatten (l ++ (t ∷ []))) ≡ true = rw (flatten-last l t) (all-join (λ k. not (isWrong k || isTorn k)) (flatten l) t (h .soundRows) (h .soundTop)) in
     let d : distinct (entries (flatten (l ++ (t ∷ [])))) ≡ true = ap distinct (ap entries (flatten-last l t) ∙ entries-append (flatten l) t) ∙ h .once in
     let e : onlyTopEmpty (l ++ (t ∷ [])) ≡ true = only-top-empty l t ∙ rw (sym (all-flatten (λ k. not (isEmpty k)) l) ∙ h .fullRows) (h .last) in
@@ -132,15 +133,15 @@ find-last (k ∷ s) h = go (all isEmpty s) refl h (λ q. find-last s q)
     go true e q ih = record { left = []; slot = k; right = s; split = refl; written = one (isEmpty k) q; rest = e }
     go false e q ih = let r = ih e in record { left = k ∷ r .left; slot = r .slot; right = r .right; split = ap {B = List Slot} (λ y. k ∷ y) (r .split); written = r .written; rest = r .rest }
 
-module _ (n : ℕ) (l : List (List Slot)) (x : List Slot) (k : Slot) (y : List Slot) (w : isEmpty k ≡ false) (e : all isEmpty y ≡ true) where
+module _ (n : ℕ) (ver : Version) (l : List (List Slot)) (x : List Slot) (k : Slot) (y : List Slot) (w : isEmpty k ≡ false) (e : all isEmpty y ≡ true) where
   place : filled (topRow (l ++ ((x ++ (k ∷ y)) ∷ []))) - 1 ≡ length x
   place = rw (top-row l (x ++ (k ∷ y)), filled-at x k y w e) (omega arith)
 
-  pub last-written : lastWritten (rowsWith n l (x ++ (k ∷ y))) ≡ k
+  pub last-written : lastWritten (rowsWith n ver l (x ++ (k ∷ y))) ≡ k
   unfolding lastWritten
   last-written = rw (place, top-row l (x ++ (k ∷ y))) (getD-at x k y empty (length x) refl)
 
-  pub last-marked : lastMarked (rowsWith n l (x ++ (k ∷ y))) ≡ rowsWith n l (x ++ (dead ∷ y))
+  pub last-marked : lastMarked (rowsWith n ver l (x ++ (k ∷ y))) ≡ rowsWith n ver l (x ++ (dead ∷ y))
   unfolding lastMarked slotChanged topNumber
   last-marked =
       let m = length-append l ((x ++ (k ∷ y)) ∷ []) in
@@ -148,14 +149,14 @@ module _ (n : ℕ) (l : List (List Slot)) (x : List Slot) (k : Slot) (y : List S
       rw (place, ← i, getD-at l (x ++ (k ∷ y)) [] [] (length l) refl, set-at x k y dead (length x) refl, set-at l (x ++ (k ∷ y)) [] (x ++ (dead ∷ y)) (length l) refl)
 
 -- and its block if it is live
-pub last-block : (n : ℕ) (l : List (List Slot)) (x : List Slot) (b : ℕ) (c : List ℕ) (y : List Slot) → all isEmpty y ≡ true → twinBlock (rowsWith n l (x ++ (live b c ∷ y))) ≡ b
+pub last-block : (n : ℕ) (ver : Version) (l : List (List Slot)) (x : List Slot) (b : ℕ) (c : List ℕ) (y : List Slot) → all isEmpty y ≡ true → twinBlock (rowsWith n ver l (x ++ (live b c ∷ y))) ≡ b
 unfolding twinBlock isEmpty entryOf blockIn
-last-block n l x b c y e = ap (λ (k : Slot). blockIn (entryOf k)) (last-written n l x (live b c) y refl e)
+last-block n ver l x b c y e = ap (λ (k : Slot). blockIn (entryOf k)) (last-written n ver l x (live b c) y refl e)
 
 -- a top with no slot written has none that is last
-pub none-written : (n : ℕ) (l : List (List Slot)) (t : List Slot) → all isEmpty t ≡ true → lastWritten (rowsWith n l t) ≡ empty
+pub none-written : (n : ℕ) (ver : Version) (l : List (List Slot)) (t : List Slot) → all isEmpty t ≡ true → lastWritten (rowsWith n ver l t) ≡ empty
 unfolding lastWritten
-none-written n l t e = rw (top-row l t, filled-none t e) (first t e)
+none-written n ver l t e = rw (top-row l t, filled-none t e) (first t e)
   where
     is-empty : (k : Slot) → isEmpty k ≡ true → k ≡ empty
     is-empty empty q = refl

@@ -12,7 +12,7 @@ use lib.Dec.{eqb}
 use borrow.Author.Tests.{eqb-true}
 use Rattle.model.specs.Lists.{all, chunk}
 use Rattle.model.specs.Chip.{Image, Page, bySegment, pagesOf}
-use Rattle.model.specs.Header.{headerStatus, headerNumber, headerInUse, isBlank, allBlank}
+use Rattle.model.specs.Header.{headerVersion, headerStatus, headerNumber, headerInUse, isBlank, allBlank}
 use Rattle.model.specs.Slot.{Slot}
 use Rattle.model.specs.State.{Segment, blank, invalid, inUse, segmentOf, segmentsOf, numberAfter, slotsIn, slotsFrom, numbersFrom}
 use Rattle.model.specs.Laws.Lists.{and-left, and-right}
@@ -69,7 +69,7 @@ slotsOffset B i = (i * (B + 1) + 1) * 256
 
 -- of a header page, the slots and whether all is blank
 unfoldable pub segmentSeen : ℕ → ℕ → ℕ → Page → Bool → List Slot → Segment
-segmentSeen N B i h t ks = cond (headerInUse N B i h) (inUse (headerStatus h) (headerNumber h) ks) (cond t blank invalid)
+segmentSeen N B i h t ks = cond (headerInUse N B i h) (inUse (headerVersion h) (headerStatus h) (headerNumber h) ks) (cond t blank invalid)
 
 pub segment-seen : (N B i : ℕ) (s : Image) → i < N
     → getD (segmentsOf N B s) i blank ≡ segmentSeen N B i (take 256 (drop (headerOffset B i) s)) (isBlank (take ((B + 1) * 256) (drop (headerOffset B i) s))) (slotsAt s (slotsOffset B i) B)
@@ -96,8 +96,8 @@ used-slots N B i n s h e =
     bs : List ℕ
     bs = take ((B + 1) * 256) (drop (headerOffset B i) s)
 
-    go : (a b : Bool) → numberAfter (cond a (inUse (headerStatus hd) (headerNumber hd) (slotsAt s (slotsOffset B i) B)) (cond b blank invalid)) ≡ suc n
-        → slotsIn (cond a (inUse (headerStatus hd) (headerNumber hd) (slotsAt s (slotsOffset B i) B)) (cond b blank invalid)) ≡ slotsAt s (slotsOffset B i) B
+    go : (a b : Bool) → numberAfter (cond a (inUse (headerVersion hd) (headerStatus hd) (headerNumber hd) (slotsAt s (slotsOffset B i) B)) (cond b blank invalid)) ≡ suc n
+        → slotsIn (cond a (inUse (headerVersion hd) (headerStatus hd) (headerNumber hd) (slotsAt s (slotsOffset B i) B)) (cond b blank invalid)) ≡ slotsAt s (slotsOffset B i) B
     go true b q = refl
     go false true q = absurd (omega arith)
     go false false q = absurd (omega arith)

@@ -26,7 +26,7 @@ tallies (x ∷ r) s = seeAll (map kindOf x) (pass noRow s) .row ∷ tallies r (s
 
 -- segments in use, by number from n, with these rows
 unfoldable pub summaryOf : ℕ → Row → Summary
-summaryOf n r = record { number = record { 0 = n }; state = InUse; row = r }
+summaryOf n r = record { number = record { 0 = n }; row = r; state = InUse; former = false }
 
 unfoldable pub summariesOf : ℕ → List Row → List Summary
 summariesOf n [] = []

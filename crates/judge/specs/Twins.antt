@@ -10,6 +10,7 @@ use lib.ListN.{length}
 use lib.Dec.{ltb, leb, eqb}
 use borrow.Author.Tests.{ltb-true, leb-true, eqb-true, lt-ltb, le-leb, eq-eqb, eqb-false}
 use Rattle.model.specs.Lists.{all}
+use Rattle.model.specs.Header.{Version}
 use Rattle.model.specs.Slot.{Slot, empty, torn, dead, wrong, live, isEmpty, isTorn, isWrong, Entry, entryOf}
 use Rattle.model.specs.State.{View, entries, entriesIn, holds, distinct, noneWrongOrTorn, blocksDistinct, emptySlotsLast, capacity, placeOf, blockIn, copies}
 use Rattle.model.specs.Table.{Table}
@@ -90,11 +91,11 @@ module _ (b : ℕ) (v : View) (h : holds b (entriesIn v) ≡ true) where
   twinless-ordered =
       let g = first-live-in b v h in
       let k = live b (g .contents) in
-      let at : twinless ≡ record { first = v .first; slots = fill (g .gap) dead } = is-marked ∙ marked-at b v g in
+      let at : twinless ≡ record { first = v .first; slots = fill (g .gap) dead; version = v .version } = is-marked ∙ marked-at b v g in
       let same-sound : noneWrongOrTorn twinless ≡ noneWrongOrTorn v =
-      ap noneWrongOrTorn at ∙ (swap-sound (v .first) (g .gap) dead k refl refl ∙ ap (λ (z : List (List Slot)). noneWrongOrTorn (record { first = v .first; slots = z })) (sym (g .split))) in
+      ap noneWrongOrTorn at ∙ (swap-sound (v .first) (v .version) (g .gap) dead k refl refl ∙ ap (λ (z : List (List Slot)). noneWrongOrTorn (record { first = v .first; slots = z; version = v .version })) (sym (g .split))) in
       let same-last : emptySlotsLast twinless ≡ emptySlotsLast v =
-      ap emptySlotsLast at ∙ (swap-last (v .first) (g .gap) dead k refl ∙ ap (λ (z : List (List Slot)). emptySlotsLast (record { first = v .first; slots = z })) (sym (g .split))) in
+      ap emptySlotsLast at ∙ (swap-last (v .first) (v .version) (g .gap) dead k refl ∙ ap (λ (z : List (List Slot)). emptySlotsLast (record { first = v .first; slots = z; version = v .version })) (sym (g .split))) in
       rw (twinless-entries, same-sound, same-last)
 
 -- ---- the last written slot is live
@@ -103,32 +104,32 @@ twin-turn : (p : List Entry) (e : Entry) → holds (e .block) p ≡ true → tur
 unfolding turn behind
 twin-turn p e h = rw h
 
-module _ (N B n : ℕ) (l : List (List Slot)) (t : List Slot) (proper : (b : ℕ) → holds b (entriesIn (rowsWith n l t)) ≡ true → 0 < b) where
+module _ (N B n : ℕ) (ver : Version) (l : List (List Slot)) (t : List Slot) (proper : (b : ℕ) → holds b (entriesIn (rowsWith n ver l t)) ≡ true → 0 < b) where
   abbrev w : View
-  w = rowsWith n l t
+  w = rowsWith n ver l t
 
   module _ (x : List Slot) (e : Entry) (y : List Slot) (split : t ≡ x ++ (live (e .block) (e .contents) ∷ y)) (rest : all isEmpty y ≡ true) where
     twin-is : twinBlock w ≡ e .block
-    twin-is = ap (λ (z : List Slot). twinBlock (rowsWith n l z)) split ∙ last-block n l x (e .block) (e .contents) y rest
+    twin-is = ap (λ (z : List Slot). twinBlock (rowsWith n ver l z)) split ∙ last-block n ver l x (e .block) (e .contents) y rest
 
     live-entries : entriesIn w ≡ before-top l ++ entries x ++ (e ∷ [])
     unfolding entryOf
-    live-entries = entries-of n l t ∙ (ap (λ (z : List Slot). before-top l ++ entries z) split ∙ top-entries l x (live (e .block) (e .contents)) y rest)
+    live-entries = entries-of n ver l t ∙ (ap (λ (z : List Slot). before-top l ++ entries z) split ∙ top-entries l x (live (e .block) (e .contents)) y rest)
 
     -- the last slot dead instead
-    dead-entries : entriesIn (rowsWith n l (x ++ (dead ∷ y))) ≡ before-top l ++ entries x
+    dead-entries : entriesIn (rowsWith n ver l (x ++ (dead ∷ y))) ≡ before-top l ++ entries x
     unfolding entryOf
-    dead-entries = entries-of n l (x ++ (dead ∷ y)) ∙ (top-entries l x dead y rest ∙ append-nil (before-top l ++ entries x))
+    dead-entries = entries-of n ver l (x ++ (dead ∷ y)) ∙ (top-entries l x dead y rest ∙ append-nil (before-top l ++ entries x))
 
-    dead-sound : noneWrongOrTorn w ≡ noneWrongOrTorn (rowsWith n l (x ++ (dead ∷ y)))
+    dead-sound : noneWrongOrTorn w ≡ noneWrongOrTorn (rowsWith n ver l (x ++ (dead ∷ y)))
     unfolding isWrong isTorn
-    dead-sound = ap (λ (z : List Slot). noneWrongOrTorn (rowsWith n l z)) split
-        ∙ swap-sound n (record { rowsBefore = l; before = x; after = y; rowsAfter = [] }) (live (e .block) (e .contents)) dead refl refl
+    dead-sound = ap (λ (z : List Slot). noneWrongOrTorn (rowsWith n ver l z)) split
+        ∙ swap-sound n ver (record { rowsBefore = l; before = x; after = y; rowsAfter = [] }) (live (e .block) (e .contents)) dead refl refl
 
-    dead-last : emptySlotsLast w ≡ emptySlotsLast (rowsWith n l (x ++ (dead ∷ y)))
+    dead-last : emptySlotsLast w ≡ emptySlotsLast (rowsWith n ver l (x ++ (dead ∷ y)))
     unfolding isEmpty
-    dead-last = ap (λ (z : List Slot). emptySlotsLast (rowsWith n l z)) split
-        ∙ swap-last n (record { rowsBefore = l; before = x; after = y; rowsAfter = [] }) (live (e .block) (e .contents)) dead refl
+    dead-last = ap (λ (z : List Slot). emptySlotsLast (rowsWith n ver l z)) split
+        ∙ swap-last n ver (record { rowsBefore = l; before = x; after = y; rowsAfter = [] }) (live (e .block) (e .contents)) dead refl
 
     live-holds : holds (e .block) (entriesIn w) ≡ true
     live-holds = ap (holds (e .block)) live-entries ∙ behind-holds (e .block) (before-top l ++ entries x) e refl
@@ -161,15 +162,15 @@ module _ (N B n : ℕ) (l : List (List Slot)) (t : List Slot) (proper : (b : ℕ
         let f = and-eq-true-iff (distinct (withoutFirst (e .block) (entriesIn w))) (emptySlotsLast w) .0 (d .1) in
         let one : copies (e .block) (before-top l ++ entries x) ≡ 1 = omega (arith, live-copies, eqb-true (copies (e .block) (entriesIn w)) 2 (b .0)) in
         let g : distinct (before-top l ++ entries x) ≡ true = distinct-twin (e .block) (before-top l ++ entries x) e refl (ap (λ (z : Table). distinct (withoutFirst (e .block) z)) (sym live-entries) ∙ f .0) one in
-        let o : ordered (rowsWith n l (x ++ (dead ∷ y))) ≡ true = rw (sym dead-sound ∙ d .0, dead-entries, g, sym dead-last ∙ f .1) in
-        (ordered-facts n l (x ++ (dead ∷ y)) o, one)
+        let o : ordered (rowsWith n ver l (x ++ (dead ∷ y))) ≡ true = rw (sym dead-sound ∙ d .0, dead-entries, g, sym dead-last ∙ f .1) in
+        (ordered-facts n ver l (x ++ (dead ∷ y)) o, one)
 
     met-test : Ordered l (x ++ (dead ∷ y)) → holds (e .block) (before-top l ++ entries x) ≡ true → test ≡ leb (length (entriesIn w)) (capacity N B + 1)
     unfolding ordered blocksDistinct
     met-test o h =
-        let q = facts-ordered n l (x ++ (dead ∷ y)) o in
-        let d = and-eq-true-iff (noneWrongOrTorn (rowsWith n l (x ++ (dead ∷ y)))) (distinct (entriesIn (rowsWith n l (x ++ (dead ∷ y)))) && emptySlotsLast (rowsWith n l (x ++ (dead ∷ y)))) .0 q in
-        let f = and-eq-true-iff (distinct (entriesIn (rowsWith n l (x ++ (dead ∷ y))))) (emptySlotsLast (rowsWith n l (x ++ (dead ∷ y)))) .0 (d .1) in
+        let q = facts-ordered n ver l (x ++ (dead ∷ y)) o in
+        let d = and-eq-true-iff (noneWrongOrTorn (rowsWith n ver l (x ++ (dead ∷ y)))) (distinct (entriesIn (rowsWith n ver l (x ++ (dead ∷ y)))) && emptySlotsLast (rowsWith n ver l (x ++ (dead ∷ y)))) .0 q in
+        let f = and-eq-true-iff (distinct (entriesIn (rowsWith n ver l (x ++ (dead ∷ y))))) (emptySlotsLast (rowsWith n ver l (x ++ (dead ∷ y)))) .0 (d .1) in
         let g : distinct (before-top l ++ entries x) ≡ true = ap distinct (sym dead-entries) ∙ f .0 in
         let one : copies (e .block) (before-top l ++ entries x) ≡ 1 = omega (arith, held-copies (e .block) (before-top l ++ entries x) h, distinct-copies (before-top l ++ entries x) g (e .block)) in
         let k : distinct (withoutFirst (e .block) (entriesIn w)) ≡ true = ap (λ (z : Table). distinct (withoutFirst (e .block) z)) live-entries ∙ twin-distinct (e .block) (before-top l ++ entries x) e refl g one in
@@ -178,7 +179,7 @@ module _ (N B n : ℕ) (l : List (List Slot)) (t : List Slot) (proper : (b : ℕ
 
   -- ---- (d)
 
-  twin-to : twinLast N B w ≡ true → (endsTwin (ending n l t) && leb (length (entriesIn w)) (capacity N B + 1)) ≡ true
+  twin-to : twinLast N B w ≡ true → (endsTwin (ending n ver l t) && leb (length (entriesIn w)) (capacity N B + 1)) ≡ true
   unfolding endsTwin
   twin-to h = go (all isEmpty t) refl
     where
@@ -192,11 +193,11 @@ module _ (N B n : ℕ) (l : List (List Slot)) (t : List Slot) (proper : (b : ℕ
       is-live wrong q = absurd (unfold entryOf blockIn in omega arith)
       is-live (live b c) q = (record { block = b; contents = c }, refl)
 
-      at-last : (x : List Slot) (e : Entry) (y : List Slot) → t ≡ x ++ (live (e .block) (e .contents) ∷ y) → all isEmpty y ≡ true → (endsTwin (ending n l t) && leb (length (entriesIn w)) (capacity N B + 1)) ≡ true
+      at-last : (x : List Slot) (e : Entry) (y : List Slot) → t ≡ x ++ (live (e .block) (e .contents) ∷ y) → all isEmpty y ≡ true → (endsTwin (ending n ver l t) && leb (length (entriesIn w)) (capacity N B + 1)) ≡ true
       at-last x e y s r =
           let m = met-once x e y s r (sym (twin-test x e y s r) ∙ h) in
           let g : holds (e .block) (before-top l ++ entries x) ≡ true = holds-copies (e .block) (before-top l ++ entries x) ∙ lt-ltb 0 (copies (e .block) (before-top l ++ entries x)) (omega (arith, m .1)) in
-          let z : ending n l t ≡ TwinLast = rows-then n l t (ordered-rows (m .0)) ∙ stop-judge TwinLast (before-top l) t (record {
+          let z : ending n ver l t ≡ TwinLast = rows-then n ver l t (ordered-rows (m .0)) ∙ stop-judge TwinLast (before-top l) t (record {
             left = x;
             slot = live (e .block) (e .contents);
             right = y;
@@ -208,23 +209,23 @@ module _ (N B n : ℕ) (l : List (List Slot)) (t : List Slot) (proper : (b : ℕ
           }) in
           rw z (sym (met-test x e y s r (m .0) g) ∙ (sym (twin-test x e y s r) ∙ h))
 
-      go : (b : Bool) → all isEmpty t ≡ b → (endsTwin (ending n l t) && leb (length (entriesIn w)) (capacity N B + 1)) ≡ true
-      go true e = absurd (none (ap (λ (k : Slot). blockIn (entryOf k)) (none-written n l t e)))
+      go : (b : Bool) → all isEmpty t ≡ b → (endsTwin (ending n ver l t) && leb (length (entriesIn w)) (capacity N B + 1)) ≡ true
+      go true e = absurd (none (ap (λ (k : Slot). blockIn (entryOf k)) (none-written n ver l t e)))
         where
           none : blockIn (entryOf (lastWritten w)) ≡ blockIn (entryOf empty) → ⊥
           none q = let p : 0 < blockIn (entryOf (lastWritten w)) = (unfold twinBlock in positive) in let z : blockIn (entryOf empty) ≡ 0 = (unfold entryOf blockIn in refl) in omega arith
       go false e =
           let r = find-last t e in
           let p : 0 < blockIn (entryOf (lastWritten w)) = (unfold twinBlock in positive) in
-          let q : lastWritten w ≡ r .slot = ap (λ (z : List Slot). lastWritten (rowsWith n l z)) (r .split) ∙ last-written n l (r .left) (r .slot) (r .right) (r .written) (r .rest) in
+          let q : lastWritten w ≡ r .slot = ap (λ (z : List Slot). lastWritten (rowsWith n ver l z)) (r .split) ∙ last-written n ver l (r .left) (r .slot) (r .right) (r .written) (r .rest) in
           let k = is-live (r .slot) (rw q at p) in
           at-last (r .left) (k .0) (r .right) (r .split ∙ ap (λ (z : Slot). r .left ++ (z ∷ r .right)) (k .1)) (r .rest)
 
-  twin-from : (endsTwin (ending n l t) && leb (length (entriesIn w)) (capacity N B + 1)) ≡ true → twinLast N B w ≡ true
-  twin-from h = let r = rows-plain n l t TwinLast (unfold isBad in refl) (is-twin (ending n l t) (g .0)) in go (r .0) (r .1)
+  twin-from : (endsTwin (ending n ver l t) && leb (length (entriesIn w)) (capacity N B + 1)) ≡ true → twinLast N B w ≡ true
+  twin-from h = let r = rows-plain n ver l t TwinLast (unfold isBad in refl) (is-twin (ending n ver l t) (g .0)) in go (r .0) (r .1)
     where
-      g : (endsTwin (ending n l t) ≡ true) × (leb (length (entriesIn w)) (capacity N B + 1) ≡ true)
-      g = and-eq-true-iff (endsTwin (ending n l t)) (leb (length (entriesIn w)) (capacity N B + 1)) .0 h
+      g : (endsTwin (ending n ver l t) ≡ true) × (leb (length (entriesIn w)) (capacity N B + 1) ≡ true)
+      g = and-eq-true-iff (endsTwin (ending n ver l t)) (leb (length (entriesIn w)) (capacity N B + 1)) .0 h
 
       is-twin : (e : Ending) → endsTwin e ≡ true → e ≡ TwinLast
       is-twin Full q = absurd (false≢true (unfold endsTwin in q))
@@ -242,5 +243,5 @@ module _ (N B n : ℕ) (l : List (List Slot)) (t : List Slot) (proper : (b : ℕ
           let o : Ordered l (s .left ++ (dead ∷ s .right)) = ordered-ending l (s .left) dead (s .right) r (s .plain) (s .rest) (unfold isWrong isTorn in refl) d in
           twin-test (s .left) (k .0) (s .right) e (s .rest) ∙ (met-test (s .left) (k .0) (s .right) e (s .rest) o (k .2) ∙ g .1)
 
-  pub twin-ending : twinLast N B w ≡ (endsTwin (ending n l t) && leb (length (entriesIn w)) (capacity N B + 1))
-  twin-ending = both-ways (twinLast N B w) (endsTwin (ending n l t) && leb (length (entriesIn w)) (capacity N B + 1)) twin-to twin-from
+  pub twin-ending : twinLast N B w ≡ (endsTwin (ending n ver l t) && leb (length (entriesIn w)) (capacity N B + 1))
+  twin-ending = both-ways (twinLast N B w) (endsTwin (ending n ver l t) && leb (length (entriesIn w)) (capacity N B + 1)) twin-to twin-from

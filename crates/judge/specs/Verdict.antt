@@ -9,8 +9,9 @@ use lib.ListN.{length}
 use lib.Dec.{leb, eqb}
 use borrow.Author.Tests.{eqb-true, eq-eqb}
 use Rattle.model.specs.Lists.{all, count}
+use Rattle.model.specs.Header.{Version}
 use Rattle.model.specs.Slot.{Slot, empty, torn, dead, wrong, live, isEmpty, Entry, entryOf}
-use Rattle.model.specs.State.{entries, entriesIn, holds, emptyLast, capacity, filled, caseC, caseD, State, clean, unfinished, damaged}
+use Rattle.model.specs.State.{View, entries, entriesIn, holds, emptyLast, capacity, filled, caseC, caseD, State, clean, unfinished, damaged}
 use Rattle.model.specs.Steps.{topRow, firstEmpty, compactions}
 use Rattle.bridge.specs.Views.Slots.{full, entries-append, filled-at, find-top, top-row}
 use Rattle.judge.specs.declared.Ending.{Ending}
@@ -133,17 +134,17 @@ held-last l x e y =
 
 -- ---- what the sums of rows say of the view
 
-pub record Told (N B n : ℕ) (rows : List (List Slot)) (f : Sum) : Type 0 where
-  pub live : f .live ≡ length (entries (flatten rows))
-  pub compactions : f .compactions ≡ compactions rows
-  pub fine : fine N B (record { first = n; slots = rows }) ≡ orderly (capacity N B) f
-  pub state : slotState N B (record { first = n; slots = rows }) ≡ verdict (capacity N B) f
-  pub free : inOrder (f .ending) ≡ true → f .written ≡ firstEmpty (topRow rows)
-  pub last : (endsTorn (f .ending) || endsTwin (f .ending)) ≡ true → f .written ≡ filled (topRow rows)
-  pub block : endsTwin (f .ending) ≡ true → f .block .0 ≡ twinBlock (record { first = n; slots = rows })
-  pub held : endsTwin (f .ending) ≡ true → holds (f .block .0) (entries (flatten rows)) ≡ true
+pub record Told (N B : ℕ) (v : View) (f : Sum) : Type 0 where
+  pub live : f .live ≡ length (entries (flatten (v .slots)))
+  pub compactions : f .compactions ≡ compactions (v .slots)
+  pub fine : fine N B v ≡ orderly (capacity N B) f
+  pub state : slotState N B v ≡ verdict (capacity N B) f
+  pub free : inOrder (f .ending) ≡ true → f .written ≡ firstEmpty (topRow (v .slots))
+  pub last : (endsTorn (f .ending) || endsTwin (f .ending)) ≡ true → f .written ≡ filled (topRow (v .slots))
+  pub block : endsTwin (f .ending) ≡ true → f .block .0 ≡ twinBlock v
+  pub held : endsTwin (f .ending) ≡ true → holds (f .block .0) (entries (flatten (v .slots))) ≡ true
 
-module _ (N B n : ℕ) (l : List (List Slot)) (t : List Slot) (narrow : NarrowRows (l ++ (t ∷ []))) where
+module _ (N B n : ℕ) (ver : Version) (l : List (List Slot)) (t : List Slot) (narrow : NarrowRows (l ++ (t ∷ []))) where
   abbrev f : Sum
   f = addRows (tallies (l ++ (t ∷ [])) noneMet) noSum
 
@@ -151,7 +152,7 @@ module _ (N B n : ℕ) (l : List (List Slot)) (t : List Slot) (narrow : NarrowRo
   unfolding noSum
   f-live = sum-live (l ++ (t ∷ [])) noneMet noSum ∙ omega arith
 
-  f-ending : f .ending ≡ ending n l t
+  f-ending : f .ending ≡ ending n ver l t
   unfolding noSum
   f-ending = sum-ending (l ++ (t ∷ [])) noneMet [] noSum narrow agree-none
 
@@ -159,17 +160,17 @@ module _ (N B n : ℕ) (l : List (List Slot)) (t : List Slot) (narrow : NarrowRo
   unfolding noSum
   f-compactions = sum-compactions (l ++ (t ∷ [])) noneMet noSum refl ∙ omega arith
 
-  f-state : slotState N B (rowsWith n l t) ≡ verdict (capacity N B) f
+  f-state : slotState N B (rowsWith n ver l t) ≡ verdict (capacity N B) f
   unfolding slotState verdict orderly tornWithin twinWithin entriesIn
-  f-state = rw (fine-ending n l t N B, torn-ending N B n l t, twin-ending N B n l t (λ b h. proper-rows b (l ++ (t ∷ [])) narrow (unfold entriesIn in h)), f-ending, f-live)
+  f-state = rw (fine-ending n ver l t N B, torn-ending N B n ver l t, twin-ending N B n ver l t (λ b h. proper-rows b (l ++ (t ∷ [])) narrow (unfold entriesIn in h)), f-ending, f-live)
 
-  f-orderly : (inOrder (ending n l t) && leb (length (entriesIn (rowsWith n l t))) (capacity N B)) ≡ orderly (capacity N B) f
+  f-orderly : (inOrder (ending n ver l t) && leb (length (entriesIn (rowsWith n ver l t))) (capacity N B)) ≡ orderly (capacity N B) f
   unfolding orderly entriesIn
   f-orderly = rw (f-ending, f-live)
 
   -- the stop of a torn or twin ending
-  stop-at : (e : Ending) → isBad e ≡ false → isFull e ≡ false → ending n l t ≡ e → Stop e (before-top l) t
-  stop-at e b k h = go (rows-plain n l t e b h .1)
+  stop-at : (e : Ending) → isBad e ≡ false → isFull e ≡ false → ending n ver l t ≡ e → Stop e (before-top l) t
+  stop-at e b k h = go (rows-plain n ver l t e b h .1)
     where
       go : Judged e (before-top l) t → Stop e (before-top l) t
       go (inl (q, p)) = absurd (true≢false (unfold isFull in (sym (ap isFull q) ∙ k)))
@@ -181,7 +182,7 @@ module _ (N B n : ℕ) (l : List (List Slot)) (t : List Slot) (narrow : NarrowRo
   f-last : (endsTorn (f .ending) || endsTwin (f .ending)) ≡ true → count isWritten t ≡ filled t
   f-last h = go (f .ending) (sym f-ending) h
     where
-      go : (e : Ending) → ending n l t ≡ e → (endsTorn e || endsTwin e) ≡ true → count isWritten t ≡ filled t
+      go : (e : Ending) → ending n ver l t ≡ e → (endsTorn e || endsTwin e) ≡ true → count isWritten t ≡ filled t
       go Full q k = absurd (false≢true (unfold endsTorn endsTwin in k))
       go Room q k = absurd (false≢true (unfold endsTorn endsTwin in k))
       go TornLast q k = let s = stop-at TornLast (unfold isBad in refl) (unfold isFull in refl) q in
@@ -190,18 +191,18 @@ module _ (N B n : ℕ) (l : List (List Slot)) (t : List Slot) (narrow : NarrowRo
           stop-filled TwinLast s (ap isEmpty (stop-twin (before-top l ++ entries (s .left)) (s .slot) (s .ending) .1) ∙ (unfold isEmpty in refl))
       go Bad q k = absurd (false≢true (unfold endsTorn endsTwin in k))
 
-  f-block : endsTwin (f .ending) ≡ true → lastLive 0 t ≡ twinBlock (rowsWith n l t)
+  f-block : endsTwin (f .ending) ≡ true → lastLive 0 t ≡ twinBlock (rowsWith n ver l t)
   f-block h = go (f .ending) (sym f-ending) h
     where
-      at : (s : Stop TwinLast (before-top l) t) → lastLive 0 t ≡ twinBlock (rowsWith n l t)
+      at : (s : Stop TwinLast (before-top l) t) → lastLive 0 t ≡ twinBlock (rowsWith n ver l t)
       at s =
           let k = stop-twin (before-top l ++ entries (s .left)) (s .slot) (s .ending) in
           let e = k .0 in
           let q : t ≡ s .left ++ (live (e .block) (e .contents) ∷ s .right) = s .split ∙ ap (λ (z : Slot). s .left ++ (z ∷ s .right)) (k .1) in
           ap (lastLive 0) q ∙ (last-live 0 (s .left) (e .block) (e .contents) (s .right) (s .rest)
-          ∙ sym (ap (λ (z : List Slot). twinBlock (rowsWith n l z)) q ∙ last-block n l (s .left) (e .block) (e .contents) (s .right) (s .rest)))
+          ∙ sym (ap (λ (z : List Slot). twinBlock (rowsWith n ver l z)) q ∙ last-block n ver l (s .left) (e .block) (e .contents) (s .right) (s .rest)))
 
-      go : (e : Ending) → ending n l t ≡ e → endsTwin e ≡ true → lastLive 0 t ≡ twinBlock (rowsWith n l t)
+      go : (e : Ending) → ending n ver l t ≡ e → endsTwin e ≡ true → lastLive 0 t ≡ twinBlock (rowsWith n ver l t)
       go Full q k = absurd (false≢true (unfold endsTwin in k))
       go Room q k = absurd (false≢true (unfold endsTwin in k))
       go TornLast q k = absurd (false≢true (unfold endsTwin in k))
@@ -218,26 +219,26 @@ module _ (N B n : ℕ) (l : List (List Slot)) (t : List Slot) (narrow : NarrowRo
           let q : t ≡ s .left ++ (live (e .block) (e .contents) ∷ s .right) = s .split ∙ ap (λ (z : Slot). s .left ++ (z ∷ s .right)) (k .1) in
           rw (q, last-live 0 (s .left) (e .block) (e .contents) (s .right) (s .rest)) (held-last l (s .left) e (s .right))
 
-      go : (e : Ending) → ending n l t ≡ e → endsTwin e ≡ true → holds (lastLive 0 t) (entries (flatten (l ++ (t ∷ [])))) ≡ true
+      go : (e : Ending) → ending n ver l t ≡ e → endsTwin e ≡ true → holds (lastLive 0 t) (entries (flatten (l ++ (t ∷ [])))) ≡ true
       go Full q k = absurd (false≢true (unfold endsTwin in k))
       go Room q k = absurd (false≢true (unfold endsTwin in k))
       go TornLast q k = absurd (false≢true (unfold endsTwin in k))
       go TwinLast q k = at (stop-at TwinLast (unfold isBad in refl) (unfold isFull in refl) q)
       go Bad q k = absurd (false≢true (unfold endsTwin in k))
 
-  told-top : Told N B n (l ++ (t ∷ [])) f
+  told-top : Told N B (rowsWith n ver l t) f
   told-top = let w = sum-top l t noneMet noSum in record {
     live = f-live;
     compactions = f-compactions;
-    fine = fine-ending n l t N B ∙ f-orderly;
+    fine = fine-ending n ver l t N B ∙ f-orderly;
     state = f-state;
-    free = λ h. w .0 ∙ (first-free t (ending-ordered n l t (ap inOrder (sym f-ending) ∙ h) .last) ∙ ap firstEmpty (sym (top-row l t)));
+    free = λ h. w .0 ∙ (first-free t (ending-ordered n ver l t (ap inOrder (sym f-ending) ∙ h) .last) ∙ ap firstEmpty (sym (top-row l t)));
     last = λ h. w .0 ∙ (f-last h ∙ ap filled (sym (top-row l t)));
     block = λ h. w .1 ∙ f-block h;
     held = λ h. ap (λ (b : ℕ). holds b (entries (flatten (l ++ (t ∷ []))))) (w .1) ∙ f-held h;
   }
 
-pub told : (N B n : ℕ) (rows : List (List Slot)) → 1 ≤ length rows → NarrowRows rows → Told N B n rows (addRows (tallies rows noneMet) noSum)
-told N B n rows h k =
+pub told : (N B n : ℕ) (ver : Version) (rows : List (List Slot)) → 1 ≤ length rows → NarrowRows rows → Told N B (record { first = n; slots = rows; version = ver }) (addRows (tallies rows noneMet) noSum)
+told N B n ver rows h k =
     let r = find-top rows h in
-    subst (λ (y : List (List Slot)). Told N B n y (addRows (tallies y noneMet) noSum)) (sym (r .split)) (told-top N B n (r .others) (r .top) (subst NarrowRows (r .split) k))
+    subst (λ (y : List (List Slot)). Told N B (record { first = n; slots = y; version = ver }) (addRows (tallies y noneMet) noSum)) (sym (r .split)) (told-top N B n ver (r .others) (r .top) (subst NarrowRows (r .split) k))

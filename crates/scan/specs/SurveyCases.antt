@@ -19,6 +19,7 @@ use Rattle.judge.specs.Cases.{frame, mendedState, stateBy, state-by, frame-ring
 use Rattle.judge.specs.Heads.{frameOf}
 use Rattle.judge.specs.Tally.{badSum}
 use Rattle.judge.specs.Verdict.{orderly, tornWithin, twinWithin, verdict, Told}
+use Rattle.find.specs.Search.{foundIn}
 use Rattle.scan.specs.Surveys.{surveyIn, mendIn, surveyOf, examOf}
 use Rattle.scan.specs.SurveyLaws.{Within, within-same, within-blanked, within-settled, exam-told, exam-sum, exam-orderly, exam-verdict}
 
@@ -111,8 +112,8 @@ module _ (N B : ℕ) (s : Image) (some : 0 < N) where
   pub framed-twin : (C : ℕ) → twinWithin C (examined l .sum) ≡ true → frame N l ≡ true
   framed-twin C h = exam-framed (twinWithin C) (bad-sums C .2) h
 
-  framed-told : (f : frame N l ≡ true) → Told N B (viewOf N l .first) (viewOf N l .slots) (examined l .sum)
-  framed-told f = subst (λ (x : Sum). Told N B (viewOf N l .first) (viewOf N l .slots) x) (sym (exam-sum N B s some l ∙ rw f)) (exam-told N B s some l size (within-same l) f)
+  framed-told : (f : frame N l ≡ true) → Told N B (viewOf N l) (examined l .sum)
+  framed-told f = subst (λ (x : Sum). Told N B (viewOf N l) x) (sym (exam-sum N B s some l ∙ rw f)) (exam-told N B s some l size (within-same l) f)
 
   exam-first : examined l .first ≡ viewOf N l .first
   unfolding examOf frameOf viewOf
@@ -131,10 +132,10 @@ module _ (N B : ℕ) (s : Image) (some : 0 < N) where
   unfolding examOf frameOf
   framed-chain f = frame-ring N l size f .chain
 
-  -- and their rows are the view
-  pub exam-view : record { first = examined l .first; slots = slotsFrom N l (examined l .used) (examined l .first) } ≡ viewOf N l
+  -- and their rows are the view's
+  pub exam-found : (b : ℕ) → foundIn N B (examined l .first) (slotsFrom N l (examined l .used) (examined l .first)) b ≡ foundIn N B (viewOf N l .first) (viewOf N l .slots) b
   unfolding examOf frameOf viewOf
-  exam-view = refl
+  exam-found b = refl
 
   pub twin-held : (C : ℕ) → twinWithin C (examined l .sum) ≡ true → holds (examined l .sum .block .0) (entriesIn (viewOf N l)) ≡ true
   unfolding entriesIn

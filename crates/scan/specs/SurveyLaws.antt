@@ -13,7 +13,7 @@ use borrow.Author.Tests.{ltb-true, eqb-true}
 use Rattle.model.specs.Lists.{chunk}
 use Rattle.model.specs.Chip.{Image, Page}
 use Rattle.model.specs.Slot.{Slot, empty, torn, dead, wrong, live, slotOf, numberOk}
-use Rattle.model.specs.State.{Segment, blank, invalid, inUse, segmentsOf, isInUse, numberAfter, slotsIn, nextNumber, topIndex, nextIndex, usedCount, firstNumber, slotsFrom, viewOf, numbersFrom, capacity, nextBlanked, settled, topSettled, damaged}
+use Rattle.model.specs.State.{Segment, blank, invalid, inUse, segmentsOf, isInUse, numberAfter, slotsIn, nextNumber, topIndex, nextIndex, topVersion, usedCount, firstNumber, slotsFrom, viewOf, numbersFrom, capacity, nextBlanked, settled, topSettled, damaged}
 use Rattle.model.specs.Laws.Lists.{and-left, and-right}
 use Rattle.model.specs.Laws.Ring.{slots-length, number-in-use}
 use Rattle.model.specs.Laws.SlotPage.{KindFacts, kind-facts, number-below}
@@ -97,12 +97,12 @@ within-settled N l z p i h = elim (ℕ-discrete i (topIndex N l)) [
     number : (x : Segment) → numberAfter x ≡ numberAfter (settled x)
     number blank = unfold settled in refl
     number invalid = unfold settled in refl
-    number (inUse st n ks) = unfold settled numberAfter in refl
+    number (inUse ver st n ks) = unfold settled numberAfter in refl
 
     slots : (x : Segment) → slotsIn x ≡ slotsIn (settled x)
     slots blank = unfold settled in refl
     slots invalid = unfold settled in refl
-    slots (inUse st n ks) = unfold settled slotsIn in refl
+    slots (inUse ver st n ks) = unfold settled slotsIn in refl
 
     top : {y : Segment} → y ≡ settled (getD l (topIndex N l) blank) → (numberAfter (getD l (topIndex N l) blank) ≡ numberAfter y) × (slotsIn (getD l (topIndex N l) blank) ≡ slotsIn y)
     top e = (number (getD l (topIndex N l) blank) ∙ ap numberAfter (sym e), slots (getD l (topIndex N l) blank) ∙ ap slotsIn (sym e))
@@ -122,15 +122,15 @@ module _ (N B : ℕ) (s : Image) (some : 0 < N) where
   l = segmentsOf N B s
 
   -- what the sums say of a list with its frame
-  pub exam-told : (m : List Segment) → length m ≡ N → Within m l → frame N m ≡ true → Told N B (viewOf N m .first) (viewOf N m .slots) (sumOn s N B (usedCount m) (firstNumber m))
+  pub exam-told : (m : List Segment) → length m ≡ N → Within m l → frame N m ≡ true → Told N B (viewOf N m) (sumOn s N B (usedCount m) (firstNumber m))
   unfolding viewOf sumOn
   exam-told m z w f =
       let r = frame-ring N m z f in
       let q = within-rows N m l w (usedCount m) (firstNumber m) (r .chain) in
       let e : rowsOn s N B (usedCount m) (firstNumber m) ≡ slotsFrom N m (usedCount m) (firstNumber m) = sym (used-rows N B s some (usedCount m) (firstNumber m) (q .0)) ∙ q .1 in
       let n : length (rowsOn s N B (usedCount m) (firstNumber m)) ≡ usedCount m = ap length e ∙ slots-length N m (usedCount m) (firstNumber m) in
-      subst (λ (y : List (List Slot)). Told N B (firstNumber m) y (addRows (tallies (rowsOn s N B (usedCount m) (firstNumber m)) noneMet) noSum)) e
-      (told N B (firstNumber m) (rowsOn s N B (usedCount m) (firstNumber m)) (omega (arith, r .some)) (narrow-rows s N B (usedCount m) (firstNumber m)))
+      subst (λ (y : List (List Slot)). Told N B (record { first = firstNumber m; slots = y; version = topVersion N m }) (addRows (tallies (rowsOn s N B (usedCount m) (firstNumber m)) noneMet) noSum)) e
+      (told N B (firstNumber m) (topVersion N m) (rowsOn s N B (usedCount m) (firstNumber m)) (omega (arith, r .some)) (narrow-rows s N B (usedCount m) (firstNumber m)))
 
   pub exam-sum : (m : List Segment) → examOf N B s (frameOf N m) .sum ≡ cond (frame N m) (sumOn s N B (usedCount m) (firstNumber m)) badSum
   unfolding examOf frameOf

@@ -14,8 +14,8 @@ ghost use Rattle.model.specs.Chip.{mostSegments, mostSlots, rightSize};
 ghost use Rattle.model.specs.State.{numbersFrom, segmentsOf, slotsFrom};
 ghost use Rattle.model.specs.Steps.{slotAt};
 ghost use Rattle.flash.specs.Pages.{Sized};
+ghost use Rattle.find.specs.Search.{foundIn};
 ghost use Rattle.scan.specs.Surveys.{surveyOf, owingIn, tornIn, cleanIn, oldIn, Looked};
-ghost use Rattle.scan.specs.Find.{foundIn};
 
 // The segments in use that a table of summaries shows, and their rows added up.
 struct Exam {
@@ -122,7 +122,7 @@ fn clean_survey(exam: Exam) -> Surveyed
 // The survey where the block of the slot written last has an older live slot, which is searched.
 fn old_slot(image: &[u8], segments: usize, slots: usize, exam: Exam) -> Surveyed
     requires { ⌜ Sized segments slots (length (now image)) × (exam .first < 4294967296) × (numbersFrom segments (segmentsOf segments slots (now image)) (exam .used) (exam .first) ≡ true) × (exam .first + exam .used ≤ 4294967296) ⌝ }
-    ensures { λ r. ⌜ r ≡ oldIn (foundIn segments slots (exam .sum .block .0) (record { first = exam .first; slots = slotsFrom segments (segmentsOf segments slots (now (image .entry))) (exam .used) (exam .first) })) ⌝ }
+    ensures { λ r. ⌜ r ≡ oldIn (foundIn segments slots (exam .first) (slotsFrom segments (segmentsOf segments slots (now (image .entry))) (exam .used) (exam .first)) (exam .sum .block .0)) ⌝ }
 {
     let sum = exam.sum;
     let block = sum.block;

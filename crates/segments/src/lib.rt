@@ -61,7 +61,8 @@ fn see_segment(image: &[u8], segments: usize, slots: usize, index: usize) -> Sum
         former,
         status,
         number,
-    } = seen else {
+    } = seen
+    else {
         let end = at + (slots + 1) * 256;
         let whole = flash::blank_test(&image[at..end]);
         if whole.blank {

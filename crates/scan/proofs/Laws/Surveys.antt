@@ -28,17 +28,16 @@ use Rattle.judge.specs.Parts.{rowsOn}
 use Rattle.judge.specs.Tally.{noneMet, tallies, summariesOf, rowOf, rows-kept, addRows, noSum, badSum}
 use Rattle.judge.specs.Verdict.{orderly, tornWithin, twinWithin}
 use Rattle.scan.specs.Surveys.{surveyOf, sumOn, examOf, owingIn, tornIn, cleanIn, oldIn, Bounded, Looked}
-use Rattle.find.specs.Search
-use Rattle.scan.specs.Find.{foundIn}
-use Rattle.scan.specs.SurveyCases.{owing-few, owing-bad, owing-good, torn-bad, torn-good, framed-some, framed-orderly, framed-twin, framed-chain, exam-view, twin-held, slots-clean, slots-torn, slots-twin, slots-damaged}
+use Rattle.find.specs.Search.{foundIn}
+use Rattle.scan.specs.SurveyCases.{owing-few, owing-bad, owing-good, torn-bad, torn-good, framed-some, framed-orderly, framed-twin, framed-chain, exam-found, twin-held, slots-clean, slots-torn, slots-twin, slots-damaged}
 
 -- a test of sums against a number that was reckoned
 pub tested : (t : ℕ → Sum → Bool) (x : Sum) {m n : ℕ} {r : Bool} → m ≡ n → r ≡ t m x → t n x ≡ r
 tested t x e q = sym (q ∙ ap (λ (y : ℕ). t y x) e)
 
 -- a block that is there is found
-old-found : (N B b : ℕ) (v : View) → holds b (entriesIn v) ≡ true → oldIn (foundIn N B b v) ≡ OldSlot (record { 0 = slotAt N B (placeOf b v .number) (placeOf b v .slot) * 256 })
-unfolding foundIn Search.foundIn oldIn entriesIn placeOf
+old-found : (N B b : ℕ) (v : View) → holds b (entriesIn v) ≡ true → oldIn (foundIn N B (v .first) (v .slots) b) ≡ OldSlot (record { 0 = slotAt N B (placeOf b v .number) (placeOf b v .slot) * 256 })
+unfolding foundIn oldIn entriesIn placeOf
 old-found N B b v h = rw h
 
 -- ---- the segments in use examined
@@ -166,11 +165,11 @@ module _ (N B : ℕ) (s : Image) (h : Headers) (x : Exam) (w : Looked N B s h x)
     twin-chain h = rw (← slots-exam) (framed-chain N B s some (framed-twin N B s some (capacity N B + 1) (on-sums (twinWithin (capacity N B + 1)) true h)))
 
     pub slots-twin-last : orderly (capacity N B) (x .sum) ≡ false → tornWithin (capacity N B) (x .sum) ≡ false → twinWithin (capacity N B + 1) (x .sum) ≡ true
-        → oldIn (foundIn N B (x .sum .block .0) (record { first = x .first; slots = slotsFrom N l (x .used) (x .first) })) ≡ surveyOf N B l
+        → oldIn (foundIn N B (x .first) (slotsFrom N l (x .used) (x .first)) (x .sum .block .0)) ≡ surveyOf N B l
     slots-twin-last o c h =
         let t = on-sums (twinWithin (capacity N B + 1)) true h in
-        sym (ap (λ (y : Exam). oldIn (foundIn N B (y .sum .block .0) (record { first = y .first; slots = slotsFrom N l (y .used) (y .first) }))) slots-exam)
-        ∙ (ap (λ (v : View). oldIn (foundIn N B (examOf N B s (frameOf N l) .sum .block .0) v)) (exam-view N B s some)
+        sym (ap (λ (y : Exam). oldIn (foundIn N B (y .first) (slotsFrom N l (y .used) (y .first)) (y .sum .block .0))) slots-exam)
+        ∙ (ap oldIn (exam-found N B s some (examOf N B s (frameOf N l) .sum .block .0))
         ∙ (old-found N B (examOf N B s (frameOf N l) .sum .block .0) (viewOf N l) (twin-held N B s some (capacity N B + 1) t)
         ∙ sym (slots-twin N B s some not-owing not-torn (on-sums (orderly (capacity N B)) false o) (on-sums (tornWithin (capacity N B)) false c) t)))
 

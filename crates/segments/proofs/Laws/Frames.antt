@@ -10,7 +10,7 @@ use lib.ListN.{length, getD, take, set}
 use lib.Seq.{take-set-lt, set-getD, set-comm}
 use lib.Dec.{ltb}
 use borrow.Author.Tests.{le-leb, lt-leb, ltb-true, ltb-false}
-use Rattle.model.specs.State.{Segment, blank, invalid, inUse, isInvalid, isOwing, numberAfter, nextNumber, usedCount, firstNumber, someInUse, numbersFrom, consecutive, nextIndex, topIndex, nextBlanked, settled, topSettled}
+use Rattle.model.specs.State.{Segment, blank, invalid, inUse, isInvalid, isOwing, numberAfter, nextNumber, usedCount, firstNumber, someInUse, numbersFrom, consecutive, oneVersion, nextIndex, topIndex, nextBlanked, settled, topSettled}
 use Rattle.model.specs.Laws.Lists.{and-left, and-right, map-set, mod-inj}
 use Rattle.model.specs.Laws.Ring.{next-ge}
 use Rattle.judge.specs.declared.SegmentState.{SegmentState}
@@ -35,7 +35,7 @@ module _ (N : ℕ) (l : List Segment) where
   unfolding frame someInUse
   frame-many p h = rw (le-leb 1 (usedCount l) (omega arith), lt-leb (usedCount l) (N - 1) (omega arith))
 
-  frame-inside : 1 ≤ usedCount l → usedCount l < N → frame N l ≡ (numbersFrom N l (usedCount l) (firstNumber l) && allSettled l)
+  frame-inside : 1 ≤ usedCount l → usedCount l < N → frame N l ≡ (numbersFrom N l (usedCount l) (firstNumber l) && (oneVersion l && allSettled l))
   unfolding frame someInUse consecutive allSettled
   frame-inside p h = rw (le-leb 1 (usedCount l) (omega arith), le-leb (usedCount l) (N - 1) (omega arith))
 
@@ -43,8 +43,8 @@ module _ (N : ℕ) (l : List Segment) where
     used-is : c .used ≡ usedCount l
     used-is = ap (λ (y : HeaderCounts). y .used) e ∙ (unfold countsOf in refl)
 
-    settled-is : c .settled ≡ allSettled l
-    settled-is = ap (λ (y : HeaderCounts). y .settled) e ∙ (unfold countsOf in refl)
+    rest-is : ((c .former || c .second) && c .settled) ≡ (oneVersion l && allSettled l)
+    rest-is = ap (λ (y : HeaderCounts). (y .former || y .second) && y .settled) e ∙ (unfold countsOf oneVersion in refl)
 
     first-is : f ≡ firstNumber l
     first-is = q ∙ (ap (λ (y : HeaderCounts). y .next - y .used) e ∙ (unfold countsOf firstNumber in refl))
@@ -56,15 +56,15 @@ module _ (N : ℕ) (l : List Segment) where
     -- the test of the counts, and the numbers
     pub frame-refused : 0 < N → mayBeFine N c ≡ false → record { first = f; used = c .used; fine = false } ≡ frameOf N l
     unfolding mayBeFine
-    frame-refused p h = frame-is false (sym (go (ltb 0 (c .used)) (ltb (c .used) N) (c .settled) refl refl refl h))
+    frame-refused p h = frame-is false (sym (go (ltb 0 (c .used)) (ltb (c .used) N) ((c .former || c .second) && c .settled) refl refl refl h))
       where
-        go : (a b t : Bool) → ltb 0 (c .used) ≡ a → ltb (c .used) N ≡ b → c .settled ≡ t → (a && (b && t)) ≡ false → frame N l ≡ false
+        go : (a b t : Bool) → ltb 0 (c .used) ≡ a → ltb (c .used) N ≡ b → ((c .former || c .second) && c .settled) ≡ t → (a && (b && t)) ≡ false → frame N l ≡ false
         go false b t i j k z = frame-none (let e = ltb-false 0 (c .used) i in omega (arith, used-is))
         go true false t i j k z = frame-many p (let e = ltb-false (c .used) N j in omega (arith, used-is))
         go true true false i j k z =
             let d = ltb-true 0 (c .used) i in
             let e = ltb-true (c .used) N j in
-            frame-inside (omega (arith, used-is)) (omega (arith, used-is)) ∙ rw (sym settled-is ∙ k) (and-false (numbersFrom N l (usedCount l) (firstNumber l)))
+            frame-inside (omega (arith, used-is)) (omega (arith, used-is)) ∙ rw (sym rest-is ∙ k) (and-false (numbersFrom N l (usedCount l) (firstNumber l)))
         go true true true i j k z = absurd (true≢false z)
 
     pub frame-tested : mayBeFine N c ≡ true → (t : Bool) → t ≡ numbersFrom N l (c .used) f → record { first = f; used = c .used; fine = t } ≡ frameOf N l
@@ -72,10 +72,11 @@ module _ (N : ℕ) (l : List Segment) where
     frame-tested h t w =
         let a = ltb 0 (c .used) in
         let b = ltb (c .used) N in
-        let i = ltb-true 0 (c .used) (and-left a (b && c .settled) h) in
-        let r = and-right a (b && c .settled) h in
-        let j = ltb-true (c .used) N (and-left b (c .settled) r) in
-        let k : allSettled l ≡ true = sym settled-is ∙ and-right b (c .settled) r in
+        let o = (c .former || c .second) && c .settled in
+        let i = ltb-true 0 (c .used) (and-left a (b && o) h) in
+        let r = and-right a (b && o) h in
+        let j = ltb-true (c .used) N (and-left b o r) in
+        let k : (oneVersion l && allSettled l) ≡ true = sym rest-is ∙ and-right b o r in
         frame-is t (w ∙ (ap₂ (numbersFrom N l) used-is first-is ∙ sym (frame-inside (omega (arith, used-is)) (omega (arith, used-is)) ∙ rw k (and-true (numbersFrom N l (usedCount l) (firstNumber l))))))
 
 -- ---- a summary changed
@@ -84,23 +85,23 @@ heads-set : (N i : ℕ) (table : List Summary) (v : Summary) → i < N → heads
 unfolding heads
 heads-set N i table v h = ap (map bare) (take-set-lt N table i v h) ∙ map-set bare (take N table) i v
 
-pub settled-owing : (x : SegmentState) (n : ℕ) → isOwing (bareOf x n) ≡ true → bareOf InUse n ≡ settled (bareOf x n)
+pub settled-owing : (x : SegmentState) (t : Bool) (n : ℕ) → isOwing (bareOf x t n) ≡ true → bareOf InUse t n ≡ settled (bareOf x t n)
 unfolding bareOf isOwing settled
-settled-owing Blank n h = absurd (false≢true h)
-settled-owing Invalid n h = absurd (false≢true h)
-settled-owing InUse n h = absurd (false≢true h)
-settled-owing Owing n h = refl
+settled-owing Blank t n h = absurd (false≢true h)
+settled-owing Invalid t n h = absurd (false≢true h)
+settled-owing InUse t n h = absurd (false≢true h)
+settled-owing Owing t n h = refl
 
-pub settled-other : (x : SegmentState) (n : ℕ) → isOwing (bareOf x n) ≡ false → bareOf x n ≡ settled (bareOf x n)
+pub settled-other : (x : SegmentState) (t : Bool) (n : ℕ) → isOwing (bareOf x t n) ≡ false → bareOf x t n ≡ settled (bareOf x t n)
 unfolding bareOf isOwing settled
-settled-other Blank n h = refl
-settled-other Invalid n h = refl
-settled-other InUse n h = refl
-settled-other Owing n h = absurd (true≢false h)
+settled-other Blank t n h = refl
+settled-other Invalid t n h = refl
+settled-other InUse t n h = refl
+settled-other Owing t n h = absurd (true≢false h)
 
 settled-same : (x : Summary) → isOwing (bare x) ≡ false → settled (bare x) ≡ bare x
 unfolding bare
-settled-same x h = sym (settled-other (x .state) (x .number .0) h)
+settled-same x h = sym (settled-other (x .state) (x .former) (x .number .0) h)
 
 -- the segment before a number is not the one at it
 apart : (N n : ℕ) → 2 ≤ N → 0 < n → (n - 1) % N ≢ n % N
@@ -110,7 +111,7 @@ owing-some : (x : Segment) → isOwing x ≡ true → 0 < numberAfter x
 unfolding isOwing numberAfter
 owing-some blank h = absurd (false≢true h)
 owing-some invalid h = absurd (false≢true h)
-owing-some (inUse st n ks) h = omega arith
+owing-some (inUse ver st n ks) h = omega arith
 
 -- a table mended where it stands: the top as settled, then the segment after it
 module _ (N : ℕ) (table : List Summary) (d : Summary) (two : 2 ≤ N) (long : N ≤ length table) (next top : ℕ) (e : next ≡ nextNumber (heads N table)) (t : top ≡ next - 1) where

@@ -1,7 +1,7 @@
 -- A segment seen by its header, and a table of them filled.
 use Prim.Native.Nat.{ℕ, _+_, _-_, _*_, _≤_, _<_}
 use mathlib.Core.Path.{_≡_, refl, sym, ap, _∙_}
-use mathlib.Core.Bool.{Bool, true, false, cond}
+use mathlib.Core.Bool.{Bool, true, false, cond, not, true≢false, false≢true}
 use mathlib.Core.List.{List, [], _∷_, _++_, map}
 use native.Mathlib.Omega.{arith}
 use native.Mathlib.Nat.{mul-le-mul-right, suc-mul}
@@ -10,40 +10,72 @@ use lib.ListN.{length, getD, take, drop, set}
 use lib.Seq.{take-suc, take-suc-set, take-all}
 use lib.Dec.{eqb}
 use Rattle.model.specs.Chip.{Image, Page}
-use Rattle.model.specs.Header.{erasePending, compacted, headerStatus, headerNumber, headerInUse, isBlank}
+use Rattle.model.specs.Header.{erasePending, compacted, versionNumber, isFormer, headerVersion, headerStatus, headerNumber, headerInUse, isBlank}
 use Rattle.model.specs.Slot.{Slot}
-use Rattle.model.specs.State.{Segment, blank, invalid, inUse, segmentsOf}
+use Rattle.model.specs.State.{Segment, blank, invalid, inUse, segmentsOf, isInUse, ofVersion}
 use Rattle.model.specs.declared.SegmentNumber.{SegmentNumber}
 use Rattle.model.specs.Laws.Segments.{segments-length}
 use Rattle.header.specs.declared.HeaderSeen.{HeaderSeen}
 use Rattle.header.specs.declared.HeaderSeen.the-variants.{InUse, NotInUse}
 use Rattle.header.specs.Parts.{headerSeen}
-use Rattle.judge.specs.declared.SegmentState.the-variants.{Owing}
+use Rattle.judge.specs.declared.SegmentState.{SegmentState}
+use Rattle.judge.specs.declared.SegmentState.the-variants.{Blank, Invalid, Owing}
 use Rattle.judge.specs.declared.Summary.{Summary}
 use Rattle.judge.specs.Parts.{headerOffset, slotsOffset, segmentSeen, segment-seen}
 use Rattle.judge.specs.Rows.{slotsAt}
-use Rattle.judge.specs.Heads.{bareOf, bare, outline, heads, stateSeen}
+use Rattle.judge.specs.Heads.{bareVersion, bareOf, bare, outline, heads, stateSeen}
+
+-- ---- the version that a summary shows
+
+of-version : (t : Bool) → (t ≡ eqb (versionNumber (bareVersion t)) 1) × (not t ≡ eqb (versionNumber (bareVersion t)) 2)
+unfolding bareVersion versionNumber
+of-version true = (refl, refl)
+of-version false = (refl, refl)
+
+pub former-used : (x : SegmentState) (t : Bool) (n : ℕ) → isInUse (bareOf x t n) ≡ true → t ≡ ofVersion 1 (bareOf x t n)
+unfolding bareOf isInUse ofVersion
+former-used Blank t n h = absurd (false≢true h)
+former-used Invalid t n h = absurd (false≢true h)
+former-used Rattle.judge.specs.declared.SegmentState.the-variants.InUse t n h = of-version t .0
+former-used Owing t n h = of-version t .0
+
+pub second-used : (x : SegmentState) (t : Bool) (n : ℕ) → isInUse (bareOf x t n) ≡ true → not t ≡ ofVersion 2 (bareOf x t n)
+unfolding bareOf isInUse ofVersion
+second-used Blank t n h = absurd (false≢true h)
+second-used Invalid t n h = absurd (false≢true h)
+second-used Rattle.judge.specs.declared.SegmentState.the-variants.InUse t n h = of-version t .1
+second-used Owing t n h = of-version t .1
+
+pub any-unused : (k : ℕ) (x : SegmentState) (t : Bool) (n : ℕ) → isInUse (bareOf x t n) ≡ false → true ≡ ofVersion k (bareOf x t n)
+unfolding bareOf isInUse ofVersion
+any-unused k Blank t n h = refl
+any-unused k Invalid t n h = refl
+any-unused k Rattle.judge.specs.declared.SegmentState.the-variants.InUse t n h = absurd (true≢false h)
+any-unused k Owing t n h = absurd (true≢false h)
+
+-- ---- a segment seen
 
 -- a segment lies inside the image
 pub segment-inside : (N B i : ℕ) → i < N → i * (B + 1) * 256 + (B + 1) * 256 ≤ N * (B + 1) * 256
 segment-inside N B i h = omega (arith, suc-mul i (B + 1), mul-le-mul-right (B + 1) h)
 
 module _ (N B i : ℕ) (h : Page) (t : Bool) (ks : List Slot) where
-  outline-used : (st : ℕ) (n : SegmentNumber) → headerSeen N B i h ≡ InUse st n → outline (segmentSeen N B i h t ks) ≡ bareOf (stateSeen st) (n .0)
+  outline-used : (f : Bool) (st : ℕ) (n : SegmentNumber) → headerSeen N B i h ≡ InUse f st n → outline (segmentSeen N B i h t ks) ≡ bareOf (stateSeen st) f (n .0)
   unfolding headerSeen segmentSeen outline stateSeen
-  outline-used st n e = go (headerInUse N B i h) e
+  outline-used f st n e = go (headerInUse N B i h) e
     where
-      state : (b : Bool) (m : ℕ) → inUse (cond b erasePending compacted) m [] ≡ bareOf (cond b Owing Rattle.judge.specs.declared.SegmentState.the-variants.InUse) m
+      state : (b : Bool) (m : ℕ) → inUse (bareVersion f) (cond b erasePending compacted) m [] ≡ bareOf (cond b Owing Rattle.judge.specs.declared.SegmentState.the-variants.InUse) f m
       state true m = unfold bareOf in refl
       state false m = unfold bareOf in refl
 
-      go : (b : Bool) → cond b (InUse (headerStatus h) (record { 0 = headerNumber h })) NotInUse ≡ InUse st n
-          → outline (cond b (inUse (headerStatus h) (headerNumber h) ks) (cond t blank invalid)) ≡ bareOf (cond (eqb st erasePending) Owing Rattle.judge.specs.declared.SegmentState.the-variants.InUse) (n .0)
+      go : (b : Bool) → cond b (InUse (isFormer (headerVersion h)) (headerStatus h) (record { 0 = headerNumber h })) NotInUse ≡ InUse f st n
+          → outline (cond b (inUse (headerVersion h) (headerStatus h) (headerNumber h) ks) (cond t blank invalid)) ≡ bareOf (cond (eqb st erasePending) Owing Rattle.judge.specs.declared.SegmentState.the-variants.InUse) f (n .0)
       go true q =
+          let v : isFormer (headerVersion h) ≡ f = cc in
           let a : headerStatus h ≡ st = cc in
           let b : _≡_ {A = SegmentNumber} (record { 0 = headerNumber h }) n = cc in
           let m : headerNumber h ≡ n .0 = ap (λ (x : SegmentNumber). x .0) b in
-          rw (a, m) (state (eqb st erasePending) (n .0))
+          rw (v, a, m) (state (eqb st erasePending) (n .0))
       go false q = absurd (let z : _≡_ {A = ℕ} 0 1 = cc in omega arith)
 
   outline-unused : headerSeen N B i h ≡ NotInUse → outline (segmentSeen N B i h t ks) ≡ cond t blank invalid
@@ -54,8 +86,8 @@ module _ (N B i : ℕ) (h : Page) (t : Bool) (ks : List Slot) where
       same true = refl
       same false = refl
 
-      go : (b : Bool) → cond b (InUse (headerStatus h) (record { 0 = headerNumber h })) NotInUse ≡ NotInUse
-          → outline (cond b (inUse (headerStatus h) (headerNumber h) ks) (cond t blank invalid)) ≡ cond t blank invalid
+      go : (b : Bool) → cond b (InUse (isFormer (headerVersion h)) (headerStatus h) (record { 0 = headerNumber h })) NotInUse ≡ NotInUse
+          → outline (cond b (inUse (headerVersion h) (headerStatus h) (headerNumber h) ks) (cond t blank invalid)) ≡ cond t blank invalid
       go true q = absurd (let z : _≡_ {A = ℕ} 0 1 = cc in omega arith)
       go false q = same t
 
@@ -67,9 +99,9 @@ module _ (N B i : ℕ) (s : Image) (h : i < N) where
   whole-is : take (i * (B + 1) * 256 + (B + 1) * 256 - i * (B + 1) * 256) (drop (i * (B + 1) * 256) s) ≡ take ((B + 1) * 256) (drop (headerOffset B i) s)
   whole-is = let e : i * (B + 1) * 256 + (B + 1) * 256 - i * (B + 1) * 256 ≡ (B + 1) * 256 = omega arith in rw e
 
-  pub seen-in-use : (r : HeaderSeen) (st : ℕ) (n : SegmentNumber) → r ≡ headerSeen N B i (take (i * (B + 1) * 256 + 256 - i * (B + 1) * 256) (drop (i * (B + 1) * 256) s)) → r ≡ InUse st n
-      → bareOf (stateSeen st) (n .0) ≡ outline (getD (segmentsOf N B s) i blank)
-  seen-in-use r st n e q = sym (ap outline (segment-seen N B i s h) ∙ outline-used N B i (take 256 (drop (headerOffset B i) s)) (isBlank (take ((B + 1) * 256) (drop (headerOffset B i) s))) (slotsAt s (slotsOffset B i) B) st n
+  pub seen-in-use : (r : HeaderSeen) (f : Bool) (st : ℕ) (n : SegmentNumber) → r ≡ headerSeen N B i (take (i * (B + 1) * 256 + 256 - i * (B + 1) * 256) (drop (i * (B + 1) * 256) s)) → r ≡ InUse f st n
+      → bareOf (stateSeen st) f (n .0) ≡ outline (getD (segmentsOf N B s) i blank)
+  seen-in-use r f st n e q = sym (ap outline (segment-seen N B i s h) ∙ outline-used N B i (take 256 (drop (headerOffset B i) s)) (isBlank (take ((B + 1) * 256) (drop (headerOffset B i) s))) (slotsAt s (slotsOffset B i) B) f st n
       (sym (e ∙ ap (headerSeen N B i) page-is) ∙ q))
 
   pub seen-unused : (r : HeaderSeen) (t : Bool) → r ≡ headerSeen N B i (take (i * (B + 1) * 256 + 256 - i * (B + 1) * 256) (drop (i * (B + 1) * 256) s)) → r ≡ NotInUse

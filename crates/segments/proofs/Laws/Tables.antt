@@ -1,7 +1,7 @@
 -- A table of summaries walked through: what is left of it.
 use Prim.Native.Nat.{ℕ, suc, _+_, _-_, _%_, _≤_, _<_, max}
 use mathlib.Core.Path.{_≡_, refl, sym, ap, ap₂, _∙_}
-use mathlib.Core.Bool.{Bool, true, false, cond, _&&_, not, and-false, and-true}
+use mathlib.Core.Bool.{Bool, true, false, cond, _&&_, not, and-false, and-true, and-assoc}
 use mathlib.Core.List.{List, [], _∷_, map}
 use native.Mathlib.Omega.{arith}
 use native.Mathlib.Nat.{sub-zero}
@@ -11,7 +11,7 @@ use lib.Seq.{drop-cons, drop-length, getD-take}
 use lib.Dec.{eqb}
 use borrow.Author.Tests.{eq-eqb, ne-eqb}
 use Rattle.model.specs.Lists.{all, count}
-use Rattle.model.specs.State.{Segment, blank, isInUse, isInvalid, isOwing, numberAfter, nextNumber, usedCount, numbersFrom, noneOwing, othersBlank}
+use Rattle.model.specs.State.{Segment, blank, isInUse, isInvalid, isOwing, numberAfter, ofVersion, nextNumber, usedCount, numbersFrom, noneOwing, othersBlank}
 use Rattle.judge.specs.declared.Summary.{Summary}
 use Rattle.judge.specs.declared.HeaderCounts.{HeaderCounts}
 use Rattle.judge.specs.Heads.{bare, outline, outline-get, heads, allSettled, countsOf, noCounts, countOne}
@@ -27,13 +27,19 @@ heads-length N table h = length-map (take N table) bare ∙ omega (arith, length
 -- ---- counted: what was counted so far, and what is left
 
 unfoldable pub counted : HeaderCounts → List Segment → HeaderCounts
-counted c l = record { next = max (c .next) (nextNumber l); used = c .used + usedCount l; settled = c .settled && allSettled l }
+counted c l = record {
+  next = max (c .next) (nextNumber l);
+  used = c .used + usedCount l;
+  settled = c .settled && allSettled l;
+  former = c .former && all (λ x. ofVersion 1 x) l;
+  second = c .second && all (λ x. ofVersion 2 x) l;
+}
 
 counted-cons : (c : HeaderCounts) (x : Segment) (l : List Segment) → counted c (x ∷ l) ≡ counted (countOne c x) l
 unfolding counted countOne nextNumber usedCount count allSettled noneOwing othersBlank all
 counted-cons c x l =
     let n : max (c .next) (max (numberAfter x) (nextNumber l)) ≡ max (max (c .next) (numberAfter x)) (nextNumber l) = omega arith in
-    rw (n, used (isInUse x), settled (c .settled) (isOwing x) (isInvalid x) (noneOwing l))
+    rw (n, used (isInUse x), settled (c .settled) (isOwing x) (isInvalid x) (noneOwing l), and-assoc (c .former) (ofVersion 1 x) (all (λ y. ofVersion 1 y) l), and-assoc (c .second) (ofVersion 2 x) (all (λ y. ofVersion 2 y) l))
   where
     used : (t : Bool) → c .used + cond t (suc (usedCount l)) (usedCount l) ≡ cond t (c .used + 1) (c .used) + usedCount l
     used true = omega arith
@@ -65,7 +71,7 @@ module _ (l : List Segment) where
     where
       none : counted c [] ≡ c
       none = unfold counted nextNumber usedCount count allSettled noneOwing othersBlank all in
-          (let m : max (c .next) 0 ≡ c .next = omega arith in let u : c .used + 0 ≡ c .used = omega arith in rw (m, u, and-true (c .settled)))
+          (let m : max (c .next) 0 ≡ c .next = omega arith in let u : c .used + 0 ≡ c .used = omega arith in rw (m, u, and-true (c .settled), and-true (c .former), and-true (c .second)))
 
 -- of the image's segments as summaries show them
 module _ (l : List Segment) where

@@ -15,7 +15,21 @@ returns-2 c = let a = c .before .before .before .before .args in rw (lt-ltb 0 (a
 
 returns-3 : tie.Need-returns-3
 unfolding mayBeFine
-returns-3 c = let a = c .before .before .before .before .args in rw (lt-ltb 0 (a .counts .used) (omega (arith, c .before .before .if1 .left)), lt-ltb (a .counts .used) (a .segments) (omega (arith, c .if2 .left)))
+returns-3 c =
+    let a = c .before .before .before .before .before .args in
+    rw (lt-ltb 0 (a .counts .used) (omega (arith, c .before .before .before .if1 .left)), lt-ltb (a .counts .used) (a .segments) (omega (arith, c .before .if2 .left)), c .if3 .taken)
+
+returns-4 : tie.Need-returns-4
+unfolding mayBeFine
+returns-4 c =
+    let a = c .before .before .before .before .before .before .args in
+    rw (lt-ltb 0 (a .counts .used) (omega (arith, c .before .before .before .before .if1 .left)), lt-ltb (a .counts .used) (a .segments) (omega (arith, c .before .before .if2 .left)), c .before .if3 .left, c .if4 .taken)
+
+returns-5 : tie.Need-returns-5
+unfolding mayBeFine
+returns-5 c =
+    let a = c .before .before .before .before .before .before .args in
+    rw (lt-ltb 0 (a .counts .used) (omega (arith, c .before .before .before .before .if1 .left)), lt-ltb (a .counts .used) (a .segments) (omega (arith, c .before .before .if2 .left)), c .before .if3 .left, c .if4 .left)
 
 pub may-be-fine-spec : {M : Type 1} → statement M
-may-be-fine-spec = tie.close (tie.spec returns returns-2 returns-3)
+may-be-fine-spec = tie.close (tie.spec returns returns-2 returns-3 returns-4 returns-5)

@@ -90,8 +90,9 @@ head-requires-3 c κs = search needs
 returns-3 : tie.Need-returns-3
 returns-3 c =
     let s = c .before .before .before .before .before .before .before .before in
-    c .head3 .ensures ∙ (ap (λ (x : SegmentState). bareOf x (c .before .before .before .seen .given .0 .1 .0 .0)) (c .before .state-seen .ensures)
-    ∙ seen-in-use (s .args .segments) (s .args .slots) (s .args .index) (now (s .args .image)) (s .pre .1) _ _ _ (c .before .before .before .before .before .see-header .ensures) (c .before .before .before .seen .given .1))
+    let h = c .before .before .before .seen .given .0 in
+    c .head3 .ensures ∙ (ap (λ (x : SegmentState). bareOf x (h .0) (h .1 .1 .0 .0)) (c .before .state-seen .ensures)
+    ∙ seen-in-use (s .args .segments) (s .args .slots) (s .args .index) (now (s .args .image)) (s .pre .1) _ _ _ _ (c .before .before .before .before .before .see-header .ensures) (c .before .before .before .seen .given .1))
 
 pub see-segment-spec : {M : Type 1} → statement M
 see-segment-spec =

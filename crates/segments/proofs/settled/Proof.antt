@@ -14,11 +14,11 @@ head-requires c κs = search needs
 
 returns : tie.Need-returns
 unfolding bare
-returns c = let s = c .before .before .before .before in c .head .ensures ∙ settled-owing (s .args .s .state) (s .args .s .number .0) (sym (c .before .before .is-owing .ensures) ∙ c .before .if1 .taken)
+returns c = let s = c .before .before .before .before in c .head .ensures ∙ settled-owing (s .args .s .state) (s .args .s .former) (s .args .s .number .0) (sym (c .before .before .is-owing .ensures) ∙ c .before .if1 .taken)
 
 returns-2 : tie.Need-returns-2
 unfolding bare
-returns-2 c = let s = c .before .before .before in settled-other (s .args .s .state) (s .args .s .number .0) (sym (c .before .is-owing .ensures) ∙ c .if1 .left)
+returns-2 c = let s = c .before .before .before in settled-other (s .args .s .state) (s .args .s .former) (s .args .s .number .0) (sym (c .before .is-owing .ensures) ∙ c .if1 .left)
 
 pub settled-spec : {M : Type 1} → statement M
 settled-spec = tie.close (tie.spec is-owing-requires head-requires returns returns-2)
