@@ -4,3 +4,4 @@ pub mod Counts
 pub mod Puts
 pub mod Recovers
 pub mod Theorem
+pub mod Examples
