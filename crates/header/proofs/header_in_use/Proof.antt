@@ -28,7 +28,7 @@ mul-if2 : tie.Need-mul-if2
 mul-if2 c = search needs
 
 returns-2 : tie.Need-returns-2
-returns-2 c = sym (unused-number _ _ _ _ _ (c .before .before .header-number .ensures) (c .if2 .taken))
+returns-2 c = sym (unused-number _ _ _ _ _ (c .before .before .header-number .ensures) (omega (arith, c .if2 .taken)))
 
 rem-if3 : tie.Need-rem-if3
 rem-if3 c = search needs
