@@ -83,9 +83,10 @@ fn see_tally(page: &[u8]) -> Tally
         };
     }
     let bits = &page[BITS..256];
+    let cleared = cleared_bits(bits);
     Tally {
         former: false,
-        count: header::header_total(page) + cleared_bits(bits),
+        count: header::header_total(page) + cleared,
         used_up: zeros_before(bits) >= BIT_BYTES,
     }
 }
@@ -95,7 +96,8 @@ fn count_in(page: &mut [u8], budget: u64) -> u64
     requires { ⌜ length (now page) ≡ 256 ⌝ }
     ensures { λ r. ⌜ Programmed (countErase (headerVersion (now (page .entry)))) budget r (now (page .entry)) (now (page .exit)) ⌝ }
 {
-    if header::is_former(&page[..]) {
+    let former = header::is_former(&page[..]);
+    if former {
         return budget;
     }
     let k = zeros_before(&page[BITS..256]);

@@ -28,7 +28,7 @@ mul-if2 : tie.Need-mul-if2
 mul-if2 c = search needs
 
 returns-2 : tie.Need-returns-2
-returns-2 c = sym (unused-number _ _ _ _ _ (c .before .before .header-number .ensures) (c .if2 .taken))
+returns-2 c = sym (unused-number _ _ _ _ _ (c .before .before .header-number .ensures) (omega (arith, c .if2 .taken)))
 
 rem-if3 : tie.Need-rem-if3
 rem-if3 c = search needs
@@ -68,6 +68,19 @@ part-same-bytes-end-2 c = search needs
 same-bytes-requires : tie.Need-same-bytes-requires
 same-bytes-requires c κs = search needs
 
+-- what is taken stands before what is not: an edit is refused for that
+returns-5 : tie.Need-returns-5
+returns-5 c =
+    let made = c .before .before .before .before .before .before in
+    let told = made .before .before in
+    let fits = told .before in
+    let read = fits .before .before .before in
+    let used = sym (read .before .before .status-in-use .ensures) ∙ not-false _ (read .before .if1 .left) in
+    let first = read .before .before .before in
+    c .tally-fits .ensures
+    ∙ sym (used-page _ _ _ _ _ _ _ _ true (λ i. omega (arith, first .shared-slice-known2 .given i)) used (read .header-number .ensures) (omega arith) (fits .if3 .left) (told .is-former .ensures)
+    (made .before .old-index .ensures) (made .header-fields .ensures) (first .before .before .pre .0) (sym (not-false _ (c .before .if4 .left)) ∙ c .before .before .same-bytes .ensures))
+
 returns-4 : tie.Need-returns-4
 returns-4 c =
     let made = c .before .before .before .before .before in
@@ -81,18 +94,6 @@ returns-4 c =
 
 tally-fits-requires : tie.Need-tally-fits-requires
 tally-fits-requires c κs = search needs
-
-returns-5 : tie.Need-returns-5
-returns-5 c =
-    let made = c .before .before .before .before .before .before in
-    let told = made .before .before in
-    let fits = told .before in
-    let read = fits .before .before .before in
-    let used = sym (read .before .before .status-in-use .ensures) ∙ not-false _ (read .before .if1 .left) in
-    let first = read .before .before .before in
-    c .tally-fits .ensures
-    ∙ sym (used-page _ _ _ _ _ _ _ _ true (λ i. omega (arith, first .shared-slice-known2 .given i)) used (read .header-number .ensures) (omega arith) (fits .if3 .left) (told .is-former .ensures)
-    (made .before .old-index .ensures) (made .header-fields .ensures) (first .before .before .pre .0) (sym (not-false _ (c .before .if4 .left)) ∙ c .before .before .same-bytes .ensures))
 
 pub header-in-use-spec : {M : Type 1} → statement M
 header-in-use-spec =

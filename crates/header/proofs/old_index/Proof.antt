@@ -17,11 +17,12 @@ add-result c = search needs
 rem-result : tie.Need-rem-result
 rem-result c = search needs
 
-cast-result : tie.Need-cast-result
-cast-result c = record { fits = omega (arith, mod-lt (c .before .args .index + 1) {m = c .before .args .segments} (omega arith)) }
-
+-- what the index is stands before its range: an edit is refused for that
 returns-2 : tie.Need-returns-2
 returns-2 c = sym (old-next _ _ _ (c .if1 .left))
+
+cast-result : tie.Need-cast-result
+cast-result c = record { fits = omega (arith, mod-lt (c .before .args .index + 1) {m = c .before .args .segments} (omega arith)) }
 
 pub old-index-spec : {M : Type 1} → statement M
 old-index-spec = tie.close (tie.spec returns add-result rem-result cast-result returns-2)

@@ -6,6 +6,15 @@ use borrow.Author.Needs.{needs}
 use Rattle.tally.proofs.count_in.Statement.{statement}
 use Rattle.tally.proofs.count_in.Tie as tie
 
+-- what is programmed stands before the rest: an edit is refused for that
+returns-3 : tie.Need-returns-3
+returns-3 c =
+    let b = c .before .before .before in
+    let z = b .before .before .before .before in
+    let k = z .before .before .before in
+    let a = k .before .before .before .before in
+    one-counted (now (a .args .page)) (a .pre) (sym (k .before .is-former .ensures) ∙ k .if1 .left) _ (z .zeros-before .ensures) (b .before .before .before .if2 .left) _ (b .highest-bit .ensures .0) (c .before .before .program-byte .ensures)
+
 is-former-requires : tie.Need-is-former-requires
 is-former-requires c κs = search needs
 
@@ -57,14 +66,6 @@ program-byte-requires c κs = search needs
 
 same-length-3 : tie.Need-same-length-3
 same-length-3 c = search needs
-
-returns-3 : tie.Need-returns-3
-returns-3 c =
-    let b = c .before .before .before in
-    let z = b .before .before .before .before in
-    let k = z .before .before .before in
-    let a = k .before .before .before .before in
-    one-counted (now (a .args .page)) (a .pre) (sym (k .before .is-former .ensures) ∙ k .if1 .left) _ (z .zeros-before .ensures) (b .before .before .before .if2 .left) _ (b .highest-bit .ensures .0) (c .before .before .program-byte .ensures)
 
 pub count-in-spec : {M : Type 1} → statement M
 count-in-spec =

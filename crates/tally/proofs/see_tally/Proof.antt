@@ -22,11 +22,11 @@ part-bits-start c = search needs
 part-bits-end : tie.Need-part-bits-end
 part-bits-end c = search needs
 
-header-total-requires : tie.Need-header-total-requires
-header-total-requires c κs = search needs
-
 cleared-bits-requires : tie.Need-cleared-bits-requires
 cleared-bits-requires c κs = search needs
+
+header-total-requires : tie.Need-header-total-requires
+header-total-requires c κs = search needs
 
 add-t8 : tie.Need-add-t8
 add-t8 c = search needs
@@ -38,7 +38,7 @@ returns-2 : tie.Need-returns-2
 returns-2 c =
     let k = c .before .before .before .before in (
       second-seen (now (k .before .before .before .args .page)) (k .before .before .before .pre) (sym (k .before .is-former .ensures) ∙ k .if1 .left) _ _ _
-          (c .before .before .header-total .ensures .0) (c .before .cleared-bits .ensures .0) (c .zeros-before .ensures),
+          (c .before .header-total .ensures .0) (c .before .before .cleared-bits .ensures .0) (c .zeros-before .ensures),
       search needs,
     )
 
@@ -51,8 +51,8 @@ see-tally-spec =
     sub-bits
     part-bits-start
     part-bits-end
-    header-total-requires
     cleared-bits-requires
+    header-total-requires
     add-t8
     zeros-before-requires
     returns-2)
