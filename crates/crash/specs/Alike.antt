@@ -1,19 +1,19 @@
 -- Segments that are alike but for the top's tally, in which a recovery counts before it mends: the same state, the same table, the same version.
-use Prim.Native.Nat.{ℕ, suc, _-_, _%_, _≤_, _<_}
+use Prim.Native.Nat.{ℕ, _-_, _%_, _≤_, _<_}
 use mathlib.Core.Path.{_≡_, refl, sym, ap, ap₂, _∙_}
 use mathlib.Core.Logic.{_≢_}
-use mathlib.Core.Bool.{Bool, true, false, _&&_, true≢false}
+use mathlib.Core.Bool.{true, _&&_}
 use mathlib.Core.List.{List}
 use native.Mathlib.Omega.{arith}
 use native.Mathlib.Nat.{mod-lt}
 use lib.ListN.{length, getD, set, length-set}
 use lib.Seq.{set-getD, set-set, set-comm, getD-set-same, getD-set-other}
 use lib.Dec.{eqb}
-use Rattle.model.specs.Header.{compacted, Version, version1, version2, isFormer, versionNumber}
-use Rattle.model.specs.State.{Segment, blank, invalid, inUse, isInUse, isInvalid, isOwing, numberAfter, versionIn, nextNumber, topIndex, nextIndex, topVersion, usedCount, viewOf, entriesIn, isClean, nextBlanked, isA, settled, topSettled, isB}
+use Rattle.model.specs.Header.{Version, version1, version2, isFormer, versionNumber}
+use Rattle.model.specs.State.{Segment, blank, invalid, inUse, isInvalid, isOwing, numberAfter, versionIn, nextNumber, topIndex, nextIndex, topVersion, usedCount, viewOf, entriesIn, isClean, nextBlanked, isA, settled, topSettled, isB}
 use Rattle.model.specs.Laws.Lists.{and-left, and-right, and-both, mod-inj}
 use Rattle.model.specs.Laws.Ring.{next-kept, used-kept}
-use Rattle.model.specs.Laws.Counted.{withVersion, withVersion-number, withVersion-use, withVersion-owing, alike-next, alike-entries, alike-clean}
+use Rattle.model.specs.Laws.Counted.{withVersion, withVersion-use, withVersion-owing, alike-next, alike-entries, alike-clean}
 
 pub record Like (N : ℕ) (l m : List Segment) : Type 0 where
   pub version : Version

@@ -21,6 +21,10 @@ Keeps N B s unknown = Unit {0}
 abbrev pub second : ℕ → ℕ → Board
 second N B = record { places = capacity N B; former = false }
 
+-- and that of a board of version 1
+abbrev pub formerBoard : ℕ → ℕ → Board
+formerBoard N B = record { places = capacity N B; former = true }
+
 -- Every history of the store, from any image of a right size, is a history of the plain table, and its last image keeps the last promise.
 -- The promise is unknown until a format finishes, so a history from a finished format on is one whose first event is that format.
 abbrev pub Demand2 : Type 0
@@ -35,4 +39,4 @@ FromClean = (N B : ℕ) (s u : Image) (es : List Event) → rightSize N B s ≡ 
 -- Request #104: the same from a clean image of version 1, as boards in the field have it, until it is formatted: every put answers 11, and reading, deleting and recovering are as ever.
 abbrev pub FromFormer : Type 0
 FromFormer = (N B : ℕ) (s u : Image) (es : List Event) → rightSize N B s ≡ true → Bytes s → state N B s ≡ clean → isFormer (view N B s .version) ≡ true → History N B s es u → NoFormat es
-    → (x : Promise) × PlainRuns (record { places = capacity N B; former = true }) (settled (tableOf N B s)) es x × Keeps N B u x
+    → (x : Promise) × PlainRuns (formerBoard N B) (settled (tableOf N B s)) es x × Keeps N B u x

@@ -1,6 +1,6 @@
 -- The customer's sentences over whole histories of the plain table: a block never shows contents that were not put under its number since the last format, or that have 0 bytes,
 -- and acknowledged contents are read back until the block is written or deleted, through every power cut.
-use Prim.Native.Nat.{ℕ, suc, _<_}
+use Prim.Native.Nat.{ℕ, zero, suc, _<_}
 use mathlib.Core.Path.{_≡_, refl, sym, ap, ap₂, _∙_, subst}
 use mathlib.Core.Logic.{_⊎_, inl, inr, ⊎-elim, _≢_}
 use mathlib.Core.Bool.{Bool, true, false, cond}
@@ -9,7 +9,7 @@ use native.Mathlib.Omega.{arith}
 use native.Mathlib.Decide.{ℕ-discrete}
 use lib.ListN.{length}
 use lib.Dec.{eqb}
-use borrow.Author.Tests.{eqb-true, eqb-false}
+use borrow.Author.Tests.{eqb-true, eqb-false, ne-eqb}
 use Rattle.model.specs.Slot.{numberOk}
 use Rattle.model.specs.State.{holds}
 use Rattle.model.specs.Table.{Table, Found, absent, present, lookup, contentsFound}
@@ -246,20 +246,84 @@ next-keeps C w t r b q = go (eqb (plainCode C w t r) 0) refl
     go true e = made-keeps r q (eqb-true (plainCode C w t r) 0 e)
     go false e = refl
 
-move-keeps : {C : Board} {w : Bool} {r : Request} {o : Seen} {x y : Promise} → Moves C w r o x y → (b : ℕ) (z : Found) → Spares b r → Shows x b z → Shows y b z
-move-keeps {C} {w} {r} (answers {t = t} k e) b z q h = next-keeps C w t r b q ∙ h
-move-keeps {C} {w} {r} (answers-again {t = t} k i e) b z q h = next-keeps C w t r b q ∙ h
-move-keeps (asks-recovery k i e) b z q h = h
-move-keeps (refuses-malformed n i e) b z q h = h
-move-keeps {x = x} (not-begun t k i e) b z q h = shows-held x t b z k h
-move-keeps {C} {w} {r} {x = x} (wholly-done t k i e) b z q h = next-keeps C w t r b q ∙ shows-held x t b z k h
-move-keeps (formats i e) b z q h = absurd (subst (λ (v : Request). Spares b v) i q)
-move-keeps (format-cut i e) b z q h = absurd (subst (λ (v : Request). Spares b v) i q)
-move-keeps (no-promise k) b z q h = absurd h
+-- what the table keeps of a block, the promise keeps
+move-keeps : {C : Board} {w : Bool} {r : Request} {o : Seen} {x y : Promise} → Moves C w r o x y → OnTable r → (b : ℕ) (z : Found) → ((t : Table) → lookup b (next C w t r) ≡ lookup b t)
+    → Shows x b z → Shows y b z
+move-keeps (answers {t = t} k e) on b z q h = q t ∙ h
+move-keeps (answers-again {t = t} k i e) on b z q h = q t ∙ h
+move-keeps (asks-recovery k i e) on b z q h = h
+move-keeps (refuses-malformed n i e) on b z q h = h
+move-keeps {x = x} (not-begun t k i e) on b z q h = shows-held x t b z k h
+move-keeps {x = x} (wholly-done t k i e) on b z q h = q t ∙ shows-held x t b z k h
+move-keeps {r = r} (formats i e) on b z q h = absurd (not-format r on i)
+move-keeps {r = r} (format-cut i e) on b z q h = absurd (not-format r on i)
+move-keeps (no-promise k) on b z q h = absurd h
+
+spares-on : (b : ℕ) (r : Request) → Spares b r → OnTable r
+spares-on b format q = absurd q
+spares-on b (put a c) q = tt
+spares-on b (delete a) q = tt
+spares-on b (read a) q = tt
+spares-on b (readOr a f) q = tt
+spares-on b recover q = tt
 
 pub runs-keep : (C : Board) (es : List Event) (x y : Promise) → PlainRuns C x es y → (b : ℕ) (z : Found) → AllSpare b es → Shows x b z → Shows y b z
 runs-keep C [] x y e b z q h = subst (λ (v : Promise). Shows v b z) (sym e) h
-runs-keep C (e ∷ es) x y (v, m, rest) b z q h = runs-keep C es v y rest b z (q .1) (move-keeps m b z (q .0) h)
+runs-keep C (e ∷ es) x y (v, m, rest) b z q h =
+    runs-keep C es v y rest b z (q .1) (move-keeps m (spares-on b (e .request) (q .0)) b z (λ t. next-keeps C (e .worn) t (e .request) b (q .0)) h)
+
+-- on version 1 every put leaves the block alone too: only a delete of it does not, and no format may come
+abbrev pub Undeleted : ℕ → Request → Type 0
+Undeleted b format = ⊥
+Undeleted b (put a c) = Unit {0}
+Undeleted b (delete a) = b ≢ a
+Undeleted b (read a) = Unit {0}
+Undeleted b (readOr a f) = Unit {0}
+Undeleted b recover = Unit {0}
+
+abbrev pub AllUndeleted : ℕ → List Event → Type 0
+AllUndeleted b [] = Unit {0}
+AllUndeleted b (e ∷ es) = Undeleted b (e .request) × AllUndeleted b es
+
+former-keeps : (C : Board) (w : Bool) (t : Table) (r : Request) (b : ℕ) → C .former ≡ true → Undeleted b r → lookup b (next C w t r) ≡ lookup b t
+former-keeps C w t format b f q = absurd q
+former-keeps C w t (put a c) b f q = ap (lookup b) refused-so
+  where
+    code : (m : ℕ) → eqb (cond (eqb m 0) 11 m) 0 ≡ false
+    code zero = refl
+    code (suc m) = rw (ne-eqb (suc m) 0 (λ e. omega arith)) (ne-eqb (suc m) 0 (λ e. omega arith))
+
+    refused-so : next C w t (put a c) ≡ t
+    refused-so = unfold next plainCode codeOnTable in (rw (f, code (malformed (put a c))))
+former-keeps C w t (delete a) b f q = next-keeps C w t (delete a) b q
+former-keeps C w t (read a) b f q = next-keeps C w t (read a) b tt
+former-keeps C w t (readOr a g) b f q = next-keeps C w t (readOr a g) b tt
+former-keeps C w t recover b f q = next-keeps C w t recover b tt
+
+undeleted-on : (b : ℕ) (r : Request) → Undeleted b r → OnTable r
+undeleted-on b format q = absurd q
+undeleted-on b (put a c) q = tt
+undeleted-on b (delete a) q = tt
+undeleted-on b (read a) q = tt
+undeleted-on b (readOr a f) q = tt
+undeleted-on b recover q = tt
+
+pub undeleted-none : (b : ℕ) (es : List Event) → AllUndeleted b es → NoFormat es
+undeleted-none b [] q = tt
+undeleted-none b (e ∷ es) q = (undeleted-on b (e .request) (q .0), undeleted-none b es (q .1))
+
+pub undeleted-front : (b : ℕ) (es ds : List Event) → AllUndeleted b (es ++ ds) → AllUndeleted b es
+undeleted-front b [] ds q = tt
+undeleted-front b (e ∷ es) ds q = (q .0, undeleted-front b es ds (q .1))
+
+pub none-front : (es ds : List Event) → NoFormat (es ++ ds) → NoFormat es
+none-front [] ds q = tt
+none-front (e ∷ es) ds q = (q .0, none-front es ds (q .1))
+
+pub former-runs-keep : (C : Board) (es : List Event) (x y : Promise) → C .former ≡ true → PlainRuns C x es y → (b : ℕ) (z : Found) → AllUndeleted b es → Shows x b z → Shows y b z
+former-runs-keep C [] x y f e b z q h = subst (λ (v : Promise). Shows v b z) (sym e) h
+former-runs-keep C (e ∷ es) x y f (v, m, rest) b z q h =
+    former-runs-keep C es v y f rest b z (q .1) (move-keeps m (undeleted-on b (e .request) (q .0)) b z (λ t. former-keeps C (e .worn) t (e .request) b f (q .0)) h)
 
 plain-done : (C : Board) (w : Bool) (t : Table) (r : Request) → plainCode C w t r ≡ 0 → next C w t r ≡ made t r
 unfolding next

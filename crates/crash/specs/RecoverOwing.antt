@@ -2,7 +2,7 @@
 use Prim.Native.Nat.{ℕ, zero, suc, _+_, _-_, _*_, _%_, _≤_, _<_}
 use mathlib.Core.Path.{_≡_, refl, sym, ap, ap₂, _∙_, subst}
 use mathlib.Core.Logic.{_⊎_, inl, inr, ⊎-elim, _≢_}
-use mathlib.Core.Bool.{true, cond, _||_, _&&_, false≢true}
+use mathlib.Core.Bool.{true, _||_, _&&_, false≢true}
 use mathlib.Core.List.{List, [], _∷_, _++_, append-assoc}
 use native.Mathlib.Omega.{arith}
 use native.Mathlib.Decide.{decLt}
@@ -17,7 +17,7 @@ use Rattle.model.specs.State.{Segment, blank, invalid, inUse, segmentOf, segmen
 use Rattle.model.specs.Steps.{onPage, headerAt, settle, eraseNext, unlessBlank, mendSteps}
 use Rattle.model.specs.Answers.{recover}
 use Rattle.model.specs.Histories.{recovered}
-use Rattle.model.specs.Laws.Lists.{and-left, mod-inj}
+use Rattle.model.specs.Laws.Lists.{and-left}
 use Rattle.model.specs.Laws.Chip.{size-facts, run-append, run-size, step-length, whole-cut, cut-append, cut-size}
 use Rattle.model.specs.Laws.Bytes.{compacted-bit, within-le, number-bytes, inverted-bytes, number-length, inverted-length, bytes-append, bytes-get, erased-get, erased-length}
 use Rattle.model.specs.Laws.HeaderPage.{number-fits, number-raised, clear-pending}

@@ -8,7 +8,7 @@ use lib.ListN.{length, getD, set}
 use lib.Seq.{set-set, set-getD, getD-set-same}
 use Rattle.model.specs.Chip.{Image, rightSize}
 use Rattle.model.specs.Header.{isFormer, allBlank}
-use Rattle.model.specs.State.{Segment, blank, invalid, segmentOf, segmentsOf, isInvalid, numberAfter, nextNumber, nextIndex, View, view, entriesIn, isClean, nextBlanked, isA, caseA, unfinished}
+use Rattle.model.specs.State.{Segment, blank, invalid, segmentOf, segmentsOf, isInvalid, numberAfter, nextNumber, nextIndex, View, view, isClean, nextBlanked, isA, caseA, unfinished}
 use Rattle.model.specs.Steps.{headerAt, topNumber}
 use Rattle.model.specs.Laws.Lists.{and-both}
 use Rattle.model.specs.Laws.HeaderPage.{bit-6-unused}

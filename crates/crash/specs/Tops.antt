@@ -1,13 +1,13 @@
 -- Two images with the same top: the number after it, and its version, with the tally.
-use Prim.Native.Nat.{ℕ, suc, _-_, _/_, _%_, _<_}
+use Prim.Native.Nat.{ℕ, _-_, _/_, _%_}
 use mathlib.Core.Path.{_≡_, refl, sym, ap, _∙_}
 use mathlib.Core.Bool.{Bool, true, false, cond}
-use mathlib.Core.List.{List, []}
+use mathlib.Core.List.{[]}
 use lib.ListN.{getD, set}
 use Rattle.model.specs.Chip.{Image}
 use Rattle.model.specs.Header.{allBlank}
 use Rattle.model.specs.Slot.{Slot}
-use Rattle.model.specs.State.{Segment, blank, invalid, segmentOf, segmentsOf, numberAfter, versionIn, nextNumber, topIndex, topVersion, withSlot}
+use Rattle.model.specs.State.{Segment, blank, invalid, segmentOf, segmentsOf, numberAfter, versionIn, nextNumber, topVersion, withSlot}
 use Rattle.model.specs.Laws.HeaderPage.{bit-6-unused}
 use Rattle.model.specs.Laws.Segments.{partOf, Only, only-segments}
 use Rattle.model.specs.Laws.Ring.{next-kept}

@@ -1,16 +1,15 @@
 -- Two histories on the smallest store, computed, and the theorem of each: each bound is reached.
-use Prim.Native.Nat.{ℕ, suc, _+_, _/_, _≤_, _<_}
+use Prim.Native.Nat.{ℕ, _+_, _/_, _≤_, _<_}
 use mathlib.Core.Path.{_≡_, refl}
-use mathlib.Core.Bool.{true, false}
+use mathlib.Core.Bool.{true}
 use mathlib.Core.List.{List, [], _∷_}
 use native.Mathlib.Omega.{arith}
 use lib.ListN.{replicate, take}
 use Rattle.model.specs.Chip.{Image, rightSize, pagesOf, withSegment, step, run}
-use Rattle.model.specs.Header.{tallyOf, noBitLeft}
-use Rattle.model.specs.State.{segmentsOf, nextNumber, topVersion, view}
+use Rattle.model.specs.State.{segmentsOf, view}
 use Rattle.model.specs.Steps.{formatSteps}
 use Rattle.model.specs.Answers.{Request, put, recover, workOf, outcomeOf}
-use Rattle.model.specs.Histories.{Seen, answered, Proper, bytesRead, replyOf}
+use Rattle.model.specs.Histories.{answered, Proper, bytesRead, replyOf}
 use Rattle.model.specs.Sequences.{Call, play, erasesIn}
 use Rattle.model.specs.Begun.{Turn, Turns, cutSeen, cutsIn, byRecovery, recoveryErases, begunOn}
 use Rattle.model.specs.Bench.{call, whole}

@@ -3,27 +3,27 @@ use Prim.Native.Nat.{ℕ, zero, suc, _+_, _-_, _/_, _%_, _≤_, _<_}
 use mathlib.Core.Path.{_≡_, refl, sym, ap, _∙_}
 use mathlib.Core.Logic.{_⊎_, inl, inr, ⊎-elim}
 use mathlib.Core.Bool.{Bool, true, false, cond, _||_, true≢false}
-use mathlib.Core.List.{List, [], _∷_, _++_, append-nil}
+use mathlib.Core.List.{List, [], _∷_, _++_}
 use native.Mathlib.Omega.{arith}
-use lib.ListN.{length, getD, take}
+use lib.ListN.{length, getD}
 use lib.Dec.{ltb, leb, eqb}
 use borrow.Author.Tests.{ltb-true, ltb-false}
 use Rattle.model.specs.Lists.{all, count}
 use Rattle.model.specs.Chip.{Image, Bytes, Step, erase, erased, rightSize, step, run, numberLimit, eraseLimit}
-use Rattle.model.specs.Header.{Version, newVersion, isFormer, bitValues, clearedIn, clearedBits, tallyOf, noBitLeft}
+use Rattle.model.specs.Header.{newVersion, isFormer, bitValues, clearedIn, clearedBits, tallyOf, noBitLeft}
 use Rattle.model.specs.Slot.{Entry}
 use Rattle.model.specs.State.{segmentsOf, nextNumber, topVersion, View, viewOf, view, entries, clean, state}
 use Rattle.model.specs.Steps.{topNumber, hasRoom, copyOut, compact, settle, nextVersion, Room, openNext, compactOldest, compactUntilRoom, roomFor, writeAtTop, markOld, newNumbers, isWorn}
 use Rattle.model.specs.Answers.{put, workOf}
 use Rattle.model.specs.Sequences.{erasesIn}
 use Rattle.model.specs.Begun.{CutBegun}
-use Rattle.model.specs.Laws.Chip.{run-append, run-size}
+use Rattle.model.specs.Laws.Chip.{run-size}
 use Rattle.model.specs.Laws.Bytes.{run-bytes}
 use Rattle.model.specs.Laws.Begun.{begun-cut, begun-append, begun-none, whole-begun}
 use Rattle.bridge.specs.Predicted.{afterPut, CleanView, Carries}
 use Rattle.bridge.specs.Views.Shape.{opened-top}
 use Rattle.bridge.specs.Views.Room.{tidied}
-use Rattle.bridge.specs.Accepted.{PutPassed, put-passed, accepted}
+use Rattle.bridge.specs.Accepted.{put-passed, accepted}
 use Rattle.bridge.specs.Held.{Held, held-top, held-of-clean, clean-view}
 use Rattle.bridge.specs.Done.{next-free, open-held}
 use Rattle.bridge.specs.Requests.{until-room, until-more, top-rises, carries-next, one-compaction, compacted-rows, put-valid, room-carries, roomed-below, roomed-held, roomed-clean, roomed-gap, after-clean, put-steps}
@@ -33,7 +33,7 @@ use Rattle.crash.specs.RecoverOwing.{rest-top}
 use Rattle.crash.specs.RoomOwing.{Full}
 use Rattle.crash.specs.RoomCuts.{open-left, copy-out-left, owed, rest-after, rest-last}
 use Rattle.crash.specs.WriteTop.{put-into-top}
-use Rattle.wear.specs.Erases.{open-none, copied-none, settle-none, compact-one, written-none}
+use Rattle.wear.specs.Erases.{open-none, copied-none, settle-none, written-none}
 use Rattle.tallied.specs.Counts.{turnsTo, turns-more, turns-one, Advances, advances-same, advances-trans}
 
 -- a new header carries the tally on

@@ -1,14 +1,13 @@
 -- A recovery, finished or cut: it gives no number, and while a bit is left it counts each erase that it has begun, and at most one.
 use Prim.Native.Nat.{ℕ, suc, _+_, _-_, _%_, _≤_, _<_}
-use mathlib.Core.Path.{_≡_, refl, sym, ap, _∙_, subst}
+use mathlib.Core.Path.{_≡_, refl, sym, ap, _∙_}
 use mathlib.Core.Logic.{_⊎_, inl, inr, ⊎-elim}
 use mathlib.Core.Bool.{Bool, true, false, cond, true≢false}
 use mathlib.Core.List.{List, [], _∷_, _++_}
 use native.Mathlib.Omega.{arith}
 use lib.ListN.{length, getD, set}
-use lib.Seq.{set-getD, getD-set-same}
+use lib.Seq.{getD-set-same}
 use lib.Dec.{eqb}
-use Rattle.model.specs.Lists.{all}
 use Rattle.model.specs.Chip.{Image, Bytes, Step, program, erase, rightSize, step, run, Cut}
 use Rattle.model.specs.Header.{Version, version1, version2, isFormer, tallyOf, noBitLeft}
 use Rattle.model.specs.Slot.{Slot}
@@ -17,7 +16,7 @@ use Rattle.model.specs.Steps.{headerAt, settle, highestBit, clearNext, countEra
 use Rattle.model.specs.Answers.{recover, workOf}
 use Rattle.model.specs.Sequences.{erasesIn}
 use Rattle.model.specs.Begun.{CutBegun}
-use Rattle.model.specs.Laws.Chip.{size-facts, run-size, whole-cut}
+use Rattle.model.specs.Laws.Chip.{size-facts}
 use Rattle.model.specs.Laws.Begun.{begun-cut, begun-append, begun-none}
 use Rattle.model.specs.Laws.Segments.{segments-length}
 use Rattle.model.specs.Laws.Effects.{index}
@@ -26,7 +25,7 @@ use Rattle.model.specs.Laws.Bits.{cleared-more, none-left}
 use Rattle.model.specs.Laws.Counted.{counted, tally-bytes, count-whole, count-run}
 use Rattle.bridge.specs.Accepted.{recover-none}
 use Rattle.crash.specs.Sound.{SoundAs, Sound, CutOf}
-use Rattle.crash.specs.Tops.{SameTop, same-image, same-trans}
+use Rattle.crash.specs.Tops.{SameTop, same-image}
 use Rattle.crash.specs.States.{recover-steps}
 use Rattle.crash.specs.RecoverCount.{top, top-below, counts}
 use Rattle.crash.specs.RecoverMarks.{top-c, top-d}

@@ -1,39 +1,38 @@
 -- The induction over histories: one lemma for each event, by what demand 2 knows of the image.
-use Prim.Native.Nat.{ℕ, zero, suc, _+_, _-_, _/_, _≤_, _<_}
+use Prim.Native.Nat.{ℕ, zero, suc, _+_, _-_, _≤_, _<_}
 use mathlib.Core.Path.{_≡_, refl, sym, ap, _∙_, subst}
-use mathlib.Core.Logic.{_⊎_, inl, inr, ⊎-elim}
+use mathlib.Core.Logic.{inl, inr}
 use mathlib.Core.Bool.{Bool, true, false, cond, true≢false}
 use mathlib.Core.List.{List, [], _∷_}
 use native.Mathlib.Omega.{arith}
-use lib.ListN.{length, take}
+use lib.ListN.{length}
 use lib.Dec.{eqb}
 use borrow.Author.Tests.{ne-eqb}
 use Rattle.model.specs.Lists.{count}
 use Rattle.model.specs.Chip.{Image, Bytes, rightSize, run, erased}
 use Rattle.model.specs.Header.{newVersion, isFormer, bitValues, clearedIn, clearedBits, tallyOf, noBitLeft}
-use Rattle.model.specs.State.{segmentsOf, nextNumber, topVersion, View, viewOf, view, State, clean, unfinished, damaged, state, distinct}
-use Rattle.model.specs.Steps.{formatSteps, topNumber}
-use Rattle.model.specs.Table.{tableOf}
+use Rattle.model.specs.State.{segmentsOf, nextNumber, topVersion, View, viewOf, view, State, clean, unfinished, damaged, state}
+use Rattle.model.specs.Steps.{formatSteps}
 use Rattle.model.specs.Answers.{Request, format, put, delete, read, readOr, recover, stepsFor, workOf, outcomeOf}
-use Rattle.model.specs.Histories.{Seen, answered, lost, Proper, Does, wears}
+use Rattle.model.specs.Histories.{Seen, answered, lost, Proper, Does}
 use Rattle.model.specs.Sequences.{erasesIn}
 use Rattle.model.specs.Begun.{CutBegun, DoesBegun, Turn, Turns, cutSeen, cutsIn, byRecovery, recoveryErases, begunOn}
 use Rattle.model.specs.Laws.Chip.{size-facts, run-size}
 use Rattle.model.specs.Laws.Begun.{begun-cut, begun-none, taken-begun}
 use Rattle.bridge.specs.Predicted.{fresh}
 use Rattle.bridge.specs.Accepted.{recover-none, accepted}
-use Rattle.bridge.specs.Held.{Held, held-top}
-use Rattle.bridge.specs.Format.{format-held, format-bytes}
-use Rattle.crash.specs.Machine.{Board, malformed, Promise, settled, interrupted, unknown, IsCut, OnTable, WantsRecovery, Holds, Moves, answers, answers-again, asks-recovery, refuses-malformed, not-begun, wholly-done, formats, format-cut, no-promise}
-use Rattle.crash.specs.Sound.{SoundAs, Sound, Clean, CutOf}
+use Rattle.bridge.specs.Held.{Held}
+use Rattle.bridge.specs.Format.{format-held}
+use Rattle.crash.specs.Machine.{Board, malformed, Promise, settled, interrupted, unknown, IsCut, OnTable, WantsRecovery, Moves, answers, answers-again, asks-recovery, refuses-malformed, not-begun, wholly-done, formats, format-cut, no-promise}
+use Rattle.crash.specs.Sound.{SoundAs, Sound, Clean}
 use Rattle.crash.specs.Requests.{refused-idle, read-idle, readOr-idle, Unfinished, code-unfinished}
 use Rattle.crash.specs.ReadingRuns.{Known, move-known}
 use Rattle.crash.specs.Skeleton.{Invariant, one-event, May, formatted-stores}
-use Rattle.crash.specs.Tops.{SameTop, same-image}
+use Rattle.crash.specs.Tops.{same-image}
 use Rattle.crash.specs.Delete.{delete-top}
 use Rattle.crash.specs.Theorem.{request-laws}
 use Rattle.wear.specs.Erases.{delete-none}
-use Rattle.tallied.specs.Law.{tallyIn, topIn, BitLeft, Unformatted, TallyTells}
+use Rattle.tallied.specs.Law.{tallyIn, BitLeft, Unformatted, TallyTells}
 use Rattle.tallied.specs.Counts.{turnsTo, turns-bound, Advances, advances-same}
 use Rattle.tallied.specs.Puts.{put-advances}
 use Rattle.tallied.specs.Recovers.{Recovers, recover-counts}

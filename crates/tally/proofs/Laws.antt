@@ -1,12 +1,11 @@
 -- Laws of the tally: bits of a byte, cleared bits counted, bytes that have none left, and the step that clears one more.
-use Prim.Native.Nat.{ℕ, zero, suc, _+_, _-_, _*_, _/_, _^_, _≤_, _<_}
+use Prim.Native.Nat.{ℕ, suc, _+_, _-_, _*_, _/_, _^_, _≤_, _<_}
 use mathlib.Core.Path.{_≡_, refl, sym, ap, _∙_}
 use mathlib.Core.Logic.{⊎-elim}
 use mathlib.Core.Bool.{Bool, true, false, cond, _&&_, false≢true}
 use mathlib.Core.List.{List, [], _∷_, _++_}
 use native.Mathlib.Nat.{add-zero, zero-add}
 use native.Mathlib.Numerals.{add-one}
-use native.Mathlib.Decide.{decLt}
 use native.Mathlib.Omega.{arith}
 use lib.ListN.{length, getD, take, drop, length-drop, drop-of-length-le}
 use lib.Seq.{drop-cons, take-all, getD-drop, length-take-le}
@@ -18,7 +17,7 @@ use Rattle.model.specs.Chip.{Image, Page, Step, program}
 use Rattle.model.specs.Header.{Version, version1, version2, isFormer, bitValues, clearedIn, clearedBits, tallyOf, noBitLeft, headerVersion, isBlank}
 use Rattle.model.specs.Steps.{onPage, headerAt, highestOf, highestBit, clearNext, countErase}
 use Rattle.model.specs.Laws.Lists.{and-left, and-right}
-use Rattle.model.specs.Laws.Bytes.{allBelow}
+use Rattle.model.specs.Laws.Bytes.{below, allBelow}
 use Rattle.flash.specs.Ran.{Programmed, Within}
 use Rattle.flash.specs.Pages.{Sized}
 use Rattle.flash.proofs.Laws.{ran-none}
@@ -30,26 +29,17 @@ use Rattle.tally.specs.declared.Tally.{Tally}
 
 -- ---- bytes
 
--- what was computed of each byte
-every : (f : ℕ → Bool) (n : ℕ) → allBelow f n ≡ true → (x : ℕ) → x < n → f x ≡ true
-unfolding allBelow
-every f zero t x h = absurd (omega arith)
-every f (suc n) t x h = elim (decLt x n) [
-  | yes l ↦ every f n (and-right (f n) (allBelow f n) t) x l
-  | no g ↦ (let e : n ≡ x = omega arith in rw (← e) (and-left (f n) (allBelow f n) t))
-]
-
 pub cleared-or-set : (x : ℕ) → x < 256 → clearedIn x + ones x ≡ 8
 unfolding allBelow clearedIn bitValues count ones onesIn
-cleared-or-set x h = eqb-true (clearedIn x + ones x) 8 (every (λ y. eqb (clearedIn y + ones y) 8) 256 refl x h)
+cleared-or-set x h = eqb-true (clearedIn x + ones x) 8 (below (λ y. eqb (clearedIn y + ones y) 8) 256 refl x h)
 
 pub highest-shift : (x : ℕ) → x < 256 → 128 / 2 ^ leadingZeros 8 x ≡ highestBit x
 unfolding allBelow highestBit highestOf bitValues leadingZeros
-highest-shift x h = eqb-true (128 / 2 ^ leadingZeros 8 x) (highestBit x) (every (λ y. eqb (128 / 2 ^ leadingZeros 8 y) (highestBit y)) 256 refl x h)
+highest-shift x h = eqb-true (128 / 2 ^ leadingZeros 8 x) (highestBit x) (below (λ y. eqb (128 / 2 ^ leadingZeros 8 y) (highestBit y)) 256 refl x h)
 
 pub highest-most : (x : ℕ) → x < 256 → highestBit x ≤ x
 unfolding allBelow highestBit highestOf bitValues
-highest-most x h = leb-true (highestBit x) x (every (λ y. leb (highestBit y) y) 256 refl x h)
+highest-most x h = leb-true (highestBit x) x (below (λ y. leb (highestBit y) y) 256 refl x h)
 
 pub leading-less : (x : ℕ) → 0 < x → x < 256 → leadingZeros 8 x < 8
 leading-less x p h = omega (arith, leading-top 8 x p h .1)

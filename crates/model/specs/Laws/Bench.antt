@@ -13,7 +13,7 @@ use Rattle.model.specs.Slot.{mostContents, numberOk, slotPage, pageBlock
 use Rattle.model.specs.State.{segmentOf, segmentsFrom, segmentsOn, segmentsOf, isInUse, isInvalid, isOwing, numberAfter, slotsIn, versionIn, ofVersion, nextNumber, topIndex, nextIndex, topSlots, topVersion, usedCount, firstNumber, slotsFrom, viewOf, entries, entriesIn, someInUse, numbersFrom, consecutive, oneVersion, noneOwing, othersBlank, noneWrongOrTorn, holds, distinct, blocksDistinct, emptyLast, onlyTopEmpty, emptySlotsLast, capacity, withinCapacity, conditions, isClean, nextBlanked, isA, settled, topSettled, isB, withSlot, filled, lastSlot, lastKind, tornMarked, isC, slotFrom, placeFrom, placeOf, blockIn, lastBlock, copies, older, olderMarked, isD, stateOf, view}
 use Rattle.model.specs.Steps.{programs, programPart, onPage, headerAt, slotAt, writeSlot, markDead, markPlace, openSegment, copyEntries, copyOut, settle, compact, topRow, topNumber, hasRoom, firstEmpty, copied, nextVersion, openNext, compactOldest, compactUntilRoom, roomFor, markOld, writeAtTop, putSteps, deleteSteps, eraseFirst, formatSteps, highestOf, highestBit, clearNext, countErase, eraseNext, unlessBlank, mendSteps, recoverSteps, compactions, newNumbers, isWorn}
 use Rattle.model.specs.Table.{lookup, contentsFound}
-use Rattle.model.specs.Answers.{Request, format, read, recover, Work, firstOf, isDamaged, isUnfinished, lengthOk, isFull, absentRefusals, refusals, stepsFor, workOn, workOf, codeUnder, outcomeOf, ReadOutcome, contentsAt, readOutcome}
+use Rattle.model.specs.Answers.{Request, read, recover, Work, firstOf, isDamaged, isUnfinished, lengthOk, isFull, absentRefusals, refusals, stepsFor, workOn, workOf, codeUnder, outcomeOf, ReadOutcome, contentsAt, readOutcome}
 use Rattle.model.specs.Sequences.{Call, play, erasesIn, Observed, observe, observed, among, removed, inserted, storedAfter, replaces, start, tallied, tally, eraseCount}
 use Rattle.model.specs.Pages.{programPage, stepPages, runPages}
 use Rattle.model.specs.Bench.{call, whole, Setup, andThen, recording, recorded, left, Bench, bench, Example, sizes, olds, begins, answers, reads, counts, cuts, contentsIn, isCleanIn, cutHolds, exampleHolds, failing, upFrom, putEach, examples}

@@ -9,10 +9,10 @@ use lib.ListN.{length, getD, set, length-append}
 use lib.Seq.{set-getD, set-append-seam, getD-at, getD-append-add}
 use lib.Dec.{eqb}
 use Rattle.model.specs.Lists.{all}
-use Rattle.model.specs.Chip.{Image, Page, Bytes, pagesOf, Step, program, erased, clear, step, run, mostSegments, numberLimit, imageLength, Cut}
-use Rattle.model.specs.Header.{numberBytes, inverted, Version, version1, version2, isFormer, versionNumber, totalFits, tallyBytes, headerPage, headerStatus, headerNumber, headerVersion, oldIndex}
+use Rattle.model.specs.Chip.{Image, Page, Bytes, pagesOf, program, erased, clear, step, run, mostSegments, numberLimit, imageLength, Cut}
+use Rattle.model.specs.Header.{numberBytes, inverted, Version, version1, version2, versionNumber, totalFits, tallyBytes, headerPage, headerStatus, headerNumber, oldIndex}
 use Rattle.model.specs.Slot.{Slot}
-use Rattle.model.specs.State.{Segment, blank, invalid, inUse, segmentOf, segmentsOf, isInUse, isInvalid, isOwing, numberAfter, slotsIn, versionIn, ofVersion, nextNumber, topIndex, topVersion, usedCount, firstNumber, viewOf, entriesIn, someInUse, consecutive, noneOwing, othersBlank, noneWrongOrTorn, blocksDistinct, emptySlotsLast, withinCapacity, conditions, isClean}
+use Rattle.model.specs.State.{Segment, blank, invalid, inUse, segmentOf, segmentsOf, isInUse, isInvalid, isOwing, numberAfter, slotsIn, versionIn, ofVersion, nextNumber, usedCount, firstNumber, viewOf, entriesIn, someInUse, consecutive, noneOwing, othersBlank, noneWrongOrTorn, blocksDistinct, emptySlotsLast, withinCapacity, conditions, isClean}
 use Rattle.model.specs.Steps.{onPage, headerAt, highestBit, clearNext, countErase}
 use Rattle.model.specs.Laws.Lists.{all-same}
 use Rattle.model.specs.Laws.Bytes.{chunk-bytes, bytes-behind}
@@ -22,7 +22,7 @@ use Rattle.model.specs.Laws.HeaderPage.{in-use-facts}
 use Rattle.model.specs.Laws.PageCuts.{one-bit-cut}
 use Rattle.model.specs.Laws.Segments.{partOf, part-page, part-size, page-size, page-byte, segment-at, Only, only-refl, only-segments}
 use Rattle.model.specs.Laws.Effects.{InUseParts, in-use-parts, headed, place, header-only, header-run, header-cut}
-use Rattle.model.specs.Laws.Ring.{get-kept, next-kept, used-kept, numbers-kept, slots-kept}
+use Rattle.model.specs.Laws.Ring.{next-kept, used-kept, numbers-kept, slots-kept}
 use Rattle.model.specs.Laws.View.{one-kept}
 
 -- ---- within the page
