@@ -4,6 +4,7 @@ use mathlib.Core.Path.{_≡_}
 use mathlib.Core.List.{List, _∷_, _++_, map, append-assoc}
 use lib.ListN.{length, drop}
 use Rattle.model.specs.Chip.{Image, erase}
+use Rattle.model.specs.Header.{Version, newVersion}
 use Rattle.model.specs.Slot.{slotOf, Entry}
 use Rattle.model.specs.State.{entries}
 use Rattle.model.specs.Steps.{copyEntries, compact, settle}
@@ -28,13 +29,13 @@ pub record Copied (N B o n budget left count : ℕ) (from to : Image) : Type 0 w
   pub ran : Programmed (copyEntries N B n 0 (liveEntries N B o from)) budget left from to
   pub counted : count ≡ length (liveEntries N B o from)
 
--- the whole compaction
-pub record Compaction (N B o n budget left count : ℕ) (from to : Image) : Type 0 where
-  pub ran : Ran (compact N B o n (liveEntries N B o from)) B budget left from to
+-- the whole compaction, whose target gets a new header with this total
+pub record Compaction (N B total o n budget left count : ℕ) (from to : Image) : Type 0 where
+  pub ran : Ran (compact N B (newVersion total) o n (liveEntries N B o from)) B budget left from to
   pub counted : count ≡ length (liveEntries N B o from)
 
 -- the steps of a compaction part by part: the old segment is erased after the copying is finished and before the last step
-pub compact-parts : (N B o n : ℕ) (es : List Entry)
-    → compact N B o n es ≡ beginCompaction N B o n ++ (copyEntries N B n 0 es ++ (finishCopy N B o n ++ (erase (o % N) ∷ settle N B n)))
+pub compact-parts : (N B : ℕ) (e : Version) (o n : ℕ) (es : List Entry)
+    → compact N B e o n es ≡ beginCompaction N B e o n ++ (copyEntries N B n 0 es ++ (finishCopy N B e o n ++ (erase (o % N) ∷ settle N B n)))
 unfolding compact
-compact-parts N B o n es = rw (copy-out-parts N B o n es) (simp append-assoc)
+compact-parts N B e o n es = rw (copy-out-parts N B e o n es) (simp append-assoc)

@@ -9,22 +9,24 @@ use native.Mathlib.Omega.{arith}
 use lib.ListN.{length, getD, replicate, length-append}
 use lib.Seq.{take-all}
 use lib.Dec.{ltb}
-use borrow.Author.Tests.{lt-ltb, le-ltb, ltb-true, ltb-false, leb-false}
-use Rattle.model.specs.Lists.{all}
-use Rattle.model.specs.Chip.{Image, Bytes, Step, numberLimit, mostSegments, run}
+use borrow.Author.Tests.{lt-ltb, le-ltb, ltb-true, ltb-false}
+use Rattle.model.specs.Lists.{all, count}
+use Rattle.model.specs.Chip.{Image, Bytes, Step, erased, numberLimit, mostSegments, run}
+use Rattle.model.specs.Header.{newVersion, isFormer, bitValues, clearedIn, clearedBits, tallyOf}
 use Rattle.model.specs.Slot.{Slot, empty, isEmpty}
 use Rattle.model.specs.State.{View, entries, clean, state, view}
-use Rattle.model.specs.Steps.{topRow, topNumber, hasRoom, firstEmpty, openSegment, compact, copied, openNext, compactOldest, roomFor, compactions, newNumbers, isWorn}
+use Rattle.model.specs.Steps.{topRow, topNumber, hasRoom, firstEmpty, openSegment, compact, copied, nextVersion, openNext, compactOldest, roomFor, compactions, newNumbers, isWorn}
 use Rattle.model.specs.Laws.Chip.{size-facts}
 use Rattle.model.specs.Laws.Ring.{apart-before}
 use Rattle.model.specs.Laws.Segments.{partOf, segment-at}
 use Rattle.model.specs.Laws.Effects.{in-use-parts}
-use Rattle.bridge.specs.Predicted.{Rows, CleanView}
+use Rattle.bridge.specs.Predicted.{Rows, CleanView, Carries}
 use Rattle.bridge.specs.Held.{Held, held-of-clean, clean-view, held-row}
 use Rattle.bridge.specs.Requests.{held-below}
 use Rattle.bridge.specs.TimesDone.{times-number, times-held}
 use Rattle.bridge.specs.Views.Slots.{full, top-row, copied-full}
 use Rattle.bridge.specs.Views.Room.{compactions-some, compactions-length, room-made, some-dead}
+use Rattle.bridge.specs.Views.Requests.{room-numbered, worn-carries}
 use Rattle.bridge.specs.Views.Times.{compactTimes, Needs, after-times, room-times, copied-empty, times-top}
 use Rattle.flash.specs.Ran.{Ran, Programmed}
 use Rattle.flash.proofs.Laws.{ran-none}
@@ -70,8 +72,14 @@ live-row N B s v h some =
     let r = rw z at (held-row N B s v h 0 some) in
     let p : 0 < N = omega (arith, size-facts N B s (h .size) .two) in
     let i = mod-lt (v .first) p in
-    let u = in-use-parts N B (v .first % N) (partOf N B (v .first % N) s) (r .0) (v .first) (getD (v .slots) 0 []) (sym (segment-at N B (v .first % N) s i) ∙ r .1) in
+    let u = in-use-parts N B (v .first % N) (partOf N B (v .first % N) s) (r .0) (r .1) (v .first) (getD (v .slots) 0 []) (sym (segment-at N B (v .first % N) s i) ∙ r .2) in
     ap entries (u .slots)
+
+-- each compaction carries the same total on: the header before has no bit cleared
+times-tally : (N B i : ℕ) (v : View) → tallyOf (compactTimes N B i v .result .version) ≡ tallyOf (v .version)
+unfolding compactTimes compactOldest nextVersion newVersion tallyOf clearedBits clearedIn bitValues count erased
+times-tally N B zero v = refl
+times-tally N B (suc i) v = omega (arith, times-tally N B i v)
 
 -- ---- a plan
 
@@ -149,12 +157,12 @@ module _ (N B : ℕ) (p : Plan) (s : Image) (k : Planned N B p s) where
   few-used : p .used + 1 < N → ltb (length (v .slots)) (N - 1) ≡ true
   few-used h = lt-ltb (length (v .slots)) (N - 1) (omega (arith, k .used))
 
-  pub room-opened : (budget n : ℕ) (r : Room) {t : Image} → B ≤ p .slot → p .used + 1 < N → n ≡ p .first .0 + p .used → r .first .0 ≡ p .first .0 → r .used ≡ p .used + 1 → r .slot ≡ 0
-      → Programmed (openSegment N B n) budget (r .left) s t → Roomed N B budget r s t
-  unfolding roomFor openNext
-  room-opened budget n r {t} h u e f g j d =
+  pub room-opened : (budget total n : ℕ) (r : Room) {t : Image} → total ≡ tallyOf (view N B s .version) → B ≤ p .slot → p .used + 1 < N → n ≡ p .first .0 + p .used → r .first .0 ≡ p .first .0 → r .used ≡ p .used + 1 → r .slot ≡ 0
+      → Programmed (openSegment N B (newVersion total) n) budget (r .left) s t → Roomed N B budget r s t
+  unfolding roomFor openNext nextVersion
+  room-opened budget total n r {t} tally h u e f g j d =
       let top : n ≡ suc (topNumber v) = e ∙ top-is in record {
-        ran = rw (no-room h, few-used u) (rw top at (d B));
+        ran = rw (no-room h, few-used u) (rw (top, tally) at (d B));
         first = rw (no-room h, few-used u) (f ∙ k .first);
         used = rw (no-room h, few-used u) (omega (arith, g, k .used, length-append (v .slots) (replicate B empty ∷ [])));
         slot = λ z. rw (no-room h, few-used u) (j ∙ sym (ap firstEmpty (top-row (v .slots) (replicate B empty)) ∙ empty-first B));
@@ -162,7 +170,7 @@ module _ (N B : ℕ) (p : Plan) (s : Image) (k : Planned N B p s) where
 
   -- ---- compactions
 
-  module _ (bytes : Bytes s) (fresh : isWorn N (view N B s) ≡ false) (f : Full N B p) where
+  module _ (bytes : Bytes s) (second : isFormer (view N B s .version) ≡ false) (fresh : isWorn N (view N B s) ≡ false) (f : Full N B p) where
     pub none-left : hasRoom v ≡ false
     none-left = no-room (f .top)
 
@@ -175,9 +183,15 @@ module _ (N B : ℕ) (p : Plan) (s : Image) (k : Planned N B p s) where
     needs : Needs N B v
     needs = record { clean = plan-clean; none = none-left; dead = some-dead N B two slots-two v plan-clean none-left (omega (arith, rows-full)) }
 
+    carries : Carries v
+    carries = worn-carries N B two slots-two v second fresh none-left
+
     pub below : topNumber v + compactions (v .slots) < numberLimit N
-    unfolding isWorn newNumbers
-    below = leb-false (numberLimit N) (topNumber v + compactions (v .slots)) (rw (none-left, not-few) at (fresh))
+    unfolding newNumbers
+    below =
+        let n = room-numbered N B two slots-two v plan-clean fresh (held-below N B s v plan-held plan-clean) in
+        let e = rw (none-left, not-few) at (room-made N B two slots-two v plan-clean .number) in
+        omega arith
 
     -- the top was full of a row's entries but for one slot or more
     last-short : (j : ℕ) → suc j ≡ compactions (v .slots) → length (entries (getD (v .slots) j [])) < B
@@ -215,7 +229,7 @@ module _ (N B : ℕ) (p : Plan) (s : Image) (k : Planned N B p s) where
       found : (o : ℕ) → o ≡ p .first .0 + i → length xs ≤ budget → liveEntries N B o t ≡ entries (getD (w .slots) 0 [])
       found o e h =
           let a = after-times N B v needs i (omega (arith, within)) in
-          let held = times-held N B s v plan-held (bytes) needs rows-full below i (omega (arith, within)) in
+          let held = times-held N B s v plan-held bytes needs rows-full carries below i (omega (arith, within)) in
           let first : o ≡ w .first = omega (arith, a .first, k .first) in
           let done : t ≡ run B xs s = d .ran .image ∙ ap (λ (y : List Step). run B y s) (take-all budget xs h) in
           rw (first, done) (live-row N B (run B xs s) w held (omega (arith, a .rows, plan-clean .some)))
@@ -226,15 +240,16 @@ module _ (N B : ℕ) (p : Plan) (s : Image) (k : Planned N B p s) where
           let z : i + 0 ≡ i = omega arith in
           rw z at (a .left 0 (omega (arith, within, compactions-length (v .slots))))
 
-      pub compacting-next : (o n left₁ count : ℕ) {u : Image} → o ≡ p .first .0 + i → n ≡ p .first .0 + (p .used + i) → Compaction N B o n left left₁ count t u
-          → Compacting N B p s budget (i + 1) left₁ count u
-      unfolding compactTimes compactOldest
-      compacting-next o n left₁ count {u} eo en c =
+      pub compacting-next : (total o n left₁ count : ℕ) {u : Image} → total ≡ tallyOf (view N B s .version) → o ≡ p .first .0 + i → n ≡ p .first .0 + (p .used + i)
+          → Compaction N B total o n left left₁ count t u → Compacting N B p s budget (i + 1) left₁ count u
+      unfolding compactTimes compactOldest nextVersion
+      compacting-next total o n left₁ count {u} tally eo en c =
           let a = after-times N B v needs i (omega (arith, within)) in
           let first : o ≡ w .first = omega (arith, a .first, k .first) in
-          let next : n ≡ suc (topNumber w) = omega (arith, times-number N B s v plan-held (bytes) needs rows-full below i (omega (arith, within)), top-is) in
-          let same : length xs ≤ budget → compact N B o n (liveEntries N B o t) ≡ compact N B (w .first) (suc (topNumber w)) (entries (getD (w .slots) 0 [])) =
-          (λ h. rw (found o eo h, first, next)) in record {
+          let next : n ≡ suc (topNumber w) = omega (arith, times-number N B s v plan-held bytes needs rows-full carries below i (omega (arith, within)), top-is) in
+          let carried : total ≡ tallyOf (w .version) = tally ∙ sym (times-tally N B i v) in
+          let same : length xs ≤ budget → compact N B (newVersion total) o n (liveEntries N B o t) ≡ compact N B (newVersion (tallyOf (w .version))) (w .first) (suc (topNumber w)) (entries (getD (w .slots) 0 [])) =
+          (λ h. rw (found o eo h, carried, first, next)) in record {
             bound = omega arith;
             ran = rw add-one (then-list-if-whole (d .ran) (c .ran) same);
             last = λ h j e.

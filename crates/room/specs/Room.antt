@@ -4,6 +4,7 @@ use mathlib.Core.Path.{_≡_}
 use mathlib.Core.Bool.{true, false}
 use lib.ListN.{length}
 use Rattle.model.specs.Chip.{Image, Bytes, rightSize}
+use Rattle.model.specs.Header.{isFormer, tallyOf}
 use Rattle.model.specs.State.{entriesIn, clean, state, view}
 use Rattle.model.specs.Steps.{topRow, firstEmpty, roomFor, compactions, isWorn}
 use Rattle.flash.specs.Ran.{Ran}
@@ -20,11 +21,13 @@ pub record Planned (N B : ℕ) (p : Plan) (s : Image) : Type 0 where
   pub live : p .live ≡ length (entriesIn (view N B s))
   pub compactions : p .compactions ≡ compactions (view N B s .slots)
 
--- an image of bytes, where a put is not refused as worn
-pub record Writable (N B : ℕ) (p : Plan) (s : Image) : Type 0 where
+-- an image of bytes, of version 2, where a put is not refused as worn; and the tally, which new headers carry on
+pub record Writable (N B : ℕ) (p : Plan) (total : ℕ) (s : Image) : Type 0 where
   pub plan : Planned N B p s
   pub bytes : Bytes s
+  pub second : isFormer (view N B s .version) ≡ false
   pub fresh : isWorn N (view N B s) ≡ false
+  pub tally : total ≡ tallyOf (view N B s .version)
 
 -- no slot is empty, and only one segment is not in use
 pub record Full (N B : ℕ) (p : Plan) : Type 0 where

@@ -38,7 +38,7 @@ returns c =
     let copied = pending .before .before .before .before in
     let begun = copied .before .before .before .before in
     let a = begun .before .before .before in
-    compaction-done (a .args .segments) (a .args .slots) (a .args .old .0) (a .args .number .0) (clears .before .index-of .result) (a .args .budget) (a .pre .0) (a .pre .1)
+    compaction-done (a .args .segments) (a .args .slots) (a .args .total) (a .args .old .0) (a .args .number .0) (clears .before .index-of .result) (a .args .budget) (a .pre .0) (a .pre .1)
     (clears .before .index-of .ensures .0) (begun .begin-compaction .ensures) (copied .copy-live .ensures) (pending .finish-copy .ensures) (clears .erase-segment .ensures) (last .settle .ensures)
 
 pub compact-segment-spec : {M : Type 1} → statement M

@@ -10,15 +10,15 @@ use Rattle.room.proofs.compact_oldest.Statement.{statement}
 use Rattle.room.proofs.compact_oldest.Tie as tie
 
 abbrev Inv-loop : tie.InvT-loop
-Inv-loop image₀ segments slots plan budget left₀ slot₀ i₀ image left slot i = Compacting segments slots plan image₀ budget i left slot image
+Inv-loop image₀ segments slots plan total budget left₀ slot₀ i₀ image left slot i = Compacting segments slots plan image₀ budget i left slot image
 
 abbrev μ-loop : tie.MeasureT-loop
-μ-loop image₀ segments slots plan budget left₀ slot₀ i₀ image left slot i = plan .compactions - i
+μ-loop image₀ segments slots plan total budget left₀ slot₀ i₀ image left slot i = plan .compactions - i
 
 loop-holds : tie.Need-loop-holds Inv-loop μ-loop
 loop-holds c =
     let a = c .before in
-    compacting-start (a .args .segments) (a .args .slots) (a .args .plan) (now (a .args .image)) (a .pre .0 .plan) (a .pre .0 .bytes) (a .pre .0 .fresh) (a .pre .1) (a .args .budget)
+    compacting-start (a .args .segments) (a .args .slots) (a .args .plan) (now (a .args .image)) (a .pre .0 .plan) (a .pre .0 .bytes) (a .pre .0 .second) (a .pre .0 .fresh) (a .pre .1) (a .args .budget)
 
 after-requires : tie.Need-after-requires Inv-loop μ-loop
 after-requires c κs =
@@ -43,7 +43,7 @@ compact-segment-requires c κs =
     let a = c .before .before .before .before .before .before .before .before in
     let l = c .before .before .before .before .before .before .loop in (
       rw (ran-length (l .inv .ran)) (plan-sized (a .args .segments) (a .args .slots) (a .args .plan) (now (a .args .image)) (a .pre .0 .plan)),
-      targets-apart (a .args .segments) (a .args .slots) (a .args .plan) (now (a .args .image)) (a .pre .0 .plan) (a .pre .0 .bytes) (a .pre .0 .fresh) (a .pre .1) (l .i) _ _ (c .before .before .before .after .ensures) (c .before .after2 .ensures),
+      targets-apart (a .args .segments) (a .args .slots) (a .args .plan) (now (a .args .image)) (a .pre .0 .plan) (a .pre .0 .bytes) (a .pre .0 .second) (a .pre .0 .fresh) (a .pre .1) (l .i) _ _ (c .before .before .before .after .ensures) (c .before .after2 .ensures),
     )
 
 add-i : tie.Need-add-i Inv-loop μ-loop
@@ -59,8 +59,8 @@ loop-again : tie.Need-loop-again Inv-loop μ-loop
 loop-again c =
     let a = c .before .before .before .before .before .before .before .before .before .before .before in
     let l = c .before .before .before .before .before .before .before .before .before .loop in
-    compacting-next (a .args .segments) (a .args .slots) (a .args .plan) (now (a .args .image)) (a .pre .0 .plan) (a .pre .0 .bytes) (a .pre .0 .fresh) (a .pre .1) (a .args .budget) (l .i) (l .left) (l .slot) _ (l .inv) (c .before .before .before .before .before .before .before .if1 .taken)
-    _ _ _ _ (c .before .before .before .before .before .before .after .ensures) (c .before .before .before .before .after2 .ensures) (c .before .before .compact-segment .ensures)
+    compacting-next (a .args .segments) (a .args .slots) (a .args .plan) (now (a .args .image)) (a .pre .0 .plan) (a .pre .0 .bytes) (a .pre .0 .second) (a .pre .0 .fresh) (a .pre .1) (a .args .budget) (l .i) (l .left) (l .slot) _ (l .inv) (c .before .before .before .before .before .before .before .if1 .taken)
+    _ _ _ _ _ (a .pre .0 .tally) (c .before .before .before .before .before .before .after .ensures) (c .before .before .before .before .after2 .ensures) (c .before .before .compact-segment .ensures)
 
 after-requires-3 : tie.Need-after-requires-3 Inv-loop μ-loop
 after-requires-3 c κs =
@@ -76,7 +76,7 @@ returns : tie.Need-returns Inv-loop μ-loop
 returns c =
     let a = c .before .before .before .before .before in
     let l = c .before .before .before .loop in
-    compacting-end (a .args .segments) (a .args .slots) (a .args .plan) (now (a .args .image)) (a .pre .0 .plan) (a .pre .0 .bytes) (a .pre .0 .fresh) (a .pre .1) (a .args .budget) (l .i) (l .left) (l .slot) _ (l .inv) (c .before .if1 .left) refl refl (c .after3 .ensures) refl
+    compacting-end (a .args .segments) (a .args .slots) (a .args .plan) (now (a .args .image)) (a .pre .0 .plan) (a .pre .0 .bytes) (a .pre .0 .second) (a .pre .0 .fresh) (a .pre .1) (a .args .budget) (l .i) (l .left) (l .slot) _ (l .inv) (c .before .if1 .left) refl refl (c .after3 .ensures) refl
 
 pub compact-oldest-spec : {M : Type 1} → statement M
 compact-oldest-spec =

@@ -29,8 +29,8 @@ open-header-requires c κs =
     let a = c .before .before .before .before .before .before .before in
     plan-sized (a .args .segments) (a .args .slots) (a .args .plan) (now (a .args .image)) (a .pre .plan)
 
-add-t14 : tie.Need-add-t14
-add-t14 c = search needs
+add-t15 : tie.Need-add-t15
+add-t15 c = search needs
 
 same-length : tie.Need-same-length
 same-length c = search needs
@@ -38,7 +38,7 @@ same-length c = search needs
 returns-2 : tie.Need-returns-2
 returns-2 c =
     let a = c .before .before .before .before .before .before .before .before .before .before in
-    room-opened (a .args .segments) (a .args .slots) (a .args .plan) (now (a .args .image)) (a .pre .plan) (a .args .budget) _ _ (c .before .before .before .before .before .before .if1 .left) (c .before .before .before .before .before .if2 .taken) (c .before .before .before .after .ensures) refl refl refl (c .before .before .open-header .ensures)
+    room-opened (a .args .segments) (a .args .slots) (a .args .plan) (now (a .args .image)) (a .pre .plan) (a .args .budget) _ _ _ (a .pre .tally) (c .before .before .before .before .before .before .if1 .left) (c .before .before .before .before .before .if2 .taken) (c .before .before .before .after .ensures) refl refl refl (c .before .before .open-header .ensures)
 
 compact-oldest-requires : tie.Need-compact-oldest-requires
 compact-oldest-requires c κs = search needs
@@ -57,7 +57,7 @@ make-room-spec =
     add-if2
     after-requires
     open-header-requires
-    add-t14
+    add-t15
     same-length
     returns-2
     compact-oldest-requires
