@@ -20,9 +20,6 @@ returns c =
 sub-t8 : tie.Need-sub-t8
 sub-t8 c = search needs
 
-cast-t9 : tie.Need-cast-t9
-cast-t9 c = search needs
-
 tally-in-requires : tie.Need-tally-in-requires
 tally-in-requires c κs = right-size _ _ _ (c .before .before .before .before .before .pre) .0
 
@@ -41,6 +38,10 @@ returns-3 c =
     let t = c .before .tally-in in
     let k = top-told (a .segments) (a .slots) (now (a .image)) (right-size _ _ _ (s .pre) .0 .some) _ (c .before .before .before .before .before .see-headers .ensures .0) (c .before .before .before .if1 .left) (t .result) (t .ensures .0) in
     rw (c .if2 .left) at k
+
+-- a range, behind what says which header is read
+cast-t9 : tie.Need-cast-t9
+cast-t9 c = search needs
 
 pub see-top-spec : {M : Type 1} → statement M
 see-top-spec =
