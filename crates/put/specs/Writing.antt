@@ -1,11 +1,12 @@
 -- A put on a clean image: what it is refused for, and its parts.
-use Prim.Native.Nat.{ℕ, _+_, _-_, _≤_, _<_}
+use Prim.Native.Nat.{ℕ, _+_, _-_, _/_, _≤_, _<_}
 use mathlib.Core.Path.{_≡_}
 use mathlib.Core.Bool.{Bool, true, false, cond, _||_, _&&_, not}
 use mathlib.Core.List.{List, _++_}
 use lib.ListN.{length}
 use lib.Dec.{ltb, leb}
-use Rattle.model.specs.Chip.{Image, Bytes, Step, mostSegments, numberLimit, rightSize}
+use Rattle.model.specs.Chip.{Image, Bytes, Step, mostSegments, eraseLimit, rightSize}
+use Rattle.model.specs.Header.{isFormer, tallyOf}
 use Rattle.model.specs.Slot.{numberOk}
 use Rattle.model.specs.State.{View, view, capacity, clean, state}
 use Rattle.model.specs.Steps.{topRow, firstEmpty, writeAtTop, markOld, isWorn}
@@ -17,12 +18,13 @@ use Rattle.find.specs.declared.Found.{Found}
 use Rattle.find.specs.declared.Found.the-variants.{At, Nothing}
 use Rattle.find.specs.Search.{rowsAt, foundIn}
 use Rattle.flash.specs.Ran.{Ran}
+use Rattle.tally.specs.declared.Tally.{Tally}
 use Rattle.room.specs.declared.Plan.{Plan}
 use Rattle.room.specs.declared.Room.{Room}
 use Rattle.room.specs.Room.{Planned}
 use Rattle.request.specs.Request.{Finished}
 
--- ---- refusals, from the numbers of a plan
+-- ---- refusals, from the numbers of a plan and the top's tally
 
 pub record Ranged (N B : ℕ) (p : Plan) : Type 0 where
   pub least : 2 ≤ N
@@ -33,18 +35,22 @@ pub record Ranged (N B : ℕ) (p : Plan) : Type 0 where
   pub spare : p .used ≤ mostSegments
   pub compactions : p .compactions ≤ mostSegments
 
+-- how many segments a put without room gives a number
+unfoldable pub newNumbersBy : ℕ → Plan → ℕ
+newNumbersBy N p = cond (ltb (p .used) (N - 1)) 1 (p .compactions)
+
 -- a put of it is refused as worn
-unfoldable pub wornBy : ℕ → ℕ → Plan → Bool
-wornBy N B p = not (ltb (p .slot) B) && leb (numberLimit N) (p .first .0 + p .used - 1 + cond (ltb (p .used) (N - 1)) 1 (p .compactions))
+unfoldable pub wornBy : ℕ → ℕ → Plan → Tally → Bool
+wornBy N B p t = not (ltb (p .slot) B) && (t .«used_up» || leb eraseLimit ((p .first .0 + p .used - 1 + newNumbersBy N p) / N + t .count))
 
 -- a put of a block that was found or not is refused as full
 unfoldable pub fullBy : ℕ → ℕ → Plan → Found → Bool
 fullBy N B p (At q n) = false
 fullBy N B p Nothing = leb (capacity N B) (p .live)
 
--- the answer but for a cut
-unfoldable pub answerFor : ℕ → ℕ → Plan → Found → Answer
-answerFor N B p f = cond (fullBy N B p f) Full (cond (wornBy N B p) Worn Done)
+-- the answer but for a cut, on an image of version 2
+unfoldable pub answerFor : ℕ → ℕ → Plan → Tally → Found → Answer
+answerFor N B p t f = cond (fullBy N B p f) Full (cond (wornBy N B p t) Worn Done)
 
 -- where a block's slot is, if that is asked before room is made
 unfoldable pub foundBefore : ℕ → ℕ → Plan → Image → ℕ → Found
@@ -59,11 +65,13 @@ pub record Puttable (N B : ℕ) (p : Plan) (b : ℕ) (c : List ℕ) (s : Image) 
   pub taken : lengthOk (length c) ≡ true
 
 -- not refused. The search was made at least where nothing will move
-pub record Accepted (N B : ℕ) (p : Plan) (f : Found) (b : ℕ) (c : List ℕ) (s : Image) : Type 0 where
+pub record Accepted (N B : ℕ) (p : Plan) (total : ℕ) (f : Found) (b : ℕ) (c : List ℕ) (s : Image) : Type 0 where
   pub put : Puttable N B p b c s
+  pub second : isFormer (view N B s .version) ≡ false
   pub found : leb B (p .slot) ≡ false → f ≡ foundIn N B (p .first .0) (rowsAt N B s (p .used) (p .first .0)) b
   pub space : isFull N B b (view N B s) ≡ false
   pub fresh : isWorn N (view N B s) ≡ false
+  pub tally : total ≡ tallyOf (view N B s .version)
 
 -- room is made, and the old slot is searched
 pub record Ready (N B : ℕ) (r : Room) (f : Found) (b : ℕ) (c : List ℕ) (budget : ℕ) (s : Image) : Type 0 where

@@ -35,7 +35,8 @@ fn top_number(plan: Plan) -> SegmentNumber
 
 // How many segments a put without room gives a number.
 fn new_numbers(segments: usize, plan: Plan) -> usize
-    ensures { λ r. ⌜ r ≡ newNumbersBy segments plan ⌝ }
+    requires { ⌜ (plan .used ≤ mostSegments) × (plan .compactions ≤ mostSegments) ⌝ }
+    ensures { λ r. ⌜ (r ≡ newNumbersBy segments plan) × (r ≤ mostSegments) ⌝ }
 {
     if plan.used + 1 < segments {
         return 1;
@@ -46,7 +47,7 @@ fn new_numbers(segments: usize, plan: Plan) -> usize
 // Whether room for a put would wear the chip: a new header is needed, and the top's has no bit left, or the erases by number
 // and by the tally reach the limit. It is found out before the first step.
 fn is_worn(segments: usize, slots: usize, plan: Plan, tally: Tally) -> bool
-    requires { ⌜ Ranged segments slots plan × (tally .count ≤ 4294967295) ⌝ }
+    requires { ⌜ Ranged segments slots plan × (tally .count < 4294969344) ⌝ }
     ensures { λ r. ⌜ r ≡ wornBy segments slots plan tally ⌝ }
 {
     if plan.slot < slots {
@@ -88,7 +89,7 @@ fn slot_before(image: &[u8], segments: usize, slots: usize, plan: Plan, block: B
 
 // The answer of a put on a clean image, but for a cut.
 fn put_answer(segments: usize, slots: usize, plan: Plan, tally: Tally, found: Found) -> Answer
-    requires { ⌜ Ranged segments slots plan × (tally .count ≤ 4294967295) ⌝ }
+    requires { ⌜ Ranged segments slots plan × (tally .count < 4294969344) ⌝ }
     ensures { λ r. ⌜ r ≡ answerFor segments slots plan tally found ⌝ }
 {
     if is_full(segments, slots, plan, found) {
@@ -199,5 +200,15 @@ pub fn put_clean(
     let Answer::Done = answer else {
         return request::refused(answer);
     };
-    put_accepted(image, segments, slots, plan, tally.count, found, block, contents, budget)
+    put_accepted(
+        image,
+        segments,
+        slots,
+        plan,
+        tally.count,
+        found,
+        block,
+        contents,
+        budget,
+    )
 }

@@ -1,7 +1,7 @@
 -- Laws of an accepted put: the image once room was made, and the whole list.
 use Prim.Native.Nat.{ℕ, _+_, _-_, _≤_, _<_}
 use mathlib.Core.Path.{_≡_, refl, sym, ap, _∙_}
-use mathlib.Core.Bool.{Bool, true, false, cond, _&&_, not}
+use mathlib.Core.Bool.{true, false}
 use mathlib.Core.List.{List, _++_}
 use native.Mathlib.Omega.{arith}
 use lib.ListN.{length, length-append}
@@ -10,7 +10,7 @@ use borrow.Author.Tests.{lt-ltb, ltb-true, leb-false}
 use Rattle.model.specs.Chip.{Image, numberLimit, run}
 use Rattle.model.specs.Slot.{mostContents}
 use Rattle.model.specs.State.{segmentsOf, View, view, clean, state}
-use Rattle.model.specs.Steps.{onPage, slotAt, writeSlot, writeAtTop, markOld, topRow, topNumber, hasRoom, firstEmpty, Room, roomFor, compactions, newNumbers, isWorn, putSteps}
+use Rattle.model.specs.Steps.{onPage, slotAt, writeSlot, writeAtTop, markOld, topRow, topNumber, hasRoom, firstEmpty, Room, roomFor, newNumbers, putSteps}
 use Rattle.model.specs.Answers.{put, stepsFor, performed, outcomeOf}
 use Rattle.model.specs.declared.Performed.{Performed}
 use Rattle.model.specs.Laws.Chip.{size-facts}
@@ -18,6 +18,7 @@ use Rattle.bridge.specs.Accepted.{refusal, taken-short}
 use Rattle.bridge.specs.Held.{Held, clean-of-held}
 use Rattle.bridge.specs.Requests.{held-below, room-held}
 use Rattle.bridge.specs.Views.Room.{Made, room-made}
+use Rattle.bridge.specs.Views.Requests.{room-numbered, worn-carries}
 use Rattle.find.specs.declared.Found.{Found}
 use Rattle.find.specs.Search.{rowsAt, foundIn}
 use Rattle.flash.specs.Ran.{Ran}
@@ -34,7 +35,7 @@ use Rattle.request.proofs.Answered.{carried, carried-outcome}
 use Rattle.bridge.specs.Refusals.{put-accepted}
 use Rattle.room.proofs.Laws.{row-full, top-length, plan-held, plan-clean, has-room}
 
-module _ (N B : ℕ) (p : Plan) (f : Found) (b : ℕ) (c : List ℕ) (s : Image) (a : Accepted N B p f b c s) (budget : ℕ) where
+module _ (N B : ℕ) (p : Plan) (total : ℕ) (f : Found) (b : ℕ) (c : List ℕ) (s : Image) (a : Accepted N B p total f b c s) (budget : ℕ) where
   abbrev k : Planned N B p s
   k = a .put .plan
 
@@ -45,7 +46,7 @@ module _ (N B : ℕ) (p : Plan) (f : Found) (b : ℕ) (c : List ℕ) (s : Image)
   room = roomFor N B v
 
   accepted-code : refusal N B s (put b c) ≡ 0
-  accepted-code = put-accepted N B s (k .size) b c (a .put .number) (a .put .taken) (k .state) (a .space) (a .fresh)
+  accepted-code = put-accepted N B s (k .size) b c (a .put .number) (a .put .taken) (a .second) (k .state) (a .space) (a .fresh)
 
   -- its list: room, and the last steps
   accepted-steps : stepsFor N B (segmentsOf N B s) (put b c) ≡ room .steps ++ lastSteps N B b c (room .result)
@@ -73,26 +74,24 @@ module _ (N B : ℕ) (p : Plan) (f : Found) (b : ℕ) (c : List ℕ) (s : Image)
 
   -- ---- room was made whole
 
+  two : 2 ≤ N
+  two = size-facts N B s (k .size) .two
+
+  slots-two : 2 ≤ B
+  slots-two = size-facts N B s (k .size) .slots
+
   made : Made N B v (room .result) (newNumbers N v)
-  made = room-made N B (size-facts N B s (k .size) .two) (size-facts N B s (k .size) .slots) v (plan-clean N B p s k)
+  made = room-made N B two slots-two v (plan-clean N B p s k)
 
   room-below : topNumber (room .result) < numberLimit N
-  unfolding isWorn newNumbers
-  room-below = go (hasRoom v) refl (a .fresh) (made .number)
-    where
-      x : ℕ
-      x = cond (ltb (length (v .slots)) (N - 1)) 1 (compactions (v .slots))
-
-      go : (t : Bool) → hasRoom v ≡ t → (not t && leb (numberLimit N) (topNumber v + cond t 0 x)) ≡ false → topNumber (room .result) ≡ topNumber v + cond t 0 x → topNumber (room .result) < numberLimit N
-      go true h e n = omega (arith, n, held-below N B s v (plan-held N B p s k) (plan-clean N B p s k))
-      go false h e n = omega (arith, n, leb-false (numberLimit N) (topNumber v + x) e)
+  room-below = room-numbered N B two slots-two v (plan-clean N B p s k) (a .fresh) (held-below N B s v (plan-held N B p s k) (plan-clean N B p s k))
 
   module _ (r : rooms.Room) (t : Image) (d : Roomed N B budget r s t) (left : r .left ≡ 0 → ⊥) where
     some : 0 < r .left
     some = omega arith
 
     pub room-made-held : Held N B t (room .result)
-    room-made-held = rw (whole-run (d .ran) some) (room-held N B s v (plan-held N B p s k) (a .put .bytes) (plan-clean N B p s k) room-below)
+    room-made-held = rw (whole-run (d .ran) some) (room-held N B s v (plan-held N B p s k) (a .put .bytes) (plan-clean N B p s k) (λ e. worn-carries N B two slots-two v (a .second) (a .fresh) e) room-below)
 
     room-free : firstEmpty (topRow (room .result .slots)) < B
     unfolding hasRoom

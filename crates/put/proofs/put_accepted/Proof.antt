@@ -18,7 +18,7 @@ returns : tie.Need-returns
 returns c =
     let x = c .before .before .before .before .before .before .before .before .before in
     let a = x .args in
-    put-spent (a .segments) (a .slots) (a .plan) (a .found) (a .block .0) (now (a .contents)) (now (a .image)) (x .pre) (a .budget) (c .before .before .before .before .before .make-room .ensures) (c .before .if1 .taken) (c .finished .ensures)
+    put-spent (a .segments) (a .slots) (a .plan) (a .total) (a .found) (a .block .0) (now (a .contents)) (now (a .image)) (x .pre) (a .budget) (c .before .before .before .before .before .make-room .ensures) (c .before .if1 .taken) (c .finished .ensures)
 
 old-slot-requires : tie.Need-old-slot-requires
 old-slot-requires c κs =
@@ -26,16 +26,16 @@ old-slot-requires c κs =
     let a = x .args in
     let d = c .before .before .before .before .before .before .make-room .ensures in
     let l = c .before .before .if1 .left in (
-      room-sized (a .segments) (a .slots) (a .plan) (a .found) (a .block .0) (now (a .contents)) (now (a .image)) (x .pre) (a .budget) _ _ d l,
-      room-number (a .segments) (a .slots) (a .plan) (a .found) (a .block .0) (now (a .contents)) (now (a .image)) (x .pre) (a .budget) _ _ d l,
-      found-still (a .segments) (a .slots) (a .plan) (a .found) (a .block .0) (now (a .contents)) (now (a .image)) (x .pre) (a .budget) _ _ d l,
+      room-sized (a .segments) (a .slots) (a .plan) (a .total) (a .found) (a .block .0) (now (a .contents)) (now (a .image)) (x .pre) (a .budget) _ _ d l,
+      room-number (a .segments) (a .slots) (a .plan) (a .total) (a .found) (a .block .0) (now (a .contents)) (now (a .image)) (x .pre) (a .budget) _ _ d l,
+      found-still (a .segments) (a .slots) (a .plan) (a .total) (a .found) (a .block .0) (now (a .contents)) (now (a .image)) (x .pre) (a .budget) _ _ d l,
     )
 
 write-block-requires : tie.Need-write-block-requires
 write-block-requires c κs =
     let x = c .before .before .before .before .before .before .before .before .before .before .before .before in
     let a = x .args in
-    room-ready (a .segments) (a .slots) (a .plan) (a .found) (a .block .0) (now (a .contents)) (now (a .image)) (x .pre) (a .budget) _ _ (c .before .before .before .before .before .before .before .before .make-room .ensures) (c .before .before .before .before .if1 .left) _ (c .before .old-slot .ensures)
+    room-ready (a .segments) (a .slots) (a .plan) (a .total) (a .found) (a .block .0) (now (a .contents)) (now (a .image)) (x .pre) (a .budget) _ _ (c .before .before .before .before .before .before .before .before .make-room .ensures) (c .before .before .before .before .if1 .left) _ (c .before .old-slot .ensures)
 
 same-length-2 : tie.Need-same-length-2
 same-length-2 c = search needs
@@ -44,7 +44,7 @@ returns-2 : tie.Need-returns-2
 returns-2 c =
     let x = c .before .before .before .before .before .before .before .before .before .before .before .before .before .before .before in
     let a = x .args in
-    put-done (a .segments) (a .slots) (a .plan) (a .found) (a .block .0) (now (a .contents)) (now (a .image)) (x .pre) (a .budget) _ _ (c .before .before .before .before .before .before .before .before .before .before .before .make-room .ensures) (c .before .before .before .before .before .before .before .if1 .left) (c .before .before .write-block .ensures)
+    put-done (a .segments) (a .slots) (a .plan) (a .total) (a .found) (a .block .0) (now (a .contents)) (now (a .image)) (x .pre) (a .budget) _ _ (c .before .before .before .before .before .before .before .before .before .before .before .make-room .ensures) (c .before .before .before .before .before .before .before .if1 .left) (c .before .before .write-block .ensures)
 
 pub put-accepted-spec : {M : Type 1} → statement M
 put-accepted-spec =
