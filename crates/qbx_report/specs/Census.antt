@@ -1,12 +1,17 @@
--- What a check tells: the state of an image, the segments in use, and their slots by kind.
+-- What a check tells: the state of an image, the segments in use, their slots by kind, and the top's version and tally.
 use Prim.Native.Nat.{ℕ, _+_}
+use mathlib.Core.Bool.{cond}
 use mathlib.Core.List.{List, [], _∷_, map}
+use lib.Dec.{eqb}
+use Rattle.model.specs.Header.{Version, isFormer, tallyOf, noBitLeft}
 use Rattle.model.specs.Slot.{kindOf}
-use Rattle.model.specs.State.{Segment, blank, invalid, inUse, State, clean, unfinished, damaged, caseA, caseB, caseC, caseD, stateOf}
+use Rattle.model.specs.State.{Segment, blank, invalid, inUse, nextNumber, topVersion, State, clean, unfinished, damaged, caseA, caseB, caseC, caseD, stateOf}
 use Rattle.model.specs.declared.SlotKind.{SlotKind}
 use Rattle.model.specs.declared.SlotKind.the-variants.{Empty, Torn, Live, Dead, Wrong}
 use Rattle.qbx_says.specs.declared.Condition.{Condition}
 use Rattle.qbx_says.specs.declared.Condition.the-variants.{Clean, UnfinishedA, UnfinishedB, UnfinishedC, UnfinishedD, Damaged}
+use Rattle.qbx_says.specs.declared.TopSeen.{TopSeen}
+use Rattle.qbx_says.specs.declared.TopSeen.the-variants.{Missing, Version1, Version2}
 use Rattle.qbx_says.specs.declared.Report.{Report}
 use Rattle.qbx_report.specs.declared.Census.{Census}
 
@@ -40,7 +45,7 @@ oneMore c = record { segments = c .segments + 1; live = c .live; dead = c .dead;
 unfoldable pub countSegment : Census → Segment → Census
 countSegment c blank = c
 countSegment c invalid = c
-countSegment c (inUse st n ks) = countKinds (oneMore c) (map kindOf ks)
+countSegment c (inUse e st n ks) = countKinds (oneMore c) (map kindOf ks)
 
 unfoldable pub countSegments : Census → List Segment → Census
 countSegments c [] = c
@@ -49,6 +54,14 @@ countSegments c (x ∷ r) = countSegments (countSegment c x) r
 unfoldable pub censusOf : List Segment → Census
 censusOf l = countSegments (record { segments = 0; live = 0; dead = 0; empty = 0 }) l
 
+-- a version, and of version 2 the tally and whether no bit is left
+unfoldable pub versionTold : Version → TopSeen
+versionTold e = cond (isFormer e) Version1 (Version2 (tallyOf e) (noBitLeft e))
+
+-- the top's, if a segment is in use, whatever the state
+unfoldable pub topTold : ℕ → List Segment → TopSeen
+topTold N l = cond (eqb (nextNumber l) 0) Missing (versionTold (topVersion N l))
+
 unfoldable pub reportOf : ℕ → ℕ → List Segment → Report
 reportOf N B l = let c = censusOf l in
-    record { condition = conditionOf (stateOf N B l); segments = c .segments; live = c .live; dead = c .dead; empty = c .empty }
+    record { condition = conditionOf (stateOf N B l); segments = c .segments; live = c .live; dead = c .dead; empty = c .empty; top = topTold N l }

@@ -1,8 +1,10 @@
-// What `qbx check` tells of an image: its state, and what is in it, counted.
+// What `qbx check` tells of an image: its state, what is in it, counted, and the top's version and tally.
 use header::HeaderSeen;
+use model::SegmentNumber;
 use model::SlotKind;
 use qbx_says::Condition;
 use qbx_says::Report;
+use qbx_says::TopSeen;
 use scan::Surveyed;
 ghost use mathlib.Core.Path.{_≡_};
 ghost use mathlib.Core.Bool.{true};
@@ -12,7 +14,7 @@ ghost use Rattle.model.specs.Chip.{rightSize};
 ghost use Rattle.model.specs.State.{blank, segmentsOf, stateOf};
 ghost use Rattle.flash.specs.Pages.{Sized};
 ghost use Rattle.judge.specs.Rows.{kindsAt};
-ghost use Rattle.qbx_report.specs.Census.{conditionOf, total, counted, countKinds, countSegment, censusOf, reportOf};
+ghost use Rattle.qbx_report.specs.Census.{conditionOf, total, counted, countKinds, countSegment, censusOf, topTold, reportOf};
 
 // Segments in use, and their slots by kind.
 struct Census {
@@ -111,6 +113,7 @@ fn count_segment(
     let first = at + 256;
     let seen = header::see_header(&image[at..first], segments, slots, index);
     let HeaderSeen::InUse {
+        former: _,
         status: _,
         number: _,
     } = seen
@@ -145,6 +148,26 @@ fn take_census(image: &[u8], segments: usize, slots: usize) -> Census
     census
 }
 
+// The header of the top, whose number is the one before the next.
+fn see_top(image: &[u8], segments: usize, slots: usize) -> TopSeen
+    requires { ⌜ rightSize segments slots (now image) ≡ true ⌝ }
+    ensures { λ r. ⌜ r ≡ topTold segments (segmentsOf segments slots (now (image .entry))) ⌝ }
+{
+    let seen = segments::see_headers(image, segments, slots);
+    if seen.next == 0 {
+        return TopSeen::Missing;
+    }
+    let top = SegmentNumber((seen.next - 1) as u32);
+    let told = tally::tally_in(image, segments, slots, top);
+    if told.former {
+        return TopSeen::Version1;
+    }
+    TopSeen::Version2 {
+        tally: told.count as u64,
+        spent: told.used_up,
+    }
+}
+
 // What a check tells of an image of a right size.
 pub fn report_on(image: &[u8], segments: usize, slots: usize) -> Report
     requires { ⌜ rightSize segments slots (now image) ≡ true ⌝ }
@@ -152,11 +175,13 @@ pub fn report_on(image: &[u8], segments: usize, slots: usize) -> Report
 {
     let condition = condition_of(image, segments, slots);
     let census = take_census(image, segments, slots);
+    let top = see_top(image, segments, slots);
     Report {
         condition,
         segments: census.segments,
         live: census.live,
         dead: census.dead,
         empty: census.empty,
+        top,
     }
 }

@@ -5,6 +5,10 @@ use mathlib.Core.List.{List, _++_}
 use lib.ListN.{length, take}
 use Rattle.qbx_says.specs.declared.Line.{Line}
 
+-- the most bytes of a line
+abbrev pub mostLine : ℕ
+mostLine = 200
+
 -- what a line says so far
 abbrev pub said : Line → List ℕ
 said l = take (l .count) (l .bytes)

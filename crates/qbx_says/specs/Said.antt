@@ -1,10 +1,10 @@
 -- What the program says: an answer with its steps, what is wrong with a command, the state of an image.
 use Prim.Native.Nat.{ℕ}
-use mathlib.Core.Bool.{cond}
+use mathlib.Core.Bool.{Bool, cond}
 use mathlib.Core.List.{List, [], _++_}
 use lib.Dec.{eqb}
 use Rattle.model.specs.declared.Answer.{Answer}
-use Rattle.model.specs.declared.Answer.the-variants.{Done, Size, Number, Length, Damaged as AnswerDamaged, Unfinished, Absent, Full, Worn, Cut}
+use Rattle.model.specs.declared.Answer.the-variants.{Done, Size, Number, Length, Damaged as AnswerDamaged, Unfinished, Absent, Full, Worn, Cut, FormerVersion}
 use Rattle.model.specs.Answers.{codeOf}
 use Rattle.model.specs.Chip.{inRange, imageLength}
 use Rattle.qbx_words.specs.Text.{text}
@@ -13,6 +13,8 @@ use Rattle.qbx_words.specs.declared.Complaint.{Complaint}
 use Rattle.qbx_words.specs.declared.Complaint.the-variants.{Segments, Slots, NoVerb, Block, NoOption, Budget}
 use Rattle.qbx_says.specs.declared.Condition.{Condition}
 use Rattle.qbx_says.specs.declared.Condition.the-variants.{Clean, UnfinishedA, UnfinishedB, UnfinishedC, UnfinishedD, Damaged}
+use Rattle.qbx_says.specs.declared.TopSeen.{TopSeen}
+use Rattle.qbx_says.specs.declared.TopSeen.the-variants.{Missing, Version1, Version2}
 use Rattle.qbx_says.specs.declared.Report.{Report}
 
 -- ---- answers
@@ -33,6 +35,7 @@ reason Absent = text " absent"
 reason Full = text " full"
 reason Worn = text " worn"
 reason Cut = []
+reason FormerVersion = text " former version"
 
 -- an answer, as "refused: 7 full"
 unfoldable pub answerText : Answer → List ℕ
@@ -83,7 +86,16 @@ conditionText Damaged = text "damaged"
 unfoldable pub slotsText : ℕ → ℕ → ℕ → List ℕ
 slotsText live dead empty = (text ", slots live " ++ decimal live) ++ (text ", dead " ++ decimal dead) ++ (text ", empty " ++ decimal empty)
 
--- as "clean: segments in use 2, slots live 5, dead 3, empty 22"
+-- version 2 with its tally, as ", version 2, tally 3"
+unfoldable pub tallyText : ℕ → Bool → List ℕ
+tallyText tally spent = (text ", version 2, tally " ++ decimal tally) ++ cond spent (text ", no bit left") []
+
+unfoldable pub topText : TopSeen → List ℕ
+topText Missing = []
+topText Version1 = text ", version 1"
+topText (Version2 tally spent) = tallyText tally spent
+
+-- as "clean: segments in use 2, slots live 5, dead 3, empty 22, version 2, tally 0"
 unfoldable pub reportText : Report → List ℕ
 reportText r =
-    conditionText (r .condition) ++ (text ": segments in use " ++ decimal (r .segments)) ++ slotsText (r .live) (r .dead) (r .empty) ++ text "\n"
+    conditionText (r .condition) ++ (text ": segments in use " ++ decimal (r .segments)) ++ slotsText (r .live) (r .dead) (r .empty) ++ topText (r .top) ++ text "\n"

@@ -1,10 +1,11 @@
 // Lines of text, put together.
 use crate::Line;
+use crate::MOST_LINE;
 ghost use mathlib.Core.Path.{_≡_};
 ghost use mathlib.Core.List.{[]};
 ghost use Prim.Native.Nat.{_+_, _≤_};
 ghost use lib.ListN.{length};
-ghost use Rattle.qbx_says.specs.Lines.{said, Added};
+ghost use Rattle.qbx_says.specs.Lines.{mostLine, said, Added};
 ghost use Rattle.qbx_says.specs.Decimal.{decimal};
 
 // A line that says nothing yet.
@@ -12,14 +13,14 @@ pub fn empty() -> Line
     ensures { λ r. ⌜ (said r ≡ []) × (r .count ≡ 0) ⌝ }
 {
     Line {
-        bytes: [0u8; 160],
+        bytes: [0u8; MOST_LINE],
         count: 0,
     }
 }
 
 // More bytes at the end of a line.
 pub fn add(line: Line, text: &[u8]) -> Line
-    requires { ⌜ line .count + length (now text) ≤ 160 ⌝ }
+    requires { ⌜ line .count + length (now text) ≤ mostLine ⌝ }
     ensures { λ r. ⌜ Added line (now (text .entry)) r ⌝ }
 {
     let at = line.count;
@@ -37,7 +38,7 @@ pub fn add(line: Line, text: &[u8]) -> Line
 
 // A number at the end of a line.
 pub fn add_number(line: Line, n: u64) -> Line
-    requires { ⌜ line .count + 20 ≤ 160 ⌝ }
+    requires { ⌜ line .count + 20 ≤ mostLine ⌝ }
     ensures { λ r. ⌜ Added line (decimal n) r × (length (decimal n) ≤ 20) ⌝ }
 {
     let mut digits = [0u8; 20];

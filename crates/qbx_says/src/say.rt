@@ -2,6 +2,7 @@
 use crate::Condition;
 use crate::Line;
 use crate::Report;
+use crate::TopSeen;
 use crate::lines::add;
 use crate::lines::add_number;
 use crate::lines::empty;
@@ -12,9 +13,9 @@ ghost use mathlib.Core.Path.{_≡_};
 ghost use mathlib.Core.List.{_++_};
 ghost use Prim.Native.Nat.{_+_, _<_, _≤_};
 ghost use lib.ListN.{length};
-ghost use Rattle.qbx_says.specs.Lines.{said, Added};
+ghost use Rattle.qbx_says.specs.Lines.{mostLine, said, Added};
 ghost use Rattle.qbx_says.specs.Decimal.{decimal};
-ghost use Rattle.qbx_says.specs.Said.{verdict, reason, stepsWord, answerText, performedText, performedLine, askedText, sizeLine, complaintText, stackLine, conditionText, slotsText, reportText};
+ghost use Rattle.qbx_says.specs.Said.{verdict, reason, stepsWord, answerText, performedText, performedLine, askedText, sizeLine, complaintText, stackLine, conditionText, slotsText, tallyText, topText, reportText};
 
 // ---- answers
 
@@ -33,7 +34,7 @@ fn add_verdict(line: Line, code: u64) -> Line
 
 fn add_reason(line: Line, answer: Answer) -> Line
     requires { ⌜ line .count ≤ 100 ⌝ }
-    ensures { λ r. ⌜ Added line (reason answer) r × (r .count ≤ line .count + 11) ⌝ }
+    ensures { λ r. ⌜ Added line (reason answer) r × (r .count ≤ line .count + 15) ⌝ }
 {
     match answer {
         Answer::Done => add(line, b""),
@@ -46,12 +47,13 @@ fn add_reason(line: Line, answer: Answer) -> Line
         Answer::Full => add(line, b" full"),
         Answer::Worn => add(line, b" worn"),
         Answer::Cut => add(line, b""),
+        Answer::FormerVersion => add(line, b" former version"),
     }
 }
 
 // An answer, with no line end.
 fn say_answer(answer: Answer) -> Line
-    ensures { λ r. ⌜ (said r ≡ answerText answer) × (r .count ≤ 40) ⌝ }
+    ensures { λ r. ⌜ (said r ≡ answerText answer) × (r .count ≤ 44) ⌝ }
 {
     let number = request::number_of(answer);
     let begun = add_verdict(empty(), number);
@@ -71,7 +73,7 @@ fn add_steps_word(line: Line, steps: u64) -> Line
 
 // An answer and the steps done, with no line end.
 fn say_steps(answer: Answer, steps: u64) -> Line
-    ensures { λ r. ⌜ (said r ≡ performedText answer steps) × (r .count ≤ 68) ⌝ }
+    ensures { λ r. ⌜ (said r ≡ performedText answer steps) × (r .count ≤ 72) ⌝ }
 {
     let answered = add(say_answer(answer), b", ");
     let counted = add_number(answered, steps);
@@ -80,7 +82,7 @@ fn say_steps(answer: Answer, steps: u64) -> Line
 
 // An answer and the steps done.
 pub fn say_performed(performed: Performed) -> Line
-    ensures { λ r. ⌜ (said r ≡ performedLine (performed .answer) (performed .steps)) × (r .count ≤ 160) ⌝ }
+    ensures { λ r. ⌜ (said r ≡ performedLine (performed .answer) (performed .steps)) × (r .count ≤ mostLine) ⌝ }
 {
     let answer = performed.answer;
     add(say_steps(answer, performed.steps), b"\n")
@@ -88,7 +90,7 @@ pub fn say_performed(performed: Performed) -> Line
 
 // A number behind its label.
 fn add_count(line: Line, label: &[u8], n: u64) -> Line
-    requires { ⌜ line .count + length (now label) + 20 ≤ 160 ⌝ }
+    requires { ⌜ line .count + length (now label) + 20 ≤ mostLine ⌝ }
     ensures { λ r. ⌜ Added line (now (label .entry) ++ decimal n) r × (r .count ≤ line .count + length (now (label .entry)) + 20) ⌝ }
 {
     add_number(add(line, label), n)
@@ -109,7 +111,7 @@ fn add_asked(line: Line, segments: usize, slots: usize) -> Line
 
 // A wrong size: beside the refusal what N and B ask for, and the bytes that are there.
 pub fn say_size(segments: usize, slots: usize, there: u64) -> Line
-    ensures { λ r. ⌜ (said r ≡ sizeLine segments slots there) × (r .count ≤ 160) ⌝ }
+    ensures { λ r. ⌜ (said r ≡ sizeLine segments slots there) × (r .count ≤ mostLine) ⌝ }
 {
     let asked = add_asked(say_steps(Answer::Size, 0), segments, slots);
     let counted = add_count(asked, b"; ", there);
@@ -119,7 +121,7 @@ pub fn say_size(segments: usize, slots: usize, there: u64) -> Line
 // ---- complaints
 
 pub fn say_complaint(complaint: Complaint) -> Line
-    ensures { λ r. ⌜ (said r ≡ complaintText complaint) × (r .count ≤ 160) ⌝ }
+    ensures { λ r. ⌜ (said r ≡ complaintText complaint) × (r .count ≤ mostLine) ⌝ }
 {
     let line = empty();
     match complaint {
@@ -141,7 +143,7 @@ pub fn say_complaint(complaint: Complaint) -> Line
 // That the stack is too small for an image of so many bytes: the KiB that it needs, and those that are allowed.
 pub fn say_stack(bytes: u64, needed: u64, allowed: u64) -> Line
     requires { ⌜ allowed < needed ⌝ }
-    ensures { λ r. ⌜ (said r ≡ stackLine bytes needed allowed) × (r .count ≤ 160) ⌝ }
+    ensures { λ r. ⌜ (said r ≡ stackLine bytes needed allowed) × (r .count ≤ mostLine) ⌝ }
 {
     let image = add_count(empty(), b"qbx: an image of ", bytes);
     let stack = add_count(image, b" bytes needs a stack of ", needed);
@@ -174,13 +176,37 @@ fn add_slots(line: Line, live: u64, dead: u64, empty: u64) -> Line
     add_count(deads, b", empty ", empty)
 }
 
-// The state of an image, with the segments in use and their slots.
+// The tally of a header of version 2.
+fn add_tally(line: Line, tally: u64, spent: bool) -> Line
+    requires { ⌜ line .count ≤ 145 ⌝ }
+    ensures { λ r. ⌜ Added line (tallyText tally spent) r × (r .count ≤ line .count + 52) ⌝ }
+{
+    let counted = add_count(line, b", version 2, tally ", tally);
+    if spent {
+        return add(counted, b", no bit left");
+    }
+    counted
+}
+
+fn add_top(line: Line, top: TopSeen) -> Line
+    requires { ⌜ line .count ≤ 145 ⌝ }
+    ensures { λ r. ⌜ Added line (topText top) r × (r .count ≤ line .count + 52) ⌝ }
+{
+    match top {
+        TopSeen::Missing => add(line, b""),
+        TopSeen::Version1 => add(line, b", version 1"),
+        TopSeen::Version2 { tally, spent } => add_tally(line, tally, spent),
+    }
+}
+
+// The state of an image, with the segments in use, their slots, and the top's version and tally.
 pub fn say_report(report: Report) -> Line
-    ensures { λ r. ⌜ (said r ≡ reportText report) × (r .count ≤ 160) ⌝ }
+    ensures { λ r. ⌜ (said r ≡ reportText report) × (r .count ≤ mostLine) ⌝ }
 {
     let condition = report.condition;
     let line = say_condition(condition);
     let used = add_count(line, b": segments in use ", report.segments);
-    let line = add_slots(used, report.live, report.dead, report.empty);
-    add(line, b"\n")
+    let told = add_slots(used, report.live, report.dead, report.empty);
+    let top = report.top;
+    add(add_top(told, top), b"\n")
 }

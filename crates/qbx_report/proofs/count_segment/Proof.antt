@@ -51,7 +51,7 @@ count-slots-requires c κs =
     (omega (arith, s .pre), omega (arith, s .pre), omega (arith, s .pre))
 
 returns-2 : tie.Need-returns-2
-returns-2 c = (c .count-slots .ensures .0 ∙ segment-used (c .before .before .before .before .before .before .before .args .segments) (c .before .before .before .before .before .before .before .args .slots) (c .before .before .before .before .before .before .before .args .index) (now (c .before .before .before .before .before .before .before .args .image)) (c .before .before .before .before .before .before .before .pre .1) _ (c .before .before .before .before .see-header .ensures) (c .before .before .before .before .before .before .before .args .census) _ _ (c .before .before .enum-told .given .1), omega (arith, c .before .before .before .before .before .before .before .pre, c .count-slots .ensures .1))
+returns-2 c = (c .count-slots .ensures .0 ∙ segment-used (c .before .before .before .before .before .before .before .args .segments) (c .before .before .before .before .before .before .before .args .slots) (c .before .before .before .before .before .before .before .args .index) (now (c .before .before .before .before .before .before .before .args .image)) (c .before .before .before .before .before .before .before .pre .1) _ (c .before .before .before .before .see-header .ensures) (c .before .before .before .before .before .before .before .args .census) _ _ _ (c .before .before .enum-told .given .1), omega (arith, c .before .before .before .before .before .before .before .pre, c .count-slots .ensures .1))
 
 pub count-segment-spec : {M : Type 1} → statement M
 count-segment-spec =

@@ -1,4 +1,4 @@
--- `qbx_report::report_on`: the state and the census. Assumes nothing.
+-- `qbx_report::report_on`: the state, the census and the top. Assumes nothing.
 use Rattle.flash.proofs.Pages.{sized}
 use Rattle.qbx_report.specs.Census.{reportOf}
 use borrow.Author.Needs.{needs}
@@ -11,9 +11,12 @@ condition-of-requires c κs = search needs
 take-census-requires : tie.Need-take-census-requires
 take-census-requires c κs = sized _ _ _ (c .before .before .pre)
 
+see-top-requires : tie.Need-see-top-requires
+see-top-requires c κs = search needs
+
 returns : tie.Need-returns
 unfolding reportOf
-returns c = rw (c .before .condition-of .ensures, c .take-census .ensures)
+returns c = rw (c .before .before .condition-of .ensures, c .before .take-census .ensures, c .see-top .ensures)
 
 pub report-on-spec : {M : Type 1} → statement M
-report-on-spec = tie.close (tie.spec condition-of-requires take-census-requires returns)
+report-on-spec = tie.close (tie.spec condition-of-requires take-census-requires see-top-requires returns)

@@ -1,7 +1,7 @@
 -- One byte more of a line, and one part more.
 use Prim.Native.Nat.{ℕ, suc, _+_, _<_}
-use mathlib.Core.Path.{_≡_, _∙_, ap}
-use mathlib.Core.List.{List, _++_, append-assoc}
+use mathlib.Core.Path.{_≡_, sym, _∙_, ap, subst}
+use mathlib.Core.List.{List, [], _++_, append-nil, append-assoc}
 use native.Mathlib.Numerals.{add-one}
 use native.Mathlib.Omega.{arith}
 use lib.ListN.{length, take, getD, set, length-append}
@@ -18,6 +18,10 @@ add-turn text start bytes at i h l e =
 -- what a line says with a part more, from what it said
 pub more : {l r : Line} {x t : List ℕ} → Added l x r → said l ≡ t → said r ≡ t ++ x
 more {x = x} h e = h .says ∙ ap (λ (s : List ℕ). s ++ x) e
+
+-- a part, and nothing behind it
+pub more-none : {l r : Line} {x : List ℕ} → Added l x r → Added l (x ++ []) r
+more-none {l} {r} {x} h = subst (λ (t : List ℕ). Added l t r) (sym (append-nil x)) h
 
 -- two parts more
 pub more-both : {l m r : Line} {x y : List ℕ} → Added l x m → Added m y r → Added l (x ++ y) r

@@ -7,14 +7,14 @@ use denote.Ref.{now}
 use native.Mathlib.Nat.{add-zero}
 use lib.ListN.{length, take, length-set}
 use lib.Seq.{take-all}
-use Rattle.qbx_says.specs.Lines.{said}
+use Rattle.qbx_says.specs.Lines.{mostLine, said}
 use borrow.Author.Needs.{needs}
 use Rattle.qbx_says.proofs.Laws.Lines.{add-turn}
 use Rattle.qbx_says.proofs.lines.add.Statement.{statement}
 use Rattle.qbx_says.proofs.lines.add.Tie as tie
 
 abbrev Inv-loop : tie.InvT-loop
-Inv-loop text at bytes₀ i₀ bytes i = (i ≤ length text) × (length bytes ≡ 160) × (take (at + i) bytes ≡ take at bytes₀ ++ take i text)
+Inv-loop text at bytes₀ i₀ bytes i = (i ≤ length text) × (length bytes ≡ mostLine) × (take (at + i) bytes ≡ take at bytes₀ ++ take i text)
 
 abbrev μ-loop : tie.MeasureT-loop
 μ-loop text at bytes₀ i₀ bytes i = length text - i

@@ -96,6 +96,15 @@ slice-aggregate-add-10 c = search needs
 add-requires-10 : tie.Need-add-requires-10
 add-requires-10 c κs = search needs
 
+enum-told-11 : tie.Need-enum-told-11
+enum-told-11 c = search needs
+
+slice-aggregate-add-11 : tie.Need-slice-aggregate-add-11
+slice-aggregate-add-11 c = search needs
+
+add-requires-11 : tie.Need-add-requires-11
+add-requires-11 c κs = search needs
+
 returns : tie.Need-returns
 unfolding text reason
 returns c = rw (c .before .before .enum-told .given .1) (c .add .ensures, omega arith)
@@ -136,6 +145,10 @@ returns-10 : tie.Need-returns-10
 unfolding text reason
 returns-10 c = rw (c .before .before .enum-told10 .given .1) (c .add10 .ensures, omega arith)
 
+returns-11 : tie.Need-returns-11
+unfolding text reason
+returns-11 c = rw (c .before .before .enum-told11 .given .1) (c .add11 .ensures, omega arith)
+
 pub add-reason-spec : {M : Type 1} → statement M
 add-reason-spec =
     tie.close
@@ -170,6 +183,9 @@ add-reason-spec =
     enum-told-10
     slice-aggregate-add-10
     add-requires-10
+    enum-told-11
+    slice-aggregate-add-11
+    add-requires-11
     returns
     returns-2
     returns-3
@@ -179,4 +195,5 @@ add-reason-spec =
     returns-7
     returns-8
     returns-9
-    returns-10)
+    returns-10
+    returns-11)

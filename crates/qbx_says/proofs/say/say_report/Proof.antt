@@ -19,6 +19,9 @@ add-count-requires c κs = search needs
 add-slots-requires : tie.Need-add-slots-requires
 add-slots-requires c κs = search needs
 
+add-top-requires : tie.Need-add-top-requires
+add-top-requires c κs = search needs
+
 slice-aggregate-add : tie.Need-slice-aggregate-add
 slice-aggregate-add c = search needs
 
@@ -27,7 +30,9 @@ add-requires c κs = search needs
 
 returns : tie.Need-returns
 unfolding text reportText
-returns c = (more (c .add .ensures) (more (c .before .before .add-slots .ensures .0) (more (c .before .before .before .add-count .ensures .0) (c .before .before .before .before .before .say-condition .ensures .0))), omega arith)
+returns c =
+    let k = c .before .before in
+    (more (c .add .ensures) (more (k .add-top .ensures .0) (more (k .before .add-slots .ensures .0) (more (k .before .before .add-count .ensures .0) (k .before .before .before .before .say-condition .ensures .0)))), omega arith)
 
 pub say-report-spec : {M : Type 1} → statement M
 say-report-spec =
@@ -37,6 +42,7 @@ say-report-spec =
     slice-aggregate-add-count
     add-count-requires
     add-slots-requires
+    add-top-requires
     slice-aggregate-add
     add-requires
     returns)
