@@ -6,6 +6,7 @@ pub mod ReadingRuns
 -- the invariant that is closed under power cuts, and the induction over histories
 pub mod Sound
 pub mod Requests
+pub mod Invariant
 pub mod Skeleton
 -- recovery, delete and read
 pub mod Alike
@@ -15,6 +16,7 @@ pub mod RecoverMarks
 pub mod RecoverCount
 pub mod RecoverErase
 pub mod RecoverOwing
+pub mod OwingCuts
 pub mod Recover
 pub mod Read
 pub mod Delete

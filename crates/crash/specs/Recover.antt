@@ -17,7 +17,8 @@ use Rattle.crash.specs.Requests.{recovered-clean, idle-cut}
 use Rattle.crash.specs.States.{isCase, mended, state-case, recover-steps, SoundWith, Kept, kept-same, Mended, mended-shown, mended-former, done}
 use Rattle.crash.specs.RecoverMarks.{mended-c, mended-d, cut-c, cut-d}
 use Rattle.crash.specs.RecoverErase.{mended-a, cut-a}
-use Rattle.crash.specs.RecoverOwing.{mended-b, cut-b}
+use Rattle.crash.specs.RecoverOwing.{mended-b}
+use Rattle.crash.specs.OwingCuts.{cut-b}
 
 -- the steps of a recovery mend the segments
 pub recovery-mends : (N B : ℕ) (s : Image) → rightSize N B s ≡ true → (x : Exception) → state N B s ≡ unfinished x → Mended N B s x

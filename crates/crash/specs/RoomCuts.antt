@@ -27,7 +27,7 @@ use Rattle.bridge.specs.Views.Room.{opened-clean}
 use Rattle.bridge.specs.Held.{Held}
 use Rattle.bridge.specs.Done.{next-free, open-held, ring-closed, old-after, copied-segments}
 use Rattle.crash.specs.States.{SoundWith, kept-shows}
-use Rattle.crash.specs.RecoverOwing.{rest-cut}
+use Rattle.crash.specs.OwingCuts.{rest-cut}
 use Rattle.crash.specs.RoomTorn.{BitSix, held-shows, next-torn}
 use Rattle.crash.specs.RoomOwing.{Full, old-valid, old-fits, Owing, owing-left}
 

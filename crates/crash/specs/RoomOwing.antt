@@ -30,7 +30,7 @@ use Rattle.bridge.specs.Requests.{row-fits, one-compaction, compacted-rows}
 use Rattle.crash.specs.Sound.{SoundAs}
 use Rattle.crash.specs.States.{isCase, mended, SoundWith}
 use Rattle.crash.specs.RecoverCount.{header-byte, other-part}
-use Rattle.crash.specs.RecoverOwing.{both, both-length, Keeps, keeps-of}
+use Rattle.crash.specs.OwingCuts.{both, both-length, Keeps, keeps-of}
 use Rattle.crash.specs.Recover.{case-state, case-shows}
 
 -- bytes 8 to 15 of a header are its number and the inverse

@@ -8,7 +8,7 @@ use native.Mathlib.Omega.{arith}
 use lib.Dec.{eqb}
 use borrow.Author.Tests.{ne-eqb}
 use Rattle.model.specs.Chip.{Image, Bytes, rightSize, run}
-use Rattle.model.specs.State.{segmentsOf, distinct, capacity, State, clean, unfinished, damaged, state}
+use Rattle.model.specs.State.{segmentsOf, distinct, State, clean, unfinished, damaged, state}
 use Rattle.model.specs.Steps.{formatSteps}
 use Rattle.model.specs.Table.{Table, lookup, Agree, contentsFound, tableOf}
 use Rattle.model.specs.Answers.{Request, format, put, delete, read, readOr, recover, workOf, pieceRead}
@@ -20,11 +20,12 @@ use Rattle.bridge.specs.Views.Shape.{clean-distinct}
 use Rattle.bridge.specs.Held.{clean-view}
 use Rattle.bridge.specs.Accepted.{recover-none}
 use Rattle.bridge.specs.Format.{format-bytes}
-use Rattle.crash.specs.Machine.{Board, malformed, plainCode, plainBytes, plain, made, next, codeOnTable, Promise, settled, interrupted, unknown, IsCut, OnTable, WantsRecovery, Holds, Moves, answers, answers-again, asks-recovery, refuses-malformed, not-begun, wholly-done, formats, format-cut, no-promise, PlainRuns, NoFormat}
+use Rattle.crash.specs.Machine.{malformed, plainCode, plainBytes, plain, made, next, codeOnTable, Promise, settled, interrupted, unknown, IsCut, OnTable, WantsRecovery, Holds, answers, answers-again, asks-recovery, refuses-malformed, not-begun, wholly-done, formats, format-cut, no-promise, PlainRuns, NoFormat}
 use Rattle.crash.specs.Demand2.{Keeps, Demand2, FromClean, FromFormer}
 use Rattle.crash.specs.Reading
-use Rattle.crash.specs.Sound.{SoundAs, Sound, Clean, finished, CutOf, formerIn, formerShown, DoneWith, LeftWith, RequestLaws}
+use Rattle.crash.specs.Sound.{SoundAs, Sound, Clean, finished, CutOf, formerIn, DoneWith, LeftWith, RequestLaws}
 use Rattle.crash.specs.Requests.{refused-idle, idle-finished, idle-cut, read-idle, readOr-idle, readOr-work, shown-clean, former-clean, sound-clean, read-refused, readOr-bytes, bytes-refused, ended, ended-or-stopped, code-clean, Unfinished, code-unfinished, code-recover, code-format, steps-format, malformed-small, code-agree, agree-made, distinct-made}
+use Rattle.crash.specs.Invariant.{Stores, WillShow, Invariant, board, Follows}
 
 -- ---- the table after a request with this code
 
@@ -47,37 +48,6 @@ distinct-after t n r q = go (eqb n 0)
     go : (x : Bool) → distinct (cond x (made t r) t) ≡ true
     go true = distinct-made t r q
     go false = q
-
--- ---- the invariant: how an image stands to a promise
-
-pub record Stores (N B : ℕ) (f : Bool) (s : Image) (t : Table) : Type 0 where
-  pub clean : Clean N B s
-  pub version : formerIn N B s ≡ f
-  pub table : Agree (tableOf N B s) t
-  pub once : distinct t ≡ true
-  pub bytes : Bytes s
-
-pub record WillShow (N B : ℕ) (f : Bool) (s : Image) (t : Table) : Type 0 where
-  pub sound : Sound N B s
-  pub version : formerShown N B s ≡ f
-  pub table : Agree (shown N B s) t
-  pub once : distinct t ≡ true
-  pub bytes : Bytes s
-
-abbrev pub Upholds : ℕ → ℕ → Bool → Image → Promise → Type 0
-Upholds N B f s (settled t) = Stores N B f s t
-Upholds N B f s (interrupted t) = WillShow N B f s t
-Upholds N B f s unknown = Unit {0}
-
-abbrev pub Invariant : ℕ → ℕ → Bool → Image → Promise → Type 0
-Invariant N B f s x = (rightSize N B s ≡ true) × Upholds N B f s x
-
-abbrev pub board : ℕ → ℕ → Bool → Board
-board N B f = record { places = capacity N B; former = f }
-
--- what an event has to give: a move of the machine, and the invariant after it
-abbrev pub Follows : ℕ → ℕ → Bool → Bool → Request → Seen → Promise → Image → Type 0
-Follows N B f w r o x m = (y : Promise) × Moves (board N B f) w r o x y × Invariant N B f m y
 
 size-finished : (N B : ℕ) (s m : Image) (r : Request) → rightSize N B s ≡ true → m ≡ finished N B s r → rightSize N B m ≡ true
 size-finished N B s m r z e = rw e (run-size N B (workOf N B s r .steps) s ∙ z)

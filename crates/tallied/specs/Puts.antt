@@ -29,7 +29,7 @@ use Rattle.bridge.specs.Done.{next-free, open-held}
 use Rattle.bridge.specs.Requests.{until-room, until-more, top-rises, carries-next, one-compaction, compacted-rows, put-valid, room-carries, roomed-below, roomed-held, roomed-clean, roomed-gap, after-clean, put-steps}
 use Rattle.crash.specs.Sound.{Accepted}
 use Rattle.crash.specs.Tops.{SameTop, same-segments, same-image, same-torn}
-use Rattle.crash.specs.RecoverOwing.{rest-top}
+use Rattle.crash.specs.OwingCuts.{rest-top}
 use Rattle.crash.specs.RoomOwing.{Full}
 use Rattle.crash.specs.RoomCuts.{open-left, copy-out-left, owed, rest-after, rest-last}
 use Rattle.crash.specs.WriteTop.{put-into-top}

@@ -30,7 +30,8 @@ use Rattle.crash.specs.States.{recover-steps}
 use Rattle.crash.specs.RecoverCount.{top, top-below, counts}
 use Rattle.crash.specs.RecoverMarks.{top-c, top-d}
 use Rattle.crash.specs.RecoverErase.{some, steps-a, erased-top}
-use Rattle.crash.specs.RecoverOwing.{by-old, ended-top, settled-top}
+use Rattle.crash.specs.RecoverOwing.{by-old}
+use Rattle.crash.specs.OwingCuts.{ended-top, settled-top}
 use Rattle.crash.specs.RecoverOwing
 use Rattle.wear.specs.Erases.{on-page, mark-none, settle-none}
 use Rattle.tallied.specs.Law.{tallyIn, BitLeft}
