@@ -1,5 +1,6 @@
-// Bench examples 2 to 11 of document 01, with 10 as request #105 changes it, and an empty record from before that request, run
-// on the code. What comes out is held to the file stdout.
+// Bench examples 2 to 11 of document 01, as requests #104 and #105 change them; recoveries until no bit is left; and what is
+// from before those requests, an image of version 1 and an empty record; run on the code. What comes out is held to the file
+// stdout.
 use libc::STDOUT_FILENO;
 use model::BlockNumber;
 use model::Located;
@@ -112,7 +113,7 @@ fn example_2_and_4() {
     let mut image = [0u8; 16384];
     text(b"example 2\n");
     told(b"format", store::format(&mut image, 4, 15, ENOUGH));
-    bytes(&image[0..17]);
+    bytes(&image[0..21]);
     text(b"\nexample 4\n");
     let pair = [0x41u8, 0x31];
     told(
@@ -141,7 +142,7 @@ fn example_3() {
         b"put 1",
         store::put(&mut image, 4, 15, BlockNumber(1), b"b", ENOUGH),
     );
-    bytes(&image[12288..12305]);
+    bytes(&image[12288..12309]);
     text(b"\n");
 }
 
@@ -216,6 +217,47 @@ fn example_10() {
     read(&image, 4, 15, 1);
 }
 
+// Recoveries that are cut before they erase, and so leave it to the next.
+fn counted(image: &mut [u8], times: u64) {
+    let mut i: u64 = 0;
+    while i < times {
+        i += 1;
+        store::recover(image, 2, 2, 1);
+    }
+}
+
+// A segment that was begun: 1,792 recoveries are counted in the top's header, the next is not, and no header follows it.
+fn all_bits() {
+    let mut image = [0u8; 1536];
+    small(&mut image, 2);
+    seven(&mut image, 9, 20);
+    counted(&mut image, 1791);
+    bytes(&image[28..36]);
+    bytes(&image[252..256]);
+    text(b"\n");
+    told(b"recover, budget 1", store::recover(&mut image, 2, 2, 1));
+    bytes(&image[252..256]);
+    text(b"\n");
+    told(b"recover, budget 1", store::recover(&mut image, 2, 2, 1));
+    seven(&mut image, 3, ENOUGH);
+    read(&image, 2, 2, 7);
+}
+
+// An image of version 1 is read and takes no put, until it is formatted.
+fn former_version() {
+    let mut image = [0u8; 1536];
+    small(&mut image, 1);
+    image[3] = 1;
+    image[17] = 255;
+    image[18] = 255;
+    image[19] = 255;
+    image[20] = 255;
+    seven(&mut image, 2, ENOUGH);
+    read(&image, 2, 2, 7);
+    told(b"format", store::format(&mut image, 2, 2, ENOUGH));
+    seven(&mut image, 2, ENOUGH);
+}
+
 // Block 1 is empty, from before request #105, and is read, copied by a compaction and deleted.
 fn empty_record() {
     text(b"request 105\n");
@@ -282,11 +324,14 @@ fn main() {
     cut(1, 5);
     cut(1, 6);
     text(b"example 8\n");
-    cut(2, 23);
-    cut(2, 24);
-    cut(2, 25);
+    cut(2, 27);
+    cut(2, 28);
+    cut(2, 29);
     example_9();
     example_10();
     example_11();
+    text(b"request 104\n");
+    all_bits();
+    former_version();
     empty_record();
 }

@@ -7,6 +7,7 @@ use native.Mathlib.Omega.{arith}
 use lib.ListN.{length, take, drop}
 use borrow.Author.Tests.{ne-eqb}
 use Rattle.model.specs.Chip.{Image, rightSize}
+use Rattle.model.specs.Header.{newVersion}
 use Rattle.model.specs.Slot.{numberOk}
 use Rattle.model.specs.State.{clean, state, view, placeOf}
 use Rattle.model.specs.Steps.{onPage, slotAt, markDead, markPlace, openSegment, eraseFirst, formatSteps, deleteSteps}
@@ -30,11 +31,11 @@ module _ (N B : ℕ) (s : Image) (budget : ℕ) where
 
   -- ---- format
 
-  pub format-done : {m left : ℕ} {t u : Image} {p : Performed} → rightSize N B s ≡ true → Ran (eraseFirst N) B budget m s t → Programmed (openSegment N B 0) m left t u → Finished budget left m 17 p
+  pub format-done : {m left : ℕ} {t u : Image} {p : Performed} → rightSize N B s ≡ true → Ran (eraseFirst N) B budget m s t → Programmed (openSegment N B (newVersion 0) 0) m left t u → Finished budget left m 21 p
       → performed p u ≡ outcomeOf N B s budget format
   unfolding stepsFor formatSteps
-  format-done e d f r = carried-outcome N B s budget format (eraseFirst N) (openSegment N B 0) (format-code N B s e) refl (omega (arith, open-length N B 0))
-      (carried (eraseFirst N) (openSegment N B 0) (_then_ d (f B)) (d .rest) (sym (open-length N B 0)) r)
+  format-done e d f r = carried-outcome N B s budget format (eraseFirst N) (openSegment N B (newVersion 0) 0) (format-code N B s e) refl (omega (arith, open-length N B 0 0))
+      (carried (eraseFirst N) (openSegment N B (newVersion 0) 0) (_then_ d (f B)) (d .rest) (sym (open-length N B 0 0)) r)
 
   -- ---- put, on an image that is not clean
 
