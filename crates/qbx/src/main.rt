@@ -22,11 +22,15 @@ fn usage(fd: i32) {
     );
     io::write_all(
         fd,
-        b"  delete BLOCK   forgets the block\n  recover        mends what a power cut left unfinished\n  check          says the state of the image, the segments in use, and their slots\n\n",
+        b"  delete BLOCK   forgets the block\n  recover        mends what a power cut left unfinished\n  check          says the state of the image, the segments in use, their slots, version and tally\n\n",
     );
     io::write_all(
         fd,
         b"--budget STEPS stops a verb that writes after so many flash steps, as a power cut would.\nThe answer is said with its number and the steps done. The file is replaced whole or not at all.\n",
+    );
+    io::write_all(
+        fd,
+        b"The version is the newest header's; the tally, in version 2, how many erases recoveries set about.\nOn version 1 put answers 11; get, delete and recover do their work, and format makes version 2.\n",
     );
 }
 

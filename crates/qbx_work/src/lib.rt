@@ -10,10 +10,11 @@ ghost use mathlib.Core.Path.{_≡_};
 ghost use Prim.Native.Nat.{_<_, _≤_};
 ghost use lib.ListN.{length};
 ghost use Rattle.request.specs.Request.{sizeOf};
+ghost use Rattle.qbx_says.specs.Lines.{mostLine};
 
 // Says a line.
 fn print(fd: i32, line: Line)
-    requires { ⌜ line .count ≤ 160 ⌝ }
+    requires { ⌜ line .count ≤ mostLine ⌝ }
 {
     let bytes = line.bytes;
     let n = line.count;

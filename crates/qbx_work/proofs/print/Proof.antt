@@ -3,19 +3,20 @@ use mathlib.Core.Path.{_≡_, sym}
 use native.Mathlib.Omega.{arith}
 use lib.ListN.{length}
 use lib.Seq.{length-take-le}
+use Rattle.qbx_says.specs.Lines.{mostLine}
 use borrow.Author.Needs.{needs}
 use Rattle.qbx_work.proofs.print.Statement.{statement}
 use Rattle.qbx_work.proofs.print.Tie as tie
 
 array-share-prefix-bytes : tie.Need-array-share-prefix-bytes
 array-share-prefix-bytes c =
-    let l : length (c .before .args .line .bytes) ≡ 160 = search needs in
+    let l : length (c .before .args .line .bytes) ≡ mostLine = search needs in
     omega arith
 
 slice-aggregate-write-all : tie.Need-slice-aggregate-write-all
 slice-aggregate-write-all c =
     let k = c .before .before in
-    let l : length (k .args .line .bytes) ≡ 160 = search needs in
+    let l : length (k .args .line .bytes) ≡ mostLine = search needs in
     sym (length-take-le (k .args .line .count) (k .args .line .bytes) (omega (arith, k .pre)))
 
 write-all-requires : tie.Need-write-all-requires
