@@ -87,7 +87,7 @@ fn slot_before(image: &[u8], segments: usize, slots: usize, plan: Plan, block: B
     find::find(image, segments, slots, plan.first, plan.used, block)
 }
 
-// The answer of a put on a clean image, but for a cut.
+// The answer of a put on a clean image of version 2, but for a cut.
 fn put_answer(segments: usize, slots: usize, plan: Plan, tally: Tally, found: Found) -> Answer
     requires { ⌜ Ranged segments slots plan × (tally .count < 4294969344) ⌝ }
     ensures { λ r. ⌜ r ≡ answerFor segments slots plan tally found ⌝ }
