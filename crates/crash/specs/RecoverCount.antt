@@ -1,19 +1,18 @@
 -- An erase counted in the top's header before it is made: whatever a cut leaves of that, only the top's tally differs.
-use Prim.Native.Nat.{ℕ, suc, _+_, _-_, _*_, _%_, _<_}
+use Prim.Native.Nat.{ℕ, _+_, _-_, _*_, _%_, _<_}
 use mathlib.Core.Path.{_≡_, sym, ap, _∙_}
 use mathlib.Core.Logic.{_≢_}
 use mathlib.Core.Bool.{true}
-use mathlib.Core.List.{List, [], _∷_}
+use mathlib.Core.List.{List, []}
 use native.Mathlib.Omega.{arith}
-use native.Mathlib.Decide.{decLt}
-use lib.ListN.{length, getD, set}
+use lib.ListN.{getD, set}
 use lib.Seq.{getD-set-other}
 use Rattle.model.specs.Chip.{Image, Page, Step, numberLimit, rightSize, Cut}
-use Rattle.model.specs.State.{Segment, blank, inUse, segmentsOf, numberAfter, slotsIn, nextNumber, topIndex, topVersion}
+use Rattle.model.specs.State.{Segment, blank, inUse, segmentsOf, slotsIn, nextNumber, topIndex, topVersion}
 use Rattle.model.specs.Steps.{onPage, headerAt, countErase}
 use Rattle.model.specs.Laws.Chip.{size-facts}
-use Rattle.model.specs.Laws.Segments.{parts, partOf, page-byte, Only, segments-length}
-use Rattle.model.specs.Laws.Effects.{index, numbered-at}
+use Rattle.model.specs.Laws.Segments.{parts, partOf, page-byte, Only}
+use Rattle.model.specs.Laws.Effects.{index, numbered-at, top-at}
 use Rattle.model.specs.Laws.Clean.{in-use-numbered}
 use Rattle.model.specs.Laws.Counted.{withVersion, count-cut}
 use Rattle.crash.specs.Alike.{Like}
@@ -33,19 +32,6 @@ pub other-byte : (N B i j k : ℕ) (s u : Image) → Only N B i s u → j ≢ i 
 other-byte N B i j k s u o n h l = sym (header-byte N B j k u h l) ∙ (ap (λ (y : List Page). getD (getD y 0 []) k 0) (other-part N B i j s u o n) ∙ header-byte N B j k s h l)
 
 -- ---- an erase counted in the top
-
-next-at : (l : List Segment) → 0 < nextNumber l → (i : ℕ) × (i < length l) × (numberAfter (getD l i blank) ≡ nextNumber l)
-unfolding nextNumber
-next-at [] h = absurd (omega arith)
-next-at (x ∷ l) h = elim (decLt (numberAfter x) (nextNumber l)) [ yes p ↦ let r = next-at l (omega arith) in (suc (r .0), omega (arith, r .1), r .2 ∙ omega arith) | no p ↦ (0, omega arith, omega arith) ]
-
--- the top has the largest number
-pub top-at : (N B : ℕ) (s : Image) → 0 < nextNumber (segmentsOf N B s) → numberAfter (getD (segmentsOf N B s) ((nextNumber (segmentsOf N B s) - 1) % N) blank) ≡ nextNumber (segmentsOf N B s)
-top-at N B s h =
-    let l = segmentsOf N B s in
-    let r = next-at l h in
-    let q = numbered-at N B s (r .0) (nextNumber l - 1) (omega (arith, r .1, segments-length N B s)) (r .2 ∙ omega arith) in
-    ap (λ (y : ℕ). numberAfter (getD l y blank)) (q .0) ∙ r .2
 
 -- the steps that count
 abbrev pub counts : ℕ → ℕ → List Segment → List Step

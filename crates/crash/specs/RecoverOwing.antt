@@ -22,18 +22,12 @@ use Rattle.model.specs.Laws.Bytes.{compacted-bit}
 use Rattle.model.specs.Laws.HeaderPage.{clear-pending}
 use Rattle.model.specs.Laws.PageCuts.{one-bit-cut}
 use Rattle.model.specs.Laws.Segments.{partOf, segment-at, segments-length, Only}
-use Rattle.model.specs.Laws.Effects.{index, numbered-at, in-use-parts, erase-effect, settle-effect}
-use Rattle.model.specs.Laws.Ring.{next-ge, next-same}
+use Rattle.model.specs.Laws.Effects.{index, numbered-at, in-use-parts, erase-effect, settle-effect, top-at}
+use Rattle.model.specs.Laws.Ring.{next-ge, next-same, owing-number}
 use Rattle.crash.specs.Alike.{Like, like-of, index-apart, like-next, like-settled, like-b}
 use Rattle.crash.specs.Tops.{SameTop, same-set}
 use Rattle.crash.specs.States.{isCase, mended, case-of, state-case, recovered-run, Mended}
-use Rattle.crash.specs.RecoverCount.{header-byte, top-at, counts, counted-like}
-
-owing-number : (x : Segment) → isOwing x ≡ true → 0 < numberAfter x
-unfolding isOwing numberAfter
-owing-number blank h = absurd (false≢true h)
-owing-number invalid h = absurd (false≢true h)
-owing-number (inUse ver st n ks) h = omega arith
+use Rattle.crash.specs.RecoverCount.{header-byte, counts, counted-like}
 
 owing-top : (x : Segment) (n : ℕ) → isOwing x ≡ true → numberAfter x ≡ suc n → x ≡ inUse (versionIn x) erasePending n (slotsIn x)
 unfolding isOwing numberAfter slotsIn versionIn

@@ -1,10 +1,8 @@
 -- The census: one slot and one segment more, and the ends; the state that a survey says; the top's version and tally.
-use Prim.Native.Nat.{ℕ, suc, _+_, _-_, _*_, _%_, _≤_, _<_}
+use Prim.Native.Nat.{ℕ, suc, _+_, _-_, _*_, _≤_, _<_}
 use mathlib.Core.Path.{_≡_, refl, sym, ap, _∙_}
 use mathlib.Core.Bool.{Bool, true, false, cond}
-use mathlib.Core.List.{List, [], _∷_}
-use native.Mathlib.Decide.{decLt}
-use native.Mathlib.Nat.{mod-lt}
+use mathlib.Core.List.{List}
 use native.Mathlib.Numerals.{add-one}
 use native.Mathlib.Omega.{arith}
 use lib.ListN.{length, getD, take, drop, drop-of-length-le}
@@ -14,10 +12,7 @@ use Rattle.model.specs.Lists.{chunk}
 use Rattle.model.specs.Chip.{Image, Page}
 use Rattle.model.specs.Header.{isFormer, headerVersion, headerInUse, headerStatus, headerNumber, isBlank}
 use Rattle.model.specs.Slot.{slotOf, kindOf}
-use Rattle.model.specs.State.{Segment, blank, invalid, inUse, numberAfter, versionIn, nextNumber, topIndex, topVersion, stateOf, segmentsOf}
-use Rattle.model.specs.Steps.{headerAt}
-use Rattle.model.specs.Laws.Segments.{segments-length}
-use Rattle.model.specs.Laws.Effects.{numbered-at}
+use Rattle.model.specs.State.{Segment, blank, invalid, inUse, nextNumber, topVersion, stateOf, segmentsOf}
 use Rattle.model.specs.declared.SegmentNumber.{SegmentNumber}
 use Rattle.model.specs.declared.SlotKind.{SlotKind}
 use Rattle.model.specs.declared.SlotKind.the-variants.{Empty, Torn, Live, Dead, Wrong}
@@ -26,6 +21,7 @@ use Rattle.header.specs.declared.HeaderSeen.the-variants.{InUse, NotInUse}
 use Rattle.header.specs.Parts.{headerSeen}
 use Rattle.tally.specs.declared.Tally.{Tally}
 use Rattle.tally.specs.Seen.{headerIn, tallySeen}
+use Rattle.tally.proofs.Laws.{top-version}
 use Rattle.judge.specs.declared.Headers.{Headers}
 use Rattle.judge.specs.Heads.{headersBy, headersOf}
 use Rattle.scan.specs.declared.Surveyed.{Surveyed}
@@ -107,44 +103,9 @@ segments-end l i c h = rw (drop-of-length-le l h)
 
 -- ---- the top
 
--- a segment has the largest number
-next-at : (l : List Segment) → 0 < nextNumber l → (i : ℕ) × (i < length l) × (numberAfter (getD l i blank) ≡ nextNumber l)
-unfolding nextNumber
-next-at [] h = absurd (omega arith)
-next-at (x ∷ l) h = elim (decLt (numberAfter x) (nextNumber l)) [ yes p ↦ let r = next-at l (omega arith) in (suc (r .0), omega (arith, r .1), r .2 ∙ omega arith) | no p ↦ (0, omega arith, omega arith) ]
-
--- the version of a segment in use is its header's
-used-version : (N B i n : ℕ) (s : Image) → i < N → numberAfter (getD (segmentsOf N B s) i blank) ≡ suc n → headerVersion (take 256 (drop (headerOffset B i) s)) ≡ versionIn (getD (segmentsOf N B s) i blank)
-unfolding segmentSeen numberAfter versionIn
-used-version N B i n s h e =
-    let q = segment-seen N B i s h in
-    go (headerInUse N B i hd) (isBlank bs) (sym (ap numberAfter q) ∙ e) ∙ sym (ap versionIn q)
-  where
-    hd : Page
-    hd = take 256 (drop (headerOffset B i) s)
-
-    bs : List ℕ
-    bs = take ((B + 1) * 256) (drop (headerOffset B i) s)
-
-    go : (a b : Bool) → numberAfter (cond a (inUse (headerVersion hd) (headerStatus hd) (headerNumber hd) (slotsAt s (slotsOffset B i) B)) (cond b blank invalid)) ≡ suc n
-        → headerVersion hd ≡ versionIn (cond a (inUse (headerVersion hd) (headerStatus hd) (headerNumber hd) (slotsAt s (slotsOffset B i) B)) (cond b blank invalid))
-    go true b q = refl
-    go false true q = absurd (omega arith)
-    go false false q = absurd (omega arith)
-
 module _ (N B : ℕ) (s : Image) (some : 0 < N) where
   abbrev l : List Segment
   l = segmentsOf N B s
-
-  -- the header of the number before the next is the top's
-  top-version : 0 < nextNumber l → headerVersion (headerIn N B (nextNumber l - 1) s) ≡ topVersion N l
-  unfolding headerIn headerAt topVersion topIndex
-  top-version h =
-      let n = nextNumber l - 1 in
-      let r = next-at l h in
-      let e : numberAfter (getD l (r .0) blank) ≡ suc n = r .2 ∙ omega arith in
-      let q = numbered-at N B s (r .0) n (omega (arith, r .1, segments-length N B s)) e in
-      used-version N B (n % N) n s (mod-lt n some) (ap (λ (y : ℕ). numberAfter (getD l y blank)) (q .0) ∙ e)
 
   module _ (h : Headers) (e : h ≡ headersOf N l) where
     next-is : h .next ≡ nextNumber l
@@ -157,7 +118,7 @@ module _ (N B : ℕ) (s : Image) (some : 0 < N) where
 
     module _ (z : h .next ≡ 0 → ⊥) (t : Tally) (q : t ≡ tallySeen (headerVersion (headerIn N B (h .next - 1) s))) where
       told : t ≡ tallySeen (topVersion N l)
-      told = q ∙ (ap (λ (n : ℕ). tallySeen (headerVersion (headerIn N B (n - 1) s))) next-is ∙ ap tallySeen (top-version (omega (arith, z, next-is))))
+      told = q ∙ (ap (λ (n : ℕ). tallySeen (headerVersion (headerIn N B (n - 1) s))) next-is ∙ ap tallySeen (top-version N B s some (omega (arith, z, next-is))))
 
       pub top-told : cond (t .former) Version1 (Version2 (t .count) (t .«used_up»)) ≡ topTold N l
       unfolding topTold versionTold tallySeen

@@ -1,10 +1,10 @@
 -- Laws of the tally: bits of a byte, cleared bits counted, bytes that have none left, and the step that clears one more.
-use Prim.Native.Nat.{ℕ, suc, _+_, _-_, _*_, _/_, _^_, _≤_, _<_}
+use Prim.Native.Nat.{ℕ, suc, _+_, _-_, _*_, _/_, _%_, _^_, _≤_, _<_}
 use mathlib.Core.Path.{_≡_, refl, sym, ap, _∙_}
 use mathlib.Core.Logic.{⊎-elim}
 use mathlib.Core.Bool.{Bool, true, false, cond, _&&_, false≢true}
 use mathlib.Core.List.{List, [], _∷_, _++_}
-use native.Mathlib.Nat.{add-zero, zero-add}
+use native.Mathlib.Nat.{add-zero, zero-add, mod-lt}
 use native.Mathlib.Numerals.{add-one}
 use native.Mathlib.Omega.{arith}
 use lib.ListN.{length, getD, take, drop, length-drop, drop-of-length-le}
@@ -13,11 +13,16 @@ use lib.Count.{ones, onesIn, leadingZeros, leading-top}
 use lib.Dec.{leb, eqb, leb·suc-zero, leb·suc-suc}
 use borrow.Author.Tests.{eqb-true, eqb-false, eq-eqb, ne-eqb, leb-true}
 use Rattle.model.specs.Lists.{all, count}
-use Rattle.model.specs.Chip.{Image, Page, Step, program}
+use Rattle.model.specs.Chip.{Image, Page, Step, program, pagesOf}
 use Rattle.model.specs.Header.{Version, version1, version2, isFormer, bitValues, clearedIn, clearedBits, tallyOf, noBitLeft, headerVersion, isBlank}
+use Rattle.model.specs.State.{blank, segmentsOf, slotsIn, versionIn, nextNumber, topIndex, topVersion}
 use Rattle.model.specs.Steps.{onPage, headerAt, highestOf, highestBit, clearNext, countErase}
 use Rattle.model.specs.Laws.Lists.{and-left, and-right}
 use Rattle.model.specs.Laws.Bytes.{below, allBelow}
+use Rattle.model.specs.Laws.Chunk.{chunk-part}
+use Rattle.model.specs.Laws.Segments.{partOf, part-page, page-in, segment-at}
+use Rattle.model.specs.Laws.Effects.{in-use-parts, top-at}
+use Rattle.model.specs.Laws.Clean.{in-use-numbered}
 use Rattle.flash.specs.Ran.{Programmed, Within}
 use Rattle.flash.specs.Pages.{Sized}
 use Rattle.flash.proofs.Laws.{ran-none}
@@ -201,3 +206,18 @@ module _ (N B n at : ℕ) (s : Image) (sized : Sized N B (length s)) (e : at ≡
       let h = take (at + 256 - at) (drop at s) in
       let w : Within 256 (countErase (headerVersion h)) = page-within h (length-take-le (at + 256 - at) (drop at s) (omega (arith, length-drop at s)) ∙ omega arith) in
       rw (← lent) (in-page at (headerAt N B n) (countErase (headerVersion h)) e (on-page at s (countErase (headerVersion h)) i w d))
+
+-- ---- the top's header
+
+-- has the version of the image
+pub top-version : (N B : ℕ) (s : Image) → 0 < N → 0 < nextNumber (segmentsOf N B s) → headerVersion (headerIn N B (nextNumber (segmentsOf N B s) - 1) s) ≡ topVersion N (segmentsOf N B s)
+unfolding topVersion topIndex headerIn headerAt pagesOf
+top-version N B s p some =
+    let n = nextNumber (segmentsOf N B s) - 1 in
+    let i = n % N in
+    let x = getD (segmentsOf N B s) i blank in
+    let h = mod-lt n p in
+    let e : i * (B + 1) ≡ i * (B + 1) + 0 = omega arith in
+    let page : take 256 (drop (i * (B + 1) * 256) s) ≡ getD (partOf N B i s) 0 [] = rw e (sym (part-page N B i 0 s h (omega arith) ∙ chunk-part 256 (N * (B + 1)) (i * (B + 1) + 0) s (page-in N B i 0 h (omega arith)))) in
+    let t = in-use-numbered x n (top-at N B s some ∙ omega (arith, some)) in
+    ap headerVersion page ∙ in-use-parts N B i (partOf N B i s) (versionIn x) (t .0) n (slotsIn x) (sym (segment-at N B i s h) ∙ t .1) .version

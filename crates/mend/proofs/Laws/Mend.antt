@@ -1,29 +1,27 @@
 -- Laws of a recovery: each state of an unfinished image and the steps that mend it.
-use Prim.Native.Nat.{ℕ, _+_, _-_, _*_, _%_, _≤_, _<_}
-use mathlib.Core.Path.{_≡_, refl, sym, ap, _∙_, subst}
+use Prim.Native.Nat.{ℕ, _+_, _-_, _*_, _%_, _<_}
+use mathlib.Core.Path.{_≡_, refl, ap, _∙_, subst}
 use mathlib.Core.Bool.{Bool, true, false, cond, _||_, _&&_, not, false≢true}
-use mathlib.Core.List.{List, [], _∷_, _++_, map}
+use mathlib.Core.List.{List, [], _∷_, _++_}
 use native.Mathlib.Nat.{mod-lt, mul-le-mul-right, suc-mul}
 use native.Mathlib.Omega.{arith}
-use lib.ListN.{length, getD, take, drop, length-set}
+use lib.ListN.{length, getD, length-set}
 use lib.Dec.{eqb, ltb}
 use borrow.Author.Tests.{eqb-true, lt-ltb}
-use Rattle.model.specs.Chip.{Image, Page, Step, erase, imageLength, pagesOf, rightSize}
-use Rattle.model.specs.Header.{headerVersion, headerStatus, headerNumber, headerInUse, allBlank}
-use Rattle.model.specs.Slot.{empty, slotOf, isTorn}
-use Rattle.model.specs.State.{Segment, blank, invalid, inUse, segmentOf, segmentsOf, isInUse, isInvalid, isOwing, numberAfter, slotsIn, versionIn, nextNumber, topIndex, nextIndex, topSlots, topVersion, usedCount, firstNumber, viewOf, entriesIn, holds, isClean, nextBlanked, isA, topSettled, isB, lastSlot, lastKind, tornMarked, isC, placeOf, lastBlock, copies, older, olderMarked, isD, Exception, caseA, caseB, caseC, caseD, clean, unfinished, damaged, stateOf, state}
-use Rattle.model.specs.Steps.{onPage, headerAt, slotAt, markDead, markPlace, settle, eraseNext, unlessBlank, mendSteps, recoverSteps}
+use Rattle.model.specs.Chip.{Image, Step, erase, imageLength, rightSize}
+use Rattle.model.specs.Slot.{empty, isTorn}
+use Rattle.model.specs.State.{Segment, blank, invalid, inUse, segmentsOf, isInUse, isInvalid, isOwing, numberAfter, slotsIn, nextNumber, topIndex, nextIndex, topSlots, usedCount, firstNumber, viewOf, entriesIn, holds, isClean, nextBlanked, isA, topSettled, isB, lastSlot, lastKind, tornMarked, isC, placeOf, lastBlock, copies, older, olderMarked, isD, Exception, caseA, caseB, caseC, caseD, clean, unfinished, damaged, stateOf, state}
+use Rattle.model.specs.Steps.{onPage, slotAt, markDead, markPlace, settle, eraseNext, unlessBlank, mendSteps, recoverSteps}
 use Rattle.model.specs.Answers.{codeOf, recover, stepsFor, performed, outcomeOf}
 use Rattle.model.specs.declared.Answer.the-variants.{Done, Damaged}
 use Rattle.model.specs.declared.Performed.{Performed}
 use Rattle.model.specs.Laws.Lists.{and-left, and-right}
 use Rattle.model.specs.Laws.Chip.{size-facts}
-use Rattle.model.specs.Laws.Chunk.{chunk-part}
 use Rattle.model.specs.Laws.Exclusive.{inside}
-use Rattle.model.specs.Laws.Segments.{partOf, part-page, page-in, segment-at, segments-length}
-use Rattle.model.specs.Laws.Ring.{next-ge, next-kept, get-kept, number-in-use}
-use Rattle.model.specs.Laws.Clean.{clean-ring, used-next, numbered}
-use Rattle.tally.specs.Seen.{headerIn}
+use Rattle.model.specs.Laws.Segments.{segments-length}
+use Rattle.model.specs.Laws.Ring.{next-ge, next-kept, owing-number}
+use Rattle.model.specs.Laws.Clean.{clean-ring, used-next}
+use Rattle.tally.proofs.Laws.{top-version}
 use Rattle.request.specs.Request.{Refused, Carried}
 use Rattle.mend.specs.Marks.{PageAt, MarkedAt}
 use Rattle.mend.specs.Erasing.{counting, erasing}
@@ -57,30 +55,6 @@ unnumbered blank e = absurd (false≢true e)
 unnumbered invalid e = refl
 unnumbered (inUse ver st n ks) e = absurd (false≢true e)
 
-owing-used : (x : Segment) → isOwing x ≡ true → isInUse x ≡ true
-unfolding isOwing isInUse
-owing-used blank e = absurd (false≢true e)
-owing-used invalid e = absurd (false≢true e)
-owing-used (inUse ver st n ks) e = refl
-
-used-number : (x : Segment) → isInUse x ≡ true → 1 ≤ numberAfter x
-unfolding isInUse numberAfter
-used-number blank e = absurd (false≢true e)
-used-number invalid e = absurd (false≢true e)
-used-number (inUse ver st n ks) e = omega arith
-
-seen-version : (N B i : ℕ) (ps : List Page) → isInUse (segmentOf N B i ps) ≡ true → headerVersion (getD ps 0 []) ≡ versionIn (segmentOf N B i ps)
-unfolding segmentOf isInUse versionIn
-seen-version N B i ps u = go (headerInUse N B i (getD ps 0 [])) (allBlank ps) u
-  where
-    seen : Bool → Bool → Segment
-    seen t b = cond t (inUse (headerVersion (getD ps 0 [])) (headerStatus (getD ps 0 [])) (headerNumber (getD ps 0 [])) (map slotOf (drop 1 ps))) (cond b blank invalid)
-
-    go : (t b : Bool) → isInUse (seen t b) ≡ true → headerVersion (getD ps 0 []) ≡ versionIn (seen t b)
-    go true b u = refl
-    go false true u = absurd (false≢true u)
-    go false false u = absurd (false≢true u)
-
 -- ---- an image
 
 module _ (N B : ℕ) (s : Image) (z : rightSize N B s ≡ true) where
@@ -91,44 +65,30 @@ module _ (N B : ℕ) (s : Image) (z : rightSize N B s ≡ true) where
   unfolding state stateOf
   tested x e = passed x (isClean N B l) (isA N B l) (isB N B l) (isC N B l) (isD N B l) e
 
-  -- ---- the top is in use in (a) and (b)
+  -- ---- (a) and (b) have a top
 
-  abbrev top-segment : Segment
-  top-segment = getD l (topIndex N l) blank
-
-  used-a : state N B s ≡ unfinished caseA → isInUse top-segment ≡ true
-  unfolding isA nextBlanked topIndex
-  used-a e =
+  some-a : state N B s ≡ unfinished caseA → 0 < nextNumber l
+  unfolding isA nextBlanked
+  some-a e =
       let x = getD l (nextIndex N l) blank in
       let m = nextBlanked N l in
       let a = tested caseA e in
       let r = clean-ring N B m (length-set l (nextIndex N l) blank ∙ segments-length N B s) (and-right (isInvalid x) (isClean N B m) a) in
-      let none = unnumbered x (and-left (isInvalid x) (isClean N B m) a) in
-      let n : nextNumber m ≡ nextNumber l = next-kept l (nextIndex N l) blank none in
-      let k = numbered N m r (nextNumber l - 1) (omega (arith, n, r .some, used-next N m r)) (omega (arith, n, r .some, used-next N m r)) in
-      number-in-use top-segment (nextNumber l - 1) (sym (get-kept numberAfter l (nextIndex N l) blank none ((nextNumber l - 1) % N)) ∙ k)
+      omega (arith, next-kept l (nextIndex N l) blank (unnumbered x (and-left (isInvalid x) (isClean N B m) a)), r .some, used-next N m r)
 
-  used-b : state N B s ≡ unfinished caseB → isInUse top-segment ≡ true
+  some-b : state N B s ≡ unfinished caseB → 0 < nextNumber l
   unfolding isB
-  used-b e = owing-used top-segment (and-left (isOwing top-segment) (eqb (usedCount (topSettled N l)) (N - 1) && isClean N B (topSettled N l)) (tested caseB e))
+  some-b e =
+      let x = getD l (topIndex N l) blank in
+      omega (arith, owing-number x (and-left (isOwing x) (eqb (usedCount (topSettled N l)) (N - 1) && isClean N B (topSettled N l)) (tested caseB e)), next-ge l (topIndex N l))
 
   -- ---- the steps of a recovery that erases
 
-  -- the top's header, as it is read
-  top-version : isInUse top-segment ≡ true → headerVersion (headerIn N B (nextNumber l - 1) s) ≡ topVersion N l
-  unfolding topVersion topIndex headerIn headerAt pagesOf
-  top-version u =
-      let i = (nextNumber l - 1) % N in
-      let h = mod-lt (nextNumber l - 1) {m = N} (omega (arith, size-facts N B s z .two)) in
-      let e : i * (B + 1) ≡ i * (B + 1) + 0 = omega arith in
-      let page : take 256 (drop (i * (B + 1) * 256) s) ≡ getD (partOf N B i s) 0 [] = rw e (sym (part-page N B i 0 s h (omega arith) ∙ chunk-part 256 (N * (B + 1)) (i * (B + 1) + 0) s (page-in N B i 0 h (omega arith)))) in
-      rw (page, segment-at N B i s h) (seen-version N B i (partOf N B i s) (rw (segment-at N B i s h) at u))
-
-  erasing-next : (top : ℕ) → top ≡ nextNumber l - 1 → isInUse top-segment ≡ true → eraseNext N B l ≡ erasing N B top s
+  erasing-next : (top : ℕ) → top ≡ nextNumber l - 1 → 0 < nextNumber l → eraseNext N B l ≡ erasing N B top s
   unfolding eraseNext erasing counting nextIndex
-  erasing-next top is u =
-      let e : (top + 1) % N ≡ nextNumber l % N = ap (λ (y : ℕ). y % N) (omega (arith, used-number top-segment u, next-ge l (topIndex N l))) in
-      rw (e, is, top-version u)
+  erasing-next top is some =
+      let e : (top + 1) % N ≡ nextNumber l % N = ap (λ (y : ℕ). y % N) (omega arith) in
+      rw (e, is, top-version N B s (omega (arith, size-facts N B s z .two)) some)
 
   -- ---- the marked slots of (c) and (d) are inside the image
 
@@ -181,13 +141,13 @@ module _ (N B : ℕ) (s : Image) (z : rightSize N B s ≡ true) where
     module _ (top : ℕ) (is : top ≡ nextNumber (segmentsOf N B s) - 1) {p : Performed} {t : Image} where
       pub mend-a : state N B s ≡ unfinished caseA → Carried (counting N B top s) (erase ((top + 1) % N) ∷ []) B budget p s t → performed p t ≡ outcomeOf N B s budget recover
       unfolding mendSteps erasing
-      mend-a e c = mended caseA (counting N B top s) (erase ((top + 1) % N) ∷ []) e (erasing-next top is (used-a e)) refl c
+      mend-a e c = mended caseA (counting N B top s) (erase ((top + 1) % N) ∷ []) e (erasing-next top is (some-a e)) refl c
 
       pub mend-b : state N B s ≡ unfinished caseB → (b : Bool) → b ≡ not (isInUse (getD (segmentsOf N B s) (nextIndex N (segmentsOf N B s)) blank) || isInvalid (getD (segmentsOf N B s) (nextIndex N (segmentsOf N B s)) blank))
           → Carried (cond b [] (erasing N B top s)) (settle N B top) B budget p s t → performed p t ≡ outcomeOf N B s budget recover
       unfolding mendSteps unlessBlank
       mend-b e b h c = mended caseB (cond b [] (erasing N B top s)) (settle N B top) e
-          (rw (erasing-next top is (used-b e), ← is, h) (flip (isInUse (getD l (nextIndex N l) blank) || isInvalid (getD l (nextIndex N l) blank)))) (settle-length N B top) c
+          (rw (erasing-next top is (some-b e), ← is, h) (flip (isInUse (getD l (nextIndex N l) blank) || isInvalid (getD l (nextIndex N l) blank)))) (settle-length N B top) c
         where
           flip : (t : Bool) → cond t (erasing N B top s) [] ++ settle N B top ≡ cond (not t) [] (erasing N B top s) ++ settle N B top
           flip true = refl

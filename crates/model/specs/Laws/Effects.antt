@@ -11,7 +11,7 @@ use Rattle.model.specs.Lists.{all, chunk}
 use Rattle.model.specs.Chip.{Image, Page, Step, erase, erased, withSegment, step, run, mostSegments, eraseLimit, numberLimit, imageLength, Cut}
 use Rattle.model.specs.Header.{opened, erasePending, compacted, Version, newVersion, totalFits, noOldSegment, statusInUse, headerPage, headerStatus, headerNumber, headerVersion, oldIndex, headerInUse, isBlank, allBlank}
 use Rattle.model.specs.Slot.{Slot, empty, dead, live, slotOf}
-use Rattle.model.specs.State.{Segment, blank, invalid, inUse, segmentOf, segmentsOf, numberAfter, withSlot}
+use Rattle.model.specs.State.{Segment, blank, invalid, inUse, segmentOf, segmentsOf, numberAfter, nextNumber, withSlot}
 use Rattle.model.specs.Steps.{onPage, headerAt, slotAt, writeSlot, markDead, openSegment, settle}
 use Rattle.model.specs.Laws.Lists.{all-get, map-set, map-length, map-get}
 use Rattle.model.specs.Laws.Chunk.{chunk-replicate}
@@ -19,7 +19,8 @@ use Rattle.model.specs.Laws.Bytes.{blank-erased, erased-blank, erased-le
 use Rattle.model.specs.Laws.Pages.{InPage}
 use Rattle.model.specs.Laws.HeaderPage.{header-status, header-number, header-version, new-fits, header-in-use, number-fits, in-use-facts, openingHeader, settledHeader, open-segment-page, settle-page, opening-in-page, settled-in-page, opening-run, settled-run, erased-unused}
 use Rattle.model.specs.Laws.SlotPage.{Valid, slot-live, erased-empty, empty-erased, Markable, marked-dead, mark-in-page, write-in-page, write-run}
-use Rattle.model.specs.Laws.Segments.{partOf, part-size, page-size, segment-at, Only, only-segments, only-part, page-in-segment, only-run, only-cut, part-run, part-cut, replaced-parts, erased-image}
+use Rattle.model.specs.Laws.Ring.{next-at}
+use Rattle.model.specs.Laws.Segments.{partOf, part-size, page-size, segment-at, segments-length, Only, only-segments, only-part, page-in-segment, only-run, only-cut, part-run, part-cut, replaced-parts, erased-image}
 
 -- ---- a segment, taken apart
 
@@ -58,6 +59,14 @@ numbered-at N B s i n h e = go (getD (segmentsOf N B s) i blank) refl e
         let f = in-use-facts N B i (getD (partOf N B i s) 0 []) (u .header) in
         let w : headerNumber (getD (partOf N B i s) 0 []) ≡ n = u .number ∙ omega arith in
         (rw w at (f .place), rw w at (f .below))
+
+-- so the segment with the largest number stands at that number's index
+pub top-at : (N B : ℕ) (s : Image) → 0 < nextNumber (segmentsOf N B s) → numberAfter (getD (segmentsOf N B s) ((nextNumber (segmentsOf N B s) - 1) % N) blank) ≡ nextNumber (segmentsOf N B s)
+top-at N B s h =
+    let l = segmentsOf N B s in
+    let r = next-at l h in
+    let q = numbered-at N B s (r .0) (nextNumber l - 1) (omega (arith, r .1, segments-length N B s)) (r .2 ∙ omega arith) in
+    ap (λ (y : ℕ). numberAfter (getD l y blank)) (q .0) ∙ r .2
 
 -- a header in use
 pub segment-in-use : (N B i : ℕ) (ps : List Page) → headerInUse N B i (getD ps 0 []) ≡ true

@@ -2,16 +2,17 @@
 use Prim.Native.Nat.{ℕ, zero, suc, _+_, _-_, _%_, max, _≤_, _<_}
 use mathlib.Core.Path.{_≡_, refl, sym, ap, ap₂, _∙_, subst}
 use mathlib.Core.Logic.{_≢_}
-use mathlib.Core.Bool.{true, false, _&&_}
+use mathlib.Core.Bool.{true, false, _&&_, false≢true}
 use mathlib.Core.List.{List, [], _∷_, _++_}
 use native.Mathlib.Omega.{arith}
+use native.Mathlib.Decide.{decLt}
 use native.Mathlib.Nat.{mod-lt}
 use lib.ListN.{length, getD, set, length-set}
 use lib.Seq.{set-getD, set-set, getD-set-same, getD-set-other}
 use lib.Dec.{eqb}
 use borrow.Author.Tests.{eqb-true, eq-eqb}
 use Rattle.model.specs.Slot.{Slot}
-use Rattle.model.specs.State.{Segment, blank, invalid, inUse, isInUse, numberAfter, slotsIn, nextNumber, usedCount, slotsFrom, numbersFrom}
+use Rattle.model.specs.State.{Segment, blank, invalid, inUse, isInUse, isOwing, numberAfter, slotsIn, nextNumber, usedCount, slotsFrom, numbersFrom}
 use Rattle.model.specs.Laws.Lists.{and-left, and-right, and-both, one, count-set, count-none, mod-inj}
 
 -- ---- the number after the largest
@@ -21,6 +22,12 @@ unfolding nextNumber numberAfter
 next-ge [] i = omega arith
 next-ge (x ∷ l) zero = omega arith
 next-ge (x ∷ l) (suc i) = let h = next-ge l i in omega arith
+
+-- some segment has the largest number
+pub next-at : (l : List Segment) → 0 < nextNumber l → (i : ℕ) × (i < length l) × (numberAfter (getD l i blank) ≡ nextNumber l)
+unfolding nextNumber
+next-at [] h = absurd (omega arith)
+next-at (x ∷ l) h = elim (decLt (numberAfter x) (nextNumber l)) [ yes p ↦ let r = next-at l (omega arith) in (suc (r .0), omega (arith, r .1), r .2 ∙ omega arith) | no p ↦ (0, omega arith, omega arith) ]
 
 pub next-set-le : (l : List Segment) (i : ℕ) (y : Segment) → nextNumber (set l i y) ≤ max (nextNumber l) (numberAfter y)
 unfolding nextNumber
@@ -156,6 +163,12 @@ unfolding numberAfter isInUse
 number-in-use blank n e = absurd (omega arith)
 number-in-use invalid n e = absurd (omega arith)
 number-in-use (inUse ver st m ks) n e = refl
+
+pub owing-number : (x : Segment) → isOwing x ≡ true → 0 < numberAfter x
+unfolding isOwing numberAfter
+owing-number blank e = absurd (false≢true e)
+owing-number invalid e = absurd (false≢true e)
+owing-number (inUse ver st n ks) e = omega arith
 
 -- where as many are in use as are numbered, no other is in use
 pub only-numbered : (N : ℕ) (l : List Segment) (u n i : ℕ) → length l ≡ N → u ≤ N → numbersFrom N l u n ≡ true → usedCount l ≡ u → i < N → Apart N u n i → isInUse (getD l i blank) ≡ false

@@ -1,65 +1,45 @@
 -- Laws of a put on a clean image: its refusals, from the numbers of a plan, the top's tally and a search.
-use Prim.Native.Nat.{ℕ, _+_, _-_, _*_, _/_, _%_, _≤_, _<_}
+use Prim.Native.Nat.{ℕ, _+_, _-_, _/_, _≤_, _<_}
 use mathlib.Core.Path.{_≡_, refl, sym, ap, _∙_, subst}
 use mathlib.Core.Logic.{⊎-elim}
 use mathlib.Core.Bool.{Bool, true, false, cond, _||_, _&&_, not}
 use mathlib.Core.List.{List, [], _∷_}
-use native.Mathlib.Nat.{mod-lt}
 use native.Mathlib.Omega.{arith}
 use denote.Enum.Declared.{tagOf}
 use types.Run.{OneOf}
-use lib.ListN.{length, getD}
 use lib.Dec.{ltb, leb, eqb}
 use borrow.Author.Tests.{lt-ltb, le-ltb, leb-false}
-use Rattle.model.specs.Chip.{Image, eraseLimit, pagesOf}
+use Rattle.model.specs.Chip.{Image, eraseLimit}
 use Rattle.model.specs.Header.{isFormer, tallyOf, noBitLeft, headerVersion}
-use Rattle.model.specs.State.{blank, segmentsOf, versionIn, nextNumber, topIndex, topVersion, View, viewOf, capacity, view}
-use Rattle.model.specs.Steps.{headerAt, topNumber, newNumbers, isWorn}
+use Rattle.model.specs.State.{segmentsOf, nextNumber, View, viewOf, capacity, view}
+use Rattle.model.specs.Steps.{topNumber, newNumbers, isWorn}
 use Rattle.model.specs.Answers.{codeOf, put, isFull}
 use Rattle.model.specs.Laws.Chip.{size-facts}
-use Rattle.model.specs.Laws.Chunk.{chunk-part}
-use Rattle.model.specs.Laws.Segments.{partOf, part-page, page-in, segment-at}
-use Rattle.model.specs.Laws.Effects.{in-use-parts}
 use Rattle.model.specs.declared.Answer.{Answer}
 use Rattle.model.specs.declared.Answer.the-variants.{Done, Full, Worn, FormerVersion}
 use Rattle.model.proofs.Answer.{the-type}
 use Rattle.bridge.specs.Accepted.{refusal}
-use Rattle.bridge.specs.Held.{Held, held-row, held-top}
+use Rattle.bridge.specs.Held.{Held, held-top}
 use Rattle.find.specs.declared.Found.{Found}
 use Rattle.find.specs.declared.Found.the-variants.{At, Nothing}
 use Rattle.find.specs.Search.{rowsAt, foundIn}
 use Rattle.find.proofs.Callers.{found-at, found-nothing}
 use Rattle.tally.specs.declared.Tally.{Tally}
 use Rattle.tally.specs.Seen.{headerIn, tallySeen}
+use Rattle.tally.proofs.Laws.{top-version}
 use Rattle.room.specs.declared.Plan.{Plan}
 use Rattle.room.specs.Room.{Planned}
 use Rattle.put.specs.Writing.{Ranged, newNumbersBy, wornBy, fullBy, answerFor, foundBefore, Puttable, Accepted}
 use Rattle.bridge.specs.Refusals.{put-former, put-full, put-worn}
-use Rattle.room.proofs.Laws.{plan-held, plan-clean, room-test, small, top-is}
+use Rattle.room.proofs.Laws.{plan-held, room-test, small, top-is}
 
 -- ---- the top's header
 
--- the page that is read there
-header-page : (N B n : ℕ) (s : Image) → 0 < N → headerIn N B n s ≡ getD (partOf N B (n % N) s) 0 []
-unfolding headerIn headerAt pagesOf
-header-page N B n s p =
-    let i = mod-lt n p in
-    let e : n % N * (B + 1) ≡ n % N * (B + 1) + 0 = omega arith in
-    rw e (sym (part-page N B (n % N) 0 s i (omega arith) ∙ chunk-part 256 (N * (B + 1)) (n % N * (B + 1) + 0) s (page-in N B (n % N) 0 i (omega arith))))
-
--- has the version of the view
-top-version : (N B : ℕ) (s : Image) (v : View) → Held N B s v → 1 ≤ length (v .slots) → headerVersion (headerIn N B (topNumber v) s) ≡ v .version
-unfolding view viewOf topVersion topIndex versionIn
-top-version N B s v h some =
-    let l = segmentsOf N B s in
-    let n = topNumber v in
-    let k = length (v .slots) - 1 in
-    let p : 0 < N = omega (arith, size-facts N B s (h .size) .two) in
-    let e : v .first + k ≡ n = unfold topNumber in omega arith in
-    let r = rw e at (held-row N B s v h k (omega arith)) in
-    let u = in-use-parts N B (n % N) (partOf N B (n % N) s) (r .0) (r .1) n (getD (v .slots) k []) (sym (segment-at N B (n % N) s (mod-lt n p)) ∙ r .2) in
-    let top : nextNumber l - 1 ≡ n = omega (arith, held-top N B s v h) in
-    ap headerVersion (header-page N B n s p) ∙ (u .version ∙ (sym (ap versionIn (r .2)) ∙ (ap (λ (y : ℕ). versionIn (getD l (y % N) blank)) (sym top) ∙ ap (λ (y : View). y .version) (h .view))))
+held-version : (N B : ℕ) (s : Image) (v : View) → Held N B s v → headerVersion (headerIn N B (topNumber v) s) ≡ v .version
+unfolding view viewOf
+held-version N B s v h =
+    let top : topNumber v ≡ nextNumber (segmentsOf N B s) - 1 = omega (arith, held-top N B s v h) in
+    rw top (top-version N B s (omega (arith, size-facts N B s (h .size) .two)) (omega (arith, held-top N B s v h))) ∙ ap (λ (y : View). y .version) (h .view)
 
 -- ---- worn
 
@@ -111,7 +91,7 @@ module _ (N B : ℕ) (p : Plan) (b : ℕ) (c : List ℕ) (s : Image) (u : Puttab
 
   -- what was read of the top's header
   pub top-seen : (n : ℕ) (t : Tally) → n ≡ p .first .0 + p .used - 1 → t ≡ tallySeen (headerVersion (headerIn N B n s)) → t ≡ tallySeen (view N B s .version)
-  top-seen n t e w = w ∙ (ap (λ (y : ℕ). tallySeen (headerVersion (headerIn N B y s))) (e ∙ top-number) ∙ ap tallySeen (top-version N B s v (plan-held N B p s k) (plan-clean N B p s k .some)))
+  top-seen n t e w = w ∙ (ap (λ (y : ℕ). tallySeen (headerVersion (headerIn N B y s))) (e ∙ top-number) ∙ ap tallySeen (held-version N B s v (plan-held N B p s k)))
 
   -- what a search finds
   abbrev there : Found
