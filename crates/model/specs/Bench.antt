@@ -1,4 +1,4 @@
--- Document 01, "Bench examples": those marked "Proved", 1 to 8, the lengths of 10 with what request #105 keeps, and the sizes of 11 with what request #108 takes: entries of one table under one statement (Laws.Bench).
+-- Document 01, "Bench examples": those marked "Proved", 1 to 8, the lengths of 10 with what request #105 keeps, the sizes of 11 with what request #108 takes, and what request #104 adds: entries of one table under one statement (Laws.Bench).
 use Prim.Native.Nat.{ℕ, zero, suc, _+_, _*_}
 use mathlib.Core.Bool.{Bool, true, cond, _||_, _&&_, not}
 use mathlib.Core.List.{List, [], _∷_, _++_}
@@ -10,7 +10,7 @@ use Rattle.model.specs.Header
 use Rattle.model.specs.Header.{erasePending, headerPage, Version, version1, version2, newVersion, oldIndex}
 use Rattle.model.specs.Slot.{Entry}
 use Rattle.model.specs.State.{segmentsOn, viewOf, entriesIn, capacity, stateOf}
-use Rattle.model.specs.Steps.{programs, onPage, headerAt, openSegment, copyEntries, eraseFirst}
+use Rattle.model.specs.Steps.{programs, onPage, headerAt, openSegment, copyEntries, copyOut, eraseFirst}
 use Rattle.model.specs.Answers.{Request, format, put, delete, recover, Work, workOf, codeUnder, isDamaged, isUnfinished, ReadOutcome, readOutcome}
 use Rattle.model.specs.Table.{lookup, contentsFound}
 use Rattle.model.specs.Sequences.{Call, play, observed, Observed, erasesIn, start, tally, eraseCount}
@@ -24,32 +24,22 @@ call r allowance = record { request = r; allowance = allowance }
 abbrev pub whole : Request → Call
 whole r = call r 1000
 
--- N, B, the first segment's header, records that stand in its first slots, and the calls after that
+-- N, B, the steps that made the image of an erased chip, and the calls after that. By steps there stands what no call can make any more
 pub record Setup : Type 0 where
   pub segments : ℕ
   pub slots : ℕ
-  -- version and number, as a format leaves them, a store from before request #104, or one that has worn the chip; and the bytes from 32 on that are not 255
-  pub version : Version
-  pub number : ℕ
-  pub bits : List ℕ
-  -- as a store from before request #105 may have left them
-  pub records : List Entry
+  pub made : List Step
   pub calls : List Call
 
 -- after a format
 abbrev pub after : ℕ → ℕ → List Call → Setup
-after N B xs = record { segments = N; slots = B; version = newVersion 0; number = 0; bits = []; records = []; calls = xs }
+after N B xs = record { segments = N; slots = B; made = openSegment N B (newVersion 0) 0; calls = xs }
 
 abbrev pub andThen : Setup → List Call → Setup
-andThen u xs = record { segments = u .segments; slots = u .slots; version = u .version; number = u .number; bits = u .bits; records = u .records; calls = u .calls ++ xs }
+andThen u xs = record { segments = u .segments; slots = u .slots; made = u .made; calls = u .calls ++ xs }
 
--- the steps of a format, but for the header's version and number; the bits cleared since; and the records written
 unfoldable pub recording : Setup → List Step
-recording u = let N = u .segments in let B = u .slots in let n = u .number in
-    eraseFirst N
-    ++ (openSegment N B (u .version) n
-    ++ (onPage (headerAt N B n) (programs 32 (u .bits))
-    ++ copyEntries N B n 0 (u .records)))
+recording u = eraseFirst (u .segments) ++ u .made
 
 -- on a chip full of zero bytes
 unfoldable pub recorded : Setup → Image
@@ -145,15 +135,15 @@ abbrev sevens : List ℕ → List Call
 sevens [] = []
 sevens (v ∷ vs) = whole (seven v) ∷ sevens vs
 
--- blocks 1 and 4, both empty, and 2 between them fill the first of three segments
+abbrev entry : ℕ → List ℕ → Entry
+entry b c = record { block = b; contents = c }
+
+-- blocks 1 and 4, both empty, as a store from before request #105 may have left them, and 2 between them fill the first of three segments
 abbrev shelf : List Call → Setup
 shelf xs = record {
   segments = 3;
   slots = 3;
-  version = newVersion 0;
-  number = 0;
-  bits = [];
-  records = record { block = 1; contents = [] } ∷ record { block = 2; contents = 1 ∷ [] } ∷ record { block = 4; contents = [] } ∷ [];
+  made = openSegment 3 3 (newVersion 0) 0 ++ copyEntries 3 3 0 0 (entry 1 [] ∷ entry 2 (1 ∷ []) ∷ entry 4 [] ∷ []);
   calls = xs;
 }
 
@@ -167,12 +157,25 @@ compacting = put 3 (2 ∷ [])
 abbrev compacted : Setup
 compacted = shelf (filling ++ (whole compacting ∷ []))
 
--- request #104: a board of version 1; and one of version 2 with this number, total and bits, whose first segment block 7 has filled
-abbrev board : ℕ → ℕ → List Call → Setup
-board N B xs = record { segments = N; slots = B; version = version1; number = 0; bits = []; records = record { block = 7; contents = 1 ∷ [] } ∷ []; calls = xs }
+-- request #104: the first segment of two, with block 7, in this version, and these steps after that
+abbrev board : ℕ → ℕ → Version → List Step → Setup
+board N B ver xs = record { segments = N; slots = B; made = openSegment N B ver 0 ++ (copyEntries N B 0 0 (entry 7 (1 ∷ []) ∷ []) ++ xs); calls = [] }
 
-abbrev aged : ℕ → ℕ → List ℕ → List Call → Setup
-aged n total bits xs = record { segments = 2; slots = 2; version = newVersion total; number = n; bits = bits; records = []; calls = sevens (1 ∷ 2 ∷ []) ++ xs }
+-- the tidying of it, to the owing mark, in this version
+abbrev owing : Version → List Step
+owing ver = copyOut 2 2 ver 0 1 (entry 7 (1 ∷ []) ∷ [])
+
+-- two of three segments in use, the first full, in these versions
+abbrev pair : Version → Version → Setup
+pair ver other = board 3 2 ver (copyEntries 3 2 0 1 (entry 8 [] ∷ []) ++ openSegment 3 2 other 1)
+
+-- a chip of segments with two slots, whose first header has this number, total and bits
+abbrev aged : ℕ → ℕ → ℕ → List ℕ → List Call → Setup
+aged N n total bits xs = record { segments = N; slots = 2; made = openSegment N 2 (newVersion total) n ++ onPage (headerAt N 2 n) (programs 32 bits); calls = xs }
+
+-- of two segments, the first filled by block 7
+abbrev filled : ℕ → ℕ → List ℕ → List Call → Setup
+filled n total bits xs = aged 2 n total bits (sevens (1 ∷ 2 ∷ []) ++ xs)
 
 -- 21 bits cleared, so that one is left in each of three bytes; and all but one
 abbrev fewBits : List ℕ
@@ -189,9 +192,16 @@ abbrev counting : ℕ → List Call
 counting zero = []
 counting (suc k) = call recover 1 ∷ counting k
 
+-- no bit
+abbrev noBits : List ℕ
+noBits = replicate 224 0
+
 -- three segments of two slots, where a put of block 4 tidies twice; it is cut, three recoveries are counted, and it is done
+abbrev fours : List Call
+fours = putEach (1 ∷ 2 ∷ 4 ∷ 4 ∷ [])
+
 abbrev twice : Setup
-twice = after 3 2 (putEach (1 ∷ 2 ∷ 4 ∷ 4 ∷ []) ++ (call (put 4 (2 ∷ [])) 20 ∷ (counting 2 ++ (whole recover ∷ whole (put 4 (2 ∷ [])) ∷ []))))
+twice = after 3 2 (fours ++ (call (put 4 (2 ∷ [])) 20 ∷ (counting 2 ++ (whole recover ∷ whole (put 4 (2 ∷ [])) ∷ []))))
 
 unfoldable pub examples : List Example
 examples =
@@ -201,7 +211,7 @@ examples =
     -- request #108: the largest image
     ∷ sizes 255 255 16711680 64769
     -- 2
-    ∷ begins (board 4 15 (whole format ∷ [])) 0
+    ∷ begins (andThen (board 4 15 version1 []) (whole format ∷ [])) 0
     (0x53 ∷ 0x4C ∷ 0x54 ∷ 0x02 ∷ 0x00 ∷ 0x3F ∷ 0x0F ∷ 0x04 ∷ 0x00 ∷ 0x00 ∷ 0x00 ∷ 0x00 ∷ 0xFF ∷ 0xFF ∷ 0xFF ∷ 0xFF ∷ 0xFF ∷ 0x00 ∷ 0x00 ∷ 0x00 ∷ 0x00 ∷ replicate 235 0xFF)
     -- 3: three full segments of fifteen slots, and the put that tidies the first to segment 3
     ∷ begins (after 4 15 (putEach (upFrom 1 44 ++ (1 ∷ 1 ∷ [])))) (3 * 16)
@@ -249,33 +259,61 @@ examples =
     ∷ begins (after 255 2 []) 0 (0x53 ∷ 0x4C ∷ 0x54 ∷ 0x02 ∷ 0x00 ∷ 0x3F ∷ 0x02 ∷ 0xFF ∷ 0x00 ∷ 0x00 ∷ 0x00 ∷ 0x00 ∷ 0xFF ∷ 0xFF ∷ 0xFF ∷ 0xFF ∷ 0xFF ∷ [])
     ∷ olds 255 253 254
     ∷ olds 255 254 0
-    -- request #104: a put on a board of version 1 answers 11, after 5 and before 7; the rest is as before, and a format makes version 2
-    ∷ answers (board 2 2 []) (seven 2) 11 0 0
-    ∷ answers (board 2 2 []) (put 8 (1 ∷ [])) 11 0 0
-    ∷ answers (board 2 2 []) (put 8 []) 3 0 0
-    ∷ reads (board 2 2 []) 7 0 (1 * 256 + 8) 1
-    ∷ answers (board 2 2 []) (delete 7) 0 1 0
-    ∷ answers (board 2 2 (whole format ∷ [])) (seven 2) 0 6 0
+    -- request #104: 17-20 are programmed just before 8-15: an opening and a tidying, each cut after byte 18
+    ∷ begins (after 2 2 (call format 12 ∷ [])) 0
+    (0x53 ∷ 0x4C ∷ 0x54 ∷ 0x02 ∷ 0x00 ∷ 0x7F ∷ 0x02 ∷ 0x02 ∷ 0xFF ∷ 0xFF ∷ 0xFF ∷ 0xFF ∷ 0xFF ∷ 0xFF ∷ 0xFF ∷ 0xFF ∷ 0xFF ∷ 0x00 ∷ 0x00 ∷ 0xFF ∷ 0xFF ∷ [])
+    ∷ begins (filled 0 0 [] (call (seven 3) 17 ∷ [])) 3
+    (0x53 ∷ 0x4C ∷ 0x54 ∷ 0x02 ∷ 0x00 ∷ 0xDF ∷ 0x02 ∷ 0x02 ∷ 0xFF ∷ 0xFF ∷ 0xFF ∷ 0xFF ∷ 0xFF ∷ 0xFF ∷ 0xFF ∷ 0xFF ∷ 0x00 ∷ 0x00 ∷ 0x00 ∷ 0xFF ∷ 0xFF ∷ [])
+    -- a put on a board of version 1 answers 11, before 7; the rest is as before, and a format makes version 2
+    ∷ answers (board 2 2 version1 []) (seven 2) 11 0 0
+    ∷ answers (board 2 2 version1 []) (put 8 (1 ∷ [])) 11 0 0
+    ∷ answers (board 2 2 version1 []) (put 8 []) 3 0 0
+    ∷ reads (board 2 2 version1 []) 7 0 (1 * 256 + 8) 1
+    ∷ answers (board 2 2 version1 []) (delete 7) 0 1 0
+    ∷ answers (andThen (board 2 2 version1 []) (whole format ∷ [])) (seven 2) 0 6 0
+    -- after 4 and 5: damaged, and unfinished in (a) to (d), where recovery is as before
+    ∷ answers (board 2 2 version1 (openSegment 2 2 version1 1)) (seven 2) 4 0 0
+    ∷ answers (board 2 2 version1 (onPage 3 (programs 5 (0xDF ∷ [])))) (seven 2) 5 0 0
+    ∷ answers (board 2 2 version1 (onPage 3 (programs 5 (0xDF ∷ [])))) recover 0 1 1
+    ∷ answers (board 2 2 version1 (owing version1)) (seven 2) 5 0 0
+    ∷ answers (board 2 2 version1 (owing version1)) recover 0 2 1
+    ∷ answers (board 2 2 version1 (onPage 2 (programs 0 (0x7F ∷ [])))) recover 0 1 0
+    ∷ answers (board 2 2 version1 (copyEntries 2 2 0 1 (entry 7 (2 ∷ []) ∷ []))) recover 0 1 0
+    -- both versions are damaged, but for the one after the top in (b): the count is by the top's
+    ∷ answers (pair version1 version1) (delete 7) 0 1 0
+    ∷ answers (pair (newVersion 0) (newVersion 0)) (delete 7) 0 1 0
+    ∷ answers (pair version1 (newVersion 0)) (delete 7) 4 0 0
+    ∷ answers (pair (newVersion 0) version1) (delete 7) 4 0 0
+    ∷ answers (board 2 2 version1 (owing (newVersion 0))) recover 0 3 1
+    ∷ answers (board 2 2 (newVersion 0) (owing version1)) recover 0 2 1
     -- a recovery clears a bit of the top's header before it erases: the first byte's highest one; after five such, byte 32 is 07
-    ∷ begins (aged 0 0 [] (torn ++ (whole recover ∷ []))) 0 (headerPage 2 2 (version2 0 (0x7F ∷ replicate 223 0xFF)) 0x3F 0 0xFF)
-    ∷ begins (aged 0 0 [] (torn ++ counting 5)) 0 (headerPage 2 2 (version2 0 (0x07 ∷ replicate 223 0xFF)) 0x3F 0 0xFF)
-    ∷ begins (aged 0 0 fewBits (torn ++ counting 2)) 0 (headerPage 2 2 (version2 0 (0x00 ∷ 0x00 ∷ 0x80 ∷ replicate 221 0xFF)) 0x3F 0 0xFF)
-    -- a new header carries total and bits on, with every bit set; the second of a put does not add the bits again
-    ∷ begins (aged 0 300 fewBits (whole (seven 3) ∷ [])) 3 (headerPage 2 2 (newVersion 321) 0x8F 1 0)
+    ∷ begins (filled 0 0 [] (torn ++ (whole recover ∷ []))) 0 (headerPage 2 2 (version2 0 (0x7F ∷ replicate 223 0xFF)) 0x3F 0 0xFF)
+    ∷ begins (filled 0 0 [] (torn ++ counting 5)) 0 (headerPage 2 2 (version2 0 (0x07 ∷ replicate 223 0xFF)) 0x3F 0 0xFF)
+    ∷ begins (filled 0 0 fewBits (torn ++ counting 2)) 0 (headerPage 2 2 (version2 0 (0x00 ∷ 0x00 ∷ 0x80 ∷ replicate 221 0xFF)) 0x3F 0 0xFF)
+    -- a new header carries total and bits on, with every bit set: of an opening, and of tidyings, the second of which does not add the bits again
+    ∷ begins (aged 3 0 300 fewBits (sevens (1 ∷ 2 ∷ 3 ∷ []))) 3 (headerPage 3 2 (newVersion 321) 0x3F 1 0xFF)
+    ∷ begins (filled 0 300 fewBits (whole (seven 3) ∷ [])) 3 (headerPage 2 2 (newVersion 321) 0x8F 1 0)
     ∷ begins twice 6 (headerPage 3 2 (newVersion 3) 0x8F 2 0)
     ∷ begins twice 0 (headerPage 3 2 (newVersion 3) 0x8F 3 1)
     -- with no bit left recovery does not count, and a put that needs a new header answers 8
-    ∷ answers (aged 0 0 lastBit torn) recover 0 2 1
-    ∷ answers (aged 0 0 lastBit (torn ++ counting 1)) recover 0 1 1
-    ∷ answers (aged 0 0 lastBit (torn ++ (whole recover ∷ []))) (seven 3) 8 0 0
+    ∷ answers (filled 0 0 lastBit torn) recover 0 2 1
+    ∷ answers (filled 0 0 lastBit (torn ++ counting 1)) recover 0 1 1
+    ∷ answers (filled 0 0 lastBit (torn ++ (whole recover ∷ []))) (seven 3) 8 0 0
+    ∷ answers (aged 3 0 0 noBits (sevens (1 ∷ 2 ∷ []))) (seven 3) 8 0 0
     -- worn by the total, by total and bits, and by the number: the whole part of 199,999 by 2 is one less than the limit
-    ∷ answers (aged 0 99999 [] []) (seven 3) 0 37 1
-    ∷ answers (aged 0 99999 (0x7F ∷ []) []) (seven 3) 8 0 0
-    ∷ answers (aged 0 99978 fewBits []) (seven 3) 0 37 1
-    ∷ answers (aged 0 99979 fewBits []) (seven 3) 8 0 0
-    ∷ answers (aged 199998 0 [] []) (seven 3) 0 37 1
-    ∷ answers (aged 199998 1 [] []) (seven 3) 8 0 0
-    ∷ answers (aged 199999 0 [] []) (seven 3) 8 0 0
+    ∷ answers (filled 0 99999 [] []) (seven 3) 0 37 1
+    ∷ answers (filled 0 99999 (0x7F ∷ []) []) (seven 3) 8 0 0
+    ∷ answers (filled 0 99978 fewBits []) (seven 3) 0 37 1
+    ∷ answers (filled 0 99979 fewBits []) (seven 3) 8 0 0
+    ∷ answers (filled 199998 0 [] []) (seven 3) 0 37 1
+    ∷ answers (filled 199998 1 [] []) (seven 3) 8 0 0
+    ∷ answers (filled 199999 0 [] []) (seven 3) 8 0 0
+    -- by the last of two numbers
+    ∷ answers (aged 3 0 99998 [] fours) (put 4 (2 ∷ [])) 0 73 2
+    ∷ answers (aged 3 0 99999 [] fours) (put 4 (2 ∷ [])) 8 0 0
+    -- a put with room is never worn
+    ∷ answers (aged 2 0 0 noBits (sevens (1 ∷ []))) (seven 2) 0 7 0
+    ∷ answers (aged 2 0 99999 (0x7F ∷ []) (sevens (1 ∷ []))) (seven 2) 0 7 0
     -- request #105: an empty record from before is read, deleted, and rewritten, which opens a segment here
     ∷ reads (shelf []) 1 0 (1 * 256 + 8) 0
     ∷ reads (shelf []) 4 0 (3 * 256 + 8) 0

@@ -102,8 +102,8 @@ tallyBytes (version2 total bits) = numberBytes total ++ (erased 11 ++ bits)
 
 -- the letters SLT, version, status, B, N, number, the same inverted, index of the old segment, tally
 unfoldable pub headerPage : ℕ → ℕ → Version → ℕ → ℕ → ℕ → Page
-headerPage N B e st n old =
-    0x53 ∷ 0x4C ∷ 0x54 ∷ versionNumber e ∷ 0 ∷ st ∷ B ∷ N ∷ (numberBytes n ++ (inverted (numberBytes n) ++ (old ∷ tallyBytes e)))
+headerPage N B ver st n old =
+    0x53 ∷ 0x4C ∷ 0x54 ∷ versionNumber ver ∷ 0 ∷ st ∷ B ∷ N ∷ (numberBytes n ++ (inverted (numberBytes n) ++ (old ∷ tallyBytes ver)))
 
 unfoldable pub headerStatus : Page → ℕ
 headerStatus h = getD h 5 0
@@ -120,8 +120,8 @@ oldIndex N i st = cond (eqb st opened) noOldSegment ((i + 1) % N)
 
 -- the header of a segment in use at index i
 unfoldable pub headerInUse : ℕ → ℕ → ℕ → Page → Bool
-headerInUse N B i h = let e = headerVersion h in let st = headerStatus h in let n = headerNumber h in
-    statusInUse st && (totalFits e && (ltb n (numberLimit N) && (eqb (n % N) i && same h (headerPage N B e st n (oldIndex N i st)))))
+headerInUse N B i h = let ver = headerVersion h in let st = headerStatus h in let n = headerNumber h in
+    statusInUse st && (totalFits ver && (ltb n (numberLimit N) && (eqb (n % N) i && same h (headerPage N B ver st n (oldIndex N i st)))))
 
 -- ---- blank
 

@@ -36,40 +36,40 @@ segmentsOf N B s = segmentsOn N B (pagesOf N B s)
 unfoldable pub isInUse : Segment → Bool
 isInUse blank = false
 isInUse invalid = false
-isInUse (inUse e st n ks) = true
+isInUse (inUse ver st n ks) = true
 
 unfoldable pub isInvalid : Segment → Bool
 isInvalid blank = false
 isInvalid invalid = true
-isInvalid (inUse e st n ks) = false
+isInvalid (inUse ver st n ks) = false
 
 unfoldable pub isOwing : Segment → Bool
 isOwing blank = false
 isOwing invalid = false
-isOwing (inUse e st n ks) = eqb st erasePending
+isOwing (inUse ver st n ks) = eqb st erasePending
 
 -- one more than its number, or 0 if not in use
 unfoldable pub numberAfter : Segment → ℕ
 numberAfter blank = 0
 numberAfter invalid = 0
-numberAfter (inUse e st n ks) = suc n
+numberAfter (inUse ver st n ks) = suc n
 
 unfoldable pub slotsIn : Segment → List Slot
 slotsIn blank = []
 slotsIn invalid = []
-slotsIn (inUse e st n ks) = ks
+slotsIn (inUse ver st n ks) = ks
 
--- its version; one that is not in use has none
+-- its version; one that is not in use has none, and nothing asks for it
 unfoldable pub versionIn : Segment → Version
 versionIn blank = version1
 versionIn invalid = version1
-versionIn (inUse e st n ks) = e
+versionIn (inUse ver st n ks) = ver
 
 -- not in use, or of this version
 unfoldable pub ofVersion : ℕ → Segment → Bool
 ofVersion k blank = true
 ofVersion k invalid = true
-ofVersion k (inUse e st n ks) = eqb (versionNumber e) k
+ofVersion k (inUse ver st n ks) = eqb (versionNumber ver) k
 
 -- ---- the top: the one in use with the largest number
 
@@ -204,7 +204,7 @@ isA N B l = isInvalid (getD l (nextIndex N l) blank) && isClean N B (nextBlanked
 unfoldable pub settled : Segment → Segment
 settled blank = blank
 settled invalid = invalid
-settled (inUse e st n ks) = inUse e compacted n ks
+settled (inUse ver st n ks) = inUse ver compacted n ks
 
 unfoldable pub topSettled : ℕ → List Segment → List Segment
 topSettled N l = set (nextBlanked N l) (topIndex N l) (settled (getD l (topIndex N l) blank))
@@ -216,7 +216,7 @@ isB N B l = isOwing (getD l (topIndex N l) blank) && (eqb (usedCount (topSettled
 unfoldable pub withSlot : ℕ → Slot → Segment → Segment
 withSlot j k blank = blank
 withSlot j k invalid = invalid
-withSlot j k (inUse e st n ks) = inUse e st n (set ks j k)
+withSlot j k (inUse ver st n ks) = inUse ver st n (set ks j k)
 
 -- how many slots there are up to the last that is not empty, and that slot's place
 unfoldable pub filled : List Slot → ℕ

@@ -50,7 +50,7 @@ markPlace N B p = onPage (slotAt N B (p .number) (p .slot)) markDead
 
 -- opening, with number n: status 7F; bytes 0-4, 6, 7; 17-20; 8-15; status 3F
 unfoldable pub openSegment : ℕ → ℕ → Version → ℕ → List Step
-openSegment N B e n = let h = headerPage N B e opened n noOldSegment in
+openSegment N B ver n = let h = headerPage N B ver opened n noOldSegment in
     onPage (headerAt N B n)
     (program 5 openingBegun ∷ (programPart h 0 5 ++ (programPart h 6 2 ++ (programPart h 17 4 ++ (programPart h 8 8 ++ (program 5 opened ∷ []))))))
 
@@ -62,7 +62,7 @@ copyEntries N B n j (e ∷ es) = onPage (slotAt N B n j) (writeSlot (e .block) (
 -- tidying of the segment with number o, which holds these entries, to a target that gets number n.
 -- Status DF; bytes 0-4, 6, 7; 16; each live slot; bytes 17-20; 8-15; status 9F; then the old segment is erased; status 8F
 unfoldable pub copyOut : ℕ → ℕ → Version → ℕ → ℕ → List Entry → List Step
-copyOut N B e o n es = let h = headerPage N B e erasePending n (o % N) in
+copyOut N B ver o n es = let h = headerPage N B ver erasePending n (o % N) in
     onPage (headerAt N B n) (program 5 compactionBegun ∷ (programPart h 0 5 ++ (programPart h 6 2 ++ programPart h 16 1)))
     ++ (copyEntries N B n 0 es
     ++ onPage (headerAt N B n) (programPart h 17 4 ++ (programPart h 8 8 ++ (program 5 erasePending ∷ []))))
@@ -71,7 +71,7 @@ unfoldable pub settle : ℕ → ℕ → ℕ → List Step
 settle N B n = onPage (headerAt N B n) (program 5 compacted ∷ [])
 
 unfoldable pub compact : ℕ → ℕ → Version → ℕ → ℕ → List Entry → List Step
-compact N B e o n es = copyOut N B e o n es ++ (erase (o % N) ∷ settle N B n)
+compact N B ver o n es = copyOut N B ver o n es ++ (erase (o % N) ∷ settle N B n)
 
 -- ---- room for a put
 
