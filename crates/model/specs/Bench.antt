@@ -13,7 +13,7 @@ use Rattle.model.specs.State.{segmentsOn, viewOf, entriesIn, capacity, s
 use Rattle.model.specs.Steps.{programs, onPage, headerAt, openSegment, copyEntries, copyOut, eraseFirst}
 use Rattle.model.specs.Answers.{Request, format, put, delete, recover, Work, workOf, codeUnder, isDamaged, isUnfinished, ReadOutcome, readOutcome}
 use Rattle.model.specs.Table.{lookup, contentsFound}
-use Rattle.model.specs.Sequences.{Call, play, observed, Observed, erasesIn, start, tally, eraseCount}
+use Rattle.model.specs.Sequences.{Call, play, observed, Observed, erasesIn, start, ledger, eraseCount}
 
 -- ---- where an example begins
 
@@ -106,7 +106,7 @@ exampleHolds m (answers u r code count erases) = let w = m .work u r in
     eqb (w .code) code && (eqb (length (w .steps)) count && eqb (length (erasesIn (w .steps))) erases)
 exampleHolds m (reads u b code offset len) = let o = m .found u b in
     eqb (o .code) code && (eqb (o .offset) offset && eqb (o .length) len)
-exampleHolds m (counts u e r l) = let t = tally (m .seen u) start in
+exampleHolds m (counts u e r l) = let t = ledger (m .seen u) start in
     eqb (eraseCount t) e && (eqb (t .replaced) r && eqb (t .largest) l)
 exampleHolds m (cuts u r ks count b bytes) = cutHolds m u r count b bytes ks
 

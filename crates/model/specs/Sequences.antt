@@ -89,7 +89,7 @@ replaces (read b) xs = 0
 replaces (readOr b f) xs = 0
 replaces recover xs = 0
 
-pub record Tally : Type 0 where
+pub record Ledger : Type 0 where
   -- the blocks stored now
   pub stored : List ℕ
   -- L, the largest count of stored blocks so far
@@ -99,11 +99,11 @@ pub record Tally : Type 0 where
   -- every erase so far, by index; E is their number
   pub erased : List ℕ
 
-unfoldable pub start : Tally
+unfoldable pub start : Ledger
 start = record { stored = []; largest = 0; replaced = 0; erased = [] }
 
-unfoldable pub tallied : Observed → Tally → Tally
-tallied o t =
+unfoldable pub noted : Observed → Ledger → Ledger
+noted o t =
     let stored = cond (eqb (o .code) 0) (storedAfter (o .request) (t .stored)) (t .stored) in record {
       stored = stored;
       largest = max (t .largest) (length stored);
@@ -111,14 +111,14 @@ tallied o t =
       erased = t .erased ++ o .erases;
     }
 
-unfoldable pub tally : List Observed → Tally → Tally
-tally [] t = t
-tally (o ∷ os) t = tally os (tallied o t)
+unfoldable pub ledger : List Observed → Ledger → Ledger
+ledger [] t = t
+ledger (o ∷ os) t = ledger os (noted o t)
 
 -- E
-unfoldable pub eraseCount : Tally → ℕ
+unfoldable pub eraseCount : Ledger → ℕ
 eraseCount t = length (t .erased)
 
 -- the erases of the segment at an index
-unfoldable pub erasesOf : ℕ → Tally → ℕ
+unfoldable pub erasesOf : ℕ → Ledger → ℕ
 erasesOf i t = count (λ x. eqb i x) (t .erased)

@@ -5,10 +5,10 @@ use mathlib.Core.List.{List, [], _∷_}
 use lib.ListN.{length, take}
 use Rattle.model.specs.Chip.{Image}
 use Rattle.model.specs.Answers.{format, outcomeOf}
-use Rattle.model.specs.Sequences.{Call, Observed, observed, Uncut, Tally, start, tally, eraseCount, erasesOf}
+use Rattle.model.specs.Sequences.{Call, Observed, observed, Uncut, Ledger, start, ledger, eraseCount, erasesOf}
 
 -- the whole part of E/(N-1), times ((N-1)B - L), is at most R
-abbrev pub ErasesPaid : ℕ → ℕ → Tally → Type 0
+abbrev pub ErasesPaid : ℕ → ℕ → Ledger → Type 0
 ErasesPaid N B t = eraseCount t / (N - 1) * ((N - 1) * B - t .largest) ≤ t .replaced
 
 -- no request erases more than N-1 segments
@@ -17,12 +17,12 @@ FewErases N [] = Unit {0}
 FewErases N (o ∷ os) = (length (o .erases) ≤ N - 1) × FewErases N os
 
 -- the erases of any two segments differ by at most one
-abbrev pub Balanced : ℕ → Tally → Type 0
+abbrev pub Balanced : ℕ → Ledger → Type 0
 Balanced N t = (i j : ℕ) → i < N → j < N → erasesOf i t ≤ suc (erasesOf j t)
 
 -- what demand 3 says of a sequence, by what was observed of its requests; the last part after each of them
 abbrev pub Bounded : ℕ → ℕ → List Observed → Type 0
-Bounded N B os = ErasesPaid N B (tally os start) × FewErases N os × ((k : ℕ) → Balanced N (tally (take k os) start))
+Bounded N B os = ErasesPaid N B (ledger os start) × FewErases N os × ((k : ℕ) → Balanced N (ledger (take k os) start))
 
 -- Every sequence of put, delete, read and recover, with any arguments, none of which answers 9, from the image that a format that answered 0 left.
 abbrev pub Demand3 : Type 0

@@ -8,7 +8,7 @@ use lib.ListN.{replicate}
 use Rattle.model.specs.Chip.{Image, imageLength, rightSize, pagesOf, withSegment, step, run}
 use Rattle.model.specs.State.{segmentsOf}
 use Rattle.model.specs.Answers.{format, put, workOf, outcomeOf}
-use Rattle.model.specs.Sequences.{Call, Observed, observe, observed, Uncut, start, tally}
+use Rattle.model.specs.Sequences.{Call, Observed, observe, observed, Uncut, start, ledger}
 use Rattle.model.specs.Laws.Bench.{evaluate}
 use Rattle.wear.specs.Demand3.{Bounded}
 use Rattle.wear.specs.Sequence.{demand3}
@@ -46,7 +46,7 @@ uncut-5 : Uncut (observed 2 2 (fresh 2 2) (puts (7 ∷ 7 ∷ 7 ∷ [])))
 uncut-5 = rw seen-5 (one 7, other, (one 7, other, (one 7, other, tt)))
 
 -- E = 1, R = 2, L = 1
-pub example-5 : tally (observed 2 2 (fresh 2 2) (puts (7 ∷ 7 ∷ 7 ∷ []))) start ≡ record { stored = 7 ∷ []; largest = 1; replaced = 2; erased = 0 ∷ [] }
+pub example-5 : ledger (observed 2 2 (fresh 2 2) (puts (7 ∷ 7 ∷ 7 ∷ []))) start ≡ record { stored = 7 ∷ []; largest = 1; replaced = 2; erased = 0 ∷ [] }
 unfolding evaluate
 example-5 = rw seen-5
 
@@ -67,7 +67,7 @@ uncut-9 : Uncut (observed 3 2 (fresh 3 2) (puts (1 ∷ 2 ∷ 3 ∷ 3 ∷ 3 ∷ [
 uncut-9 = rw seen-9 (one 1, other, (one 2, other, (one 3, other, (one 3, other, (one 3, other, tt)))))
 
 -- E = 2, R = 2, L = 3
-pub example-9 : tally (observed 3 2 (fresh 3 2) (puts (1 ∷ 2 ∷ 3 ∷ 3 ∷ 3 ∷ []))) start ≡ record { stored = 3 ∷ 2 ∷ 1 ∷ []; largest = 3; replaced = 2; erased = 0 ∷ 1 ∷ [] }
+pub example-9 : ledger (observed 3 2 (fresh 3 2) (puts (1 ∷ 2 ∷ 3 ∷ 3 ∷ 3 ∷ []))) start ≡ record { stored = 3 ∷ 2 ∷ 1 ∷ []; largest = 3; replaced = 2; erased = 0 ∷ 1 ∷ [] }
 unfolding evaluate
 example-9 = rw seen-9
 

@@ -8,7 +8,7 @@ use lib.ListN.{length, replicate, take}
 use Rattle.model.specs.Chip.{Image, rightSize, pagesOf, withSegment, step, run}
 use Rattle.model.specs.State.{segmentsOf}
 use Rattle.model.specs.Answers.{format, put, delete, workOf, outcomeOf}
-use Rattle.model.specs.Sequences.{Call, Observed, observe, observed, Uncut, start, tally, eraseCount, erasesOf}
+use Rattle.model.specs.Sequences.{Call, Observed, observe, observed, Uncut, start, ledger, eraseCount, erasesOf}
 use Rattle.model.specs.Laws.Bench.{evaluate}
 
 abbrev pub made : Image
@@ -43,25 +43,25 @@ uncut = rw computed (byte 1 (omega arith), other, (byte 2 (omega arith), other, 
     other : _≢_ {A = ℕ} 0 9
     other p = omega arith
 
-pub counted : tally seen start ≡ record { stored = []; largest = 1; replaced = 5; erased = 0 ∷ 1 ∷ 0 ∷ [] }
+pub counted : ledger seen start ≡ record { stored = []; largest = 1; replaced = 5; erased = 0 ∷ 1 ∷ 0 ∷ [] }
 unfolding evaluate
 counted = rw computed
 
 -- E = 3 and R = 5: with (N-1)B in place of (N-1)B - L the bound fails, and so it does with the blocks stored at the end for L
-pub bound-needs-largest : eraseCount (tally seen start) / (2 - 1) * ((2 - 1) * 2) ≤ tally seen start .replaced → ⊥
+pub bound-needs-largest : eraseCount (ledger seen start) / (2 - 1) * ((2 - 1) * 2) ≤ ledger seen start .replaced → ⊥
 unfolding evaluate
 bound-needs-largest h = let f = rw counted at h in omega arith
 
-pub bound-needs-most : eraseCount (tally seen start) / (2 - 1) * ((2 - 1) * 2 - length (tally seen start .stored)) ≤ tally seen start .replaced → ⊥
+pub bound-needs-most : eraseCount (ledger seen start) / (2 - 1) * ((2 - 1) * 2 - length (ledger seen start .stored)) ≤ ledger seen start .replaced → ⊥
 unfolding evaluate
 bound-needs-most h = let f = rw counted at h in omega arith
 
 -- after three puts segment 0 has an erase and segment 1 has none
-pub balance-needs-one : erasesOf 0 (tally (take 3 seen) start) ≤ erasesOf 1 (tally (take 3 seen) start) → ⊥
+pub balance-needs-one : erasesOf 0 (ledger (take 3 seen) start) ≤ erasesOf 1 (ledger (take 3 seen) start) → ⊥
 unfolding evaluate erasesOf
 balance-needs-one h = let f = rw computed at h in omega arith
 
 -- the third put alone erases N-1 segments
-pub request-needs-all : (eraseCount (tally (take 2 seen) start) ≡ 0) × (eraseCount (tally (take 3 seen) start) ≡ 2 - 1)
+pub request-needs-all : (eraseCount (ledger (take 2 seen) start) ≡ 0) × (eraseCount (ledger (take 3 seen) start) ≡ 2 - 1)
 unfolding evaluate
 request-needs-all = rw computed (refl, refl)

@@ -11,7 +11,7 @@ use Rattle.model.specs.Slot.{empty, dead, live, isDead}
 use Rattle.model.specs.State.{View, entriesIn, holds, blocksDistinct, Place, placeOf}
 use Rattle.model.specs.Steps.{topRow, topNumber, firstEmpty, roomFor, putSteps, writeAtTop, markOld, deleteSteps}
 use Rattle.model.specs.Answers.{put, delete}
-use Rattle.model.specs.Sequences.{Observed, erasesIn, among, removed, inserted, storedAfter, replaces, Tally, start, tallied, eraseCount, erasesOf}
+use Rattle.model.specs.Sequences.{Observed, erasesIn, among, removed, inserted, storedAfter, replaces, Ledger, start, noted, eraseCount, erasesOf}
 use Rattle.model.specs.Laws.Lists.{one}
 use Rattle.model.specs.Laws.Tables.{agree-holds}
 use Rattle.bridge.specs.Predicted.{slotChanged, written, marked, afterPut, afterDelete, fresh, CleanView}
@@ -26,7 +26,7 @@ use Rattle.wear.specs.Room.{Paid, paid-after, Moved, room-moved}
 use Rattle.wear.specs.Stored.{Stored, stored-none, stored-length, stored-put, stored-delete}
 
 -- the count belongs to the view
-pub record Tracks (N B : ℕ) (v : View) (t : Tally) : Type 0 where
+pub record Tracks (N B : ℕ) (v : View) (t : Ledger) : Type 0 where
   pub inTurn : t .erased ≡ turns N (v .first)
   pub stored : Stored (t .stored) (entriesIn v)
   pub most : length (t .stored) ≤ t .largest
@@ -34,7 +34,7 @@ pub record Tracks (N B : ℕ) (v : View) (t : Tally) : Type 0 where
 
 -- ---- what demand 3 says follows
 
-pub tracks-paid : (N B : ℕ) (v : View) (t : Tally) → Tracks N B v t → ErasesPaid N B t
+pub tracks-paid : (N B : ℕ) (v : View) (t : Ledger) → Tracks N B v t → ErasesPaid N B t
 unfolding eraseCount
 tracks-paid N B v t h =
     let p = h .paid in
@@ -42,7 +42,7 @@ tracks-paid N B v t h =
     let e : length (t .erased) ≡ v .first = ap length (h .inTurn) ∙ turns-length N (v .first) in
     rw e (omega (arith, p .paid, mul-le-mul-right ((N - 1) * B - t .largest) d))
 
-pub tracks-balanced : (N B : ℕ) (v : View) (t : Tally) → Tracks N B v t → Balanced N t
+pub tracks-balanced : (N B : ℕ) (v : View) (t : Ledger) → Tracks N B v t → Balanced N t
 unfolding erasesOf
 tracks-balanced N B v t h = λ i j hi hj. rw (h .inTurn) (omega (arith, balanced N (v .first) i j hi hj))
 
@@ -59,10 +59,10 @@ module _ (N B : ℕ) where
   }
 
   -- the blocks stored, m replaced more, these erases
-  counted : List ℕ → ℕ → List ℕ → Tally → Tally
+  counted : List ℕ → ℕ → List ℕ → Ledger → Ledger
   counted xs m es t = record { stored = xs; largest = max (t .largest) (length xs); replaced = t .replaced + m; erased = t .erased ++ es }
 
-  tracks-counted : (v : View) (t : Tally) (xs : List ℕ) (m : ℕ) (es : List ℕ) → t .erased ++ es ≡ turns N (v .first) → Stored xs (entriesIn v)
+  tracks-counted : (v : View) (t : Ledger) (xs : List ℕ) (m : ℕ) (es : List ℕ) → t .erased ++ es ≡ turns N (v .first) → Stored xs (entriesIn v)
       → Paid (N - 1) ((N - 1) * B - t .largest) (v .first) (v .slots) (t .replaced + m) → Tracks N B v (counted xs m es t)
   unfolding counted
   tracks-counted v t xs m es e s p = record {
@@ -73,11 +73,11 @@ module _ (N B : ℕ) where
   }
 
   -- a request that erases nothing and neither stores nor removes a block
-  pub tracks-still : (v : View) (t : Tally) (o : Observed) → Tracks N B v t → o .erases ≡ []
+  pub tracks-still : (v : View) (t : Ledger) (o : Observed) → Tracks N B v t → o .erases ≡ []
       → cond (eqb (o .code) 0) (storedAfter (o .request) (t .stored)) (t .stored) ≡ t .stored
       → cond (eqb (o .code) 0) (replaces (o .request) (t .stored)) 0 ≡ 0
-      → Tracks N B v (tallied o t)
-  unfolding tallied counted
+      → Tracks N B v (noted o t)
+  unfolding noted counted
   tracks-still v t o h e s r =
       let p = h .paid in
       rw (e, s, r) (tracks-counted v t (t .stored) 0 [] (append-nil (t .erased) ∙ h .inTurn) (h .stored)
@@ -113,11 +113,11 @@ module _ (N B : ℕ) where
       go true = paid-marked (R + 1) (placeOf b r) (written b c r) (omega arith) (paid-written R b c r (omega arith) h)
       go false = paid-written (R + 0) b c r (omega arith) h
 
-  few-live : (v : View) (t : Tally) → CleanView N B v → Tracks N B v t → length (entriesIn v) ≤ t .largest
+  few-live : (v : View) (t : Ledger) → CleanView N B v → Tracks N B v t → length (entriesIn v) ≤ t .largest
   unfolding blocksDistinct
   few-live v t c h = omega (arith, stored-length (t .stored) (entriesIn v) (h .stored) (c .once), h .most)
 
-  put-moved : (v : View) (t : Tally) → CleanView N B v → Tracks N B v t → Moved N B (t .largest) (t .replaced) (N - 1) v (roomFor N B v)
+  put-moved : (v : View) (t : Ledger) → CleanView N B v → Tracks N B v t → Moved N B (t .largest) (t .replaced) (N - 1) v (roomFor N B v)
   put-moved v t c h = room-moved N B (t .largest) (t .replaced) v c (few-live v t c h) (h .paid)
 
   put-erases : (v : View) (b : ℕ) (c : List ℕ) → erasesIn (putSteps N B b c v) ≡ erasesIn (roomFor N B v .steps)
@@ -126,20 +126,20 @@ module _ (N B : ℕ) where
       let r = roomFor N B v in
       rw (erases-append (r .steps) (writeAtTop N B b c (r .result) ++ markOld N B b (r .result)), written-none N B b c (r .result)) (append-nil (erasesIn (r .steps)))
 
-  pub put-few : (v : View) (t : Tally) (b : ℕ) (c : List ℕ) → CleanView N B v → Tracks N B v t → length (erasesIn (putSteps N B b c v)) ≤ N - 1
+  pub put-few : (v : View) (t : Ledger) (b : ℕ) (c : List ℕ) → CleanView N B v → Tracks N B v t → length (erasesIn (putSteps N B b c v)) ≤ N - 1
   put-few v t b c cv h = rw (put-erases v b c) (put-moved v t cv h .few)
 
-  pub tracks-put : 2 ≤ N → 2 ≤ B → (v : View) (t : Tally) (b : ℕ) (c : List ℕ) → CleanView N B v → Tracks N B v t
-      → Tracks N B (afterPut N B b c v) (tallied (record { request = put b c; code = 0; erases = erasesIn (putSteps N B b c v) }) t)
-  unfolding tallied storedAfter replaces counted
+  pub tracks-put : 2 ≤ N → 2 ≤ B → (v : View) (t : Ledger) (b : ℕ) (c : List ℕ) → CleanView N B v → Tracks N B v t
+      → Tracks N B (afterPut N B b c v) (noted (record { request = put b c; code = 0; erases = erasesIn (putSteps N B b c v) }) t)
+  unfolding noted storedAfter replaces counted
   tracks-put two slots v t b c cv h = tracks-counted (afterPut N B b c v) t (inserted b (t .stored)) (cond (among b (t .stored)) 1 0) (erasesIn (putSteps N B b c v))
       (rw (h .inTurn, put-erases v b c, put-first v b c) (put-moved v t cv h .inTurn))
       (stored-put (t .stored) (entriesIn v) (entriesIn (afterPut N B b c v)) b c (h .stored) (put-stores N B two slots v b c cv))
       (rw (h .stored .same b, ← agree-holds _ _ (room-made N B two slots v cv .table) b) (put-paid v b c (put-moved v t cv h .paid)))
 
-  pub tracks-delete : (v : View) (t : Tally) (b : ℕ) → CleanView N B v → holds b (entriesIn v) ≡ true → Tracks N B v t
-      → Tracks N B (afterDelete b v) (tallied (record { request = delete b; code = 0; erases = erasesIn (deleteSteps N B b v) }) t)
-  unfolding tallied storedAfter replaces counted afterDelete marked slotChanged
+  pub tracks-delete : (v : View) (t : Ledger) (b : ℕ) → CleanView N B v → holds b (entriesIn v) ≡ true → Tracks N B v t
+      → Tracks N B (afterDelete b v) (noted (record { request = delete b; code = 0; erases = erasesIn (deleteSteps N B b v) }) t)
+  unfolding noted storedAfter replaces counted afterDelete marked slotChanged
   tracks-delete v t b cv held h = tracks-counted (afterDelete b v) t (removed b (t .stored)) 1 (erasesIn (deleteSteps N B b v))
       (rw (delete-none N B b v) (append-nil (t .erased) ∙ h .inTurn))
       (stored-delete (t .stored) (entriesIn v) (entriesIn (afterDelete b v)) b (h .stored) (delete-removes N B v b cv held))

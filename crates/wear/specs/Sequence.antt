@@ -13,7 +13,7 @@ use Rattle.model.specs.Chip.{Image, Bytes, rightSize, run}
 use Rattle.model.specs.State.{view, clean, state}
 use Rattle.model.specs.Steps.{formatSteps}
 use Rattle.model.specs.Answers.{Request, format, put, delete, read, readOr, recover, stepsFor, workOf, outcomeOf}
-use Rattle.model.specs.Sequences.{Call, play, erasesIn, observe, observed, InSequence, Uncut, storedAfter, replaces, Tally, start, tallied, tally}
+use Rattle.model.specs.Sequences.{Call, play, erasesIn, observe, observed, InSequence, Uncut, storedAfter, replaces, Ledger, start, noted, ledger}
 use Rattle.model.specs.Laws.Chip.{size-facts, run-size}
 use Rattle.model.specs.Laws.Bytes.{run-bytes}
 use Rattle.bridge.specs.Held.{clean-view}
@@ -26,7 +26,7 @@ use Rattle.wear.specs.Erases.{delete-none}
 use Rattle.wear.specs.Requests.{Tracks, tracks-paid, tracks-balanced, tracks-start, tracks-still, put-few, tracks-put, tracks-delete}
 
 -- the image is clean, and the count belongs to its view
-pub record Sequenced (N B : ℕ) (s : Image) (t : Tally) : Type 0 where
+pub record Sequenced (N B : ℕ) (s : Image) (t : Ledger) : Type 0 where
   pub size : rightSize N B s ≡ true
   pub bytes : Bytes s
   pub clean : state N B s ≡ clean
@@ -34,14 +34,14 @@ pub record Sequenced (N B : ℕ) (s : Image) (t : Tally) : Type 0 where
 
 module _ (N B : ℕ) where
   -- a call kept the image clean and the count with it, and did not erase too often
-  abbrev Kept : Image → Tally → Call → Type 0
-  Kept s t x = Sequenced N B (outcomeOf N B s (x .allowance) (x .request) .image) (tallied (observe N B s x) t) × (length (observe N B s x .erases) ≤ N - 1)
+  abbrev Kept : Image → Ledger → Call → Type 0
+  Kept s t x = Sequenced N B (outcomeOf N B s (x .allowance) (x .request) .image) (noted (observe N B s x) t) × (length (observe N B s x .erases) ≤ N - 1)
 
   -- a call by its work, all of it done
-  kept : (s : Image) (t : Tally) (x : Call) → Sequenced N B s t → Ends N B s (x .allowance) (x .request)
+  kept : (s : Image) (t : Ledger) (x : Call) → Sequenced N B s t → Ends N B s (x .allowance) (x .request)
       → let w = workOf N B s (x .request) in
       state N B (run B (w .steps) s) ≡ clean
-      → Tracks N B (view N B (run B (w .steps) s)) (tallied (record { request = x .request; code = w .code; erases = erasesIn (w .steps) }) t)
+      → Tracks N B (view N B (run B (w .steps) s)) (noted (record { request = x .request; code = w .code; erases = erasesIn (w .steps) }) t)
       → length (erasesIn (w .steps)) ≤ N - 1
       → Kept s t x
   unfolding observe
@@ -56,7 +56,7 @@ module _ (N B : ℕ) where
   )
 
   -- one that takes no step, and neither stores nor removes a block
-  still : (s : Image) (t : Tally) (x : Call) → Sequenced N B s t → Ends N B s (x .allowance) (x .request) → workOf N B s (x .request) .steps ≡ []
+  still : (s : Image) (t : Ledger) (x : Call) → Sequenced N B s t → Ends N B s (x .allowance) (x .request) → workOf N B s (x .request) .steps ≡ []
       → cond (eqb (workOf N B s (x .request) .code) 0) (storedAfter (x .request) (t .stored)) (t .stored) ≡ t .stored
       → cond (eqb (workOf N B s (x .request) .code) 0) (replaces (x .request) (t .stored)) 0 ≡ 0
       → Kept s t x
@@ -65,7 +65,7 @@ module _ (N B : ℕ) where
       let same : run B (workOf N B s (x .request) .steps) s ≡ s = ap (λ xs. run B xs s) none in
       kept s t x g f (rw same (g .clean)) (rw same (tracks-still N B (view N B s) t _ (g .tracks) (rw none) stays free)) (rw none (omega arith))
 
-  done-put : (s : Image) (t : Tally) (b : ℕ) (c : List ℕ) (allowance : ℕ) → Sequenced N B s t → Ends N B s allowance (put b c) → Bytes c → workOf N B s (put b c) .code ≡ 0
+  done-put : (s : Image) (t : Ledger) (b : ℕ) (c : List ℕ) (allowance : ℕ) → Sequenced N B s t → Ends N B s allowance (put b c) → Bytes c → workOf N B s (put b c) .code ≡ 0
       → Kept s t (record { request = put b c; allowance = allowance })
   unfolding stepsFor view
   done-put s t b c allowance g f bytes e =
@@ -77,7 +77,7 @@ module _ (N B : ℕ) where
       (rw (d .1, e, a .0) (tracks-put N B (size .two) (size .slots) (view N B s) t b c cv (g .tracks)))
       (rw (a .0) (put-few N B (view N B s) t b c cv (g .tracks)))
 
-  done-delete : (s : Image) (t : Tally) (b allowance : ℕ) → Sequenced N B s t → Ends N B s allowance (delete b) → workOf N B s (delete b) .code ≡ 0
+  done-delete : (s : Image) (t : Ledger) (b allowance : ℕ) → Sequenced N B s t → Ends N B s allowance (delete b) → workOf N B s (delete b) .code ≡ 0
       → Kept s t (record { request = delete b; allowance = allowance })
   unfolding stepsFor view
   done-delete s t b allowance g f e =
@@ -89,7 +89,7 @@ module _ (N B : ℕ) where
       (rw (a .0, delete-none N B b (view N B s)) (omega arith))
 
   -- refused, or done
-  decided : (s : Image) (t : Tally) (x : Call) → Sequenced N B s t → Ends N B s (x .allowance) (x .request) → (workOf N B s (x .request) .code ≡ 0 → Kept s t x) → Kept s t x
+  decided : (s : Image) (t : Ledger) (x : Call) → Sequenced N B s t → Ends N B s (x .allowance) (x .request) → (workOf N B s (x .request) .code ≡ 0 → Kept s t x) → Kept s t x
   decided s t x g f done = go (eqb (workOf N B s (x .request) .code) 0) refl
     where
       go : (u : Bool) → eqb (workOf N B s (x .request) .code) 0 ≡ u → Kept s t x
@@ -97,7 +97,7 @@ module _ (N B : ℕ) where
       go false e = still s t x g f (refused-none N B s (x .request) e) (rw e) (rw e)
 
   -- a request that neither stores nor removes a block, whatever its answer
-  quiet : (s : Image) (t : Tally) (x : Call) → Sequenced N B s t → Ends N B s (x .allowance) (x .request) → workOf N B s (x .request) .steps ≡ []
+  quiet : (s : Image) (t : Ledger) (x : Call) → Sequenced N B s t → Ends N B s (x .allowance) (x .request) → workOf N B s (x .request) .steps ≡ []
       → storedAfter (x .request) (t .stored) ≡ t .stored → replaces (x .request) (t .stored) ≡ 0 → Kept s t x
   quiet s t x g f none stays free =
       let u = eqb (workOf N B s (x .request) .code) 0 in
@@ -107,7 +107,7 @@ module _ (N B : ℕ) where
       either true a = refl
       either false a = refl
 
-  call : (s : Image) (t : Tally) (r : Request) (allowance : ℕ) → Sequenced N B s t → InSequence r → outcomeOf N B s allowance r .code ≢ 9 → Kept s t (record { request = r; allowance = allowance })
+  call : (s : Image) (t : Ledger) (r : Request) (allowance : ℕ) → Sequenced N B s t → InSequence r → outcomeOf N B s allowance r .code ≢ 9 → Kept s t (record { request = r; allowance = allowance })
   unfolding stepsFor storedAfter replaces
   call s t format allowance g i n = absurd i
   call s t (put b c) allowance g i n =
@@ -125,26 +125,26 @@ module _ (N B : ℕ) where
 
   -- ---- a sequence: each call works on what the one before left
 
-  abbrev AllKept : Image → Tally → List Call → Type 0
-  AllKept s t xs = FewErases N (observed N B s xs) × ((k : ℕ) → Sequenced N B (play N B s (take k xs)) (tally (take k (observed N B s xs)) t))
+  abbrev AllKept : Image → Ledger → List Call → Type 0
+  AllKept s t xs = FewErases N (observed N B s xs) × ((k : ℕ) → Sequenced N B (play N B s (take k xs)) (ledger (take k (observed N B s xs)) t))
 
-  sequence : (s : Image) (t : Tally) (xs : List Call) → Sequenced N B s t → Uncut (observed N B s xs) → AllKept s t xs
-  unfolding observed observe play tally
+  sequence : (s : Image) (t : Ledger) (xs : List Call) → Sequenced N B s t → Uncut (observed N B s xs) → AllKept s t xs
+  unfolding observed observe play ledger
   sequence s t [] g u = (tt, none)
     where
-      none : (k : ℕ) → Sequenced N B (play N B s (take k [])) (tally (take k []) t)
+      none : (k : ℕ) → Sequenced N B (play N B s (take k [])) (ledger (take k []) t)
       none zero = g
       none (suc k) = g
   sequence s t (x ∷ xs) g u =
       let c = call s t (x .request) (x .allowance) g (u .0) (u .1) in
-      let m = sequence (outcomeOf N B s (x .allowance) (x .request) .image) (tallied (observe N B s x) t) xs (c .0) (u .2) in
+      let m = sequence (outcomeOf N B s (x .allowance) (x .request) .image) (noted (observe N B s x) t) xs (c .0) (u .2) in
       ((omega (arith, c .1), m .0), some (m .1))
     where
       after : Image
       after = outcomeOf N B s (x .allowance) (x .request) .image
 
-      some : ((k : ℕ) → Sequenced N B (play N B after (take k xs)) (tally (take k (observed N B after xs)) (tallied (observe N B s x) t)))
-          → (k : ℕ) → Sequenced N B (play N B s (take k (x ∷ xs))) (tally (take k (observed N B s (x ∷ xs))) t)
+      some : ((k : ℕ) → Sequenced N B (play N B after (take k xs)) (ledger (take k (observed N B after xs)) (noted (observe N B s x) t)))
+          → (k : ℕ) → Sequenced N B (play N B s (take k (x ∷ xs))) (ledger (take k (observed N B s (x ∷ xs))) t)
       some h zero = g
       some h (suc k) = h k
 
@@ -164,7 +164,7 @@ module _ (N B : ℕ) where
 pub all-kept : (N B : ℕ) (s : Image) (allowance : ℕ) (xs : List Call) → outcomeOf N B s allowance format .code ≡ 0
     → Uncut (observed N B (outcomeOf N B s allowance format .image) xs)
     → FewErases N (observed N B (outcomeOf N B s allowance format .image) xs)
-    × ((k : ℕ) → Sequenced N B (play N B (outcomeOf N B s allowance format .image) (take k xs)) (tally (take k (observed N B (outcomeOf N B s allowance format .image) xs)) start))
+    × ((k : ℕ) → Sequenced N B (play N B (outcomeOf N B s allowance format .image) (take k xs)) (ledger (take k (observed N B (outcomeOf N B s allowance format .image) xs)) start))
 all-kept N B s allowance xs e u =
     sequence N B (outcomeOf N B s allowance format .image) start xs (formatted N B s allowance e) u
 
@@ -185,4 +185,4 @@ demand3 = λ N B s allowance xs e u.
     let os = observed N B (outcomeOf N B s allowance format .image) xs in
     let a = all-kept N B s allowance xs e u in
     let whole = rw (take-length os) at (a .1 (length os) .tracks) in
-    (tracks-paid N B _ (tally os start) whole, a .0, λ k. tracks-balanced N B _ (tally (take k os) start) (a .1 k .tracks))
+    (tracks-paid N B _ (ledger os start) whole, a .0, λ k. tracks-balanced N B _ (ledger (take k os) start) (a .1 k .tracks))

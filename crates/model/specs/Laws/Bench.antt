@@ -14,7 +14,7 @@ use Rattle.model.specs.State.{segmentOf, segmentsFrom, segmentsOn, segme
 use Rattle.model.specs.Steps.{programs, programPart, onPage, headerAt, slotAt, writeSlot, markDead, markPlace, openSegment, copyEntries, copyOut, settle, compact, topRow, topNumber, hasRoom, firstEmpty, copied, nextVersion, openNext, compactOldest, compactUntilRoom, roomFor, markOld, writeAtTop, putSteps, deleteSteps, eraseFirst, formatSteps, highestOf, highestBit, clearNext, countErase, eraseNext, unlessBlank, mendSteps, recoverSteps, compactions, newNumbers, isWorn}
 use Rattle.model.specs.Table.{lookup, contentsFound}
 use Rattle.model.specs.Answers.{Request, read, recover, Work, firstOf, isDamaged, isUnfinished, lengthOk, isFull, absentRefusals, refusals, stepsFor, workOn, workOf, codeUnder, outcomeOf, ReadOutcome, contentsAt, readOutcome}
-use Rattle.model.specs.Sequences.{Call, play, erasesIn, Observed, observe, observed, among, removed, inserted, storedAfter, replaces, start, tallied, tally, eraseCount}
+use Rattle.model.specs.Sequences.{Call, play, erasesIn, Observed, observe, observed, among, removed, inserted, storedAfter, replaces, start, noted, ledger, eraseCount}
 use Rattle.model.specs.Pages.{programPage, stepPages, runPages}
 use Rattle.model.specs.Bench.{call, whole, Setup, andThen, recording, recorded, left, Bench, bench, Example, sizes, olds, begins, answers, reads, counts, cuts, contentsIn, isCleanIn, cutHolds, exampleHolds, failing, upFrom, putEach, examples}
 use Rattle.model.specs.Laws.Chunk.{chunk-replicate}
@@ -23,7 +23,7 @@ use Rattle.model.specs.Laws.Pages.{pages-run}
 
 -- every definition unfolds where this name does
 unfoldable pub evaluate : ℕ
-unfolding flatMap flatten same all count chunk numberLimit imageLength inRange bySegment clear erased numberBytes inverted value statusInUse newVersion isFormer versionNumber totalFits bitValues clearedIn clearedBits tallyOf noBitLeft tallyBytes headerPage headerStatus headerNumber headerVersion oldIndex headerInUse isBlank allBlank mostContents numberOk slotPage pageBlock pageContents slotFits slotOf isEmpty isTorn isDead isWrong entryOf holding segmentOf segmentsFrom segmentsOn isInUse isInvalid isOwing numberAfter slotsIn versionIn ofVersion nextNumber topIndex nextIndex topSlots topVersion usedCount firstNumber slotsFrom viewOf entries entriesIn someInUse numbersFrom consecutive oneVersion noneOwing othersBlank noneWrongOrTorn holds distinct blocksDistinct emptyLast onlyTopEmpty emptySlotsLast capacity withinCapacity conditions isClean nextBlanked isA settled topSettled isB withSlot filled lastSlot lastKind tornMarked isC slotFrom placeFrom placeOf blockIn lastBlock copies older olderMarked isD stateOf programs programPart onPage headerAt slotAt writeSlot markDead markPlace openSegment copyEntries copyOut settle compact topRow topNumber hasRoom firstEmpty copied nextVersion openNext compactOldest compactUntilRoom roomFor markOld writeAtTop putSteps deleteSteps eraseFirst formatSteps highestOf highestBit clearNext countErase eraseNext unlessBlank mendSteps recoverSteps compactions newNumbers isWorn lookup contentsFound firstOf isDamaged isUnfinished lengthOk isFull absentRefusals refusals stepsFor workOn codeUnder erasesIn among removed inserted storedAfter replaces start tallied tally eraseCount programPage stepPages runPages contentsIn isCleanIn cutHolds exampleHolds failing upFrom putEach examples
+unfolding flatMap flatten same all count chunk numberLimit imageLength inRange bySegment clear erased numberBytes inverted value statusInUse newVersion isFormer versionNumber totalFits bitValues clearedIn clearedBits tallyOf noBitLeft tallyBytes headerPage headerStatus headerNumber headerVersion oldIndex headerInUse isBlank allBlank mostContents numberOk slotPage pageBlock pageContents slotFits slotOf isEmpty isTorn isDead isWrong entryOf holding segmentOf segmentsFrom segmentsOn isInUse isInvalid isOwing numberAfter slotsIn versionIn ofVersion nextNumber topIndex nextIndex topSlots topVersion usedCount firstNumber slotsFrom viewOf entries entriesIn someInUse numbersFrom consecutive oneVersion noneOwing othersBlank noneWrongOrTorn holds distinct blocksDistinct emptyLast onlyTopEmpty emptySlotsLast capacity withinCapacity conditions isClean nextBlanked isA settled topSettled isB withSlot filled lastSlot lastKind tornMarked isC slotFrom placeFrom placeOf blockIn lastBlock copies older olderMarked isD stateOf programs programPart onPage headerAt slotAt writeSlot markDead markPlace openSegment copyEntries copyOut settle compact topRow topNumber hasRoom firstEmpty copied nextVersion openNext compactOldest compactUntilRoom roomFor markOld writeAtTop putSteps deleteSteps eraseFirst formatSteps highestOf highestBit clearNext countErase eraseNext unlessBlank mendSteps recoverSteps compactions newNumbers isWorn lookup contentsFound firstOf isDamaged isUnfinished lengthOk isFull absentRefusals refusals stepsFor workOn codeUnder erasesIn among removed inserted storedAfter replaces start noted ledger eraseCount programPage stepPages runPages contentsIn isCleanIn cutHolds exampleHolds failing upFrom putEach examples
 evaluate = 0
 
 -- ---- the bench over pages

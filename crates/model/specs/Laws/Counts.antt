@@ -4,7 +4,7 @@ use mathlib.Core.Path.{_≡_, refl}
 use mathlib.Core.List.{List, [], _∷_}
 use Rattle.model.specs.Lists.{count}
 use Rattle.model.specs.Answers.{Request, put, delete, read, recover}
-use Rattle.model.specs.Sequences.{Observed, among, removed, inserted, storedAfter, replaces, start, tallied, tally, eraseCount, erasesOf}
+use Rattle.model.specs.Sequences.{Observed, among, removed, inserted, storedAfter, replaces, start, noted, ledger, eraseCount, erasesOf}
 
 abbrev saw : Request → ℕ → List ℕ → Observed
 saw r code erases = record { request = r; code = code; erases = erases }
@@ -14,10 +14,10 @@ short : List Observed
 short = saw (put 1 (9 ∷ [])) 0 [] ∷ saw (put 2 (9 ∷ [])) 0 [] ∷ saw (put 1 (9 ∷ [])) 0 (2 ∷ []) ∷ saw (delete 2) 0 [] ∷ saw (delete 2) 6 [] ∷ saw (put 3 (9 ∷ [])) 7 []
     ∷ saw (read 1) 0 [] ∷ saw recover 0 [] ∷ []
 
-counted : tally short start ≡ record { stored = 1 ∷ []; largest = 2; replaced = 2; erased = 2 ∷ [] }
-unfolding short among removed inserted storedAfter replaces start tallied tally
+counted : ledger short start ≡ record { stored = 1 ∷ []; largest = 2; replaced = 2; erased = 2 ∷ [] }
+unfolding short among removed inserted storedAfter replaces start noted ledger
 counted = refl
 
-erases-counted : eraseCount (tally short start) ∷ erasesOf 2 (tally short start) ∷ erasesOf 1 (tally short start) ∷ [] ≡ 1 ∷ 1 ∷ 0 ∷ []
-unfolding short count among removed inserted storedAfter replaces start tallied tally eraseCount erasesOf
+erases-counted : eraseCount (ledger short start) ∷ erasesOf 2 (ledger short start) ∷ erasesOf 1 (ledger short start) ∷ [] ≡ 1 ∷ 1 ∷ 0 ∷ []
+unfolding short count among removed inserted storedAfter replaces start noted ledger eraseCount erasesOf
 erases-counted = refl
