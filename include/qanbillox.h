@@ -23,20 +23,20 @@ extern "C" {
  * largest that it would give a segment, plus the tally of erases that recoveries have set about since the format,
  * reaches 100,000; or the newest segment's header has none of its 1,792 bits left to count one more. */
 enum qbx_answer {
-    QBX_DONE = 0,       /* none below */
-    QBX_SIZE = 1,       /* n, b or the image's length is wrong */
-    QBX_NUMBER = 2,     /* block number 0 or 65,535 */
-    QBX_LENGTH = 3,     /* put of 0 bytes, or of over 248 */
-    QBX_DAMAGED = 4,    /* the image is neither clean nor unfinished; only format helps */
-    QBX_UNFINISHED = 5, /* put, delete, read: recover first */
-    QBX_ABSENT = 6,     /* read or delete of a block that is not stored */
-    QBX_FULL = 7,       /* put of a new block while (n-1)*b-1 are stored */
-    QBX_WORN = 8,       /* put: the chip is worn, as said above */
-    QBX_CUT = 9,        /* the budget ended before the steps did */
-    QBX_OLD_VERSION = 11 /* put on an image of version 1: it can be read, deleted from and recovered, not put to */
+    QBX_DONE = 0,           /* none below */
+    QBX_SIZE = 1,           /* n, b or the image's length is wrong */
+    QBX_NUMBER = 2,         /* block number 0 or 65,535 */
+    QBX_LENGTH = 3,         /* put of 0 bytes, or of over 248 */
+    QBX_DAMAGED = 4,        /* the image is neither clean nor unfinished; only format helps */
+    QBX_UNFINISHED = 5,     /* put, delete, read: recover first */
+    QBX_ABSENT = 6,         /* read or delete of a block that is not stored */
+    QBX_FULL = 7,           /* put of a new block while (n-1)*b-1 are stored */
+    QBX_WORN = 8,           /* put: the chip is worn, as said above */
+    QBX_CUT = 9,            /* the budget ended before the steps did */
+    QBX_FORMER_VERSION = 11 /* put on an image of version 1: it can be read, deleted from and recovered, not put to */
 };
 
-#define QBX_PAGE 256u         /* bytes in a page */
+#define QBX_PAGE 256u          /* bytes in a page */
 #define QBX_MOST_CONTENTS 248u /* bytes in a record at most; the least that qbx_put takes is 1 */
 
 /* The bytes of an image of this geometry. */

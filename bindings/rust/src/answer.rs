@@ -33,7 +33,7 @@ pub enum Answer {
     Cut = 9,
     /// 11: a put on an image of version 1. It can be read, deleted from and recovered, but not put
     /// to; a format makes version 2.
-    OldVersion = 11,
+    FormerVersion = 11,
 }
 
 impl Answer {
@@ -49,7 +49,7 @@ impl Answer {
         Answer::Full,
         Answer::Worn,
         Answer::Cut,
-        Answer::OldVersion,
+        Answer::FormerVersion,
     ];
 
     /// The number of the answer.
@@ -67,7 +67,7 @@ impl Answer {
     /// use qanbillox::Answer;
     /// assert_eq!(Answer::from_number(7), Some(Answer::Full));
     /// assert_eq!(Answer::from_number(10), None);
-    /// assert_eq!(Answer::from_number(11), Some(Answer::OldVersion));
+    /// assert_eq!(Answer::from_number(11), Some(Answer::FormerVersion));
     /// ```
     pub fn from_number(number: u8) -> Option<Answer> {
         Answer::ALL.into_iter().find(|a| a.number() == number)
@@ -92,7 +92,7 @@ impl fmt::Display for Answer {
             Answer::Full => "store full",
             Answer::Worn => "chip worn out",
             Answer::Cut => "step budget spent",
-            Answer::OldVersion => "image of version 1: no puts",
+            Answer::FormerVersion => "image of a former version: no puts",
         })
     }
 }

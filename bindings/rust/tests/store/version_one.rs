@@ -124,7 +124,7 @@ fn try_board(store: &Store, image: &[u8], g: Geometry) {
         store,
         image,
         g,
-        if clean { OLD_VERSION } else { UNFINISHED },
+        if clean { FORMER_VERSION } else { UNFINISHED },
     );
     for block in [1, 2, 60_000] {
         every_allowance(store, image, g, &Request::Delete { block });
@@ -142,7 +142,7 @@ fn try_board(store: &Store, image: &[u8], g: Geometry) {
     let mut by_former = image.to_vec();
     former_done(&mut by_former, g, &Request::Recover);
     assert!(recovered == by_former);
-    puts_are_refused(store, &recovered, g, OLD_VERSION);
+    puts_are_refused(store, &recovered, g, FORMER_VERSION);
 
     store.done(&mut recovered, g, &Request::Format);
     assert!(recovered == formatted(g));
@@ -188,7 +188,7 @@ fn full_and_worn() {
                 former(&mut image.clone(), g, &request, UNLIMITED).code,
                 code
             );
-            puts_are_refused(&store, &image, g, OLD_VERSION);
+            puts_are_refused(&store, &image, g, FORMER_VERSION);
         }
     }
 }
@@ -260,5 +260,5 @@ fn a_life_under_both_stores() {
 fn a_put_is_refused(store: &Store, image: &[u8], g: Geometry) {
     let clean = matches!(state_of(image, g), State::Clean(_));
     let reply = store.perform(&mut image.to_vec(), g, &put_of(1, b"new"), UNLIMITED);
-    assert_eq!(reply.code, if clean { OLD_VERSION } else { UNFINISHED });
+    assert_eq!(reply.code, if clean { FORMER_VERSION } else { UNFINISHED });
 }
