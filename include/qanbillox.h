@@ -5,7 +5,7 @@
  * budget is the most flash steps to take: when it is spent the request stops as if the power had gone, and
  * answers QBX_CUT. Recover before the next request then, as after any loss of power.
  *
- * No function allocates, keeps a pointer or has state of its own. A request takes at most 15,392 bytes of stack on
+ * No function allocates, keeps a pointer or has state of its own. A request takes at most 15,408 bytes of stack on
  * x86-64, measured up to n = 255 and b = 255 (bench/stack.c). Link with libqanbillox.a. */
 #ifndef QANBILLOX_H
 #define QANBILLOX_H
