@@ -151,7 +151,7 @@ fn try_board(store: &Store, image: &[u8], g: Geometry) {
 #[test]
 fn every_state() {
     let store = Store::new("version 1 in every state");
-    let mut rng = Rng::new(0x104_1);
+    let mut rng = Rng::new(0x1041);
     let mut seen = BTreeMap::new();
     for (n, b) in [(2, 2), (2, 3), (3, 2), (4, 3)] {
         let g = Geometry { n, b };
@@ -197,7 +197,7 @@ fn full_and_worn() {
 #[test]
 fn cuts_of_deletes() {
     let store = Store::new("version 1, cuts of deletes");
-    let mut rng = Rng::new(0x104_2);
+    let mut rng = Rng::new(0x1042);
     for (n, b, boards) in [(2, 2, 60), (3, 3, 60), (4, 15, 20), (9, 2, 20), (255, 2, 3)] {
         let g = Geometry { n, b };
         for _ in 0..boards {
@@ -216,7 +216,7 @@ fn cuts_of_deletes() {
 #[test]
 fn a_life_under_both_stores() {
     let store = Store::new("version 1, a life under both stores");
-    let mut rng = Rng::new(0x104_3);
+    let mut rng = Rng::new(0x1043);
     for (n, b, requests) in [
         (2, 2, 3_000),
         (3, 2, 3_000),
