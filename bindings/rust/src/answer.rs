@@ -23,10 +23,11 @@ pub enum Answer {
     /// 7: a put of a block that is not stored while [`Geometry::capacity`](crate::Geometry::capacity)
     /// blocks are.
     Full = 7,
-    /// 8: the put needs a new segment, and the chip is worn: the whole part of the number that the
-    /// segment would get, divided by the number of segments, and the tally of erases that recoveries
-    /// made add up to 100,000 or more; or no further such erase can be counted. A put that finds room
-    /// in the newest segment is never refused so.
+    /// 8: the put needs a new segment, and the chip is worn, in one of two cases: the largest
+    /// number that the put would give a segment, divided by the number of segments (the whole
+    /// part), plus the tally of erases that recoveries have set about since the format, reaches
+    /// 100,000; or the newest segment's header has none of its 1,792 bits left to count one more.
+    /// A put that finds room in the newest segment is never refused so.
     Worn = 8,
     /// 9: the step budget ended before the request did. The image is as after a power cut: some
     /// first steps of the request are done, and [`recover`](crate::Geometry::recover) comes next.
