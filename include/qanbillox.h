@@ -21,7 +21,11 @@ extern "C" {
  *
  * A put is worn only if it needs a new segment, and then in two cases: the whole part of number / n, number being the
  * largest that it would give a segment, plus the tally of erases that recoveries have set about since the format,
- * reaches 100,000; or the newest segment's header has none of its 1,792 bits left to count one more. */
+ * reaches 100,000; or the newest segment's header has none of its 1,792 bits left to count one more.
+ *
+ * An image of version 1 can be read, deleted from and recovered, not put to. To go on writing, read its records out, by
+ * a qbx_read of each number from 1 to 65,534, format, and put them again; a format alone loses them. Only a record of 0
+ * bytes cannot be put again. */
 enum qbx_answer {
     QBX_DONE = 0,           /* none below */
     QBX_SIZE = 1,           /* n, b or the image's length is wrong */
@@ -33,7 +37,7 @@ enum qbx_answer {
     QBX_FULL = 7,           /* put of a new block while (n-1)*b-1 are stored */
     QBX_WORN = 8,           /* put: the chip is worn, as said above */
     QBX_CUT = 9,            /* the budget ended before the steps did */
-    QBX_FORMER_VERSION = 11 /* put on an image of version 1: it can be read, deleted from and recovered, not put to */
+    QBX_FORMER_VERSION = 11 /* put on an image of version 1; what to do is said above */
 };
 
 #define QBX_PAGE 256u          /* bytes in a page */

@@ -33,7 +33,9 @@ pub enum Answer {
     /// first steps of the request are done, and [`recover`](crate::Geometry::recover) comes next.
     Cut = 9,
     /// 11: a put on an image of version 1. It can be read, deleted from and recovered, but not put
-    /// to; a format makes version 2.
+    /// to. To go on writing, read its records out, by a [`read`](crate::Geometry::read) of each
+    /// number from 1 to 65,534, format, which makes version 2, and put them again; a format alone
+    /// loses them. Only a record of 0 bytes cannot be put again.
     FormerVersion = 11,
 }
 
