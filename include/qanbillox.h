@@ -5,7 +5,7 @@
  * budget is the most flash steps to take: when it is spent the request stops as if the power had gone, and
  * answers QBX_CUT. Recover before the next request then, as after any loss of power.
  *
- * No function allocates, keeps a pointer or has state of its own. A request takes at most 15,392 bytes of stack on
+ * No function allocates, keeps a pointer or has state of its own. A request takes at most 15,408 bytes of stack on
  * x86-64, measured up to n = 255 and b = 255 (bench/stack.c). Link with libqanbillox.a. */
 #ifndef QANBILLOX_H
 #define QANBILLOX_H
@@ -21,22 +21,26 @@ extern "C" {
  *
  * A put is worn only if it needs a new segment, and then in two cases: the whole part of number / n, number being the
  * largest that it would give a segment, plus the tally of erases that recoveries have set about since the format,
- * reaches 100,000; or the newest segment's header has none of its 1,792 bits left to count one more. */
+ * reaches 100,000; or the newest segment's header has none of its 1,792 bits left to count one more.
+ *
+ * An image of version 1 can be read, deleted from and recovered, not put to. To go on writing, read its records out, by
+ * a qbx_read of each number from 1 to 65,534, format, and put them again; a format alone loses them. Only a record of 0
+ * bytes cannot be put again. */
 enum qbx_answer {
-    QBX_DONE = 0,       /* none below */
-    QBX_SIZE = 1,       /* n, b or the image's length is wrong */
-    QBX_NUMBER = 2,     /* block number 0 or 65,535 */
-    QBX_LENGTH = 3,     /* put of 0 bytes, or of over 248 */
-    QBX_DAMAGED = 4,    /* the image is neither clean nor unfinished; only format helps */
-    QBX_UNFINISHED = 5, /* put, delete, read: recover first */
-    QBX_ABSENT = 6,     /* read or delete of a block that is not stored */
-    QBX_FULL = 7,       /* put of a new block while (n-1)*b-1 are stored */
-    QBX_WORN = 8,       /* put: the chip is worn, as said above */
-    QBX_CUT = 9,        /* the budget ended before the steps did */
-    QBX_OLD_VERSION = 11 /* put on an image of version 1: it can be read, deleted from and recovered, not put to */
+    QBX_DONE = 0,           /* none below */
+    QBX_SIZE = 1,           /* n, b or the image's length is wrong */
+    QBX_NUMBER = 2,         /* block number 0 or 65,535 */
+    QBX_LENGTH = 3,         /* put of 0 bytes, or of over 248 */
+    QBX_DAMAGED = 4,        /* the image is neither clean nor unfinished; only format helps */
+    QBX_UNFINISHED = 5,     /* put, delete, read: recover first */
+    QBX_ABSENT = 6,         /* read or delete of a block that is not stored */
+    QBX_FULL = 7,           /* put of a new block while (n-1)*b-1 are stored */
+    QBX_WORN = 8,           /* put: the chip is worn, as said above */
+    QBX_CUT = 9,            /* the budget ended before the steps did */
+    QBX_FORMER_VERSION = 11 /* put on an image of version 1; what to do is said above */
 };
 
-#define QBX_PAGE 256u         /* bytes in a page */
+#define QBX_PAGE 256u          /* bytes in a page */
 #define QBX_MOST_CONTENTS 248u /* bytes in a record at most; the least that qbx_put takes is 1 */
 
 /* The bytes of an image of this geometry. */

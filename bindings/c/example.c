@@ -76,7 +76,7 @@ int main(void)
     wrong += shows("C");
     wrong += blank(0, 1);
     make_version_1();
-    wrong += told("put on version 1", put("D", unlimited), QBX_OLD_VERSION, 0);
+    wrong += told("put on version 1", put("D", unlimited), QBX_FORMER_VERSION, 0);
     wrong += shows("C");
     wrong += told("an image that is too short", qbx_format(image, sizeof image - 1, SEGMENTS, SLOTS, unlimited), QBX_SIZE, 0);
     return wrong != 0;

@@ -23,17 +23,20 @@ pub enum Answer {
     /// 7: a put of a block that is not stored while [`Geometry::capacity`](crate::Geometry::capacity)
     /// blocks are.
     Full = 7,
-    /// 8: the put needs a new segment, and the chip is worn: the whole part of the number that the
-    /// segment would get, divided by the number of segments, and the tally of erases that recoveries
-    /// made add up to 100,000 or more; or no further such erase can be counted. A put that finds room
-    /// in the newest segment is never refused so.
+    /// 8: the put needs a new segment, and the chip is worn, in one of two cases: the largest
+    /// number that the put would give a segment, divided by the number of segments (the whole
+    /// part), plus the tally of erases that recoveries have set about since the format, reaches
+    /// 100,000; or the newest segment's header has none of its 1,792 bits left to count one more.
+    /// A put that finds room in the newest segment is never refused so.
     Worn = 8,
     /// 9: the step budget ended before the request did. The image is as after a power cut: some
     /// first steps of the request are done, and [`recover`](crate::Geometry::recover) comes next.
     Cut = 9,
     /// 11: a put on an image of version 1. It can be read, deleted from and recovered, but not put
-    /// to; a format makes version 2.
-    OldVersion = 11,
+    /// to. To go on writing, read its records out, by a [`read`](crate::Geometry::read) of each
+    /// number from 1 to 65,534, format, which makes version 2, and put them again; a format alone
+    /// loses them. Only a record of 0 bytes cannot be put again.
+    FormerVersion = 11,
 }
 
 impl Answer {
@@ -49,7 +52,7 @@ impl Answer {
         Answer::Full,
         Answer::Worn,
         Answer::Cut,
-        Answer::OldVersion,
+        Answer::FormerVersion,
     ];
 
     /// The number of the answer.
@@ -67,7 +70,7 @@ impl Answer {
     /// use qanbillox::Answer;
     /// assert_eq!(Answer::from_number(7), Some(Answer::Full));
     /// assert_eq!(Answer::from_number(10), None);
-    /// assert_eq!(Answer::from_number(11), Some(Answer::OldVersion));
+    /// assert_eq!(Answer::from_number(11), Some(Answer::FormerVersion));
     /// ```
     pub fn from_number(number: u8) -> Option<Answer> {
         Answer::ALL.into_iter().find(|a| a.number() == number)
@@ -92,7 +95,7 @@ impl fmt::Display for Answer {
             Answer::Full => "store full",
             Answer::Worn => "chip worn out",
             Answer::Cut => "step budget spent",
-            Answer::OldVersion => "image of version 1: no puts",
+            Answer::FormerVersion => "image of a former version: no puts",
         })
     }
 }

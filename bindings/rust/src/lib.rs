@@ -45,7 +45,7 @@
 //!
 //! A format makes an image of version 2, which counts the erases that recoveries make. Images of
 //! version 1, from stores that did not, can be read, deleted from and recovered; a put on one answers
-//! [`OldVersion`](Answer::OldVersion).
+//! [`FormerVersion`](Answer::FormerVersion).
 //!
 //! # The static library
 //!

@@ -130,7 +130,7 @@ impl Geometry {
     /// of what is stored there. To have nothing stored there is to [`delete`](Geometry::delete).
     ///
     /// An image of version 1, from a store before the erases of recoveries were counted, answers
-    /// [`OldVersion`](Answer::OldVersion).
+    /// [`FormerVersion`](Answer::FormerVersion).
     ///
     #[cfg_attr(qbx_lib, doc = "```")]
     #[cfg_attr(not(qbx_lib), doc = "```no_run")]

@@ -96,7 +96,7 @@ fn it_is_not_put_to() {
     for block in [1, 12, 60_000, 65_534] {
         for allowance in [0, 1, UNLIMITED] {
             let reply = store.perform(&mut image, G, &put_of(block, b"new"), allowance);
-            let code = OLD_VERSION;
+            let code = FORMER_VERSION;
             assert_eq!(reply, Reply { code, steps: 0 });
         }
     }

@@ -65,7 +65,7 @@ fn damaged(store: &Store, image: &[u8], g: Geometry) {
 #[test]
 fn every_choice_of_versions() {
     let store = Store::new("every choice of versions");
-    let mut rng = Rng::new(0x104_4);
+    let mut rng = Rng::new(0x1044);
     for (n, b) in [(3, 2), (4, 2), (5, 2), (6, 3)] {
         let g = Geometry { n, b };
         for used in 1..n {
@@ -93,7 +93,7 @@ fn every_choice_of_versions() {
 #[test]
 fn one_of_many() {
     let store = Store::new("one of many in the other version");
-    let mut rng = Rng::new(0x104_5);
+    let mut rng = Rng::new(0x1045);
     for g in CHIPS {
         let top = 4 * g.n as u32 + 1;
         for version in VERSIONS {
@@ -163,7 +163,7 @@ fn recovery_steps(image: &[u8], g: Geometry, top: u32, version: Version) -> u64 
 #[test]
 fn the_one_after_an_owing_top_is_left_aside() {
     let store = Store::new("the one after an owing top left aside");
-    let mut rng = Rng::new(0x104_6);
+    let mut rng = Rng::new(0x1046);
     for g in CHIPS.into_iter().chain([Geometry { n: 2, b: 2 }]) {
         let rounds = if g.n == 255 { 2 } else { 30 };
         for version in VERSIONS {
@@ -189,7 +189,7 @@ fn the_one_after_an_owing_top_is_left_aside() {
 /// An erase that is cut raises bits, so it makes no header of one version one of the other.
 #[test]
 fn a_cut_erase_keeps_the_version() {
-    let mut rng = Rng::new(0x104_7);
+    let mut rng = Rng::new(0x1047);
     let g = Geometry { n: 2, b: 2 };
     let mut still_in_use = 0;
     for version in VERSIONS {

@@ -11,7 +11,7 @@ use std::collections::HashSet;
 
 /// The table that the recovery of this image shows, with the recovery itself cut up to `depth`
 /// times, at every step and inside it.
-fn recovered(store: &Store, rng: &mut Rng, g: Geometry, image: &[u8], depth: usize) -> Table {
+pub fn recovered(store: &Store, rng: &mut Rng, g: Geometry, image: &[u8], depth: usize) -> Table {
     let mut whole = image.to_vec();
     store.done(&mut whole, g, &Request::Recover);
     let table = table_of(&whole, g).expect("a finished recovery is clean");

@@ -29,7 +29,7 @@ pub const FULL: u8 = 7;
 pub const WORN: u8 = 8;
 pub const CUT: u8 = 9;
 /// Request #104: a put on an image of version 1, checked after 5.
-pub const OLD_VERSION: u8 = 11;
+pub const FORMER_VERSION: u8 = 11;
 
 // Status bytes of a header page
 pub const OPENING: u8 = 0x7F;
@@ -781,7 +781,7 @@ fn plan_put<'a>(
     }
     let view = clean_view(image, g)?;
     if rules == Rules::Present && view.version == Version::One {
-        return Err(OLD_VERSION);
+        return Err(FORMER_VERSION);
     }
     if view.live == g.capacity() && find(image, g, view.oldest, view.used, block).is_none() {
         return Err(FULL);

@@ -124,7 +124,7 @@ fn put_opens_then_writes_then_marks() {
     set_version(&mut former, g, 0, Version::One);
     let list = steps_by(Rules::Former, &former, g, &request);
     assert_eq!(list, (DONE, expected(None)));
-    assert_eq!(steps_of(&former, g, &request), (OLD_VERSION, vec![]));
+    assert_eq!(steps_of(&former, g, &request), (FORMER_VERSION, vec![]));
 
     let delete = Request::Delete { block: 300 };
     for image in [image, counted, former] {

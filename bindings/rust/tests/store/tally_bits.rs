@@ -105,7 +105,7 @@ fn every_single_bit() {
 #[test]
 fn any_pattern() {
     let store = Store::new("bits in any pattern");
-    let mut rng = Rng::new(0xB17_5);
+    let mut rng = Rng::new(0xB175);
     for g in CHIPS {
         for state in ['a', 'b'] {
             let (image, top) = cut_compaction(g, state);
@@ -203,7 +203,7 @@ fn all_bits_by_whole_recoveries() {
 #[test]
 fn no_bit_without_an_erase() {
     let store = Store::new("no bit without an erase");
-    let mut rng = Rng::new(0xB17_6);
+    let mut rng = Rng::new(0xB176);
     for g in CHIPS {
         let compaction = 24 + 6 * (g.b as u64 - 1);
         for (steps, state) in [

@@ -101,7 +101,7 @@ impl Life {
 #[test]
 fn many_cuts() {
     let store = Store::new("the tally of a life with many cuts");
-    let mut rng = Rng::new(0x11FE_2);
+    let mut rng = Rng::new(0x11FE2);
     for (n, b, requests) in [
         (2, 2, 6_000),
         (2, 3, 4_000),
@@ -144,7 +144,7 @@ fn many_cuts() {
 #[test]
 fn every_life_with_three_cuts() {
     let store = Store::new("the tally of every life with three cuts");
-    let mut rng = Rng::new(0x11FE_3);
+    let mut rng = Rng::new(0x11FE3);
     for (n, b, rewrites) in [(2, 2, 5), (3, 2, 4)] {
         let g = Geometry { n, b };
         let mut level = HashSet::from([Life::new(g)]);

@@ -1,15 +1,16 @@
 //! Request #104: boards of version 1, made by the former rules, in every state. They are read,
-//! deleted from and recovered as before, are not put to, and a format makes them version 2.
+//! deleted from and recovered as before, through cuts of the recovery too, are not put to, and a
+//! format makes them version 2.
 
 use crate::conditions::by_the_reference;
 use crate::cuts;
 use crate::harness::{put_of, Store};
 use crate::heads::{set_version, Heads};
 use crate::images::{self, blank, formatted, full_ring};
-use crate::power_cuts::cut_everywhere;
+use crate::power_cuts::recovered;
 use crate::prng::Rng;
 use crate::reference::*;
-use crate::sequences::table_of;
+use crate::sequences::{table_of, Table};
 use crate::step_lists::every_allowance;
 use std::collections::BTreeMap;
 use std::io::Write;
@@ -117,52 +118,74 @@ fn recovery_steps(image: &[u8], g: Geometry) -> usize {
     }
 }
 
-/// Every request on a board that is clean or unfinished, under every allowance.
-fn try_board(store: &Store, image: &[u8], g: Geometry) {
+/// Every request on a board that is clean or unfinished, under every allowance. Gives the table that
+/// its recovery shows; the recovery is cut too, after every step and inside the erase, up to twice.
+fn try_board(store: &Store, rng: &mut Rng, image: &[u8], g: Geometry) -> Table {
     let clean = matches!(state_of(image, g), State::Clean(_));
     puts_are_refused(
         store,
         image,
         g,
-        if clean { OLD_VERSION } else { UNFINISHED },
+        if clean { FORMER_VERSION } else { UNFINISHED },
     );
     for block in [1, 2, 60_000] {
         every_allowance(store, image, g, &Request::Delete { block });
         store.read(image, g, block);
     }
     every_allowance(store, image, g, &Request::Recover);
-    let mut recovered = image.to_vec();
-    let steps = store.done(&mut recovered, g, &Request::Recover);
+    let table = recovered(store, rng, g, image, 2);
+    let mut whole = image.to_vec();
+    let steps = store.done(&mut whole, g, &Request::Recover);
     assert_eq!(steps, recovery_steps(image, g) as u64);
-    // It was recovered by the old rules: the former store sees a clean image, and takes a put.
+    // It was recovered by the old rules: nothing is counted, and the bytes are the former store's.
     for index in 0..g.n {
-        let header = &recovered[g.page(index, 0)..][..PAGE];
+        let header = &whole[g.page(index, 0)..][..PAGE];
         assert!(header[17..].iter().all(|&byte| byte == 0xFF));
     }
     let mut by_former = image.to_vec();
     former_done(&mut by_former, g, &Request::Recover);
-    assert!(recovered == by_former);
-    puts_are_refused(store, &recovered, g, OLD_VERSION);
+    assert!(whole == by_former);
+    puts_are_refused(store, &whole, g, FORMER_VERSION);
 
-    store.done(&mut recovered, g, &Request::Format);
-    assert!(recovered == formatted(g));
+    store.done(&mut whole, g, &Request::Format);
+    assert!(whole == formatted(g));
+    table
+}
+
+/// A put of the former store, cut after every step and inside it, and each board that it leaves:
+/// it shows the table of before the put or of after it. Counts the boards by their states.
+fn try_cuts_of_put(
+    store: &Store,
+    rng: &mut Rng,
+    g: Geometry,
+    board: &[u8],
+    request: &Request,
+    seen: &mut BTreeMap<char, usize>,
+) {
+    let old = table_of(board, g).expect("clean");
+    let mut after = board.to_vec();
+    former(&mut after, g, request, UNLIMITED);
+    let new = table_of(&after, g).expect("clean");
+    for cut in cut_boards(rng, g, board, request) {
+        *seen.entry(by_the_reference(&cut, g)).or_default() += 1;
+        let shown = try_board(store, rng, &cut, g);
+        assert!(shown == old || shown == new);
+    }
 }
 
 #[test]
 fn every_state() {
     let store = Store::new("version 1 in every state");
-    let mut rng = Rng::new(0x104_1);
+    let mut rng = Rng::new(0x1041);
     let mut seen = BTreeMap::new();
     for (n, b) in [(2, 2), (2, 3), (3, 2), (4, 3)] {
         let g = Geometry { n, b };
         for board in clean_boards(g) {
-            try_board(&store, &board, g);
+            try_board(&store, &mut rng, &board, g);
             every_allowance(&store, &board, g, &Request::Format);
             for block in [1, 60_000] {
-                for cut in cut_boards(&mut rng, g, &board, &put_of(block, b"c")) {
-                    *seen.entry(by_the_reference(&cut, g)).or_insert(0) += 1;
-                    try_board(&store, &cut, g);
-                }
+                let request = put_of(block, b"c");
+                try_cuts_of_put(&store, &mut rng, g, &board, &request, &mut seen);
             }
         }
     }
@@ -188,27 +211,39 @@ fn full_and_worn() {
                 former(&mut image.clone(), g, &request, UNLIMITED).code,
                 code
             );
-            puts_are_refused(&store, &image, g, OLD_VERSION);
+            puts_are_refused(&store, &image, g, FORMER_VERSION);
         }
     }
 }
 
-/// Deletes and their recoveries cut everywhere, on boards of any age.
+/// The same on boards of any age and fill, most of them so full that the put compacts.
 #[test]
-fn cuts_of_deletes() {
-    let store = Store::new("version 1, cuts of deletes");
-    let mut rng = Rng::new(0x104_2);
-    for (n, b, boards) in [(2, 2, 60), (3, 3, 60), (4, 15, 20), (9, 2, 20), (255, 2, 3)] {
+fn every_state_at_any_age() {
+    let store = Store::new("version 1 in every state at any age");
+    let mut rng = Rng::new(0x1042);
+    let mut seen = BTreeMap::new();
+    for (n, b, boards) in [(2, 2, 20), (3, 3, 12), (4, 15, 2), (9, 2, 6), (255, 2, 1)] {
         let g = Geometry { n, b };
-        for _ in 0..boards {
+        for i in 0..boards {
             let mut shape = images::shape(&mut rng, g);
             shape.heads = Heads::Former;
-            let image = images::clean(&mut rng, g, shape);
-            let block = images::some_block(&mut rng, g, &image);
-            let request = Request::Delete { block };
-            cut_everywhere(&store, &mut rng, g, &image, &request, 4, 1);
+            if i % 4 < 3 {
+                shape.oldest %= 50_000;
+                shape.used = g.n - 1;
+                shape.filled = g.b;
+            }
+            let board = images::clean(&mut rng, g, shape);
+            let block = images::some_block(&mut rng, g, &board);
+            every_allowance(&store, &board, g, &Request::Delete { block });
+            let request = put_of(block, b"c");
+            try_cuts_of_put(&store, &mut rng, g, &board, &request, &mut seen);
         }
     }
+    let _ = writeln!(
+        std::io::stderr(),
+        "version 1 in every state at any age: {seen:?}"
+    );
+    assert!("-abcd".chars().all(|state| seen[&state] > 15) && seen.len() == 5);
 }
 
 /// The former store puts, today's deletes and recovers, with cuts anywhere: the table is that of
@@ -216,7 +251,7 @@ fn cuts_of_deletes() {
 #[test]
 fn a_life_under_both_stores() {
     let store = Store::new("version 1, a life under both stores");
-    let mut rng = Rng::new(0x104_3);
+    let mut rng = Rng::new(0x1043);
     for (n, b, requests) in [
         (2, 2, 3_000),
         (3, 2, 3_000),
@@ -260,5 +295,5 @@ fn a_life_under_both_stores() {
 fn a_put_is_refused(store: &Store, image: &[u8], g: Geometry) {
     let clean = matches!(state_of(image, g), State::Clean(_));
     let reply = store.perform(&mut image.to_vec(), g, &put_of(1, b"new"), UNLIMITED);
-    assert_eq!(reply.code, if clean { OLD_VERSION } else { UNFINISHED });
+    assert_eq!(reply.code, if clean { FORMER_VERSION } else { UNFINISHED });
 }

@@ -152,7 +152,7 @@ fn by_the_sum() {
 #[test]
 fn cuts_at_the_limit() {
     let store = Store::new("cuts at the limit of the tally");
-    let mut rng = Rng::new(0x99_999);
+    let mut rng = Rng::new(0x99999);
     for g in &CHIPS[..4] {
         let g = *g;
         for need in Need::of(g) {
