@@ -30,7 +30,7 @@ fn usage(fd: i32) {
     );
     io::write_all(
         fd,
-        b"The version is the newest header's; the tally, in version 2, how many erases recoveries set about.\nOn version 1 put answers 11; get, delete and recover do their work, and format makes version 2.\n",
+        b"The version is the newest header's; the tally, in version 2, how many erases recoveries set about.\nWith no bit left none more is counted, and a put that needs a new header answers 8.\nOn version 1 put answers 11; get, delete and recover do their work, and format makes version 2, empty.\n",
     );
 }
 
