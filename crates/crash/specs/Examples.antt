@@ -13,7 +13,7 @@ use Rattle.model.specs.Sequences.{Call, play}
 use Rattle.model.specs.Bench.{call, whole}
 use Rattle.model.specs.Laws.Bench.{evaluate}
 use Rattle.crash.specs.Machine.{Promise, unknown, PlainRuns}
-use Rattle.crash.specs.Demand2.{Keeps, second}
+use Rattle.crash.specs.Demand2.{Keeps, board}
 use Rattle.crash.specs.Theorem.{demand2}
 
 -- ---- the history of some calls
@@ -64,7 +64,7 @@ left vs v k = play 2 2 zeros (calls vs v k)
 
 -- the store shows this, and so it is a history of the plain table
 abbrev pub Instance : List ℕ → ℕ → ℕ → ℕ → Type 0
-Instance vs v k c = History 2 2 zeros (told vs v c) (left vs v k) × ((x : Promise) × PlainRuns (second 2 2) unknown (told vs v c) x × Keeps 2 2 (left vs v k) x)
+Instance vs v k c = History 2 2 zeros (told vs v c) (left vs v k) × ((x : Promise) × PlainRuns (board 2 2 false) unknown (told vs v c) x × Keeps 2 2 (left vs v k) x)
 
 right-size : rightSize 2 2 zeros ≡ true
 unfolding evaluate rightSize
