@@ -39,7 +39,8 @@ FromFormer = (N B : ℕ) (s u : Image) (es : List Event) → rightSize N B s ≡
     → (x : Promise) × PlainRuns (board N B true) (settled (tableOf N B s)) es x × Keeps N B u x
 
 -- The same of version 1 from any image as a power cut leaves it, clean or unfinished: as boards in the field that lost their power under the former rules stand.
--- What the first finished recovery will show is the table. In (b) `Sound` asks that the old segment's header still has at least the bytes of its number and of the inverse.
+-- What the first finished recovery will show is the table. In (a) `Sound` asks that bit 6 of the torn segment's status is set,
+-- in (b) that the old segment's header still has at least the bytes of its number and of the inverse.
 abbrev pub FromFormerLeft : Type 0
 FromFormerLeft = (N B : ℕ) (s u : Image) (es : List Event) → rightSize N B s ≡ true → Bytes s → Sound N B s → formerShown N B s ≡ true → History N B s es u → NoFormat es
     → (x : Promise) × PlainRuns (board N B true) (interrupted (shown N B s)) es x × Keeps N B u x
