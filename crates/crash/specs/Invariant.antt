@@ -3,11 +3,12 @@ use Prim.Native.Nat.{ℕ}
 use mathlib.Core.Path.{_≡_}
 use mathlib.Core.Bool.{Bool, true}
 use Rattle.model.specs.Chip.{Image, Bytes, rightSize}
-use Rattle.model.specs.State.{distinct, capacity, clean}
+use Rattle.model.specs.State.{distinct, clean}
 use Rattle.model.specs.Table.{Table, Agree, tableOf}
 use Rattle.model.specs.Answers.{Request}
 use Rattle.model.specs.Histories.{Seen, shown}
-use Rattle.crash.specs.Machine.{Board, Promise, settled, interrupted, unknown, Moves}
+use Rattle.crash.specs.Machine.{Promise, settled, interrupted, unknown, Moves}
+use Rattle.crash.specs.Demand2.{board}
 use Rattle.crash.specs.Reading
 use Rattle.crash.specs.Sound.{Sound, Clean, formerIn, formerShown}
 
@@ -32,9 +33,6 @@ Upholds N B f s unknown = Unit {0}
 
 abbrev pub Invariant : ℕ → ℕ → Bool → Image → Promise → Type 0
 Invariant N B f s x = (rightSize N B s ≡ true) × Upholds N B f s x
-
-abbrev pub board : ℕ → ℕ → Bool → Board
-board N B f = record { places = capacity N B; former = f }
 
 -- what an event has to give: a move of the machine, and the invariant after it
 abbrev pub Follows : ℕ → ℕ → Bool → Bool → Request → Seen → Promise → Image → Type 0

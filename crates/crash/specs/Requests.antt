@@ -20,6 +20,7 @@ use Rattle.model.specs.Laws.Tables.{agree-of, agree-holds, agree-without, agree
 use Rattle.bridge.specs.Accepted.{code-of, refused-none, quiet-none, recover-none}
 use Rattle.bridge.specs.Allowance.{ends-or-stops}
 use Rattle.crash.specs.Machine.{Board, malformed, codeOnTable, plainCode, made, OnTable, WantsRecovery}
+use Rattle.crash.specs.Demand2.{board}
 use Rattle.crash.specs.Sound.{SoundAs, Sound, Clean, finished, CutOf, formerIn, formerShown}
 
 -- ---- a request without steps
@@ -128,10 +129,6 @@ ended-or-stopped N B s allowance r = ⊎-elim
     (λ e. inr (record { reply = rw (e .code, bytes-stopped N B s r allowance (e .short)); image = e .image }))
     (ends-or-stops N B s allowance r)
 
--- the board of an image
-abbrev pub boardOf : ℕ → ℕ → Image → Board
-boardOf N B s = record { places = capacity N B; former = formerIn N B s }
-
 -- ---- codes on a clean image: 2, 3, 6, 7, 8, 11 and 0, exactly
 
 not-ltb : (a b : ℕ) → leb a b ≡ not (ltb b a)
@@ -165,7 +162,7 @@ module _ (N B : ℕ) (s : Image) (z : rightSize N B s ≡ true) (h : Clean N B s
   unfolding absentRefusals isDamaged isUnfinished state tableOf view
   absent-clean b = rw (z, h) (absent-codes (numberOk b) (holds b (entriesIn (view N B s))))
 
-  pub code-clean : (r : Request) → OnTable r → workOf N B s r .code ≡ plainCode (boardOf N B s) (wears N B s) (tableOf N B s) r
+  pub code-clean : (r : Request) → OnTable r → workOf N B s r .code ≡ plainCode (board N B (formerIn N B s)) (wears N B s) (tableOf N B s) r
   unfolding plainCode malformed codeOnTable refusals isDamaged isUnfinished isFull state tableOf view wears firstOf
   code-clean format o = absurd o
   code-clean (put b c) o = code-of N B s (put b c)

@@ -13,7 +13,7 @@ use Rattle.model.specs.Table.{Found, absent, lookup, tableOf}
 use Rattle.model.specs.Answers.{delete}
 use Rattle.model.specs.Histories.{answered, Event, History}
 use Rattle.crash.specs.Machine.{settled, unknown, NoFormat}
-use Rattle.crash.specs.Demand2.{second, formerBoard}
+use Rattle.crash.specs.Demand2.{board}
 use Rattle.crash.specs.Reading.{codeSeen, format-starts}
 use Rattle.crash.specs.ReadingRuns.{PutAmong, put-some, Known, FinishedFormat, runs-known, runs-append, Reads, factoryOf, gives, shows-only-what-was-put, AllSpare, runs-keep, AllUndeleted, undeleted-none, undeleted-front, none-front, former-runs-keep, replied, read-back, Leaves, acknowledged-stays}
 use Rattle.crash.specs.Theorem.{demand2, from-clean, from-former}
@@ -23,7 +23,7 @@ pub store-shows-only-what-was-put : (N B : ℕ) (s u : Image) (past es : List Ev
     → History N B s (past ++ (f ∷ (es ++ (e ∷ [])))) u → FinishedFormat f → NoFormat es → Reads b (e .request) → e .seen ≡ answered (gives c) → PutAmong b c es
 store-shows-only-what-was-put N B s u past es f e b c z h done none q g =
     let (x, runs, keeps) = demand2 N B s u (past ++ (f ∷ (es ++ (e ∷ [])))) z h in
-    shows-only-what-was-put (second N B) unknown x past es f e b c runs done none q g
+    shows-only-what-was-put (board N B false) unknown x past es f e b c runs done none q g
 
 -- Request #105, "a tenant saw shelves without owners": no read that answers 0 shows contents of 0 bytes, from a finished format on.
 pub store-never-shows-empty : (N B : ℕ) (s u : Image) (past es : List Event) (f e : Event) (b : ℕ) (c : List ℕ) → rightSize N B s ≡ true
@@ -37,7 +37,7 @@ pub store-acknowledged-stays : (N B : ℕ) (s u : Image) (past before es : List 
     → Leaves b z (d .request) → codeSeen (d .seen) ≡ 0 → AllSpare b es → Reads b (e .request) → numberOk b ≡ true
     → codeSeen (e .seen) ≢ 9 → codeSeen (e .seen) ≢ 5 → e .seen ≡ answered (replied (factoryOf (e .request)) z)
 store-acknowledged-stays N B s u past before es f d e b z size h done none leaves acknowledged spare q n cut asks =
-    let C = second N B in
+    let C = board N B false in
     let (y, runs, keeps) = demand2 N B s u (past ++ (f ∷ (before ++ (d ∷ (es ++ (e ∷ [])))))) size h in
     let (start, formatted, (fresh, formatting, rest)) = runs-append C past (f ∷ (before ++ (d ∷ (es ++ (e ∷ []))))) unknown y runs in
     let (x, since, doing) = runs-append C before (d ∷ (es ++ (e ∷ []))) fresh y rest in
@@ -51,7 +51,7 @@ pub store-stored-stays : (N B : ℕ) (s u : Image) (es : List Event) (e : Event)
     → isFormer (view N B s .version) ≡ false → lookup b (tableOf N B s) ≡ z → History N B s (es ++ (e ∷ [])) u → AllSpare b es → Reads b (e .request) → numberOk b ≡ true
     → codeSeen (e .seen) ≢ 9 → codeSeen (e .seen) ≢ 5 → e .seen ≡ answered (replied (factoryOf (e .request)) z)
 store-stored-stays N B s u es e b z size bytes tidy new stored h spare q n cut asks =
-    let C = second N B in
+    let C = board N B false in
     let (y, runs, keeps) = from-clean N B s u (es ++ (e ∷ [])) size bytes tidy new h in
     let (last, since, (end, reading, nothing)) = runs-append C es (e ∷ []) (settled (tableOf N B s)) y runs in
     read-back reading b z (runs-keep C es (settled (tableOf N B s)) last since b z spare stored) q n cut asks
@@ -62,7 +62,7 @@ pub former-stored-stays : (N B : ℕ) (s u : Image) (es : List Event) (e : Event
     → isFormer (view N B s .version) ≡ true → lookup b (tableOf N B s) ≡ z → History N B s (es ++ (e ∷ [])) u → AllUndeleted b (es ++ (e ∷ [])) → Reads b (e .request) → numberOk b ≡ true
     → codeSeen (e .seen) ≢ 9 → codeSeen (e .seen) ≢ 5 → e .seen ≡ answered (replied (factoryOf (e .request)) z)
 former-stored-stays N B s u es e b z size bytes tidy former stored h spare q n cut asks =
-    let C = formerBoard N B in
+    let C = board N B true in
     let (y, runs, keeps) = from-former N B s u (es ++ (e ∷ [])) size bytes tidy former h (undeleted-none b (es ++ (e ∷ [])) spare) in
     let (last, since, (end, reading, nothing)) = runs-append C es (e ∷ []) (settled (tableOf N B s)) y runs in
     read-back reading b z (former-runs-keep C es (settled (tableOf N B s)) last refl since b z (undeleted-front b es (e ∷ []) spare) stored) q n cut asks
@@ -73,7 +73,7 @@ pub former-deleted-stays : (N B : ℕ) (s u : Image) (before es : List Event) (d
     → d .request ≡ delete b → codeSeen (d .seen) ≡ 0 → AllSpare b es → Reads b (e .request) → numberOk b ≡ true
     → codeSeen (e .seen) ≢ 9 → codeSeen (e .seen) ≢ 5 → e .seen ≡ answered (replied (factoryOf (e .request)) absent)
 former-deleted-stays N B s u before es d e b size bytes tidy former h none deletes acknowledged spare q n cut asks =
-    let C = formerBoard N B in
+    let C = board N B true in
     let (y, runs, keeps) = from-former N B s u (before ++ (d ∷ (es ++ (e ∷ [])))) size bytes tidy former h none in
     let (x, since, doing) = runs-append C before (d ∷ (es ++ (e ∷ []))) (settled (tableOf N B s)) y runs in
     acknowledged-stays C x y es d e b absent doing (runs-known C before (settled (tableOf N B s)) x since (none-front before (d ∷ (es ++ (e ∷ []))) none) tt) deletes acknowledged spare q n cut asks

@@ -21,11 +21,11 @@ use Rattle.bridge.specs.Held.{clean-view}
 use Rattle.bridge.specs.Accepted.{recover-none}
 use Rattle.bridge.specs.Format.{format-bytes}
 use Rattle.crash.specs.Machine.{malformed, plainCode, plainBytes, plain, made, next, codeOnTable, Promise, settled, interrupted, unknown, IsCut, OnTable, WantsRecovery, Holds, answers, answers-again, asks-recovery, refuses-malformed, not-begun, wholly-done, formats, format-cut, no-promise, PlainRuns, NoFormat}
-use Rattle.crash.specs.Demand2.{Keeps, Demand2, FromClean, FromFormer}
+use Rattle.crash.specs.Demand2.{Keeps, board, Demand2, FromClean, FromFormer, FromFormerLeft}
 use Rattle.crash.specs.Reading
-use Rattle.crash.specs.Sound.{SoundAs, Sound, Clean, finished, CutOf, formerIn, DoneWith, LeftWith, RequestLaws}
+use Rattle.crash.specs.Sound.{SoundAs, Sound, Clean, finished, CutOf, formerIn, formerShown, DoneWith, LeftWith, RequestLaws}
 use Rattle.crash.specs.Requests.{refused-idle, idle-finished, idle-cut, read-idle, readOr-idle, readOr-work, shown-clean, former-clean, sound-clean, read-refused, readOr-bytes, bytes-refused, ended, ended-or-stopped, code-clean, Unfinished, code-unfinished, code-recover, code-format, steps-format, malformed-small, code-agree, agree-made, distinct-made}
-use Rattle.crash.specs.Invariant.{Stores, WillShow, Invariant, board, Follows}
+use Rattle.crash.specs.Invariant.{Stores, WillShow, Invariant, Follows}
 
 -- ---- the table after a request with this code
 
@@ -403,3 +403,18 @@ clean-from laws N B s u es z y k v runs = runs-on N B false (laws N B) es s u (s
 pub former-from : ((N B : ℕ) → RequestLaws N B) → FromFormer
 former-from laws N B s u es z y k v runs none =
     runs-on N B true (laws N B) es s u (settled (tableOf N B s)) (unformatted N B true (laws N B) es none) (z, stores N B true s z y k v) runs
+
+-- an image as a cut leaves it will show a table of a clean one
+will-show : (N B : ℕ) (f : Bool) (laws : RequestLaws N B) (s : Image) → rightSize N B s ≡ true → Bytes s → Sound N B s → formerShown N B s ≡ f → WillShow N B f s (shown N B s)
+unfolding tableOf recovered shown
+will-show N B f laws s z y k v = record {
+  sound = k;
+  version = v;
+  table = λ b. refl;
+  once = clean-distinct (clean-view N B (recovered N B s) (run-size N B (workOf N B s recover .steps) s ∙ z) (laws .recover-done s z k));
+  bytes = y;
+}
+
+pub former-left-from : ((N B : ℕ) → RequestLaws N B) → FromFormerLeft
+former-left-from laws N B s u es z y k v runs none =
+    runs-on N B true (laws N B) es s u (interrupted (shown N B s)) (unformatted N B true (laws N B) es none) (z, will-show N B true (laws N B) s z y k v) runs

@@ -1,19 +1,24 @@
--- Two histories on the smallest store, computed, and the theorem of each: each bound is reached.
-use Prim.Native.Nat.{ℕ, _+_, _/_, _≤_, _<_}
-use mathlib.Core.Path.{_≡_, refl}
+-- Three histories on the smallest store, computed, and the theorem of each: each bound is reached. In the last a recovery loses the power inside its erase.
+use Prim.Native.Nat.{ℕ, _+_, _*_, _/_, _≤_, _<_}
+use mathlib.Core.Path.{_≡_, refl, _∙_, subst}
+use mathlib.Core.Logic.{inl, inr}
 use mathlib.Core.Bool.{true}
-use mathlib.Core.List.{List, [], _∷_}
+use mathlib.Core.List.{List, [], _∷_, _++_}
 use native.Mathlib.Omega.{arith}
-use lib.ListN.{replicate, take}
-use Rattle.model.specs.Chip.{Image, rightSize, pagesOf, withSegment, step, run}
+use lib.ListN.{replicate, take, drop}
+use lib.Bits.{and-self, and-mask}
+use native.Mathlib.Nat.{mod-eq-of-lt}
+use Rattle.model.specs.Chip.{Image, Bytes, rightSize, pagesOf, Step, program, erase, clear, withSegment, segmentBytes, step, run, Raised}
 use Rattle.model.specs.State.{segmentsOf, view}
 use Rattle.model.specs.Steps.{formatSteps}
 use Rattle.model.specs.Answers.{Request, put, recover, workOf, outcomeOf}
-use Rattle.model.specs.Histories.{answered, Proper, bytesRead, replyOf}
+use Rattle.model.specs.Histories.{answered, lost, Proper, bytesRead, replyOf}
 use Rattle.model.specs.Sequences.{Call, play, erasesIn}
-use Rattle.model.specs.Begun.{Turn, Turns, cutSeen, cutsIn, byRecovery, recoveryErases, begunOn}
+use Rattle.model.specs.Begun.{CutBegun, Turn, Turns, cutSeen, cutsIn, byRecovery, recoveryErases, begunOn}
 use Rattle.model.specs.Bench.{call, whole}
 use Rattle.model.specs.Laws.Bench.{evaluate}
+use Rattle.model.specs.Laws.Bytes.{bytes-take, bytes-drop, step-bytes, run-bytes}
+use Rattle.bridge.specs.Format.{format-bytes}
 use Rattle.crash.specs.Machine.{OnTable}
 use Rattle.tallied.specs.Law.{tallyIn, topIn, BitLeft, Unformatted}
 use Rattle.tallied.specs.Theorem.{tally-tells}
@@ -68,8 +73,11 @@ abbrev left : List Call → Image
 left xs = play 2 2 formatted xs
 
 -- what the theorem says of them
+abbrev pub ToldOf : List Turn → Image → Type 0
+ToldOf es u = (recoveryErases es ≤ tallyIn 2 2 u) × (tallyIn 2 2 u ≤ cutsIn es) × ((i : ℕ) → i < 2 → begunOn i es ≤ topIn 2 2 u / 2 + tallyIn 2 2 u + 1)
+
 abbrev pub Told : List Call → Type 0
-Told xs = (recoveryErases (seen xs) ≤ tallyIn 2 2 (left xs)) × (tallyIn 2 2 (left xs) ≤ cutsIn (seen xs)) × ((i : ℕ) → i < 2 → begunOn i (seen xs) ≤ topIn 2 2 (left xs) / 2 + tallyIn 2 2 (left xs) + 1)
+Told xs = ToldOf (seen xs) (left xs)
 
 told : (xs : List Call) → Plain xs → BitLeft 2 2 (left xs) → Told xs
 told xs p b = tally-tells 2 2 zeros (left xs) (seen xs) right-size (played 2 2 xs formatted p) (unformatted 2 2 xs formatted p) b
@@ -111,3 +119,72 @@ compacting-counts = (refl, refl, refl)
 pub counted-counts : (cutsIn (seen counted) ≡ 1) × (recoveryErases (seen counted) ≡ 1) × (tallyIn 2 2 (left counted) ≡ 1)
 unfolding evaluateTurns
 counted-counts = (refl, refl, refl)
+
+-- ---- a recovery that loses the power inside its erase
+
+raised-same : (s : List ℕ) → Bytes s → Raised s s
+unfolding clear
+raised-same [] y = refl
+raised-same (a ∷ s) y = ((and-self a, and-mask a 8 ∙ mod-eq-of-lt (y .0)), raised-same s (y .1))
+
+played-bytes : (N B : ℕ) (xs : List Call) (s : Image) → Bytes s → Bytes (play N B s xs)
+unfolding play outcomeOf
+played-bytes N B [] s y = y
+played-bytes N B (x ∷ xs) s y = played-bytes N B xs (outcomeOf N B s (x .allowance) (x .request) .image) (run-bytes B (take (x .allowance) (workOf N B s (x .request) .steps)) s y)
+
+-- one step done, then an erase begun that has changed no bit yet
+abbrev fallen : ℕ → Step → ℕ → Image → Image
+fallen B x i s = withSegment B i (segmentBytes B i (step B x s)) (step B x s)
+
+in-erase : (B : ℕ) (at v i : ℕ) (rest : List Step) (s : Image) → Bytes s → CutBegun B (program at v ∷ erase i ∷ rest) s (fallen B (program at v) i s) (i ∷ [])
+unfolding erasesIn segmentBytes
+in-erase B at v i rest s y =
+    let t = step B (program at v) s in
+    let bytes : Bytes (segmentBytes B i t) = bytes-take ((B + 1) * 256) (drop (i * (B + 1) * 256) t) (bytes-drop (i * (B + 1) * 256) t (step-bytes B (program at v) s y)) in
+    inr (inr (i ∷ [], refl, inr (inl ((segmentBytes B i t, raised-same (segmentBytes B i t) bytes, refl), refl))))
+
+turns-append : (N B : ℕ) (es fs : List Turn) (s m u : Image) → Turns N B s es m → Turns N B m fs u → Turns N B s (es ++ fs) u
+turns-append N B [] fs s m u h k = subst (λ (y : Image). Turns N B y fs u) h k
+turns-append N B (e ∷ es) fs s m u (p, (n, d, rest)) k = (p, (n, d, turns-append N B es fs n m u rest k))
+
+unformatted-append : (es fs : List Turn) → Unformatted es → Unformatted fs → Unformatted (es ++ fs)
+unformatted-append [] fs h k = k
+unformatted-append (e ∷ es) fs h k = (h .0, unformatted-append es fs (h .1) k)
+
+-- cut at the owing mark; the recovery then counts, begins to erase segment 0, and is lost
+abbrev owing : List Call
+owing = whole (seven 1) ∷ whole (seven 2) ∷ call (seven 3) 28 ∷ []
+
+abbrev lostOne : List Turn
+lostOne = record { request = recover; seen = lost; begun = 0 ∷ [] } ∷ []
+
+abbrev pub lostTurns : List Turn
+lostTurns = seen owing ++ lostOne
+
+abbrev pub lostImage : Image
+lostImage = fallen 2 (program 800 127) 0 (left owing)
+
+owing-plain : Plain owing
+owing-plain = (one, tt, (two, tt, (three, tt, tt)))
+
+recovery-steps : workOf 2 2 (left owing) recover .steps ≡ program 800 127 ∷ erase 0 ∷ drop 2 (workOf 2 2 (left owing) recover .steps)
+unfolding evaluateTurns
+recovery-steps = refl
+
+pub lost-turns : Turns 2 2 formatted lostTurns lostImage
+lost-turns = turns-append 2 2 (seen owing) lostOne formatted (left owing) lostImage (played 2 2 owing formatted owing-plain)
+    (tt, (lostImage, rw recovery-steps (in-erase 2 800 127 0 (drop 2 (workOf 2 2 (left owing) recover .steps)) (left owing) (played-bytes 2 2 owing formatted (format-bytes 2 2 zeros right-size))), refl))
+
+lost-left : BitLeft 2 2 lostImage
+unfolding evaluateTurns segmentBytes
+lost-left = refl
+
+-- what the theorem says of it
+pub lost-told : ToldOf lostTurns lostImage
+lost-told = tally-tells 2 2 zeros lostImage lostTurns right-size lost-turns
+    (unformatted-append (seen owing) lostOne (unformatted 2 2 owing formatted owing-plain) (tt, tt)) lost-left
+
+-- two cuts, one erase begun by a recovery, and the tally is 1
+pub lost-counts : (cutsIn lostTurns ≡ 2) × (recoveryErases lostTurns ≡ 1) × (begunOn 0 lostTurns ≡ 1) × (tallyIn 2 2 lostImage ≡ 1)
+unfolding evaluateTurns segmentBytes
+lost-counts = (refl, refl, refl, refl)

@@ -1,18 +1,57 @@
--- Cuts with the erases begun are cuts; and of lists one after the other.
+-- Cuts with the erases begun are cuts, and every cut is one; so are histories. And cuts of lists one after the other.
 use Prim.Native.Nat.{ℕ, zero, suc}
 use mathlib.Core.Path.{_≡_, refl, sym, ap, _∙_}
 use mathlib.Core.Logic.{_⊎_, inl, inr}
 use mathlib.Core.List.{List, [], _∷_, _++_, append-assoc}
 use lib.ListN.{take}
 use Rattle.model.specs.Chip.{Image, Step, program, erase, step, run, Cut}
+use Rattle.model.specs.Answers.{Request, workOf}
+use Rattle.model.specs.Histories.{Seen, answered, lost, Does, wears, Event, History}
 use Rattle.model.specs.Sequences.{erasesIn}
-use Rattle.model.specs.Begun.{CutBegun}
+use Rattle.model.specs.Begun.{CutBegun, DoesBegun, Turn, Turns}
 
 pub begun-cut : (B : ℕ) (xs : List Step) (s u : Image) (es : List ℕ) → CutBegun B xs s u es → Cut B xs s u
 begun-cut B [] s u es c = c .0
 begun-cut B (x ∷ xs) s u es (inl c) = inl (c .0)
 begun-cut B (x ∷ xs) s u es (inr (inl c)) = inr (inl (c .0))
 begun-cut B (x ∷ xs) s u es (inr (inr (rest, e, c))) = inr (inr (begun-cut B xs (step B x s) u rest c))
+
+-- and every cut has begun some erases
+pub cut-begun : (B : ℕ) (xs : List Step) (s u : Image) → Cut B xs s u → (es : List ℕ) × CutBegun B xs s u es
+cut-begun B [] s u c = ([], (c, refl))
+cut-begun B (x ∷ xs) s u (inl c) = ([], inl (c, refl))
+cut-begun B (x ∷ xs) s u (inr (inl c)) = (erasesIn (x ∷ []), inr (inl (c, refl)))
+cut-begun B (x ∷ xs) s u (inr (inr c)) = let r = cut-begun B xs (step B x s) u c in (erasesIn (x ∷ []) ++ r .0, inr (inr (r .0, refl, r .1)))
+
+-- ---- the histories with the erases begun are all histories
+
+does-begun : (N B : ℕ) (r : Request) (o : Seen) (s u : Image) → Does N B r o s u → (es : List ℕ) × DoesBegun N B r o s u es
+does-begun N B r (answered o) s u (allowance, e, left) = (erasesIn (take allowance (workOf N B s r .steps)), (allowance, e, left, refl))
+does-begun N B r lost s u c = cut-begun B (workOf N B s r .steps) s u c
+
+begun-does : (N B : ℕ) (r : Request) (o : Seen) (s u : Image) (es : List ℕ) → DoesBegun N B r o s u es → Does N B r o s u
+begun-does N B r (answered o) s u es (allowance, e, left, b) = (allowance, e, left)
+begun-does N B r lost s u es c = begun-cut B (workOf N B s r .steps) s u es c
+
+-- the same requests, and the same seen of each, in the same order
+abbrev pub Same : List Event → List Turn → Type 0
+Same [] [] = Unit {0}
+Same [] (t ∷ ts) = ⊥
+Same (e ∷ es) [] = ⊥
+Same (e ∷ es) (t ∷ ts) = (t .request ≡ e .request) × (t .seen ≡ e .seen) × Same es ts
+
+pub history-turns : (N B : ℕ) (es : List Event) (s u : Image) → History N B s es u → (ts : List Turn) × Turns N B s ts u × Same es ts
+history-turns N B [] s u e = ([], e, tt)
+history-turns N B (v ∷ es) s u (p, w, (m, d, rest)) =
+    let a = does-begun N B (v .request) (v .seen) s m d in
+    let b = history-turns N B es m u rest in
+    (record { request = v .request; seen = v .seen; begun = a .0 } ∷ b .0, (p, (m, a .1, b .1)), (refl, refl, b .2))
+
+pub turns-history : (N B : ℕ) (ts : List Turn) (s u : Image) → Turns N B s ts u → (es : List Event) × History N B s es u × Same es ts
+turns-history N B [] s u e = ([], e, tt)
+turns-history N B (v ∷ ts) s u (p, (m, d, rest)) =
+    let b = turns-history N B ts m u rest in
+    (record { request = v .request; worn = wears N B s; seen = v .seen } ∷ b .0, (p, refl, (m, begun-does N B (v .request) (v .seen) s m (v .begun) d, b .1)), (refl, refl, b .2))
 
 erases-cons : (x : Step) (xs : List Step) → erasesIn (x ∷ xs) ≡ erasesIn (x ∷ []) ++ erasesIn xs
 unfolding erasesIn
