@@ -1,4 +1,4 @@
--- Demand 2 from the laws of the single requests: one lemma for each kind of event, and the induction over the history.
+-- One lemma for each kind of event, from the laws of the single requests, and the induction over the history.
 use Prim.Native.Nat.{ℕ, zero, suc}
 use mathlib.Core.Path.{_≡_, refl, sym, ap, ap₂, _∙_, subst}
 use mathlib.Core.Logic.{_⊎_, inl, inr, ⊎-elim}
@@ -21,9 +21,9 @@ use Rattle.bridge.specs.Held.{clean-view}
 use Rattle.bridge.specs.Accepted.{recover-none}
 use Rattle.bridge.specs.Format.{format-bytes}
 use Rattle.crash.specs.Machine.{malformed, plainCode, plainBytes, plain, made, next, codeOnTable, Promise, settled, interrupted, unknown, IsCut, OnTable, WantsRecovery, Holds, answers, answers-again, asks-recovery, refuses-malformed, not-begun, wholly-done, formats, format-cut, no-promise, PlainRuns, NoFormat}
-use Rattle.crash.specs.Demand2.{Keeps, board, Demand2, FromClean, FromFormer, FromFormerLeft}
+use Rattle.crash.specs.Demand2.{Keeps, board}
 use Rattle.crash.specs.Reading
-use Rattle.crash.specs.Sound.{SoundAs, Sound, Clean, finished, CutOf, formerIn, formerShown, DoneWith, LeftWith, RequestLaws}
+use Rattle.crash.specs.Sound.{SoundAs, Sound, Clean, finished, CutOf, formerIn, DoneWith, LeftWith, RequestLaws}
 use Rattle.crash.specs.Requests.{refused-idle, idle-finished, idle-cut, read-idle, readOr-idle, readOr-work, shown-clean, former-clean, sound-clean, read-refused, readOr-bytes, bytes-refused, ended, ended-or-stopped, code-clean, Unfinished, code-unfinished, code-recover, code-format, steps-format, malformed-small, code-agree, agree-made, distinct-made}
 use Rattle.crash.specs.Invariant.{Stores, WillShow, Invariant, Follows}
 
@@ -356,10 +356,10 @@ module _ (N B : ℕ) (f : Bool) (laws : RequestLaws N B) where
   keeps s unknown k = tt
 
   -- from an image that keeps a promise
-  runs-on : (es : List Event) (s u : Image) (x : Promise) → AllMay es → Invariant N B f s x → History N B s es u → (y : Promise) × PlainRuns (board N B f) x es y × Keeps N B u y
+  pub runs-on : (es : List Event) (s u : Image) (x : Promise) → AllMay es → Invariant N B f s x → History N B s es u → (y : Promise) × PlainRuns (board N B f) x es y × Keeps N B u y
   runs-on es s u x may k runs = let a = history es s u x may k runs in (a .0, a .1, keeps u (a .0) (a .2))
 
-  unformatted : (es : List Event) → NoFormat es → AllMay es
+  pub unformatted : (es : List Event) → NoFormat es → AllMay es
   unformatted [] h = tt
   unformatted (e ∷ es) h = (by-request (e .request) (h .0), unformatted es (h .1))
     where
@@ -370,51 +370,3 @@ module _ (N B : ℕ) (f : Bool) (laws : RequestLaws N B) where
       by-request (read b) o = tt
       by-request (readOr b g) o = tt
       by-request recover o = tt
-
--- on version 2 a format may come at any time
-all-may : (N B : ℕ) (laws : RequestLaws N B) (es : List Event) → AllMay N B false laws es
-all-may N B laws [] = tt
-all-may N B laws (e ∷ es) = (by-request (e .request), all-may N B laws es)
-  where
-    by-request : (r : Request) → May N B false laws r
-    by-request format = refl
-    by-request (put b c) = tt
-    by-request (delete b) = tt
-    by-request (read b) = tt
-    by-request (readOr b g) = tt
-    by-request recover = tt
-
-stores : (N B : ℕ) (f : Bool) (s : Image) → rightSize N B s ≡ true → Bytes s → Clean N B s → formerIn N B s ≡ f → Stores N B f s (tableOf N B s)
-unfolding tableOf
-stores N B f s z y k v = record { clean = k; version = v; table = λ b. refl; once = clean-distinct (clean-view N B s z k); bytes = y }
-
--- a finished format leaves an image that stores nothing
-pub formatted-stores : (N B : ℕ) (laws : RequestLaws N B) (s : Image) → rightSize N B s ≡ true → Stores N B false (run B (formatSteps N B) s) []
-unfolding distinct
-formatted-stores N B laws s z = let d = laws .format-done s z in
-    record { clean = d .0; version = d .2; table = agree-of (tableOf N B (run B (formatSteps N B) s)) [] (d .1); once = refl; bytes = format-bytes N B s z }
-
-pub demand2-from : ((N B : ℕ) → RequestLaws N B) → Demand2
-demand2-from laws N B s u es z runs = runs-on N B false (laws N B) es s u unknown (all-may N B (laws N B) es) (z, tt) runs
-
-pub clean-from : ((N B : ℕ) → RequestLaws N B) → FromClean
-clean-from laws N B s u es z y k v runs = runs-on N B false (laws N B) es s u (settled (tableOf N B s)) (all-may N B (laws N B) es) (z, stores N B false s z y k v) runs
-
-pub former-from : ((N B : ℕ) → RequestLaws N B) → FromFormer
-former-from laws N B s u es z y k v runs none =
-    runs-on N B true (laws N B) es s u (settled (tableOf N B s)) (unformatted N B true (laws N B) es none) (z, stores N B true s z y k v) runs
-
--- an image as a cut leaves it will show a table of a clean one
-will-show : (N B : ℕ) (f : Bool) (laws : RequestLaws N B) (s : Image) → rightSize N B s ≡ true → Bytes s → Sound N B s → formerShown N B s ≡ f → WillShow N B f s (shown N B s)
-unfolding tableOf recovered shown
-will-show N B f laws s z y k v = record {
-  sound = k;
-  version = v;
-  table = λ b. refl;
-  once = clean-distinct (clean-view N B (recovered N B s) (run-size N B (workOf N B s recover .steps) s ∙ z) (laws .recover-done s z k));
-  bytes = y;
-}
-
-pub former-left-from : ((N B : ℕ) → RequestLaws N B) → FromFormerLeft
-former-left-from laws N B s u es z y k v runs none =
-    runs-on N B true (laws N B) es s u (interrupted (shown N B s)) (unformatted N B true (laws N B) es none) (z, will-show N B true (laws N B) s z y k v) runs

@@ -14,7 +14,7 @@ use Rattle.bridge.specs.Requests.{put-done, after-table, after-former}
 use Rattle.bridge.specs.Format.{format-done, fresh-table}
 use Rattle.crash.specs.Demand2.{Demand2, FromClean, FromFormer, FromFormerLeft}
 use Rattle.crash.specs.Sound.{Clean, finished, Accepted, formerIn, DoneWith, RequestLaws}
-use Rattle.crash.specs.Skeleton.{demand2-from, clean-from, former-from, former-left-from}
+use Rattle.crash.specs.Starts.{demand2-from, clean-from, former-from, former-left-from}
 use Rattle.crash.specs.Recover.{recover-done, recover-cut}
 use Rattle.crash.specs.Read.{read-done}
 use Rattle.crash.specs.Delete.{finished-delete, delete-cut}

@@ -28,7 +28,8 @@ use Rattle.crash.specs.Sound.{SoundAs, Sound, Clean}
 use Rattle.crash.specs.Requests.{refused-idle, read-idle, readOr-idle, Unfinished, code-unfinished}
 use Rattle.crash.specs.ReadingRuns.{Known, move-known}
 use Rattle.crash.specs.Invariant.{Invariant}
-use Rattle.crash.specs.Skeleton.{one-event, May, formatted-stores}
+use Rattle.crash.specs.Skeleton.{one-event, May}
+use Rattle.crash.specs.Starts.{formatted-stores}
 use Rattle.crash.specs.Tops.{same-image}
 use Rattle.crash.specs.Delete.{delete-top}
 use Rattle.crash.specs.Theorem.{request-laws}
