@@ -1,4 +1,4 @@
--- The invariant that is closed under power cuts, and what is left to prove of each request. Everything else follows (Skeleton).
+-- The invariant that is closed under power cuts, and what is left to prove of each request. Everything else follows (Skeleton, Starts).
 use Prim.Native.Nat.{ℕ, suc, _+_, _-_, _*_, _/_, _%_, _≤_}
 use mathlib.Core.Path.{_≡_}
 use mathlib.Core.Logic.{_⊎_}
