@@ -53,7 +53,7 @@ fn is_worn(segments: usize, slots: usize, plan: Plan, tally: Tally) -> bool
     if plan.slot < slots {
         return false;
     }
-    if tally.used_up {
+    if tally.no_bit_left {
         return true;
     }
     let top = plan.first.0 as usize + plan.used - 1;

@@ -10,11 +10,11 @@ ghost use Rattle.flash.specs.Pages.{Sized};
 ghost use Rattle.tally.specs.Seen.{zerosBefore, tallySeen, headerIn};
 
 // What a header tells of recoveries' erases: whether it has version 1, which counts none; how many there are, those
-// carried on from former headers and those since; and whether it has no bit left to count one more.
+// carried on from earlier headers and those since; and whether it has no bit left to count one more.
 pub struct Tally {
     pub former: bool,
     pub count: usize,
-    pub used_up: bool,
+    pub no_bit_left: bool,
 }
 
 // Where the bits begin that recoveries clear, and how many bytes they fill.
@@ -79,7 +79,7 @@ fn see_tally(page: &[u8]) -> Tally
         return Tally {
             former: true,
             count: 0,
-            used_up: false,
+            no_bit_left: false,
         };
     }
     let bits = &page[BITS..256];
@@ -87,7 +87,7 @@ fn see_tally(page: &[u8]) -> Tally
     Tally {
         former: false,
         count: header::header_total(page) + cleared,
-        used_up: zeros_before(bits) >= BIT_BYTES,
+        no_bit_left: zeros_before(bits) >= BIT_BYTES,
     }
 }
 
