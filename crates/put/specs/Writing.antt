@@ -35,7 +35,7 @@ pub record Ranged (N B : ℕ) (p : Plan) : Type 0 where
   pub spare : p .used ≤ mostSegments
   pub compactions : p .compactions ≤ mostSegments
 
--- how many segments a put without room gives a number
+-- how many new numbers a put without room gives
 unfoldable pub newNumbersBy : ℕ → Plan → ℕ
 newNumbersBy N p = cond (ltb (p .used) (N - 1)) 1 (p .compactions)
 

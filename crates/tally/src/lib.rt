@@ -1,4 +1,5 @@
 // The tally of recoveries' erases in a header of version 2: read, and one more counted under a budget.
+use header::BITS;
 use model::SegmentNumber;
 ghost use mathlib.Core.Path.{_≡_};
 ghost use Prim.Native.Nat.{_<_, _≤_};
@@ -17,9 +18,7 @@ pub struct Tally {
     pub no_bit_left: bool,
 }
 
-// Where the bits begin that recoveries clear, and how many bytes they fill.
-const BITS: usize = 32;
-
+// How many bytes the bits fill that recoveries clear.
 const BIT_BYTES: usize = 224;
 
 fn cleared_in(x: u8) -> usize
