@@ -1,4 +1,5 @@
 // A header page taken apart, or made up and programmed under a budget.
+use model::ERASE_LIMIT;
 use model::SegmentNumber;
 ghost use mathlib.Core.Path.{_≡_};
 ghost use Prim.Native.Nat.{_+_, _*_, _%_, _<_, _≤_};
@@ -39,13 +40,10 @@ const FIELDS: usize = 17;
 
 const TOTAL_END: usize = 21;
 
-const BITS: usize = 32;
+pub const BITS: usize = 32;
 
 // The version that counts recoveries' erases.
 const VERSION_2: u8 = 2;
-
-// Totals stay below this, and segment numbers below this times the count of segments.
-const ERASE_LIMIT: usize = 100000;
 
 // ---- taken apart
 
@@ -78,6 +76,7 @@ pub fn header_total(page: &[u8]) -> usize
     long(page[17], page[18], page[19], page[20]) as usize
 }
 
+// Whether a header page, in use or not, has version 1: what has not version 2 is taken for it.
 pub fn is_former(page: &[u8]) -> bool
     requires { ⌜ length (now page) ≡ 256 ⌝ }
     ensures { λ r. ⌜ r ≡ isFormer (headerVersion (now (page .entry))) ⌝ }
@@ -280,7 +279,7 @@ fn finish_header(header: &mut [u8], made: &[u8], status: u8, budget: u64) -> u64
     requires { ⌜ (length (now header) ≡ 256) × (length (now made) ≡ 256) ⌝ }
     ensures { λ r. ⌜ Programmed (headerFinished (now (made .entry)) status) budget r (now (header .entry)) (now (header .exit)) ⌝ }
 {
-    let tallied = flash::program_part(header, made, 17, 4, budget);
+    let tallied = flash::program_part(header, made, FIELDS, TOTAL_END - FIELDS, budget);
     let numbered = flash::program_part(header, made, 8, 8, tallied);
     flash::program_byte(header, 5, status, numbered)
 }

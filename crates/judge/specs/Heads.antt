@@ -165,10 +165,10 @@ unfoldable pub allSettled : List Segment → Bool
 allSettled l = noneOwing l && othersBlank l
 
 unfoldable pub countsOf : List Segment → HeaderCounts
-countsOf l = record { next = nextNumber l; used = usedCount l; settled = allSettled l; former = all (λ x. ofVersion 1 x) l; second = all (λ x. ofVersion 2 x) l }
+countsOf l = record { next = nextNumber l; used = usedCount l; settled = allSettled l; «all_version_1» = all (λ x. ofVersion 1 x) l; «all_version_2» = all (λ x. ofVersion 2 x) l }
 
 unfoldable pub noCounts : HeaderCounts
-noCounts = record { next = 0; used = 0; settled = true; former = true; second = true }
+noCounts = record { next = 0; used = 0; settled = true; «all_version_1» = true; «all_version_2» = true }
 
 -- one segment more
 unfoldable pub countOne : HeaderCounts → Segment → HeaderCounts
@@ -176,13 +176,13 @@ countOne c x = record {
   next = max (c .next) (numberAfter x);
   used = cond (isInUse x) (c .used + 1) (c .used);
   settled = c .settled && (not (isOwing x) && not (isInvalid x));
-  former = c .former && ofVersion 1 x;
-  second = c .second && ofVersion 2 x;
+  «all_version_1» = c .«all_version_1» && ofVersion 1 x;
+  «all_version_2» = c .«all_version_2» && ofVersion 2 x;
 }
 
 -- what conditions 1 to 4 ask of the counts: some in use, not all, of one version, none owing and all others blank
 unfoldable pub mayBeFine : ℕ → HeaderCounts → Bool
-mayBeFine N c = ltb 0 (c .used) && (ltb (c .used) N && ((c .former || c .second) && c .settled))
+mayBeFine N c = ltb 0 (c .used) && (ltb (c .used) N && ((c .«all_version_1» || c .«all_version_2») && c .settled))
 
 -- the segments in use: the smallest number, how many, and whether conditions 1 to 4 hold
 unfoldable pub frameOf : ℕ → List Segment → Frame

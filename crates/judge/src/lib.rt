@@ -47,8 +47,8 @@ pub struct HeaderCounts {
     pub next: usize,
     pub used: usize,
     pub settled: bool,
-    pub former: bool,
-    pub second: bool,
+    pub all_version_1: bool,
+    pub all_version_2: bool,
 }
 
 // The segments in use: the smallest number, how many, and whether conditions 1 to 4 of document 01's Clean hold.

@@ -44,7 +44,7 @@ fn erase_after(
     flash::erase_segment(image, index, slots, budget)
 }
 
-// Erases the segment after the top, which is counted in the top's header before.
+// Counts an erase in the top's header, and then makes it: that of the segment after the top.
 fn erase_torn(
     image: &mut [u8],
     segments: usize,
@@ -60,7 +60,7 @@ fn erase_torn(
     request::finished(budget, left, counted, 1)
 }
 
-// The same, unless it is blank.
+// Counts and makes the same erase, unless that segment is blank; what is left of the budget.
 fn erase_old(
     image: &mut [u8],
     segments: usize,
@@ -79,7 +79,8 @@ fn erase_old(
     erase_after(image, segments, slots, top, counted)
 }
 
-// Erases the segment after the top, unless it is blank, and then settles the top's status.
+// Counts an erase in the top's header and erases the segment after the top, unless that is blank; then settles the top's
+// status.
 fn erase_pending(
     image: &mut [u8],
     segments: usize,

@@ -4,6 +4,10 @@
 // The most segments of an image; `mostSegments` in specs/.
 pub const MOST_SEGMENTS: usize = 255;
 
+// The erases of one segment that a chip is good for: totals stay below it, and segment numbers below it times the count
+// of segments; `eraseLimit` in specs/.
+pub const ERASE_LIMIT: usize = 100000;
+
 // Names a record, 1 to 65,534 (document 01: block number).
 pub struct BlockNumber(pub u16);
 

@@ -35,13 +35,13 @@ pub record Ranged (N B : ℕ) (p : Plan) : Type 0 where
   pub spare : p .used ≤ mostSegments
   pub compactions : p .compactions ≤ mostSegments
 
--- how many segments a put without room gives a number
+-- how many new numbers a put without room gives
 unfoldable pub newNumbersBy : ℕ → Plan → ℕ
 newNumbersBy N p = cond (ltb (p .used) (N - 1)) 1 (p .compactions)
 
 -- a put of it is refused as worn
 unfoldable pub wornBy : ℕ → ℕ → Plan → Tally → Bool
-wornBy N B p t = not (ltb (p .slot) B) && (t .«used_up» || leb eraseLimit ((p .first .0 + p .used - 1 + newNumbersBy N p) / N + t .count))
+wornBy N B p t = not (ltb (p .slot) B) && (t .«no_bit_left» || leb eraseLimit ((p .first .0 + p .used - 1 + newNumbersBy N p) / N + t .count))
 
 -- a put of a block that was found or not is refused as full
 unfoldable pub fullBy : ℕ → ℕ → Plan → Found → Bool

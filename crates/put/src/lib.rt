@@ -2,6 +2,7 @@
 use find::Found;
 use model::Answer;
 use model::BlockNumber;
+use model::ERASE_LIMIT;
 use model::Performed;
 use model::SegmentNumber;
 use model::SlotPlace;
@@ -19,9 +20,6 @@ ghost use Rattle.find.specs.Search.{rowsAt, foundIn};
 ghost use Rattle.flash.specs.Pages.{Sized};
 ghost use Rattle.put.specs.Writing.{Ranged, newNumbersBy, wornBy, fullBy, answerFor, foundBefore, Puttable, Accepted, Ready, Wrote};
 
-// The erases of one segment that a chip is good for.
-const ERASE_LIMIT: usize = 100000;
-
 // The steps that write a slot, besides one for each byte of contents.
 const SLOT_STEPS: u64 = 5;
 
@@ -33,7 +31,7 @@ fn top_number(plan: Plan) -> SegmentNumber
     SegmentNumber((plan.first.0 as usize + plan.used - 1) as u32)
 }
 
-// How many segments a put without room gives a number.
+// How many new numbers a put without room gives.
 fn new_numbers(segments: usize, plan: Plan) -> usize
     requires { ⌜ (plan .used ≤ mostSegments) × (plan .compactions ≤ mostSegments) ⌝ }
     ensures { λ r. ⌜ (r ≡ newNumbersBy segments plan) × (r ≤ mostSegments) ⌝ }
@@ -47,17 +45,17 @@ fn new_numbers(segments: usize, plan: Plan) -> usize
 // Whether room for a put would wear the chip: a new header is needed, and the top's has no bit left, or the erases by number
 // and by the tally reach the limit. It is found out before the first step.
 fn is_worn(segments: usize, slots: usize, plan: Plan, tally: Tally) -> bool
-    requires { ⌜ Ranged segments slots plan × (tally .count < 4294969344) ⌝ }
+    requires { ⌜ Ranged segments slots plan × (plan .first .0 + plan .used ≤ 4294967296) × (tally .count < 4294969344) ⌝ }
     ensures { λ r. ⌜ r ≡ wornBy segments slots plan tally ⌝ }
 {
     if plan.slot < slots {
         return false;
     }
-    if tally.used_up {
+    if tally.no_bit_left {
         return true;
     }
-    let top = plan.first.0 as usize + plan.used - 1;
-    let number = top + new_numbers(segments, plan);
+    let top = top_number(plan);
+    let number = top.0 as usize + new_numbers(segments, plan);
     ERASE_LIMIT <= number / segments + tally.count
 }
 
@@ -89,7 +87,7 @@ fn slot_before(image: &[u8], segments: usize, slots: usize, plan: Plan, block: B
 
 // The answer of a put on a clean image of version 2, but for a cut.
 fn put_answer(segments: usize, slots: usize, plan: Plan, tally: Tally, found: Found) -> Answer
-    requires { ⌜ Ranged segments slots plan × (tally .count < 4294969344) ⌝ }
+    requires { ⌜ Ranged segments slots plan × (plan .first .0 + plan .used ≤ 4294967296) × (tally .count < 4294969344) ⌝ }
     ensures { λ r. ⌜ r ≡ answerFor segments slots plan tally found ⌝ }
 {
     if is_full(segments, slots, plan, found) {

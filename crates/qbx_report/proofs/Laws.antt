@@ -120,6 +120,6 @@ module _ (N B : ℕ) (s : Image) (some : 0 < N) where
       told : t ≡ tallySeen (topVersion N l)
       told = q ∙ (ap (λ (n : ℕ). tallySeen (headerVersion (headerIn N B (n - 1) s))) next-is ∙ ap tallySeen (top-version N B s some (omega (arith, z, next-is))))
 
-      pub top-told : cond (t .former) Version1 (Version2 (t .count) (t .«used_up»)) ≡ topTold N l
+      pub top-told : cond (t .former) Version1 (Version2 (t .count) (t .«no_bit_left»)) ≡ topTold N l
       unfolding topTold versionTold tallySeen
       top-told = rw (told, ne-eqb (nextNumber l) 0 (λ y. z (next-is ∙ y)))

@@ -164,7 +164,7 @@ fn see_top(image: &[u8], segments: usize, slots: usize) -> TopSeen
     }
     TopSeen::Version2 {
         tally: told.count as u64,
-        spent: told.used_up,
+        no_bit_left: told.no_bit_left,
     }
 }
 

@@ -88,12 +88,12 @@ slotsText live dead empty = (text ", slots live " ++ decimal live) ++ (text ", d
 
 -- version 2 with its tally, as ", version 2, tally 3"
 unfoldable pub tallyText : ℕ → Bool → List ℕ
-tallyText tally spent = (text ", version 2, tally " ++ decimal tally) ++ cond spent (text ", no bit left") []
+tallyText tally «no_bit_left» = (text ", version 2, tally " ++ decimal tally) ++ cond «no_bit_left» (text ", no bit left") []
 
 unfoldable pub topText : TopSeen → List ℕ
 topText Missing = []
 topText Version1 = text ", version 1"
-topText (Version2 tally spent) = tallyText tally spent
+topText (Version2 tally «no_bit_left») = tallyText tally «no_bit_left»
 
 -- as "clean: segments in use 2, slots live 5, dead 3, empty 22, version 2, tally 0"
 unfoldable pub reportText : Report → List ℕ

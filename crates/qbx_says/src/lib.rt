@@ -32,7 +32,7 @@ pub enum Condition {
 pub enum TopSeen {
     Missing,
     Version1,
-    Version2 { tally: u64, spent: bool },
+    Version2 { tally: u64, no_bit_left: bool },
 }
 
 // What a check tells: the state, the segments in use, their slots by kind, and the top's header.

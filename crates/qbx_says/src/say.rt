@@ -177,12 +177,12 @@ fn add_slots(line: Line, live: u64, dead: u64, empty: u64) -> Line
 }
 
 // The tally of a header of version 2.
-fn add_tally(line: Line, tally: u64, spent: bool) -> Line
+fn add_tally(line: Line, tally: u64, no_bit_left: bool) -> Line
     requires { ⌜ line .count ≤ 145 ⌝ }
-    ensures { λ r. ⌜ Added line (tallyText tally spent) r × (r .count ≤ line .count + 52) ⌝ }
+    ensures { λ r. ⌜ Added line (tallyText tally «no_bit_left») r × (r .count ≤ line .count + 52) ⌝ }
 {
     let counted = add_count(line, b", version 2, tally ", tally);
-    if spent {
+    if no_bit_left {
         return add(counted, b", no bit left");
     }
     counted
@@ -195,7 +195,7 @@ fn add_top(line: Line, top: TopSeen) -> Line
     match top {
         TopSeen::Missing => add(line, b""),
         TopSeen::Version1 => add(line, b", version 1"),
-        TopSeen::Version2 { tally, spent } => add_tally(line, tally, spent),
+        TopSeen::Version2 { tally, no_bit_left } => add_tally(line, tally, no_bit_left),
     }
 }
 

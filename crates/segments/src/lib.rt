@@ -123,21 +123,14 @@ fn is_owing(s: Summary) -> bool
     }
 }
 
-// Whether a segment is not in use, or has version 1.
-fn is_former(s: Summary) -> bool
-    ensures { λ r. ⌜ r ≡ ofVersion 1 (bare s) ⌝ }
+// Whether a segment is not in use, or of this version: 1 if `former`, else 2.
+fn of_version(s: Summary, former: bool) -> bool
+    ensures { λ r. ⌜ r ≡ ofVersion (cond former 1 2) (bare s) ⌝ }
 {
     if is_in_use(s) {
-        return s.former;
-    }
-    true
-}
-
-// Whether a segment is not in use, or has version 2.
-fn is_second(s: Summary) -> bool
-    ensures { λ r. ⌜ r ≡ ofVersion 2 (bare s) ⌝ }
-{
-    if is_in_use(s) {
+        if former {
+            return s.former;
+        }
         return !s.former;
     }
     true
@@ -183,8 +176,8 @@ fn none_counted() -> HeaderCounts
         next: 0,
         used: 0,
         settled: true,
-        former: true,
-        second: true,
+        all_version_1: true,
+        all_version_2: true,
     }
 }
 
@@ -195,23 +188,23 @@ fn count_one(counts: HeaderCounts, s: Summary) -> HeaderCounts
 {
     let next = larger(counts.next, number_after(s));
     let settled = counts.settled && is_settled(s);
-    let former = counts.former && is_former(s);
-    let second = counts.second && is_second(s);
+    let all_version_1 = counts.all_version_1 && of_version(s, true);
+    let all_version_2 = counts.all_version_2 && of_version(s, false);
     if is_in_use(s) {
         return HeaderCounts {
             next,
             used: counts.used + 1,
             settled,
-            former,
-            second,
+            all_version_1,
+            all_version_2,
         };
     }
     HeaderCounts {
         next,
         used: counts.used,
         settled,
-        former,
-        second,
+        all_version_1,
+        all_version_2,
     }
 }
 
@@ -225,10 +218,10 @@ fn may_be_fine(counts: HeaderCounts, segments: usize) -> bool
     if counts.used >= segments {
         return false;
     }
-    if counts.former {
+    if counts.all_version_1 {
         return counts.settled;
     }
-    if counts.second {
+    if counts.all_version_2 {
         return counts.settled;
     }
     false

@@ -134,7 +134,7 @@ unfolding isFormer countErase
 former-steps version1 p = refl
 former-steps (version2 total bits) p = absurd (false≢true p)
 
-pub former-seen : (e : Version) → isFormer e ≡ true → record { former = true; count = 0; «used_up» = false } ≡ tallySeen e
+pub former-seen : (e : Version) → isFormer e ≡ true → record { former = true; count = 0; «no_bit_left» = false } ≡ tallySeen e
 unfolding isFormer tallySeen tallyOf noBitLeft
 former-seen version1 p = refl
 former-seen (version2 total bits) p = absurd (false≢true p)
@@ -159,7 +159,7 @@ module _ (h : Page) (l : length h ≡ 256) where
     second = rw bits-all (⊎-elim (λ e. absurd (false≢true (sym p ∙ ap isFormer e))) (λ e. e) (either-version h))
 
     pub second-seen : (total cleared zeros : ℕ) → total ≡ headerTotal h → cleared ≡ clearedBits (Bits h) → zeros ≡ zerosBefore (Bits h)
-        → record { former = false; count = total + cleared; «used_up» = leb 224 zeros } ≡ tallySeen (headerVersion h)
+        → record { former = false; count = total + cleared; «no_bit_left» = leb 224 zeros } ≡ tallySeen (headerVersion h)
     unfolding tallySeen isFormer tallyOf noBitLeft
     second-seen total cleared zeros et ec ez =
         let b : 224 ≡ length (Bits h) = rw bits-all (sym bits-length) in

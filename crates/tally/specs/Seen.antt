@@ -14,7 +14,7 @@ unfoldable pub headerIn : ℕ → ℕ → ℕ → Image → Page
 headerIn N B n s = take 256 (drop (headerAt N B n * 256) s)
 
 unfoldable pub tallySeen : Version → Tally
-tallySeen e = record { former = isFormer e; count = tallyOf e; «used_up» = noBitLeft e }
+tallySeen e = record { former = isFormer e; count = tallyOf e; «no_bit_left» = noBitLeft e }
 
 -- how many bytes come before the first that is not 0
 unfoldable pub zerosBefore : List ℕ → ℕ

@@ -1,4 +1,5 @@
 // The tally of recoveries' erases in a header of version 2: read, and one more counted under a budget.
+use header::BITS;
 use model::SegmentNumber;
 ghost use mathlib.Core.Path.{_≡_};
 ghost use Prim.Native.Nat.{_<_, _≤_};
@@ -10,16 +11,14 @@ ghost use Rattle.flash.specs.Pages.{Sized};
 ghost use Rattle.tally.specs.Seen.{zerosBefore, tallySeen, headerIn};
 
 // What a header tells of recoveries' erases: whether it has version 1, which counts none; how many there are, those
-// carried on from former headers and those since; and whether it has no bit left to count one more.
+// carried on from earlier headers and those since; and whether it has no bit left to count one more.
 pub struct Tally {
     pub former: bool,
     pub count: usize,
-    pub used_up: bool,
+    pub no_bit_left: bool,
 }
 
-// Where the bits begin that recoveries clear, and how many bytes they fill.
-const BITS: usize = 32;
-
+// How many bytes the bits fill that recoveries clear.
 const BIT_BYTES: usize = 224;
 
 fn cleared_in(x: u8) -> usize
@@ -79,7 +78,7 @@ fn see_tally(page: &[u8]) -> Tally
         return Tally {
             former: true,
             count: 0,
-            used_up: false,
+            no_bit_left: false,
         };
     }
     let bits = &page[BITS..256];
@@ -87,7 +86,7 @@ fn see_tally(page: &[u8]) -> Tally
     Tally {
         former: false,
         count: header::header_total(page) + cleared,
-        used_up: zeros_before(bits) >= BIT_BYTES,
+        no_bit_left: zeros_before(bits) >= BIT_BYTES,
     }
 }
 

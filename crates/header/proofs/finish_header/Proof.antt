@@ -4,6 +4,9 @@ use borrow.Author.Needs.{needs}
 use Rattle.header.proofs.finish_header.Statement.{statement}
 use Rattle.header.proofs.finish_header.Tie as tie
 
+sub-program-part : tie.Need-sub-program-part
+sub-program-part c = search needs
+
 program-part-requires : tie.Need-program-part-requires
 program-part-requires c κs = search needs
 
@@ -23,6 +26,7 @@ pub finish-header-spec : {M : Type 1} → statement M
 finish-header-spec =
     tie.close
     (tie.spec
+    sub-program-part
     program-part-requires
     program-part-requires-2
     program-byte-requires

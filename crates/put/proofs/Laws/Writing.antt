@@ -56,13 +56,13 @@ module _ (N B : ℕ) (p : Plan) (t : Tally) where
   unfolding wornBy
   worn-room h = rw (lt-ltb (p .slot) B h)
 
-  pub worn-bits : B ≤ p .slot → t .«used_up» ≡ true → true ≡ wornBy N B p t
+  pub worn-bits : B ≤ p .slot → t .«no_bit_left» ≡ true → true ≡ wornBy N B p t
   unfolding wornBy
   worn-bits h u = rw (le-ltb (p .slot) B h, u)
 
-  pub worn-number : (new : ℕ) → B ≤ p .slot → t .«used_up» ≡ false → new ≡ newNumbersBy N p → leb eraseLimit ((p .first .0 + p .used - 1 + new) / N + t .count) ≡ wornBy N B p t
+  pub worn-number : (top new : ℕ) → B ≤ p .slot → t .«no_bit_left» ≡ false → top ≡ p .first .0 + p .used - 1 → new ≡ newNumbersBy N p → leb eraseLimit ((top + new) / N + t .count) ≡ wornBy N B p t
   unfolding wornBy
-  worn-number new h u e = rw (le-ltb (p .slot) B h, u, e)
+  worn-number top new h u d e = rw (le-ltb (p .slot) B h, u, d, e)
 
 -- ---- the answer, from a plan and a search
 

@@ -1,5 +1,5 @@
 -- `put::is_worn` is the test of the definition, from a plan and the top's tally. Assumes nothing.
-use Prim.Native.Nat.{_+_, _-_}
+use Prim.Native.Nat.{_+_}
 use native.Mathlib.Nat.{div-le-self}
 use native.Mathlib.Omega.{arith}
 use Rattle.put.proofs.Laws.Writing.{worn-room, worn-bits, worn-number}
@@ -13,14 +13,11 @@ returns c = let a = c .before .before .args in worn-room (a .segments) (a .slots
 returns-2 : tie.Need-returns-2
 returns-2 c = let a = c .before .before .before .args in worn-bits (a .segments) (a .slots) (a .plan) (a .tally) (c .before .if1 .left) (c .if2 .taken)
 
-cast-top : tie.Need-cast-top
-cast-top c = search needs
+top-number-requires : tie.Need-top-number-requires
+top-number-requires c κs = let x = c .before .before .before in (x .pre .0 .some, x .pre .0 .spare, x .pre .1)
 
-add-top : tie.Need-add-top
-add-top c = search needs
-
-sub-top : tie.Need-sub-top
-sub-top c = search needs
+cast-number : tie.Need-cast-number
+cast-number c = search needs
 
 new-numbers-requires : tie.Need-new-numbers-requires
 new-numbers-requires c κs = search needs
@@ -34,12 +31,13 @@ div-result c = search needs
 returns-3 : tie.Need-returns-3
 returns-3 c =
     let a = c .before .before .before .before .before .before .before .args in
-    worn-number (a .segments) (a .slots) (a .plan) (a .tally) _ (c .before .before .before .before .before .if1 .left) (c .before .before .before .before .if2 .left) (c .before .new-numbers .ensures .0)
+    worn-number (a .segments) (a .slots) (a .plan) (a .tally) _ _ (c .before .before .before .before .before .if1 .left) (c .before .before .before .before .if2 .left) (c .before .before .before .top-number .ensures) (c .before .new-numbers .ensures .0)
 
 add-result : tie.Need-add-result
 add-result c =
     let a = c .before .before .before .before .before .before .before .args in
-    omega (arith, div-le-self (a .plan .first .0 + a .plan .used - 1 + c .before .new-numbers .result) (a .segments))
+    let top = c .before .before .before .top-number in
+    omega (arith, top .ensures, div-le-self (top .result .0 + c .before .new-numbers .result) (a .segments))
 
 pub is-worn-spec : {M : Type 1} → statement M
 is-worn-spec =
@@ -47,9 +45,8 @@ is-worn-spec =
     (tie.spec
     returns
     returns-2
-    cast-top
-    add-top
-    sub-top
+    top-number-requires
+    cast-number
     new-numbers-requires
     add-number
     div-result

@@ -48,7 +48,8 @@ put-answer-requires : tie.Need-put-answer-requires
 put-answer-requires c κs =
     let x = c .before .before .before .before .before .before .before .before in
     let a = x .args in
-    (ranged (a .segments) (a .slots) (a .plan) (a .block .0) (now (a .contents)) (now (a .image)) (x .pre), c .before .before .before .tally-in .ensures .1)
+    let z = find-fits (a .segments) (a .slots) (a .plan) (now (a .image)) (x .pre .plan) in
+    (ranged (a .segments) (a .slots) (a .plan) (a .block .0) (now (a .contents)) (now (a .image)) (x .pre), z .1, c .before .before .before .tally-in .ensures .1)
 
 enum-told : tie.Need-enum-told
 enum-told c = search needs

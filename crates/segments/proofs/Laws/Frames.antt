@@ -43,8 +43,8 @@ module _ (N : ℕ) (l : List Segment) where
     used-is : c .used ≡ usedCount l
     used-is = ap (λ (y : HeaderCounts). y .used) e ∙ (unfold countsOf in refl)
 
-    rest-is : ((c .former || c .second) && c .settled) ≡ (oneVersion l && allSettled l)
-    rest-is = ap (λ (y : HeaderCounts). (y .former || y .second) && y .settled) e ∙ (unfold countsOf oneVersion in refl)
+    rest-is : ((c .«all_version_1» || c .«all_version_2») && c .settled) ≡ (oneVersion l && allSettled l)
+    rest-is = ap (λ (y : HeaderCounts). (y .«all_version_1» || y .«all_version_2») && y .settled) e ∙ (unfold countsOf oneVersion in refl)
 
     first-is : f ≡ firstNumber l
     first-is = q ∙ (ap (λ (y : HeaderCounts). y .next - y .used) e ∙ (unfold countsOf firstNumber in refl))
@@ -56,9 +56,9 @@ module _ (N : ℕ) (l : List Segment) where
     -- the test of the counts, and the numbers
     pub frame-refused : 0 < N → mayBeFine N c ≡ false → record { first = f; used = c .used; fine = false } ≡ frameOf N l
     unfolding mayBeFine
-    frame-refused p h = frame-is false (sym (go (ltb 0 (c .used)) (ltb (c .used) N) ((c .former || c .second) && c .settled) refl refl refl h))
+    frame-refused p h = frame-is false (sym (go (ltb 0 (c .used)) (ltb (c .used) N) ((c .«all_version_1» || c .«all_version_2») && c .settled) refl refl refl h))
       where
-        go : (a b t : Bool) → ltb 0 (c .used) ≡ a → ltb (c .used) N ≡ b → ((c .former || c .second) && c .settled) ≡ t → (a && (b && t)) ≡ false → frame N l ≡ false
+        go : (a b t : Bool) → ltb 0 (c .used) ≡ a → ltb (c .used) N ≡ b → ((c .«all_version_1» || c .«all_version_2») && c .settled) ≡ t → (a && (b && t)) ≡ false → frame N l ≡ false
         go false b t i j k z = frame-none (let e = ltb-false 0 (c .used) i in omega (arith, used-is))
         go true false t i j k z = frame-many p (let e = ltb-false (c .used) N j in omega (arith, used-is))
         go true true false i j k z =
@@ -72,7 +72,7 @@ module _ (N : ℕ) (l : List Segment) where
     frame-tested h t w =
         let a = ltb 0 (c .used) in
         let b = ltb (c .used) N in
-        let o = (c .former || c .second) && c .settled in
+        let o = (c .«all_version_1» || c .«all_version_2») && c .settled in
         let i = ltb-true 0 (c .used) (and-left a (b && o) h) in
         let r = and-right a (b && o) h in
         let j = ltb-true (c .used) N (and-left b o r) in

@@ -27,31 +27,26 @@ use Rattle.judge.specs.Heads.{bareVersion, bareOf, bare, outline, heads, stateS
 
 -- ---- the version that a summary shows
 
-of-version : (t : Bool) → (t ≡ eqb (versionNumber (bareVersion t)) 1) × (not t ≡ eqb (versionNumber (bareVersion t)) 2)
+of-version : (t f : Bool) → cond f t (not t) ≡ eqb (versionNumber (bareVersion t)) (cond f 1 2)
 unfolding bareVersion versionNumber
-of-version true = (refl, refl)
-of-version false = (refl, refl)
+of-version true true = refl
+of-version true false = refl
+of-version false true = refl
+of-version false false = refl
 
-pub former-used : (x : SegmentState) (t : Bool) (n : ℕ) → isInUse (bareOf x t n) ≡ true → t ≡ ofVersion 1 (bareOf x t n)
+pub version-used : (x : SegmentState) (t f : Bool) (n : ℕ) → isInUse (bareOf x t n) ≡ true → cond f t (not t) ≡ ofVersion (cond f 1 2) (bareOf x t n)
 unfolding bareOf isInUse ofVersion
-former-used Blank t n h = absurd (false≢true h)
-former-used Invalid t n h = absurd (false≢true h)
-former-used Rattle.judge.specs.declared.SegmentState.the-variants.InUse t n h = of-version t .0
-former-used Owing t n h = of-version t .0
+version-used Blank t f n h = absurd (false≢true h)
+version-used Invalid t f n h = absurd (false≢true h)
+version-used Rattle.judge.specs.declared.SegmentState.the-variants.InUse t f n h = of-version t f
+version-used Owing t f n h = of-version t f
 
-pub second-used : (x : SegmentState) (t : Bool) (n : ℕ) → isInUse (bareOf x t n) ≡ true → not t ≡ ofVersion 2 (bareOf x t n)
+pub version-unused : (k : ℕ) (x : SegmentState) (t : Bool) (n : ℕ) → isInUse (bareOf x t n) ≡ false → true ≡ ofVersion k (bareOf x t n)
 unfolding bareOf isInUse ofVersion
-second-used Blank t n h = absurd (false≢true h)
-second-used Invalid t n h = absurd (false≢true h)
-second-used Rattle.judge.specs.declared.SegmentState.the-variants.InUse t n h = of-version t .1
-second-used Owing t n h = of-version t .1
-
-pub any-unused : (k : ℕ) (x : SegmentState) (t : Bool) (n : ℕ) → isInUse (bareOf x t n) ≡ false → true ≡ ofVersion k (bareOf x t n)
-unfolding bareOf isInUse ofVersion
-any-unused k Blank t n h = refl
-any-unused k Invalid t n h = refl
-any-unused k Rattle.judge.specs.declared.SegmentState.the-variants.InUse t n h = absurd (true≢false h)
-any-unused k Owing t n h = absurd (true≢false h)
+version-unused k Blank t n h = refl
+version-unused k Invalid t n h = refl
+version-unused k Rattle.judge.specs.declared.SegmentState.the-variants.InUse t n h = absurd (true≢false h)
+version-unused k Owing t n h = absurd (true≢false h)
 
 -- ---- a segment seen
 

@@ -31,15 +31,15 @@ counted c l = record {
   next = max (c .next) (nextNumber l);
   used = c .used + usedCount l;
   settled = c .settled && allSettled l;
-  former = c .former && all (λ x. ofVersion 1 x) l;
-  second = c .second && all (λ x. ofVersion 2 x) l;
+  «all_version_1» = c .«all_version_1» && all (λ x. ofVersion 1 x) l;
+  «all_version_2» = c .«all_version_2» && all (λ x. ofVersion 2 x) l;
 }
 
 counted-cons : (c : HeaderCounts) (x : Segment) (l : List Segment) → counted c (x ∷ l) ≡ counted (countOne c x) l
 unfolding counted countOne nextNumber usedCount count allSettled noneOwing othersBlank all
 counted-cons c x l =
     let n : max (c .next) (max (numberAfter x) (nextNumber l)) ≡ max (max (c .next) (numberAfter x)) (nextNumber l) = omega arith in
-    rw (n, used (isInUse x), settled (c .settled) (isOwing x) (isInvalid x) (noneOwing l), and-assoc (c .former) (ofVersion 1 x) (all (λ y. ofVersion 1 y) l), and-assoc (c .second) (ofVersion 2 x) (all (λ y. ofVersion 2 y) l))
+    rw (n, used (isInUse x), settled (c .settled) (isOwing x) (isInvalid x) (noneOwing l), and-assoc (c .«all_version_1») (ofVersion 1 x) (all (λ y. ofVersion 1 y) l), and-assoc (c .«all_version_2») (ofVersion 2 x) (all (λ y. ofVersion 2 y) l))
   where
     used : (t : Bool) → c .used + cond t (suc (usedCount l)) (usedCount l) ≡ cond t (c .used + 1) (c .used) + usedCount l
     used true = omega arith
@@ -71,7 +71,7 @@ module _ (l : List Segment) where
     where
       none : counted c [] ≡ c
       none = unfold counted nextNumber usedCount count allSettled noneOwing othersBlank all in
-          (let m : max (c .next) 0 ≡ c .next = omega arith in let u : c .used + 0 ≡ c .used = omega arith in rw (m, u, and-true (c .settled), and-true (c .former), and-true (c .second)))
+          (let m : max (c .next) 0 ≡ c .next = omega arith in let u : c .used + 0 ≡ c .used = omega arith in rw (m, u, and-true (c .settled), and-true (c .«all_version_1»), and-true (c .«all_version_2»)))
 
 -- of the image's segments as summaries show them
 module _ (l : List Segment) where

@@ -18,11 +18,11 @@ larger-requires c κs = search needs
 is-settled-requires : tie.Need-is-settled-requires
 is-settled-requires c κs = search needs
 
-is-former-requires : tie.Need-is-former-requires
-is-former-requires c κs = search needs
+of-version-requires : tie.Need-of-version-requires
+of-version-requires c κs = search needs
 
-is-second-requires : tie.Need-is-second-requires
-is-second-requires c κs = search needs
+of-version-requires-2 : tie.Need-of-version-requires-2
+of-version-requires-2 c κs = search needs
 
 is-in-use-requires : tie.Need-is-in-use-requires
 is-in-use-requires c κs = search needs
@@ -40,8 +40,8 @@ returns c =
     let l = c .before .before .before .before .before .before .larger in
     let n = c .before .before .before .before .before .before .before .number-after in
     let e : x .settled ≡ (a .counts .settled && (not (isOwing (bare (a .s))) && not (isInvalid (bare (a .s))))) = ⊎-elim (λ w. rw (w .0 .taken) (w .2 ∙ w .1 .ensures)) (λ w. rw (w .0 .left) (w .1 ∙ w .0 .left)) (x .came) in
-    let f : y .former ≡ (a .counts .former && ofVersion 1 (bare (a .s))) = ⊎-elim (λ w. rw (w .0 .taken) (w .2 ∙ w .1 .ensures)) (λ w. rw (w .0 .left) (w .1 ∙ w .0 .left)) (y .came) in
-    let g : z .second ≡ (a .counts .second && ofVersion 2 (bare (a .s))) = ⊎-elim (λ w. rw (w .0 .taken) (w .2 ∙ w .1 .ensures)) (λ w. rw (w .0 .left) (w .1 ∙ w .0 .left)) (z .came) in
+    let f : y .all-version-1 ≡ (a .counts .«all_version_1» && ofVersion 1 (bare (a .s))) = ⊎-elim (λ w. rw (w .0 .taken) (w .2 ∙ w .1 .ensures)) (λ w. rw (w .0 .left) (w .1 ∙ w .0 .left)) (y .came) in
+    let g : z .all-version-2 ≡ (a .counts .«all_version_2» && ofVersion 2 (bare (a .s))) = ⊎-elim (λ w. rw (w .0 .taken) (w .2 ∙ w .1 .ensures)) (λ w. rw (w .0 .left) (w .1 ∙ w .0 .left)) (z .came) in
     (rw (e, f, g, l .ensures, n .ensures .0, sym (c .before .before .is-in-use .ensures) ∙ c .before .if4 .taken), omega arith, omega (arith, l .ensures, n .ensures .1, c .before .before .before .before .before .before .before .before .pre .1))
 
 returns-2 : tie.Need-returns-2
@@ -54,8 +54,8 @@ returns-2 c =
     let l = c .before .before .before .before .before .larger in
     let n = c .before .before .before .before .before .before .number-after in
     let e : x .settled ≡ (a .counts .settled && (not (isOwing (bare (a .s))) && not (isInvalid (bare (a .s))))) = ⊎-elim (λ w. rw (w .0 .taken) (w .2 ∙ w .1 .ensures)) (λ w. rw (w .0 .left) (w .1 ∙ w .0 .left)) (x .came) in
-    let f : y .former ≡ (a .counts .former && ofVersion 1 (bare (a .s))) = ⊎-elim (λ w. rw (w .0 .taken) (w .2 ∙ w .1 .ensures)) (λ w. rw (w .0 .left) (w .1 ∙ w .0 .left)) (y .came) in
-    let g : z .second ≡ (a .counts .second && ofVersion 2 (bare (a .s))) = ⊎-elim (λ w. rw (w .0 .taken) (w .2 ∙ w .1 .ensures)) (λ w. rw (w .0 .left) (w .1 ∙ w .0 .left)) (z .came) in
+    let f : y .all-version-1 ≡ (a .counts .«all_version_1» && ofVersion 1 (bare (a .s))) = ⊎-elim (λ w. rw (w .0 .taken) (w .2 ∙ w .1 .ensures)) (λ w. rw (w .0 .left) (w .1 ∙ w .0 .left)) (y .came) in
+    let g : z .all-version-2 ≡ (a .counts .«all_version_2» && ofVersion 2 (bare (a .s))) = ⊎-elim (λ w. rw (w .0 .taken) (w .2 ∙ w .1 .ensures)) (λ w. rw (w .0 .left) (w .1 ∙ w .0 .left)) (z .came) in
     (rw (e, f, g, l .ensures, n .ensures .0, sym (c .before .is-in-use .ensures) ∙ c .if4 .left), omega arith, omega (arith, l .ensures, n .ensures .1, c .before .before .before .before .before .before .before .pre .1))
 
 pub count-one-spec : {M : Type 1} → statement M
@@ -65,8 +65,8 @@ count-one-spec =
     number-after-requires
     larger-requires
     is-settled-requires
-    is-former-requires
-    is-second-requires
+    of-version-requires
+    of-version-requires-2
     is-in-use-requires
     add-t12
     returns
