@@ -80,9 +80,6 @@ module _ (N : ℕ) (l m : List Segment) (h : Like N l m) (inside : topIndex N l 
   pub like-other : (k : ℕ) → k ≢ topIndex N l → getD m k blank ≡ getD l k blank
   like-other k n = ap (λ (y : List Segment). getD y k blank) (h .segments) ∙ getD-set-other l top k changed blank (λ e. n e)
 
-  pub like-length : length m ≡ length l
-  like-length = ap length (h .segments) ∙ length-set l top changed
-
   pub like-entries : entriesIn (viewOf N m) ≡ entriesIn (viewOf N l)
   like-entries = ap (λ y. entriesIn (viewOf N y)) (h .segments) ∙ alike-entries (h .version) N l top inside
 

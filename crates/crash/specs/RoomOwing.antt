@@ -7,7 +7,7 @@ use mathlib.Core.List.{List, [], _∷_, append-assoc}
 use native.Mathlib.Omega.{arith}
 use native.Mathlib.Nat.{mod-lt, add-mod-right}
 use lib.ListN.{length, getD, set, List·getD-append}
-use lib.Seq.{getD-drop, set-set, set-comm, getD-set-same, getD-set-other}
+use lib.Seq.{getD-drop, set-set, set-comm, getD-set-same}
 use borrow.Author.Tests.{eq-eqb}
 use Rattle.model.specs.Chip.{Image, Page, Bytes, rightSize, run, numberLimit}
 use Rattle.model.specs.Header.{erasePending, compacted, numberBytes, inverted, Version, newVersion, isFormer, tallyBytes, headerPage, headerVersion, headerStatus, oldIndex}
@@ -125,9 +125,6 @@ module _ (N B : ℕ) (s : Image) (v : View) (f : Full N B s v) where
   owing-version : topVersion N owing ≡ nextVersion v
   unfolding topVersion versionIn
   owing-version = rw (owing-top, owing-target)
-
-  owing-old : getD owing (o % N) blank ≡ getD segments (o % N) blank
-  owing-old = getD-set-other segments i (o % N) (target erasePending) blank apart
 
   owing-mended : mended N owing caseB ≡ moved
   unfolding mended topSettled nextBlanked settled
