@@ -6,7 +6,7 @@ use mathlib.Core.List.{List, [], _∷_, _++_}
 use lib.ListN.{take, drop}
 use lib.Dec.{ltb}
 use Rattle.model.specs.Chip.{Page, Step, program, erased, eraseLimit}
-use Rattle.model.specs.Header.{numberBytes, inverted, value, compactionBegun, erasePending, Version, isFormer, headerPage, headerStatus, headerNumber, headerVersion, headerInUse, isBlank}
+use Rattle.model.specs.Header.{value, compactionBegun, erasePending, Version, version1, newVersion, isFormer, headerPage, headerStatus, headerNumber, headerVersion, headerInUse, isBlank}
 use Rattle.model.specs.Slot.{Entry}
 use Rattle.model.specs.Steps.{programPart, onPage, headerAt, copyEntries, copyOut}
 use Rattle.header.specs.declared.HeaderSeen.{HeaderSeen}
@@ -21,8 +21,7 @@ headerTotal h = value (take 4 (drop 17 h))
 
 -- the 17 bytes that both versions have, among erased ones
 unfoldable pub headerFields : ℕ → ℕ → Bool → ℕ → ℕ → ℕ → Page
-headerFields N B former st n old =
-    0x53 ∷ 0x4C ∷ 0x54 ∷ cond former 1 2 ∷ 0 ∷ st ∷ B ∷ N ∷ (numberBytes n ++ (inverted (numberBytes n) ++ (old ∷ erased 239)))
+headerFields N B former st n old = take 17 (headerPage N B (cond former version1 (newVersion 0)) st n old) ++ erased 239
 
 -- what a header in use has behind them: in version 1 erased bytes, in version 2 a total below the limit, erased bytes, and any bits
 unfoldable pub tallyFits : Page → Bool

@@ -52,8 +52,9 @@ value-bytes a b c d ha hb hc hd = simp (low-digit, other-digits)
 
 pub fields-made : (N B : ℕ) (former : Bool) (st n old v a b c d : ℕ) → v ≡ cond former 1 2 → a ≡ n % 256 → b ≡ n / 256 % 256 → c ≡ n / 256 / 256 % 256 → d ≡ n / 256 / 256 / 256 % 256
     → 0x53 ∷ 0x4C ∷ 0x54 ∷ v ∷ 0 ∷ st ∷ B ∷ N ∷ a ∷ b ∷ c ∷ d ∷ (255 - a) ∷ (255 - b) ∷ (255 - c) ∷ (255 - d) ∷ old ∷ replicate 239 255 ≡ headerFields N B former st n old
-unfolding headerFields numberBytes inverted erased
-fields-made N B former st n old v a b c d ev ea eb ec ed = rw (ev, ea, eb, ec, ed)
+unfolding headerFields headerPage numberBytes inverted erased newVersion versionNumber
+fields-made N B true st n old v a b c d ev ea eb ec ed = rw (ev, ea, eb, ec, ed)
+fields-made N B false st n old v a b c d ev ea eb ec ed = rw (ev, ea, eb, ec, ed)
 
 pub page-made : (N B t st n old a b c d : ℕ) (p : Page) → p ≡ headerFields N B false st n old → a ≡ t % 256 → b ≡ t / 256 % 256 → c ≡ t / 256 / 256 % 256 → d ≡ t / 256 / 256 / 256 % 256
     → set (set (set (set p 17 a) 18 b) 19 c) 20 d ≡ headerPage N B (newVersion t) st n old
@@ -154,7 +155,7 @@ same-behind (suc k) [] h = absurd (omega arith)
 same-behind (suc k) (x ∷ s) h = ap (λ (t : Bool). eqb x 255 && t) (same-behind k s (omega arith))
 
 page-fields : (N B : ℕ) (e : Version) (st n old : ℕ) → take 17 (headerPage N B e st n old) ≡ take 17 (headerFields N B (isFormer e) st n old)
-unfolding headerPage headerFields numberBytes inverted versionNumber isFormer
+unfolding headerPage headerFields numberBytes inverted newVersion versionNumber isFormer
 page-fields N B version1 st n old = refl
 page-fields N B (version2 total bits) st n old = refl
 
