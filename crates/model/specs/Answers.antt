@@ -13,7 +13,7 @@ use Rattle.model.specs.Table.{lookup, contentsFound}
 use Rattle.model.specs.declared.Answer.{Answer}
 use Rattle.model.specs.declared.Performed.{Performed}
 use Rattle.model.specs.declared.Located.{Located}
-use Rattle.model.specs.declared.Answer.the-variants.{Done, Size, Number, Length, Damaged, Unfinished, Absent, Full, Worn, Cut, FormerVersion}
+use Rattle.model.specs.declared.Answer.the-variants.{Done, Size, Number, Length, Damaged, Unfinished, Absent, Full, Worn, Cut, FormerVersion, ShortBuffer}
 
 -- the paper's number of an answer
 unfoldable pub codeOf : Answer → ℕ
@@ -28,6 +28,7 @@ codeOf Full = 7
 codeOf Worn = 8
 codeOf Cut = 9
 codeOf FormerVersion = 11
+codeOf ShortBuffer = 14
 
 pub data Request : Type 0 where
   format : Request

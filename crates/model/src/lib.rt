@@ -26,7 +26,7 @@ pub enum SlotKind {
     Wrong,
 }
 
-// What comes back, in the order of document 01's table of answers, and 11 of request #104.
+// What comes back, in the order of document 01's table of answers, with 11 of request #104 and 14 of #101.
 pub enum Answer {
     Done,
     Size,
@@ -39,6 +39,7 @@ pub enum Answer {
     Worn,
     Cut,
     FormerVersion,
+    ShortBuffer,
 }
 
 // A writing request's answer, and the flash steps that it took.

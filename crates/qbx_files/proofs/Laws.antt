@@ -8,7 +8,7 @@ use lib.Seq.{take-length, take-append-seam, take-append-add}
 use lib.IntN.{ℤ, pos, negsuc}
 use borrow.Author.Tests.{le-leb, lt-leb}
 use Rattle.io.specs.Counts.{Counts}
-use Rattle.qbx_words.specs.Text.{text}
+use Rattle.text.specs.Text.{text}
 use Rattle.qbx_files.specs.Files.{besideOf, largerOf}
 
 pub beside-none : (most : ℕ) (path : List ℕ) → most < length path + 4 → besideOf most path ≡ []

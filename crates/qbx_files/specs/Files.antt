@@ -5,7 +5,7 @@ use mathlib.Core.List.{List, [], _++_}
 use lib.ListN.{length}
 use lib.IntN.{ℤ, pos, negsuc}
 use lib.Dec.{leb}
-use Rattle.qbx_words.specs.Text.{text}
+use Rattle.text.specs.Text.{text}
 
 -- the name under which a file's successor is written, if it is no longer than so many bytes
 unfoldable pub besideOf : ℕ → List ℕ → List ℕ

@@ -4,11 +4,11 @@ use mathlib.Core.Bool.{Bool, cond}
 use mathlib.Core.List.{List, [], _++_}
 use lib.Dec.{eqb}
 use Rattle.model.specs.declared.Answer.{Answer}
-use Rattle.model.specs.declared.Answer.the-variants.{Done, Size, Number, Length, Damaged as AnswerDamaged, Unfinished, Absent, Full, Worn, Cut, FormerVersion}
+use Rattle.model.specs.declared.Answer.the-variants.{Done, Size, Number, Length, Damaged as AnswerDamaged, Unfinished, Absent, Full, Worn, Cut, FormerVersion, ShortBuffer}
 use Rattle.model.specs.Answers.{codeOf}
 use Rattle.model.specs.Chip.{inRange, imageLength}
-use Rattle.qbx_words.specs.Text.{text}
-use Rattle.qbx_says.specs.Decimal.{decimal}
+use Rattle.text.specs.Text.{text}
+use Rattle.text.specs.Decimal.{decimal}
 use Rattle.qbx_words.specs.declared.Complaint.{Complaint}
 use Rattle.qbx_words.specs.declared.Complaint.the-variants.{Segments, Slots, NoVerb, Block, NoOption, Budget}
 use Rattle.qbx_says.specs.declared.Condition.{Condition}
@@ -36,6 +36,7 @@ reason Full = text " full"
 reason Worn = text " worn"
 reason Cut = []
 reason FormerVersion = text " former version"
+reason ShortBuffer = text " short buffer"
 
 -- an answer, as "refused: 7 full"
 unfoldable pub answerText : Answer → List ℕ

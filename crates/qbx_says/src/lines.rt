@@ -6,7 +6,7 @@ ghost use mathlib.Core.List.{[]};
 ghost use Prim.Native.Nat.{_+_, _≤_};
 ghost use lib.ListN.{length};
 ghost use Rattle.qbx_says.specs.Lines.{mostLine, said, Added};
-ghost use Rattle.qbx_says.specs.Decimal.{decimal};
+ghost use Rattle.text.specs.Decimal.{decimal};
 
 // A line that says nothing yet.
 pub fn empty() -> Line

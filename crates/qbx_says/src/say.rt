@@ -14,7 +14,7 @@ ghost use mathlib.Core.List.{_++_};
 ghost use Prim.Native.Nat.{_+_, _<_, _≤_};
 ghost use lib.ListN.{length};
 ghost use Rattle.qbx_says.specs.Lines.{mostLine, said, Added};
-ghost use Rattle.qbx_says.specs.Decimal.{decimal};
+ghost use Rattle.text.specs.Decimal.{decimal};
 ghost use Rattle.qbx_says.specs.Said.{verdict, reason, stepsWord, answerText, performedText, performedLine, askedText, sizeLine, complaintText, stackLine, conditionText, slotsText, tallyText, topText, reportText};
 
 // ---- answers
@@ -48,6 +48,7 @@ fn add_reason(line: Line, answer: Answer) -> Line
         Answer::Worn => add(line, b" worn"),
         Answer::Cut => add(line, b""),
         Answer::FormerVersion => add(line, b" former version"),
+        Answer::ShortBuffer => add(line, b" short buffer"),
     }
 }
 

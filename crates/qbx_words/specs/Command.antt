@@ -4,7 +4,7 @@ use mathlib.Core.Bool.{Bool, true, false, cond, _&&_}
 use mathlib.Core.List.{List, [], _∷_}
 use lib.Dec.{ltb}
 use Rattle.model.specs.Lists.{same}
-use Rattle.qbx_words.specs.Text.{text}
+use Rattle.text.specs.Text.{text}
 use Rattle.qbx_words.specs.Number.{numberOf}
 use Rattle.qbx_words.specs.declared.Parsed.{Parsed}
 use Rattle.qbx_words.specs.declared.Parsed.the-variants.{Number, NoNumber}

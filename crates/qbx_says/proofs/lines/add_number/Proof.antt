@@ -5,7 +5,7 @@ use mathlib.Core.List.{List}
 use native.Mathlib.Omega.{arith}
 use lib.ListN.{length, take}
 use Rattle.qbx_says.specs.Lines.{Added}
-use Rattle.qbx_says.specs.Decimal.{decimalOf, decimal}
+use Rattle.text.specs.Decimal.{decimalOf, decimal}
 use Rattle.qbx_says.proofs.Laws.Digits.{digits-decimal, digits-few}
 use borrow.Author.Needs.{needs}
 use Rattle.qbx_says.proofs.lines.add_number.Statement.{statement}

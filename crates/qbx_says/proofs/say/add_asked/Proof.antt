@@ -4,7 +4,7 @@ use mathlib.Core.Bool.{true, false}
 use native.Mathlib.Omega.{arith}
 use Rattle.model.specs.Chip.{inRange, imageLength}
 use Rattle.request.specs.Request.{sizeOf}
-use Rattle.qbx_words.specs.Text.{text}
+use Rattle.text.specs.Text.{text}
 use Rattle.qbx_says.specs.Said.{askedText}
 use Rattle.qbx_says.proofs.Laws.Lines.{more-both}
 use borrow.Author.Needs.{needs}

@@ -1,6 +1,6 @@
 -- `qbx_says::say::add_reason`: each word is the definition's. Assumes nothing.
 use native.Mathlib.Omega.{arith}
-use Rattle.qbx_words.specs.Text.{text}
+use Rattle.text.specs.Text.{text}
 use Rattle.qbx_says.specs.Said.{reason}
 use borrow.Author.Needs.{needs}
 use Rattle.qbx_says.proofs.say.add_reason.Statement.{statement}
@@ -105,6 +105,15 @@ slice-aggregate-add-11 c = search needs
 add-requires-11 : tie.Need-add-requires-11
 add-requires-11 c κs = search needs
 
+enum-told-12 : tie.Need-enum-told-12
+enum-told-12 c = search needs
+
+slice-aggregate-add-12 : tie.Need-slice-aggregate-add-12
+slice-aggregate-add-12 c = search needs
+
+add-requires-12 : tie.Need-add-requires-12
+add-requires-12 c κs = search needs
+
 returns : tie.Need-returns
 unfolding text reason
 returns c = rw (c .before .before .enum-told .given .1) (c .add .ensures, omega arith)
@@ -149,6 +158,10 @@ returns-11 : tie.Need-returns-11
 unfolding text reason
 returns-11 c = rw (c .before .before .enum-told11 .given .1) (c .add11 .ensures, omega arith)
 
+returns-12 : tie.Need-returns-12
+unfolding text reason
+returns-12 c = rw (c .before .before .enum-told12 .given .1) (c .add12 .ensures, omega arith)
+
 pub add-reason-spec : {M : Type 1} → statement M
 add-reason-spec =
     tie.close
@@ -186,6 +199,9 @@ add-reason-spec =
     enum-told-11
     slice-aggregate-add-11
     add-requires-11
+    enum-told-12
+    slice-aggregate-add-12
+    add-requires-12
     returns
     returns-2
     returns-3
@@ -196,4 +212,5 @@ add-reason-spec =
     returns-8
     returns-9
     returns-10
-    returns-11)
+    returns-11
+    returns-12)

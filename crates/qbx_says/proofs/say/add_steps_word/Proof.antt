@@ -1,7 +1,7 @@
 -- `qbx_says::say::add_steps_word`: one step, or steps. Assumes nothing.
 use native.Mathlib.Omega.{arith}
 use borrow.Author.Tests.{eq-eqb, ne-eqb}
-use Rattle.qbx_words.specs.Text.{text}
+use Rattle.text.specs.Text.{text}
 use Rattle.qbx_says.specs.Said.{stepsWord}
 use borrow.Author.Needs.{needs}
 use Rattle.qbx_says.proofs.say.add_steps_word.Statement.{statement}

@@ -1,6 +1,6 @@
 -- `qbx_says::say::add_tally`: its parts, one after the other; the last where no bit is left. Assumes nothing.
 use native.Mathlib.Omega.{arith}
-use Rattle.qbx_words.specs.Text.{text}
+use Rattle.text.specs.Text.{text}
 use Rattle.qbx_says.specs.Said.{tallyText}
 use Rattle.qbx_says.proofs.Laws.Lines.{more-none, more-both}
 use borrow.Author.Needs.{needs}

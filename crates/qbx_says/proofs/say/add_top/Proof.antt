@@ -1,6 +1,6 @@
 -- `qbx_says::say::add_top`: each text is the definition's. Assumes nothing.
 use native.Mathlib.Omega.{arith}
-use Rattle.qbx_words.specs.Text.{text}
+use Rattle.text.specs.Text.{text}
 use Rattle.qbx_says.specs.Said.{topText}
 use borrow.Author.Needs.{needs}
 use Rattle.qbx_says.proofs.say.add_top.Statement.{statement}

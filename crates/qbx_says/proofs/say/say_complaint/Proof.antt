@@ -1,6 +1,6 @@
 -- `qbx_says::say::say_complaint`: each text is the definition's. Assumes nothing.
 use native.Mathlib.Omega.{arith}
-use Rattle.qbx_words.specs.Text.{text}
+use Rattle.text.specs.Text.{text}
 use Rattle.qbx_says.specs.Said.{complaintText}
 use Rattle.qbx_says.proofs.Laws.Lines.{more}
 use borrow.Author.Needs.{needs}

@@ -1,6 +1,6 @@
 -- `qbx_words::commands::verb_of`: the first word that fits. Assumes nothing.
 use mathlib.Core.Path.{sym, _∙_}
-use Rattle.qbx_words.specs.Text.{text}
+use Rattle.text.specs.Text.{text}
 use Rattle.qbx_words.specs.Command.{verbOf}
 use borrow.Author.Needs.{needs}
 use Rattle.qbx_words.proofs.commands.verb_of.Statement.{statement}

@@ -1,6 +1,6 @@
 -- `qbx_words::commands::with_budget`: the tests of the definition, in its order. Assumes nothing.
 use mathlib.Core.Path.{sym, _∙_}
-use Rattle.qbx_words.specs.Text.{text}
+use Rattle.text.specs.Text.{text}
 use Rattle.qbx_words.specs.Command.{asNumber, withBudget}
 use borrow.Author.Needs.{needs}
 use borrow.Author.Tests.{not-true, not-false}
