@@ -50,7 +50,7 @@ fn state_seen(status: u8) -> SegmentState
 }
 
 // The segment at an index, by its header; one that is not in use is tested for blank as a whole.
-fn see_segment(image: &[u8], segments: usize, slots: usize, index: usize) -> Summary
+pub fn see_segment(image: &[u8], segments: usize, slots: usize, index: usize) -> Summary
     requires { ⌜ Sized segments slots (length (now image)) × (index < segments) ⌝ }
     ensures { λ r. ⌜ bare r ≡ outline (getD (segmentsOf segments slots (now (image .entry))) index blank) ⌝ }
 {
