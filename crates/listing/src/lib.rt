@@ -22,7 +22,7 @@ ghost use Rattle.scan.specs.Surveys.{surveyOf};
 ghost use Rattle.account_text.specs.Account.{shown};
 ghost use Rattle.index.specs.Shows.{noCounts, shownAs, shownOf, uncounted, counted, afterShown};
 ghost use Rattle.index.specs.Tables.{tables, linked, listOf, Indexed};
-ghost use Rattle.listing.specs.Largest.{largest};
+ghost use Rattle.listing.specs.Walk.{largest, hidden};
 
 fn no_counts() -> Counts
     ensures { λ r. ⌜ r ≡ noCounts ⌝ }
@@ -76,10 +76,10 @@ fn see_all(image: &[u8], segments: usize, slots: usize) -> [Shown; MOST_SEGMENTS
     table
 }
 
-// In an image unfinished by (b) the segment after the top is not looked at: torn, unless it is blank.
+// Shows a table as an account does: in an image unfinished by (b) the segment after the top is not looked at: torn, unless it is blank.
 fn hide(table: [Shown; MOST_SEGMENTS], segments: usize, survey: Surveyed) -> [Shown; MOST_SEGMENTS]
     requires { ⌜ (0 < segments) × (segments ≤ mostSegments) ⌝ }
-    ensures { λ r. ⌜ r ≡ table ⌝ }
+    ensures { λ r. ⌜ r ≡ hidden survey segments table ⌝ }
 {
     let mut shown = table;
     match survey {
@@ -132,4 +132,81 @@ fn largest(left: &[usize; MOST_SEGMENTS], segments: usize) -> usize
         i += 1;
     }
     most
+}
+
+// The numbers of the segments in use, one more each; 0 for the others.
+fn numbers(table: [Shown; MOST_SEGMENTS], segments: usize) -> [usize; MOST_SEGMENTS]
+    requires { ⌜ segments ≤ mostSegments ⌝ }
+    ensures { λ r. ⌜ take segments r ≡ map afterShown (take segments table) ⌝ }
+{
+    let mut left = [0usize; MOST_SEGMENTS];
+    let mut i: usize = 0;
+    while i < segments {
+        let x = table[i];
+        left[i] = number_after(x);
+        i += 1;
+    }
+    left
+}
+
+fn count(x: Shown, counts: Counts) -> Shown
+    ensures { λ r. ⌜ r ≡ counted counts x ⌝ }
+{
+    let number = x.number;
+    let state = x.state;
+    Shown {
+        number,
+        counts,
+        state,
+    }
+}
+
+// The segments in use, from the top down: counted, and their live slots put into the tables.
+fn list_segments(
+    image: &[u8],
+    segments: usize,
+    slots: usize,
+    table: [Shown; MOST_SEGMENTS],
+    firsts: &mut [u16; 65536],
+    nexts: &mut [u16; 65536],
+) -> [Shown; MOST_SEGMENTS]
+    requires { ⌜ Sized segments slots (length (now image)) × (take segments table ≡ map uncounted (shown segments slots (segmentsOf segments slots (now image)))) ⌝ }
+    ensures { λ r. ⌜ (take segments r ≡ map shownOf (shown segments slots (segmentsOf segments slots (now (image .entry))))) × (tables (now (firsts .exit)) (now (nexts .exit)) ≡ linked slots (listOf segments slots (now (image .entry))) (tables (now (firsts .entry)) (now (nexts .entry)))) ⌝ }
+{
+    let mut shown = table;
+    let mut left = numbers(table, segments);
+    let mut top = largest(&left, segments);
+    while top > 0 {
+        let index = (top - 1) % segments;
+        let counts = slots::list_row(image, index * (slots + 1), slots, firsts, nexts);
+        let x = shown[index];
+        shown[index] = count(x, counts);
+        left[index] = 0;
+        top = largest(&left, segments);
+    }
+    shown
+}
+
+// The segments of an image as they are shown, before their slots are counted.
+pub fn see(image: &[u8], segments: usize, slots: usize, survey: Surveyed) -> [Shown; MOST_SEGMENTS]
+    requires { ⌜ (rightSize segments slots (now image) ≡ true) × (survey ≡ surveyOf segments slots (segmentsOf segments slots (now image))) ⌝ }
+    ensures { λ r. ⌜ take segments r ≡ map uncounted (shown segments slots (segmentsOf segments slots (now (image .entry)))) ⌝ }
+{
+    hide(see_all(image, segments, slots), segments, survey)
+}
+
+// The segments as they are shown, and the live slots put into tables that hold none yet.
+pub fn list(
+    image: &[u8],
+    segments: usize,
+    slots: usize,
+    survey: Surveyed,
+    firsts: &mut [u16; 65536],
+    nexts: &mut [u16; 65536],
+) -> [Shown; MOST_SEGMENTS]
+    requires { ⌜ (rightSize segments slots (now image) ≡ true) × (survey ≡ surveyOf segments slots (segmentsOf segments slots (now image))) × (now firsts ≡ replicate 65536 0) ⌝ }
+    ensures { λ r. ⌜ (take segments r ≡ map shownOf (shown segments slots (segmentsOf segments slots (now (image .entry))))) × Indexed segments slots (now (image .entry)) (tables (now (firsts .exit)) (now (nexts .exit))) ⌝ }
+{
+    let table = see(image, segments, slots, survey);
+    list_segments(image, segments, slots, table, firsts, nexts)
 }

@@ -19,7 +19,7 @@ enum-known-survey c = search needs
 
 -- src/lib.rt:96:17
 returns : tie.Need-returns
-returns c = search needs
+returns c = ?
 
 -- src/lib.rt:98:26
 cast-after : tie.Need-cast-after
@@ -59,11 +59,11 @@ enum-told-5 c = search needs
 
 -- src/lib.rt:80:1
 returns-2 : tie.Need-returns-2
-returns-2 c = search needs
+returns-2 c = ?
 
 -- src/lib.rt:80:1
 returns-3 : tie.Need-returns-3
-returns-3 c = search needs
+returns-3 c = ?
 
 -- src/lib.rt:80:1
 returns-4 : tie.Need-returns-4
@@ -71,15 +71,15 @@ returns-4 c = ?
 
 -- src/lib.rt:80:1
 returns-5 : tie.Need-returns-5
-returns-5 c = search needs
+returns-5 c = ?
 
 -- src/lib.rt:80:1
 returns-6 : tie.Need-returns-6
-returns-6 c = search needs
+returns-6 c = ?
 
 -- src/lib.rt:80:1
 returns-7 : tie.Need-returns-7
-returns-7 c = search needs
+returns-7 c = ?
 
 pub hide-spec : {M : Type 1} → statement M
 hide-spec =

@@ -1,8 +1,0 @@
--- The largest of some numbers.
-use Prim.Native.Nat.{ℕ, max}
-use mathlib.Core.List.{List, [], _∷_}
-
--- 0 if there are none
-unfoldable pub largest : List ℕ → ℕ
-largest [] = 0
-largest (x ∷ l) = max x (largest l)
