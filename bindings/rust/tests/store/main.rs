@@ -2,6 +2,8 @@
 #![cfg_attr(not(qbx_lib), allow(dead_code))]
 
 mod account;
+mod account_cuts;
+mod account_images;
 mod account_samples;
 mod blank_test;
 mod conditions;
