@@ -6,15 +6,15 @@
 //! acknowledged requests made, with the interrupted request wholly done or not begun.
 //!
 //! This crate is a thin, safe layer over the proved static library: it adds types, and takes
-//! nothing away. It holds no state and has no dependency. Only [`Geometry::account`] allocates, the
+//! nothing away. It holds no state and has no dependency. Only `Geometry::account` allocates, the
 //! text that it gives back; without the feature `alloc`, which is a default one, the crate lacks it
 //! and wants no allocator.
 //!
 //! - [`Geometry`] is the shape of the chip, and its methods are the requests:
 //!   [`format`](Geometry::format), [`put`](Geometry::put), [`delete`](Geometry::delete),
 //!   [`recover`](Geometry::recover), [`read`](Geometry::read) and [`read_or`](Geometry::read_or).
-//! - [`Geometry::account`] says on paper what an image holds, [`Geometry::account_into`] the same in
-//!   a buffer that is lent.
+//! - [`Geometry::account_into`] says what an image holds, for paper, as text in a buffer that is
+//!   lent; `Geometry::account` gives the same as a string.
 //! - [`Answer`] is what comes back, with the numbers of document 01.
 //! - [`Outcome`] has the count of flash steps done, and [`Read`] the contents, borrowed from the
 //!   image.
