@@ -24,8 +24,8 @@ extern "C" {
  * reaches 100,000; or the newest segment's header has none of its 1,792 bits left to count one more.
  *
  * An image of version 1 can be read, deleted from and recovered, not put to. To go on writing, read its records out, by
- * a qbx_read of each number from 1 to 65,534, format, and put them again; a format alone loses them. Only a record of 0
- * bytes cannot be put again. */
+ * a qbx_read of each block that qbx_account lists, format, and put them again; a format alone loses them. Only a record
+ * of 0 bytes cannot be put again. */
 enum qbx_answer {
     QBX_DONE = 0,            /* none below */
     QBX_SIZE = 1,            /* n, b or the image's length is wrong */

@@ -35,8 +35,8 @@ pub enum Answer {
     Cut = 9,
     /// 11: a put on an image of version 1. It can be read, deleted from and recovered, but not put
     /// to. To go on writing, read its records out, by a [`read`](crate::Geometry::read) of each
-    /// number from 1 to 65,534, format, which makes version 2, and put them again; a format alone
-    /// loses them. Only a record of 0 bytes cannot be put again.
+    /// block that its [account](crate::Geometry::account_into) lists, format, which makes version 2,
+    /// and put them again; a format alone loses them. Only a record of 0 bytes cannot be put again.
     FormerVersion = 11,
     /// 14: the buffer is too short for the text of an account. It is untouched, and the length is 0.
     ShortBuffer = 14,

@@ -150,10 +150,7 @@ impl Listing {
         let oldest = numbers.min().unwrap_or(top.number);
         let owing = self.headers().filter(|found| found.owing).count();
         let after = self.g.index(top.number + 1);
-        let excused = match but {
-            Some(Exception::A | Exception::B) => Some(after),
-            _ => None,
-        };
+        let excused = matches!(but, Some(Exception::A | Exception::B)).then_some(after);
         let bad: usize = self.segments.iter().map(|segment| segment.bad).sum();
         let last = self.segments[self.g.index(top.number)].last;
         let counted_twice = usize::from(but == Some(Exception::D));
@@ -211,8 +208,7 @@ fn steps_to_erase(image: &[u8], g: Geometry, top: InUse) -> u64 {
     }
 }
 
-/// The steps of recovery, and the listing as it is to be shown: `None` for a damaged image, but for
-/// its listing.
+/// The steps of recovery, `None` for a damaged image, and the listing as it is to be shown.
 fn judged(image: &[u8], listing: Listing) -> (Option<u64>, Listing) {
     let g = listing.g;
     if listing.holds(None) {
