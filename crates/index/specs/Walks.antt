@@ -100,7 +100,7 @@ top-below N l p = mod-lt (nextNumber l - 1) p
 pub held-less : (N B : ℕ) (s : Image) (l : List Segment) → 0 < N → Held N B s l → Held N B s (set l (topIndex N l) blank)
 held-less N B s l p h = held-without N B s l (topIndex N l) blank blank-unused (top-below N l p) h
 
-some-next : (l : List Segment) → 0 < usedCount l → 0 < nextNumber l
+pub some-next : (l : List Segment) → 0 < usedCount l → 0 < nextNumber l
 unfolding usedCount count nextNumber
 some-next [] h = h
 some-next (x ∷ l) h = go (isInUse x) refl h (some-next l)

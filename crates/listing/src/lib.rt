@@ -120,15 +120,13 @@ fn number_after(x: Shown) -> usize
 }
 
 fn largest(left: &[usize; MOST_SEGMENTS], segments: usize) -> usize
-    requires { ⌜ segments ≤ mostSegments ⌝ }
+    requires { ⌜ (segments ≤ mostSegments) × (length (now left) ≡ mostSegments) ⌝ }
     ensures { λ r. ⌜ r ≡ largest (take segments (now (left .entry))) ⌝ }
 {
     let mut most: usize = 0;
     let mut i: usize = 0;
     while i < segments {
-        if left[i] > most {
-            most = left[i];
-        }
+        most = segments::larger(most, left[i]);
         i += 1;
     }
     most
@@ -137,7 +135,7 @@ fn largest(left: &[usize; MOST_SEGMENTS], segments: usize) -> usize
 // The numbers of the segments in use, one more each; 0 for the others.
 fn numbers(table: [Shown; MOST_SEGMENTS], segments: usize) -> [usize; MOST_SEGMENTS]
     requires { ⌜ segments ≤ mostSegments ⌝ }
-    ensures { λ r. ⌜ take segments r ≡ map afterShown (take segments table) ⌝ }
+    ensures { λ r. ⌜ (take segments r ≡ map afterShown (take segments table)) × (length r ≡ mostSegments) ⌝ }
 {
     let mut left = [0usize; MOST_SEGMENTS];
     let mut i: usize = 0;
@@ -204,7 +202,7 @@ pub fn list(
     firsts: &mut [u16; 65536],
     nexts: &mut [u16; 65536],
 ) -> [Shown; MOST_SEGMENTS]
-    requires { ⌜ (rightSize segments slots (now image) ≡ true) × (survey ≡ surveyOf segments slots (segmentsOf segments slots (now image))) × (now firsts ≡ replicate 65536 0) ⌝ }
+    requires { ⌜ (rightSize segments slots (now image) ≡ true) × (survey ≡ surveyOf segments slots (segmentsOf segments slots (now image))) × (now firsts ≡ replicate 65536 0) × (now nexts ≡ replicate 65536 0) ⌝ }
     ensures { λ r. ⌜ (take segments r ≡ map shownOf (shown segments slots (segmentsOf segments slots (now (image .entry))))) × Indexed segments slots (now (image .entry)) (tables (now (firsts .exit)) (now (nexts .exit))) ⌝ }
 {
     let table = see(image, segments, slots, survey);

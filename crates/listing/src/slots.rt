@@ -17,12 +17,7 @@ fn wide(x: u16) -> usize
 }
 
 // A page put before those of its block.
-fn link(
-    firsts: &mut [u16; 65536],
-    nexts: &mut [u16; 65536],
-    page: usize,
-    block: BlockNumber,
-)
+fn link(firsts: &mut [u16; 65536], nexts: &mut [u16; 65536], page: usize, block: BlockNumber)
     requires { ⌜ page < mostPages ⌝ }
     ensures { λ r. ⌜ tables (now (firsts .exit)) (now (nexts .exit)) ≡ link page (block .0) (tables (now (firsts .entry)) (now (nexts .entry))) ⌝ }
 {

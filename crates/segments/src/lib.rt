@@ -156,7 +156,7 @@ fn is_settled(s: Summary) -> bool
     !is_invalid(s)
 }
 
-fn larger(a: usize, b: usize) -> usize
+pub fn larger(a: usize, b: usize) -> usize
     ensures { λ r. ⌜ r ≡ max a b ⌝ }
 {
     if a < b { b } else { a }

@@ -1,85 +1,82 @@
+-- `listing::hide`, by the survey. Assumes nothing.
+use Prim.Native.Nat.{_+_}
+use mathlib.Core.Path.{_≡_, refl, ap, _∙_}
+use native.Mathlib.Omega.{arith}
+use native.Mathlib.Nat.{mod-lt}
+use Rattle.listing.specs.Walk.{hidden}
 use borrow.Author.Needs.{needs}
 use Rattle.listing.proofs.hide.Statement.{statement}
 use Rattle.listing.proofs.hide.Tie as tie
-use Rattle.listing.proofs.hide.Reads as reads
-use Rattle.listing.proofs.hide.Lts as lts
-use Rattle.listing.proofs.plain.Reads as plain-reads
 
--- src/lib.rt:92:14
 enum-told : tie.Need-enum-told
 enum-told c = search needs
 
--- src/lib.rt:93:45
 enum-told-2 : tie.Need-enum-told-2
 enum-told-2 c = search needs
 
--- src/lib.rt:94:34
 enum-known-survey : tie.Need-enum-known-survey
 enum-known-survey c = search needs
 
--- src/lib.rt:96:17
 returns : tie.Need-returns
-returns c = ?
+unfolding hidden
+returns c = rw (c .before .before .survey .given .1, c .if1 .taken)
 
--- src/lib.rt:98:26
 cast-after : tie.Need-cast-after
 cast-after c = search needs
 
--- src/lib.rt:98:26
 add-after : tie.Need-add-after
 add-after c = search needs
 
--- src/lib.rt:98:25
 rem-after : tie.Need-rem-after
 rem-after c = search needs
 
--- src/lib.rt:99:28
 plain-requires : tie.Need-plain-requires
 plain-requires c κs = search needs
 
--- src/lib.rt:99:13
 mul-shown : tie.Need-mul-shown
-mul-shown c = ?
+mul-shown c =
+    let s = c .before .before .before .before .before .before in
+    let m = mod-lt (c .before .before .before .before .survey .given .0 .0 .0 + 1) (s .pre .0) in
+    omega (arith, s .pre .1)
 
--- src/lib.rt:99:13
 array-set-from-shown : tie.Need-array-set-from-shown
-array-set-from-shown c = ?
+array-set-from-shown c =
+    let s = c .before .before .before .before .before .before in
+    let m = mod-lt (c .before .before .before .before .survey .given .0 .0 .0 + 1) (s .pre .0) in
+    omega (arith, s .pre .1)
 
--- src/lib.rt:102:44
 enum-told-3 : tie.Need-enum-told-3
 enum-told-3 c = search needs
 
--- src/lib.rt:103:43
 enum-told-4 : tie.Need-enum-told-4
 enum-told-4 c = search needs
 
--- src/lib.rt:104:30
 enum-told-5 : tie.Need-enum-told-5
 enum-told-5 c = search needs
 
--- src/lib.rt:80:1
 returns-2 : tie.Need-returns-2
-returns-2 c = ?
+unfolding hidden
+returns-2 c = rw (c .enum-told .given .1)
 
--- src/lib.rt:80:1
 returns-3 : tie.Need-returns-3
-returns-3 c = ?
+unfolding hidden
+returns-3 c = rw (c .enum-told2 .given .1)
 
--- src/lib.rt:80:1
 returns-4 : tie.Need-returns-4
-returns-4 c = ?
+unfolding hidden
+returns-4 c = rw (c .before .before .before .before .survey .given .1, c .before .before .if1 .left, c .plain .ensures)
 
--- src/lib.rt:80:1
 returns-5 : tie.Need-returns-5
-returns-5 c = ?
+unfolding hidden
+returns-5 c = rw (c .enum-told3 .given .1)
 
--- src/lib.rt:80:1
 returns-6 : tie.Need-returns-6
-returns-6 c = ?
+unfolding hidden
+returns-6 c = rw (c .enum-told4 .given .1)
 
--- src/lib.rt:80:1
 returns-7 : tie.Need-returns-7
-returns-7 c = ?
+unfolding hidden
+returns-7 c = rw (c .enum-told5 .given .1)
 
 pub hide-spec : {M : Type 1} → statement M
 hide-spec =

@@ -1,54 +1,59 @@
+-- `listing::numbers`. The invariant: the first `i` are there. Assumes nothing.
+use Prim.Native.Nat.{ℕ, _-_, _≤_}
+use mathlib.Core.Path.{_≡_, refl}
+use mathlib.Core.List.{map}
+use native.Mathlib.Omega.{arith}
+use lib.ListN.{length, take, length-set}
+use Rattle.model.specs.Chip.{mostSegments}
+use Rattle.index.specs.Shows.{afterShown}
+use Rattle.listing.proofs.Laws.Shows.{fill-more}
+use borrow.Author.Needs.{needs}
 use Rattle.listing.proofs.numbers.Statement.{statement}
 use Rattle.listing.proofs.numbers.Tie as tie
-use Rattle.listing.proofs.numbers.Reads as reads
-use Rattle.listing.proofs.numbers.Lts as lts
-use Rattle.listing.proofs.number_after.Reads as number-after-reads
 
 abbrev Inv-loop : tie.InvT-loop
-Inv-loop segments table left₀ i₀ left i = ?
+Inv-loop segments table left₀ i₀ left i = (take i left ≡ map afterShown (take i table)) × (i ≤ segments) × (length left ≡ mostSegments)
 
 abbrev μ-loop : tie.MeasureT-loop
-μ-loop segments table left₀ i₀ left i = ?
+μ-loop segments table left₀ i₀ left i = segments - i
 
--- src/lib.rt:144:5
 loop-holds : tie.Need-loop-holds Inv-loop μ-loop
-loop-holds c = ?
+loop-holds c = (refl, omega arith, refl)
 
--- src/lib.rt:145:17
 mul-x : tie.Need-mul-x Inv-loop μ-loop
-mul-x c = ?
+mul-x c = search needs
 
--- src/lib.rt:145:17
 array-copy-out-x : tie.Need-array-copy-out-x Inv-loop μ-loop
-array-copy-out-x c = ?
+array-copy-out-x c = search needs
 
--- src/lib.rt:146:19
 number-after-requires : tie.Need-number-after-requires Inv-loop μ-loop
-number-after-requires c κs = ?
+number-after-requires c κs = search needs
 
--- src/lib.rt:146:9
 mul-left : tie.Need-mul-left Inv-loop μ-loop
-mul-left c = ?
+mul-left c = search needs
 
--- src/lib.rt:146:9
 array-write-left : tie.Need-array-write-left Inv-loop μ-loop
-array-write-left c = ?
+array-write-left c = search needs
 
--- src/lib.rt:147:9
 add-i : tie.Need-add-i Inv-loop μ-loop
-add-i c = ?
+add-i c = search needs
 
--- src/lib.rt:144:5
 loop-less : tie.Need-loop-less Inv-loop μ-loop
-loop-less c = ?
+loop-less c = search needs
 
--- src/lib.rt:144:5
 loop-again : tie.Need-loop-again Inv-loop μ-loop
-loop-again c = ?
+loop-again c =
+    let s = c .before .before .before .before in
+    let l = c .before .before .before .loop in
+    let t = c .before .before .loop-test .taken in
+    (fill-more afterShown (s .args .t1) _ (l .left) (l .i) (c .number-after .result) (omega (arith, s .good .0, s .pre)) (omega (arith, l .inv .2, s .pre)) (c .number-after .ensures) (l .inv .0), omega arith, simp length-set (l .inv .2))
 
--- src/lib.rt:138:1
 returns : tie.Need-returns Inv-loop μ-loop
-returns c = ?
+returns c =
+    let s = c .before .before in
+    let l = c .before .loop in
+    let e : l .i ≡ s .args .segments = omega (arith, c .loop-test .left) in
+    (rw e at (l .inv .0), l .inv .2)
 
 pub numbers-spec : {M : Type 1} → statement M
 numbers-spec =
