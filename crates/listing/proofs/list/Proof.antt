@@ -24,7 +24,7 @@ returns c =
     let a = s .args in
     let z = right-size _ _ _ (s .pre .0) .0 in
     let t = tables (now (a .firsts)) (now (a .nexts)) in
-    let w : Whole t = (ap length (s .pre .2) ∙ length-replicate 65536 0, ap length (s .pre .3) ∙ length-replicate 65536 0) in
+    let w : Whole t = (ap length (s .pre .2) ∙ length-replicate {A = ℕ} 65536 0, ap length (s .pre .3) ∙ length-replicate {A = ℕ} 65536 0) in
     let b : Bare t = λ k. ap (λ (l : List ℕ). lib.ListN.getD l k 0) (s .pre .2) ∙ zeros-bare 65536 (now (a .nexts)) k in
     (c .list-segments .ensures .0, subst (λ (u : Tables). Indexed (a .segments) (a .slots) (now (a .image)) u) (sym (c .list-segments .ensures .1)) (indexed (a .segments) (a .slots) (now (a .image)) (z .some) (z .segments) (z .slots) t w b))
 
