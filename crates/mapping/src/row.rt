@@ -134,7 +134,7 @@ fn unused_row(text: &mut [u8], at: usize, index: u32, word: &[u8]) -> usize
     text::add(text, behind, word)
 }
 
-// One in use, whose slots are looked at again: a table of them would not fit the stack.
+// One in use. Its slots are read from the image: a table of segments has none.
 fn used_row(
     image: &[u8],
     slots: usize,
