@@ -6,7 +6,7 @@ use mathlib.Core.List.{List, [], _∷_, _++_, map, append-assoc}
 use native.Mathlib.Omega.{arith}
 use native.Mathlib.Numerals.{add-one}
 use lib.ListN.{length, getD, take, drop, replicate, drop-of-length-le}
-use lib.Seq.{drop-drop, drop-cons, getD-take}
+use lib.Seq.{drop-cons, getD-take}
 use lib.Dec.{ltb, eqb}
 use borrow.Author.Tests.{eq-eqb, ne-eqb, lt-ltb}
 use Rattle.model.specs.Lists.{chunk}
@@ -27,6 +27,7 @@ use Rattle.account_text.specs.Account.{shown}
 use Rattle.account_text.specs.Map.{mark, mostMarks, margin, rowBreak, marksFrom, padded, rowStart, stateWord, mapRow, mapRows}
 use Rattle.index.specs.declared.Shown.{Shown}
 use Rattle.index.specs.Shows.{shownAs, uncounted}
+use Rattle.index.specs.Lives.{slots-next}
 use Rattle.index.specs.Walks.{held-shown}
 use Rattle.mapping.specs.Finishes.{Finishes}
 use Rattle.mapping.specs.Marks.{segmentBy}
@@ -77,10 +78,6 @@ padded-part w n d h e =
     rw (f, take-replicate {A = ℕ} (w - length (decimal n)) 9 32 (omega arith))
 
 -- ---- the slots of a segment
-
-slots-next : (s : Image) (o c : ℕ) → slotsAt s o (suc c) ≡ slotOf (take 256 (drop o s)) ∷ slotsAt s (o + 256) c
-unfolding slotsAt chunk
-slots-next s o c = rw (drop-drop 256 o s)
 
 pub marks-next : (s : Image) (first i slots m : ℕ) → i < slots → m ≡ mark (slotOf (take 256 (drop (first + i * 256) s)))
     → marksFrom i (slotsAt s (first + i * 256) (slots - i)) ≡ (rowBreak i ++ (m ∷ [])) ++ marksFrom (i + 1) (slotsAt s (first + (i + 1) * 256) (slots - (i + 1)))
