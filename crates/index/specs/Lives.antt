@@ -96,7 +96,7 @@ live-stands N B i j s b c h l m e =
     let x : getD (take 256 (drop o s)) 1 0 ≡ length c = ap (λ (y : Page). getD y 1 0) (f .page) ∙ (unfold slotPage in refl) in
     record { block = omega arith; segment = h; first = l; slot = m; length = sym (getD-take 256 (drop o s) 1 0 (omega arith) ∙ getD-drop o s 1 0) ∙ x }
 
-slots-next : (s : Image) (o c : ℕ) → slotsAt s o (suc c) ≡ slotOf (take 256 (drop o s)) ∷ slotsAt s (o + 256) c
+pub slots-next : (s : Image) (o c : ℕ) → slotsAt s o (suc c) ≡ slotOf (take 256 (drop o s)) ∷ slotsAt s (o + 256) c
 unfolding slotsAt chunk
 slots-next s o c = rw (drop-drop 256 o s)
 
