@@ -88,13 +88,7 @@ fn test_heads(image: &[u8], segments: usize, slots: usize) -> HeadTests
 
 // Whether so many segments are in use with the numbers from the first on. Each is looked at once more where its number
 // puts it, since a table of them would take stack.
-fn numbers_follow(
-    image: &[u8],
-    segments: usize,
-    slots: usize,
-    first: usize,
-    used: usize,
-) -> bool
+fn numbers_follow(image: &[u8], segments: usize, slots: usize, first: usize, used: usize) -> bool
     requires { ⌜ Sized segments slots (length (now image)) × (first ≤ 4294967296) × (used ≤ mostSegments) ⌝ }
     ensures { λ r. ⌜ r ≡ numbersFrom segments (segmentsOf segments slots (now (image .entry))) used first ⌝ }
 {
@@ -239,13 +233,7 @@ fn next_row(tests: SlotTests) -> SlotTests
 }
 
 // The slots of so many segments, by number from the first on.
-fn test_rows(
-    image: &[u8],
-    segments: usize,
-    slots: usize,
-    first: usize,
-    used: usize,
-) -> SlotTests
+fn test_rows(image: &[u8], segments: usize, slots: usize, first: usize, used: usize) -> SlotTests
     requires { ⌜ Sized segments slots (length (now image)) × (first ≤ 4294967296) × (used ≤ mostSegments) ⌝ }
     ensures { λ r. ⌜ r ≡ rowsTested (rowsOn (now (image .entry)) segments slots used first) ⌝ }
 {

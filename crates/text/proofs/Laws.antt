@@ -35,6 +35,6 @@ over-over d at x y h =
     let t : take (at + length x) (take at d ++ (x ++ z)) ≡ take at d ++ x = ap (take (at + length x)) e ∙ take-at (take at d ++ x) z (at + length x) p in
     let f : drop (at + length x) (take at d ++ (x ++ z)) ≡ z = ap (drop (at + length x)) e ∙ drop-at (take at d ++ x) z (at + length x) p in
     let g : drop (at + length x + length y) (take at d ++ (x ++ z)) ≡ drop (at + length (x ++ y)) d =
-        sym (drop-drop (length y) (at + length x) (take at d ++ (x ++ z))) ∙ (ap (drop (length y)) f
-        ∙ (drop-drop (length y) (at + length x) d ∙ ap (λ (k : ℕ). drop k d) (let q = length-append x y in omega arith))) in
+    sym (drop-drop (length y) (at + length x) (take at d ++ (x ++ z))) ∙ (ap (drop (length y)) f
+    ∙ (drop-drop (length y) (at + length x) d ∙ ap (λ (k : ℕ). drop k d) (let q = length-append x y in omega arith))) in
     rw (t, g, append-assoc (take at d) x (y ++ drop (at + length (x ++ y)) d), append-assoc x y (drop (at + length (x ++ y)) d))

@@ -56,7 +56,7 @@ module _ (m : List ℕ) (N B u n : ℕ) where
       let d : u - k ≡ suc (u - (k + 1)) = omega arith in
       let g : n + (k + 1) ≡ suc (n + k) = omega arith in
       let x : look r q ≡ testSlots (map kindOf (slotsAt m (slotsOffset B ((n + k) % N)) B)) (look (nextRow t) s) =
-          e ∙ ap (λ (y : SlotTests). testSlots (map kindOf (slotsAt m (slotsOffset B ((n + k) % N)) B)) (look y s)) f in
+      e ∙ ap (λ (y : SlotTests). testSlots (map kindOf (slotsAt m (slotsOffset B ((n + k) % N)) B)) (look y s)) f in
       rw g (ap (λ (y : Look). testRows (rowsOn m N B (u - (k + 1)) (suc (n + k))) y .tests) x ∙ (rw d at w))
 
   pub rows-end : (k : ℕ) (t whole : SlotTests) (s : List ℕ) → u ≤ k → testRows (rowsOn m N B (u - k) (n + k)) (look t s) .tests ≡ whole → t ≡ whole
