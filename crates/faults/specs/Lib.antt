@@ -1,2 +1,1 @@
-pub mod Failing
 pub mod Tests

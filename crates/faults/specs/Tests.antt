@@ -13,7 +13,7 @@ use Rattle.judge.specs.Tally.{noneMet}
 use Rattle.faults.specs.declared.HeadTests.{HeadTests}
 use Rattle.faults.specs.declared.HeadsTold.{HeadsTold}
 use Rattle.faults.specs.declared.SlotTests.{SlotTests}
-use Rattle.faults.specs.Failing.{firstFailing}
+use Rattle.account_text.specs.Account.{firstFailing}
 
 -- ---- headers
 

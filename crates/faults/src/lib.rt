@@ -13,7 +13,7 @@ ghost use Rattle.flash.specs.Pages.{Sized};
 ghost use Rattle.judge.specs.Heads.{bare};
 ghost use Rattle.judge.specs.Parts.{rowsOn};
 ghost use Rattle.judge.specs.Rows.{kindsAt};
-ghost use Rattle.faults.specs.Failing.{firstFailing};
+ghost use Rattle.account_text.specs.Account.{firstFailing};
 ghost use Rattle.faults.specs.Tests.{testHead, headTests, headPlace, headsTold, wrote, nextRow, look, testSlot, testSlots, rowsTested, slotPlace};
 
 // The segments by their headers: counted, whether none is owing, and whether all that are not in use are blank.

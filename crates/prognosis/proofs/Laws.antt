@@ -17,7 +17,7 @@ use Rattle.tally.specs.declared.Tally.{Tally}
 use Rattle.tally.specs.Seen.{headerIn, tallySeen}
 use Rattle.mend.specs.Erasing.{counting, erasing}
 use Rattle.mend.proofs.Laws.Mend.{some-a, some-b, erasing-next}
-use Rattle.faults.specs.Failing.{firstFailing}
+use Rattle.account_text.specs.Account.{firstFailing}
 use Rattle.prognosis.specs.declared.Prognosis.{Prognosis}
 use Rattle.prognosis.specs.declared.Prognosis.the-variants.{Recovers, Fails}
 use Rattle.prognosis.specs.Foretold.{prognosisOf}

@@ -6,7 +6,7 @@ use lib.ListN.{length}
 use lib.Dec.{eqb}
 use Rattle.model.specs.State.{Segment, conditions}
 use Rattle.model.specs.Answers.{recover, workOn}
-use Rattle.faults.specs.Failing.{firstFailing}
+use Rattle.account_text.specs.Account.{firstFailing}
 use Rattle.prognosis.specs.declared.Prognosis.{Prognosis}
 use Rattle.prognosis.specs.declared.Prognosis.the-variants.{Recovers, Fails}
 

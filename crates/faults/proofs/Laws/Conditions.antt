@@ -22,7 +22,7 @@ use Rattle.judge.specs.TallyLaws.{Narrow, NarrowRows, Agree, agree-none, agree-
 use Rattle.scan.specs.SurveyLaws.{narrow-rows}
 use Rattle.faults.specs.declared.HeadsTold.{HeadsTold}
 use Rattle.faults.specs.declared.SlotTests.{SlotTests}
-use Rattle.faults.specs.Failing.{firstFailing}
+use Rattle.account_text.specs.Account.{firstFailing}
 use Rattle.faults.specs.Tests.{headsTold, Look, look, noTests, wrote, testSlot, testSlots, nextRow, testRows, rowsTested, slotPlace}
 
 -- ---- 5: sound

@@ -19,7 +19,7 @@ use Rattle.judge.specs.Heads.{bareVersion, bare, outline, countsOf, countOne, n
 use Rattle.segments.proofs.Laws.Tables.{counted, counted-cons, counted-start, counted-end}
 use Rattle.faults.specs.declared.HeadTests.{HeadTests}
 use Rattle.faults.specs.declared.HeadsTold.{HeadsTold}
-use Rattle.faults.specs.Failing.{firstFailing}
+use Rattle.account_text.specs.Account.{firstFailing}
 use Rattle.faults.specs.Tests.{testHead, headTests, headPlace, headsTold}
 
 -- ---- tested so far, and what is left

@@ -5,7 +5,7 @@ use mathlib.Core.Bool.{and-false}
 use native.Mathlib.Omega.{arith}
 use lib.Dec.{leb}
 use borrow.Author.Tests.{not-true, not-false, lt-leb}
-use Rattle.faults.specs.Failing.{firstFailing}
+use Rattle.account_text.specs.Account.{firstFailing}
 use Rattle.faults.specs.Tests.{headPlace}
 use Rattle.faults.proofs.Laws.Heads.{some-not-all}
 use borrow.Author.Needs.{needs}

@@ -1,6 +1,6 @@
 -- `faults::slot_place`. Assumes nothing.
 use borrow.Author.Tests.{not-true, not-false, lt-leb, le-leb}
-use Rattle.faults.specs.Failing.{firstFailing}
+use Rattle.account_text.specs.Account.{firstFailing}
 use Rattle.faults.specs.Tests.{slotPlace}
 use Rattle.faults.proofs.slot_place.Statement.{statement}
 use Rattle.faults.proofs.slot_place.Tie as tie

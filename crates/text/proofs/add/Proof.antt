@@ -1,57 +1,67 @@
+-- `text::add`. The invariant: the first `i` bytes are there. Assumes nothing.
+use Prim.Native.Nat.{ℕ, _+_, _-_, _≤_, _<_}
+use mathlib.Core.Path.{_≡_, refl, sym, ap, _∙_}
+use mathlib.Core.List.{List}
+use native.Mathlib.Omega.{arith}
+use denote.Ref.{now}
+use lib.ListN.{length, take, set, getD, length-set}
+use lib.Seq.{take-all}
+use Rattle.text.specs.Buffer.{over, Wrote}
+use Rattle.text.proofs.Laws.{copy-none, copy-more}
+use borrow.Author.Needs.{needs}
 use Rattle.text.proofs.add.Statement.{statement}
 use Rattle.text.proofs.add.Tie as tie
-use Rattle.text.proofs.add.Reads as reads
-use Rattle.text.proofs.add.Lts as lts
 
 abbrev Inv-loop : tie.InvT-loop
-Inv-loop text₀ at bytes end i₀ text i = ?
+Inv-loop text₀ at bytes end i₀ text i = (i ≤ length bytes) × (at + length bytes ≤ length text₀) × (length text ≡ length text₀) × (text ≡ over text₀ at (take i bytes))
 
 abbrev μ-loop : tie.MeasureT-loop
-μ-loop text₀ at bytes end i₀ text i = ?
+μ-loop text₀ at bytes end i₀ text i = length bytes - i
 
--- src/lib.rt:22:15
 add-end : tie.Need-add-end Inv-loop μ-loop
-add-end c = ?
+add-end c = search needs
 
--- src/lib.rt:24:9
 returns : tie.Need-returns Inv-loop μ-loop
-returns c = ?
+returns c = record { ends = refl; kept = refl; there = λ h. absurd (omega (arith, c .if1 .taken)) }
 
--- src/lib.rt:27:5
 loop-holds : tie.Need-loop-holds Inv-loop μ-loop
-loop-holds c = ?
+loop-holds c = (omega arith, omega (arith, c .if1 .left), refl, copy-none (now (c .before .args .text)) (c .before .args .at) (now (c .before .args .bytes)))
 
--- src/lib.rt:28:24
 shared-slice-read-text : tie.Need-shared-slice-read-text Inv-loop μ-loop
-shared-slice-read-text c = ?
+shared-slice-read-text c = search needs
 
--- src/lib.rt:28:14
 add-text : tie.Need-add-text Inv-loop μ-loop
-add-text c = ?
+add-text c = search needs
 
--- src/lib.rt:28:9
 slice-write-text : tie.Need-slice-write-text Inv-loop μ-loop
-slice-write-text c = ?
+slice-write-text c = search needs
 
--- src/lib.rt:29:9
 add-i : tie.Need-add-i Inv-loop μ-loop
-add-i c = ?
+add-i c = search needs
 
--- src/lib.rt:27:5
 loop-less : tie.Need-loop-less Inv-loop μ-loop
-loop-less c = ?
+loop-less c = search needs
 
--- src/lib.rt:27:5
 loop-again : tie.Need-loop-again Inv-loop μ-loop
-loop-again c = ?
+loop-again c =
+    let k = c .before .before in
+    let t = c .before .loop-test .taken in
+    let e = k .loop .inv .3 in (
+      omega arith,
+      k .loop .inv .1,
+      length-set (k .loop .text) (k .before .before .args .at + k .loop .i) (getD (now (k .before .before .args .bytes)) (k .loop .i) 0) ∙ k .loop .inv .2,
+      ap (λ (z : List ℕ). set z (k .before .before .args .at + k .loop .i) (getD (now (k .before .before .args .bytes)) (k .loop .i) 0)) e ∙ copy-more _ _ _ _ t (k .loop .inv .1),
+    )
 
--- src/lib.rt:18:1
 same-length : tie.Need-same-length Inv-loop μ-loop
-same-length c = ?
+same-length c = search needs
 
--- src/lib.rt:18:1
 returns-2 : tie.Need-returns-2 Inv-loop μ-loop
-returns-2 c = ?
+returns-2 c =
+    let k = c .before in
+    let a = k .before .before .args in
+    let w : take (k .loop .i) (now (a .bytes)) ≡ now (a .bytes) = take-all (k .loop .i) (now (a .bytes)) (c .loop-test .left) in
+    record { ends = refl; kept = k .loop .inv .2; there = λ h. k .loop .inv .3 ∙ ap (over (now (a .text)) (a .at)) w }
 
 pub add-spec : {M : Type 1} → statement M
 add-spec =
