@@ -222,11 +222,11 @@ fn test_row(
 fn next_row(tests: SlotTests) -> SlotTests
     ensures { λ r. ⌜ r ≡ nextRow tests ⌝ }
 {
-    let in_order = still(tests.in_order, tests.room);
+    let full = still(tests.in_order, tests.room);
     SlotTests {
         sound: tests.sound,
         distinct: tests.distinct,
-        in_order,
+        in_order: full,
         room: false,
         live: tests.live,
     }

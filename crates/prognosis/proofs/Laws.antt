@@ -1,13 +1,14 @@
 -- The steps of a recovery counted, and what it would answer in each state.
-use Prim.Native.Nat.{ℕ, suc, _+_, _-_, _*_, _%_}
+use Prim.Native.Nat.{ℕ, suc, _+_, _-_, _%_}
 use mathlib.Core.Path.{_≡_, refl, sym, ap, _∙_}
-use mathlib.Core.Bool.{Bool, true, false, cond, _||_, _&&_, not, false≢true}
+use mathlib.Core.Bool.{Bool, true, false, cond, _||_, _&&_, not}
 use mathlib.Core.List.{List, [], _∷_, _++_}
 use native.Mathlib.Omega.{arith}
 use lib.ListN.{length, getD, length-append}
 use lib.Dec.{eqb}
+use borrow.Author.Tests.{eqb-true}
 use Rattle.model.specs.Lists.{all}
-use Rattle.model.specs.Chip.{Image, Step, program, erase, rightSize}
+use Rattle.model.specs.Chip.{Image, program, erase, rightSize}
 use Rattle.model.specs.Header.{Version, version1, version2, isFormer, noBitLeft, headerVersion}
 use Rattle.model.specs.State.{Segment, blank, segmentsOf, isInUse, isInvalid, nextNumber, nextIndex, lastSlot, older, conditions, Exception, caseA, caseB, caseC, caseD, clean, unfinished, damaged, state}
 use Rattle.model.specs.Steps.{onPage, headerAt, slotAt, markPlace, settle, highestBit, clearNext, countErase, eraseNext, unlessBlank, mendSteps, recoverSteps}
@@ -17,7 +18,9 @@ use Rattle.tally.specs.declared.Tally.{Tally}
 use Rattle.tally.specs.Seen.{headerIn, tallySeen}
 use Rattle.mend.specs.Erasing.{counting, erasing}
 use Rattle.mend.proofs.Laws.Mend.{some-a, some-b, erasing-next}
-use Rattle.account_text.specs.Account.{firstFailing}
+use Rattle.text.specs.Text.{text}
+use Rattle.text.specs.Buffer.{labelled}
+use Rattle.account_text.specs.Account.{firstFailing, lastLine}
 use Rattle.prognosis.specs.declared.Prognosis.{Prognosis}
 use Rattle.prognosis.specs.declared.Prognosis.the-variants.{Recovers, Fails}
 use Rattle.prognosis.specs.Foretold.{prognosisOf}
@@ -89,3 +92,27 @@ module _ (N B : ℕ) (s : Image) (z : rightSize N B s ≡ true) where
   pub foretold-d : state N B s ≡ unfinished caseD → Recovers 1 ≡ prognosisOf N B l
   unfolding mendSteps markPlace
   foretold-d e = mended caseD 1 e (sym (mark-length (slotAt N B (older N l .number) (older N l .slot))))
+
+-- ---- the account's last line, by what is foretold
+
+module _ (N B : ℕ) (l : List Segment) (p : Prognosis) (e : p ≡ prognosisOf N B l) where
+  pub line-recovers : (n : ℕ) → p ≡ Recovers n → lastLine N B l ≡ labelled "recover " 0 ++ (labelled " steps " n ++ text "\n")
+  unfolding prognosisOf lastLine
+  line-recovers n q = go (eqb (workOn N B true l recover .code) 0) refl (sym e ∙ q)
+    where
+      go : (t : Bool) → eqb (workOn N B true l recover .code) 0 ≡ t
+          → cond t (Recovers (length (workOn N B true l recover .steps))) (Fails (firstFailing 1 (conditions N B l))) ≡ Recovers n
+          → cond t (labelled "recover " (workOn N B true l recover .code) ++ (labelled " steps " (length (workOn N B true l recover .steps)) ++ text "\n")) (labelled "fails " (firstFailing 1 (conditions N B l)) ++ text "\n")
+          ≡ labelled "recover " 0 ++ (labelled " steps " n ++ text "\n")
+      go true h r = let a : length (workOn N B true l recover .steps) ≡ n = cc in rw (eqb-true (workOn N B true l recover .code) 0 h, a)
+      go false h r = absurd (let z : _≡_ {A = ℕ} 0 1 = cc in omega arith)
+
+  pub line-fails : (k : ℕ) → p ≡ Fails k → lastLine N B l ≡ labelled "fails " k ++ text "\n"
+  unfolding prognosisOf lastLine
+  line-fails k q = go (eqb (workOn N B true l recover .code) 0) (sym e ∙ q)
+    where
+      go : (t : Bool) → cond t (Recovers (length (workOn N B true l recover .steps))) (Fails (firstFailing 1 (conditions N B l))) ≡ Fails k
+          → cond t (labelled "recover " (workOn N B true l recover .code) ++ (labelled " steps " (length (workOn N B true l recover .steps)) ++ text "\n")) (labelled "fails " (firstFailing 1 (conditions N B l)) ++ text "\n")
+          ≡ labelled "fails " k ++ text "\n"
+      go true r = absurd (let z : _≡_ {A = ℕ} 0 1 = cc in omega arith)
+      go false r = let a : firstFailing 1 (conditions N B l) ≡ k = cc in rw a

@@ -11,11 +11,11 @@ use borrow.Author.Tests.{eq-eqb, ne-eqb}
 use Rattle.model.specs.Lists.{all}
 use Rattle.model.specs.Chip.{Image}
 use Rattle.model.specs.Slot.{Slot, empty, torn, dead, wrong, live, isEmpty, isTorn, isWrong, kindOf, Entry, entryOf}
-use Rattle.model.specs.State.{Segment, segmentsOf, usedCount, firstNumber, slotsFrom, View, viewOf, entries, entriesIn, holds, distinct, emptyLast, onlyTopEmpty, someInUse, consecutive, oneVersion, noneOwing, othersBlank, noneWrongOrTorn, blocksDistinct, emptySlotsLast, capacity, withinCapacity, conditions}
+use Rattle.model.specs.State.{Segment, segmentsOf, usedCount, firstNumber, View, viewOf, entries, entriesIn, holds, distinct, emptyLast, onlyTopEmpty, someInUse, consecutive, oneVersion, noneOwing, othersBlank, noneWrongOrTorn, blocksDistinct, emptySlotsLast, capacity, withinCapacity, conditions}
 use Rattle.model.specs.Laws.Lists.{all-append, and-left}
 use Rattle.model.specs.Laws.Tables.{holds-append}
 use Rattle.bridge.specs.Views.Slots.{full, sound, full-then, entries-append}
-use Rattle.judge.specs.Bitmap.{inBits, putBit}
+use Rattle.judge.specs.Bitmap.{putBit}
 use Rattle.judge.specs.Parts.{rowsOn, used-rows}
 use Rattle.judge.specs.Tally.{noneMet}
 use Rattle.judge.specs.TallyLaws.{Narrow, NarrowRows, Agree, agree-none, agree-put, agree-same}

@@ -1,7 +1,7 @@
 -- Headers tested one by one, numbers followed, and the first of conditions 1 to 4 that fails.
 use Prim.Native.Nat.{ℕ, suc, _+_, _-_, _%_, _≤_, _<_}
 use mathlib.Core.Path.{_≡_, refl, sym, ap, ap₂, _∙_}
-use mathlib.Core.Bool.{Bool, true, false, cond, _||_, _&&_, not, and-true, and-assoc}
+use mathlib.Core.Bool.{Bool, true, false, cond, _&&_, not, and-true, and-assoc}
 use mathlib.Core.List.{List, [], _∷_}
 use native.Mathlib.Omega.{arith}
 use native.Mathlib.Nat.{sub-zero}
@@ -12,14 +12,12 @@ use lib.Dec.{eqb, leb}
 use borrow.Author.Tests.{eq-eqb, ne-eqb, le-leb}
 use Rattle.model.specs.Lists.{all}
 use Rattle.model.specs.Header.{erasePending, compacted, version1, version2, versionNumber, isFormer}
-use Rattle.model.specs.State.{Segment, blank, invalid, inUse, isInUse, isInvalid, isOwing, numberAfter, ofVersion, nextNumber, usedCount, firstNumber, someInUse, numbersFrom, consecutive, oneVersion, noneOwing, othersBlank}
+use Rattle.model.specs.State.{Segment, blank, invalid, inUse, isInUse, isInvalid, isOwing, numberAfter, ofVersion, usedCount, firstNumber, someInUse, numbersFrom, consecutive, oneVersion, noneOwing, othersBlank}
 use Rattle.judge.specs.declared.HeaderCounts.{HeaderCounts}
 use Rattle.judge.specs.declared.Summary.{Summary}
 use Rattle.judge.specs.Heads.{bareVersion, bare, outline, countsOf, countOne, noCounts}
 use Rattle.segments.proofs.Laws.Tables.{counted, counted-cons, counted-start, counted-end}
 use Rattle.faults.specs.declared.HeadTests.{HeadTests}
-use Rattle.faults.specs.declared.HeadsTold.{HeadsTold}
-use Rattle.account_text.specs.Account.{firstFailing}
 use Rattle.faults.specs.Tests.{testHead, headTests, headPlace, headsTold}
 
 -- ---- tested so far, and what is left
@@ -35,21 +33,17 @@ tested-cons t x l = rw (
   and-assoc (t .«others_blank») (not (isInvalid x)) (othersBlank l),
 )
 
+owing-seen : (b : Bool) → eqb (cond b erasePending compacted) erasePending ≡ b
+owing-seen true = refl
+owing-seen false = refl
+
 -- a segment is tested as its summary shows it
 head-outline : (t : HeadTests) (x : Segment) → testHead t (outline x) ≡ testHead t x
 unfolding testHead countOne outline isOwing isInvalid isInUse numberAfter ofVersion versionNumber isFormer bareVersion
 head-outline t blank = refl
 head-outline t invalid = refl
-head-outline t (inUse version1 st n ks) = rw (owing (eqb st erasePending))
-  where
-    owing : (b : Bool) → eqb (cond b erasePending compacted) erasePending ≡ b
-    owing true = refl
-    owing false = refl
-head-outline t (inUse (version2 total bits) st n ks) = rw (owing (eqb st erasePending))
-  where
-    owing : (b : Bool) → eqb (cond b erasePending compacted) erasePending ≡ b
-    owing true = refl
-    owing false = refl
+head-outline t (inUse version1 st n ks) = rw (owing-seen (eqb st erasePending))
+head-outline t (inUse (version2 total bits) st n ks) = rw (owing-seen (eqb st erasePending))
 
 module _ (l : List Segment) where
   pub tests-start : (c : HeaderCounts) → c ≡ noCounts → tested (record { counts = c; «none_owing» = true; «others_blank» = true }) (drop 0 l) ≡ headTests l

@@ -6,7 +6,7 @@ use native.Mathlib.Nat.{mod-lt}
 use denote.Ref.{now}
 use lib.ListN.{getD}
 use borrow.Author.Needs.{needs}
-use Rattle.model.specs.State.{blank, numberAfter, segmentsOf, numbersFrom}
+use Rattle.model.specs.State.{blank, segmentsOf, numbersFrom}
 use Rattle.judge.specs.Heads.{bare}
 use Rattle.faults.proofs.Laws.Heads.{numbers-start, numbers-stop, numbers-turn, numbers-end, number-outline}
 use Rattle.faults.proofs.numbers_follow.Statement.{statement}

@@ -1,6 +1,6 @@
 -- `faults::test_rows`. The invariant: what is left of the rows, behind what was tested, gives the whole. Assumes nothing.
-use Prim.Native.Nat.{_+_, _-_, _*_, _%_, _≤_}
-use mathlib.Core.Path.{_≡_, sym, ap, _∙_}
+use Prim.Native.Nat.{_+_, _-_, _*_, _≤_}
+use mathlib.Core.Path.{_≡_}
 use native.Mathlib.Omega.{arith}
 use native.Mathlib.Nat.{mod-lt}
 use borrow.Author.Needs.{needs}
@@ -8,7 +8,7 @@ use denote.Ref.{now}
 use Rattle.model.specs.Chip.{mostSlots}
 use Rattle.judge.specs.Parts.{rowsOn}
 use Rattle.scan.proofs.Laws.Gather.{slots-inside}
-use Rattle.faults.specs.Tests.{look, noTests, nextRow, testRows, rowsTested}
+use Rattle.faults.specs.Tests.{look, noTests, testRows, rowsTested}
 use Rattle.faults.proofs.Laws.Slots.{next-live, rows-start, rows-turn, rows-end}
 use Rattle.faults.proofs.test_rows.Statement.{statement}
 use Rattle.faults.proofs.test_rows.Tie as tie
