@@ -3,15 +3,10 @@ use Rattle.faults.specs.Tests.{nextRow}
 use borrow.Author.Needs.{needs}
 use Rattle.faults.proofs.next_row.Statement.{statement}
 use Rattle.faults.proofs.next_row.Tie as tie
-use Rattle.faults.proofs.next_row.Reads as reads
-use Rattle.faults.proofs.next_row.Lts as lts
-use Rattle.faults.proofs.still.Reads as still-reads
 
--- src/lib.rt:231:9
 still-requires : tie.Need-still-requires
 still-requires c κs = search needs
 
--- src/lib.rt:228:1
 returns : tie.Need-returns
 unfolding nextRow
 returns c = rw (c .still .ensures)

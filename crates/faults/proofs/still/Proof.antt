@@ -3,14 +3,10 @@ use mathlib.Core.Path.{sym}
 use mathlib.Core.Bool.{and-false, and-true}
 use Rattle.faults.proofs.still.Statement.{statement}
 use Rattle.faults.proofs.still.Tie as tie
-use Rattle.faults.proofs.still.Reads as reads
-use Rattle.faults.proofs.still.Lts as lts
 
--- src/lib.rt:48:9
 returns : tie.Need-returns
 returns c = rw (c .if1 .taken) (sym (and-false (c .before .args .held)))
 
--- src/lib.rt:44:1
 returns-2 : tie.Need-returns-2
 returns-2 c = rw (c .if1 .left) (sym (and-true (c .before .args .held)))
 

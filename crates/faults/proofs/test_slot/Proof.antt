@@ -3,81 +3,59 @@ use Rattle.faults.specs.Tests.{testSlot}
 use borrow.Author.Needs.{needs}
 use Rattle.faults.proofs.test_slot.Statement.{statement}
 use Rattle.faults.proofs.test_slot.Tie as tie
-use Rattle.faults.proofs.test_slot.Reads as reads
-use Rattle.faults.proofs.test_slot.Lts as lts
-use Rattle.faults.proofs.still.Reads as still-reads
-use Rattle.faults.proofs.written.Reads as written-reads
-use Rattle.rows.proofs.meet.Reads as meet-reads
 
--- src/lib.rt:188:28
 enum-told : tie.Need-enum-told
 enum-told c = search needs
 
--- src/lib.rt:195:27
 enum-told-2 : tie.Need-enum-told-2
 enum-told-2 c = search needs
 
--- src/lib.rt:195:27
 written-requires : tie.Need-written-requires
 written-requires c κs = search needs
 
--- src/lib.rt:196:37
 enum-known-kind : tie.Need-enum-known-kind
 enum-known-kind c = search needs
 
--- src/lib.rt:197:40
 meet-requires : tie.Need-meet-requires
 meet-requires c κs = search needs
 
--- src/lib.rt:197:17
 still-requires : tie.Need-still-requires
 still-requires c κs = search needs
 
--- src/lib.rt:198:41
 add-written : tie.Need-add-written
 add-written c = search needs
 
--- src/lib.rt:198:13
 written-requires-2 : tie.Need-written-requires-2
 written-requires-2 c κs = search needs
 
--- src/lib.rt:200:27
 enum-told-3 : tie.Need-enum-told-3
 enum-told-3 c = search needs
 
--- src/lib.rt:200:27
 written-requires-3 : tie.Need-written-requires-3
 written-requires-3 c κs = search needs
 
--- src/lib.rt:201:28
 enum-told-4 : tie.Need-enum-told-4
 enum-told-4 c = search needs
 
--- src/lib.rt:201:28
 written-requires-4 : tie.Need-written-requires-4
 written-requires-4 c κs = search needs
 
--- src/lib.rt:180:1
 returns : tie.Need-returns
 unfolding testSlot
 returns c = rw (c .enum-told .given .1)
 
--- src/lib.rt:180:1
 returns-2 : tie.Need-returns-2
 unfolding testSlot
 returns-2 c = rw (c .written .ensures, c .before .enum-told2 .given .1)
 
--- src/lib.rt:180:1
 returns-3 : tie.Need-returns-3
 unfolding testSlot
 returns-3 c = rw (c .written2 .ensures, c .before .still .ensures, c .before .before .meet .ensures .0, c .before .before .meet .ensures .1, c .before .before .before .before .before .kind .given .1)
 
--- src/lib.rt:180:1
 returns-4 : tie.Need-returns-4
 unfolding testSlot
 returns-4 c = rw (c .written3 .ensures, c .before .enum-told3 .given .1)
 
--- src/lib.rt:180:1
 returns-5 : tie.Need-returns-5
 unfolding testSlot
 returns-5 c = rw (c .written4 .ensures, c .before .enum-told4 .given .1)

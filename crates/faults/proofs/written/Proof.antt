@@ -3,15 +3,10 @@ use Rattle.faults.specs.Tests.{wrote}
 use borrow.Author.Needs.{needs}
 use Rattle.faults.proofs.written.Statement.{statement}
 use Rattle.faults.proofs.written.Tie as tie
-use Rattle.faults.proofs.written.Reads as reads
-use Rattle.faults.proofs.written.Lts as lts
-use Rattle.faults.proofs.still.Reads as still-reads
 
--- src/lib.rt:169:9
 still-requires : tie.Need-still-requires
 still-requires c κs = search needs
 
--- src/lib.rt:166:1
 returns : tie.Need-returns
 unfolding wrote
 returns c = rw (c .still .ensures)
