@@ -74,7 +74,7 @@ pub fn see_segment(image: &[u8], segments: usize, slots: usize, index: usize) ->
 }
 
 // One more than the number of a segment in use, or 0.
-fn number_after(s: Summary) -> usize
+pub fn number_after(s: Summary) -> usize
     ensures { λ r. ⌜ (r ≡ numberAfter (bare s)) × (r ≤ 4294967296) ⌝ }
 {
     let state = s.state;
@@ -99,7 +99,7 @@ fn is_in_use(s: Summary) -> bool
     }
 }
 
-fn is_invalid(s: Summary) -> bool
+pub fn is_invalid(s: Summary) -> bool
     ensures { λ r. ⌜ r ≡ isInvalid (bare s) ⌝ }
 {
     let state = s.state;
@@ -111,7 +111,7 @@ fn is_invalid(s: Summary) -> bool
     }
 }
 
-fn is_owing(s: Summary) -> bool
+pub fn is_owing(s: Summary) -> bool
     ensures { λ r. ⌜ r ≡ isOwing (bare s) ⌝ }
 {
     let state = s.state;
@@ -169,7 +169,7 @@ pub fn less(a: usize, b: usize) -> usize
 }
 
 // Before the first segment.
-fn none_counted() -> HeaderCounts
+pub fn none_counted() -> HeaderCounts
     ensures { λ r. ⌜ r ≡ noCounts ⌝ }
 {
     HeaderCounts {
@@ -182,7 +182,7 @@ fn none_counted() -> HeaderCounts
 }
 
 // One segment more.
-fn count_one(counts: HeaderCounts, s: Summary) -> HeaderCounts
+pub fn count_one(counts: HeaderCounts, s: Summary) -> HeaderCounts
     requires { ⌜ (counts .used < mostSegments) × (counts .next ≤ 4294967296) ⌝ }
     ensures { λ r. ⌜ (r ≡ countOne counts (bare s)) × (r .used ≤ counts .used + 1) × (r .next ≤ 4294967296) ⌝ }
 {
