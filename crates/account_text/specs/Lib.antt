@@ -1,3 +1,4 @@
 pub mod Account
 pub mod Map
-pub mod Pictures
+pub mod Boards
+pub mod Samples
