@@ -1,14 +1,12 @@
 -- The line of a segment as it is shown is the segment's line.
 use Prim.Native.Nat.{ℕ, suc}
-use mathlib.Core.Path.{_≡_, refl, sym, ap, _∙_}
+use mathlib.Core.Path.{_≡_, refl}
 use mathlib.Core.Bool.{Bool, true, false, cond}
-use mathlib.Core.List.{List, [], _∷_, _++_, map, append-assoc}
-use lib.ListN.{length}
+use mathlib.Core.List.{List, [], _∷_, _++_, map}
 use lib.Dec.{eqb}
 use Rattle.model.specs.Header.{erasePending}
-use Rattle.model.specs.Slot.{Slot}
 use Rattle.model.specs.State.{Segment, blank, invalid, inUse}
-use Rattle.judge.specs.declared.SegmentState.the-variants.{Blank, Invalid, InUse, Owing}
+use Rattle.judge.specs.declared.SegmentState.the-variants.{InUse, Owing}
 use Rattle.judge.specs.Heads.{stateSeen}
 use Rattle.text.specs.Text.{text}
 use Rattle.text.specs.Buffer.{labelled}

@@ -1,15 +1,15 @@
 -- Live slots listed block by block are those sorted by block number, and no more of them.
-use Prim.Native.Nat.{ℕ, zero, suc, _+_, _≤_, _<_}
+use Prim.Native.Nat.{ℕ, zero, suc, _≤_, _<_}
 use mathlib.Core.Path.{_≡_, refl, sym, ap, _∙_}
 use mathlib.Core.Bool.{Bool, true, false, cond}
 use mathlib.Core.List.{List, [], _∷_, _++_}
 use native.Mathlib.Omega.{arith}
-use lib.ListN.{length, length-append}
+use lib.ListN.{length}
 use lib.Dec.{leb, ltb, eqb}
-use borrow.Author.Tests.{leb-true, leb-false, ltb-true, ltb-false, eqb-true, eqb-false, le-leb, lt-leb, ne-eqb}
+use borrow.Author.Tests.{ltb-true, ltb-false, eqb-true, eqb-false, le-leb, lt-leb, ne-eqb}
 use Rattle.model.specs.Chip.{Image}
 use Rattle.account_text.specs.Account.{LiveSlot, insert, byBlock}
-use Rattle.index.specs.Tables.{mostPages, ofBlock, Stands, AllStand, blocksBelow}
+use Rattle.index.specs.Tables.{mostPages, ofBlock, AllStand, blocksBelow}
 
 -- ---- the blocks of a list
 
