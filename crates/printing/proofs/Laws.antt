@@ -19,6 +19,7 @@ use Rattle.text.specs.Text.{text}
 use Rattle.text.specs.Buffer.{labelled, Wrote}
 use Rattle.text.proofs.Laws.{over-none, _then_}
 use Rattle.account_text.specs.Account.{LiveSlot, blockLine, blockLines, byBlock}
+use Rattle.index.specs.declared.Counts.{Counts}
 use Rattle.index.specs.declared.Shown.{Shown}
 use Rattle.index.specs.Shows.{countsLine, lineBy, shownLine, shownLines}
 use Rattle.index.specs.Tables.{mostPages, pageOf, ofBlock, Chain, Stands, AllStand, blocksBelow}
@@ -50,6 +51,15 @@ line-used i x e = rw e
 pub line-owing : (i : ℕ) (x : Shown) → x .state ≡ Owing → labelled "seg " i ++ (labelled " owing num " (x .number .0) ++ (countsLine (x .counts) ++ text "\n")) ≡ shownLine i x
 unfolding shownLine lineBy
 line-owing i x e = rw e
+
+-- the counts and the end of the line, as they are written
+pub counts-ended : (c : Counts) → labelled " live " (c .live) ++ (labelled " dead " (c .dead) ++ (labelled " empty " (c .empty) ++ text "\n")) ≡ countsLine c ++ text "\n"
+unfolding countsLine
+counts-ended c =
+    let l = labelled " live " (c .live) in
+    let d = labelled " dead " (c .dead) in
+    let e = labelled " empty " (c .empty) in
+    sym (append-assoc l (d ++ e) (text "\n") ∙ ap (λ (z : List ℕ). l ++ z) (append-assoc d e (text "\n")))
 
 shown-more : (i : ℕ) (a : List Shown) (x : Shown) → shownLines i a ++ shownLine (i + length a) x ≡ shownLines i (a ++ (x ∷ []))
 unfolding shownLines

@@ -1,5 +1,4 @@
 // The lines of an account, added to a text.
-use index::Counts;
 use index::Shown;
 use judge::SegmentState;
 use model::MOST_SEGMENTS;
@@ -16,16 +15,16 @@ ghost use Rattle.account_text.specs.Account.{blockLine, blockLines, byBlock};
 ghost use Rattle.index.specs.Shows.{countsLine, shownLine, shownLines};
 ghost use Rattle.index.specs.Tables.{tables, Chain, AllStand, ofBlock, listOf, Indexed};
 
-// ---- segments
-
-fn add_counts(text: &mut [u8], at: usize, counts: Counts) -> usize
-    requires { ⌜ at + 50 ≤ mostText ⌝ }
-    ensures { λ r. ⌜ Wrote (countsLine counts) (now (text .entry)) at (now (text .exit)) r × (r ≤ at + 50) ⌝ }
+// A number behind its label, and the end of the line.
+fn add_ended(text: &mut [u8], at: usize, label: &[u8], n: u32) -> usize
+    requires { ⌜ at + length (now label) + 11 ≤ mostText ⌝ }
+    ensures { λ r. ⌜ Wrote ((now (label .entry) ++ decimal n) ++ ascii "\n") (now (text .entry)) at (now (text .exit)) r × (r ≤ at + length (now (label .entry)) + 11) ⌝ }
 {
-    let lives = text::add_labelled(text, at, b" live ", counts.live as u32);
-    let deads = text::add_labelled(text, lives, b" dead ", counts.dead as u32);
-    text::add_labelled(text, deads, b" empty ", counts.empty as u32)
+    let behind = text::add_labelled(text, at, label, n);
+    text::add(text, behind, b"\n")
 }
+
+// ---- segments
 
 // Of a segment in use, what stands behind its index: the label of its state with the number, and the counts.
 fn used_line(text: &mut [u8], at: usize, label: &[u8], shown: Shown) -> usize
@@ -34,9 +33,10 @@ fn used_line(text: &mut [u8], at: usize, label: &[u8], shown: Shown) -> usize
 {
     let number = shown.number;
     let counts = shown.counts;
-    let numbered = text::add_labelled(text, at, label, number.0);
-    let counted = add_counts(text, numbered, counts);
-    text::add(text, counted, b"\n")
+    let numbers = text::add_labelled(text, at, label, number.0);
+    let lives = text::add_labelled(text, numbers, b" live ", counts.live as u32);
+    let deads = text::add_labelled(text, lives, b" dead ", counts.dead as u32);
+    add_ended(text, deads, b" empty ", counts.empty as u32)
 }
 
 // One line.
@@ -84,8 +84,7 @@ fn block_line(text: &mut [u8], at: usize, block: u32, length: u32, segment: u32,
     let blocks = text::add_labelled(text, at, b"block ", block);
     let lengths = text::add_labelled(text, blocks, b" len ", length);
     let segments = text::add_labelled(text, lengths, b" seg ", segment);
-    let slots = text::add_labelled(text, segments, b" slot ", slot);
-    text::add(text, slots, b"\n")
+    add_ended(text, segments, b" slot ", slot)
 }
 
 // One for each live slot of a block, from the first page on.
@@ -158,8 +157,7 @@ pub fn recover_line(text: &mut [u8], at: usize, steps: u32) -> usize
     ensures { λ r. ⌜ Wrote (labelled "recover " 0 ++ (labelled " steps " steps ++ ascii "\n")) (now (text .entry)) at (now (text .exit)) r ⌝ }
 {
     let answered = text::add_labelled(text, at, b"recover ", 0);
-    let counted = text::add_labelled(text, answered, b" steps ", steps);
-    text::add(text, counted, b"\n")
+    add_ended(text, answered, b" steps ", steps)
 }
 
 // The place of the first condition of Clean that fails.
@@ -167,6 +165,5 @@ pub fn fails_line(text: &mut [u8], at: usize, place: u32) -> usize
     requires { ⌜ at + 80 ≤ mostText ⌝ }
     ensures { λ r. ⌜ Wrote (labelled "fails " place ++ ascii "\n") (now (text .entry)) at (now (text .exit)) r ⌝ }
 {
-    let placed = text::add_labelled(text, at, b"fails ", place);
-    text::add(text, placed, b"\n")
+    add_ended(text, at, b"fails ", place)
 }

@@ -1,4 +1,4 @@
--- `printing::block_line`: four numbers behind their labels, and the end of the line. Assumes nothing.
+-- `printing::block_line`: four numbers behind their labels. Assumes nothing.
 use native.Mathlib.Omega.{arith}
 use Rattle.text.specs.Text.{text}
 use Rattle.text.specs.Buffer.{labelled}
@@ -26,17 +26,11 @@ slice-aggregate-add-labelled-3 c = search needs
 add-labelled-requires-3 : tie.Need-add-labelled-requires-3
 add-labelled-requires-3 c κs = search needs
 
-slice-aggregate-add-labelled-4 : tie.Need-slice-aggregate-add-labelled-4
-slice-aggregate-add-labelled-4 c = search needs
+slice-aggregate-add-ended : tie.Need-slice-aggregate-add-ended
+slice-aggregate-add-ended c = search needs
 
-add-labelled-requires-4 : tie.Need-add-labelled-requires-4
-add-labelled-requires-4 c κs = search needs
-
-slice-aggregate-add : tie.Need-slice-aggregate-add
-slice-aggregate-add c = search needs
-
-add-requires : tie.Need-add-requires
-add-requires c κs = search needs
+add-ended-requires : tie.Need-add-ended-requires
+add-ended-requires c κs = search needs
 
 same-length : tie.Need-same-length
 same-length c = search needs
@@ -44,13 +38,12 @@ same-length c = search needs
 returns : tie.Need-returns
 unfolding blockLine labelled text
 returns c =
-    let k5 = c .before .before in
-    let k4 = k5 .before .before .before .before .before in
+    let k4 = c .before .before in
     let k3 = k4 .before .before .before .before .before in
     let k2 = k3 .before .before .before .before .before in
     let k1 = k2 .before .before .before .before .before in (
-      k1 .add-labelled .ensures .0 then k2 .add-labelled2 .ensures .0 then k3 .add-labelled3 .ensures .0 then k4 .add-labelled4 .ensures .0 then k5 .add .ensures,
-      omega (arith, k1 .add-labelled .ensures .1, k2 .add-labelled2 .ensures .1, k3 .add-labelled3 .ensures .1, k4 .add-labelled4 .ensures .1, k5 .add .ensures .ends),
+      k1 .add-labelled .ensures .0 then k2 .add-labelled2 .ensures .0 then k3 .add-labelled3 .ensures .0 then k4 .add-ended .ensures .0,
+      omega (arith, k1 .add-labelled .ensures .1, k2 .add-labelled2 .ensures .1, k3 .add-labelled3 .ensures .1, k4 .add-ended .ensures .1),
     )
 
 pub block-line-spec : {M : Type 1} → statement M
@@ -63,9 +56,7 @@ block-line-spec =
     add-labelled-requires-2
     slice-aggregate-add-labelled-3
     add-labelled-requires-3
-    slice-aggregate-add-labelled-4
-    add-labelled-requires-4
-    slice-aggregate-add
-    add-requires
+    slice-aggregate-add-ended
+    add-ended-requires
     same-length
     returns)

@@ -1,4 +1,4 @@
--- `printing::recover_line`: three pieces in a row. Assumes nothing.
+-- `printing::recover_line`: two pieces in a row. Assumes nothing.
 use Rattle.text.specs.Text.{text}
 use Rattle.text.specs.Buffer.{labelled}
 use Rattle.text.proofs.Laws.{_then_}
@@ -12,17 +12,11 @@ slice-aggregate-add-labelled c = search needs
 add-labelled-requires : tie.Need-add-labelled-requires
 add-labelled-requires c κs = search needs
 
-slice-aggregate-add-labelled-2 : tie.Need-slice-aggregate-add-labelled-2
-slice-aggregate-add-labelled-2 c = search needs
+slice-aggregate-add-ended : tie.Need-slice-aggregate-add-ended
+slice-aggregate-add-ended c = search needs
 
-add-labelled-requires-2 : tie.Need-add-labelled-requires-2
-add-labelled-requires-2 c κs = search needs
-
-slice-aggregate-add : tie.Need-slice-aggregate-add
-slice-aggregate-add c = search needs
-
-add-requires : tie.Need-add-requires
-add-requires c κs = search needs
+add-ended-requires : tie.Need-add-ended-requires
+add-ended-requires c κs = search needs
 
 same-length : tie.Need-same-length
 same-length c = search needs
@@ -30,10 +24,9 @@ same-length c = search needs
 returns : tie.Need-returns
 unfolding labelled text
 returns c =
-    let k3 = c .before .before in
-    let k2 = k3 .before .before .before .before .before in
+    let k2 = c .before .before in
     let k1 = k2 .before .before .before .before .before in
-    k1 .add-labelled .ensures .0 then k2 .add-labelled2 .ensures .0 then k3 .add .ensures
+    k1 .add-labelled .ensures .0 then k2 .add-ended .ensures .0
 
 pub recover-line-spec : {M : Type 1} → statement M
 recover-line-spec =
@@ -41,9 +34,7 @@ recover-line-spec =
     (tie.spec
     slice-aggregate-add-labelled
     add-labelled-requires
-    slice-aggregate-add-labelled-2
-    add-labelled-requires-2
-    slice-aggregate-add
-    add-requires
+    slice-aggregate-add-ended
+    add-ended-requires
     same-length
     returns)
