@@ -31,12 +31,10 @@ fn used_line(text: &mut [u8], at: usize, label: &[u8], shown: Shown) -> usize
     requires { ⌜ (at + 75 ≤ mostText) × (length (now label) ≤ 12) ⌝ }
     ensures { λ r. ⌜ Wrote ((now (label .entry) ++ decimal (shown .number .0)) ++ (countsLine (shown .counts) ++ ascii "\n")) (now (text .entry)) at (now (text .exit)) r × (r ≤ at + 75) ⌝ }
 {
-    let number = shown.number;
-    let counts = shown.counts;
-    let numbers = text::add_labelled(text, at, label, number.0);
-    let lives = text::add_labelled(text, numbers, b" live ", counts.live as u32);
-    let deads = text::add_labelled(text, lives, b" dead ", counts.dead as u32);
-    add_ended(text, deads, b" empty ", counts.empty as u32)
+    let numbers = text::add_labelled(text, at, label, shown.number.0);
+    let lives = text::add_labelled(text, numbers, b" live ", shown.counts.live as u32);
+    let deads = text::add_labelled(text, lives, b" dead ", shown.counts.dead as u32);
+    add_ended(text, deads, b" empty ", shown.counts.empty as u32)
 }
 
 // One line.
@@ -67,8 +65,7 @@ pub fn segment_lines(
     let mut end = at;
     let mut i: usize = 0;
     while i < segments {
-        let shown = table[i];
-        end = segment_line(text, end, i as u32, shown);
+        end = segment_line(text, end, i as u32, table[i]);
         i += 1;
     }
     end

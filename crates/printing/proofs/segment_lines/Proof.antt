@@ -21,14 +21,14 @@ loop-holds : tie.Need-loop-holds Inv-loop μ-loop
 unfolding shownLines
 loop-holds c = (wrote-none _ _, omega arith, omega arith)
 
-mul-shown : tie.Need-mul-shown Inv-loop μ-loop
-mul-shown c = search needs
-
-array-copy-out-shown : tie.Need-array-copy-out-shown Inv-loop μ-loop
-array-copy-out-shown c = search needs
-
 cast-segment-line : tie.Need-cast-segment-line Inv-loop μ-loop
 cast-segment-line c = search needs
+
+mul-segment-line : tie.Need-mul-segment-line Inv-loop μ-loop
+mul-segment-line c = search needs
+
+array-copy-out-segment-line : tie.Need-array-copy-out-segment-line Inv-loop μ-loop
+array-copy-out-segment-line c = search needs
 
 segment-line-requires : tie.Need-segment-line-requires Inv-loop μ-loop
 segment-line-requires c κs = search needs
@@ -64,9 +64,9 @@ segment-lines-spec =
     Inv-loop
     μ-loop
     loop-holds
-    mul-shown
-    array-copy-out-shown
     cast-segment-line
+    mul-segment-line
+    array-copy-out-segment-line
     segment-line-requires
     add-i
     loop-less

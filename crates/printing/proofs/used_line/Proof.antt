@@ -48,7 +48,7 @@ returns c =
     let k3 = k4 .before .before .before .before .before .before in
     let k2 = k3 .before .before .before .before .before .before in
     let k1 = k2 .before .before .before .before .before .before in
-    let s = k1 .before .before .before .before .before .before in
+    let s = k1 .before .before .before .before in
     let counts = wrote-as _ (counts-ended (s .args .shown .counts)) (k2 .add-labelled2 .ensures .0 then k3 .add-labelled3 .ensures .0 then k4 .add-ended .ensures .0) in (
       k1 .add-labelled .ensures .0 then counts,
       omega (arith, k1 .add-labelled .ensures .1, k2 .add-labelled2 .ensures .1, k3 .add-labelled3 .ensures .1, k4 .add-ended .ensures .1, s .pre .1),
