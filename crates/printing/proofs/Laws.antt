@@ -97,7 +97,7 @@ chain-length (suc k) B nexts p (e ∷ r) c h =
     rw n (ap suc (chain-length k B nexts (getD nexts p 0) r (c .2) (omega arith)))
 
 -- the page of a live slot lies in the image, and tells its segment and its place
-pub page-inside : (N B : ℕ) (s : List ℕ) (e : LiveSlot) → Sized N B (length s) → Stands N B s e → (pageOf B e < N * (B + 1)) × (pageOf B e < mostPages) × (pageOf B e * 256 + 256 ≤ length s)
+pub page-inside : (N B : ℕ) (s : List ℕ) (e : LiveSlot) → Sized N B (length s) → Stands N B s e → (pageOf B e < mostPages) × (pageOf B e * 256 + 256 ≤ length s)
 unfolding pageOf
 page-inside N B s e z t =
     let a = mul-le-mul-right (B + 1) (t .segment) in
@@ -107,7 +107,7 @@ page-inside N B s e z t =
     let q = t .slot in
     let w = z .whole in
     let p : e .segment * (B + 1) + e .slot < N * (B + 1) = omega arith in
-    (p, omega arith, omega arith)
+    (omega arith, omega arith)
 
 pub page-segment : (N B : ℕ) (s : List ℕ) (e : LiveSlot) → Stands N B s e → (pageOf B e / (B + 1) ≡ e .segment) × (pageOf B e % (B + 1) ≡ e .slot)
 unfolding pageOf
@@ -189,7 +189,7 @@ module _ {N B : ℕ} {s nexts : List ℕ} {block : ℕ} {whole : List LiveSlot} 
       let n = walk-next w h in
       let p = page-inside N B s (n .slot) z (n .stand) in
       let l : length (w .rest) ≡ suc (length (n .others)) = ap length (n .split) in
-      (rw (n .here) (p .1), rw (n .here) (p .2), let q = w .near in omega arith)
+      (rw (n .here) (p .0), rw (n .here) (p .1), let q = w .near in omega arith)
 
   pub walk-low : {text : List ℕ} {page end : ℕ} → Sized N B (length s) → Walk N B s nexts block whole start at text page end → (page ≡ 0 → ⊥) → getD nexts page 0 < mostPages
   walk-low {text} {page} {end} z w h = let n = walk-next w h in chain-low N B s nexts (getD nexts page 0) (n .others) z (n .chain) (n .stands)
