@@ -3,12 +3,13 @@
  *
  *     rt staticlib qanbillox                                        (at the root of the repository)
  *     cc -O2 -Wall -Wextra -Werror -Iinclude bench/stack.c target/staticlib/libqanbillox.a -o target/stack
- *     target/stack [BYTES]
+ *     target/stack [BYTES ACCOUNT]
  *
- * It prints the most bytes that each request took on any of the chips below; with BYTES it ends with 1 if one took
- * more. Counted is all that the call of a request puts on the stack, down to the deepest byte written: the arguments
- * that find no register, its frames, and those of memcpy and memset. Not counted is what an empty call puts there too,
- * the return address. The images are made by the library's own requests, with budgets for cuts. */
+ * It prints the most bytes that each request took on any of the chips below; with BYTES and ACCOUNT it ends with 1 if
+ * one took more than BYTES, or the account, which has large tables of its own, more than ACCOUNT. Counted is all that
+ * the call of a request puts on the stack, down to the deepest byte written: the arguments that find no register, its
+ * frames, and those of memcpy and memset. Not counted is what an empty call puts there too, the return address. The
+ * images are made by the library's own requests, with budgets for cuts. */
 #define _XOPEN_SOURCE 700
 #include "qanbillox.h"
 
@@ -17,7 +18,7 @@
 #include <string.h>
 #include <ucontext.h>
 
-enum { STACK = 128 * 1024, PAINT = 0xA5, LONGEST = 255 * 256 * 256 };
+enum { STACK = 1024 * 1024, PAINT = 0xA5, LONGEST = 255 * 256 * 256, LONGEST_TEXT = 255 * (55 + 37 * 255) + 18 };
 
 /* Every slot of a full ring is written first. On the largest chip that takes half a minute, and changes no figure. */
 static const struct {
@@ -29,6 +30,9 @@ static const struct {
 static size_t n, b, length;
 static uint8_t image[LONGEST], base[LONGEST], cut[LONGEST];
 
+/* What an account is written to. */
+static uint8_t text[LONGEST_TEXT];
+
 /* The block that the requests are about, and what is put: once there is room, that takes SLOT steps for a block that
  * is stored already. */
 enum { BLOCK = 1, OTHER = 2, SLOT = 5 + QBX_MOST_CONTENTS + 1 };
@@ -39,8 +43,10 @@ static struct {
     size_t bytes;
 } rows[] = {{"format", 0},      {"put, with room", 0}, {"put, opening a segment", 0}, {"put, compacting first", 0},
             {"read", 0},        {"delete", 0},         {"recover, nothing to do", 0}, {"recover (a)", 0},
-            {"recover (b)", 0}, {"recover (c)", 0},    {"recover (d)", 0},            {"blank test", 0}};
-enum { ROWS = sizeof rows / sizeof rows[0] };
+            {"recover (b)", 0}, {"recover (c)", 0},    {"recover (d)", 0},            {"blank test", 0},
+            {"account", 0}};
+/* The account is the last row, and has its own limit. */
+enum { ROWS = sizeof rows / sizeof rows[0], REQUESTS = ROWS - 1 };
 
 static void stop(const char *what)
 {
@@ -50,7 +56,7 @@ static void stop(const char *what)
 
 /* ---- One request on the painted stack ---- */
 
-enum request { NOTHING, FORMAT, PUT, READ, DELETE, RECOVER, BLANK };
+enum request { NOTHING, FORMAT, PUT, READ, DELETE, RECOVER, BLANK, ACCOUNT };
 
 static enum request request;
 static uint64_t result;
@@ -70,6 +76,7 @@ static void make_request(void)
     case RECOVER: result = qbx_recover(image, length, n, b, UINT64_MAX); break;
     /* the last segment but for three bytes, so that the last group is a shorter one */
     case BLANK: result = qbx_is_blank(image + length - length / n, length / n - 3); break;
+    case ACCOUNT: result = qbx_account(image, length, n, b, text, sizeof text); break;
     }
 }
 
@@ -129,6 +136,7 @@ static void measure_recovery(const char *name, uint64_t left, uint64_t steps)
     memcpy(image, base, length);
     put(BLOCK, whole - left);
     memcpy(cut, image, length);
+    measure("account", ACCOUNT, cut);
     measure(name, RECOVER, cut);
     if (qbx_steps_of(result) != steps)
         stop(name);
@@ -148,6 +156,15 @@ static void write_slots(size_t slots)
     memcpy(base, image, length);
 }
 
+/* The accounts of the base image as it is, and damaged. Those of unfinished ones are in measure_recovery. */
+static void measure_accounts(void)
+{
+    measure("account", ACCOUNT, base);
+    memcpy(cut, base, length);
+    cut[length - 1] ^= 1;
+    measure("account", ACCOUNT, cut);
+}
+
 static void measure_chip(int full_ring)
 {
     write_slots(1);
@@ -159,6 +176,7 @@ static void measure_chip(int full_ring)
     measure_recovery("recover (c)", 2, 1);
     measure_recovery("recover (d)", 1, 1);
     measure("blank test", BLANK, base);
+    measure_accounts();
     if (n > 2) {
         write_slots(b);
         measure("put, opening a segment", PUT, base);
@@ -169,17 +187,34 @@ static void measure_chip(int full_ring)
         measure("put, compacting first", PUT, base);
         measure_recovery("recover (a)", SLOT + 3, 2);
         measure_recovery("recover (b)", SLOT + 2, 3);
+        measure_accounts();
     }
+}
+
+/* Prints so many rows from one on, and says which took more than the limit. The most that one took. */
+static size_t print_rows(size_t row, size_t count, unsigned long long limit)
+{
+    size_t most = 0;
+
+    for (size_t end = row + count; row < end; row++) {
+        printf("%-24s%8zu bytes of stack\n", rows[row].name, rows[row].bytes);
+        if (rows[row].bytes > limit)
+            fprintf(stderr, "stack: %s: %zu bytes, more than %llu\n", rows[row].name, rows[row].bytes, limit);
+        if (rows[row].bytes > most)
+            most = rows[row].bytes;
+    }
+    return most;
 }
 
 int main(int count, char **words)
 {
-    char *rest = "";
-    unsigned long long limit = count > 1 ? strtoull(words[1], &rest, 10) : UINT64_MAX;
-    size_t most = 0;
+    char *rest = "", *account_rest = "";
+    unsigned long long limit = count == 3 ? strtoull(words[1], &rest, 10) : UINT64_MAX;
+    unsigned long long account_limit = count == 3 ? strtoull(words[2], &account_rest, 10) : UINT64_MAX;
+    size_t most, account;
 
-    if (*rest != '\0') {
-        fprintf(stderr, "usage: stack [BYTES]\n");
+    if ((count != 1 && count != 3) || *rest != '\0' || *account_rest != '\0') {
+        fprintf(stderr, "usage: stack [BYTES ACCOUNT]\n");
         return 2;
     }
     for (size_t i = 0; i < sizeof chips / sizeof chips[0]; i++) {
@@ -188,13 +223,8 @@ int main(int count, char **words)
         length = qbx_image_length(n, b);
         measure_chip(chips[i].full_ring);
     }
-    for (size_t row = 0; row < ROWS; row++) {
-        printf("%-24s%8zu bytes of stack\n", rows[row].name, rows[row].bytes);
-        if (rows[row].bytes > limit)
-            fprintf(stderr, "stack: %s: %zu bytes, more than %llu\n", rows[row].name, rows[row].bytes, limit);
-        if (rows[row].bytes > most)
-            most = rows[row].bytes;
-    }
-    printf("%-24s%8zu bytes of stack\n", "the most", most);
-    return most > limit;
+    most = print_rows(0, REQUESTS, limit);
+    printf("%-24s%8zu bytes of stack\n", "the most of these", most);
+    account = print_rows(REQUESTS, 1, account_limit);
+    return most > limit || account > account_limit;
 }

@@ -1,12 +1,12 @@
 /* Qanbillox: a proved record store on NOR flash.
  *
  * Every request takes the whole image, the number of segments n (2 to 255) and of slots in each b (2 to 255).
- * Any arguments get an answer from the table below; a refused request (1 to 8, 11) changes no byte of the image.
+ * Any arguments get an answer from the table below; a refused request (1 to 8, 11, 14) changes no byte.
  * budget is the most flash steps to take: when it is spent the request stops as if the power had gone, and
  * answers QBX_CUT. Recover before the next request then, as after any loss of power.
  *
  * No function allocates, keeps a pointer or has state of its own. A request takes at most 15,408 bytes of stack on
- * x86-64, measured up to n = 255 and b = 255 (bench/stack.c). Link with libqanbillox.a. */
+ * x86-64, the account STACK, measured up to n = 255 and b = 255 (bench/stack.c). Link with libqanbillox.a. */
 #ifndef QANBILLOX_H
 #define QANBILLOX_H
 
@@ -17,27 +17,28 @@
 extern "C" {
 #endif
 
-/* The first that applies is given, in the order 1 to 5, 11, 6 to 9.
+/* The first that applies is given, in the order 1 to 5, 11, 6 to 9. The account answers 0 or 14, no other request 14.
  *
  * A put is worn only if it needs a new segment, and then in two cases: the whole part of number / n, number being the
  * largest that it would give a segment, plus the tally of erases that recoveries have set about since the format,
  * reaches 100,000; or the newest segment's header has none of its 1,792 bits left to count one more.
  *
  * An image of version 1 can be read, deleted from and recovered, not put to. To go on writing, read its records out, by
- * a qbx_read of each number from 1 to 65,534, format, and put them again; a format alone loses them. Only a record of 0
- * bytes cannot be put again. */
+ * a qbx_read of each block that qbx_account lists, format, and put them again; a format alone loses them. Only a record
+ * of 0 bytes cannot be put again. */
 enum qbx_answer {
-    QBX_DONE = 0,           /* none below */
-    QBX_SIZE = 1,           /* n, b or the image's length is wrong */
-    QBX_NUMBER = 2,         /* block number 0 or 65,535 */
-    QBX_LENGTH = 3,         /* put of 0 bytes, or of over 248 */
-    QBX_DAMAGED = 4,        /* the image is neither clean nor unfinished; only format helps */
-    QBX_UNFINISHED = 5,     /* put, delete, read: recover first */
-    QBX_ABSENT = 6,         /* read or delete of a block that is not stored */
-    QBX_FULL = 7,           /* put of a new block while (n-1)*b-1 are stored */
-    QBX_WORN = 8,           /* put: the chip is worn, as said above */
-    QBX_CUT = 9,            /* the budget ended before the steps did */
-    QBX_FORMER_VERSION = 11 /* put on an image of version 1; what to do is said above */
+    QBX_DONE = 0,            /* none below */
+    QBX_SIZE = 1,            /* n, b or the image's length is wrong */
+    QBX_NUMBER = 2,          /* block number 0 or 65,535 */
+    QBX_LENGTH = 3,          /* put of 0 bytes, or of over 248 */
+    QBX_DAMAGED = 4,         /* the image is neither clean nor unfinished; only format helps */
+    QBX_UNFINISHED = 5,      /* put, delete, read: recover first */
+    QBX_ABSENT = 6,          /* read or delete of a block that is not stored */
+    QBX_FULL = 7,            /* put of a new block while (n-1)*b-1 are stored */
+    QBX_WORN = 8,            /* put: the chip is worn, as said above */
+    QBX_CUT = 9,             /* the budget ended before the steps did */
+    QBX_FORMER_VERSION = 11, /* put on an image of version 1; what to do is said above */
+    QBX_SHORT_BUFFER = 14    /* account: the buffer is too short for the text; it is untouched, and the length is 0 */
 };
 
 #define QBX_PAGE 256u          /* bytes in a page */
@@ -74,6 +75,32 @@ static inline uint64_t qbx_steps_of(uint64_t result) { return result >> 8; }
 /* What read gives beside the answer: the contents' length and their offset in the image, both 0 if refused. */
 static inline size_t qbx_length_of(uint64_t result) { return (size_t)((result >> 8) & 0xFF); }
 static inline size_t qbx_offset_of(uint64_t result) { return (size_t)(result >> 16); }
+
+/* The account of an image, as text at the front of a lent buffer. Each line ends with the byte 0A:
+ *
+ *     seg 0 used num 4 live 1 dead 14 empty 0    One for each segment, by index. Torn and wrong slots are in no count.
+ *     seg 1 blank                                A segment that still owes an erase has owing for used.
+ *     seg 2 torn                                 One that is neither in use nor blank.
+ *     block 7 len 2 seg 0 slot 1                 One for each live slot of those in use, by rising block number, equal
+ *                                                ones by the segment's number (num, not its index), then by the slot.
+ *     recover 0 steps 2                          What qbx_recover would answer, and its steps; if the image is damaged,
+ *     fails 3                                    the place, 1 to 8, of the first condition of a clean one that fails.
+ *
+ * An unfinished image is shown as it is; the segment whose erase is owed in it is torn, or blank, without its slots. In
+ * a damaged image that one is shown as any other. A wrong n, b or length of the image is no refusal: the text is then
+ * fails 0 alone, 8 bytes.
+ *
+ * Answers QBX_DONE, the bytes after the text untouched, or QBX_SHORT_BUFFER, exactly if the text is longer than the
+ * buffer, all of which is then untouched. The image is only read, and must not overlap the buffer. The longest text has
+ * 2,196 bytes with n = 4 and b = 15, 581,192 with 64 and 255, 2,363,238 with 255 and 255. It takes STACK bytes of
+ * stack: the tables that put the blocks in order are there. */
+uint64_t qbx_account(const uint8_t *image, size_t image_length, size_t n, size_t b, uint8_t *text, size_t text_length);
+
+/* What it gives beside the answer: the text's length, 0 if the buffer is too short. */
+static inline size_t qbx_text_length_of(uint64_t result) { return (size_t)(result >> 8); }
+
+/* A length that no account of this geometry exceeds: as many lines as there may be, each as long as they get. */
+static inline size_t qbx_account_length(size_t n, size_t b) { return n * (55 + 37 * b) + 18; }
 
 /* Whether every byte is 255, as an erase leaves it: the store's own test. It looks at groups of eight bytes, from the
  * first byte on, and stops after the first that differs; the last may be shorter. Any bytes, any length, none too. */

@@ -5,6 +5,9 @@
 #[path = "../../bindings/rust/tests/store/reference.rs"]
 pub mod reference;
 
+#[path = "../../bindings/rust/tests/store/account.rs"]
+pub mod account;
+
 pub fn all_255(bytes: &[u8]) -> bool {
     bytes.iter().all(|&byte| byte == 0xFF)
 }

@@ -4,6 +4,9 @@
 #[path = "../../bindings/rust/tests/store/reference.rs"]
 pub mod reference;
 
+#[path = "../../bindings/rust/tests/store/account.rs"]
+pub mod account;
+
 pub fn all_255(bytes: &[u8]) -> bool {
     let (words, rest) = bytes.as_chunks();
     words

@@ -6,13 +6,18 @@
 //!     cargo run --release --offline           # here
 //!
 //! One process; the three sides get the same images in turn, and their answers, steps and images
-//! are compared. The buffer is filled from a prepared image before each request, outside the time
+//! are compared, and the texts of their accounts. The buffer is filled from a prepared image before each request, outside the time
 //! taken, so each finds it in the cache as far as it fits. The figures are medians.
 
+mod accounts;
 mod by_bytes;
 mod by_words;
 #[path = "../../bindings/rust/tests/store/pages.rs"]
 mod pages;
+// The tests use the rest of it.
+#[allow(dead_code)]
+#[path = "../../bindings/rust/tests/store/prng.rs"]
+mod prng;
 
 use by_bytes::reference;
 use by_words::reference as words;
@@ -32,12 +37,14 @@ fn main() {
         for (fill, blocks) in [("half full", capacity / 2), ("full", capacity)] {
             let bytes = n * g.segment_len();
             println!("N={n}, B={b}, {bytes} bytes, {fill}: {blocks} blocks");
-            print_heads("request");
+            print_heads("request", "steps");
             chip(g, blocks, runs);
             println!();
         }
     }
     by_segments(&[16, 64, 128, 255], 1001);
+    println!();
+    accounts::rows(&[(16, 255, 101), (255, 255, 31)]);
 }
 
 /// How the time grows with the number of segments, each with the fewest slots. The block that is
@@ -296,23 +303,23 @@ fn blank_row(bytes: usize, runs: usize) {
             }));
         }
     }
-    print_heads("blank test");
+    print_heads("blank test", "");
     print_row(&format!("{bytes} bytes, all 255"), "", times);
     println!();
 }
 
-fn print_heads(first: &str) {
+fn print_heads(first: &str, second: &str) {
     println!(
         "  {:<28}{:>8}{:>14}{:>14}{:>14}{:>10}{:>10}",
-        first, "steps", "by bytes", "by words", "library", "to bytes", "to words"
+        first, second, "by bytes", "by words", "library", "to bytes", "to words"
     );
 }
 
 /// The ratios are the library's time over that of the reference by bytes, and by words.
-fn print_row(name: &str, steps: &str, times: Times) {
+fn print_row(name: &str, count: &str, times: Times) {
     let [bytes, words, library] = times.medians();
     let (to_bytes, to_words) = (library / bytes, library / words);
     println!(
-        "  {name:<28}{steps:>8}{bytes:>11.1} µs{words:>11.1} µs{library:>11.1} µs{to_bytes:>10.2}{to_words:>10.2}"
+        "  {name:<28}{count:>8}{bytes:>11.1} µs{words:>11.1} µs{library:>11.1} µs{to_bytes:>10.2}{to_words:>10.2}"
     );
 }

@@ -40,6 +40,17 @@ static int shows(const char *contents)
     return qbx_answer_of(result) != QBX_DONE || length != strlen(contents) || memcmp(found, contents, length) != 0;
 }
 
+/* Prints the account of the image; returns 0 if this is its last line. */
+static int account(const char *last)
+{
+    static uint8_t text[512]; /* qbx_account_length(SEGMENTS, SLOTS) is less */
+    uint64_t result = qbx_account(image, sizeof image, SEGMENTS, SLOTS, text, sizeof text);
+    size_t length = qbx_text_length_of(result), whole = strlen(last);
+
+    printf("the account:\n%.*s", (int)length, (const char *)text);
+    return qbx_answer_of(result) != QBX_DONE || length < whole || memcmp(text + length - whole, last, whole) != 0;
+}
+
 /* Says what the blank test tells of the last segment; returns 0 if that is what was expected. */
 static int blank(int all, uint64_t groups)
 {
@@ -68,6 +79,7 @@ int main(void)
     wrong += told("put", put("A", unlimited), QBX_DONE, 6);
     wrong += told("put again", put("B", unlimited), QBX_DONE, 7);
     wrong += told("put, cut after 28 steps", put("C", 28), QBX_CUT, 28);
+    wrong += account("recover 0 steps 3\n");
     wrong += told("recover", qbx_recover(image, sizeof image, SEGMENTS, SLOTS, unlimited), QBX_DONE, 3);
     wrong += shows("B");
     wrong += told("put", put("C", unlimited), QBX_DONE, 7);

@@ -2,7 +2,8 @@ use core::error::Error;
 use core::fmt;
 
 /// What a request answers. The numbers are those of document 01, "What comes back", and of the later
-/// requests. Where several apply, the store gives the smallest; but 11 comes right after 5.
+/// requests. Where several apply, the store gives the smallest; but 11 comes right after 5. 14 is for
+/// the account alone.
 #[derive(Clone, Copy, Debug, PartialEq, Eq, PartialOrd, Ord, Hash)]
 #[repr(u8)]
 pub enum Answer {
@@ -34,14 +35,16 @@ pub enum Answer {
     Cut = 9,
     /// 11: a put on an image of version 1. It can be read, deleted from and recovered, but not put
     /// to. To go on writing, read its records out, by a [`read`](crate::Geometry::read) of each
-    /// number from 1 to 65,534, format, which makes version 2, and put them again; a format alone
-    /// loses them. Only a record of 0 bytes cannot be put again.
+    /// block that its [account](crate::Geometry::account_into) lists, format, which makes version 2,
+    /// and put them again; a format alone loses them. Only a record of 0 bytes cannot be put again.
     FormerVersion = 11,
+    /// 14: the buffer is too short for the text of an account. It is untouched, and the length is 0.
+    ShortBuffer = 14,
 }
 
 impl Answer {
     /// All answers by rising number.
-    pub const ALL: [Answer; 11] = [
+    pub const ALL: [Answer; 12] = [
         Answer::Done,
         Answer::Size,
         Answer::Number,
@@ -53,6 +56,7 @@ impl Answer {
         Answer::Worn,
         Answer::Cut,
         Answer::FormerVersion,
+        Answer::ShortBuffer,
     ];
 
     /// The number of the answer.
@@ -76,7 +80,8 @@ impl Answer {
         Answer::ALL.into_iter().find(|a| a.number() == number)
     }
 
-    /// Whether this is a refusal, 1 to 8 or 11. A refused request has changed no byte of the image.
+    /// Whether this is a refusal, 1 to 8, 11 or 14. A refused request has changed no byte, of the image
+    /// or of a buffer lent for text.
     pub const fn is_refusal(self) -> bool {
         !matches!(self, Answer::Done | Answer::Cut)
     }
@@ -96,6 +101,7 @@ impl fmt::Display for Answer {
             Answer::Worn => "chip worn out",
             Answer::Cut => "step budget spent",
             Answer::FormerVersion => "image of a former version: no puts",
+            Answer::ShortBuffer => "buffer too short for the text",
         })
     }
 }
@@ -111,17 +117,17 @@ mod tests {
         for number in 0..=u8::MAX {
             match Answer::from_number(number) {
                 Some(answer) => assert_eq!(answer.number(), number),
-                None => assert!(number == 10 || number > 11),
+                None => assert!(matches!(number, 10 | 12 | 13) || number > 14),
             }
         }
         let numbers = Answer::ALL.map(Answer::number);
-        assert_eq!(numbers, [0, 1, 2, 3, 4, 5, 6, 7, 8, 9, 11]);
+        assert_eq!(numbers, [0, 1, 2, 3, 4, 5, 6, 7, 8, 9, 11, 14]);
     }
 
     #[test]
-    fn refusals_are_one_to_eight_and_eleven() {
+    fn refusals_are_one_to_eight_eleven_and_fourteen() {
         for answer in Answer::ALL {
-            let refusal = matches!(answer.number(), 1..=8 | 11);
+            let refusal = matches!(answer.number(), 1..=8 | 11 | 14);
             assert_eq!(answer.is_refusal(), refusal);
         }
     }

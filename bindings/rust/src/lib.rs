@@ -6,11 +6,15 @@
 //! acknowledged requests made, with the interrupted request wholly done or not begun.
 //!
 //! This crate is a thin, safe layer over the proved static library: it adds types, and takes
-//! nothing away. It holds no state, allocates nothing and has no dependency.
+//! nothing away. It holds no state and has no dependency. Only `Geometry::account` allocates, the
+//! text that it gives back; without the feature `alloc`, which is a default one, the crate lacks it
+//! and wants no allocator.
 //!
 //! - [`Geometry`] is the shape of the chip, and its methods are the requests:
 //!   [`format`](Geometry::format), [`put`](Geometry::put), [`delete`](Geometry::delete),
 //!   [`recover`](Geometry::recover), [`read`](Geometry::read) and [`read_or`](Geometry::read_or).
+//! - [`Geometry::account_into`] says what an image holds, for paper, as text in a buffer that is
+//!   lent; `Geometry::account` gives the same as a string.
 //! - [`Answer`] is what comes back, with the numbers of document 01.
 //! - [`Outcome`] has the count of flash steps done, and [`Read`] the contents, borrowed from the
 //!   image.
@@ -55,12 +59,17 @@
 #![no_std]
 #![warn(missing_docs)]
 
+#[cfg(feature = "alloc")]
+extern crate alloc;
+
+mod account;
 mod answer;
 mod blank;
 mod geometry;
 mod request;
 mod sys;
 
+pub use account::Account;
 pub use answer::Answer;
 pub use blank::{blank_test, BlankTest};
 pub use geometry::{Geometry, MAX_CONTENTS, PAGE};

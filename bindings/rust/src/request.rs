@@ -85,9 +85,9 @@ impl<'a> Read<'a> {
 }
 
 /// The answer in the lowest byte of what the library returns.
-fn unpack_answer(packed: u64) -> Answer {
+pub(crate) fn unpack_answer(packed: u64) -> Answer {
     // The library is proved to answer these; another number means a library of another version.
-    Answer::from_number((packed & 0xFF) as u8).expect("an answer from 0 to 9, or 11")
+    Answer::from_number((packed & 0xFF) as u8).expect("an answer from 0 to 9, 11 or 14")
 }
 
 /// The requests. Each works on an image that the caller lends for the call; the store keeps nothing

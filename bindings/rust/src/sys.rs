@@ -54,6 +54,16 @@ extern "C" {
         block: u16,
     ) -> u64;
 
+    /// Answer + 256 × length of the text.
+    pub fn qbx_account(
+        image: *const u8,
+        image_len: usize,
+        segments: usize,
+        slots: usize,
+        text: *mut u8,
+        text_len: usize,
+    ) -> u64;
+
     /// 1 if every byte is 255, otherwise 0; + 256 × groups of eight looked at.
     pub fn qbx_is_blank(bytes: *const u8, bytes_len: usize) -> u64;
 }

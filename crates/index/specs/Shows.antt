@@ -1,5 +1,5 @@
 -- A segment as it is shown, and its line.
-use Prim.Native.Nat.{ℕ, suc, _+_}
+use Prim.Native.Nat.{ℕ, suc, _+_, _≤_}
 use mathlib.Core.Path.{_≡_, refl}
 use mathlib.Core.Bool.{cond}
 use mathlib.Core.List.{List, [], _∷_, _++_}
@@ -72,3 +72,23 @@ shownLine i x = lineBy (x .state) i (x .number .0) (x .counts)
 unfoldable pub shownLines : ℕ → List Shown → List ℕ
 shownLines i [] = []
 shownLines i (x ∷ l) = shownLine i x ++ shownLines (suc i) l
+
+-- one more than its number, or 0 if it is not in use
+unfoldable pub afterBy : SegmentState → ℕ → ℕ
+afterBy Blank n = 0
+afterBy Invalid n = 0
+afterBy InUse n = suc n
+afterBy Owing n = suc n
+
+unfoldable pub afterShown : Shown → ℕ
+afterShown x = afterBy (x .state) (x .number .0)
+
+-- with its slots counted
+unfoldable pub counted : Counts → Shown → Shown
+counted c x = record { number = x .number; counts = c; state = x .state }
+
+-- counts of at most i slots
+pub record Few (c : Counts) (i : ℕ) : Type 0 where
+  pub live : c .live ≤ i
+  pub dead : c .dead ≤ i
+  pub empty : c .empty ≤ i

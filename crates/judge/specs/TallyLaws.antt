@@ -55,7 +55,7 @@ or-true : (t : Bool) → (t || true) ≡ true
 or-true true = refl
 or-true false = refl
 
-agree-put : (s : List ℕ) (p : List Entry) (e : Entry) → e .block < 65536 → Agree s p → Agree (putBit 64 s (e .block)) (p ++ (e ∷ []))
+pub agree-put : (s : List ℕ) (p : List Entry) (e : Entry) → e .block < 65536 → Agree s p → Agree (putBit 64 s (e .block)) (p ++ (e ∷ []))
 unfolding putBit
 agree-put s p e h a = record {
   long = length-set s _ _ ∙ a .long;
@@ -65,7 +65,7 @@ agree-put s p e h a = record {
   ];
 }
 
-agree-same : {s : List ℕ} {p : List Entry} → Agree s p → Agree s (p ++ [])
+pub agree-same : {s : List ℕ} {p : List Entry} → Agree s p → Agree s (p ++ [])
 agree-same {s} {p} a = rw (append-nil p) a
 
 -- ---- one row

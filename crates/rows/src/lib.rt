@@ -19,7 +19,7 @@ fn wide(x: u16) -> usize
 }
 
 // Puts a block number into the set of those met, one bit for each. Whether it was there.
-fn meet(seen: &mut [u64; 1024], block: BlockNumber) -> bool
+pub fn meet(seen: &mut [u64; 1024], block: BlockNumber) -> bool
     ensures { λ r. ⌜ (r ≡ inBits 64 (now (seen .entry)) (block .0)) × (now (seen .exit) ≡ putBit 64 (now (seen .entry)) (block .0)) ⌝ }
 {
     let x = block.0;

@@ -45,7 +45,7 @@ narrow-slots : (s : Image) (o c : ℕ) → Narrow (slotsAt s o c)
 unfolding slotsAt
 narrow-slots s o c = narrow-pages (chunk c 256 (drop o s))
 
-narrow-rows : (s : Image) (N B u n : ℕ) → NarrowRows (rowsOn s N B u n)
+pub narrow-rows : (s : Image) (N B u n : ℕ) → NarrowRows (rowsOn s N B u n)
 unfolding rowsOn
 narrow-rows s N B zero n = tt
 narrow-rows s N B (suc u) n = (narrow-slots s (slotsOffset B (n % N)) B, narrow-rows s N B u (suc n))

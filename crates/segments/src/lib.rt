@@ -50,7 +50,7 @@ fn state_seen(status: u8) -> SegmentState
 }
 
 // The segment at an index, by its header; one that is not in use is tested for blank as a whole.
-fn see_segment(image: &[u8], segments: usize, slots: usize, index: usize) -> Summary
+pub fn see_segment(image: &[u8], segments: usize, slots: usize, index: usize) -> Summary
     requires { ⌜ Sized segments slots (length (now image)) × (index < segments) ⌝ }
     ensures { λ r. ⌜ bare r ≡ outline (getD (segmentsOf segments slots (now (image .entry))) index blank) ⌝ }
 {
@@ -74,7 +74,7 @@ fn see_segment(image: &[u8], segments: usize, slots: usize, index: usize) -> Sum
 }
 
 // One more than the number of a segment in use, or 0.
-fn number_after(s: Summary) -> usize
+pub fn number_after(s: Summary) -> usize
     ensures { λ r. ⌜ (r ≡ numberAfter (bare s)) × (r ≤ 4294967296) ⌝ }
 {
     let state = s.state;
@@ -99,7 +99,7 @@ fn is_in_use(s: Summary) -> bool
     }
 }
 
-fn is_invalid(s: Summary) -> bool
+pub fn is_invalid(s: Summary) -> bool
     ensures { λ r. ⌜ r ≡ isInvalid (bare s) ⌝ }
 {
     let state = s.state;
@@ -111,7 +111,7 @@ fn is_invalid(s: Summary) -> bool
     }
 }
 
-fn is_owing(s: Summary) -> bool
+pub fn is_owing(s: Summary) -> bool
     ensures { λ r. ⌜ r ≡ isOwing (bare s) ⌝ }
 {
     let state = s.state;
@@ -156,7 +156,7 @@ fn is_settled(s: Summary) -> bool
     !is_invalid(s)
 }
 
-fn larger(a: usize, b: usize) -> usize
+pub fn larger(a: usize, b: usize) -> usize
     ensures { λ r. ⌜ r ≡ max a b ⌝ }
 {
     if a < b { b } else { a }
@@ -169,7 +169,7 @@ pub fn less(a: usize, b: usize) -> usize
 }
 
 // Before the first segment.
-fn none_counted() -> HeaderCounts
+pub fn none_counted() -> HeaderCounts
     ensures { λ r. ⌜ r ≡ noCounts ⌝ }
 {
     HeaderCounts {
@@ -182,7 +182,7 @@ fn none_counted() -> HeaderCounts
 }
 
 // One segment more.
-fn count_one(counts: HeaderCounts, s: Summary) -> HeaderCounts
+pub fn count_one(counts: HeaderCounts, s: Summary) -> HeaderCounts
     requires { ⌜ (counts .used < mostSegments) × (counts .next ≤ 4294967296) ⌝ }
     ensures { λ r. ⌜ (r ≡ countOne counts (bare s)) × (r .used ≤ counts .used + 1) × (r .next ≤ 4294967296) ⌝ }
 {

@@ -32,7 +32,7 @@ pub fn add(text: &mut [u8], at: usize, bytes: &[u8]) -> usize
 }
 
 // How many digits a number has.
-fn digit_count(n: u32) -> usize
+pub fn digit_count(n: u32) -> usize
     ensures { λ r. ⌜ (r ≡ length (decimal n)) × (r ≤ 10) ⌝ }
 {
     let mut count = 1;

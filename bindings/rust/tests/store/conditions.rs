@@ -35,8 +35,18 @@ fn is_live(kind: &Kind) -> bool {
     matches!(kind, Kind::Live { .. })
 }
 
-/// "Clean".
+/// The place, from 1, of the first condition of "Clean" that fails.
+pub fn first_failing(image: &[u8], g: Geometry) -> Option<usize> {
+    let holds = conditions(image, g);
+    holds.iter().position(|holds| !holds).map(|i| i + 1)
+}
+
 fn is_clean(image: &[u8], g: Geometry) -> bool {
+    first_failing(image, g).is_none()
+}
+
+/// "Clean", a condition after the other.
+fn conditions(image: &[u8], g: Geometry) -> [bool; 8] {
     let used = in_use(image, g);
     let slots: Vec<Vec<Kind>> = used.iter().map(|s| kinds(image, g, s.number)).collect();
     let all: Vec<Kind> = slots.concat();
@@ -51,7 +61,7 @@ fn is_clean(image: &[u8], g: Geometry) -> bool {
         let filled = kinds.iter().filter(|&&k| k != Kind::Empty).count();
         kinds[filled..].iter().all(|&k| k == Kind::Empty)
     };
-    let conditions = [
+    [
         !used.is_empty() && used.len() < g.n,
         // consecutive, and of one version
         used.windows(2)
@@ -67,8 +77,7 @@ fn is_clean(image: &[u8], g: Geometry) -> bool {
                 .skip(1)
                 .all(|s| !s.contains(&Kind::Empty)),
         all.iter().filter(|kind| is_live(kind)).count() <= g.capacity(),
-    ];
-    conditions.into_iter().all(|holds| holds)
+    ]
 }
 
 /// The image with one exception mended, for each of (a) to (d) that the image has.

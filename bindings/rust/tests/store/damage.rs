@@ -32,6 +32,7 @@ pub fn try_all(store: &Store, rng: &mut Rng, image: &[u8], g: Geometry) {
     }
     store.read(image, g, block);
     store.read(image, g, found);
+    store.account(image, g);
 }
 
 /// How often each state came up.

@@ -6,7 +6,8 @@
 //! of all requests. So each test is a property of the reference without the library, and a
 //! comparison with it.
 
-use crate::reference::{self, Geometry, ReadReply, Reply, Request, CUT, DONE};
+use crate::account;
+use crate::reference::{self, Geometry, ReadReply, Reply, Request, CUT, DAMAGED, DONE, SIZE};
 use std::cell::Cell;
 use std::io::Write;
 
@@ -80,6 +81,28 @@ impl Store {
         reply
     }
 
+    /// The account of request #101. Its last line is held to what recovery does.
+    pub fn account(&self, image: &[u8], g: Geometry) -> String {
+        self.count();
+        let text = account::account(image, g);
+        let last = text.lines().last().expect("a line at least");
+        let recovery = Request::Recover;
+        match reference::perform(&mut image.to_vec(), g, &recovery, reference::UNLIMITED) {
+            Reply { code: DONE, steps } => assert_eq!(last, format!("recover 0 steps {steps}")),
+            Reply { code: SIZE, .. } => assert_eq!(text, "fails 0\n"),
+            Reply { code, .. } => {
+                assert_eq!(code, DAMAGED);
+                assert!(last.starts_with("fails ") && last != "fails 0");
+            }
+        }
+        #[cfg(qbx_lib)]
+        {
+            let whole = text.len();
+            library::compare_account(image, g, &text, &[whole, whole - 1, 0, whole + 100]);
+        }
+        text
+    }
+
     /// A request that has to be done whole. Its steps.
     pub fn done(&self, image: &mut [u8], g: Geometry, request: &Request) -> u64 {
         let reply = self.perform(image, g, request, reference::UNLIMITED);
@@ -108,7 +131,8 @@ impl Drop for Store {
 }
 
 #[cfg(qbx_lib)]
-mod library {
+pub mod library {
+    use crate::account;
     use crate::reference::{self, ReadReply, Reply};
     use qanbillox::{Block, Geometry, Request};
 
@@ -179,5 +203,34 @@ mod library {
         let (code, expected) = reference::read_or(image, g, block, factory);
         assert_eq!(answer.number(), code);
         assert_eq!(piece.as_ptr_range(), expected.as_ptr_range());
+    }
+
+    /// Runs both forms of the account on the library, and compares: that into a buffer with buffers
+    /// of these lengths, every byte of them. The image lent is a copy, which must stay as it was.
+    pub fn compare_account(image: &[u8], g: reference::Geometry, text: &str, lengths: &[usize]) {
+        let lent = image.to_vec();
+        for &length in lengths {
+            // A pattern, so that a byte out of its place shows too.
+            let mut buffer: Vec<u8> = (0..length).map(|i| (i * 7 + 131) as u8).collect();
+            let mut expected = buffer.clone();
+            let reply = account::lend(text, &mut expected);
+            let told = geometry(g).account_into(&lent, &mut buffer);
+            assert_eq!(
+                (told.answer.number(), told.length),
+                reply,
+                "left the library, right the reference: account in {length} bytes, {g:?}:\n{text}"
+            );
+            if buffer != expected {
+                let differs = |&at: &usize| buffer[at] != expected[at];
+                let at = (0..length).find(differs).expect("equal lengths");
+                let shown = String::from_utf8_lossy(&buffer);
+                panic!(
+                    "byte {at} of a buffer of {length}, {g:?}: the library has\n{shown}\nthe \
+                     reference\n{text}"
+                );
+            }
+        }
+        assert!(geometry(g).account(&lent) == text);
+        assert!(lent == image, "the account writes to the image");
     }
 }

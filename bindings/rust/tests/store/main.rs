@@ -1,6 +1,10 @@
 //! Document 01 tried on the reference implementation and, if it is linked, on the library.
 #![cfg_attr(not(qbx_lib), allow(dead_code))]
 
+mod account;
+mod account_cuts;
+mod account_images;
+mod account_samples;
 mod blank_test;
 mod conditions;
 mod cuts;

@@ -14,7 +14,7 @@ use crate::reference::*;
 use crate::sequences::table_of;
 use crate::step_lists::every_allowance;
 
-const VERSIONS: [Version; 2] = [Version::One, Version::Two];
+pub const VERSIONS: [Version; 2] = [Version::One, Version::Two];
 
 const CHIPS: [Geometry; 5] = [
     Geometry { n: 3, b: 2 },
@@ -33,7 +33,7 @@ fn count(rng: &mut Rng, image: &mut [u8], g: Geometry, number: u32) {
 }
 
 /// A full ring of this version up to this number.
-fn ring(rng: &mut Rng, g: Geometry, top: u32, version: Version) -> Vec<u8> {
+pub fn ring(rng: &mut Rng, g: Geometry, top: u32, version: Version) -> Vec<u8> {
     let mut image = full_ring(g, top);
     for number in top + 2 - g.n as u32..=top {
         set_version(&mut image, g, number, version);
@@ -120,9 +120,12 @@ fn one_of_many() {
     }
 }
 
+/// How many kinds of things [`fill_after`] has.
+pub const AFTER_KINDS: usize = 7;
+
 /// What may be in the segment after an owing top: nothing, or a segment in use of either version
 /// with its slots, half erased or whole.
-fn fill_after(rng: &mut Rng, image: &mut [u8], g: Geometry, top: u32, kind: usize) {
+pub fn fill_after(rng: &mut Rng, image: &mut [u8], g: Geometry, top: u32, kind: usize) {
     let after = g.index(top + 1);
     let at = g.page(after, 0);
     Step::Erase { index: after }.apply(g, image);
@@ -167,12 +170,12 @@ fn the_one_after_an_owing_top_is_left_aside() {
     for g in CHIPS.into_iter().chain([Geometry { n: 2, b: 2 }]) {
         let rounds = if g.n == 255 { 2 } else { 30 };
         for version in VERSIONS {
-            for round in 0..7 * rounds {
+            for round in 0..AFTER_KINDS * rounds {
                 let top = 4 * g.n as u32 + rng.below(g.n) as u32;
                 let mut image = ring(&mut rng, g, top, version);
                 let table = table_of(&image, g);
                 owe(&mut image, g, top);
-                fill_after(&mut rng, &mut image, g, top, round % 7);
+                fill_after(&mut rng, &mut image, g, top, round % AFTER_KINDS);
                 assert_eq!(by_the_reference(&image, g), 'b');
                 let put = put_of(2, b"y");
                 let reply = store.perform(&mut image.clone(), g, &put, UNLIMITED);

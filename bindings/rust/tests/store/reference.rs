@@ -30,6 +30,8 @@ pub const WORN: u8 = 8;
 pub const CUT: u8 = 9;
 /// Request #104: a put on an image of version 1, checked after 5.
 pub const FORMER_VERSION: u8 = 11;
+/// Request #101: a lent buffer is too short for the text.
+pub const SHORT_BUFFER: u8 = 14;
 
 // Status bytes of a header page
 pub const OPENING: u8 = 0x7F;

@@ -67,7 +67,7 @@ module _ (N B : ℕ) (s : Image) (z : rightSize N B s ≡ true) where
 
   -- ---- (a) and (b) have a top
 
-  some-a : state N B s ≡ unfinished caseA → 0 < nextNumber l
+  pub some-a : state N B s ≡ unfinished caseA → 0 < nextNumber l
   unfolding isA nextBlanked
   some-a e =
       let x = getD l (nextIndex N l) blank in
@@ -76,7 +76,7 @@ module _ (N B : ℕ) (s : Image) (z : rightSize N B s ≡ true) where
       let r = clean-ring N B m (length-set l (nextIndex N l) blank ∙ segments-length N B s) (and-right (isInvalid x) (isClean N B m) a) in
       omega (arith, next-kept l (nextIndex N l) blank (unnumbered x (and-left (isInvalid x) (isClean N B m) a)), r .some, used-next N m r)
 
-  some-b : state N B s ≡ unfinished caseB → 0 < nextNumber l
+  pub some-b : state N B s ≡ unfinished caseB → 0 < nextNumber l
   unfolding isB
   some-b e =
       let x = getD l (topIndex N l) blank in
@@ -84,7 +84,7 @@ module _ (N B : ℕ) (s : Image) (z : rightSize N B s ≡ true) where
 
   -- ---- the steps of a recovery that erases
 
-  erasing-next : (top : ℕ) → top ≡ nextNumber l - 1 → 0 < nextNumber l → eraseNext N B l ≡ erasing N B top s
+  pub erasing-next : (top : ℕ) → top ≡ nextNumber l - 1 → 0 < nextNumber l → eraseNext N B l ≡ erasing N B top s
   unfolding eraseNext erasing counting nextIndex
   erasing-next top is some =
       let e : (top + 1) % N ≡ nextNumber l % N = ap (λ (y : ℕ). y % N) (omega arith) in

@@ -35,7 +35,7 @@ counted c l = record {
   «all_version_2» = c .«all_version_2» && all (λ x. ofVersion 2 x) l;
 }
 
-counted-cons : (c : HeaderCounts) (x : Segment) (l : List Segment) → counted c (x ∷ l) ≡ counted (countOne c x) l
+pub counted-cons : (c : HeaderCounts) (x : Segment) (l : List Segment) → counted c (x ∷ l) ≡ counted (countOne c x) l
 unfolding counted countOne nextNumber usedCount count allSettled noneOwing othersBlank all
 counted-cons c x l =
     let n : max (c .next) (max (numberAfter x) (nextNumber l)) ≡ max (max (c .next) (numberAfter x)) (nextNumber l) = omega arith in

@@ -1,0 +1,118 @@
+-- The live slots that an account has lines for stand in the image, each on a page of its own.
+use Prim.Native.Nat.{ℕ, zero, suc, _+_, _-_, _*_, _%_, _≤_, _<_}
+use mathlib.Core.Path.{_≡_, refl, sym, ap, _∙_, subst}
+use mathlib.Core.Logic.{_≢_}
+use mathlib.Core.Bool.{Bool, true, false, cond, false≢true}
+use mathlib.Core.List.{List, [], _∷_, _++_, map}
+use native.Mathlib.Omega.{arith}
+use native.Mathlib.Decide.{ℕ-discrete, decLt}
+use native.Mathlib.Nat.{suc-mul, mul-le-mul-right, mod-lt}
+use lib.ListN.{length, getD, set, take, drop, length-append, length-set}
+use lib.Seq.{getD-set-same, getD-set-other, set-out, drop-drop, getD-take, getD-drop}
+use Rattle.model.specs.Lists.{chunk, count}
+use Rattle.model.specs.Chip.{Image, Page, mostSegments, mostSlots}
+use Rattle.model.specs.Slot.{Slot, empty, torn, dead, wrong, live, slotPage, slotOf, Entry, entryOf}
+use Rattle.model.specs.State.{Segment, blank, invalid, inUse, isInUse, slotsIn, topIndex, topSlots, nextNumber, usedCount}
+use Rattle.model.specs.Laws.SlotPage.{live-facts, number-below}
+use Rattle.judge.specs.Rows.{slotsAt}
+use Rattle.judge.specs.Parts.{slotsOffset}
+use Rattle.account_text.specs.Account.{LiveSlot, liveAt, liveFrom, liveIn, liveSlots}
+use Rattle.index.specs.Tables.{mostPages, pageOf, Stands, AllStand}
+use Rattle.index.specs.Chains.{Free, AllApart}
+
+-- ---- lists of live slots
+
+-- each of them has a property
+abbrev pub Each : (LiveSlot → Type 0) → List LiveSlot → Type 0
+Each P [] = Unit {0}
+Each P (e ∷ r) = P e × Each P r
+
+pub each-join : (P : LiveSlot → Type 0) (x y : List LiveSlot) → Each P x → Each P y → Each P (x ++ y)
+each-join P [] y h k = k
+each-join P (e ∷ x) y h k = (h .0, each-join P x y (h .1) k)
+
+pub each-more : (P Q : LiveSlot → Type 0) → ((e : LiveSlot) → P e → Q e) → (r : List LiveSlot) → Each P r → Each Q r
+each-more P Q f [] h = h
+each-more P Q f (e ∷ r) h = (f e (h .0), each-more P Q f r (h .1))
+
+pub all-stand : (N B : ℕ) (s : Image) (r : List LiveSlot) → Each (λ e. Stands N B s e) r → AllStand N B s r
+all-stand N B s [] h = h
+all-stand N B s (e ∷ r) h = (h .0, all-stand N B s r (h .1))
+
+pub free-each : (B q : ℕ) (r : List LiveSlot) → Each (λ e. pageOf B e ≢ q) r → Free B q r
+free-each B q [] h = h
+free-each B q (e ∷ r) h = (h .0, free-each B q r (h .1))
+
+free-join : (B q : ℕ) (x y : List LiveSlot) → Free B q x → Free B q y → Free B q (x ++ y)
+free-join B q [] y h k = k
+free-join B q (e ∷ x) y h k = (h .0, free-join B q x y (h .1) k)
+
+pub apart-join : (B : ℕ) (x y : List LiveSlot) → AllApart B x → AllApart B y → Each (λ e. Free B (pageOf B e) y) x → AllApart B (x ++ y)
+apart-join B [] y h k c = k
+apart-join B (e ∷ x) y h k c = (free-join B (pageOf B e) x y (h .0) (c .0), apart-join B x y (h .1) k (c .1))
+
+-- ---- the live slots of one segment
+
+-- those of segment i have its index and stand from place j on
+abbrev pub From : ℕ → ℕ → LiveSlot → Type 0
+From i j e = (e .segment ≡ i) × (j ≤ e .slot)
+
+pub from-all : (i j : ℕ) (ks : List Slot) → Each (λ e. From i j e) (liveFrom i j ks)
+unfolding liveFrom liveAt entryOf map
+from-all i j [] = tt
+from-all i j (empty ∷ ks) = each-more (λ e. From i (suc j) e) (λ e. From i j e) (λ e h. (h .0, omega (arith, h .1))) (liveFrom i (suc j) ks) (from-all i (suc j) ks)
+from-all i j (torn ∷ ks) = each-more (λ e. From i (suc j) e) (λ e. From i j e) (λ e h. (h .0, omega (arith, h .1))) (liveFrom i (suc j) ks) (from-all i (suc j) ks)
+from-all i j (dead ∷ ks) = each-more (λ e. From i (suc j) e) (λ e. From i j e) (λ e h. (h .0, omega (arith, h .1))) (liveFrom i (suc j) ks) (from-all i (suc j) ks)
+from-all i j (wrong ∷ ks) = each-more (λ e. From i (suc j) e) (λ e. From i j e) (λ e h. (h .0, omega (arith, h .1))) (liveFrom i (suc j) ks) (from-all i (suc j) ks)
+from-all i j (live b c ∷ ks) = ((refl, omega arith), each-more (λ e. From i (suc j) e) (λ e. From i j e) (λ e h. (h .0, omega (arith, h .1))) (liveFrom i (suc j) ks) (from-all i (suc j) ks))
+
+pub apart-from : (B i j : ℕ) (ks : List Slot) → AllApart B (liveFrom i j ks)
+unfolding liveFrom liveAt entryOf map pageOf
+apart-from B i j [] = tt
+apart-from B i j (empty ∷ ks) = apart-from B i (suc j) ks
+apart-from B i j (torn ∷ ks) = apart-from B i (suc j) ks
+apart-from B i j (dead ∷ ks) = apart-from B i (suc j) ks
+apart-from B i j (wrong ∷ ks) = apart-from B i (suc j) ks
+apart-from B i j (live b c ∷ ks) =
+    (free-each B (i * (B + 1) + j) (liveFrom i (suc j) ks) (each-more (λ e. From i (suc j) e) (λ e. pageOf B e ≢ i * (B + 1) + j) (λ e h z. omega (arith, ap (λ (k : ℕ). k * (B + 1)) (h .0), h .1, z)) (liveFrom i (suc j) ks) (from-all i (suc j) ks)), apart-from B i (suc j) ks)
+
+pub from-few : (i j : ℕ) (ks : List Slot) → length (liveFrom i j ks) ≤ length ks
+unfolding liveFrom liveAt entryOf map
+from-few i j [] = omega arith
+from-few i j (empty ∷ ks) = let h = from-few i (suc j) ks in omega arith
+from-few i j (torn ∷ ks) = let h = from-few i (suc j) ks in omega arith
+from-few i j (dead ∷ ks) = let h = from-few i (suc j) ks in omega arith
+from-few i j (wrong ∷ ks) = let h = from-few i (suc j) ks in omega arith
+from-few i j (live b c ∷ ks) = let h = from-few i (suc j) ks in omega arith
+
+-- a live slot of a page of the image
+live-stands : (N B i j : ℕ) (s : Image) (b : ℕ) (c : List ℕ) → i < N → 1 ≤ j → j ≤ B → slotOf (take 256 (drop ((i * (B + 1) + j) * 256) s)) ≡ live b c
+    → Stands N B s (record { block = b; length = length c; segment = i; slot = j })
+unfolding pageOf
+live-stands N B i j s b c h l m e =
+    let o = (i * (B + 1) + j) * 256 in
+    let f = live-facts (take 256 (drop o s)) b c e in
+    let n = number-below b (f .number) in
+    let x : getD (take 256 (drop o s)) 1 0 ≡ length c = ap (λ (y : Page). getD y 1 0) (f .page) ∙ (unfold slotPage in refl) in
+    record { block = omega arith; segment = h; first = l; slot = m; length = sym (getD-take 256 (drop o s) 1 0 (omega arith) ∙ getD-drop o s 1 0) ∙ x }
+
+pub slots-next : (s : Image) (o c : ℕ) → slotsAt s o (suc c) ≡ slotOf (take 256 (drop o s)) ∷ slotsAt s (o + 256) c
+unfolding slotsAt chunk
+slots-next s o c = rw (drop-drop 256 o s)
+
+pub row-stands : (N B i : ℕ) (s : Image) → i < N → (c j : ℕ) → 1 ≤ j → j + c ≤ B + 1 → Each (λ e. Stands N B s e) (liveFrom i j (slotsAt s ((i * (B + 1) + j) * 256) c))
+row-stands N B i s h zero j l m = unfold slotsAt chunk map liveFrom in tt
+row-stands N B i s h (suc c) j l m =
+    let o = (i * (B + 1) + j) * 256 in
+    let e : o + 256 ≡ (i * (B + 1) + suc j) * 256 = omega arith in
+    let ih : Each (λ x. Stands N B s x) (liveFrom i (suc j) (slotsAt s (o + 256) c)) =
+    subst (λ (k : ℕ). Each (λ x. Stands N B s x) (liveFrom i (suc j) (slotsAt s k c))) (sym e) (row-stands N B i s h c (suc j) (omega arith) (omega arith)) in
+    subst (λ (ks : List Slot). Each (λ x. Stands N B s x) (liveFrom i j ks)) (sym (slots-next s o c)) (go (slotOf (take 256 (drop o s))) refl ih)
+  where
+    go : (k : Slot) → slotOf (take 256 (drop ((i * (B + 1) + j) * 256) s)) ≡ k → Each (λ x. Stands N B s x) (liveFrom i (suc j) (slotsAt s ((i * (B + 1) + j) * 256 + 256) c))
+        → Each (λ x. Stands N B s x) (liveFrom i j (k ∷ slotsAt s ((i * (B + 1) + j) * 256 + 256) c))
+    go empty q k = unfold liveFrom liveAt entryOf map in k
+    go torn q k = unfold liveFrom liveAt entryOf map in k
+    go dead q k = unfold liveFrom liveAt entryOf map in k
+    go wrong q k = unfold liveFrom liveAt entryOf map in k
+    go (live b d) q k = unfold liveFrom liveAt entryOf map in (live-stands N B i j s b d h l (omega arith) q, k)

@@ -1,0 +1,75 @@
+-- `listing::slots::list_slot`, by the kind of the slot. Assumes nothing.
+use mathlib.Core.Path.{refl, ap, _∙_, sym}
+use Rattle.index.specs.Shows.{countKind}
+use Rattle.index.specs.Tables.{linkKind}
+use borrow.Author.Needs.{needs}
+use Rattle.listing.proofs.slots.list_slot.Statement.{statement}
+use Rattle.listing.proofs.slots.list_slot.Tie as tie
+
+enum-told : tie.Need-enum-told
+enum-told c = search needs
+
+add-t8 : tie.Need-add-t8
+add-t8 c = search needs
+
+enum-told-2 : tie.Need-enum-told-2
+enum-told-2 c = search needs
+
+enum-known-kind : tie.Need-enum-known-kind
+enum-known-kind c = search needs
+
+link-requires : tie.Need-link-requires
+link-requires c κs = search needs
+
+add-t12 : tie.Need-add-t12
+add-t12 c = search needs
+
+enum-told-3 : tie.Need-enum-told-3
+enum-told-3 c = search needs
+
+add-t13 : tie.Need-add-t13
+add-t13 c = search needs
+
+enum-told-4 : tie.Need-enum-told-4
+enum-told-4 c = search needs
+
+returns : tie.Need-returns
+unfolding countKind linkKind
+returns c = rw (c .before .enum-told .given .1) (refl, refl)
+
+returns-2 : tie.Need-returns-2
+unfolding countKind linkKind
+returns-2 c = rw (c .enum-told2 .given .1) (refl, refl)
+
+returns-3 : tie.Need-returns-3
+unfolding countKind linkKind
+returns-3 c =
+    let k = c .before .before .before .before in
+    rw (k .before .kind .given .1) (refl, c .before .link .ensures)
+
+returns-4 : tie.Need-returns-4
+unfolding countKind linkKind
+returns-4 c = rw (c .before .enum-told3 .given .1) (refl, refl)
+
+returns-5 : tie.Need-returns-5
+unfolding countKind linkKind
+returns-5 c = rw (c .enum-told4 .given .1) (refl, refl)
+
+pub list-slot-spec : {M : Type 1} → statement M
+list-slot-spec =
+    tie.close
+    (tie.spec
+    enum-told
+    add-t8
+    enum-told-2
+    enum-known-kind
+    link-requires
+    add-t12
+    enum-told-3
+    add-t13
+    enum-told-4
+    returns
+    returns-2
+    returns-3
+    returns-4
+    returns-5)

@@ -1,0 +1,90 @@
+// The slots of one segment, the last one first: counted, and the live ones put before those of their block.
+use index::Counts;
+use model::BlockNumber;
+use model::SlotKind;
+ghost use mathlib.Core.Path.{_≡_};
+ghost use Prim.Native.Nat.{_+_, _*_, _<_, _≤_};
+ghost use lib.ListN.{length};
+ghost use Rattle.model.specs.Chip.{mostSlots};
+ghost use Rattle.judge.specs.Rows.{kindsAt};
+ghost use Rattle.index.specs.Shows.{countKind, countRow, Few};
+ghost use Rattle.index.specs.Tables.{tables, mostPages, link, linkKind, linkRow};
+
+fn wide(x: u16) -> usize
+    ensures { λ r. ⌜ r ≡ x ⌝ }
+{
+    x as usize
+}
+
+// A page put before those of its block.
+fn link(firsts: &mut [u16; 65536], nexts: &mut [u16; 65536], page: usize, block: BlockNumber)
+    requires { ⌜ page < mostPages ⌝ }
+    ensures { λ r. ⌜ tables (now (firsts .exit)) (now (nexts .exit)) ≡ link page (block .0) (tables (now (firsts .entry)) (now (nexts .entry))) ⌝ }
+{
+    let b = wide(block.0);
+    nexts[page] = firsts[b];
+    firsts[b] = page as u16;
+}
+
+// One slot more.
+fn list_slot(
+    counts: Counts,
+    kind: SlotKind,
+    page: usize,
+    firsts: &mut [u16; 65536],
+    nexts: &mut [u16; 65536],
+) -> Counts
+    requires { ⌜ (page < mostPages) × Few counts 254 ⌝ }
+    ensures { λ r. ⌜ (r ≡ countKind kind counts) × (tables (now (firsts .exit)) (now (nexts .exit)) ≡ linkKind page kind (tables (now (firsts .entry)) (now (nexts .entry)))) ⌝ }
+{
+    match kind {
+        SlotKind::Empty => Counts {
+            live: counts.live,
+            dead: counts.dead,
+            empty: counts.empty + 1,
+        },
+        SlotKind::Torn => counts,
+        SlotKind::Live { length: _, block } => {
+            link(firsts, nexts, page, block);
+            Counts {
+                live: counts.live + 1,
+                dead: counts.dead,
+                empty: counts.empty,
+            }
+        }
+        SlotKind::Dead => Counts {
+            live: counts.live,
+            dead: counts.dead + 1,
+            empty: counts.empty,
+        },
+        SlotKind::Wrong => counts,
+    }
+}
+
+// The slots behind a header page.
+pub fn list_row(
+    image: &[u8],
+    header: usize,
+    slots: usize,
+    firsts: &mut [u16; 65536],
+    nexts: &mut [u16; 65536],
+) -> Counts
+    requires { ⌜ ((header + slots + 1) * 256 ≤ length (now image)) × (header + slots < mostPages) × (slots ≤ mostSlots) ⌝ }
+    ensures { λ r. ⌜ (r ≡ countRow (kindsAt (now (image .entry)) ((header + 1) * 256) slots)) × (tables (now (firsts .exit)) (now (nexts .exit)) ≡ linkRow (header + 1) (kindsAt (now (image .entry)) ((header + 1) * 256) slots) (tables (now (firsts .entry)) (now (nexts .entry)))) ⌝ }
+{
+    let mut counts = Counts {
+        live: 0,
+        dead: 0,
+        empty: 0,
+    };
+    let mut left = slots;
+    while left > 0 {
+        let page = header + left;
+        let at = page * 256;
+        let end = at + 256;
+        let kind = slot::slot_kind(&image[at..end]);
+        counts = list_slot(counts, kind, page, firsts, nexts);
+        left -= 1;
+    }
+    counts
+}
