@@ -1,5 +1,4 @@
 // The lines of an account, added to a text.
-use index::Counts;
 use index::Shown;
 use judge::SegmentState;
 use model::MOST_SEGMENTS;
@@ -9,33 +8,48 @@ ghost use Prim.Native.Nat.{_+_, _*_, _<_, _≤_};
 ghost use lib.ListN.{length, take};
 ghost use Rattle.model.specs.Chip.{mostSegments};
 ghost use Rattle.flash.specs.Pages.{Sized};
-ghost use Rattle.text.specs.Text.{text};
+ghost use Rattle.text.specs.Text.{text as ascii};
 ghost use Rattle.text.specs.Decimal.{decimal};
 ghost use Rattle.text.specs.Buffer.{labelled, Wrote, mostText};
 ghost use Rattle.account_text.specs.Account.{blockLine, blockLines, byBlock};
 ghost use Rattle.index.specs.Shows.{countsLine, shownLine, shownLines};
 ghost use Rattle.index.specs.Tables.{tables, Chain, AllStand, ofBlock, listOf, Indexed};
 
-// The most bytes of a line.
-const MOST_LINE: usize = 80;
+// A number behind its label, and the end of the line.
+fn add_ended(text: &mut [u8], at: usize, label: &[u8], n: u32) -> usize
+    requires { ⌜ at + length (now label) + 11 ≤ mostText ⌝ }
+    ensures { λ r. ⌜ Wrote ((now (label .entry) ++ decimal n) ++ ascii "\n") (now (text .entry)) at (now (text .exit)) r × (r ≤ at + length (now (label .entry)) + 11) ⌝ }
+{
+    let behind = text::add_labelled(text, at, label, n);
+    text::add(text, behind, b"\n")
+}
 
 // ---- segments
 
-fn add_counts(text: &mut [u8], at: usize, counts: Counts) -> usize
-    requires { ⌜ at + 80 ≤ mostText ⌝ }
-    ensures { λ r. ⌜ Wrote (countsLine counts) (now (text .entry)) at (now (text .exit)) r × (r ≤ at + 50) ⌝ }
+// Of a segment in use, what stands behind its index: the label of its state with the number, and the counts.
+fn used_line(text: &mut [u8], at: usize, label: &[u8], shown: Shown) -> usize
+    requires { ⌜ (at + 75 ≤ mostText) × (length (now label) ≤ 12) ⌝ }
+    ensures { λ r. ⌜ Wrote ((now (label .entry) ++ decimal (shown .number .0)) ++ (countsLine (shown .counts) ++ ascii "\n")) (now (text .entry)) at (now (text .exit)) r × (r ≤ at + 75) ⌝ }
 {
-    let lives = text::add_labelled(text, at, b" live ", counts.live as u32);
-    let deads = text::add_labelled(text, lives, b" dead ", counts.dead as u32);
-    text::add_labelled(text, deads, b" empty ", counts.empty as u32)
+    let numbers = text::add_labelled(text, at, label, shown.number.0);
+    let lives = text::add_labelled(text, numbers, b" live ", shown.counts.live as u32);
+    let deads = text::add_labelled(text, lives, b" dead ", shown.counts.dead as u32);
+    add_ended(text, deads, b" empty ", shown.counts.empty as u32)
 }
 
 // One line.
 fn segment_line(text: &mut [u8], at: usize, index: u32, shown: Shown) -> usize
-    requires { ⌜ at + 120 ≤ mostText ⌝ }
+    requires { ⌜ at + 100 ≤ mostText ⌝ }
     ensures { λ r. ⌜ Wrote (shownLine index shown) (now (text .entry)) at (now (text .exit)) r × (r ≤ at + 100) ⌝ }
 {
-    at
+    let state = shown.state;
+    let behind = text::add_labelled(text, at, b"seg ", index);
+    match state {
+        SegmentState::Blank => text::add(text, behind, b" blank\n"),
+        SegmentState::Invalid => text::add(text, behind, b" torn\n"),
+        SegmentState::InUse => used_line(text, behind, b" used num ", shown),
+        SegmentState::Owing => used_line(text, behind, b" owing num ", shown),
+    }
 }
 
 // One for each segment of a table, by index.
@@ -48,7 +62,13 @@ pub fn segment_lines(
     requires { ⌜ (segments ≤ mostSegments) × (at + 100 * 256 ≤ mostText) ⌝ }
     ensures { λ r. ⌜ Wrote (shownLines 0 (take segments table)) (now (text .entry)) at (now (text .exit)) r × (r ≤ at + 100 * segments) ⌝ }
 {
-    at
+    let mut end = at;
+    let mut i: usize = 0;
+    while i < segments {
+        end = segment_line(text, end, i as u32, table[i]);
+        i += 1;
+    }
+    end
 }
 
 // ---- blocks
@@ -58,7 +78,10 @@ fn block_line(text: &mut [u8], at: usize, block: u32, length: u32, segment: u32,
     requires { ⌜ at + 80 ≤ mostText ⌝ }
     ensures { λ r. ⌜ Wrote (blockLine (record { block = block; length = length; segment = segment; slot = slot })) (now (text .entry)) at (now (text .exit)) r × (r ≤ at + 80) ⌝ }
 {
-    at
+    let blocks = text::add_labelled(text, at, b"block ", block);
+    let lengths = text::add_labelled(text, blocks, b" len ", length);
+    let segments = text::add_labelled(text, lengths, b" seg ", segment);
+    add_ended(text, segments, b" slot ", slot)
 }
 
 // One for each live slot of a block, from the first page on.
@@ -75,7 +98,18 @@ fn chain_lines(
     requires { ⌜ Sized segments slots (length (now image)) × (block < 65536) × Chain slots (now nexts) first (ofBlock block (listOf segments slots (now image))) × AllStand segments slots (now image) (ofBlock block (listOf segments slots (now image))) × (length (ofBlock block (listOf segments slots (now image))) < 65536) × (at + 80 * (length (ofBlock block (listOf segments slots (now image))) + 1) ≤ mostText) ⌝ }
     ensures { λ r. ⌜ Wrote (blockLines (ofBlock block (listOf segments slots (now (image .entry))))) (now (text .entry)) at (now (text .exit)) r × (r ≤ at + 80 * length (ofBlock block (listOf segments slots (now (image .entry))))) ⌝ }
 {
-    at
+    let pages = slots as u32 + 1;
+    let mut page = first as usize;
+    let mut end = at;
+    while page != 0 {
+        let length = image[page * 256 + 1] as u32;
+        let place = page as u32;
+        let segment = place / pages;
+        let slot = place % pages;
+        end = block_line(text, end, block, length, segment, slot);
+        page = nexts[page] as usize;
+    }
+    end
 }
 
 // One for each live slot, by rising block number.
@@ -91,7 +125,25 @@ pub fn block_lines(
     requires { ⌜ Sized segments slots (length (now image)) × Indexed segments slots (now image) (tables (now firsts) (now nexts)) × (at ≤ 100000) ⌝ }
     ensures { λ r. ⌜ Wrote (blockLines (byBlock (listOf segments slots (now (image .entry))))) (now (text .entry)) at (now (text .exit)) r × (r ≤ at + 80 * 65536) ⌝ }
 {
-    at
+    let mut end = at;
+    let mut block: usize = 0;
+    while block < 65536 {
+        let first = firsts[block];
+        if first != 0 {
+            end = chain_lines(
+                image,
+                segments,
+                slots,
+                nexts,
+                first,
+                block as u32,
+                text,
+                end,
+            );
+        }
+        block += 1;
+    }
+    end
 }
 
 // ---- the last line
@@ -99,15 +151,16 @@ pub fn block_lines(
 // Recovery's answer 0 and its step count.
 pub fn recover_line(text: &mut [u8], at: usize, steps: u32) -> usize
     requires { ⌜ at + 80 ≤ mostText ⌝ }
-    ensures { λ r. ⌜ Wrote (labelled "recover " 0 ++ (labelled " steps " steps ++ text "\n")) (now (text .entry)) at (now (text .exit)) r ⌝ }
+    ensures { λ r. ⌜ Wrote (labelled "recover " 0 ++ (labelled " steps " steps ++ ascii "\n")) (now (text .entry)) at (now (text .exit)) r ⌝ }
 {
-    at
+    let answered = text::add_labelled(text, at, b"recover ", 0);
+    add_ended(text, answered, b" steps ", steps)
 }
 
 // The place of the first condition of Clean that fails.
 pub fn fails_line(text: &mut [u8], at: usize, place: u32) -> usize
     requires { ⌜ at + 80 ≤ mostText ⌝ }
-    ensures { λ r. ⌜ Wrote (labelled "fails " place ++ text "\n") (now (text .entry)) at (now (text .exit)) r ⌝ }
+    ensures { λ r. ⌜ Wrote (labelled "fails " place ++ ascii "\n") (now (text .entry)) at (now (text .exit)) r ⌝ }
 {
-    at
+    add_ended(text, at, b"fails ", place)
 }

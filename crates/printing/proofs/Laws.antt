@@ -1,0 +1,288 @@
+-- Lines written one after the other: of the segments of a table, of a chain of pages, and of all blocks in turn.
+use Prim.Native.Nat.{ℕ, zero, suc, _+_, _*_, _/_, _%_, _≤_, _<_}
+use mathlib.Core.Path.{_≡_, refl, sym, ap, _∙_, subst}
+use mathlib.Core.Bool.{false, cond}
+use mathlib.Core.List.{List, [], _∷_, _++_, flatMap, append-nil, append-assoc}
+use native.Mathlib.Omega.{arith}
+use native.Mathlib.Nat.{mul-le-mul-right, suc-mul, div-eq-of-lt-le, div-add-mod'}
+use native.Mathlib.Numerals.{add-one}
+use lib.ListN.{length, take, getD, length-append}
+use lib.Seq.{take-suc, length-take-le}
+use lib.Dec.{eqb}
+use mir.Syntax.{w32}
+use mir.Val.{Fits}
+use borrow.Author.Needs.{fits-under}
+use borrow.Author.Tests.{eq-eqb, ne-eqb}
+use Rattle.flash.specs.Pages.{Sized}
+use Rattle.judge.specs.declared.SegmentState.the-variants.{Blank, Invalid, InUse, Owing}
+use Rattle.text.specs.Text.{text}
+use Rattle.text.specs.Buffer.{labelled, Wrote}
+use Rattle.text.proofs.Laws.{over-none, _then_}
+use Rattle.account_text.specs.Account.{LiveSlot, blockLine, blockLines, byBlock}
+use Rattle.index.specs.declared.Counts.{Counts}
+use Rattle.index.specs.declared.Shown.{Shown}
+use Rattle.index.specs.Shows.{countsLine, lineBy, shownLine, shownLines}
+use Rattle.index.specs.Tables.{mostPages, pageOf, ofBlock, Chain, Stands, AllStand, blocksBelow}
+use Rattle.index.specs.Sorted.{AllOf, below-few, sorted, stand-below}
+
+-- nothing is written yet
+pub wrote-none : (start : List ℕ) (at : ℕ) → Wrote [] start at start at
+wrote-none start at = record { ends = omega arith; kept = refl; there = λ h. sym (over-none start at) }
+
+-- the same bytes by another name
+pub wrote-as : {x start buffer : List ℕ} {at end : ℕ} (y : List ℕ) → x ≡ y → Wrote x start at buffer end → Wrote y start at buffer end
+wrote-as {x} {start} {buffer} {at} {end} y e w = subst (λ (z : List ℕ). Wrote z start at buffer end) e w
+
+-- ---- segments
+
+-- a line by its state
+pub line-blank : (i : ℕ) (x : Shown) → x .state ≡ Blank → labelled "seg " i ++ text " blank\n" ≡ shownLine i x
+unfolding shownLine lineBy
+line-blank i x e = rw e
+
+pub line-torn : (i : ℕ) (x : Shown) → x .state ≡ Invalid → labelled "seg " i ++ text " torn\n" ≡ shownLine i x
+unfolding shownLine lineBy
+line-torn i x e = rw e
+
+pub line-used : (i : ℕ) (x : Shown) → x .state ≡ InUse → labelled "seg " i ++ (labelled " used num " (x .number .0) ++ (countsLine (x .counts) ++ text "\n")) ≡ shownLine i x
+unfolding shownLine lineBy
+line-used i x e = rw e
+
+pub line-owing : (i : ℕ) (x : Shown) → x .state ≡ Owing → labelled "seg " i ++ (labelled " owing num " (x .number .0) ++ (countsLine (x .counts) ++ text "\n")) ≡ shownLine i x
+unfolding shownLine lineBy
+line-owing i x e = rw e
+
+-- the counts and the end of the line, as they are written
+pub counts-ended : (c : Counts) → labelled " live " (c .live) ++ (labelled " dead " (c .dead) ++ (labelled " empty " (c .empty) ++ text "\n")) ≡ countsLine c ++ text "\n"
+unfolding countsLine
+counts-ended c =
+    let l = labelled " live " (c .live) in
+    let d = labelled " dead " (c .dead) in
+    let e = labelled " empty " (c .empty) in
+    sym (append-assoc l (d ++ e) (text "\n") ∙ ap (λ (z : List ℕ). l ++ z) (append-assoc d e (text "\n")))
+
+shown-more : (i : ℕ) (a : List Shown) (x : Shown) → shownLines i a ++ shownLine (i + length a) x ≡ shownLines i (a ++ (x ∷ []))
+unfolding shownLines
+shown-more i [] x = let e : i + 0 ≡ i = omega arith in rw e (sym (append-nil (shownLine i x)))
+shown-more i (y ∷ a) x =
+    let e : i + suc (length a) ≡ suc i + length a = omega arith in
+    rw e (append-assoc (shownLine i y) (shownLines (suc i) a) (shownLine (suc i + length a) x) ∙ ap (λ (z : List ℕ). shownLine i y ++ z) (shown-more (suc i) a x))
+
+-- one more segment of a table
+pub segment-more : (table : List Shown) (i : ℕ) (d : Shown) → i < length table → shownLines 0 (take i table) ++ shownLine i (getD table i d) ≡ shownLines 0 (take (i + 1) table)
+segment-more table i d h =
+    let m = length-take-le i table (omega arith) in
+    let l : 0 + length (take i table) ≡ i = omega arith in
+    rw (add-one i, take-suc table i d h)
+    (ap (λ (k : ℕ). shownLines 0 (take i table) ++ shownLine k (getD table i d)) (sym l) ∙ shown-more 0 (take i table) (getD table i d))
+
+-- ---- a chain of pages
+
+-- any byte of an image as a number of 32 bits
+pub byte-fits : (s : List ℕ) → ((i : ℕ) → getD s i 0 < 256) → (i : ℕ) → Fits w32 (getD s i 0)
+byte-fits s h i = fits-under w32 (getD s i 0) 256 (h i) tt
+
+-- how many pages there are from a page on, by the next of each; there are at most k
+unfoldable pub chainLength : ℕ → List ℕ → ℕ → ℕ
+chainLength zero nexts p = 0
+chainLength (suc k) nexts p = cond (eqb p 0) 0 (suc (chainLength k nexts (getD nexts p 0)))
+
+pub chain-length : (k B : ℕ) (nexts : List ℕ) (p : ℕ) (r : List LiveSlot) → Chain B nexts p r → length r ≤ k → chainLength k nexts p ≡ length r
+unfolding chainLength
+chain-length zero B nexts p [] c h = refl
+chain-length zero B nexts p (e ∷ r) c h = absurd (omega arith)
+chain-length (suc k) B nexts p [] c h = rw (eq-eqb p 0 c)
+chain-length (suc k) B nexts p (e ∷ r) c h =
+    let n : eqb p 0 ≡ false = ne-eqb p 0 (λ q. let z = c .1 in omega arith) in
+    rw n (ap suc (chain-length k B nexts (getD nexts p 0) r (c .2) (omega arith)))
+
+-- the page of a live slot lies in the image, and tells its segment and its place
+pub page-inside : (N B : ℕ) (s : List ℕ) (e : LiveSlot) → Sized N B (length s) → Stands N B s e → (pageOf B e < mostPages) × (pageOf B e * 256 + 256 ≤ length s)
+unfolding pageOf
+page-inside N B s e z t =
+    let a = mul-le-mul-right (B + 1) (t .segment) in
+    let b = suc-mul (e .segment) (B + 1) in
+    let c : (B + 1) ≤ 256 = let q = z .slots in omega arith in
+    let f = mul-le-mul-right (B + 1) (z .segments) in
+    let q = t .slot in
+    let w = z .whole in
+    let p : e .segment * (B + 1) + e .slot < N * (B + 1) = omega arith in
+    (omega arith, omega arith)
+
+pub page-segment : (N B : ℕ) (s : List ℕ) (e : LiveSlot) → Stands N B s e → (pageOf B e / (B + 1) ≡ e .segment) × (pageOf B e % (B + 1) ≡ e .slot)
+unfolding pageOf
+page-segment N B s e t =
+    let p = e .segment * (B + 1) + e .slot in
+    let q = t .slot in
+    let m = suc-mul (e .segment) (B + 1) in
+    let o = add-one (e .segment) in
+    let d : p / (B + 1) ≡ e .segment = div-eq-of-lt-le (B + 1) (omega arith) (rw o (omega arith)) in
+    let a : p / (B + 1) * (B + 1) + p % (B + 1) ≡ p = div-add-mod' p (B + 1) in
+    let b : e .segment * (B + 1) + p % (B + 1) ≡ p = rw d at a in
+    (d, omega arith)
+
+chain-none : (B : ℕ) (nexts : List ℕ) (p : ℕ) (r : List LiveSlot) → Chain B nexts p r → p ≡ 0 → r ≡ []
+chain-none B nexts p [] c h = refl
+chain-none B nexts p (e ∷ r) c h = absurd (let z = c .1 in omega arith)
+
+chain-low : (N B : ℕ) (s nexts : List ℕ) (p : ℕ) (r : List LiveSlot) → Sized N B (length s) → Chain B nexts p r → AllStand N B s r → p < mostPages
+chain-low N B s nexts p [] z c t = omega arith
+chain-low N B s nexts p (e ∷ r) z c t = let q = page-inside N B s e z (t .0) in let f = c .0 in omega arith
+
+live-same : (e : LiveSlot) (b n i j : ℕ) → b ≡ e .block → n ≡ e .length → i ≡ e .segment → j ≡ e .slot → record { block = b; length = n; segment = i; slot = j } ≡ e
+live-same e b n i j p q r t =
+    ap (λ (z : ℕ). record { block = z; length = n; segment = i; slot = j }) p
+    ∙ (ap (λ (z : ℕ). record { block = e .block; length = z; segment = i; slot = j }) q
+    ∙ (ap (λ (z : ℕ). record { block = e .block; length = e .length; segment = z; slot = j }) r
+    ∙ ap (λ (z : ℕ). record { block = e .block; length = e .length; segment = e .segment; slot = z }) t))
+
+lines-cons : (e : LiveSlot) (r : List LiveSlot) → blockLines (e ∷ r) ≡ blockLine e ++ blockLines r
+unfolding blockLines flatMap
+lines-cons e r = refl
+
+lines-append : (a b : List LiveSlot) → blockLines (a ++ b) ≡ blockLines a ++ blockLines b
+unfolding blockLines flatMap
+lines-append [] b = refl
+lines-append (e ∷ a) b = ap (λ (z : List ℕ). blockLine e ++ z) (lines-append a b) ∙ sym (append-assoc (blockLine e) (blockLines a) (blockLines b))
+
+-- how far the lines of a block's chain are written: those of the pages from here on are left
+pub record Walk (N B : ℕ) (s nexts : List ℕ) (block : ℕ) (whole : List LiveSlot) (start : List ℕ) (at : ℕ) (text : List ℕ) (page end : ℕ) : Type 0 where
+  pub rest : List LiveSlot
+  pub lines : List ℕ
+  pub chain : Chain B nexts page rest
+  pub stands : AllStand N B s rest
+  pub same : AllOf block rest
+  pub few : length rest ≤ mostPages
+  pub wrote : Wrote lines start at text end
+  pub joined : lines ++ blockLines rest ≡ blockLines whole
+  pub near : end + 80 * length rest ≤ at + 80 * length whole
+
+-- where a live slot is left, the next one is on the page
+pub record Next (N B : ℕ) (s nexts : List ℕ) (block : ℕ) (rest : List LiveSlot) (page : ℕ) : Type 0 where
+  pub slot : LiveSlot
+  pub others : List LiveSlot
+  pub split : rest ≡ slot ∷ others
+  pub here : page ≡ pageOf B slot
+  pub chain : Chain B nexts (getD nexts page 0) others
+  pub stand : Stands N B s slot
+  pub stands : AllStand N B s others
+  pub block-is : slot .block ≡ block
+  pub same : AllOf block others
+
+some-next : (N B : ℕ) (s nexts : List ℕ) (block : ℕ) (rest : List LiveSlot) (page : ℕ) → Chain B nexts page rest → AllStand N B s rest → AllOf block rest → (page ≡ 0 → ⊥) → Next N B s nexts block rest page
+some-next N B s nexts block [] page c t o h = absurd (h c)
+some-next N B s nexts block (e ∷ r) page c t o h =
+    record { slot = e; others = r; split = refl; here = c .0; chain = c .2; stand = t .0; stands = t .1; block-is = o .0; same = o .1 }
+
+module _ {N B : ℕ} {s nexts : List ℕ} {block : ℕ} {whole : List LiveSlot} {start : List ℕ} {at : ℕ} where
+  pub walk-start : {page : ℕ} → Chain B nexts page whole → AllStand N B s whole → AllOf block whole → length whole ≤ mostPages → Walk N B s nexts block whole start at start page at
+  walk-start c t o h =
+      record { rest = whole; lines = []; chain = c; stands = t; same = o; few = h; wrote = wrote-none start at; joined = refl; near = omega arith }
+
+  pub walk-next : {text : List ℕ} {page end : ℕ} (w : Walk N B s nexts block whole start at text page end) → (page ≡ 0 → ⊥) → Next N B s nexts block (w .rest) page
+  walk-next {text} {page} {end} w h = some-next N B s nexts block (w .rest) page (w .chain) (w .stands) (w .same) h
+
+  -- its page lies in the image, and there is room for its line
+  pub walk-inside : {text : List ℕ} {page end : ℕ} → Sized N B (length s) → Walk N B s nexts block whole start at text page end → (page ≡ 0 → ⊥)
+      → (page < mostPages) × (page * 256 + 256 ≤ length s) × (end + 80 ≤ at + 80 * length whole)
+  walk-inside {text} {page} {end} z w h =
+      let n = walk-next w h in
+      let p = page-inside N B s (n .slot) z (n .stand) in
+      let l : length (w .rest) ≡ suc (length (n .others)) = ap length (n .split) in
+      (rw (n .here) (p .0), rw (n .here) (p .1), let q = w .near in omega arith)
+
+  pub walk-low : {text : List ℕ} {page end : ℕ} → Sized N B (length s) → Walk N B s nexts block whole start at text page end → (page ≡ 0 → ⊥) → getD nexts page 0 < mostPages
+  walk-low {text} {page} {end} z w h = let n = walk-next w h in chain-low N B s nexts (getD nexts page 0) (n .others) z (n .chain) (n .stands)
+
+  pub walk-less : {text : List ℕ} {page end : ℕ} → Walk N B s nexts block whole start at text page end → (page ≡ 0 → ⊥) → chainLength mostPages nexts (getD nexts page 0) < chainLength mostPages nexts page
+  walk-less {text} {page} {end} w h =
+      let n = walk-next w h in
+      let f = w .few in
+      let l : length (w .rest) ≡ suc (length (n .others)) = ap length (n .split) in
+      let a = chain-length mostPages B nexts page (w .rest) (w .chain) f in
+      let b = chain-length mostPages B nexts (getD nexts page 0) (n .others) (n .chain) (omega arith) in
+      omega arith
+
+  -- its line written
+  pub walk-step : {text after : List ℕ} {page end then-end : ℕ} → Walk N B s nexts block whole start at text page end → (page ≡ 0 → ⊥)
+      → Wrote (blockLine (record { block = block; length = getD s (page * 256 + 1) 0; segment = page / (B + 1); slot = page % (B + 1) })) text end after then-end → then-end ≤ end + 80
+      → Walk N B s nexts block whole start at after (getD nexts page 0) then-end
+  walk-step {text} {after} {page} {end} {then-end} w h wrote near =
+      let n = walk-next w h in
+      let e = n .slot in
+      let f = w .few in
+      let l : length (w .rest) ≡ suc (length (n .others)) = ap length (n .split) in
+      let place = page-segment N B s e (n .stand) in
+      let is : record { block = block; length = getD s (page * 256 + 1) 0; segment = page / (B + 1); slot = page % (B + 1) } ≡ e =
+      live-same e block (getD s (page * 256 + 1) 0) (page / (B + 1)) (page % (B + 1)) (sym (n .block-is))
+      (ap (λ (p : ℕ). getD s (p * 256 + 1) 0) (n .here) ∙ n .stand .length) (ap (λ (p : ℕ). p / (B + 1)) (n .here) ∙ place .0) (ap (λ (p : ℕ). p % (B + 1)) (n .here) ∙ place .1) in
+      record {
+        rest = n .others;
+        lines = w .lines ++ blockLine e;
+        chain = n .chain;
+        stands = n .stands;
+        same = n .same;
+        few = omega arith;
+        wrote = w .wrote then wrote-as (blockLine e) (ap blockLine is) wrote;
+        joined = append-assoc (w .lines) (blockLine e) (blockLines (n .others))
+            ∙ (ap (λ (z : List ℕ). w .lines ++ z) (sym (lines-cons e (n .others)) ∙ ap blockLines (sym (n .split))) ∙ w .joined);
+        near = let q = w .near in omega arith;
+      }
+
+  pub walk-end : {text : List ℕ} {page end : ℕ} → Walk N B s nexts block whole start at text page end → page ≡ 0 → Wrote (blockLines whole) start at text end × (end ≤ at + 80 * length whole)
+  unfolding blockLines flatMap
+  walk-end {text} {page} {end} w h =
+      let none : w .rest ≡ [] = chain-none B nexts page (w .rest) (w .chain) h in
+      let all : w .lines ++ blockLines [] ≡ blockLines whole = ap (λ (z : List LiveSlot). w .lines ++ blockLines z) (sym none) ∙ w .joined in
+      let q = w .near in
+      (wrote-as (blockLines whole) (sym (append-nil (w .lines)) ∙ all) (w .wrote), omega arith)
+
+-- ---- all blocks in turn
+
+-- how far they are written: those of the block numbers below one
+pub record Blocks (r : List LiveSlot) (start : List ℕ) (at : ℕ) (text : List ℕ) (block end : ℕ) : Type 0 where
+  pub wrote : Wrote (blockLines (blocksBelow block r)) start at text end
+  pub near : end ≤ at + 80 * length (blocksBelow block r)
+  pub upto : block ≤ mostPages
+
+pub blocks-start : (r : List LiveSlot) (start : List ℕ) (at : ℕ) → Blocks r start at start 0 at
+unfolding blocksBelow blockLines flatMap
+blocks-start r start at = record { wrote = wrote-none start at; near = omega arith; upto = omega arith }
+
+pub blocks-more : {r : List LiveSlot} {start : List ℕ} {at : ℕ} {text after : List ℕ} {block end then-end : ℕ} → Blocks r start at text block end → block < mostPages
+    → Wrote (blockLines (ofBlock block r)) text end after then-end → then-end ≤ end + 80 * length (ofBlock block r) → Blocks r start at after (block + 1) then-end
+unfolding blocksBelow
+blocks-more {r} {start} {at} {text} {after} {block} {end} {then-end} b h w n =
+    let l = length-append (blocksBelow block r) (ofBlock block r) in
+    let q = b .near in
+    rw (add-one block) record {
+      wrote = wrote-as (blockLines (blocksBelow block r ++ ofBlock block r)) (sym (lines-append (blocksBelow block r) (ofBlock block r))) (b .wrote then w);
+      near = omega arith;
+      upto = omega arith;
+    }
+
+-- a block without a first page has no lines
+pub blocks-none : {r : List LiveSlot} {start : List ℕ} {at : ℕ} {text : List ℕ} {block end : ℕ} (B page : ℕ) (nexts : List ℕ) → Chain B nexts page (ofBlock block r) → page ≡ 0 → Blocks r start at text block end
+    → block < mostPages → Blocks r start at text (block + 1) end
+unfolding blockLines flatMap
+blocks-none {r} {start} {at} {text} {block} {end} B page nexts c e b h =
+    let none : [] ≡ ofBlock block r = sym (chain-none B nexts page (ofBlock block r) c e) in
+    blocks-more b h (wrote-as (blockLines (ofBlock block r)) (ap blockLines none) (wrote-none text end)) (omega arith)
+
+-- the same text and offset by other names
+pub blocks-as : {r : List LiveSlot} {start : List ℕ} {at : ℕ} {text other : List ℕ} {block end behind : ℕ} → text ≡ other → end ≡ behind → Blocks r start at other block behind → Blocks r start at text block end
+blocks-as {r} {start} {at} {text} {other} {block} {end} {behind} e f b =
+    subst (λ (k : ℕ). Blocks r start at text block k) (sym f) (subst (λ (z : List ℕ). Blocks r start at z block behind) (sym e) b)
+
+-- and there is room for the next
+pub blocks-room : {r : List LiveSlot} {start : List ℕ} {at : ℕ} {text : List ℕ} {block end : ℕ} → Blocks r start at text block end → end ≤ at + 80 * length r
+blocks-room {r} {start} {at} {text} {block} {end} b = let q = b .near in let f = below-few block r in omega arith
+
+pub blocks-end : (N B : ℕ) (s : List ℕ) {r : List LiveSlot} {start : List ℕ} {at : ℕ} {text : List ℕ} {block end : ℕ} → AllStand N B s r → length r < mostPages → Blocks r start at text block end → mostPages ≤ block
+    → Wrote (blockLines (byBlock r)) start at text end × (end ≤ at + 80 * 65536)
+blocks-end N B s {r} {start} {at} {text} {block} {end} t f b h =
+    let u = b .upto in
+    let e : block ≡ mostPages = omega arith in
+    let q = blocks-room b in
+    let g : blocksBelow block r ≡ byBlock r = ap (λ (k : ℕ). blocksBelow k r) e ∙ sym (sorted mostPages r (stand-below N B s r t)) in
+    (wrote-as (blockLines (byBlock r)) (ap blockLines g) (b .wrote), omega arith)
