@@ -193,6 +193,15 @@ pub fn see(image: &[u8], segments: usize, slots: usize, survey: Surveyed) -> [Sh
     hide(see_all(image, segments, slots), segments, survey)
 }
 
+// The number after the top's, or 0 if no segment of a table is in use.
+pub fn next_number(table: [Shown; MOST_SEGMENTS], segments: usize) -> usize
+    requires { ⌜ segments ≤ mostSegments ⌝ }
+    ensures { λ r. ⌜ r ≡ largest (map afterShown (take segments table)) ⌝ }
+{
+    let left = numbers(table, segments);
+    largest(&left, segments)
+}
+
 // The segments as they are shown, and the live slots put into tables that hold none yet.
 pub fn list(
     image: &[u8],

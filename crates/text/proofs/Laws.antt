@@ -8,9 +8,11 @@ use native.Mathlib.Nat.{mod-eq-of-lt, pow-suc}
 use lib.ListN.{length, take, drop, set, getD, length-append, take-append-drop}
 use lib.Seq.{take-all, paste-suc, drop-drop, take-append-le, take-append-seam, drop-append-seam, length-take-le, take-at, drop-at, set-split, take-take, drop-cons}
 use lib.Dec.{ltb}
-use borrow.Author.Tests.{lt-ltb, le-ltb, ltb-true, ltb-false}
+use borrow.Author.Tests.{lt-ltb, le-ltb, le-leb, lt-leb, ltb-true, ltb-false}
 use Rattle.text.specs.Decimal.{decimalOf, decimal}
-use Rattle.text.specs.Buffer.{over, Wrote}
+use Rattle.model.specs.Answers.{codeOf}
+use Rattle.text.specs.declared.Printed.{Printed}
+use Rattle.text.specs.Buffer.{printed, printIn, shortOf, doneOf, over, Wrote}
 
 -- ---- pieces
 
@@ -141,3 +143,17 @@ count-some (suc k) n = go (ltb n 10)
     go : (t : Bool) → 1 ≤ length (cond t ((48 + n) ∷ []) (decimalOf k (n / 10) ++ ((48 + n % 10) ∷ [])))
     go true = omega arith
     go false = let e = length-append (decimalOf k (n / 10)) ((48 + n % 10) ∷ []) in omega arith
+
+-- ---- printed
+
+pub print-short : (t buffer : List ℕ) (r : Printed) → length buffer < length t → r ≡ shortOf → printed r buffer ≡ printIn t buffer
+unfolding printed printIn shortOf codeOf
+print-short t buffer r h e = rw (e, lt-leb (length t) (length buffer) h)
+
+pub print-done : (t start buffer : List ℕ) (r : Printed) (end : ℕ) → length t ≤ length start → Wrote t start 0 buffer end → r ≡ doneOf end → printed r buffer ≡ printIn t start
+unfolding printed printIn doneOf codeOf over
+print-done t start buffer r end h w e =
+    let n : end ≡ length t = omega (arith, w .ends) in
+    let z : 0 + length t ≡ length t = omega arith in
+    let b : buffer ≡ t ++ drop (0 + length t) start = w .there (omega (arith, w .ends)) in
+    rw (e, le-leb (length t) (length start) h, b, n, z)

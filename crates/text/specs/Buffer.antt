@@ -9,6 +9,7 @@ use lib.Dec.{leb}
 use Rattle.model.specs.Answers.{codeOf}
 use Rattle.text.specs.Text.{text}
 use Rattle.text.specs.Decimal.{decimal}
+use Rattle.model.specs.declared.Answer.the-variants.{Done, ShortBuffer}
 use Rattle.text.specs.declared.Printed.{Printed}
 
 -- ---- the rule
@@ -29,6 +30,13 @@ printIn t buffer =
     cond (leb (length t) (length buffer))
     (record { code = 0; length = length t; buffer = t ++ drop (length t) buffer })
     (record { code = 14; length = 0; buffer = buffer })
+
+-- a buffer too short, and a text of so many bytes
+unfoldable pub shortOf : Printed
+shortOf = record { answer = ShortBuffer; length = 0 }
+
+unfoldable pub doneOf : ℕ → Printed
+doneOf n = record { answer = Done; length = n }
 
 -- ---- pieces
 

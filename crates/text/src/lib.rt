@@ -6,7 +6,7 @@ ghost use mathlib.Core.List.{_++_};
 ghost use Prim.Native.Nat.{_+_, _≤_};
 ghost use lib.ListN.{length};
 ghost use Rattle.text.specs.Decimal.{decimal};
-ghost use Rattle.text.specs.Buffer.{Wrote, mostText};
+ghost use Rattle.text.specs.Buffer.{printed, printIn, shortOf, doneOf, Wrote, mostText};
 
 // What printing gives: its answer, and the text's length.
 pub struct Printed {
@@ -70,4 +70,35 @@ pub fn add_labelled(text: &mut [u8], at: usize, label: &[u8], n: u32) -> usize
 {
     let behind = add(text, at, label);
     add_number(text, behind, n)
+}
+
+// A text that is at hand, printed by itself.
+pub fn print(text: &mut [u8], bytes: &[u8]) -> Printed
+    requires { ⌜ length (now bytes) ≤ mostText ⌝ }
+    ensures { λ r. ⌜ printed r (now (text .exit)) ≡ printIn (now (bytes .entry)) (now (text .entry)) ⌝ }
+{
+    if bytes.len() > text.len() {
+        return short();
+    }
+    done(add(text, 0, bytes))
+}
+
+// The buffer is too short.
+pub fn short() -> Printed
+    ensures { λ r. ⌜ r ≡ shortOf ⌝ }
+{
+    Printed {
+        answer: Answer::ShortBuffer,
+        length: 0,
+    }
+}
+
+// A text of so many bytes is there.
+pub fn done(length: usize) -> Printed
+    ensures { λ r. ⌜ r ≡ doneOf length ⌝ }
+{
+    Printed {
+        answer: Answer::Done,
+        length,
+    }
 }

@@ -1,0 +1,4 @@
+use Rattle.accounts.proofs.picture.draw.Statement.{statement}
+
+pub draw-spec : {M : Type 1} → statement M
+draw-spec 𝓤 H 𝓜 𝓖 𝓡 = ?
