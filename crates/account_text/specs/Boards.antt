@@ -81,103 +81,103 @@ unfoldable pub boards : List Board
 boards =
     -- a fresh format
     board (used 4 15 v2 opened 0 ∷ blanks 63)
-        ("seg 0 used num 0 live 0 dead 0 empty 15" ∷ "seg 1 blank" ∷ "seg 2 blank" ∷ "seg 3 blank" ∷ "recover 0 steps 0" ∷ [])
-        (">  0 used         0 ..............." ∷ "   1 blank" ∷ "   2 blank" ∷ "   3 blank" ∷ [])
+    ("seg 0 used num 0 live 0 dead 0 empty 15" ∷ "seg 1 blank" ∷ "seg 2 blank" ∷ "seg 3 blank" ∷ "recover 0 steps 0" ∷ [])
+    (">  0 used         0 ..............." ∷ "   1 blank" ∷ "   2 blank" ∷ "   3 blank" ∷ [])
     -- a block line reads
     ∷ board ((used 4 15 v2 opened 0 ∷ slotPage 7 (0x41 ∷ 0x31 ∷ []) ∷ blanks 14) ++ blanks 48)
-        ("seg 0 used num 0 live 1 dead 0 empty 14" ∷ "seg 1 blank" ∷ "seg 2 blank" ∷ "seg 3 blank" ∷ "block 7 len 2 seg 0 slot 1" ∷ "recover 0 steps 0" ∷ [])
-        (">  0 used         0 #.............." ∷ "   1 blank" ∷ "   2 blank" ∷ "   3 blank" ∷ [])
+    ("seg 0 used num 0 live 1 dead 0 empty 14" ∷ "seg 1 blank" ∷ "seg 2 blank" ∷ "seg 3 blank" ∷ "block 7 len 2 seg 0 slot 1" ∷ "recover 0 steps 0" ∷ [])
+    (">  0 used         0 #.............." ∷ "   1 blank" ∷ "   2 blank" ∷ "   3 blank" ∷ [])
     -- the sample, unfinished by (b)
     ∷ board (sample (deads 15))
-        ("seg 0 torn"
-        ∷ "seg 1 used num 5 live 1 dead 14 empty 0"
-        ∷ "seg 2 used num 6 live 0 dead 15 empty 0"
-        ∷ "seg 3 owing num 7 live 2 dead 0 empty 13"
-        ∷ "block 7 len 2 seg 1 slot 1"
-        ∷ "block 8 len 1 seg 3 slot 2"
-        ∷ "block 9 len 1 seg 3 slot 1"
-        ∷ "recover 0 steps 2"
-        ∷ [])
-        ("   0 torn" ∷ "   1 used         5 #xxxxxxxxxxxxxx" ∷ "   2 used         6 xxxxxxxxxxxxxxx" ∷ ">  3 owing        7 ##............." ∷ [])
+    ("seg 0 torn"
+    ∷ "seg 1 used num 5 live 1 dead 14 empty 0"
+    ∷ "seg 2 used num 6 live 0 dead 15 empty 0"
+    ∷ "seg 3 owing num 7 live 2 dead 0 empty 13"
+    ∷ "block 7 len 2 seg 1 slot 1"
+    ∷ "block 8 len 1 seg 3 slot 2"
+    ∷ "block 9 len 1 seg 3 slot 1"
+    ∷ "recover 0 steps 2"
+    ∷ [])
+    ("   0 torn" ∷ "   1 used         5 #xxxxxxxxxxxxxx" ∷ "   2 used         6 xxxxxxxxxxxxxxx" ∷ ">  3 owing        7 ##............." ∷ [])
     -- the same with slot 4 of index 2 torn: damaged
     ∷ board (sample (deads 3 ++ (status 0x7F ∷ deads 11)))
-        ("seg 0 used num 4 live 2 dead 13 empty 0"
-        ∷ "seg 1 used num 5 live 1 dead 14 empty 0"
-        ∷ "seg 2 used num 6 live 0 dead 14 empty 0"
-        ∷ "seg 3 owing num 7 live 2 dead 0 empty 13"
-        ∷ "block 7 len 2 seg 0 slot 1"
-        ∷ "block 7 len 2 seg 1 slot 1"
-        ∷ "block 8 len 1 seg 3 slot 2"
-        ∷ "block 9 len 1 seg 0 slot 2"
-        ∷ "block 9 len 1 seg 3 slot 1"
-        ∷ "fails 1"
-        ∷ [])
-        ("   0 used         4 ##xxxxxxxxxxxxx" ∷ "   1 used         5 #xxxxxxxxxxxxxx" ∷ "   2 used         6 xxx~xxxxxxxxxxx" ∷ ">  3 owing        7 ##............." ∷ [])
+    ("seg 0 used num 4 live 2 dead 13 empty 0"
+    ∷ "seg 1 used num 5 live 1 dead 14 empty 0"
+    ∷ "seg 2 used num 6 live 0 dead 14 empty 0"
+    ∷ "seg 3 owing num 7 live 2 dead 0 empty 13"
+    ∷ "block 7 len 2 seg 0 slot 1"
+    ∷ "block 7 len 2 seg 1 slot 1"
+    ∷ "block 8 len 1 seg 3 slot 2"
+    ∷ "block 9 len 1 seg 0 slot 2"
+    ∷ "block 9 len 1 seg 3 slot 1"
+    ∷ "fails 1"
+    ∷ [])
+    ("   0 used         4 ##xxxxxxxxxxxxx" ∷ "   1 used         5 #xxxxxxxxxxxxxx" ∷ "   2 used         6 xxx~xxxxxxxxxxx" ∷ ">  3 owing        7 ##............." ∷ [])
     -- (a), with a bit left and without
     ∷ small ((first v2 0 ∷ block 5 3 ∷ blanks 1) ++ ((begun ∷ blanks 2) ++ blanks 3))
-        ("seg 0 used num 0 live 1 dead 0 empty 1" ∷ "seg 1 torn" ∷ "seg 2 blank" ∷ "block 5 len 3 seg 0 slot 1" ∷ "recover 0 steps 2" ∷ [])
-        (">  0 used         0 #." ∷ "   1 torn" ∷ "   2 blank" ∷ [])
+    ("seg 0 used num 0 live 1 dead 0 empty 1" ∷ "seg 1 torn" ∷ "seg 2 blank" ∷ "block 5 len 3 seg 0 slot 1" ∷ "recover 0 steps 2" ∷ [])
+    (">  0 used         0 #." ∷ "   1 torn" ∷ "   2 blank" ∷ [])
     ∷ small ((first noBits 0 ∷ block 5 3 ∷ blanks 1) ++ ((begun ∷ blanks 2) ++ blanks 3))
-        ("seg 0 used num 0 live 1 dead 0 empty 1" ∷ "seg 1 torn" ∷ "seg 2 blank" ∷ "block 5 len 3 seg 0 slot 1" ∷ "recover 0 steps 1" ∷ [])
-        (">  0 used         0 #." ∷ "   1 torn" ∷ "   2 blank" ∷ [])
+    ("seg 0 used num 0 live 1 dead 0 empty 1" ∷ "seg 1 torn" ∷ "seg 2 blank" ∷ "block 5 len 3 seg 0 slot 1" ∷ "recover 0 steps 1" ∷ [])
+    (">  0 used         0 #." ∷ "   1 torn" ∷ "   2 blank" ∷ [])
     -- (b) of version 2, with the last bit; and where the old segment is blank already
     ∷ small (old ++ second)
-        ("seg 0 torn" ∷ "seg 1 used num 1 live 1 dead 1 empty 0" ∷ "seg 2 owing num 2 live 0 dead 0 empty 2" ∷ "block 2 len 0 seg 1 slot 1" ∷ "recover 0 steps 3" ∷ [])
-        ("   0 torn" ∷ "   1 used         1 #x" ∷ ">  2 owing        2 .." ∷ [])
+    ("seg 0 torn" ∷ "seg 1 used num 1 live 1 dead 1 empty 0" ∷ "seg 2 owing num 2 live 0 dead 0 empty 2" ∷ "block 2 len 0 seg 1 slot 1" ∷ "recover 0 steps 3" ∷ [])
+    ("   0 torn" ∷ "   1 used         1 #x" ∷ ">  2 owing        2 .." ∷ [])
     ∷ small (blanks 3 ++ second)
-        ("seg 0 blank" ∷ "seg 1 used num 1 live 1 dead 1 empty 0" ∷ "seg 2 owing num 2 live 0 dead 0 empty 2" ∷ "block 2 len 0 seg 1 slot 1" ∷ "recover 0 steps 1" ∷ [])
-        ("   0 blank" ∷ "   1 used         1 #x" ∷ ">  2 owing        2 .." ∷ [])
+    ("seg 0 blank" ∷ "seg 1 used num 1 live 1 dead 1 empty 0" ∷ "seg 2 owing num 2 live 0 dead 0 empty 2" ∷ "block 2 len 0 seg 1 slot 1" ∷ "recover 0 steps 1" ∷ [])
+    ("   0 blank" ∷ "   1 used         1 #x" ∷ ">  2 owing        2 .." ∷ [])
     -- (c): a torn slot is in no count
     ∷ small ((first v2 0 ∷ status 0x7F ∷ blanks 1) ++ blanks 6)
-        ("seg 0 used num 0 live 0 dead 0 empty 1" ∷ "seg 1 blank" ∷ "seg 2 blank" ∷ "recover 0 steps 1" ∷ [])
-        (">  0 used         0 ~." ∷ "   1 blank" ∷ "   2 blank" ∷ [])
+    ("seg 0 used num 0 live 0 dead 0 empty 1" ∷ "seg 1 blank" ∷ "seg 2 blank" ∷ "recover 0 steps 1" ∷ [])
+    (">  0 used         0 ~." ∷ "   1 blank" ∷ "   2 blank" ∷ [])
     -- (d): equal block numbers by segment number, and not by index
     ∷ small ((first v2 3 ∷ block 7 2 ∷ blanks 1) ++ (blanks 3 ++ (first v2 2 ∷ block 7 1 ∷ deads 1)))
-        ("seg 0 used num 3 live 1 dead 0 empty 1" ∷ "seg 1 blank" ∷ "seg 2 used num 2 live 1 dead 1 empty 0" ∷ "block 7 len 1 seg 2 slot 1" ∷ "block 7 len 2 seg 0 slot 1" ∷ "recover 0 steps 1" ∷ [])
-        (">  0 used         3 #." ∷ "   1 blank" ∷ "   2 used         2 #x" ∷ [])
+    ("seg 0 used num 3 live 1 dead 0 empty 1" ∷ "seg 1 blank" ∷ "seg 2 used num 2 live 1 dead 1 empty 0" ∷ "block 7 len 1 seg 2 slot 1" ∷ "block 7 len 2 seg 0 slot 1" ∷ "recover 0 steps 1" ∷ [])
+    (">  0 used         3 #." ∷ "   1 blank" ∷ "   2 used         2 #x" ∷ [])
     -- damaged: 1, none in use
     ∷ small (blanks 9)
-        ("seg 0 blank" ∷ "seg 1 blank" ∷ "seg 2 blank" ∷ "fails 1" ∷ [])
-        ("   0 blank" ∷ "   1 blank" ∷ "   2 blank" ∷ [])
+    ("seg 0 blank" ∷ "seg 1 blank" ∷ "seg 2 blank" ∷ "fails 1" ∷ [])
+    ("   0 blank" ∷ "   1 blank" ∷ "   2 blank" ∷ [])
     -- 2, by the numbers and by the versions
     ∷ small ((first v2 0 ∷ block 300 248 ∷ block 65534 1 ∷ []) ++ (blanks 3 ++ (first v2 5 ∷ blanks 2)))
-        ("seg 0 used num 0 live 2 dead 0 empty 0" ∷ "seg 1 blank" ∷ "seg 2 used num 5 live 0 dead 0 empty 2" ∷ "block 300 len 248 seg 0 slot 1" ∷ "block 65534 len 1 seg 0 slot 2" ∷ "fails 2" ∷ [])
-        ("   0 used         0 ##" ∷ "   1 blank" ∷ ">  2 used         5 .." ∷ [])
+    ("seg 0 used num 0 live 2 dead 0 empty 0" ∷ "seg 1 blank" ∷ "seg 2 used num 5 live 0 dead 0 empty 2" ∷ "block 300 len 248 seg 0 slot 1" ∷ "block 65534 len 1 seg 0 slot 2" ∷ "fails 2" ∷ [])
+    ("   0 used         0 ##" ∷ "   1 blank" ∷ ">  2 used         5 .." ∷ [])
     ∷ small ((first v2 0 ∷ deads 2) ++ ((first version1 1 ∷ blanks 2) ++ blanks 3))
-        ("seg 0 used num 0 live 0 dead 2 empty 0" ∷ "seg 1 used num 1 live 0 dead 0 empty 2" ∷ "seg 2 blank" ∷ "fails 2" ∷ [])
-        ("   0 used         0 xx" ∷ ">  1 used         1 .." ∷ "   2 blank" ∷ [])
+    ("seg 0 used num 0 live 0 dead 2 empty 0" ∷ "seg 1 used num 1 live 0 dead 0 empty 2" ∷ "seg 2 blank" ∷ "fails 2" ∷ [])
+    ("   0 used         0 xx" ∷ ">  1 used         1 .." ∷ "   2 blank" ∷ [])
     -- 3, one that is not the top owing
     ∷ small ((used 3 2 v2 erasePending 0 ∷ deads 2) ++ ((first v2 1 ∷ blanks 2) ++ blanks 3))
-        ("seg 0 owing num 0 live 0 dead 2 empty 0" ∷ "seg 1 used num 1 live 0 dead 0 empty 2" ∷ "seg 2 blank" ∷ "fails 3" ∷ [])
-        ("   0 owing        0 xx" ∷ ">  1 used         1 .." ∷ "   2 blank" ∷ [])
+    ("seg 0 owing num 0 live 0 dead 2 empty 0" ∷ "seg 1 used num 1 live 0 dead 0 empty 2" ∷ "seg 2 blank" ∷ "fails 3" ∷ [])
+    ("   0 owing        0 xx" ∷ ">  1 used         1 .." ∷ "   2 blank" ∷ [])
     -- 4, a segment torn that is not the one after the top
     ∷ small ((first v2 0 ∷ blanks 2) ++ (blanks 3 ++ (begun ∷ block 9 1 ∷ blanks 1)))
-        ("seg 0 used num 0 live 0 dead 0 empty 2" ∷ "seg 1 blank" ∷ "seg 2 torn" ∷ "fails 4" ∷ [])
-        (">  0 used         0 .." ∷ "   1 blank" ∷ "   2 torn" ∷ [])
+    ("seg 0 used num 0 live 0 dead 0 empty 2" ∷ "seg 1 blank" ∷ "seg 2 torn" ∷ "fails 4" ∷ [])
+    (">  0 used         0 .." ∷ "   1 blank" ∷ "   2 torn" ∷ [])
     -- 5, a wrong slot, which is in no count
     ∷ small ((first v2 0 ∷ status 0 ∷ blanks 1) ++ blanks 6)
-        ("seg 0 used num 0 live 0 dead 0 empty 1" ∷ "seg 1 blank" ∷ "seg 2 blank" ∷ "fails 5" ∷ [])
-        (">  0 used         0 !." ∷ "   1 blank" ∷ "   2 blank" ∷ [])
+    ("seg 0 used num 0 live 0 dead 0 empty 1" ∷ "seg 1 blank" ∷ "seg 2 blank" ∷ "fails 5" ∷ [])
+    (">  0 used         0 !." ∷ "   1 blank" ∷ "   2 blank" ∷ [])
     -- 6, a block in three slots
     ∷ small ((first v2 0 ∷ block 7 1 ∷ block 7 2 ∷ []) ++ ((first v2 1 ∷ block 7 3 ∷ blanks 1) ++ blanks 3))
-        ("seg 0 used num 0 live 2 dead 0 empty 0" ∷ "seg 1 used num 1 live 1 dead 0 empty 1" ∷ "seg 2 blank" ∷ "block 7 len 1 seg 0 slot 1" ∷ "block 7 len 2 seg 0 slot 2" ∷ "block 7 len 3 seg 1 slot 1" ∷ "fails 6" ∷ [])
-        ("   0 used         0 ##" ∷ ">  1 used         1 #." ∷ "   2 blank" ∷ [])
+    ("seg 0 used num 0 live 2 dead 0 empty 0" ∷ "seg 1 used num 1 live 1 dead 0 empty 1" ∷ "seg 2 blank" ∷ "block 7 len 1 seg 0 slot 1" ∷ "block 7 len 2 seg 0 slot 2" ∷ "block 7 len 3 seg 1 slot 1" ∷ "fails 6" ∷ [])
+    ("   0 used         0 ##" ∷ ">  1 used         1 #." ∷ "   2 blank" ∷ [])
     -- 7, an empty slot before a written one
     ∷ small ((first v2 0 ∷ erased 256 ∷ block 3 1 ∷ []) ++ blanks 6)
-        ("seg 0 used num 0 live 1 dead 0 empty 1" ∷ "seg 1 blank" ∷ "seg 2 blank" ∷ "block 3 len 1 seg 0 slot 2" ∷ "fails 7" ∷ [])
-        (">  0 used         0 .#" ∷ "   1 blank" ∷ "   2 blank" ∷ [])
+    ("seg 0 used num 0 live 1 dead 0 empty 1" ∷ "seg 1 blank" ∷ "seg 2 blank" ∷ "block 3 len 1 seg 0 slot 2" ∷ "fails 7" ∷ [])
+    (">  0 used         0 .#" ∷ "   1 blank" ∷ "   2 blank" ∷ [])
     -- 8, more live slots than C
     ∷ small ((first v2 0 ∷ block 1 1 ∷ block 3 1 ∷ []) ++ ((first v2 1 ∷ block 2 1 ∷ block 4 1 ∷ []) ++ blanks 3))
-        ("seg 0 used num 0 live 2 dead 0 empty 0"
-        ∷ "seg 1 used num 1 live 2 dead 0 empty 0"
-        ∷ "seg 2 blank"
-        ∷ "block 1 len 1 seg 0 slot 1"
-        ∷ "block 2 len 1 seg 1 slot 1"
-        ∷ "block 3 len 1 seg 0 slot 2"
-        ∷ "block 4 len 1 seg 1 slot 2"
-        ∷ "fails 8"
-        ∷ [])
-        ("   0 used         0 ##" ∷ ">  1 used         1 ##" ∷ "   2 blank" ∷ [])
+    ("seg 0 used num 0 live 2 dead 0 empty 0"
+    ∷ "seg 1 used num 1 live 2 dead 0 empty 0"
+    ∷ "seg 2 blank"
+    ∷ "block 1 len 1 seg 0 slot 1"
+    ∷ "block 2 len 1 seg 1 slot 1"
+    ∷ "block 3 len 1 seg 0 slot 2"
+    ∷ "block 4 len 1 seg 1 slot 2"
+    ∷ "fails 8"
+    ∷ [])
+    ("   0 used         0 ##" ∷ ">  1 used         1 ##" ∷ "   2 blank" ∷ [])
     -- a wide segment is wrapped in the picture; a number takes up to nine characters
     ∷ record {
       segments = 2;

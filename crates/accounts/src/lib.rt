@@ -3,10 +3,9 @@
 // written.
 mod picture;
 
-pub use picture::map;
-
 use index::Shown;
 use model::MOST_SEGMENTS;
+pub use picture::map;
 use prognosis::Prognosis;
 use text::Printed;
 ghost use mathlib.Core.Path.{_≡_};
