@@ -17,9 +17,9 @@ use Rattle.model.specs.Answers.{Request, read, recover, Work, firstOf, i
 use Rattle.model.specs.Sequences.{Call, play, erasesIn, Observed, observe, observed, among, removed, inserted, storedAfter, replaces, start, noted, ledger, eraseCount}
 use Rattle.model.specs.Pages.{programPage, stepPages, runPages}
 use Rattle.model.specs.Bench.{call, whole, Setup, andThen, recording, recorded, left, Bench, bench, Example, sizes, olds, begins, answers, reads, counts, cuts, contentsIn, isCleanIn, cutHolds, exampleHolds, failing, upFrom, putEach, examples}
-use Rattle.model.specs.Laws.Chunk.{chunk-replicate}
+use Rattle.model.specs.Laws.Chunk.{chunk-length}
 use Rattle.model.specs.Laws.Chip.{run-length}
-use Rattle.model.specs.Laws.Pages.{pages-run}
+use Rattle.model.specs.Laws.Pages.{pages-run, all-erased}
 
 -- every definition unfolds where this name does
 unfoldable pub evaluate : ℕ
@@ -50,7 +50,7 @@ readPages N B ps b =
     (record { code = code; offset = 0; length = 0 })
 
 recordedPages : Setup → List Page
-recordedPages u = runPages (u .slots) (recording u) (replicate (u .segments * (u .slots + 1)) (replicate 256 0))
+recordedPages u = runPages (u .slots) (u .made) (replicate (u .segments * (u .slots + 1)) (erased 256))
 
 leftPages : Setup → List Page
 leftPages u = playPages (u .segments) (u .slots) (recordedPages u) (u .calls)
@@ -64,7 +64,7 @@ benchPages = record {
 }
 
 computed : failing benchPages 0 examples ≡ []
-unfolding evaluate workPages playPages seenPages readPages recording recordedPages leftPages benchPages contentsAt
+unfolding evaluate workPages playPages seenPages readPages recordedPages leftPages benchPages contentsAt
 computed = refl
 
 -- ---- the bench over pages is the bench over the image
@@ -123,11 +123,11 @@ unfolding recorded zeros
 recorded-length u = run-length (u .slots) (recording u) (zeros u) ∙ zeros-length u
 
 recorded-pages : (u : Setup) → pagesOf (u .segments) (u .slots) (recorded u) ≡ recordedPages u
-unfolding recorded recordedPages zeros
-recorded-pages u = pages-run (u .segments) (u .slots) (recording u) (zeros u) (zeros-length u) ∙ ap (λ y. runPages (u .slots) (recording u) y) blank-pages
-  where
-    blank-pages : pagesOf (u .segments) (u .slots) (zeros u) ≡ replicate (u .segments * (u .slots + 1)) (replicate 256 0)
-    blank-pages = unfold pagesOf imageLength in chunk-replicate (u .segments * (u .slots + 1)) 256 0
+unfolding recorded recording recordedPages zeros
+recorded-pages u =
+    let ps = pagesOf (u .segments) (u .slots) (zeros u) in
+    pages-run (u .segments) (u .slots) (recording u) (zeros u) (zeros-length u)
+    ∙ all-erased (u .segments) (u .slots) (u .made) ps (unfold pagesOf in chunk-length (u .segments * (u .slots + 1)) 256 (zeros u))
 
 left-length : (u : Setup) → length (left u) ≡ imageLength (u .segments) (u .slots)
 unfolding left
