@@ -24,7 +24,7 @@ use Rattle.flash.specs.Ran.{Ran, Programmed}
 use Rattle.flash.proofs.Laws.{_then_, ran-none, ran-length, ran-lent}
 use Rattle.flash.specs.Pages.{OnPageAt, Sized}
 use Rattle.flash.proofs.Pages.{in-page}
-use Rattle.header.specs.Parts.{beginCompaction, finishCopy}
+use Rattle.header_steps.specs.Parts.{beginCompaction, finishCopy}
 use Rattle.slot.proofs.Laws.Kinds.{Other, other-holds}
 use Rattle.slot.specs.Parts.{slotParts}
 use Rattle.slot.proofs.Laws.Writes.{slot-parts, write-within}

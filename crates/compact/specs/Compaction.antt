@@ -10,7 +10,7 @@ use Rattle.model.specs.State.{entries}
 use Rattle.model.specs.Steps.{copyEntries, compact, settle}
 use Rattle.model.specs.Laws.Segments.{partOf}
 use Rattle.flash.specs.Ran.{Ran, Programmed}
-use Rattle.header.specs.Parts.{beginCompaction, finishCopy, copy-out-parts}
+use Rattle.header_steps.specs.Parts.{beginCompaction, finishCopy, copy-out-parts}
 
 -- what the live slots of the segment with number o hold
 unfoldable pub liveEntries : ℕ → ℕ → ℕ → Image → List Entry

@@ -94,11 +94,11 @@ pub fn compact_segment(
     requires { ⌜ Sized segments slots (length (now image)) × Apart segments (old .0) (number .0) ⌝ }
     ensures { λ r. ⌜ Compaction segments slots total (old .0) (number .0) budget (r .left) (r .copied) (now (image .entry)) (now (image .exit)) ⌝ }
 {
-    let begun = header::begin_compaction(image, segments, slots, total, old, number, budget);
+    let begun = header_steps::begin_compaction(image, segments, slots, total, old, number, budget);
     let copy = copy_live(image, segments, slots, old, number, begun);
-    let pending = header::finish_copy(image, segments, slots, total, old, number, copy.left);
+    let pending = header_steps::finish_copy(image, segments, slots, total, old, number, copy.left);
     let erased = flash::erase_segment(image, index_of(segments, old), slots, pending);
-    let left = header::settle(image, segments, slots, number, erased);
+    let left = header_steps::settle(image, segments, slots, number, erased);
     Compacted {
         left,
         copied: copy.copied,

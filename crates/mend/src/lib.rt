@@ -93,7 +93,7 @@ fn erase_pending(
     ensures { λ r. ⌜ Carried (cond blank [] (erasing segments slots (top .0) (now (image .entry)))) (settle segments slots (top .0)) slots budget r (now (image .entry)) (now (image .exit)) ⌝ }
 {
     let erased = erase_old(image, segments, slots, top, blank, budget);
-    let left = header::settle(image, segments, slots, top, erased);
+    let left = header_steps::settle(image, segments, slots, top, erased);
     request::finished(budget, left, erased, 1)
 }
 

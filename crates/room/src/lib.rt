@@ -87,7 +87,14 @@ pub fn make_room(
         };
     }
     if used + 1 < segments {
-        let left = header::open_header(image, segments, slots, total, after(first, used), budget);
+        let left = header_steps::open_header(
+            image,
+            segments,
+            slots,
+            total,
+            after(first, used),
+            budget,
+        );
         return Room {
             left,
             first,

@@ -32,7 +32,7 @@ pub fn format(image: &mut [u8], segments: usize, slots: usize, budget: u64) -> P
         return request::refused(Answer::Size);
     }
     let erased = erasing::erase_all(image, segments, slots, budget);
-    let left = header::open_header(image, segments, slots, 0, SegmentNumber(0), erased);
+    let left = header_steps::open_header(image, segments, slots, 0, SegmentNumber(0), erased);
     request::finished(budget, left, erased, OPENING)
 }
 

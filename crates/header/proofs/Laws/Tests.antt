@@ -56,11 +56,6 @@ unfolding headerFields headerPage numberBytes inverted erased newVersion version
 fields-made N B true st n old v a b c d ev ea eb ec ed = rw (ev, ea, eb, ec, ed)
 fields-made N B false st n old v a b c d ev ea eb ec ed = rw (ev, ea, eb, ec, ed)
 
-pub page-made : (N B t st n old a b c d : ℕ) (p : Page) → p ≡ headerFields N B false st n old → a ≡ t % 256 → b ≡ t / 256 % 256 → c ≡ t / 256 / 256 % 256 → d ≡ t / 256 / 256 / 256 % 256
-    → set (set (set (set p 17 a) 18 b) 19 c) 20 d ≡ headerPage N B (newVersion t) st n old
-unfolding headerFields headerPage numberBytes inverted erased newVersion versionNumber tallyBytes
-page-made N B t st n old a b c d p e ea eb ec ed = rw (e, ea, eb, ec, ed)
-
 -- ---- two runs of bytes compared
 
 pub same-stop : (a b : List ℕ) (i : ℕ) → length a ≡ length b → i < length a → (getD a i 0 ≡ getD b i 0 → ⊥) → same (drop i a) (drop i b) ≡ false

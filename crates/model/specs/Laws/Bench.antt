@@ -1,8 +1,8 @@
 -- Every bench example holds: computed over pages, and carried to the image by the law that joins the two.
 use Prim.Native.Nat.{ℕ, suc, _+_, _-_, _*_}
 use mathlib.Core.Path.{_≡_, refl, ap, ap₂, _∙_}
-use mathlib.Core.Bool.{cond, and-true}
-use mathlib.Core.List.{List, [], _∷_, flatMap, flatten}
+use mathlib.Core.Bool.{Bool, true, cond, _&&_, and-true}
+use mathlib.Core.List.{List, [], _∷_, _++_, flatMap, flatten}
 use lib.ListN.{length, take, replicate, length-replicate}
 use lib.Dec.{eqb}
 use borrow.Author.Tests.{eq-eqb}
@@ -17,9 +17,10 @@ use Rattle.model.specs.Answers.{Request, read, recover, Work, firstOf, i
 use Rattle.model.specs.Sequences.{Call, play, erasesIn, Observed, observe, observed, among, removed, inserted, storedAfter, replaces, start, noted, ledger, eraseCount}
 use Rattle.model.specs.Pages.{programPage, stepPages, runPages}
 use Rattle.model.specs.Bench.{call, whole, Setup, andThen, recording, recorded, left, Bench, bench, Example, sizes, olds, begins, answers, reads, counts, cuts, contentsIn, isCleanIn, cutHolds, exampleHolds, failing, upFrom, putEach, examples}
-use Rattle.model.specs.Laws.Chunk.{chunk-replicate}
+use Rattle.model.specs.Laws.Lists.{and-left, and-right}
+use Rattle.model.specs.Laws.Chunk.{chunk-length}
 use Rattle.model.specs.Laws.Chip.{run-length}
-use Rattle.model.specs.Laws.Pages.{pages-run}
+use Rattle.model.specs.Laws.Pages.{pages-run, all-erased}
 
 -- every definition unfolds where this name does
 unfoldable pub evaluate : ℕ
@@ -50,7 +51,7 @@ readPages N B ps b =
     (record { code = code; offset = 0; length = 0 })
 
 recordedPages : Setup → List Page
-recordedPages u = runPages (u .slots) (recording u) (replicate (u .segments * (u .slots + 1)) (replicate 256 0))
+recordedPages u = runPages (u .slots) (u .made) (replicate (u .segments * (u .slots + 1)) (erased 256))
 
 leftPages : Setup → List Page
 leftPages u = playPages (u .segments) (u .slots) (recordedPages u) (u .calls)
@@ -63,8 +64,32 @@ benchPages = record {
   seen = λ u. seenPages (u .segments) (u .slots) (recordedPages u) (u .calls);
 }
 
-computed : failing benchPages 0 examples ≡ []
-unfolding evaluate workPages playPages seenPages readPages recording recordedPages leftPages benchPages contentsAt
+-- the cuts of one request, of an image that is made once
+cutPages : ℕ → ℕ → List Page → Work → ℕ → ℕ → List ℕ → List ℕ → Bool
+cutPages N B ps w count b bytes [] = true
+cutPages N B ps w count b bytes (k ∷ ks) =
+    let rest = cutPages N B ps w count b bytes ks in
+    let cutOff = runPages B (take k (w .steps)) ps in
+    let mending = workPages N B cutOff recover .steps in
+    let mended = runPages B (take 1000 mending) cutOff in
+    eqb (codeUnder k w) 9 && (eqb (length mending) count && (isCleanIn N B mended && (same (contentsIn N B b mended) bytes && rest)))
+
+holdsPages : Example → Bool
+holdsPages (sizes N B l c) = exampleHolds benchPages (sizes N B l c)
+holdsPages (olds N i old) = exampleHolds benchPages (olds N i old)
+holdsPages (begins u p bytes) = exampleHolds benchPages (begins u p bytes)
+holdsPages (answers u r code n e) = exampleHolds benchPages (answers u r code n e)
+holdsPages (reads u b code at n) = exampleHolds benchPages (reads u b code at n)
+holdsPages (counts u e r l) = exampleHolds benchPages (counts u e r l)
+holdsPages (cuts u r ks n b bytes) = let ps = leftPages u in cutPages (u .segments) (u .slots) ps (workPages (u .segments) (u .slots) ps r) n b bytes ks
+
+-- up to the first that fails
+allHold : List Example → Bool
+allHold [] = true
+allHold (x ∷ xs) = let rest = allHold xs in holdsPages x && rest
+
+computed : allHold examples ≡ true
+unfolding evaluate workPages playPages seenPages readPages recordedPages leftPages benchPages contentsAt cutPages holdsPages allHold
 computed = refl
 
 -- ---- the bench over pages is the bench over the image
@@ -123,11 +148,11 @@ unfolding recorded zeros
 recorded-length u = run-length (u .slots) (recording u) (zeros u) ∙ zeros-length u
 
 recorded-pages : (u : Setup) → pagesOf (u .segments) (u .slots) (recorded u) ≡ recordedPages u
-unfolding recorded recordedPages zeros
-recorded-pages u = pages-run (u .segments) (u .slots) (recording u) (zeros u) (zeros-length u) ∙ ap (λ y. runPages (u .slots) (recording u) y) blank-pages
-  where
-    blank-pages : pagesOf (u .segments) (u .slots) (zeros u) ≡ replicate (u .segments * (u .slots + 1)) (replicate 256 0)
-    blank-pages = unfold pagesOf imageLength in chunk-replicate (u .segments * (u .slots + 1)) 256 0
+unfolding recorded recording recordedPages zeros
+recorded-pages u =
+    let ps = pagesOf (u .segments) (u .slots) (zeros u) in
+    pages-run (u .segments) (u .slots) (recording u) (zeros u) (zeros-length u)
+    ∙ all-erased (u .segments) (u .slots) (u .made) ps (unfold pagesOf in chunk-length (u .segments * (u .slots + 1)) 256 (zeros u))
 
 left-length : (u : Setup) → length (left u) ≡ imageLength (u .segments) (u .slots)
 unfolding left
@@ -149,15 +174,25 @@ seen-same : (u : Setup) → bench .seen u ≡ benchPages .seen u
 unfolding bench benchPages
 seen-same u = seen-pages (u .segments) (u .slots) (u .calls) (recorded u) (recorded-length u) ∙ ap (λ y. seenPages (u .segments) (u .slots) y (u .calls)) (recorded-pages u)
 
-cut-same : (u : Setup) (r : Request) (n b : ℕ) (bytes ks : List ℕ) → cutHolds bench u r n b bytes ks ≡ cutHolds benchPages u r n b bytes ks
-unfolding cutHolds
+play-append : (N B : ℕ) (xs ys : List Call) (ps : List Page) → playPages N B ps (xs ++ ys) ≡ playPages N B (playPages N B ps xs) ys
+unfolding playPages
+play-append N B [] ys ps = refl
+play-append N B (x ∷ xs) ys ps = play-append N B xs ys (runPages B (take (x .allowance) (workPages N B ps (x .request) .steps)) ps)
+
+left-then : (u : Setup) (r : Request) (k : ℕ) → leftPages (andThen u (call r k ∷ [])) ≡ runPages (u .slots) (take k (workPages (u .segments) (u .slots) (leftPages u) r .steps)) (leftPages u)
+unfolding leftPages playPages recordedPages
+left-then u r k = play-append (u .segments) (u .slots) (u .calls) (call r k ∷ []) (recordedPages u)
+
+cut-same : (u : Setup) (r : Request) (n b : ℕ) (bytes ks : List ℕ)
+    → cutHolds bench u r n b bytes ks ≡ cutPages (u .segments) (u .slots) (leftPages u) (workPages (u .segments) (u .slots) (leftPages u) r) n b bytes ks
+unfolding cutHolds cutPages benchPages
 cut-same u r n b bytes [] = refl
 cut-same u r n b bytes (k ∷ ks) =
     let cutOff = andThen u (call r k ∷ []) in
-    rw (work-same u r, work-same cutOff recover, pages-same (andThen cutOff (whole recover ∷ [])), cut-same u r n b bytes ks)
+    rw (work-same u r, work-same cutOff recover, pages-same (andThen cutOff (whole recover ∷ [])), left-then cutOff recover 1000, left-then u r k, cut-same u r n b bytes ks)
 
-example-same : (x : Example) → exampleHolds bench x ≡ exampleHolds benchPages x
-unfolding exampleHolds
+example-same : (x : Example) → exampleHolds bench x ≡ holdsPages x
+unfolding exampleHolds holdsPages
 example-same (sizes N B l c) = refl
 example-same (olds N i old) = refl
 example-same (begins u p bytes) = rw (pages-same u)
@@ -166,11 +201,11 @@ example-same (reads u b code at n) = rw (found-same u b)
 example-same (counts u e r l) = rw (seen-same u)
 example-same (cuts u r ks n b bytes) = cut-same u r n b bytes ks
 
-failing-same : (i : ℕ) (xs : List Example) → failing bench i xs ≡ failing benchPages i xs
-unfolding failing
-failing-same i [] = refl
-failing-same i (x ∷ xs) = rw (example-same x, failing-same (suc i) xs)
+none-fails : (i : ℕ) (xs : List Example) → allHold xs ≡ true → failing bench i xs ≡ []
+unfolding failing allHold
+none-fails i [] h = refl
+none-fails i (x ∷ xs) h = rw (example-same x, and-left (holdsPages x) (allHold xs) h) (none-fails (suc i) xs (and-right (holdsPages x) (allHold xs) h))
 
 -- no example of the table fails
 pub examples-hold : failing bench 0 examples ≡ []
-examples-hold = failing-same 0 examples ∙ computed
+examples-hold = none-fails 0 examples computed

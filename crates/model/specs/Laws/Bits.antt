@@ -13,7 +13,7 @@ use Rattle.model.specs.Chip.{Bytes, program, clear}
 use Rattle.model.specs.Header.{bitValues, clearedIn, clearedBits}
 use Rattle.model.specs.Steps.{highestOf, highestBit, clearNext}
 use Rattle.model.specs.Laws.Lists.{and-left, and-right}
-use Rattle.model.specs.Laws.Bytes.{OneBit, allBelow, below, endsOnly, one-bit}
+use Rattle.model.specs.Laws.Bytes.{OneBit, allBelow, below, oneApart, one-bit}
 
 -- the bits after the step
 unfoldable pub nextCleared : List ℕ → List ℕ
@@ -38,17 +38,17 @@ one-more x h n = eqb-true _ _ (each (below countsOne 256 counts-one x h))
     each q = or-second (eqb x 0) (eqb (clearedIn (clear x (x - highestBit x))) (suc (clearedIn x))) n (unfold countsOne in q)
 
 oneBitEach : ℕ → Bool
-oneBitEach x = eqb x 0 || allBelow (endsOnly (clear x (x - highestBit x)) x) 256
+oneBitEach x = eqb x 0 || oneApart 8 (clear x (x - highestBit x)) x
 
 one-bit-each : allBelow oneBitEach 256 ≡ true
-unfolding allBelow oneBitEach endsOnly clear highestBit highestOf bitValues
+unfolding allBelow oneBitEach oneApart clear highestBit highestOf bitValues
 one-bit-each = refl
 
 pub highest-bit : (x : ℕ) → x < 256 → eqb x 0 ≡ false → OneBit (clear x (x - highestBit x)) x
-highest-bit x h n = one-bit (clear x (x - highestBit x)) x h (each (below oneBitEach 256 one-bit-each x h))
+highest-bit x h n = one-bit 8 (clear x (x - highestBit x)) x (each (below oneBitEach 256 one-bit-each x h))
   where
-    each : oneBitEach x ≡ true → allBelow (endsOnly (clear x (x - highestBit x)) x) 256 ≡ true
-    each q = or-second (eqb x 0) (allBelow (endsOnly (clear x (x - highestBit x)) x) 256) n (unfold oneBitEach in q)
+    each : oneBitEach x ≡ true → oneApart 8 (clear x (x - highestBit x)) x ≡ true
+    each q = or-second (eqb x 0) (oneApart 8 (clear x (x - highestBit x)) x) n (unfold oneBitEach in q)
 
 -- the step clears one more
 pub cleared-more : (bits : List ℕ) → Bytes bits → all (λ x. eqb x 0) bits ≡ false → clearedBits (nextCleared bits) ≡ suc (clearedBits bits)

@@ -1,7 +1,7 @@
 -- Laws of bytes: what clearing leaves; bytes one bit apart; a number in four bytes; equal lists; erased bytes.
 use Prim.Native.Nat.{ℕ, zero, suc, _+_, _*_, _/_, _%_, _^_, min, _≤_, _<_}
 use mathlib.Core.Path.{_≡_, refl, sym, ap, ap₂, _∙_, subst}
-use mathlib.Core.Logic.{_⊎_, inl, inr}
+use mathlib.Core.Logic.{_⊎_, inl, inr, ⊎-elim}
 use mathlib.Core.Bool.{Bool, true, false, cond, _||_, _&&_, not, false≢true}
 use mathlib.Core.List.{List, [], _∷_, _++_}
 use native.Mathlib.Omega.{arith}
@@ -79,50 +79,66 @@ below f (suc n) t x h = elim (decLt x n) [
   | no g ↦ (let e : n ≡ x = omega arith in rw (← e) (and-left (f n) (allBelow f n) t))
 ]
 
-unfoldable pub endsOnly : ℕ → ℕ → ℕ → Bool
-endsOnly lo hi x = not (eqb (clear lo x) lo && eqb (clear x hi) x) || (eqb x lo || eqb x hi)
+-- the bits of a are bits of b: the lowest one, and the others
+within-low : (a b : ℕ) → clear a b ≡ a → a % 2 ≤ b % 2
+within-low a b e = let q : a / 1 % 2 ≤ b / 1 % 2 = within-bit a b 0 e in omega arith
 
--- a law of all bytes, computed
-pub one-bit : (lo hi : ℕ) → hi < 256 → allBelow (endsOnly lo hi) 256 ≡ true → OneBit lo hi
-unfolding endsOnly
-one-bit lo hi h law x c =
-    go (eqb x lo) refl (eqb x hi) refl (rw (eq-eqb (clear lo x) lo (c .0), eq-eqb (clear x hi) x (c .1)) at (below (endsOnly lo hi) 256 law x (omega (arith, clear-le-value x hi, c .1))))
+within-half : (a b : ℕ) → clear a b ≡ a → clear (a / 2) (b / 2) ≡ a / 2
+unfolding clear
+within-half a b e = omega (arith, e, and-step a b, min-le-right (a % 2) (b % 2))
+
+-- of the lowest k bits hi has one that lo has not, and above that they are equal
+unfoldable pub oneApart : ℕ → ℕ → ℕ → Bool
+oneApart zero lo hi = false
+oneApart (suc k) lo hi = cond (eqb (lo % 2) (hi % 2)) (oneApart k (lo / 2) (hi / 2)) (eqb (lo / 2) (hi / 2))
+
+pub one-bit : (k lo hi : ℕ) → oneApart k lo hi ≡ true → OneBit lo hi
+unfolding oneApart
+one-bit zero lo hi h x c = absurd (false≢true h)
+one-bit (suc k) lo hi h x (u, v) = go (eqb (lo % 2) (hi % 2)) refl h (λ q. one-bit k (lo / 2) (hi / 2) q (x / 2) (within-half lo x u, within-half x hi v))
   where
-    go : (a : Bool) → eqb x lo ≡ a → (b : Bool) → eqb x hi ≡ b → (a || b) ≡ true → (x ≡ lo) ⊎ (x ≡ hi)
-    go true e b f t = inl (eqb-true x lo e)
-    go false e true f t = inr (eqb-true x hi f)
-    go false e false f t = absurd (false≢true t)
+    go : (t : Bool) → eqb (lo % 2) (hi % 2) ≡ t → cond t (oneApart k (lo / 2) (hi / 2)) (eqb (lo / 2) (hi / 2)) ≡ true
+        → (oneApart k (lo / 2) (hi / 2) ≡ true → (x / 2 ≡ lo / 2) ⊎ (x / 2 ≡ hi / 2)) → (x ≡ lo) ⊎ (x ≡ hi)
+    go true e q ih =
+        let f = eqb-true (lo % 2) (hi % 2) e in
+        ⊎-elim (λ g. inl (omega (arith, f, g, within-low lo x u, within-low x hi v))) (λ g. inr (omega (arith, f, g, within-low lo x u, within-low x hi v))) (ih q)
+    go false e q ih =
+        let f = eqb-true (lo / 2) (hi / 2) q in
+        elim (decLt x hi) [
+          | yes l ↦ inl (omega (arith, f, l, within-le lo x u, within-low lo x u, within-low x hi v))
+          | no g ↦ inr (omega (arith, g, within-le x hi v))
+        ]
 
 -- FF to 7F, 7F to 3F: a slot written, a segment opened
 pub begun-bit : OneBit writeBegun 255
-unfolding endsOnly allBelow clear
-begun-bit = one-bit writeBegun 255 (omega arith) refl
+unfolding oneApart
+begun-bit = one-bit 8 writeBegun 255 refl
 
 pub written-bit : OneBit written writeBegun
-unfolding endsOnly allBelow clear
-written-bit = one-bit written writeBegun (omega arith) refl
+unfolding oneApart
+written-bit = one-bit 8 written writeBegun refl
 
 -- 3F to 1F, 7F to 5F: a slot marked
 pub live-dead-bit : OneBit 0x1F written
-unfolding endsOnly allBelow clear
-live-dead-bit = one-bit 0x1F written (omega arith) refl
+unfolding oneApart
+live-dead-bit = one-bit 8 0x1F written refl
 
 pub torn-dead-bit : OneBit 0x5F writeBegun
-unfolding endsOnly allBelow clear
-torn-dead-bit = one-bit 0x5F writeBegun (omega arith) refl
+unfolding oneApart
+torn-dead-bit = one-bit 8 0x5F writeBegun refl
 
 -- FF to DF, DF to 9F, 9F to 8F: a segment tidied
 pub compaction-begun-bit : OneBit compactionBegun 255
-unfolding endsOnly allBelow clear
-compaction-begun-bit = one-bit compactionBegun 255 (omega arith) refl
+unfolding oneApart
+compaction-begun-bit = one-bit 8 compactionBegun 255 refl
 
 pub erase-pending-bit : OneBit erasePending compactionBegun
-unfolding endsOnly allBelow clear
-erase-pending-bit = one-bit erasePending compactionBegun (omega arith) refl
+unfolding oneApart
+erase-pending-bit = one-bit 8 erasePending compactionBegun refl
 
 pub compacted-bit : OneBit compacted erasePending
-unfolding endsOnly allBelow clear
-compacted-bit = one-bit compacted erasePending (omega arith) refl
+unfolding oneApart
+compacted-bit = one-bit 8 compacted erasePending refl
 
 -- ---- a number in four bytes
 

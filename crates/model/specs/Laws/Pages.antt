@@ -1,17 +1,17 @@
 -- The pages of a run are the run of the pages. A step inside a page changes that page only; an erase, that segment only.
-use Prim.Native.Nat.{ℕ, suc, _+_, _-_, _*_, _/_, _%_, _≤_, _<_}
+use Prim.Native.Nat.{ℕ, zero, suc, _+_, _-_, _*_, _/_, _%_, _≤_, _<_}
 use mathlib.Core.Path.{_≡_, refl, sym, ap, _∙_}
 use mathlib.Core.Logic.{inl, inr}
-use mathlib.Core.List.{List, [], _∷_, _++_}
+use mathlib.Core.List.{List, [], _∷_, _++_, append-nil, append-assoc}
 use native.Mathlib.Omega.{arith}
 use native.Mathlib.Nat.{div-add-mod'}
 use native.Mathlib.Decide.{decLt, decLe}
-use lib.ListN.{length, getD, take, drop, set, replicate, length-set, length-replicate, length-take}
-use lib.Seq.{set-out, set-set, set-getD, getD-set-same}
+use lib.ListN.{length, getD, take, drop, set, replicate, length-set, length-replicate, length-append, length-take, length-drop, drop-of-length-le, replicate-append-replicate}
+use lib.Seq.{take-at, drop-at, drop-drop, set-out, set-set, set-getD, getD-set-same}
 use borrow.Author.Tests.{le-leb, lt-leb}
 use Rattle.model.specs.Lists.{chunk}
 use Rattle.model.specs.Chip.{Image, Page, Step, program, erase, clear, erased, withSegment, step, run, imageLength, pagesOf, Cut}
-use Rattle.model.specs.Steps.{programs, programPart, onPage}
+use Rattle.model.specs.Steps.{programs, programPart, onPage, eraseFirst}
 use Rattle.model.specs.Pages.{programPage, stepPages, runPages}
 use Rattle.model.specs.Laws.Chunk.{chunk-length, chunk-set, chunk-get, chunk-replace, chunk-replicate}
 use Rattle.model.specs.Laws.Chip.{step-length}
@@ -49,6 +49,41 @@ pub pages-run : (N B : ℕ) (xs : List Step) (s : Image) → length s ≡ imageL
 unfolding run runPages
 pages-run N B [] s h = refl
 pages-run N B (x ∷ xs) s h = pages-run N B xs (step B x s) (step-length B x s ∙ h) ∙ ap (λ y. runPages B xs y) (pages-step N B x s h)
+
+-- ---- the first segments erased
+
+pages-append : (B : ℕ) (xs ys : List Step) (ps : List Page) → runPages B (xs ++ ys) ps ≡ runPages B ys (runPages B xs ps)
+unfolding runPages
+pages-append B [] ys ps = refl
+pages-append B (x ∷ xs) ys ps = pages-append B xs ys (stepPages B x ps)
+
+erase-one-more : (B i : ℕ) (ps : List Page) → suc i * (B + 1) ≤ length ps
+    → stepPages B (erase i) (replicate (i * (B + 1)) (erased 256) ++ drop (i * (B + 1)) ps) ≡ replicate (suc i * (B + 1)) (erased 256) ++ drop (suc i * (B + 1)) ps
+unfolding stepPages
+erase-one-more B i ps h =
+    let n = i * (B + 1) in
+    let done = replicate n (erased 256) in
+    let l = length-replicate n (erased 256) in
+    let size : length (done ++ drop n ps) ≡ length ps = length-append done (drop n ps) ∙ omega (arith, l, length-drop n ps) in
+    let rest : drop (n + (B + 1)) (done ++ drop n ps) ≡ drop (n + (B + 1)) ps =
+    sym (drop-drop (B + 1) n (done ++ drop n ps)) ∙ ap (λ (y : List Page). drop (B + 1) y) (drop-at done (drop n ps) n l) ∙ drop-drop (B + 1) n ps in
+    let total : suc i * (B + 1) ≡ n + (B + 1) = omega arith in
+    rw (le-leb (n + (B + 1)) (length (done ++ drop n ps)) (omega arith), take-at done (drop n ps) n l, rest, total)
+    (sym (append-assoc done (replicate (B + 1) (erased 256)) (drop (n + (B + 1)) ps))
+    ∙ ap (λ (y : List Page). y ++ drop (n + (B + 1)) ps) (replicate-append-replicate n (B + 1) (erased 256)))
+
+pub first-erased : (B k : ℕ) (ps : List Page) → k * (B + 1) ≤ length ps → runPages B (eraseFirst k) ps ≡ replicate (k * (B + 1)) (erased 256) ++ drop (k * (B + 1)) ps
+unfolding runPages eraseFirst
+first-erased B zero ps h = let e : 0 * (B + 1) ≡ 0 = omega arith in rw e
+first-erased B (suc k) ps h =
+    pages-append B (eraseFirst k) (erase k ∷ []) ps ∙ ap (λ (y : List Page). stepPages B (erase k) y) (first-erased B k ps (omega arith)) ∙ erase-one-more B k ps h
+
+-- an image erased whole, and then these steps
+pub all-erased : (N B : ℕ) (xs : List Step) (ps : List Page) → length ps ≡ N * (B + 1) → runPages B (eraseFirst N ++ xs) ps ≡ runPages B xs (replicate (N * (B + 1)) (erased 256))
+all-erased N B xs ps h =
+    pages-append B (eraseFirst N) xs ps
+    ∙ ap (λ (y : List Page). runPages B xs y)
+    (first-erased B N ps (omega arith) ∙ ap (λ (y : List Page). replicate (N * (B + 1)) (erased 256) ++ y) (drop-of-length-le ps {i = N * (B + 1)} (omega arith)) ∙ append-nil (replicate (N * (B + 1)) (erased 256)))
 
 -- ---- steps inside one page
 

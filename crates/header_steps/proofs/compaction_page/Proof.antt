@@ -1,9 +1,9 @@
--- `header::compaction_page` makes up the page of the definition. Assumes nothing.
+-- `header_steps::compaction_page` makes up the page of the definition. Assumes nothing.
 use native.Mathlib.Omega.{arith}
 use Rattle.flash.proofs.Pages.{index-small}
 use borrow.Author.Needs.{needs}
-use Rattle.header.proofs.compaction_page.Statement.{statement}
-use Rattle.header.proofs.compaction_page.Tie as tie
+use Rattle.header_steps.proofs.compaction_page.Statement.{statement}
+use Rattle.header_steps.proofs.compaction_page.Tie as tie
 
 cast-index : tie.Need-cast-index
 cast-index c = search needs

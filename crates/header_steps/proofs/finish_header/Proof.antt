@@ -1,8 +1,8 @@
--- `header::finish_header` does the last steps in a header, call by call. Assumes nothing.
-use Rattle.header.proofs.Laws.Writes.{header-finished}
+-- `header_steps::finish_header` does the last steps in a header, call by call. Assumes nothing.
+use Rattle.header_steps.proofs.Laws.{header-finished}
 use borrow.Author.Needs.{needs}
-use Rattle.header.proofs.finish_header.Statement.{statement}
-use Rattle.header.proofs.finish_header.Tie as tie
+use Rattle.header_steps.proofs.finish_header.Statement.{statement}
+use Rattle.header_steps.proofs.finish_header.Tie as tie
 
 sub-program-part : tie.Need-sub-program-part
 sub-program-part c = search needs

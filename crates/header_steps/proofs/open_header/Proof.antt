@@ -1,15 +1,15 @@
--- `header::begin_compaction` does the first part of the definition's steps, in the header's page. Assumes nothing.
+-- `header_steps::open_header` does the steps of the definition, in the header's page. Assumes nothing.
 use native.Mathlib.Omega.{arith}
 use denote.Ref.{now}
 use Rattle.model.specs.Header.{newVersion}
 use Rattle.flash.proofs.Pages.{header-inside}
-use Rattle.header.proofs.Laws.Writes.{compaction-begun}
+use Rattle.header_steps.proofs.Laws.{header-opened}
 use borrow.Author.Needs.{needs}
-use Rattle.header.proofs.begin_compaction.Statement.{statement}
-use Rattle.header.proofs.begin_compaction.Tie as tie
+use Rattle.header_steps.proofs.open_header.Statement.{statement}
+use Rattle.header_steps.proofs.open_header.Tie as tie
 
-compaction-page-requires : tie.Need-compaction-page-requires
-compaction-page-requires c κs = search needs
+header-page-requires : tie.Need-header-page-requires
+header-page-requires c κs = search needs
 
 header-place-requires : tie.Need-header-place-requires
 header-place-requires c κs = search needs
@@ -36,11 +36,11 @@ slice-aggregate-begin-header c = search needs
 begin-header-requires : tie.Need-begin-header-requires
 begin-header-requires c κs = search needs
 
-slice-aggregate-program-part : tie.Need-slice-aggregate-program-part
-slice-aggregate-program-part c = search needs
+slice-aggregate-finish-header : tie.Need-slice-aggregate-finish-header
+slice-aggregate-finish-header c = search needs
 
-program-part-requires : tie.Need-program-part-requires
-program-part-requires c κs = search needs
+finish-header-requires : tie.Need-finish-header-requires
+finish-header-requires c κs = search needs
 
 same-length : tie.Need-same-length
 same-length c = search needs
@@ -48,14 +48,14 @@ same-length c = search needs
 returns : tie.Need-returns
 returns c =
     let a = c .before .before .before .before .before .before .before .before .before .before .before .before .before in
-    compaction-begun (a .args .segments) (a .args .slots) _ (now (a .args .image)) _ (a .pre) (newVersion (a .args .total)) (a .args .old .0) (a .args .number .0)
-    (c .before .before .before .before .before .before .before .before .before .before .header-place .ensures) (c .before .before .before .before .before .before .before .before .before .before .before .compaction-page .ensures) (c .before .before .before .before .before .before .begin-header .ensures) (c .before .before .program-part .ensures)
+    header-opened (a .args .segments) (a .args .slots) _ (now (a .args .image)) _ (a .pre) (newVersion (a .args .total)) (a .args .number .0)
+    (c .before .before .before .before .before .before .before .before .before .before .header-place .ensures) (c .before .before .before .before .before .before .before .before .before .before .before .header-page .ensures) (c .before .before .before .before .before .before .begin-header .ensures) (c .before .before .finish-header .ensures)
 
-pub begin-compaction-spec : {M : Type 1} → statement M
-begin-compaction-spec =
+pub open-header-spec : {M : Type 1} → statement M
+open-header-spec =
     tie.close
     (tie.spec
-    compaction-page-requires
+    header-page-requires
     header-place-requires
     add-end
     sub-header
@@ -63,7 +63,7 @@ begin-compaction-spec =
     part-header-end
     slice-aggregate-begin-header
     begin-header-requires
-    slice-aggregate-program-part
-    program-part-requires
+    slice-aggregate-finish-header
+    finish-header-requires
     same-length
     returns)

@@ -1,12 +1,12 @@
--- `header::finish_copy` does the last part of the definition's steps, in the header's page. Assumes nothing.
+-- `header_steps::finish_copy` does the last part of the definition's steps, in the header's page. Assumes nothing.
 use native.Mathlib.Omega.{arith}
 use denote.Ref.{now}
 use Rattle.model.specs.Header.{newVersion}
 use Rattle.flash.proofs.Pages.{header-inside}
-use Rattle.header.proofs.Laws.Writes.{copy-finished}
+use Rattle.header_steps.proofs.Laws.{copy-finished}
 use borrow.Author.Needs.{needs}
-use Rattle.header.proofs.finish_copy.Statement.{statement}
-use Rattle.header.proofs.finish_copy.Tie as tie
+use Rattle.header_steps.proofs.finish_copy.Statement.{statement}
+use Rattle.header_steps.proofs.finish_copy.Tie as tie
 
 compaction-page-requires : tie.Need-compaction-page-requires
 compaction-page-requires c κs = search needs

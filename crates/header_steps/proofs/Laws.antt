@@ -1,17 +1,24 @@
 -- Laws of headers that are made up and then programmed, where they belong in the image.
-use Prim.Native.Nat.{ℕ, _+_, _-_, _*_, _%_, _≤_}
+use Prim.Native.Nat.{ℕ, _+_, _-_, _*_, _/_, _%_, _≤_}
 use mathlib.Core.Path.{_≡_}
+use mathlib.Core.Bool.{false}
 use mathlib.Core.List.{[], _∷_, _++_, append-assoc}
 use native.Mathlib.Omega.{arith}
-use lib.ListN.{length, take, drop}
-use Rattle.model.specs.Chip.{Image, Page, program}
-use Rattle.model.specs.Header.{openingBegun, opened, compactionBegun, erasePending, compacted, noOldSegment, Version, headerPage}
+use lib.ListN.{length, take, drop, set}
+use Rattle.model.specs.Chip.{Image, Page, program, erased}
+use Rattle.model.specs.Header.{numberBytes, inverted, openingBegun, opened, compactionBegun, erasePending, compacted, noOldSegment, Version, newVersion, versionNumber, tallyBytes, headerPage}
 use Rattle.model.specs.Steps.{programPart, onPage, headerAt, openSegment, settle}
 use Rattle.flash.specs.Ran.{Programmed, Within}
 use Rattle.flash.specs.Pages.{Sized}
 use Rattle.flash.proofs.Laws.{_then_, within-append}
 use Rattle.flash.proofs.Pages.{within-part, on-page, in-page, header-inside}
-use Rattle.header.specs.Parts.{headerBegun, headerFinished, beginCompaction, finishCopy}
+use Rattle.header.specs.Parts.{headerFields}
+use Rattle.header_steps.specs.Parts.{headerBegun, headerFinished, beginCompaction, finishCopy}
+
+pub page-made : (N B t st n old a b c d : ℕ) (p : Page) → p ≡ headerFields N B false st n old → a ≡ t % 256 → b ≡ t / 256 % 256 → c ≡ t / 256 / 256 % 256 → d ≡ t / 256 / 256 / 256 % 256
+    → set (set (set (set p 17 a) 18 b) 19 c) 20 d ≡ headerPage N B (newVersion t) st n old
+unfolding headerFields headerPage numberBytes inverted erased newVersion versionNumber tallyBytes
+page-made N B t st n old a b c d p e ea eb ec ed = rw (e, ea, eb, ec, ed)
 
 pub header-begun : (p : Page) (st : ℕ) {n n₁ n₂ n₃ : ℕ} {s s₁ s₂ s₃ : Image} → Programmed (program 5 st ∷ []) n n₁ s s₁ → Programmed (programPart p 0 5) n₁ n₂ s₁ s₂
     → Programmed (programPart p 6 2) n₂ n₃ s₂ s₃ → Programmed (headerBegun p st) n n₃ s s₃

@@ -1,8 +1,8 @@
--- `header::header_page` makes up the page of the definition. Assumes nothing.
-use Rattle.header.proofs.Laws.Tests.{page-made}
+-- `header_steps::header_page` makes up the page of the definition. Assumes nothing.
+use Rattle.header_steps.proofs.Laws.{page-made}
 use borrow.Author.Needs.{needs}
-use Rattle.header.proofs.header_page.Statement.{statement}
-use Rattle.header.proofs.header_page.Tie as tie
+use Rattle.header_steps.proofs.header_page.Statement.{statement}
+use Rattle.header_steps.proofs.header_page.Tie as tie
 
 header-fields-requires : tie.Need-header-fields-requires
 header-fields-requires c κs = search needs

@@ -1,10 +1,10 @@
--- `header::settle` does the one step of the definition, in the header's page. Assumes nothing.
+-- `header_steps::settle` does the one step of the definition, in the header's page. Assumes nothing.
 use native.Mathlib.Omega.{arith}
 use Rattle.flash.proofs.Pages.{header-inside}
-use Rattle.header.proofs.Laws.Writes.{settled}
+use Rattle.header_steps.proofs.Laws.{settled}
 use borrow.Author.Needs.{needs}
-use Rattle.header.proofs.settle.Statement.{statement}
-use Rattle.header.proofs.settle.Tie as tie
+use Rattle.header_steps.proofs.settle.Statement.{statement}
+use Rattle.header_steps.proofs.settle.Tie as tie
 
 header-place-requires : tie.Need-header-place-requires
 header-place-requires c κs = search needs

@@ -1,8 +1,8 @@
--- `header::begin_header` does the first steps in a header, call by call. Assumes nothing.
-use Rattle.header.proofs.Laws.Writes.{header-begun}
+-- `header_steps::begin_header` does the first steps in a header, call by call. Assumes nothing.
+use Rattle.header_steps.proofs.Laws.{header-begun}
 use borrow.Author.Needs.{needs}
-use Rattle.header.proofs.begin_header.Statement.{statement}
-use Rattle.header.proofs.begin_header.Tie as tie
+use Rattle.header_steps.proofs.begin_header.Statement.{statement}
+use Rattle.header_steps.proofs.begin_header.Tie as tie
 
 program-byte-requires : tie.Need-program-byte-requires
 program-byte-requires c κs = search needs
