@@ -23,14 +23,14 @@ ghost use Rattle.accounts.specs.Foretells.{foretold};
 
 // An image of another size.
 fn wrong_size(text: &mut [u8]) -> Printed
-    ensures { λ r. ⌜ printed r (now (text .exit)) ≡ printIn wrongSize (now (text .entry)) ⌝ }
+    ensures { λ r. ⌜ (printed r (now (text .exit)) ≡ printIn wrongSize (now (text .entry))) × (r .length ≤ 8) ⌝ }
 {
     text::print(text, b"fails 0\n")
 }
 
 fn last_line(text: &mut [u8], at: usize, prognosis: Prognosis) -> usize
     requires { ⌜ at + 80 ≤ mostText ⌝ }
-    ensures { λ r. ⌜ Wrote (foretold prognosis) (now (text .entry)) at (now (text .exit)) r ⌝ }
+    ensures { λ r. ⌜ Wrote (foretold prognosis) (now (text .entry)) at (now (text .exit)) r × (r ≤ at + 80) ⌝ }
 {
     match prognosis {
         Prognosis::Recovers { steps } => printing::recover_line(text, at, steps),
@@ -50,7 +50,7 @@ fn compose(
     text: &mut [u8],
 ) -> usize
     requires { ⌜ Sized segments slots (length (now image)) × (take segments table ≡ map shownOf (shown segments slots (segmentsOf segments slots (now image)))) × Indexed segments slots (now image) (tables (now firsts) (now nexts)) × (prognosis ≡ prognosisOf segments slots (segmentsOf segments slots (now image))) ⌝ }
-    ensures { λ r. ⌜ Wrote (accountOn segments slots (segmentsOf segments slots (now (image .entry)))) (now (text .entry)) 0 (now (text .exit)) r ⌝ }
+    ensures { λ r. ⌜ Wrote (accountOn segments slots (segmentsOf segments slots (now (image .entry)))) (now (text .entry)) 0 (now (text .exit)) r × (r ≤ mostText) ⌝ }
 {
     let listed = printing::segment_lines(text, 0, table, segments);
     let blocks = printing::block_lines(image, segments, slots, firsts, nexts, text, listed);
@@ -60,7 +60,7 @@ fn compose(
 // The account of an image: one line for each segment by index and one for each live slot by rising block number, then what
 // recovery would answer, or the first condition that fails.
 pub fn account(image: &[u8], segments: usize, slots: usize, text: &mut [u8]) -> Printed
-    ensures { λ r. ⌜ printed r (now (text .exit)) ≡ printIn (accountText segments slots (now (image .entry))) (now (text .entry)) ⌝ }
+    ensures { λ r. ⌜ (printed r (now (text .exit)) ≡ printIn (accountText segments slots (now (image .entry))) (now (text .entry))) × (r .length ≤ mostText) ⌝ }
 {
     if !request::right_size(image.len(), segments, slots) {
         return wrong_size(text);

@@ -151,7 +151,7 @@ pub fn block_lines(
 // Recovery's answer 0 and its step count.
 pub fn recover_line(text: &mut [u8], at: usize, steps: u32) -> usize
     requires { ⌜ at + 80 ≤ mostText ⌝ }
-    ensures { λ r. ⌜ Wrote (labelled "recover " 0 ++ (labelled " steps " steps ++ ascii "\n")) (now (text .entry)) at (now (text .exit)) r ⌝ }
+    ensures { λ r. ⌜ Wrote (labelled "recover " 0 ++ (labelled " steps " steps ++ ascii "\n")) (now (text .entry)) at (now (text .exit)) r × (r ≤ at + 80) ⌝ }
 {
     let answered = text::add_labelled(text, at, b"recover ", 0);
     add_ended(text, answered, b" steps ", steps)
@@ -160,7 +160,7 @@ pub fn recover_line(text: &mut [u8], at: usize, steps: u32) -> usize
 // The place of the first condition of Clean that fails.
 pub fn fails_line(text: &mut [u8], at: usize, place: u32) -> usize
     requires { ⌜ at + 80 ≤ mostText ⌝ }
-    ensures { λ r. ⌜ Wrote (labelled "fails " place ++ ascii "\n") (now (text .entry)) at (now (text .exit)) r ⌝ }
+    ensures { λ r. ⌜ Wrote (labelled "fails " place ++ ascii "\n") (now (text .entry)) at (now (text .exit)) r × (r ≤ at + 80) ⌝ }
 {
     add_ended(text, at, b"fails ", place)
 }

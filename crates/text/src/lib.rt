@@ -75,7 +75,7 @@ pub fn add_labelled(text: &mut [u8], at: usize, label: &[u8], n: u32) -> usize
 // A text that is at hand, printed by itself.
 pub fn print(text: &mut [u8], bytes: &[u8]) -> Printed
     requires { ⌜ length (now bytes) ≤ mostText ⌝ }
-    ensures { λ r. ⌜ printed r (now (text .exit)) ≡ printIn (now (bytes .entry)) (now (text .entry)) ⌝ }
+    ensures { λ r. ⌜ (printed r (now (text .exit)) ≡ printIn (now (bytes .entry)) (now (text .entry))) × (r .length ≤ length (now (bytes .entry))) ⌝ }
 {
     if bytes.len() > text.len() {
         return short();

@@ -24,8 +24,8 @@ returns : tie.Need-returns
 returns c =
     let s = c .before .before .before .before .before .before .before .before .before .before .before .before .before .before in
     let a = s .args in
-    let w = c .before .before .before .before .before .before .before .before .before .before .segment-lines .ensures .0 then (c .before .before .before .before .before .before .block-lines .ensures .0 then c .before .before .last-line .ensures) in
-    wrote-as _ (composed (a .segments) (a .slots) (now (a .image)) (a .table) (a .prognosis) (s .pre .1) (s .pre .3)) w
+    let w = c .before .before .before .before .before .before .before .before .before .before .segment-lines .ensures .0 then (c .before .before .before .before .before .before .block-lines .ensures .0 then c .before .before .last-line .ensures .0) in
+    (wrote-as _ (composed (a .segments) (a .slots) (now (a .image)) (a .table) (a .prognosis) (s .pre .1) (s .pre .3)) w, omega (arith, c .before .before .last-line .ensures .1, c .before .before .before .before .before .before .block-lines .ensures .1, c .before .before .before .before .before .before .before .before .before .before .segment-lines .ensures .1, s .pre .0 .segments))
 
 pub compose-spec : {M : Type 1} → statement M
 compose-spec =

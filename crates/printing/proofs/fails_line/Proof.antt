@@ -1,4 +1,5 @@
 -- `printing::fails_line`: one piece. Assumes nothing.
+use native.Mathlib.Omega.{arith}
 use Rattle.text.specs.Text.{text}
 use Rattle.text.specs.Buffer.{labelled}
 use borrow.Author.Needs.{needs}
@@ -16,7 +17,7 @@ same-length c = search needs
 
 returns : tie.Need-returns
 unfolding labelled text
-returns c = c .before .before .add-ended .ensures .0
+returns c = let k = c .before .before in (k .add-ended .ensures .0, omega (arith, k .add-ended .ensures .1))
 
 pub fails-line-spec : {M : Type 1} → statement M
 fails-line-spec =

@@ -1,4 +1,5 @@
 -- `printing::recover_line`: two pieces in a row. Assumes nothing.
+use native.Mathlib.Omega.{arith}
 use Rattle.text.specs.Text.{text}
 use Rattle.text.specs.Buffer.{labelled}
 use Rattle.text.proofs.Laws.{_then_}
@@ -26,7 +27,7 @@ unfolding labelled text
 returns c =
     let k2 = c .before .before in
     let k1 = k2 .before .before .before .before .before in
-    k1 .add-labelled .ensures .0 then k2 .add-ended .ensures .0
+    (k1 .add-labelled .ensures .0 then k2 .add-ended .ensures .0, omega (arith, k1 .add-labelled .ensures .1, k2 .add-ended .ensures .1))
 
 pub recover-line-spec : {M : Type 1} → statement M
 recover-line-spec =

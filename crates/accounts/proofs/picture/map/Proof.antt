@@ -6,7 +6,7 @@ use native.Mathlib.Omega.{arith}
 use denote.Ref.{now}
 use lib.ListN.{length}
 use Rattle.scan.proofs.Laws.Surveys.{right-size}
-use Rattle.text.specs.Buffer.{Print, printIn}
+use Rattle.text.specs.Buffer.{printIn}
 use Rattle.text.proofs.Laws.{print-short, print-done}
 use Rattle.printing.proofs.Laws.{wrote-as}
 use Rattle.model.specs.State.{segmentsOf}
@@ -27,7 +27,7 @@ same-length c = search needs
 returns : tie.Need-returns
 returns c =
     let a = c .before .before .before .before .before .before .before .before .args in
-    c .before .before .wrong-size .ensures ∙ ap (λ (t : List ℕ). printIn t (now (a .text))) (wrong-map (a .segments) (a .slots) (now (a .image)) (c .before .before .before .before .before .right-size .result) (c .before .before .before .before .before .right-size .ensures) (c .before .before .before .before .if1 .taken))
+    c .before .before .wrong-size .ensures .0 ∙ ap (λ (t : List ℕ). printIn t (now (a .text))) (wrong-map (a .segments) (a .slots) (now (a .image)) (c .before .before .before .before .before .right-size .result) (c .before .before .before .before .before .right-size .ensures) (c .before .before .before .before .if1 .taken))
 
 survey-requires : tie.Need-survey-requires
 survey-requires c κs = right (c .before .before .before .before .args .segments) (c .before .before .before .before .args .slots) (now (c .before .before .before .before .args .image)) (c .before .right-size .result) (c .before .right-size .ensures) (c .if1 .left)
