@@ -14,7 +14,9 @@ use Rattle.model.specs.declared.Performed.{Performed}
 use Rattle.model.specs.declared.Located.{Located}
 use Rattle.bridge.specs.Lengths.{few-done, read-small}
 use Rattle.flash.proofs.Blank.{groups-most}
-use Rattle.qanbillox.specs.Packed.{packed, Gives, packedRead, counts, packedBlank}
+use Rattle.text.specs.declared.Printed.{Printed}
+use Rattle.text.specs.Buffer.{Print, printed}
+use Rattle.qanbillox.specs.Packed.{packed, Gives, packedRead, counts, packedBlank, packedPrint, Prints}
 
 pub few : (N B : ℕ) (t : Image) (budget : ℕ) (q : Request) (p : Performed) (s : Image) → performed p s ≡ outcomeOf N B t budget q → p .steps ≤ largestImage
 unfolding performed
@@ -38,3 +40,7 @@ tells N B t b p r e h = h ∙ ap (λ (o : ReadOutcome). o .code + 256 * o .lengt
 pub blank-whole : (s : List ℕ) → length s + 7 < 8 * counts → packedBlank s ≡ cond (isBlank s) 1 0 + 256 * blankGroups s
 unfolding packedBlank counts
 blank-whole s h = ap (λ (n : ℕ). cond (isBlank s) 1 0 + 256 * n) (mod-eq-of-lt {n = blankGroups s} {m = counts} (omega (arith, groups-most s)))
+
+pub prints : (o : Print) (p : Printed) (s : List ℕ) (r : ℕ) → printed p s ≡ o → r ≡ codeOf (p .answer) + 256 * p .length → Prints o r s
+unfolding printed packedPrint
+prints o p s r e h = record { number = h ∙ ap (λ (x : Print). x .code + 256 * x .length) e; buffer = ap (λ (x : Print). x .buffer) e }

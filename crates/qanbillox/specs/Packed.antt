@@ -7,6 +7,7 @@ use Rattle.model.specs.Chip.{Image}
 use Rattle.model.specs.Header.{isBlank}
 use Rattle.model.specs.Blank.{blankGroups}
 use Rattle.model.specs.Answers.{Outcome, ReadOutcome}
+use Rattle.text.specs.Buffer.{Print}
 
 -- the answer + 256 × the steps done
 unfoldable pub packed : Outcome → ℕ
@@ -28,3 +29,12 @@ counts = 72057594037927936
 -- 1 if all are 255, otherwise 0, + 256 × the groups looked at
 unfoldable pub packedBlank : List ℕ → ℕ
 packedBlank s = cond (isBlank s) 1 0 + 256 * (blankGroups s % counts)
+
+-- the answer + 256 × the text's length
+unfoldable pub packedPrint : Print → ℕ
+packedPrint o = o .code + 256 * o .length
+
+-- that number, and the buffer afterwards
+pub record Prints (o : Print) (r : ℕ) (s : List ℕ) : Type 0 where
+  pub number : r ≡ packedPrint o
+  pub buffer : s ≡ o .buffer

@@ -1,14 +1,18 @@
-// The library's exports to C and Rust: the requests and the blank test, with what comes back packed into one number.
+// The library's exports to C and Rust: the requests, the blank test and the account, with what comes back packed into one
+// number.
 use flash::BlankTest;
 use model::BlockNumber;
 use model::Located;
 use model::Performed;
+use text::Printed;
 ghost use mathlib.Core.Path.{_≡_};
 ghost use mathlib.Core.Bool.{cond};
 ghost use Prim.Native.Nat.{_+_, _*_, _%_, _≤_};
 ghost use Rattle.model.specs.Chip.{largestImage};
 ghost use Rattle.model.specs.Answers.{codeOf, outcomeOf, readOutcome, format, put, delete, recover};
-ghost use Rattle.qanbillox.specs.Packed.{Gives, packedRead, counts, packedBlank};
+ghost use Rattle.text.specs.Buffer.{printIn, mostText};
+ghost use Rattle.account_text.specs.Account.{accountText};
+ghost use Rattle.qanbillox.specs.Packed.{Gives, packedRead, counts, packedBlank, Prints};
 
 // The answer, and 256 times the steps done: a list never has more than some sixteen million.
 fn packed(p: Performed) -> u64
@@ -42,6 +46,16 @@ fn packed_blank(t: BlankTest) -> u64
         return 1 + 256 * groups;
     }
     256 * groups
+}
+
+// The answer, and 256 times the length of a text.
+fn packed_print(p: Printed) -> u64
+    requires { ⌜ p .length ≤ mostText ⌝ }
+    ensures { λ r. ⌜ r ≡ codeOf (p .answer) + 256 * p .length ⌝ }
+{
+    let answer = p.answer;
+    let length = p.length as u64;
+    request::number_of(answer) + 256 * length
 }
 
 #[no_mangle]
@@ -91,4 +105,11 @@ pub extern "C" fn qbx_is_blank(bytes: &[u8]) -> u64
     ensures { λ r. ⌜ r ≡ packedBlank (now (bytes .entry)) ⌝ }
 {
     packed_blank(flash::blank_test(bytes))
+}
+
+#[no_mangle]
+pub extern "C" fn qbx_account(image: &[u8], n: usize, b: usize, text: &mut [u8]) -> u64
+    ensures { λ r. ⌜ Prints (printIn (accountText n b (now (image .entry))) (now (text .entry))) r (now (text .exit)) ⌝ }
+{
+    packed_print(accounts::account(image, n, b, text))
 }
