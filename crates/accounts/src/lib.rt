@@ -46,14 +46,24 @@ fn compose(
     table: [Shown; MOST_SEGMENTS],
     firsts: &[u16; 65536],
     nexts: &[u16; 65536],
+    lengths: &[u8; 65536],
     prognosis: Prognosis,
     text: &mut [u8],
 ) -> usize
-    requires { ⌜ Sized segments slots (length (now image)) × (take segments table ≡ map shownOf (shown segments slots (segmentsOf segments slots (now image)))) × Indexed segments slots (now image) (tables (now firsts) (now nexts)) × (prognosis ≡ prognosisOf segments slots (segmentsOf segments slots (now image))) ⌝ }
+    requires { ⌜ Sized segments slots (length (now image)) × (take segments table ≡ map shownOf (shown segments slots (segmentsOf segments slots (now image)))) × Indexed segments slots (now image) (tables (now firsts) (now nexts) (now lengths)) × (prognosis ≡ prognosisOf segments slots (segmentsOf segments slots (now image))) ⌝ }
     ensures { λ r. ⌜ Wrote (accountOn segments slots (segmentsOf segments slots (now (image .entry)))) (now (text .entry)) 0 (now (text .exit)) r × (r ≤ mostText) ⌝ }
 {
     let listed = printing::segment_lines(text, 0, table, segments);
-    let blocks = printing::block_lines(image, segments, slots, firsts, nexts, text, listed);
+    let blocks = printing::block_lines(
+        image,
+        segments,
+        slots,
+        firsts,
+        nexts,
+        lengths,
+        text,
+        listed,
+    );
     last_line(text, blocks, prognosis)
 }
 
@@ -69,7 +79,16 @@ pub fn account(image: &[u8], segments: usize, slots: usize, text: &mut [u8]) -> 
     let prognosis = prognosis::foretell(image, segments, slots, survey);
     let mut firsts = [0u16; 65536];
     let mut nexts = [0u16; 65536];
-    let table = listing::list(image, segments, slots, survey, &mut firsts, &mut nexts);
+    let mut lengths = [0u8; 65536];
+    let table = listing::list(
+        image,
+        segments,
+        slots,
+        survey,
+        &mut firsts,
+        &mut nexts,
+        &mut lengths,
+    );
     let mut none = [0u8; 1];
     let length = compose(
         image,
@@ -78,6 +97,7 @@ pub fn account(image: &[u8], segments: usize, slots: usize, text: &mut [u8]) -> 
         table,
         &firsts,
         &nexts,
+        &lengths,
         prognosis,
         &mut none,
     );
@@ -91,6 +111,7 @@ pub fn account(image: &[u8], segments: usize, slots: usize, text: &mut [u8]) -> 
         table,
         &firsts,
         &nexts,
+        &lengths,
         prognosis,
         text,
     ))

@@ -11,7 +11,7 @@ use lib.ListN.{length, getD, set, take, drop, length-append, length-set}
 use lib.Seq.{getD-set-same, getD-set-other, set-out, drop-drop, getD-take, getD-drop}
 use Rattle.model.specs.Lists.{chunk, count}
 use Rattle.model.specs.Chip.{Image, Page, mostSegments, mostSlots}
-use Rattle.model.specs.Slot.{Slot, empty, torn, dead, wrong, live, slotPage, slotOf, Entry, entryOf}
+use Rattle.model.specs.Slot.{Slot, empty, torn, dead, wrong, live, mostContents, slotOf, Entry, entryOf}
 use Rattle.model.specs.State.{Segment, blank, invalid, inUse, isInUse, slotsIn, topIndex, topSlots, nextNumber, usedCount}
 use Rattle.model.specs.Laws.SlotPage.{live-facts, number-below}
 use Rattle.judge.specs.Rows.{slotsAt}
@@ -85,6 +85,10 @@ from-few i j (dead ∷ ks) = let h = from-few i (suc j) ks in omega arith
 from-few i j (wrong ∷ ks) = let h = from-few i (suc j) ks in omega arith
 from-few i j (live b c ∷ ks) = let h = from-few i (suc j) ks in omega arith
 
+pub short-byte : (n : ℕ) → n ≤ mostContents → n < 256
+unfolding mostContents
+short-byte n h = omega arith
+
 -- a live slot of a page of the image
 live-stands : (N B i j : ℕ) (s : Image) (b : ℕ) (c : List ℕ) → i < N → 1 ≤ j → j ≤ B → slotOf (take 256 (drop ((i * (B + 1) + j) * 256) s)) ≡ live b c
     → Stands N B s (record { block = b; length = length c; segment = i; slot = j })
@@ -93,8 +97,8 @@ live-stands N B i j s b c h l m e =
     let o = (i * (B + 1) + j) * 256 in
     let f = live-facts (take 256 (drop o s)) b c e in
     let n = number-below b (f .number) in
-    let x : getD (take 256 (drop o s)) 1 0 ≡ length c = ap (λ (y : Page). getD y 1 0) (f .page) ∙ (unfold slotPage in refl) in
-    record { block = omega arith; segment = h; first = l; slot = m; length = sym (getD-take 256 (drop o s) 1 0 (omega arith) ∙ getD-drop o s 1 0) ∙ x }
+    let k = short-byte (length c) (f .short) in
+    record { block = omega arith; segment = h; first = l; slot = m; length = k }
 
 pub slots-next : (s : Image) (o c : ℕ) → slotsAt s o (suc c) ≡ slotOf (take 256 (drop o s)) ∷ slotsAt s (o + 256) c
 unfolding slotsAt chunk

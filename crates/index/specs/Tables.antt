@@ -1,9 +1,9 @@
--- The live slots of an image by block number, in two tables of pages: the first of each block number, and behind each page the next of its block; 0 is none.
+-- The live slots of an image by block number, in three tables: the first page of each block number, and of each page the next of its block, where 0 is none, and the length of its contents.
 use Prim.Native.Nat.{ℕ, zero, suc, _+_, _*_, _≤_, _<_}
 use mathlib.Core.Path.{_≡_}
 use mathlib.Core.Bool.{cond}
 use mathlib.Core.List.{List, [], _∷_, _++_}
-use lib.ListN.{length, getD, set, replicate}
+use lib.ListN.{length, getD, set}
 use lib.Dec.{eqb}
 use Rattle.model.specs.declared.SlotKind.{SlotKind}
 use Rattle.model.specs.declared.SlotKind.the-variants.{Empty, Torn, Live, Dead, Wrong}
@@ -14,29 +14,35 @@ use Rattle.account_text.specs.Account.{LiveSlot, shown, liveSlots}
 pub record Tables : Type 0 where
   pub firsts : List ℕ
   pub nexts : List ℕ
+  pub lengths : List ℕ
 
-abbrev pub tables : List ℕ → List ℕ → Tables
-tables f n = record { firsts = f; nexts = n }
+abbrev pub tables : List ℕ → List ℕ → List ℕ → Tables
+tables f n l = record { firsts = f; nexts = n; lengths = l }
 
 -- as many as there are block numbers, and more than an image has pages
 abbrev pub mostPages : ℕ
 mostPages = 65536
 
-abbrev pub noTables : Tables
-noTables = tables (replicate mostPages 0) (replicate mostPages 0)
-
 -- ---- filled
 
 -- a page put before those of its block
-unfoldable pub link : ℕ → ℕ → Tables → Tables
-link p b t = tables (set (t .firsts) b p) (set (t .nexts) p (getD (t .firsts) b 0))
+unfoldable pub link : ℕ → ℕ → ℕ → Tables → Tables
+link p b n t = tables (set (t .firsts) b p) (set (t .nexts) p (getD (t .firsts) b 0)) (set (t .lengths) p n)
 
 unfoldable pub linkKind : ℕ → SlotKind → Tables → Tables
 linkKind p Empty t = t
 linkKind p Torn t = t
-linkKind p (Live n b) t = link p (b .0) t
+linkKind p (Live n b) t = link p (b .0) n t
 linkKind p Dead t = t
 linkKind p Wrong t = t
+
+-- contents that a byte tells the length of
+abbrev pub Brief : SlotKind → Type 0
+Brief Empty = Unit {0}
+Brief Torn = Unit {0}
+Brief (Live n b) = n < 256
+Brief Dead = Unit {0}
+Brief Wrong = Unit {0}
 
 -- the slots on the pages from p on, the last one first
 unfoldable pub linkRow : ℕ → List SlotKind → Tables → Tables
@@ -50,7 +56,7 @@ pageOf B e = e .segment * (B + 1) + e .slot
 -- live slots, the last one first
 unfoldable pub linked : ℕ → List LiveSlot → Tables → Tables
 linked B [] t = t
-linked B (e ∷ r) t = link (pageOf B e) (e .block) (linked B r t)
+linked B (e ∷ r) t = link (pageOf B e) (e .block) (e .length) (linked B r t)
 
 -- ---- what they say
 
@@ -60,20 +66,20 @@ ofBlock b [] = []
 ofBlock b (e ∷ r) = cond (eqb b (e .block)) (e ∷ ofBlock b r) (ofBlock b r)
 
 -- from page p on, by the next of each
-abbrev pub Chain : ℕ → List ℕ → ℕ → List LiveSlot → Type 0
-Chain B nexts p [] = p ≡ 0
-Chain B nexts p (e ∷ r) = (p ≡ pageOf B e) × (0 < p) × Chain B nexts (getD nexts p 0) r
+abbrev pub Chain : ℕ → List ℕ → List ℕ → ℕ → List LiveSlot → Type 0
+Chain B nexts lengths p [] = p ≡ 0
+Chain B nexts lengths p (e ∷ r) = (p ≡ pageOf B e) × (0 < p) × Chain B nexts lengths (getD nexts p 0) r × (getD lengths p 0 ≡ e .length)
 
 abbrev pub Listed : ℕ → Tables → List LiveSlot → Type 0
-Listed B t r = (b : ℕ) → Chain B (t .nexts) (getD (t .firsts) b 0) (ofBlock b r)
+Listed B t r = (b : ℕ) → Chain B (t .nexts) (t .lengths) (getD (t .firsts) b 0) (ofBlock b r)
 
--- a live slot stands in an image: at a place of one of its segments, with its length in byte 1
+-- a live slot stands in an image: at a place of one of its segments, with a length that a byte tells
 pub record Stands (N B : ℕ) (s : Image) (e : LiveSlot) : Type 0 where
   pub block : e .block < mostPages
   pub segment : e .segment < N
   pub first : 1 ≤ e .slot
   pub slot : e .slot ≤ B
-  pub length : getD s (pageOf B e * 256 + 1) 0 ≡ e .length
+  pub length : e .length < 256
 
 abbrev pub AllStand : ℕ → ℕ → Image → List LiveSlot → Type 0
 AllStand N B s [] = Unit {0}

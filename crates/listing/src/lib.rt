@@ -167,16 +167,17 @@ fn list_segments(
     table: [Shown; MOST_SEGMENTS],
     firsts: &mut [u16; 65536],
     nexts: &mut [u16; 65536],
+    lengths: &mut [u8; 65536],
 ) -> [Shown; MOST_SEGMENTS]
     requires { ⌜ Sized segments slots (length (now image)) × (take segments table ≡ map uncounted (shown segments slots (segmentsOf segments slots (now image)))) ⌝ }
-    ensures { λ r. ⌜ (take segments r ≡ map shownOf (shown segments slots (segmentsOf segments slots (now (image .entry))))) × (tables (now (firsts .exit)) (now (nexts .exit)) ≡ linked slots (listOf segments slots (now (image .entry))) (tables (now (firsts .entry)) (now (nexts .entry)))) ⌝ }
+    ensures { λ r. ⌜ (take segments r ≡ map shownOf (shown segments slots (segmentsOf segments slots (now (image .entry))))) × (tables (now (firsts .exit)) (now (nexts .exit)) (now (lengths .exit)) ≡ linked slots (listOf segments slots (now (image .entry))) (tables (now (firsts .entry)) (now (nexts .entry)) (now (lengths .entry)))) ⌝ }
 {
     let mut shown = table;
     let mut left = numbers(table, segments);
     let mut top = largest(&left, segments);
     while top > 0 {
         let index = (top - 1) % segments;
-        let counts = slots::list_row(image, index * (slots + 1), slots, firsts, nexts);
+        let counts = slots::list_row(image, index * (slots + 1), slots, firsts, nexts, lengths);
         let x = shown[index];
         shown[index] = count(x, counts);
         left[index] = 0;
@@ -210,10 +211,11 @@ pub fn list(
     survey: Surveyed,
     firsts: &mut [u16; 65536],
     nexts: &mut [u16; 65536],
+    lengths: &mut [u8; 65536],
 ) -> [Shown; MOST_SEGMENTS]
-    requires { ⌜ (rightSize segments slots (now image) ≡ true) × (survey ≡ surveyOf segments slots (segmentsOf segments slots (now image))) × (now firsts ≡ replicate 65536 0) × (now nexts ≡ replicate 65536 0) ⌝ }
-    ensures { λ r. ⌜ (take segments r ≡ map shownOf (shown segments slots (segmentsOf segments slots (now (image .entry))))) × Indexed segments slots (now (image .entry)) (tables (now (firsts .exit)) (now (nexts .exit))) ⌝ }
+    requires { ⌜ (rightSize segments slots (now image) ≡ true) × (survey ≡ surveyOf segments slots (segmentsOf segments slots (now image))) × (now firsts ≡ replicate 65536 0) × (now nexts ≡ replicate 65536 0) × (now lengths ≡ replicate 65536 0) ⌝ }
+    ensures { λ r. ⌜ (take segments r ≡ map shownOf (shown segments slots (segmentsOf segments slots (now (image .entry))))) × Indexed segments slots (now (image .entry)) (tables (now (firsts .exit)) (now (nexts .exit)) (now (lengths .exit))) ⌝ }
 {
     let table = see(image, segments, slots, survey);
-    list_segments(image, segments, slots, table, firsts, nexts)
+    list_segments(image, segments, slots, table, firsts, nexts, lengths)
 }

@@ -8,7 +8,7 @@ ghost use lib.ListN.{length};
 ghost use Rattle.model.specs.Chip.{mostSlots};
 ghost use Rattle.judge.specs.Rows.{kindsAt};
 ghost use Rattle.index.specs.Shows.{countKind, countRow, Few};
-ghost use Rattle.index.specs.Tables.{tables, mostPages, link, linkKind, linkRow};
+ghost use Rattle.index.specs.Tables.{tables, mostPages, link, linkKind, linkRow, Brief};
 
 fn wide(x: u16) -> usize
     ensures { λ r. ⌜ r ≡ x ⌝ }
@@ -17,13 +17,21 @@ fn wide(x: u16) -> usize
 }
 
 // A page put before those of its block.
-fn link(firsts: &mut [u16; 65536], nexts: &mut [u16; 65536], page: usize, block: BlockNumber)
-    requires { ⌜ page < mostPages ⌝ }
-    ensures { λ r. ⌜ tables (now (firsts .exit)) (now (nexts .exit)) ≡ link page (block .0) (tables (now (firsts .entry)) (now (nexts .entry))) ⌝ }
+fn link(
+    firsts: &mut [u16; 65536],
+    nexts: &mut [u16; 65536],
+    lengths: &mut [u8; 65536],
+    page: usize,
+    block: BlockNumber,
+    length: usize,
+)
+    requires { ⌜ (page < mostPages) × (length < 256) ⌝ }
+    ensures { λ r. ⌜ tables (now (firsts .exit)) (now (nexts .exit)) (now (lengths .exit)) ≡ link page (block .0) length (tables (now (firsts .entry)) (now (nexts .entry)) (now (lengths .entry))) ⌝ }
 {
     let b = wide(block.0);
     nexts[page] = firsts[b];
     firsts[b] = page as u16;
+    lengths[page] = length as u8;
 }
 
 // One slot more.
@@ -33,9 +41,10 @@ fn list_slot(
     page: usize,
     firsts: &mut [u16; 65536],
     nexts: &mut [u16; 65536],
+    lengths: &mut [u8; 65536],
 ) -> Counts
-    requires { ⌜ (page < mostPages) × Few counts 254 ⌝ }
-    ensures { λ r. ⌜ (r ≡ countKind kind counts) × (tables (now (firsts .exit)) (now (nexts .exit)) ≡ linkKind page kind (tables (now (firsts .entry)) (now (nexts .entry)))) ⌝ }
+    requires { ⌜ (page < mostPages) × Few counts 254 × Brief kind ⌝ }
+    ensures { λ r. ⌜ (r ≡ countKind kind counts) × (tables (now (firsts .exit)) (now (nexts .exit)) (now (lengths .exit)) ≡ linkKind page kind (tables (now (firsts .entry)) (now (nexts .entry)) (now (lengths .entry)))) ⌝ }
 {
     match kind {
         SlotKind::Empty => Counts {
@@ -44,8 +53,8 @@ fn list_slot(
             empty: counts.empty + 1,
         },
         SlotKind::Torn => counts,
-        SlotKind::Live { length: _, block } => {
-            link(firsts, nexts, page, block);
+        SlotKind::Live { length, block } => {
+            link(firsts, nexts, lengths, page, block, length);
             Counts {
                 live: counts.live + 1,
                 dead: counts.dead,
@@ -68,9 +77,10 @@ pub fn list_row(
     slots: usize,
     firsts: &mut [u16; 65536],
     nexts: &mut [u16; 65536],
+    lengths: &mut [u8; 65536],
 ) -> Counts
     requires { ⌜ ((header + slots + 1) * 256 ≤ length (now image)) × (header + slots < mostPages) × (slots ≤ mostSlots) ⌝ }
-    ensures { λ r. ⌜ (r ≡ countRow (kindsAt (now (image .entry)) ((header + 1) * 256) slots)) × (tables (now (firsts .exit)) (now (nexts .exit)) ≡ linkRow (header + 1) (kindsAt (now (image .entry)) ((header + 1) * 256) slots) (tables (now (firsts .entry)) (now (nexts .entry)))) ⌝ }
+    ensures { λ r. ⌜ (r ≡ countRow (kindsAt (now (image .entry)) ((header + 1) * 256) slots)) × (tables (now (firsts .exit)) (now (nexts .exit)) (now (lengths .exit)) ≡ linkRow (header + 1) (kindsAt (now (image .entry)) ((header + 1) * 256) slots) (tables (now (firsts .entry)) (now (nexts .entry)) (now (lengths .entry)))) ⌝ }
 {
     let mut counts = Counts {
         live: 0,
@@ -83,7 +93,7 @@ pub fn list_row(
         let at = page * 256;
         let end = at + 256;
         let kind = slot::slot_kind(&image[at..end]);
-        counts = list_slot(counts, kind, page, firsts, nexts);
+        counts = list_slot(counts, kind, page, firsts, nexts, lengths);
         left -= 1;
     }
     counts

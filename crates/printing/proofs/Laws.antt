@@ -78,23 +78,19 @@ segment-more table i d h =
 
 -- ---- a chain of pages
 
--- any byte of an image as a number of 32 bits
-pub byte-fits : (s : List ℕ) → ((i : ℕ) → getD s i 0 < 256) → (i : ℕ) → Fits w32 (getD s i 0)
-byte-fits s h i = fits-under w32 (getD s i 0) 256 (h i) tt
-
 -- how many pages there are from a page on, by the next of each; there are at most k
 unfoldable pub chainLength : ℕ → List ℕ → ℕ → ℕ
 chainLength zero nexts p = 0
 chainLength (suc k) nexts p = cond (eqb p 0) 0 (suc (chainLength k nexts (getD nexts p 0)))
 
-pub chain-length : (k B : ℕ) (nexts : List ℕ) (p : ℕ) (r : List LiveSlot) → Chain B nexts p r → length r ≤ k → chainLength k nexts p ≡ length r
+pub chain-length : (k B : ℕ) (nexts lengths : List ℕ) (p : ℕ) (r : List LiveSlot) → Chain B nexts lengths p r → length r ≤ k → chainLength k nexts p ≡ length r
 unfolding chainLength
-chain-length zero B nexts p [] c h = refl
-chain-length zero B nexts p (e ∷ r) c h = absurd (omega arith)
-chain-length (suc k) B nexts p [] c h = rw (eq-eqb p 0 c)
-chain-length (suc k) B nexts p (e ∷ r) c h =
+chain-length zero B nexts lengths p [] c h = refl
+chain-length zero B nexts lengths p (e ∷ r) c h = absurd (omega arith)
+chain-length (suc k) B nexts lengths p [] c h = rw (eq-eqb p 0 c)
+chain-length (suc k) B nexts lengths p (e ∷ r) c h =
     let n : eqb p 0 ≡ false = ne-eqb p 0 (λ q. let z = c .1 in omega arith) in
-    rw n (ap suc (chain-length k B nexts (getD nexts p 0) r (c .2) (omega arith)))
+    rw n (ap suc (chain-length k B nexts lengths (getD nexts p 0) r (c .2) (omega arith)))
 
 -- the page of a live slot lies in the image, and tells its segment and its place
 pub page-inside : (N B : ℕ) (s : List ℕ) (e : LiveSlot) → Sized N B (length s) → Stands N B s e → (pageOf B e < mostPages) × (pageOf B e * 256 + 256 ≤ length s)
@@ -121,13 +117,13 @@ page-segment N B s e t =
     let b : e .segment * (B + 1) + p % (B + 1) ≡ p = rw d at a in
     (d, omega arith)
 
-chain-none : (B : ℕ) (nexts : List ℕ) (p : ℕ) (r : List LiveSlot) → Chain B nexts p r → p ≡ 0 → r ≡ []
-chain-none B nexts p [] c h = refl
-chain-none B nexts p (e ∷ r) c h = absurd (let z = c .1 in omega arith)
+chain-none : (B : ℕ) (nexts lengths : List ℕ) (p : ℕ) (r : List LiveSlot) → Chain B nexts lengths p r → p ≡ 0 → r ≡ []
+chain-none B nexts lengths p [] c h = refl
+chain-none B nexts lengths p (e ∷ r) c h = absurd (let z = c .1 in omega arith)
 
-chain-low : (N B : ℕ) (s nexts : List ℕ) (p : ℕ) (r : List LiveSlot) → Sized N B (length s) → Chain B nexts p r → AllStand N B s r → p < mostPages
-chain-low N B s nexts p [] z c t = omega arith
-chain-low N B s nexts p (e ∷ r) z c t = let q = page-inside N B s e z (t .0) in let f = c .0 in omega arith
+chain-low : (N B : ℕ) (s nexts lengths : List ℕ) (p : ℕ) (r : List LiveSlot) → Sized N B (length s) → Chain B nexts lengths p r → AllStand N B s r → p < mostPages
+chain-low N B s nexts lengths p [] z c t = omega arith
+chain-low N B s nexts lengths p (e ∷ r) z c t = let q = page-inside N B s e z (t .0) in let f = c .0 in omega arith
 
 live-same : (e : LiveSlot) (b n i j : ℕ) → b ≡ e .block → n ≡ e .length → i ≡ e .segment → j ≡ e .slot → record { block = b; length = n; segment = i; slot = j } ≡ e
 live-same e b n i j p q r t =
@@ -146,10 +142,10 @@ lines-append [] b = refl
 lines-append (e ∷ a) b = ap (λ (z : List ℕ). blockLine e ++ z) (lines-append a b) ∙ sym (append-assoc (blockLine e) (blockLines a) (blockLines b))
 
 -- how far the lines of a block's chain are written: those of the pages from here on are left
-pub record Walk (N B : ℕ) (s nexts : List ℕ) (block : ℕ) (whole : List LiveSlot) (start : List ℕ) (at : ℕ) (text : List ℕ) (page end : ℕ) : Type 0 where
+pub record Walk (N B : ℕ) (s nexts lengths : List ℕ) (block : ℕ) (whole : List LiveSlot) (start : List ℕ) (at : ℕ) (text : List ℕ) (page end : ℕ) : Type 0 where
   pub rest : List LiveSlot
   pub lines : List ℕ
-  pub chain : Chain B nexts page rest
+  pub chain : Chain B nexts lengths page rest
   pub stands : AllStand N B s rest
   pub same : AllOf block rest
   pub few : length rest ≤ mostPages
@@ -158,32 +154,33 @@ pub record Walk (N B : ℕ) (s nexts : List ℕ) (block : ℕ) (whole : List Liv
   pub near : end + 80 * length rest ≤ at + 80 * length whole
 
 -- where a live slot is left, the next one is on the page
-pub record Next (N B : ℕ) (s nexts : List ℕ) (block : ℕ) (rest : List LiveSlot) (page : ℕ) : Type 0 where
+pub record Next (N B : ℕ) (s nexts lengths : List ℕ) (block : ℕ) (rest : List LiveSlot) (page : ℕ) : Type 0 where
   pub slot : LiveSlot
   pub others : List LiveSlot
   pub split : rest ≡ slot ∷ others
   pub here : page ≡ pageOf B slot
-  pub chain : Chain B nexts (getD nexts page 0) others
+  pub chain : Chain B nexts lengths (getD nexts page 0) others
+  pub length-is : getD lengths page 0 ≡ slot .length
   pub stand : Stands N B s slot
   pub stands : AllStand N B s others
   pub block-is : slot .block ≡ block
   pub same : AllOf block others
 
-some-next : (N B : ℕ) (s nexts : List ℕ) (block : ℕ) (rest : List LiveSlot) (page : ℕ) → Chain B nexts page rest → AllStand N B s rest → AllOf block rest → (page ≡ 0 → ⊥) → Next N B s nexts block rest page
-some-next N B s nexts block [] page c t o h = absurd (h c)
-some-next N B s nexts block (e ∷ r) page c t o h =
-    record { slot = e; others = r; split = refl; here = c .0; chain = c .2; stand = t .0; stands = t .1; block-is = o .0; same = o .1 }
+some-next : (N B : ℕ) (s nexts lengths : List ℕ) (block : ℕ) (rest : List LiveSlot) (page : ℕ) → Chain B nexts lengths page rest → AllStand N B s rest → AllOf block rest → (page ≡ 0 → ⊥) → Next N B s nexts lengths block rest page
+some-next N B s nexts lengths block [] page c t o h = absurd (h c)
+some-next N B s nexts lengths block (e ∷ r) page c t o h =
+    record { slot = e; others = r; split = refl; here = c .0; chain = c .2; length-is = c .3; stand = t .0; stands = t .1; block-is = o .0; same = o .1 }
 
-module _ {N B : ℕ} {s nexts : List ℕ} {block : ℕ} {whole : List LiveSlot} {start : List ℕ} {at : ℕ} where
-  pub walk-start : {page : ℕ} → Chain B nexts page whole → AllStand N B s whole → AllOf block whole → length whole ≤ mostPages → Walk N B s nexts block whole start at start page at
+module _ {N B : ℕ} {s nexts lengths : List ℕ} {block : ℕ} {whole : List LiveSlot} {start : List ℕ} {at : ℕ} where
+  pub walk-start : {page : ℕ} → Chain B nexts lengths page whole → AllStand N B s whole → AllOf block whole → length whole ≤ mostPages → Walk N B s nexts lengths block whole start at start page at
   walk-start c t o h =
       record { rest = whole; lines = []; chain = c; stands = t; same = o; few = h; wrote = wrote-none start at; joined = refl; near = omega arith }
 
-  pub walk-next : {text : List ℕ} {page end : ℕ} (w : Walk N B s nexts block whole start at text page end) → (page ≡ 0 → ⊥) → Next N B s nexts block (w .rest) page
-  walk-next {text} {page} {end} w h = some-next N B s nexts block (w .rest) page (w .chain) (w .stands) (w .same) h
+  pub walk-next : {text : List ℕ} {page end : ℕ} (w : Walk N B s nexts lengths block whole start at text page end) → (page ≡ 0 → ⊥) → Next N B s nexts lengths block (w .rest) page
+  walk-next {text} {page} {end} w h = some-next N B s nexts lengths block (w .rest) page (w .chain) (w .stands) (w .same) h
 
   -- its page lies in the image, and there is room for its line
-  pub walk-inside : {text : List ℕ} {page end : ℕ} → Sized N B (length s) → Walk N B s nexts block whole start at text page end → (page ≡ 0 → ⊥)
+  pub walk-inside : {text : List ℕ} {page end : ℕ} → Sized N B (length s) → Walk N B s nexts lengths block whole start at text page end → (page ≡ 0 → ⊥)
       → (page < mostPages) × (page * 256 + 256 ≤ length s) × (end + 80 ≤ at + 80 * length whole)
   walk-inside {text} {page} {end} z w h =
       let n = walk-next w h in
@@ -191,31 +188,34 @@ module _ {N B : ℕ} {s nexts : List ℕ} {block : ℕ} {whole : List LiveSlot} 
       let l : length (w .rest) ≡ suc (length (n .others)) = ap length (n .split) in
       (rw (n .here) (p .0), rw (n .here) (p .1), let q = w .near in omega arith)
 
-  pub walk-low : {text : List ℕ} {page end : ℕ} → Sized N B (length s) → Walk N B s nexts block whole start at text page end → (page ≡ 0 → ⊥) → getD nexts page 0 < mostPages
-  walk-low {text} {page} {end} z w h = let n = walk-next w h in chain-low N B s nexts (getD nexts page 0) (n .others) z (n .chain) (n .stands)
+  pub walk-low : {text : List ℕ} {page end : ℕ} → Sized N B (length s) → Walk N B s nexts lengths block whole start at text page end → (page ≡ 0 → ⊥) → getD nexts page 0 < mostPages
+  walk-low {text} {page} {end} z w h = let n = walk-next w h in chain-low N B s nexts lengths (getD nexts page 0) (n .others) z (n .chain) (n .stands)
 
-  pub walk-less : {text : List ℕ} {page end : ℕ} → Walk N B s nexts block whole start at text page end → (page ≡ 0 → ⊥) → chainLength mostPages nexts (getD nexts page 0) < chainLength mostPages nexts page
+  pub walk-short : {text : List ℕ} {page end : ℕ} → Walk N B s nexts lengths block whole start at text page end → (page ≡ 0 → ⊥) → getD lengths page 0 < 256
+  walk-short {text} {page} {end} w h = let n = walk-next w h in let k = n .stand .length in let e = n .length-is in omega arith
+
+  pub walk-less : {text : List ℕ} {page end : ℕ} → Walk N B s nexts lengths block whole start at text page end → (page ≡ 0 → ⊥) → chainLength mostPages nexts (getD nexts page 0) < chainLength mostPages nexts page
   walk-less {text} {page} {end} w h =
       let n = walk-next w h in
       let f = w .few in
       let l : length (w .rest) ≡ suc (length (n .others)) = ap length (n .split) in
-      let a = chain-length mostPages B nexts page (w .rest) (w .chain) f in
-      let b = chain-length mostPages B nexts (getD nexts page 0) (n .others) (n .chain) (omega arith) in
+      let a = chain-length mostPages B nexts lengths page (w .rest) (w .chain) f in
+      let b = chain-length mostPages B nexts lengths (getD nexts page 0) (n .others) (n .chain) (omega arith) in
       omega arith
 
   -- its line written
-  pub walk-step : {text after : List ℕ} {page end then-end : ℕ} → Walk N B s nexts block whole start at text page end → (page ≡ 0 → ⊥)
-      → Wrote (blockLine (record { block = block; length = getD s (page * 256 + 1) 0; segment = page / (B + 1); slot = page % (B + 1) })) text end after then-end → then-end ≤ end + 80
-      → Walk N B s nexts block whole start at after (getD nexts page 0) then-end
+  pub walk-step : {text after : List ℕ} {page end then-end : ℕ} → Walk N B s nexts lengths block whole start at text page end → (page ≡ 0 → ⊥)
+      → Wrote (blockLine (record { block = block; length = getD lengths page 0; segment = page / (B + 1); slot = page % (B + 1) })) text end after then-end → then-end ≤ end + 80
+      → Walk N B s nexts lengths block whole start at after (getD nexts page 0) then-end
   walk-step {text} {after} {page} {end} {then-end} w h wrote near =
       let n = walk-next w h in
       let e = n .slot in
       let f = w .few in
       let l : length (w .rest) ≡ suc (length (n .others)) = ap length (n .split) in
       let place = page-segment N B s e (n .stand) in
-      let is : record { block = block; length = getD s (page * 256 + 1) 0; segment = page / (B + 1); slot = page % (B + 1) } ≡ e =
-      live-same e block (getD s (page * 256 + 1) 0) (page / (B + 1)) (page % (B + 1)) (sym (n .block-is))
-      (ap (λ (p : ℕ). getD s (p * 256 + 1) 0) (n .here) ∙ n .stand .length) (ap (λ (p : ℕ). p / (B + 1)) (n .here) ∙ place .0) (ap (λ (p : ℕ). p % (B + 1)) (n .here) ∙ place .1) in
+      let is : record { block = block; length = getD lengths page 0; segment = page / (B + 1); slot = page % (B + 1) } ≡ e =
+      live-same e block (getD lengths page 0) (page / (B + 1)) (page % (B + 1)) (sym (n .block-is))
+      (n .length-is) (ap (λ (p : ℕ). p / (B + 1)) (n .here) ∙ place .0) (ap (λ (p : ℕ). p % (B + 1)) (n .here) ∙ place .1) in
       record {
         rest = n .others;
         lines = w .lines ++ blockLine e;
@@ -229,10 +229,10 @@ module _ {N B : ℕ} {s nexts : List ℕ} {block : ℕ} {whole : List LiveSlot} 
         near = let q = w .near in omega arith;
       }
 
-  pub walk-end : {text : List ℕ} {page end : ℕ} → Walk N B s nexts block whole start at text page end → page ≡ 0 → Wrote (blockLines whole) start at text end × (end ≤ at + 80 * length whole)
+  pub walk-end : {text : List ℕ} {page end : ℕ} → Walk N B s nexts lengths block whole start at text page end → page ≡ 0 → Wrote (blockLines whole) start at text end × (end ≤ at + 80 * length whole)
   unfolding blockLines flatMap
   walk-end {text} {page} {end} w h =
-      let none : w .rest ≡ [] = chain-none B nexts page (w .rest) (w .chain) h in
+      let none : w .rest ≡ [] = chain-none B nexts lengths page (w .rest) (w .chain) h in
       let all : w .lines ++ blockLines [] ≡ blockLines whole = ap (λ (z : List LiveSlot). w .lines ++ blockLines z) (sym none) ∙ w .joined in
       let q = w .near in
       (wrote-as (blockLines whole) (sym (append-nil (w .lines)) ∙ all) (w .wrote), omega arith)
@@ -262,11 +262,11 @@ blocks-more {r} {start} {at} {text} {after} {block} {end} {then-end} b h w n =
     }
 
 -- a block without a first page has no lines
-pub blocks-none : {r : List LiveSlot} {start : List ℕ} {at : ℕ} {text : List ℕ} {block end : ℕ} (B page : ℕ) (nexts : List ℕ) → Chain B nexts page (ofBlock block r) → page ≡ 0 → Blocks r start at text block end
+pub blocks-none : {r : List LiveSlot} {start : List ℕ} {at : ℕ} {text : List ℕ} {block end : ℕ} (B page : ℕ) (nexts lengths : List ℕ) → Chain B nexts lengths page (ofBlock block r) → page ≡ 0 → Blocks r start at text block end
     → block < mostPages → Blocks r start at text (block + 1) end
 unfolding blockLines flatMap
-blocks-none {r} {start} {at} {text} {block} {end} B page nexts c e b h =
-    let none : [] ≡ ofBlock block r = sym (chain-none B nexts page (ofBlock block r) c e) in
+blocks-none {r} {start} {at} {text} {block} {end} B page nexts lengths c e b h =
+    let none : [] ≡ ofBlock block r = sym (chain-none B nexts lengths page (ofBlock block r) c e) in
     blocks-more b h (wrote-as (blockLines (ofBlock block r)) (ap blockLines none) (wrote-none text end)) (omega arith)
 
 -- the same text and offset by other names

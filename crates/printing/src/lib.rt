@@ -90,19 +90,20 @@ fn chain_lines(
     segments: usize,
     slots: usize,
     nexts: &[u16; 65536],
+    lengths: &[u8; 65536],
     first: u16,
     block: u32,
     text: &mut [u8],
     at: usize,
 ) -> usize
-    requires { ⌜ Sized segments slots (length (now image)) × (block < 65536) × Chain slots (now nexts) first (ofBlock block (listOf segments slots (now image))) × AllStand segments slots (now image) (ofBlock block (listOf segments slots (now image))) × (length (ofBlock block (listOf segments slots (now image))) < 65536) × (at + 80 * (length (ofBlock block (listOf segments slots (now image))) + 1) ≤ mostText) ⌝ }
+    requires { ⌜ Sized segments slots (length (now image)) × (block < 65536) × Chain slots (now nexts) (now lengths) first (ofBlock block (listOf segments slots (now image))) × AllStand segments slots (now image) (ofBlock block (listOf segments slots (now image))) × (length (ofBlock block (listOf segments slots (now image))) < 65536) × (at + 80 * (length (ofBlock block (listOf segments slots (now image))) + 1) ≤ mostText) ⌝ }
     ensures { λ r. ⌜ Wrote (blockLines (ofBlock block (listOf segments slots (now (image .entry))))) (now (text .entry)) at (now (text .exit)) r × (r ≤ at + 80 * length (ofBlock block (listOf segments slots (now (image .entry))))) ⌝ }
 {
     let pages = slots as u32 + 1;
     let mut page = first as usize;
     let mut end = at;
     while page != 0 {
-        let length = image[page * 256 + 1] as u32;
+        let length = lengths[page] as u32;
         let place = page as u32;
         let segment = place / pages;
         let slot = place % pages;
@@ -119,10 +120,11 @@ pub fn block_lines(
     slots: usize,
     firsts: &[u16; 65536],
     nexts: &[u16; 65536],
+    lengths: &[u8; 65536],
     text: &mut [u8],
     at: usize,
 ) -> usize
-    requires { ⌜ Sized segments slots (length (now image)) × Indexed segments slots (now image) (tables (now firsts) (now nexts)) × (at ≤ 100000) ⌝ }
+    requires { ⌜ Sized segments slots (length (now image)) × Indexed segments slots (now image) (tables (now firsts) (now nexts) (now lengths)) × (at ≤ 100000) ⌝ }
     ensures { λ r. ⌜ Wrote (blockLines (byBlock (listOf segments slots (now (image .entry))))) (now (text .entry)) at (now (text .exit)) r × (r ≤ at + 80 * 65536) ⌝ }
 {
     let mut end = at;
@@ -135,6 +137,7 @@ pub fn block_lines(
                 segments,
                 slots,
                 nexts,
+                lengths,
                 first,
                 block as u32,
                 text,

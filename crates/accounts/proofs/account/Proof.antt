@@ -1,10 +1,9 @@
 -- `accounts::account`: what is put together twice is the text. Assumes nothing.
 use Prim.Native.Nat.{ℕ}
-use mathlib.Core.Path.{_≡_, refl, sym, ap, _∙_}
+use mathlib.Core.Path.{refl, ap, _∙_}
 use mathlib.Core.List.{List}
 use native.Mathlib.Omega.{arith}
 use denote.Ref.{now}
-use lib.ListN.{length}
 use Rattle.scan.proofs.Laws.Surveys.{right-size}
 use Rattle.text.specs.Buffer.{printIn, shortOf, doneOf}
 use Rattle.text.proofs.Laws.{print-short, print-done}
@@ -36,13 +35,13 @@ foretell-requires : tie.Need-foretell-requires
 foretell-requires c κs = (right (c .before .before .before .before .before .args .segments) (c .before .before .before .before .before .args .slots) (now (c .before .before .before .before .before .args .image)) (c .before .before .right-size .result) (c .before .before .right-size .ensures) (c .before .if1 .left), c .survey .ensures)
 
 list-requires : tie.Need-list-requires
-list-requires c κs = (right (c .before .before .before .before .before .before .before .before .args .segments) (c .before .before .before .before .before .before .before .before .args .slots) (now (c .before .before .before .before .before .before .before .before .args .image)) (c .before .before .before .before .before .right-size .result) (c .before .before .before .before .before .right-size .ensures) (c .before .before .before .before .if1 .left), c .before .before .before .survey .ensures, refl, refl)
+list-requires c κs = (right (c .before .before .before .before .before .before .before .before .before .args .segments) (c .before .before .before .before .before .before .before .before .before .args .slots) (now (c .before .before .before .before .before .before .before .before .before .args .image)) (c .before .before .before .before .before .before .right-size .result) (c .before .before .before .before .before .before .right-size .ensures) (c .before .before .before .before .before .if1 .left), c .before .before .before .before .survey .ensures, refl, refl, refl)
 
 slice-aggregate-compose : tie.Need-slice-aggregate-compose
 slice-aggregate-compose c = search needs
 
 compose-requires : tie.Need-compose-requires
-compose-requires c κs = (right-size _ _ _ (right (c .before .before .before .before .before .before .before .before .before .before .before .before .args .segments) (c .before .before .before .before .before .before .before .before .before .before .before .before .args .slots) (now (c .before .before .before .before .before .before .before .before .before .before .before .before .args .image)) (c .before .before .before .before .before .before .before .before .before .right-size .result) (c .before .before .before .before .before .before .before .before .before .right-size .ensures) (c .before .before .before .before .before .before .before .before .if1 .left)) .0, c .before .before .before .list .ensures .0, c .before .before .before .list .ensures .1, c .before .before .before .before .before .before .foretell .ensures .0)
+compose-requires c κs = (right-size _ _ _ (right (c .before .before .before .before .before .before .before .before .before .before .before .before .before .before .args .segments) (c .before .before .before .before .before .before .before .before .before .before .before .before .before .before .args .slots) (now (c .before .before .before .before .before .before .before .before .before .before .before .before .before .before .args .image)) (c .before .before .before .before .before .before .before .before .before .before .before .right-size .result) (c .before .before .before .before .before .before .before .before .before .before .before .right-size .ensures) (c .before .before .before .before .before .before .before .before .before .before .if1 .left)) .0, c .before .before .before .before .list .ensures .0, c .before .before .before .before .list .ensures .1, c .before .before .before .before .before .before .before .before .foretell .ensures .0)
 
 short-requires : tie.Need-short-requires
 short-requires c κs = search needs
@@ -50,13 +49,13 @@ short-requires c κs = search needs
 returns-2 : tie.Need-returns-2
 unfolding shortOf
 returns-2 c =
-    let a = c .before .before .before .before .before .before .before .before .before .before .before .before .before .before .before .before .args in
-    let e = right-account (a .segments) (a .slots) (now (a .image)) (right (c .before .before .before .before .before .before .before .before .before .before .before .before .before .before .before .before .args .segments) (c .before .before .before .before .before .before .before .before .before .before .before .before .before .before .before .before .args .slots) (now (c .before .before .before .before .before .before .before .before .before .before .before .before .before .before .before .before .args .image)) (c .before .before .before .before .before .before .before .before .before .before .before .before .before .right-size .result) (c .before .before .before .before .before .before .before .before .before .before .before .before .before .right-size .ensures) (c .before .before .before .before .before .before .before .before .before .before .before .before .if1 .left)) in
+    let a = c .before .before .before .before .before .before .before .before .before .before .before .before .before .before .before .before .before .before .args in
+    let e = right-account (a .segments) (a .slots) (now (a .image)) (right (c .before .before .before .before .before .before .before .before .before .before .before .before .before .before .before .before .before .before .args .segments) (c .before .before .before .before .before .before .before .before .before .before .before .before .before .before .before .before .before .before .args .slots) (now (c .before .before .before .before .before .before .before .before .before .before .before .before .before .before .before .before .before .before .args .image)) (c .before .before .before .before .before .before .before .before .before .before .before .before .before .before .before .right-size .result) (c .before .before .before .before .before .before .before .before .before .before .before .before .before .before .before .right-size .ensures) (c .before .before .before .before .before .before .before .before .before .before .before .before .before .before .if1 .left)) in
     let w = wrote-as _ e (c .before .before .before .compose .ensures .0) in
     (print-short _ _ _ (omega (arith, w .ends, c .before .if2 .taken)) (c .short .ensures), rw (c .short .ensures) (omega arith))
 
 compose-requires-2 : tie.Need-compose-requires-2
-compose-requires-2 c κs = (right-size _ _ _ (right (c .before .before .before .before .before .before .before .before .before .before .before .before .before .before .before .before .before .before .args .segments) (c .before .before .before .before .before .before .before .before .before .before .before .before .before .before .before .before .before .before .args .slots) (now (c .before .before .before .before .before .before .before .before .before .before .before .before .before .before .before .before .before .before .args .image)) (c .before .before .before .before .before .before .before .before .before .before .before .before .before .before .before .right-size .result) (c .before .before .before .before .before .before .before .before .before .before .before .before .before .before .before .right-size .ensures) (c .before .before .before .before .before .before .before .before .before .before .before .before .before .before .if1 .left)) .0, c .before .before .before .before .before .before .before .before .before .list .ensures .0, c .before .before .before .before .before .before .before .before .before .list .ensures .1, c .before .before .before .before .before .before .before .before .before .before .before .before .foretell .ensures .0)
+compose-requires-2 c κs = (right-size _ _ _ (right (c .before .before .before .before .before .before .before .before .before .before .before .before .before .before .before .before .before .before .before .before .before .args .segments) (c .before .before .before .before .before .before .before .before .before .before .before .before .before .before .before .before .before .before .before .before .before .args .slots) (now (c .before .before .before .before .before .before .before .before .before .before .before .before .before .before .before .before .before .before .before .before .before .args .image)) (c .before .before .before .before .before .before .before .before .before .before .before .before .before .before .before .before .before .before .right-size .result) (c .before .before .before .before .before .before .before .before .before .before .before .before .before .before .before .before .before .before .right-size .ensures) (c .before .before .before .before .before .before .before .before .before .before .before .before .before .before .before .before .before .if1 .left)) .0, c .before .before .before .before .before .before .before .before .before .before .before .list .ensures .0, c .before .before .before .before .before .before .before .before .before .before .before .list .ensures .1, c .before .before .before .before .before .before .before .before .before .before .before .before .before .before .before .foretell .ensures .0)
 
 done-requires : tie.Need-done-requires
 done-requires c κs = search needs
@@ -67,11 +66,11 @@ same-length-2 c = search needs
 returns-3 : tie.Need-returns-3
 unfolding doneOf
 returns-3 c =
-    let a = c .before .before .before .before .before .before .before .before .before .before .before .before .before .before .before .before .before .before .before .before .before .before .args in
-    let e = right-account (a .segments) (a .slots) (now (a .image)) (right (c .before .before .before .before .before .before .before .before .before .before .before .before .before .before .before .before .before .before .before .before .before .before .args .segments) (c .before .before .before .before .before .before .before .before .before .before .before .before .before .before .before .before .before .before .before .before .before .before .args .slots) (now (c .before .before .before .before .before .before .before .before .before .before .before .before .before .before .before .before .before .before .before .before .before .before .args .image)) (c .before .before .before .before .before .before .before .before .before .before .before .before .before .before .before .before .before .before .before .right-size .result) (c .before .before .before .before .before .before .before .before .before .before .before .before .before .before .before .before .before .before .before .right-size .ensures) (c .before .before .before .before .before .before .before .before .before .before .before .before .before .before .before .before .before .before .if1 .left)) in
-    let w = wrote-as _ e (c .before .before .before .before .before .before .before .before .before .compose .ensures .0) in
+    let a = c .before .before .before .before .before .before .before .before .before .before .before .before .before .before .before .before .before .before .before .before .before .before .before .before .before .args in
+    let e = right-account (a .segments) (a .slots) (now (a .image)) (right (c .before .before .before .before .before .before .before .before .before .before .before .before .before .before .before .before .before .before .before .before .before .before .before .before .before .args .segments) (c .before .before .before .before .before .before .before .before .before .before .before .before .before .before .before .before .before .before .before .before .before .before .before .before .before .args .slots) (now (c .before .before .before .before .before .before .before .before .before .before .before .before .before .before .before .before .before .before .before .before .before .before .before .before .before .args .image)) (c .before .before .before .before .before .before .before .before .before .before .before .before .before .before .before .before .before .before .before .before .before .before .right-size .result) (c .before .before .before .before .before .before .before .before .before .before .before .before .before .before .before .before .before .before .before .before .before .before .right-size .ensures) (c .before .before .before .before .before .before .before .before .before .before .before .before .before .before .before .before .before .before .before .before .before .if1 .left)) in
+    let w = wrote-as _ e (c .before .before .before .before .before .before .before .before .before .before .compose .ensures .0) in
     let v = wrote-as _ e (c .before .before .before .compose2 .ensures .0) in
-    (print-done _ _ _ _ _ (omega (arith, w .ends, c .before .before .before .before .before .before .before .if2 .left)) v (c .done .ensures), rw (c .done .ensures) (omega (arith, c .before .before .before .compose2 .ensures .1)))
+    (print-done _ _ _ _ _ (omega (arith, w .ends, c .before .before .before .before .before .before .before .before .if2 .left)) v (c .done .ensures), rw (c .done .ensures) (omega (arith, c .before .before .before .compose2 .ensures .1)))
 
 pub account-spec : {M : Type 1} → statement M
 account-spec =

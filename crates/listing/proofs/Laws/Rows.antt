@@ -11,12 +11,14 @@ use Rattle.model.specs.Slot.{Slot, empty, torn, dead, wrong, live, slotOf, kind
 use Rattle.model.specs.State.{entries}
 use Rattle.model.specs.declared.SlotKind.{SlotKind}
 use Rattle.model.specs.declared.SlotKind.the-variants.{Empty, Torn, Live, Dead, Wrong}
+use Rattle.model.specs.Laws.SlotPage.{live-facts}
 use Rattle.judge.specs.Rows.{kindsAt, slotsAt}
 use Rattle.rows.proofs.Laws.Rows.{kinds-next}
 use Rattle.account_text.specs.Account.{LiveSlot, liveAt, liveFrom}
 use Rattle.index.specs.declared.Counts.{Counts}
 use Rattle.index.specs.Shows.{noCounts, countKind, countRow, countsOf, Few}
-use Rattle.index.specs.Tables.{Tables, link, linkKind, linkRow, linked, pageOf}
+use Rattle.index.specs.Lives.{short-byte}
+use Rattle.index.specs.Tables.{Tables, link, linkKind, Brief, linkRow, linked, pageOf}
 
 -- ---- counts
 
@@ -77,9 +79,20 @@ row-linked B i j (empty ∷ ks) t = let e : suc (i * (B + 1) + j) ≡ i * (B + 1
 row-linked B i j (torn ∷ ks) t = let e : suc (i * (B + 1) + j) ≡ i * (B + 1) + suc j = omega arith in rw e (row-linked B i (suc j) ks t)
 row-linked B i j (dead ∷ ks) t = let e : suc (i * (B + 1) + j) ≡ i * (B + 1) + suc j = omega arith in rw e (row-linked B i (suc j) ks t)
 row-linked B i j (wrong ∷ ks) t = let e : suc (i * (B + 1) + j) ≡ i * (B + 1) + suc j = omega arith in rw e (row-linked B i (suc j) ks t)
-row-linked B i j (live b c ∷ ks) t = let e : suc (i * (B + 1) + j) ≡ i * (B + 1) + suc j = omega arith in rw e (ap (link (i * (B + 1) + j) b) (row-linked B i (suc j) ks t))
+row-linked B i j (live b c ∷ ks) t = let e : suc (i * (B + 1) + j) ≡ i * (B + 1) + suc j = omega arith in rw e (ap (link (i * (B + 1) + j) b (length c)) (row-linked B i (suc j) ks t))
 
 pub linked-append : (B : ℕ) (x y : List LiveSlot) (t : Tables) → linked B (x ++ y) t ≡ linked B x (linked B y t)
 unfolding linked
 linked-append B [] y t = refl
-linked-append B (e ∷ x) y t = ap (link (pageOf B e) (e .block)) (linked-append B x y t)
+linked-append B (e ∷ x) y t = ap (link (pageOf B e) (e .block) (e .length)) (linked-append B x y t)
+
+-- a page's slot has contents of at most 248 bytes
+pub brief : (p : List ℕ) → Brief (kindOf (slotOf p))
+brief p = go (slotOf p) refl
+  where
+    go : (k : Slot) → slotOf p ≡ k → Brief (kindOf k)
+    go empty e = unfold kindOf in tt
+    go torn e = unfold kindOf in tt
+    go dead e = unfold kindOf in tt
+    go wrong e = unfold kindOf in tt
+    go (live b c) e = unfold kindOf in (short-byte (length c) (live-facts p b c e .short))

@@ -16,16 +16,16 @@ see-requires : tie.Need-see-requires
 see-requires c κs = search needs
 
 list-segments-requires : tie.Need-list-segments-requires
-list-segments-requires c κs = (right-size _ _ _ (c .before .before .before .before .pre .0) .0, c .before .before .see .ensures)
+list-segments-requires c κs = (right-size _ _ _ (c .before .before .before .before .before .pre .0) .0, c .before .before .before .see .ensures)
 
 returns : tie.Need-returns
 returns c =
-    let s = c .before .before .before .before .before in
+    let s = c .before .before .before .before .before .before in
     let a = s .args in
     let z = right-size _ _ _ (s .pre .0) .0 in
-    let t = tables (now (a .firsts)) (now (a .nexts)) in
-    let w : Whole t = (ap length (s .pre .2) ∙ length-replicate {A = ℕ} 65536 0, ap length (s .pre .3) ∙ length-replicate {A = ℕ} 65536 0) in
-    let b : Bare t = λ k. ap (λ (l : List ℕ). lib.ListN.getD l k 0) (s .pre .2) ∙ zeros-bare 65536 (now (a .nexts)) k in
+    let t = tables (now (a .firsts)) (now (a .nexts)) (now (a .lengths)) in
+    let w : Whole t = (ap length (s .pre .2) ∙ length-replicate {A = ℕ} 65536 0, ap length (s .pre .3) ∙ length-replicate {A = ℕ} 65536 0, ap length (s .pre .4) ∙ length-replicate {A = ℕ} 65536 0) in
+    let b : Bare t = λ k. ap (λ (l : List ℕ). lib.ListN.getD l k 0) (s .pre .2) ∙ zeros-bare 65536 (now (a .nexts)) (now (a .lengths)) k in
     (c .list-segments .ensures .0, subst (λ (u : Tables). Indexed (a .segments) (a .slots) (now (a .image)) u) (sym (c .list-segments .ensures .1)) (indexed (a .segments) (a .slots) (now (a .image)) (z .some) (z .segments) (z .slots) t w b))
 
 pub list-spec : {M : Type 1} → statement M

@@ -12,10 +12,10 @@ use Rattle.printing.proofs.block_lines.Statement.{statement}
 use Rattle.printing.proofs.block_lines.Tie as tie
 
 abbrev Inv-loop : tie.InvT-loop
-Inv-loop image segments slots firsts nexts text₀ at end₀ block₀ text end block = Blocks (listOf segments slots image) text₀ at text block end
+Inv-loop image segments slots firsts nexts lengths text₀ at end₀ block₀ text end block = Blocks (listOf segments slots image) text₀ at text block end
 
 abbrev μ-loop : tie.MeasureT-loop
-μ-loop image segments slots firsts nexts text₀ at end₀ block₀ text end block = mostPages - block
+μ-loop image segments slots firsts nexts lengths text₀ at end₀ block₀ text end block = mostPages - block
 
 loop-holds : tie.Need-loop-holds Inv-loop μ-loop
 loop-holds c = blocks-start _ _ _
@@ -57,7 +57,7 @@ loop-again c =
     let t = c .before .before .loop-test .taken in
     ⊎-elim
     (λ w. blocks-as (w .5) (w .6) (blocks-more (l .inv) t (w .2 .ensures .0) (w .2 .ensures .1)))
-    (λ w. blocks-as (w .1) (w .2) (blocks-none (a .slots) (getD (now (a .firsts)) (l .block) 0) (now (a .nexts)) (i .listed (l .block)) (w .0 .left) (l .inv) t))
+    (λ w. blocks-as (w .1) (w .2) (blocks-none (a .slots) (getD (now (a .firsts)) (l .block) 0) (now (a .nexts)) (now (a .lengths)) (i .listed (l .block)) (w .0 .left) (l .inv) t))
     (c .if1 .came)
 
 same-length : tie.Need-same-length Inv-loop μ-loop

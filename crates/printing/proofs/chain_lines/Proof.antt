@@ -5,15 +5,15 @@ use borrow.Author.Needs.{needs}
 use denote.Ref.{now}
 use Rattle.index.specs.Tables.{mostPages, ofBlock, listOf}
 use Rattle.index.specs.Sorted.{of-block}
-use Rattle.printing.proofs.Laws.{byte-fits, chainLength, Walk, walk-start, walk-inside, walk-low, walk-less, walk-step, walk-end}
+use Rattle.printing.proofs.Laws.{chainLength, Walk, walk-start, walk-inside, walk-low, walk-short, walk-less, walk-step, walk-end}
 use Rattle.printing.proofs.chain_lines.Statement.{statement}
 use Rattle.printing.proofs.chain_lines.Tie as tie
 
 abbrev Inv-loop : tie.InvT-loop
-Inv-loop image segments slots nexts first block text₀ at pages page₀ end₀ text page end = Walk segments slots image nexts block (ofBlock block (listOf segments slots image)) text₀ at text page end
+Inv-loop image segments slots nexts lengths first block text₀ at pages page₀ end₀ text page end = Walk segments slots image nexts lengths block (ofBlock block (listOf segments slots image)) text₀ at text page end
 
 abbrev μ-loop : tie.MeasureT-loop
-μ-loop image segments slots nexts first block text₀ at pages page₀ end₀ text page end = chainLength mostPages nexts page
+μ-loop image segments slots nexts lengths first block text₀ at pages page₀ end₀ text page end = chainLength mostPages nexts page
 
 cast-pages : tie.Need-cast-pages Inv-loop μ-loop
 cast-pages c = search needs
@@ -27,20 +27,11 @@ loop-holds c =
     let p = c .before .before .pre in
     walk-start (p .2) (p .3) (of-block (a .block) (listOf (a .segments) (a .slots) (now (a .image)))) (omega (arith, p .4))
 
-mul-length : tie.Need-mul-length Inv-loop μ-loop
-mul-length c = let i = walk-inside (c .before .before .before .before .pre .0) (c .before .loop .inv) (c .loop-test .taken) in omega arith
-
-add-length : tie.Need-add-length Inv-loop μ-loop
-add-length c = let i = walk-inside (c .before .before .before .before .pre .0) (c .before .loop .inv) (c .loop-test .taken) in omega arith
-
-shared-slice-read-length : tie.Need-shared-slice-read-length Inv-loop μ-loop
-shared-slice-read-length c =
-    let k = c .before in
-    let i = walk-inside (k .before .before .before .before .pre .0) (k .before .loop .inv) (k .loop-test .taken) in
-    omega arith
+element-copy-out-length : tie.Need-element-copy-out-length Inv-loop μ-loop
+element-copy-out-length c = walk-inside (c .before .before .before .before .pre .0) (c .before .loop .inv) (c .loop-test .taken) .0
 
 cast-length : tie.Need-cast-length Inv-loop μ-loop
-cast-length c = byte-fits (now (c .before .before .before .before .before .args .image)) (λ i. omega (arith, c .shared-slice-known2 .given i)) _
+cast-length c = let k = walk-short (c .before .before .loop .inv) (c .before .loop-test .taken) in omega arith
 
 cast-place : tie.Need-cast-place Inv-loop μ-loop
 cast-place c =
@@ -104,9 +95,7 @@ chain-lines-spec =
     cast-pages
     add-pages
     loop-holds
-    mul-length
-    add-length
-    shared-slice-read-length
+    element-copy-out-length
     cast-length
     cast-place
     div-segment

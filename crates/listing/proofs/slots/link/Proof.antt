@@ -29,6 +29,12 @@ mul-firsts c = search needs
 element-write-firsts : tie.Need-element-write-firsts
 element-write-firsts c = search needs
 
+cast-lengths : tie.Need-cast-lengths
+cast-lengths c = search needs
+
+element-write-lengths : tie.Need-element-write-lengths
+element-write-lengths c = search needs
+
 returns : tie.Need-returns
 unfolding link
 returns c = rw (c .before .wide .ensures)
@@ -45,4 +51,6 @@ link-spec =
     cast-firsts
     mul-firsts
     element-write-firsts
+    cast-lengths
+    element-write-lengths
     returns)

@@ -1,6 +1,6 @@
 -- `listing::slots::list_row`. The invariant: the slots behind those that are left were looked at. Assumes nothing.
 use Prim.Native.Nat.{ℕ, _+_, _-_, _*_, _≤_, _<_}
-use mathlib.Core.Path.{_≡_, refl, sym, ap, _∙_}
+use mathlib.Core.Path.{_≡_, refl, sym, ap, _∙_, subst}
 use mathlib.Core.List.{List}
 use native.Mathlib.Omega.{arith}
 use denote.Ref.{now}
@@ -10,25 +10,25 @@ use Rattle.model.specs.declared.SlotKind.{SlotKind}
 use Rattle.judge.specs.Rows.{kindsAt}
 use Rattle.rows.proofs.Laws.Rows.{page-part}
 use Rattle.index.specs.Shows.{noCounts, countKind, countRow, Few}
-use Rattle.index.specs.Tables.{Tables, tables, linkKind, linkRow}
-use Rattle.listing.proofs.Laws.Rows.{row-none, row-more, count-few}
+use Rattle.index.specs.Tables.{tables, linkKind, Brief, linkRow}
+use Rattle.listing.proofs.Laws.Rows.{row-none, row-more, count-few, brief}
 use borrow.Author.Needs.{needs}
 use Rattle.listing.proofs.slots.list_row.Statement.{statement}
 use Rattle.listing.proofs.slots.list_row.Tie as tie
 
 abbrev Inv-loop : tie.InvT-loop
-Inv-loop image header slots firsts₀ nexts₀ counts₀ left₀ firsts nexts counts left =
-    (counts ≡ countRow (kindsAt image ((header + left + 1) * 256) (slots - left))) × (tables firsts nexts ≡ linkRow (header + left + 1) (kindsAt image ((header + left + 1) * 256) (slots - left)) (tables firsts₀ nexts₀)) × (left ≤ slots) × Few counts (slots - left)
+Inv-loop image header slots firsts₀ nexts₀ lengths₀ counts₀ left₀ firsts nexts lengths counts left =
+    (counts ≡ countRow (kindsAt image ((header + left + 1) * 256) (slots - left))) × (tables firsts nexts lengths ≡ linkRow (header + left + 1) (kindsAt image ((header + left + 1) * 256) (slots - left)) (tables firsts₀ nexts₀ lengths₀)) × (left ≤ slots) × Few counts (slots - left)
 
 abbrev μ-loop : tie.MeasureT-loop
-μ-loop image header slots firsts₀ nexts₀ counts₀ left₀ firsts nexts counts left = left
+μ-loop image header slots firsts₀ nexts₀ lengths₀ counts₀ left₀ firsts nexts lengths counts left = left
 
 loop-holds : tie.Need-loop-holds Inv-loop μ-loop
 unfolding noCounts
 loop-holds c =
     let a = c .before .args in
     let e : a .slots - a .slots ≡ 0 = omega arith in
-    let n = row-none (now (a .image)) ((a .header + a .slots + 1) * 256) (tables (now (a .firsts)) (now (a .nexts))) (a .header + a .slots + 1) in
+    let n = row-none (now (a .image)) ((a .header + a .slots + 1) * 256) (tables (now (a .firsts)) (now (a .nexts)) (now (a .lengths))) (a .header + a .slots + 1) in
     (rw e (sym (n .0)), rw e (sym (n .1)), omega arith, record { live = omega arith; dead = omega arith; empty = omega arith })
 
 add-page : tie.Need-add-page Inv-loop μ-loop
@@ -54,11 +54,14 @@ slot-kind-requires c κs = simp (length-take, length-drop) (omega (arith, c .bef
 
 list-slot-requires : tie.Need-list-slot-requires Inv-loop μ-loop
 list-slot-requires c κs =
-    let s = c .before .before .before .before .before .before .before in
-    let l = c .before .before .before .before .before .loop in
+    let s = c .before .before .before .before .before .before .before .before in
+    let l = c .before .before .before .before .before .before .loop in
     let f = l .inv .3 in
-    let t = c .before .before .before .before .loop-test .taken in
-    (omega (arith, s .pre), record { live = omega (arith, f .live, s .pre); dead = omega (arith, f .dead, s .pre); empty = omega (arith, f .empty, s .pre) })
+    let t = c .before .before .before .before .before .loop-test .taken in
+    let o = (s .args .header + l .left) * 256 in
+    let v : c .before .before .before .slot-kind .result ≡ kindOf (slotOf (take 256 (drop o (now (s .args .image))))) =
+    c .before .before .before .slot-kind .ensures ∙ ap (λ (x : List ℕ). kindOf (slotOf x)) (page-part (now (s .args .image)) o) in
+    (omega (arith, s .pre), record { live = omega (arith, f .live, s .pre); dead = omega (arith, f .dead, s .pre); empty = omega (arith, f .empty, s .pre) }, subst Brief (sym v) (brief (take 256 (drop ((s .args .header + l .left) * 256) (now (s .args .image))))))
 
 sub-left : tie.Need-sub-left Inv-loop μ-loop
 sub-left c = search needs
@@ -68,19 +71,19 @@ loop-less c = search needs
 
 loop-again : tie.Need-loop-again Inv-loop μ-loop
 loop-again c =
-    let s = c .before .before .before .before .before .before .before .before in
+    let s = c .before .before .before .before .before .before .before .before .before in
     let a = s .args in
-    let l = c .before .before .before .before .before .before .loop in
-    let t = c .before .before .before .before .before .loop-test .taken in
+    let l = c .before .before .before .before .before .before .before .loop in
+    let t = c .before .before .before .before .before .before .loop-test .taken in
     let o = (a .header + l .left) * 256 in
-    let v = c .before .before .before .slot-kind in
+    let v = c .before .before .before .before .slot-kind in
     let k : v .result ≡ kindOf (slotOf (take 256 (drop o (now (a .image))))) = v .ensures ∙ ap (λ (x : List ℕ). kindOf (slotOf x)) (page-part (now (a .image)) o) in
-    let m = row-more (now (a .image)) (a .header) (l .left) (a .slots) (l .counts) (tables (l .firsts) (l .nexts)) (tables (now (a .firsts)) (now (a .nexts))) t (l .inv .2) (l .inv .0) (l .inv .1) in
+    let m = row-more (now (a .image)) (a .header) (l .left) (a .slots) (l .counts) (tables (l .firsts) (l .nexts) (l .lengths)) (tables (now (a .firsts)) (now (a .nexts)) (now (a .lengths))) t (l .inv .2) (l .inv .0) (l .inv .1) in
     let q = count-few (kindOf (slotOf (take 256 (drop o (now (a .image)))))) (l .counts) (a .slots - l .left) (l .inv .3) in
     let w : a .slots - l .left + 1 ≡ a .slots - (l .left - 1) = omega (arith, l .inv .2) in
     let z = c .list-slot .ensures .0 ∙ ap (λ (x : SlotKind). countKind x (l .counts)) k in (
       z ∙ m .0,
-      c .list-slot .ensures .1 ∙ (ap (λ (x : SlotKind). linkKind (a .header + l .left) x (tables (l .firsts) (l .nexts))) k ∙ m .1),
+      c .list-slot .ensures .1 ∙ (ap (λ (x : SlotKind). linkKind (a .header + l .left) x (tables (l .firsts) (l .nexts) (l .lengths))) k ∙ m .1),
       omega (arith, l .inv .2),
       rw (z, ← w) q,
     )

@@ -1,7 +1,7 @@
 -- `listing::slots::list_slot`, by the kind of the slot. Assumes nothing.
-use mathlib.Core.Path.{refl, ap, _∙_, sym}
+use mathlib.Core.Path.{refl, subst}
 use Rattle.index.specs.Shows.{countKind}
-use Rattle.index.specs.Tables.{linkKind}
+use Rattle.index.specs.Tables.{linkKind, Brief}
 use borrow.Author.Needs.{needs}
 use Rattle.listing.proofs.slots.list_slot.Statement.{statement}
 use Rattle.listing.proofs.slots.list_slot.Tie as tie
@@ -9,8 +9,8 @@ use Rattle.listing.proofs.slots.list_slot.Tie as tie
 enum-told : tie.Need-enum-told
 enum-told c = search needs
 
-add-t8 : tie.Need-add-t8
-add-t8 c = search needs
+add-t10 : tie.Need-add-t10
+add-t10 c = search needs
 
 enum-told-2 : tie.Need-enum-told-2
 enum-told-2 c = search needs
@@ -19,16 +19,18 @@ enum-known-kind : tie.Need-enum-known-kind
 enum-known-kind c = search needs
 
 link-requires : tie.Need-link-requires
-link-requires c κs = search needs
+link-requires c κs =
+    let k = c .before .before .before .before in
+    (k .before .before .pre .0, subst Brief (k .kind .given .1) (k .before .before .pre .2))
 
-add-t12 : tie.Need-add-t12
-add-t12 c = search needs
+add-t15 : tie.Need-add-t15
+add-t15 c = search needs
 
 enum-told-3 : tie.Need-enum-told-3
 enum-told-3 c = search needs
 
-add-t13 : tie.Need-add-t13
-add-t13 c = search needs
+add-t16 : tie.Need-add-t16
+add-t16 c = search needs
 
 enum-told-4 : tie.Need-enum-told-4
 enum-told-4 c = search needs
@@ -44,7 +46,7 @@ returns-2 c = rw (c .enum-told2 .given .1) (refl, refl)
 returns-3 : tie.Need-returns-3
 unfolding countKind linkKind
 returns-3 c =
-    let k = c .before .before .before .before in
+    let k = c .before .before .before .before .before in
     rw (k .before .kind .given .1) (refl, c .before .link .ensures)
 
 returns-4 : tie.Need-returns-4
@@ -60,13 +62,13 @@ list-slot-spec =
     tie.close
     (tie.spec
     enum-told
-    add-t8
+    add-t10
     enum-told-2
     enum-known-kind
     link-requires
-    add-t12
+    add-t15
     enum-told-3
-    add-t13
+    add-t16
     enum-told-4
     returns
     returns-2
