@@ -1,5 +1,5 @@
 -- A segment as it is shown, and its line.
-use Prim.Native.Nat.{ℕ, suc, _+_, _≤_}
+use Prim.Native.Nat.{ℕ, suc}
 use mathlib.Core.Path.{_≡_, refl}
 use mathlib.Core.Bool.{cond}
 use mathlib.Core.List.{List, [], _∷_, _++_}
@@ -9,8 +9,6 @@ use Rattle.model.specs.Lists.{count}
 use Rattle.model.specs.Header.{erasePending}
 use Rattle.model.specs.Slot.{Slot, isEmpty, isDead}
 use Rattle.model.specs.State.{Segment, blank, invalid, inUse, entries}
-use Rattle.model.specs.declared.SlotKind.{SlotKind}
-use Rattle.model.specs.declared.SlotKind.the-variants.{Empty, Torn, Live, Dead, Wrong}
 use Rattle.judge.specs.declared.SegmentState.{SegmentState}
 use Rattle.judge.specs.declared.SegmentState.the-variants.{Blank, Invalid, InUse, Owing}
 use Rattle.judge.specs.Heads.{stateSeen}
@@ -23,18 +21,6 @@ use Rattle.index.specs.declared.Shown.{Shown}
 
 unfoldable pub noCounts : Counts
 noCounts = record { live = 0; dead = 0; empty = 0 }
-
--- one slot more
-unfoldable pub countKind : SlotKind → Counts → Counts
-countKind Empty c = record { live = c .live; dead = c .dead; empty = c .empty + 1 }
-countKind Torn c = c
-countKind (Live n b) c = record { live = c .live + 1; dead = c .dead; empty = c .empty }
-countKind Dead c = record { live = c .live; dead = c .dead + 1; empty = c .empty }
-countKind Wrong c = c
-
-unfoldable pub countRow : List SlotKind → Counts
-countRow [] = noCounts
-countRow (k ∷ ks) = countKind k (countRow ks)
 
 unfoldable pub countsOf : List Slot → Counts
 countsOf ks = record { live = length (entries ks); dead = count isDead ks; empty = count isEmpty ks }
@@ -86,9 +72,3 @@ afterShown x = afterBy (x .state) (x .number .0)
 -- with its slots counted
 unfoldable pub counted : Counts → Shown → Shown
 counted c x = record { number = x .number; counts = c; state = x .state }
-
--- counts of at most i slots
-pub record Few (c : Counts) (i : ℕ) : Type 0 where
-  pub live : c .live ≤ i
-  pub dead : c .dead ≤ i
-  pub empty : c .empty ≤ i

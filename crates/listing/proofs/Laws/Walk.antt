@@ -25,10 +25,10 @@ use Rattle.judge.specs.declared.SegmentState.the-variants.{Blank}
 use Rattle.account_text.specs.Account.{LiveSlot, liveFrom, liveIn, liveSlots, shown}
 use Rattle.index.specs.declared.Counts.{Counts}
 use Rattle.index.specs.declared.Shown.{Shown}
-use Rattle.index.specs.Shows.{noCounts, countRow, countsOf, shownAs, shownOf, uncounted, counted, afterShown}
+use Rattle.index.specs.Shows.{noCounts, countsOf, shownAs, shownOf, uncounted, counted, afterShown}
+use Rattle.listing.specs.Walk.{countRow, largest}
 use Rattle.index.specs.Tables.{Tables, mostPages, linkRow, linked, listOf}
 use Rattle.index.specs.Walks.{Held, some-next, held-shown, held-less, top-below, top-number, top-used, used-fewer, number-use}
-use Rattle.listing.specs.Walk.{largest}
 use Rattle.listing.proofs.Laws.Rows.{counts-of, row-linked, linked-append}
 use Rattle.listing.proofs.Laws.Shows.{largest-next, uncounted-all}
 

@@ -57,7 +57,7 @@ loop-again c =
     let t = c .before .before .loop-test .taken in
     ⊎-elim
     (λ w. blocks-as (w .5) (w .6) (blocks-more (l .inv) t (w .2 .ensures .0) (w .2 .ensures .1)))
-    (λ w. blocks-as (w .1) (w .2) (blocks-none (a .slots) (getD (now (a .firsts)) (l .block) 0) (now (a .nexts)) (now (a .lengths)) (i .listed (l .block)) (w .0 .left) (l .inv) t))
+    (λ w. blocks-as (w .1) (w .2) (blocks-none (a .slots) (getD (now (a .firsts)) (l .block) 0) (now (a .nexts)) (now (a .lengths)) (i .listed (l .block)) (omega (arith, w .0 .left)) (l .inv) t))
     (c .if1 .came)
 
 same-length : tie.Need-same-length Inv-loop μ-loop

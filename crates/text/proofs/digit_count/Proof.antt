@@ -29,14 +29,14 @@ loop-again c =
     let k = c .before .loop in
     let s = count-some (20 - k .count) (k .rest) in
     let f : 20 - k .count ≡ suc (20 - (k .count + 1)) = omega (arith, k .inv .1, k .inv .2) in
-    let m : length (decimalOf (20 - k .count) (k .rest)) ≡ suc (length (decimalOf (20 - (k .count + 1)) (k .rest / 10))) = ap (λ (z : ℕ). length (decimalOf z (k .rest))) f ∙ count-more (20 - (k .count + 1)) (k .rest) (c .loop-test .taken) in
+    let m : length (decimalOf (20 - k .count) (k .rest)) ≡ suc (length (decimalOf (20 - (k .count + 1)) (k .rest / 10))) = ap (λ (z : ℕ). length (decimalOf z (k .rest))) f ∙ count-more (20 - (k .count + 1)) (k .rest) (omega (arith, c .loop-test .taken)) in
     (omega arith, omega (arith, k .inv .1), k .inv .2)
 
 returns : tie.Need-returns Inv-loop μ-loop
 unfolding decimal
 returns c =
     let k = c .before .loop in
-    let e = count-one (20 - k .count) (k .rest) (c .loop-test .left) in
+    let e = count-one (20 - k .count) (k .rest) (omega (arith, c .loop-test .left)) in
     (omega (arith, k .inv .1), omega (arith, k .inv .1, k .inv .2))
 
 pub digit-count-spec : {M : Type 1} → statement M

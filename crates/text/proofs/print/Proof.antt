@@ -11,7 +11,7 @@ short-requires c κs = search needs
 
 returns : tie.Need-returns
 unfolding shortOf
-returns c = (print-short _ _ _ (c .before .if1 .taken) (c .short .ensures), rw (c .short .ensures) (omega arith))
+returns c = (print-short _ _ _ (omega (arith, c .before .if1 .taken)) (c .short .ensures), rw (c .short .ensures) (omega arith))
 
 add-requires : tie.Need-add-requires
 add-requires c κs = search needs

@@ -9,7 +9,8 @@ use Rattle.model.specs.Slot.{slotOf, kindOf}
 use Rattle.model.specs.declared.SlotKind.{SlotKind}
 use Rattle.judge.specs.Rows.{kindsAt}
 use Rattle.rows.proofs.Laws.Rows.{page-part}
-use Rattle.index.specs.Shows.{noCounts, countKind, countRow, Few}
+use Rattle.index.specs.Shows.{noCounts}
+use Rattle.listing.specs.Walk.{countKind, countRow, Few}
 use Rattle.index.specs.Tables.{tables, linkKind, Brief, linkRow}
 use Rattle.listing.proofs.Laws.Rows.{row-none, row-more, count-few, brief}
 use borrow.Author.Needs.{needs}

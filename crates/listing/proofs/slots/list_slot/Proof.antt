@@ -1,6 +1,6 @@
 -- `listing::slots::list_slot`, by the kind of the slot. Assumes nothing.
 use mathlib.Core.Path.{refl, subst}
-use Rattle.index.specs.Shows.{countKind}
+use Rattle.listing.specs.Walk.{countKind}
 use Rattle.index.specs.Tables.{linkKind, Brief}
 use borrow.Author.Needs.{needs}
 use Rattle.listing.proofs.slots.list_slot.Statement.{statement}
