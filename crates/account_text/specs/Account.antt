@@ -11,7 +11,6 @@ use Rattle.model.specs.Slot.{Slot, isEmpty, isDead, Entry, entryOf}
 use Rattle.model.specs.State.{Segment, blank, invalid, inUse, segmentsOf, topIndex, nextIndex, topSlots, usedCount, entries, conditions, caseA, caseB, caseC, caseD, State, clean, unfinished, damaged, stateOf}
 use Rattle.model.specs.Answers.{recover, workOn}
 use Rattle.text.specs.Text.{text}
-use Rattle.text.specs.Decimal.{decimal}
 use Rattle.text.specs.Buffer.{labelled}
 
 -- ---- the segments as they are shown

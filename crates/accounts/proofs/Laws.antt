@@ -1,17 +1,14 @@
 -- A wrong size and a right one; the parts of an account and of a picture in a row.
-use Prim.Native.Nat.{ℕ, _+_, _*_, _≤_}
-use mathlib.Core.Path.{_≡_, refl, sym, ap, ap₂, _∙_, subst}
-use mathlib.Core.Bool.{Bool, true, false, cond, _&&_, not, false≢true, true≢false}
+use Prim.Native.Nat.{ℕ, _+_}
+use mathlib.Core.Path.{_≡_, refl, sym, ap, _∙_}
+use mathlib.Core.Bool.{Bool, true, false, _&&_, not}
 use mathlib.Core.List.{List, _++_, map}
-use native.Mathlib.Omega.{arith}
 use lib.ListN.{length, take}
 use lib.Dec.{eqb}
 use borrow.Author.Tests.{not-true, not-false}
 use Rattle.model.specs.Chip.{Image, imageLength, inRange, rightSize}
 use Rattle.model.specs.State.{Segment, segmentsOf, nextNumber}
-use Rattle.text.specs.Buffer.{Print, printIn, Wrote}
-use Rattle.text.proofs.Laws.{_then_}
-use Rattle.account_text.specs.Account.{shown, segmentLines, liveSlots, byBlock, blockLines, lastLine, accountOn, accountText, wrongSize}
+use Rattle.account_text.specs.Account.{shown, byBlock, blockLines, lastLine, accountOn, accountText, wrongSize}
 use Rattle.account_text.specs.Map.{legend, allRows, mapOn, mapText}
 use Rattle.index.specs.declared.Shown.{Shown}
 use Rattle.index.specs.Shows.{shownOf, uncounted, afterShown, shownLines}

@@ -15,7 +15,7 @@ ghost use lib.ListN.{length, take};
 ghost use Rattle.model.specs.State.{segmentsOf};
 ghost use Rattle.flash.specs.Pages.{Sized};
 ghost use Rattle.text.specs.Buffer.{printed, printIn, Wrote, mostText};
-ghost use Rattle.account_text.specs.Account.{shown, lastLine, accountOn, accountText, wrongSize};
+ghost use Rattle.account_text.specs.Account.{shown, accountOn, accountText, wrongSize};
 ghost use Rattle.index.specs.Shows.{shownOf};
 ghost use Rattle.index.specs.Tables.{tables, Indexed};
 ghost use Rattle.prognosis.specs.Foretold.{prognosisOf};

@@ -5,7 +5,6 @@ use model::MOST_SEGMENTS;
 use text::Printed;
 ghost use mathlib.Core.Path.{_≡_};
 ghost use mathlib.Core.List.{map as each};
-ghost use Prim.Native.Nat.{_+_, _≤_};
 ghost use lib.ListN.{length, take};
 ghost use Rattle.model.specs.State.{segmentsOf, nextNumber};
 ghost use Rattle.flash.specs.Pages.{Sized};

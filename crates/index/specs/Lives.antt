@@ -1,23 +1,18 @@
 -- The live slots that an account has lines for stand in the image, each on a page of its own.
-use Prim.Native.Nat.{ℕ, zero, suc, _+_, _-_, _*_, _%_, _≤_, _<_}
-use mathlib.Core.Path.{_≡_, refl, sym, ap, _∙_, subst}
+use Prim.Native.Nat.{ℕ, zero, suc, _+_, _-_, _*_, _≤_, _<_}
+use mathlib.Core.Path.{_≡_, refl, sym, ap, subst}
 use mathlib.Core.Logic.{_≢_}
-use mathlib.Core.Bool.{Bool, true, false, cond, false≢true}
 use mathlib.Core.List.{List, [], _∷_, _++_, map}
 use native.Mathlib.Omega.{arith}
-use native.Mathlib.Decide.{ℕ-discrete, decLt}
-use native.Mathlib.Nat.{suc-mul, mul-le-mul-right, mod-lt}
-use lib.ListN.{length, getD, set, take, drop, length-append, length-set}
-use lib.Seq.{getD-set-same, getD-set-other, set-out, drop-drop, getD-take, getD-drop}
-use Rattle.model.specs.Lists.{chunk, count}
-use Rattle.model.specs.Chip.{Image, Page, mostSegments, mostSlots}
-use Rattle.model.specs.Slot.{Slot, empty, torn, dead, wrong, live, mostContents, slotOf, Entry, entryOf}
-use Rattle.model.specs.State.{Segment, blank, invalid, inUse, isInUse, slotsIn, topIndex, topSlots, nextNumber, usedCount}
+use lib.ListN.{length, take, drop}
+use lib.Seq.{drop-drop}
+use Rattle.model.specs.Lists.{chunk}
+use Rattle.model.specs.Chip.{Image}
+use Rattle.model.specs.Slot.{Slot, empty, torn, dead, wrong, live, mostContents, slotOf, entryOf}
 use Rattle.model.specs.Laws.SlotPage.{live-facts, number-below}
 use Rattle.judge.specs.Rows.{slotsAt}
-use Rattle.judge.specs.Parts.{slotsOffset}
-use Rattle.account_text.specs.Account.{LiveSlot, liveAt, liveFrom, liveIn, liveSlots}
-use Rattle.index.specs.Tables.{mostPages, pageOf, Stands, AllStand}
+use Rattle.account_text.specs.Account.{LiveSlot, liveAt, liveFrom}
+use Rattle.index.specs.Tables.{pageOf, Stands, AllStand}
 use Rattle.index.specs.Chains.{Free, AllApart}
 
 -- ---- lists of live slots

@@ -1,12 +1,8 @@
 -- A segment as it is shown, and its line.
 use Prim.Native.Nat.{ℕ, suc}
-use mathlib.Core.Path.{_≡_, refl}
-use mathlib.Core.Bool.{cond}
 use mathlib.Core.List.{List, [], _∷_, _++_}
 use lib.ListN.{length}
-use lib.Dec.{eqb}
 use Rattle.model.specs.Lists.{count}
-use Rattle.model.specs.Header.{erasePending}
 use Rattle.model.specs.Slot.{Slot, isEmpty, isDead}
 use Rattle.model.specs.State.{Segment, blank, invalid, inUse, entries}
 use Rattle.judge.specs.declared.SegmentState.{SegmentState}

@@ -2,8 +2,8 @@
 use Prim.Native.Nat.{ℕ, zero, suc, _+_, _-_, _*_, _%_, _≤_, _<_}
 use mathlib.Core.Path.{_≡_, refl, sym, ap, _∙_, subst}
 use mathlib.Core.Logic.{_≢_}
-use mathlib.Core.Bool.{Bool, true, false, cond, false≢true, true≢false}
-use mathlib.Core.List.{List, [], _∷_, _++_, map}
+use mathlib.Core.Bool.{Bool, true, false, cond, false≢true}
+use mathlib.Core.List.{List, [], _∷_}
 use native.Mathlib.Omega.{arith}
 use native.Mathlib.Decide.{ℕ-discrete, decLt}
 use native.Mathlib.Nat.{suc-mul, mul-le-mul-right, mod-lt}
@@ -15,15 +15,15 @@ use Rattle.model.specs.Slot.{Slot, slotOf}
 use Rattle.model.specs.State.{Segment, blank, invalid, inUse, isInUse, numberAfter, segmentsOf, slotsIn, topIndex, topSlots, nextIndex, nextNumber, usedCount, State, clean, unfinished, damaged, caseA, caseB, caseC, caseD, stateOf}
 use Rattle.model.specs.Laws.Lists.{map-length}
 use Rattle.model.specs.Laws.Chunk.{chunk-length}
-use Rattle.model.specs.Laws.Ring.{next-at, next-ge, used-less}
+use Rattle.model.specs.Laws.Ring.{next-at, used-less}
 use Rattle.model.specs.Laws.Segments.{segments-length}
 use Rattle.model.specs.Laws.Effects.{numbered-at}
 use Rattle.judge.specs.Rows.{slotsAt}
 use Rattle.judge.specs.Parts.{slotsOffset, used-slots}
 use Rattle.account_text.specs.Account.{LiveSlot, liveFrom, liveIn, liveSlots, unseen, shownIn, shown}
-use Rattle.index.specs.Tables.{Tables, mostPages, linked, pageOf, Stands, AllStand, listOf, Indexed}
+use Rattle.index.specs.Tables.{Tables, linked, pageOf, Stands, AllStand, listOf, Indexed}
 use Rattle.index.specs.Chains.{Free, AllApart, Whole, Bare, linked-listed}
-use Rattle.index.specs.Lives.{Each, each-join, each-more, all-stand, free-each, apart-join, From, from-all, apart-from, from-few, row-stands}
+use Rattle.index.specs.Lives.{Each, each-join, each-more, all-stand, apart-join, From, from-all, apart-from, from-few, row-stands}
 
 -- ---- segments of an image, some of them left out
 

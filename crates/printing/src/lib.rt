@@ -2,7 +2,6 @@
 use index::Shown;
 use judge::SegmentState;
 use model::MOST_SEGMENTS;
-ghost use mathlib.Core.Path.{_≡_};
 ghost use mathlib.Core.List.{_++_};
 ghost use Prim.Native.Nat.{_+_, _*_, _<_, _≤_};
 ghost use lib.ListN.{length, take};

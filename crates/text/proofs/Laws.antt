@@ -1,15 +1,15 @@
 -- Pieces of a text in a buffer: one byte more, two pieces in a row; and the digits of a number.
 use Prim.Native.Nat.{ℕ, zero, suc, _+_, _-_, _*_, _/_, _%_, _^_, _<_, _≤_}
-use mathlib.Core.Path.{_≡_, refl, sym, ap, _∙_, subst}
+use mathlib.Core.Path.{_≡_, refl, sym, ap, _∙_}
 use mathlib.Core.Bool.{Bool, true, false, cond}
-use mathlib.Core.List.{List, [], _∷_, _++_, append-nil, append-assoc}
+use mathlib.Core.List.{List, [], _∷_, _++_, append-assoc}
 use native.Mathlib.Omega.{arith}
 use native.Mathlib.Nat.{mod-eq-of-lt, pow-suc}
 use lib.ListN.{length, take, drop, set, getD, length-append, take-append-drop}
-use lib.Seq.{take-all, paste-suc, drop-drop, take-append-le, take-append-seam, drop-append-seam, length-take-le, take-at, drop-at, set-split, take-take, drop-cons}
+use lib.Seq.{paste-suc, drop-drop, length-take-le, take-at, drop-at, drop-cons}
 use lib.Dec.{ltb}
 use borrow.Author.Tests.{lt-ltb, le-ltb, le-leb, lt-leb, ltb-true, ltb-false}
-use Rattle.text.specs.Decimal.{decimalOf, decimal}
+use Rattle.text.specs.Decimal.{decimalOf}
 use Rattle.model.specs.Answers.{codeOf}
 use Rattle.text.specs.declared.Printed.{Printed}
 use Rattle.text.specs.Buffer.{printed, printIn, shortOf, doneOf, over, Wrote}

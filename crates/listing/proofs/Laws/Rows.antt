@@ -1,10 +1,9 @@
 -- A row of slots from its end: counted, and its live slots put into the tables.
-use Prim.Native.Nat.{ℕ, zero, suc, _+_, _-_, _*_, _≤_, _<_}
-use mathlib.Core.Path.{_≡_, refl, sym, ap, ap₂, _∙_, subst}
-use mathlib.Core.Bool.{Bool, true, false, cond}
+use Prim.Native.Nat.{ℕ, suc, _+_, _-_, _*_, _≤_, _<_}
+use mathlib.Core.Path.{_≡_, refl, sym, ap}
 use mathlib.Core.List.{List, [], _∷_, _++_, flatMap, map}
 use native.Mathlib.Omega.{arith}
-use lib.ListN.{length, take, drop, length-append}
+use lib.ListN.{length, take, drop}
 use Rattle.model.specs.Lists.{count, chunk}
 use Rattle.model.specs.Chip.{Image}
 use Rattle.model.specs.Slot.{Slot, empty, torn, dead, wrong, live, slotOf, kindOf, isEmpty, isDead, entryOf}

@@ -6,8 +6,8 @@ use mathlib.Core.Bool.{Bool, true, false, cond, false≢true, true≢false}
 use mathlib.Core.List.{List, [], _∷_, _++_, map}
 use native.Mathlib.Omega.{arith}
 use native.Mathlib.Decide.{ℕ-discrete, decLt}
-use native.Mathlib.Nat.{mod-lt, suc-mul, mul-le-mul-right}
-use lib.ListN.{length, getD, take, set, length-set, List·getD-map}
+use native.Mathlib.Nat.{suc-mul, mul-le-mul-right}
+use lib.ListN.{length, getD, take, set, length-set}
 use lib.Seq.{getD-set-same, getD-set-other, getD-take, take-set-lt, ext-getD, length-take-le}
 use lib.Dec.{ltb}
 use borrow.Author.Tests.{lt-ltb}
@@ -20,7 +20,6 @@ use Rattle.model.specs.Laws.Ring.{next-at, next-ge}
 use Rattle.model.specs.declared.SlotKind.{SlotKind}
 use Rattle.judge.specs.Rows.{kindsAt, slotsAt}
 use Rattle.judge.specs.Parts.{slotsOffset}
-use Rattle.judge.specs.Heads.{stateSeen}
 use Rattle.judge.specs.declared.SegmentState.the-variants.{Blank}
 use Rattle.account_text.specs.Account.{LiveSlot, liveFrom, liveIn, liveSlots, shown}
 use Rattle.index.specs.declared.Counts.{Counts}
@@ -28,7 +27,7 @@ use Rattle.index.specs.declared.Shown.{Shown}
 use Rattle.index.specs.Shows.{noCounts, countsOf, shownAs, shownOf, uncounted, counted, afterShown}
 use Rattle.listing.specs.Walk.{countRow, largest}
 use Rattle.index.specs.Tables.{Tables, mostPages, linkRow, linked, listOf}
-use Rattle.index.specs.Walks.{Held, some-next, held-shown, held-less, top-below, top-number, top-used, used-fewer, number-use}
+use Rattle.index.specs.Walks.{Held, some-next, held-shown, held-less, top-below, top-used, used-fewer, number-use}
 use Rattle.listing.proofs.Laws.Rows.{counts-of, row-linked, linked-append}
 use Rattle.listing.proofs.Laws.Shows.{largest-next, uncounted-all}
 

@@ -1,5 +1,4 @@
 -- `listing::begin`. Assumes nothing.
-use mathlib.Core.Path.{refl, _∙_}
 use Rattle.judge.specs.Heads.{bareOf, bare, stateSeen}
 use Rattle.index.specs.Shows.{uncounted}
 use borrow.Author.Needs.{needs}

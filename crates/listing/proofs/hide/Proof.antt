@@ -1,6 +1,5 @@
 -- `listing::hide`, by the survey. Assumes nothing.
 use Prim.Native.Nat.{_+_}
-use mathlib.Core.Path.{_≡_, refl, ap, _∙_}
 use native.Mathlib.Omega.{arith}
 use native.Mathlib.Nat.{mod-lt}
 use Rattle.listing.specs.Walk.{hidden}

@@ -1,9 +1,9 @@
 -- `listing::list`: tables that hold none yet list what is put into them. Assumes nothing.
 use Prim.Native.Nat.{ℕ}
-use mathlib.Core.Path.{_≡_, refl, sym, ap, _∙_, subst}
+use mathlib.Core.Path.{sym, ap, _∙_, subst}
 use mathlib.Core.List.{List}
 use denote.Ref.{now}
-use lib.ListN.{length, replicate, length-replicate}
+use lib.ListN.{length, length-replicate}
 use Rattle.scan.proofs.Laws.Surveys.{right-size}
 use Rattle.index.specs.Tables.{Tables, tables, Indexed}
 use Rattle.index.specs.Chains.{Whole, Bare, zeros-bare}

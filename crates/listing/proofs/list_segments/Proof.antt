@@ -1,18 +1,18 @@
 -- `listing::list_segments`. The invariant: what was walked over is counted and in the tables, and the rest gives the whole. Assumes nothing.
-use Prim.Native.Nat.{ℕ, _+_, _-_, _*_, _%_, _≤_, _<_}
-use mathlib.Core.Path.{_≡_, refl, sym, ap, _∙_, subst}
-use mathlib.Core.List.{List, map}
+use Prim.Native.Nat.{_-_, _%_}
+use mathlib.Core.Path.{_≡_}
+use mathlib.Core.List.{List}
 use native.Mathlib.Omega.{arith}
-use native.Mathlib.Nat.{mod-lt, suc-mul, mul-le-mul-right}
+use native.Mathlib.Nat.{mod-lt}
 use denote.Ref.{now}
-use lib.ListN.{length, take, set, length-set}
+use lib.ListN.{take, set, length-set}
 use lib.Dec.{ltb}
 use borrow.Author.Needs.{needs}
 use Rattle.model.specs.Lists.{count}
-use Rattle.model.specs.State.{Segment, blank, topIndex, usedCount}
+use Rattle.model.specs.State.{Segment, blank, topIndex}
 use Rattle.index.specs.Shows.{noCounts, shownAs}
 use Rattle.index.specs.Tables.{tables}
-use Rattle.listing.proofs.Laws.Walk.{none, whole, Walking, walk-start, turn-index, again, less, page-inside, walk-end}
+use Rattle.listing.proofs.Laws.Walk.{whole, Walking, walk-start, turn-index, again, less, page-inside, walk-end}
 use Rattle.listing.proofs.list_segments.Statement.{statement}
 use Rattle.listing.proofs.list_segments.Tie as tie
 

@@ -1,5 +1,4 @@
 -- `listing::number_after`. Assumes nothing.
-use mathlib.Core.Path.{refl}
 use native.Mathlib.Omega.{arith}
 use Rattle.index.specs.Shows.{afterBy, afterShown}
 use borrow.Author.Needs.{needs}

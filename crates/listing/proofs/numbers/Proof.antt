@@ -1,5 +1,5 @@
 -- `listing::numbers`. The invariant: the first `i` are there. Assumes nothing.
-use Prim.Native.Nat.{ℕ, _-_, _≤_}
+use Prim.Native.Nat.{_-_, _≤_}
 use mathlib.Core.Path.{_≡_, refl}
 use mathlib.Core.List.{map}
 use native.Mathlib.Omega.{arith}

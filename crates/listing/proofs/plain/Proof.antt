@@ -1,5 +1,4 @@
 -- `listing::plain`. Assumes nothing.
-use mathlib.Core.Path.{refl, ap}
 use Rattle.index.specs.Shows.{shownAs}
 use borrow.Author.Needs.{needs}
 use Rattle.listing.proofs.plain.Statement.{statement}

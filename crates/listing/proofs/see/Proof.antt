@@ -1,14 +1,11 @@
 -- `listing::see`. Assumes nothing.
 use mathlib.Core.Path.{_≡_, ap, _∙_}
-use mathlib.Core.List.{List}
-use native.Mathlib.Omega.{arith}
 use denote.Ref.{now}
 use lib.ListN.{take}
 use Rattle.model.specs.State.{segmentsOf}
 use Rattle.model.specs.Laws.Segments.{segments-length}
 use Rattle.scan.proofs.Laws.Surveys.{right-size}
 use Rattle.scan.specs.declared.Surveyed.{Surveyed}
-use Rattle.index.specs.declared.Shown.{Shown}
 use Rattle.listing.specs.Walk.{hidden}
 use Rattle.listing.proofs.Laws.Shows.{hidden-shown}
 use Rattle.listing.proofs.see.Statement.{statement}

@@ -1,14 +1,14 @@
 -- `listing::see_all`. The invariant: the first `i` are there. Assumes nothing.
-use Prim.Native.Nat.{ℕ, _-_, _≤_, _<_}
-use mathlib.Core.Path.{_≡_, refl, sym, ap, _∙_}
-use mathlib.Core.List.{List, map}
+use Prim.Native.Nat.{_-_, _≤_}
+use mathlib.Core.Path.{_≡_, refl, ap, _∙_}
+use mathlib.Core.List.{map}
 use native.Mathlib.Omega.{arith}
 use denote.Ref.{now}
 use lib.ListN.{length, take, getD, length-set}
 use lib.Seq.{take-all}
 use borrow.Author.Needs.{needs}
 use Rattle.model.specs.Chip.{mostSegments}
-use Rattle.model.specs.State.{Segment, blank, segmentsOf}
+use Rattle.model.specs.State.{blank, segmentsOf}
 use Rattle.model.specs.Laws.Segments.{segments-length}
 use Rattle.index.specs.Shows.{uncounted}
 use Rattle.listing.proofs.Laws.Shows.{fill-more, outline-uncounted}

@@ -1,5 +1,5 @@
 -- `printing::chain_lines`. The invariant (`Walk`): the lines of the pages from this one on are left. Assumes nothing.
-use Prim.Native.Nat.{_+_, _-_, _*_}
+use Prim.Native.Nat.{_-_}
 use native.Mathlib.Omega.{arith}
 use borrow.Author.Needs.{needs}
 use denote.Ref.{now}

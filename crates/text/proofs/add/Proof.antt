@@ -1,12 +1,12 @@
 -- `text::add`. The invariant: the first `i` bytes are there. Assumes nothing.
-use Prim.Native.Nat.{ℕ, _+_, _-_, _≤_, _<_}
-use mathlib.Core.Path.{_≡_, refl, sym, ap, _∙_}
+use Prim.Native.Nat.{ℕ, _+_, _-_, _≤_}
+use mathlib.Core.Path.{_≡_, refl, ap, _∙_}
 use mathlib.Core.List.{List}
 use native.Mathlib.Omega.{arith}
 use denote.Ref.{now}
 use lib.ListN.{length, take, set, getD, length-set}
 use lib.Seq.{take-all}
-use Rattle.text.specs.Buffer.{over, Wrote}
+use Rattle.text.specs.Buffer.{over}
 use Rattle.text.proofs.Laws.{copy-none, copy-more}
 use borrow.Author.Needs.{needs}
 use Rattle.text.proofs.add.Statement.{statement}

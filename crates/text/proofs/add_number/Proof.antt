@@ -1,12 +1,11 @@
 -- `text::add_number`. The invariant: what is there, with the digits that are left written over it, is the whole. Assumes nothing.
-use Prim.Native.Nat.{ℕ, _+_, _-_, _/_, _%_, _≤_, _<_, suc}
+use Prim.Native.Nat.{ℕ, _+_, _-_, _/_, _%_, _≤_, suc}
 use mathlib.Core.Path.{_≡_, refl, sym, ap, _∙_}
-use mathlib.Core.List.{List}
 use native.Mathlib.Omega.{arith}
 use denote.Ref.{now}
 use lib.ListN.{length, set, length-set}
 use Rattle.text.specs.Decimal.{decimalOf, decimal}
-use Rattle.text.specs.Buffer.{over, Wrote}
+use Rattle.text.specs.Buffer.{over}
 use Rattle.text.proofs.Laws.{lastDigits, over-none, digit-more, decimal-digits}
 use borrow.Author.Needs.{needs}
 use Rattle.text.proofs.add_number.Statement.{statement}

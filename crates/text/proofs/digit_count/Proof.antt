@@ -1,5 +1,5 @@
 -- `text::digit_count`. The invariant: what is counted, and the digits of what is left, are those of the number. Assumes nothing.
-use Prim.Native.Nat.{ℕ, _+_, _-_, _/_, _≤_, _<_, suc}
+use Prim.Native.Nat.{ℕ, _+_, _-_, _/_, _≤_, suc}
 use mathlib.Core.Path.{_≡_, ap, _∙_}
 use native.Mathlib.Omega.{arith}
 use lib.ListN.{length}

@@ -1,5 +1,4 @@
 -- `accounts::picture::draw`: the rows, then the legend. Assumes nothing.
-use native.Mathlib.Omega.{arith}
 use denote.Ref.{now}
 use Rattle.model.specs.State.{segmentsOf}
 use Rattle.text.proofs.Laws.{_then_}

@@ -1,15 +1,13 @@
 -- `accounts::picture::map`: what is put together twice is the text. Assumes nothing.
 use Prim.Native.Nat.{ℕ}
-use mathlib.Core.Path.{_≡_, refl, sym, ap, _∙_}
+use mathlib.Core.Path.{ap, _∙_}
 use mathlib.Core.List.{List}
 use native.Mathlib.Omega.{arith}
 use denote.Ref.{now}
-use lib.ListN.{length}
 use Rattle.scan.proofs.Laws.Surveys.{right-size}
 use Rattle.text.specs.Buffer.{printIn}
 use Rattle.text.proofs.Laws.{print-short, print-done}
 use Rattle.printing.proofs.Laws.{wrote-as}
-use Rattle.model.specs.State.{segmentsOf}
 use Rattle.accounts.proofs.Laws.{right, wrong-map, right-map, next-is}
 use borrow.Author.Needs.{needs}
 use Rattle.accounts.proofs.picture.map.Statement.{statement}

@@ -1,5 +1,4 @@
 -- `listing::slots::link`. Assumes nothing.
-use mathlib.Core.Path.{refl}
 use Rattle.index.specs.Tables.{link}
 use borrow.Author.Needs.{needs}
 use Rattle.listing.proofs.slots.link.Statement.{statement}

@@ -1,10 +1,10 @@
 -- `listing::slots::list_row`. The invariant: the slots behind those that are left were looked at. Assumes nothing.
-use Prim.Native.Nat.{ℕ, _+_, _-_, _*_, _≤_, _<_}
-use mathlib.Core.Path.{_≡_, refl, sym, ap, _∙_, subst}
+use Prim.Native.Nat.{ℕ, _+_, _-_, _*_, _≤_}
+use mathlib.Core.Path.{_≡_, sym, ap, _∙_, subst}
 use mathlib.Core.List.{List}
 use native.Mathlib.Omega.{arith}
 use denote.Ref.{now}
-use lib.ListN.{length, take, drop, length-take, length-drop}
+use lib.ListN.{take, drop, length-take, length-drop}
 use Rattle.model.specs.Slot.{slotOf, kindOf}
 use Rattle.model.specs.declared.SlotKind.{SlotKind}
 use Rattle.judge.specs.Rows.{kindsAt}
