@@ -22,7 +22,7 @@ use Rattle.judge.specs.Parts.{slotsOffset}
 use Rattle.text.specs.Text.{text}
 use Rattle.text.specs.Decimal.{decimal}
 use Rattle.text.specs.Buffer.{Wrote}
-use Rattle.text.proofs.Laws.{over-none, _then_}
+use Rattle.text.proofs.Laws.{_then_, wrote-none}
 use Rattle.account_text.specs.Account.{shown}
 use Rattle.account_text.specs.Map.{mark, mostMarks, margin, rowBreak, marksFrom, padded, rowStart, stateWord, mapRow, mapRows}
 use Rattle.index.specs.declared.Shown.{Shown}
@@ -33,9 +33,6 @@ use Rattle.mapping.specs.Finishes.{Finishes}
 use Rattle.mapping.specs.Marks.{segmentBy}
 
 -- ---- pieces in a loop
-
-pub wrote-none : (start : List ℕ) (at : ℕ) → Wrote [] start at start at
-wrote-none start at = record { ends = omega arith; kept = refl; there = λ h. sym (over-none start at) }
 
 pub finish-begin : (whole start : List ℕ) (at : ℕ) → Finishes whole whole start at start at
 finish-begin whole start at = record { finish = λ later last w. w; kept = refl }

@@ -4,7 +4,7 @@ use mathlib.Core.Path.{_≡_, refl, sym, ap, _∙_, subst}
 use mathlib.Core.Bool.{false, cond}
 use mathlib.Core.List.{List, [], _∷_, _++_, flatMap, append-nil, append-assoc}
 use native.Mathlib.Omega.{arith}
-use native.Mathlib.Nat.{mul-le-mul-right, suc-mul, div-eq-of-lt-le, div-add-mod'}
+use native.Mathlib.Nat.{suc-mul, div-eq-of-lt-le, div-add-mod'}
 use native.Mathlib.Numerals.{add-one}
 use lib.ListN.{length, take, getD, length-append}
 use lib.Seq.{take-suc, length-take-le}
@@ -14,21 +14,14 @@ use Rattle.flash.specs.Pages.{Sized}
 use Rattle.judge.specs.declared.SegmentState.the-variants.{Blank, Invalid, InUse, Owing}
 use Rattle.text.specs.Text.{text}
 use Rattle.text.specs.Buffer.{labelled, Wrote}
-use Rattle.text.proofs.Laws.{over-none, _then_}
+use Rattle.text.proofs.Laws.{_then_, wrote-none, wrote-as}
 use Rattle.account_text.specs.Account.{LiveSlot, blockLine, blockLines, byBlock}
 use Rattle.index.specs.declared.Counts.{Counts}
 use Rattle.index.specs.declared.Shown.{Shown}
 use Rattle.index.specs.Shows.{countsLine, lineBy, shownLine, shownLines}
+use Rattle.index.specs.Chains.{page-few}
 use Rattle.index.specs.Tables.{mostPages, pageOf, ofBlock, Chain, Stands, AllStand, blocksBelow}
 use Rattle.index.specs.Sorted.{AllOf, below-few, sorted, stand-below}
-
--- nothing is written yet
-pub wrote-none : (start : List ℕ) (at : ℕ) → Wrote [] start at start at
-wrote-none start at = record { ends = omega arith; kept = refl; there = λ h. sym (over-none start at) }
-
--- the same bytes by another name
-pub wrote-as : {x start buffer : List ℕ} {at end : ℕ} (y : List ℕ) → x ≡ y → Wrote x start at buffer end → Wrote y start at buffer end
-wrote-as {x} {start} {buffer} {at} {end} y e w = subst (λ (z : List ℕ). Wrote z start at buffer end) e w
 
 -- ---- segments
 
@@ -89,19 +82,7 @@ chain-length (suc k) B nexts lengths p (e ∷ r) c h =
     let n : eqb p 0 ≡ false = ne-eqb p 0 (λ q. let z = c .1 in omega arith) in
     rw n (ap suc (chain-length k B nexts lengths (getD nexts p 0) r (c .2) (omega arith)))
 
--- the page of a live slot lies in the image, and tells its segment and its place
-pub page-inside : (N B : ℕ) (s : List ℕ) (e : LiveSlot) → Sized N B (length s) → Stands N B s e → (pageOf B e < mostPages) × (pageOf B e * 256 + 256 ≤ length s)
-unfolding pageOf
-page-inside N B s e z t =
-    let a = mul-le-mul-right (B + 1) (t .segment) in
-    let b = suc-mul (e .segment) (B + 1) in
-    let c : (B + 1) ≤ 256 = let q = z .slots in omega arith in
-    let f = mul-le-mul-right (B + 1) (z .segments) in
-    let q = t .slot in
-    let w = z .whole in
-    let p : e .segment * (B + 1) + e .slot < N * (B + 1) = omega arith in
-    (omega arith, omega arith)
-
+-- the page of a live slot tells its segment and its place
 pub page-segment : (N B : ℕ) (s : List ℕ) (e : LiveSlot) → Stands N B s e → (pageOf B e / (B + 1) ≡ e .segment) × (pageOf B e % (B + 1) ≡ e .slot)
 unfolding pageOf
 page-segment N B s e t =
@@ -120,7 +101,7 @@ chain-none B nexts lengths p (e ∷ r) c h = absurd (let z = c .1 in omega arith
 
 chain-low : (N B : ℕ) (s nexts lengths : List ℕ) (p : ℕ) (r : List LiveSlot) → Sized N B (length s) → Chain B nexts lengths p r → AllStand N B s r → p < mostPages
 chain-low N B s nexts lengths p [] z c t = omega arith
-chain-low N B s nexts lengths p (e ∷ r) z c t = let q = page-inside N B s e z (t .0) in let f = c .0 in omega arith
+chain-low N B s nexts lengths p (e ∷ r) z c t = let q = page-few N B s e (z .segments) (z .slots) (t .0) in let f = c .0 in omega arith
 
 live-same : (e : LiveSlot) (b n i j : ℕ) → b ≡ e .block → n ≡ e .length → i ≡ e .segment → j ≡ e .slot → record { block = b; length = n; segment = i; slot = j } ≡ e
 live-same e b n i j p q r t =
@@ -178,12 +159,12 @@ module _ {N B : ℕ} {s nexts lengths : List ℕ} {block : ℕ} {whole : List Li
 
   -- its page lies in the image, and there is room for its line
   pub walk-inside : {text : List ℕ} {page end : ℕ} → Sized N B (length s) → Walk N B s nexts lengths block whole start at text page end → (page ≡ 0 → ⊥)
-      → (page < mostPages) × (page * 256 + 256 ≤ length s) × (end + 80 ≤ at + 80 * length whole)
+      → (page < mostPages) × (end + 80 ≤ at + 80 * length whole)
   walk-inside {text} {page} {end} z w h =
       let n = walk-next w h in
-      let p = page-inside N B s (n .slot) z (n .stand) in
+      let p = page-few N B s (n .slot) (z .segments) (z .slots) (n .stand) in
       let l : length (w .rest) ≡ suc (length (n .others)) = ap length (n .split) in
-      (rw (n .here) (p .0), rw (n .here) (p .1), let q = w .near in omega arith)
+      (rw (n .here) (p .1), let q = w .near in omega arith)
 
   pub walk-low : {text : List ℕ} {page end : ℕ} → Sized N B (length s) → Walk N B s nexts lengths block whole start at text page end → (page ≡ 0 → ⊥) → getD nexts page 0 < mostPages
   walk-low {text} {page} {end} z w h = let n = walk-next w h in chain-low N B s nexts lengths (getD nexts page 0) (n .others) z (n .chain) (n .stands)

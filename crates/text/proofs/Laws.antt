@@ -1,6 +1,6 @@
 -- Pieces of a text in a buffer: one byte more, two pieces in a row; and the digits of a number.
 use Prim.Native.Nat.{ℕ, zero, suc, _+_, _-_, _*_, _/_, _%_, _^_, _<_, _≤_}
-use mathlib.Core.Path.{_≡_, refl, sym, ap, _∙_}
+use mathlib.Core.Path.{_≡_, refl, sym, ap, _∙_, subst}
 use mathlib.Core.Bool.{Bool, true, false, cond}
 use mathlib.Core.List.{List, [], _∷_, _++_, append-assoc}
 use native.Mathlib.Omega.{arith}
@@ -55,6 +55,13 @@ _then_ {x} {y} {start} {mid} {buffer} {at} {middle} {end} a b =
           let q : buffer ≡ over mid middle y = b .there (omega arith) in
           q ∙ (rw (m, e) (over-over start at x y (omega arith)));
     }
+
+pub wrote-none : (start : List ℕ) (at : ℕ) → Wrote [] start at start at
+wrote-none start at = record { ends = omega arith; kept = refl; there = λ h. sym (over-none start at) }
+
+-- the same bytes by another name
+pub wrote-as : {x start buffer : List ℕ} {at end : ℕ} (y : List ℕ) → x ≡ y → Wrote x start at buffer end → Wrote y start at buffer end
+wrote-as {x} {start} {buffer} {at} {end} y e w = subst (λ (z : List ℕ). Wrote z start at buffer end) e w
 
 -- ---- bytes copied, one by one
 

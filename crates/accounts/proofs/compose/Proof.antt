@@ -1,8 +1,7 @@
 -- `accounts::compose`: three parts in a row. Assumes nothing.
 use native.Mathlib.Omega.{arith}
 use denote.Ref.{now}
-use Rattle.text.proofs.Laws.{_then_}
-use Rattle.printing.proofs.Laws.{wrote-as}
+use Rattle.text.proofs.Laws.{_then_, wrote-as}
 use Rattle.accounts.proofs.Laws.{composed}
 use borrow.Author.Needs.{needs}
 use Rattle.accounts.proofs.compose.Statement.{statement}

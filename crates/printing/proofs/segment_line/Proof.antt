@@ -2,8 +2,8 @@
 use native.Mathlib.Omega.{arith}
 use Rattle.text.specs.Text.{text}
 use Rattle.text.specs.Buffer.{labelled}
-use Rattle.text.proofs.Laws.{_then_}
-use Rattle.printing.proofs.Laws.{wrote-as, line-blank, line-torn, line-used, line-owing}
+use Rattle.text.proofs.Laws.{_then_, wrote-as}
+use Rattle.printing.proofs.Laws.{line-blank, line-torn, line-used, line-owing}
 use borrow.Author.Needs.{needs}
 use Rattle.printing.proofs.segment_line.Statement.{statement}
 use Rattle.printing.proofs.segment_line.Tie as tie

@@ -5,9 +5,9 @@ use native.Mathlib.Omega.{arith}
 use borrow.Author.Needs.{needs}
 use lib.ListN.{take}
 use Rattle.text.specs.Buffer.{Wrote}
-use Rattle.text.proofs.Laws.{_then_}
+use Rattle.text.proofs.Laws.{_then_, wrote-none, wrote-as}
 use Rattle.index.specs.Shows.{shownLines}
-use Rattle.printing.proofs.Laws.{wrote-none, wrote-as, segment-more}
+use Rattle.printing.proofs.Laws.{segment-more}
 use Rattle.printing.proofs.segment_lines.Statement.{statement}
 use Rattle.printing.proofs.segment_lines.Tie as tie
 

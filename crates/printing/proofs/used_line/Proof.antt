@@ -2,8 +2,8 @@
 use native.Mathlib.Omega.{arith}
 use Rattle.text.specs.Text.{text}
 use Rattle.text.specs.Buffer.{labelled}
-use Rattle.text.proofs.Laws.{_then_}
-use Rattle.printing.proofs.Laws.{wrote-as, counts-ended}
+use Rattle.text.proofs.Laws.{_then_, wrote-as}
+use Rattle.printing.proofs.Laws.{counts-ended}
 use borrow.Author.Needs.{needs}
 use Rattle.printing.proofs.used_line.Statement.{statement}
 use Rattle.printing.proofs.used_line.Tie as tie

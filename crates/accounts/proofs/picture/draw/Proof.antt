@@ -1,8 +1,7 @@
 -- `accounts::picture::draw`: the rows, then the legend. Assumes nothing.
 use denote.Ref.{now}
 use Rattle.model.specs.State.{segmentsOf}
-use Rattle.text.proofs.Laws.{_then_}
-use Rattle.printing.proofs.Laws.{wrote-as}
+use Rattle.text.proofs.Laws.{_then_, wrote-as}
 use Rattle.accounts.proofs.Laws.{drawn}
 use borrow.Author.Needs.{needs}
 use Rattle.accounts.proofs.picture.draw.Statement.{statement}
