@@ -5,7 +5,7 @@ use Rattle.model.specs.Chip.{Image}
 use Rattle.model.specs.Answers.{Outcome, outcomeOf, format, put, delete, recover}
 use Rattle.qbx_words.specs.declared.Command.{Command}
 use Rattle.qbx_words.specs.declared.Verb.{Verb}
-use Rattle.qbx_words.specs.declared.Verb.the-variants.{Format, Put, Get, Delete, Recover, Check, Unknown}
+use Rattle.qbx_words.specs.declared.Verb.the-variants.{Format, Put, Get, Delete, Recover, Check, Account, Map, Unknown}
 
 abbrev pub untouched : Image → Outcome
 untouched s = record { code = 0; count = 0; image = s }
@@ -18,4 +18,6 @@ performedBy Get k c s = untouched s
 performedBy Delete k c s = outcomeOf (k .segments) (k .slots) s (k .budget) (delete (k .block .0))
 performedBy Recover k c s = outcomeOf (k .segments) (k .slots) s (k .budget) recover
 performedBy Check k c s = untouched s
+performedBy Account k c s = untouched s
+performedBy Map k c s = untouched s
 performedBy Unknown k c s = untouched s

@@ -59,6 +59,8 @@ pub fn perform(image: &mut [u8], command: Command, contents: &[u8]) -> Performed
         Verb::Recover => store::recover(image, segments, slots, budget),
         Verb::Get => idle(),
         Verb::Check => idle(),
+        Verb::Account => idle(),
+        Verb::Map => idle(),
         Verb::Unknown => idle(),
     }
 }
