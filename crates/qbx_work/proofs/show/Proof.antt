@@ -1,114 +1,86 @@
+-- `qbx_work::show`: the count is within the image, and the text within its buffer. Assumes nothing.
+use mathlib.Core.Path.{sym}
+use native.Mathlib.Omega.{arith}
+use lib.Seq.{length-take-le}
 use borrow.Author.Needs.{needs}
 use Rattle.qbx_work.proofs.show.Statement.{statement}
 use Rattle.qbx_work.proofs.show.Tie as tie
-use Rattle.qbx_work.proofs.show.Reads as reads
-use Rattle.qbx_work.proofs.show.Lts as lts
-use Rattle.io.proofs.write_all.Reads as write-all-reads
-use Rattle.qbx_requests.proofs.describe.Reads as describe-reads
-use Rattle.qbx_work.proofs.fail.Reads as fail-reads
-use Rattle.qbx_work.proofs.present.Reads as present-reads
 
--- src/lib.rt:221:9
 present-requires : tie.Need-present-requires
 present-requires c κs = search needs
 
--- src/lib.rt:223:19
 slice-aggregate-fail : tie.Need-slice-aggregate-fail
 slice-aggregate-fail c = search needs
 
--- src/lib.rt:223:9
 fail-requires : tie.Need-fail-requires
 fail-requires c κs = search needs
 
--- src/lib.rt:224:9
 same-length : tie.Need-same-length
 same-length c = search needs
 
--- src/lib.rt:224:9
 returns : tie.Need-returns
 returns c = search needs
 
--- src/lib.rt:227:42
 slice-reshare-prefix-describe : tie.Need-slice-reshare-prefix-describe
 slice-reshare-prefix-describe c = search needs
 
--- src/lib.rt:227:42
 slice-aggregate-describe : tie.Need-slice-aggregate-describe
-slice-aggregate-describe c = ?
+slice-aggregate-describe c = sym (length-take-le _ _ (omega arith))
 
--- src/lib.rt:227:9
 describe-requires : tie.Need-describe-requires
 describe-requires c κs = search needs
 
--- src/lib.rt:230:28
 enum-told : tie.Need-enum-told
 enum-told c = search needs
 
--- src/lib.rt:230:28
 slice-aggregate-write-all : tie.Need-slice-aggregate-write-all
 slice-aggregate-write-all c = search needs
 
--- src/lib.rt:230:9
 write-all-requires : tie.Need-write-all-requires
 write-all-requires c κs = search needs
 
--- src/lib.rt:231:9
 same-length-2 : tie.Need-same-length-2
 same-length-2 c = search needs
 
--- src/lib.rt:231:9
 same-length-3 : tie.Need-same-length-3
 same-length-3 c = search needs
 
--- src/lib.rt:231:9
 returns-2 : tie.Need-returns-2
 returns-2 c = search needs
 
--- src/lib.rt:234:28
 slice-reshare-prefix-write-all : tie.Need-slice-reshare-prefix-write-all
 slice-reshare-prefix-write-all c = search needs
 
--- src/lib.rt:234:28
 slice-aggregate-write-all-2 : tie.Need-slice-aggregate-write-all-2
-slice-aggregate-write-all-2 c = ?
+slice-aggregate-write-all-2 c = sym (length-take-le _ _ (omega (arith, c .before .before .before .before .describe .ensures .1)))
 
--- src/lib.rt:234:9
 write-all-requires-2 : tie.Need-write-all-requires-2
 write-all-requires-2 c κs = search needs
 
--- src/lib.rt:235:19
 slice-aggregate-fail-2 : tie.Need-slice-aggregate-fail-2
 slice-aggregate-fail-2 c = search needs
 
--- src/lib.rt:235:30
 slice-aggregate-fail-3 : tie.Need-slice-aggregate-fail-3
 slice-aggregate-fail-3 c = search needs
 
--- src/lib.rt:235:9
 fail-requires-2 : tie.Need-fail-requires-2
 fail-requires-2 c κs = search needs
 
--- src/lib.rt:218:1
 same-length-4 : tie.Need-same-length-4
 same-length-4 c = search needs
 
--- src/lib.rt:218:1
 same-length-5 : tie.Need-same-length-5
 same-length-5 c = search needs
 
--- src/lib.rt:218:1
 returns-3 : tie.Need-returns-3
 returns-3 c = search needs
 
--- src/lib.rt:218:1
 same-length-6 : tie.Need-same-length-6
 same-length-6 c = search needs
 
--- src/lib.rt:218:1
 same-length-7 : tie.Need-same-length-7
 same-length-7 c = search needs
 
--- src/lib.rt:218:1
 returns-4 : tie.Need-returns-4
 returns-4 c = search needs
 
