@@ -14,7 +14,7 @@ fn usage(fd: i32) {
     );
     io::write_all(
         fd,
-        b"IMAGE is the file, of N segments (2 to 255) with B slots each (2 to 255).\nOne above 4 MiB needs a stack of 24576 KiB: ./qbx raises the limit where it may.\n\n",
+        b"IMAGE is the file, of N segments (2 to 255) with B slots each (2 to 255).\nOne above 4 MiB needs a stack of 24576 KiB, for account and map 26624: ./qbx raises the limit where it may.\n\n",
     );
     io::write_all(
         fd,
@@ -22,11 +22,15 @@ fn usage(fd: i32) {
     );
     io::write_all(
         fd,
-        b"  delete BLOCK   forgets the block\n  recover        mends what a power cut left unfinished\n  check          says the state of the image, the segments in use, their slots, version and tally\n\n",
+        b"  delete BLOCK   forgets the block\n  recover        mends what a power cut left unfinished\n  check          says the state of the image, the segments in use, their slots, version and tally\n",
     );
     io::write_all(
         fd,
-        b"--budget STEPS stops a verb that writes after so many flash steps, as a power cut would.\nThe answer is said with its number and the steps done. The file is replaced whole or not at all.\n",
+        b"  account        lists the segments and the blocks, and what recover would do or the condition that fails\n  map            draws the segments, one character for each slot\n\n",
+    );
+    io::write_all(
+        fd,
+        b"--budget STEPS stops a verb that writes after so many flash steps, as a power cut would.\nThe answer is said with its number and the steps done; account and map write their text alone.\nThe file is replaced whole or not at all.\n",
     );
     io::write_all(
         fd,

@@ -1,6 +1,6 @@
 -- A buffer of so many bytes, and what the buffers hold.
 use Prim.Native.Nat.{ℕ, zero, suc, _<_, _≤_}
-use mathlib.Core.Path.{_≡_, refl, sym, subst}
+use mathlib.Core.Path.{_≡_, refl, sym, ap, subst}
 use mathlib.Core.Bool.{Bool, true, false, cond}
 use native.Mathlib.Omega.{arith}
 use lib.ListN.{length, replicate, length-replicate}
@@ -39,8 +39,8 @@ module _ (k s : ℕ) {size room : ℕ} (is : size ≡ s) (holds : room ≡ roomO
   pub not-held : room < size → false ≡ leb s (roomOf k)
   not-held h = sym (lt-leb s (roomOf k) (omega arith))
 
-  pub taken : (m : ℕ) {needed allowed : ℕ} → size ≤ room → needed ≡ needOf k → needed ≤ allowed → roomOf k ≡ roomOf m → needOf k ≡ needOf m → (s ≤ roomOf m) × (needOf m ≤ allowed)
-  taken m h n a e f = (omega arith, omega arith)
+  pub taken : (m : ℕ) (prints told : Bool) {needed allowed : ℕ} → size ≤ room → needed ≡ needOf prints k → needed ≤ allowed → prints ≡ told → roomOf k ≡ roomOf m → needOf told k ≡ needOf told m → (s ≤ roomOf m) × (needOf told m ≤ allowed)
+  taken m prints told h n a e f g = let p = ap (λ (t : Bool). needOf t k) e in (omega arith, omega arith)
 
 -- the last buffer holds every image
 pub any-held : (N B : ℕ) → leb (sizeOf N B) (roomOf 2) ≡ true

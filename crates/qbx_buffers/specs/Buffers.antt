@@ -1,5 +1,6 @@
--- The buffers for images.
+-- The buffers for images and texts.
 use Prim.Native.Nat.{ℕ, zero, suc}
+use mathlib.Core.Bool.{Bool, cond}
 use Rattle.model.specs.Chip.{largestImage}
 
 -- of three numbers the one for a buffer; from the third buffer on it is the last
@@ -12,6 +13,6 @@ forBuffer a b c (suc (suc _)) = c
 unfoldable pub roomOf : ℕ → ℕ
 roomOf k = forBuffer 1048576 4194304 largestImage k
 
--- the KiB of stack that it asks for: Linux lets the arguments and the environment have a quarter of them, and the rest holds the buffer and the frames below it
-unfoldable pub needOf : ℕ → ℕ
-needOf k = forBuffer 1536 6144 24576 k
+-- the KiB of stack that it asks for, with or without a buffer for a text beside it: Linux lets the arguments and the environment have a quarter of them, and the rest holds the buffers and the frames below them
+unfoldable pub needOf : Bool → ℕ → ℕ
+needOf prints k = cond prints (forBuffer 2560 7168 26624 k) (forBuffer 1536 6144 24576 k)

@@ -65,7 +65,7 @@ sizeLine N B there = performedText Size 0 ++ askedText N B ++ (text "; " ++ deci
 unfoldable pub complaintText : Complaint → List ℕ
 complaintText Segments = text "qbx: N is not a number\n"
 complaintText Slots = text "qbx: B is not a number\n"
-complaintText NoVerb = text "qbx: the verb is none of format, put, get, delete, recover, check\n"
+complaintText NoVerb = text "qbx: the verb is none of format, put, get, delete, recover, check, account, map\n"
 complaintText Block = text "qbx: BLOCK is not a number up to 65535\n"
 complaintText NoOption = text "qbx: only --budget STEPS may follow, and only a verb that writes\n"
 complaintText Budget = text "qbx: STEPS is not a number\n"

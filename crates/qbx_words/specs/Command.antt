@@ -9,7 +9,7 @@ use Rattle.qbx_words.specs.Number.{numberOf}
 use Rattle.qbx_words.specs.declared.Parsed.{Parsed}
 use Rattle.qbx_words.specs.declared.Parsed.the-variants.{Number, NoNumber}
 use Rattle.qbx_words.specs.declared.Verb.{Verb}
-use Rattle.qbx_words.specs.declared.Verb.the-variants.{Format, Put, Get, Delete, Recover, Check, Unknown}
+use Rattle.qbx_words.specs.declared.Verb.the-variants.{Format, Put, Get, Delete, Recover, Check, Account, Map, Unknown}
 use Rattle.qbx_words.specs.declared.Complaint.{Complaint}
 use Rattle.qbx_words.specs.declared.Complaint.the-variants.{Segments, Slots, NoVerb, Block, NoOption, Budget}
 use Rattle.qbx_words.specs.declared.Command.{Command}
@@ -26,7 +26,9 @@ verbOf w =
     (cond (same w (text "delete")) Delete
     (cond (same w (text "recover")) Recover
     (cond (same w (text "check")) Check
-    Unknown)))))
+    (cond (same w (text "account")) Account
+    (cond (same w (text "map")) Map
+    Unknown)))))))
 
 unfoldable pub known : Verb → Bool
 known Format = true
@@ -35,6 +37,8 @@ known Get = true
 known Delete = true
 known Recover = true
 known Check = true
+known Account = true
+known Map = true
 known Unknown = false
 
 unfoldable pub namesBlock : Verb → Bool
@@ -44,6 +48,8 @@ namesBlock Get = true
 namesBlock Delete = true
 namesBlock Recover = false
 namesBlock Check = false
+namesBlock Account = false
+namesBlock Map = false
 namesBlock Unknown = false
 
 unfoldable pub writes : Verb → Bool
@@ -53,7 +59,21 @@ writes Get = false
 writes Delete = true
 writes Recover = true
 writes Check = false
+writes Account = false
+writes Map = false
 writes Unknown = false
+
+-- whether what a verb says is a text of many lines
+unfoldable pub prints : Verb → Bool
+prints Format = false
+prints Put = false
+prints Get = false
+prints Delete = false
+prints Recover = false
+prints Check = false
+prints Account = true
+prints Map = true
+prints Unknown = false
 
 -- ---- the words, from the last to the first
 

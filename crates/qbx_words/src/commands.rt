@@ -44,6 +44,12 @@ fn verb_of(word: &[u8]) -> Verb
     if is(word, b"check") {
         return Verb::Check;
     }
+    if is(word, b"account") {
+        return Verb::Account;
+    }
+    if is(word, b"map") {
+        return Verb::Map;
+    }
     Verb::Unknown
 }
 
@@ -57,6 +63,8 @@ fn known(verb: Verb) -> bool
         Verb::Delete => true,
         Verb::Recover => true,
         Verb::Check => true,
+        Verb::Account => true,
+        Verb::Map => true,
         Verb::Unknown => false,
     }
 }
@@ -71,6 +79,8 @@ fn names_block(verb: Verb) -> bool
         Verb::Delete => true,
         Verb::Recover => false,
         Verb::Check => false,
+        Verb::Account => false,
+        Verb::Map => false,
         Verb::Unknown => false,
     }
 }
@@ -85,6 +95,8 @@ fn writes(verb: Verb) -> bool
         Verb::Delete => true,
         Verb::Recover => true,
         Verb::Check => false,
+        Verb::Account => false,
+        Verb::Map => false,
         Verb::Unknown => false,
     }
 }

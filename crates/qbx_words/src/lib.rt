@@ -5,6 +5,8 @@ mod numbers;
 pub use commands::command_of;
 pub use commands::is;
 use model::BlockNumber;
+ghost use mathlib.Core.Path.{_≡_};
+ghost use Rattle.qbx_words.specs.Command.{prints};
 
 // A number read from a word.
 pub enum Parsed {
@@ -19,7 +21,26 @@ pub enum Verb {
     Delete,
     Recover,
     Check,
+    Account,
+    Map,
     Unknown,
+}
+
+// Whether what a verb says is a text of many lines.
+pub fn prints(verb: Verb) -> bool
+    ensures { λ r. ⌜ r ≡ prints verb ⌝ }
+{
+    match verb {
+        Verb::Format => false,
+        Verb::Put => false,
+        Verb::Get => false,
+        Verb::Delete => false,
+        Verb::Recover => false,
+        Verb::Check => false,
+        Verb::Account => true,
+        Verb::Map => true,
+        Verb::Unknown => false,
+    }
 }
 
 // A command whose words were right. A verb that names no block has block 0.

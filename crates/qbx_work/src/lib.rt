@@ -181,15 +181,13 @@ fn act(
     match verb {
         Verb::Get => get(&image[..], command, there, out, err),
         Verb::Check => check(&image[..], command, there, out),
-        Verb::Format | Verb::Put | Verb::Delete | Verb::Recover | Verb::Unknown => change(
-            image,
-            path,
-            command,
-            contents,
-            there,
-            out,
-            err,
-        ),
+        Verb::Format
+        | Verb::Put
+        | Verb::Delete
+        | Verb::Recover
+        | Verb::Account
+        | Verb::Map
+        | Verb::Unknown => change(image, path, command, contents, there, out, err),
     }
 }
 
@@ -213,6 +211,29 @@ pub fn obey(image: &mut [u8], path: &[u8], command: Command, contents: &[u8], ou
         out,
         err,
     );
+}
+
+// A text about the image's file, in a buffer of its own beside the image's; nothing else goes out. It is not done by `obey`:
+// what it needs of the stack would be taken for every command.
+pub fn show(image: &mut [u8], text: &mut [u8], path: &[u8], command: Command, out: i32, err: i32)
+    requires { ⌜ sizeOf (command .segments) (command .slots) < length (now image) ⌝ }
+{
+    let file = present(image, path, command);
+    if !file.whole {
+        fail(err, b"read ", path);
+        return;
+    }
+    let n = file.count;
+    let printed = qbx_requests::describe(&image[..n], command, text);
+    let answer = printed.answer;
+    if let Answer::ShortBuffer = answer {
+        io::write_all(err, b"qbx: the text is longer than its buffer\n");
+        return;
+    }
+    let length = printed.length;
+    if !io::write_all(out, &text[..length]) {
+        fail(err, b"write ", b"standard output");
+    }
 }
 
 // Says that a command's image needs more KiB of stack than are allowed.

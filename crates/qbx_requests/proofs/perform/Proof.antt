@@ -47,6 +47,18 @@ enum-told-7 c = search needs
 idle-requires-3 : tie.Need-idle-requires-3
 idle-requires-3 c κs = search needs
 
+enum-told-8 : tie.Need-enum-told-8
+enum-told-8 c = search needs
+
+idle-requires-4 : tie.Need-idle-requires-4
+idle-requires-4 c κs = search needs
+
+enum-told-9 : tie.Need-enum-told-9
+enum-told-9 c = search needs
+
+idle-requires-5 : tie.Need-idle-requires-5
+idle-requires-5 c κs = search needs
+
 same-length : tie.Need-same-length
 same-length c = search needs
 
@@ -87,6 +99,14 @@ returns-7 : tie.Need-returns-7
 unfolding performedBy performed
 returns-7 c = rw (c .before .enum-told7 .given .1, c .idle3 .ensures .0, c .idle3 .ensures .1)
 
+returns-8 : tie.Need-returns-8
+unfolding performedBy performed
+returns-8 c = rw (c .before .enum-told8 .given .1, c .idle4 .ensures .0, c .idle4 .ensures .1)
+
+returns-9 : tie.Need-returns-9
+unfolding performedBy performed
+returns-9 c = rw (c .before .enum-told9 .given .1, c .idle5 .ensures .0, c .idle5 .ensures .1)
+
 pub perform-spec : {M : Type 1} → statement M
 perform-spec =
     tie.close
@@ -105,6 +125,10 @@ perform-spec =
     idle-requires-2
     enum-told-7
     idle-requires-3
+    enum-told-8
+    idle-requires-4
+    enum-told-9
+    idle-requires-5
     same-length
     returns
     same-length-2
@@ -115,4 +139,6 @@ perform-spec =
     returns-4
     returns-5
     returns-6
-    returns-7)
+    returns-7
+    returns-8
+    returns-9)

@@ -97,16 +97,57 @@ returns-6 c =
       sym (c .before .is6 .ensures) ∙ c .if6 .taken,
     )
 
+slice-aggregate-is-7 : tie.Need-slice-aggregate-is-7
+slice-aggregate-is-7 c = search needs
+
+is-requires-7 : tie.Need-is-requires-7
+is-requires-7 c κs = search needs
+
 returns-7 : tie.Need-returns-7
 unfolding text verbOf
 returns-7 c =
     rw (
-      sym (c .before .before .before .before .before .before .before .before .before .before .before .before .before .before .before .before .is .ensures) ∙ c .before .before .before .before .before .before .before .before .before .before .before .before .before .before .before .if1 .left,
-      sym (c .before .before .before .before .before .before .before .before .before .before .before .before .before .is2 .ensures) ∙ c .before .before .before .before .before .before .before .before .before .before .before .before .if2 .left,
-      sym (c .before .before .before .before .before .before .before .before .before .before .is3 .ensures) ∙ c .before .before .before .before .before .before .before .before .before .if3 .left,
-      sym (c .before .before .before .before .before .before .before .is4 .ensures) ∙ c .before .before .before .before .before .before .if4 .left,
-      sym (c .before .before .before .before .is5 .ensures) ∙ c .before .before .before .if5 .left,
-      sym (c .before .is6 .ensures) ∙ c .if6 .left,
+      sym (c .before .before .before .before .before .before .before .before .before .before .before .before .before .before .before .before .before .before .before .is .ensures) ∙ c .before .before .before .before .before .before .before .before .before .before .before .before .before .before .before .before .before .before .if1 .left,
+      sym (c .before .before .before .before .before .before .before .before .before .before .before .before .before .before .before .before .is2 .ensures) ∙ c .before .before .before .before .before .before .before .before .before .before .before .before .before .before .before .if2 .left,
+      sym (c .before .before .before .before .before .before .before .before .before .before .before .before .before .is3 .ensures) ∙ c .before .before .before .before .before .before .before .before .before .before .before .before .if3 .left,
+      sym (c .before .before .before .before .before .before .before .before .before .before .is4 .ensures) ∙ c .before .before .before .before .before .before .before .before .before .if4 .left,
+      sym (c .before .before .before .before .before .before .before .is5 .ensures) ∙ c .before .before .before .before .before .before .if5 .left,
+      sym (c .before .before .before .before .is6 .ensures) ∙ c .before .before .before .if6 .left,
+      sym (c .before .is7 .ensures) ∙ c .if7 .taken,
+    )
+
+slice-aggregate-is-8 : tie.Need-slice-aggregate-is-8
+slice-aggregate-is-8 c = search needs
+
+is-requires-8 : tie.Need-is-requires-8
+is-requires-8 c κs = search needs
+
+returns-8 : tie.Need-returns-8
+unfolding text verbOf
+returns-8 c =
+    rw (
+      sym (c .before .before .before .before .before .before .before .before .before .before .before .before .before .before .before .before .before .before .before .before .before .before .is .ensures) ∙ c .before .before .before .before .before .before .before .before .before .before .before .before .before .before .before .before .before .before .before .before .before .if1 .left,
+      sym (c .before .before .before .before .before .before .before .before .before .before .before .before .before .before .before .before .before .before .before .is2 .ensures) ∙ c .before .before .before .before .before .before .before .before .before .before .before .before .before .before .before .before .before .before .if2 .left,
+      sym (c .before .before .before .before .before .before .before .before .before .before .before .before .before .before .before .before .is3 .ensures) ∙ c .before .before .before .before .before .before .before .before .before .before .before .before .before .before .before .if3 .left,
+      sym (c .before .before .before .before .before .before .before .before .before .before .before .before .before .is4 .ensures) ∙ c .before .before .before .before .before .before .before .before .before .before .before .before .if4 .left,
+      sym (c .before .before .before .before .before .before .before .before .before .before .is5 .ensures) ∙ c .before .before .before .before .before .before .before .before .before .if5 .left,
+      sym (c .before .before .before .before .before .before .before .is6 .ensures) ∙ c .before .before .before .before .before .before .if6 .left,
+      sym (c .before .before .before .before .is7 .ensures) ∙ c .before .before .before .if7 .left,
+      sym (c .before .is8 .ensures) ∙ c .if8 .taken,
+    )
+
+returns-9 : tie.Need-returns-9
+unfolding text verbOf
+returns-9 c =
+    rw (
+      sym (c .before .before .before .before .before .before .before .before .before .before .before .before .before .before .before .before .before .before .before .before .before .before .is .ensures) ∙ c .before .before .before .before .before .before .before .before .before .before .before .before .before .before .before .before .before .before .before .before .before .if1 .left,
+      sym (c .before .before .before .before .before .before .before .before .before .before .before .before .before .before .before .before .before .before .before .is2 .ensures) ∙ c .before .before .before .before .before .before .before .before .before .before .before .before .before .before .before .before .before .before .if2 .left,
+      sym (c .before .before .before .before .before .before .before .before .before .before .before .before .before .before .before .before .is3 .ensures) ∙ c .before .before .before .before .before .before .before .before .before .before .before .before .before .before .before .if3 .left,
+      sym (c .before .before .before .before .before .before .before .before .before .before .before .before .before .is4 .ensures) ∙ c .before .before .before .before .before .before .before .before .before .before .before .before .if4 .left,
+      sym (c .before .before .before .before .before .before .before .before .before .before .is5 .ensures) ∙ c .before .before .before .before .before .before .before .before .before .if5 .left,
+      sym (c .before .before .before .before .before .before .before .is6 .ensures) ∙ c .before .before .before .before .before .before .if6 .left,
+      sym (c .before .before .before .before .is7 .ensures) ∙ c .before .before .before .if7 .left,
+      sym (c .before .is8 .ensures) ∙ c .if8 .left,
     )
 
 pub verb-of-spec : {M : Type 1} → statement M
@@ -131,4 +172,10 @@ verb-of-spec =
     slice-aggregate-is-6
     is-requires-6
     returns-6
-    returns-7)
+    slice-aggregate-is-7
+    is-requires-7
+    returns-7
+    slice-aggregate-is-8
+    is-requires-8
+    returns-8
+    returns-9)

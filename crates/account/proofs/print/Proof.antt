@@ -1,0 +1,72 @@
+-- `account::print`: the text is within its buffer. Assumes nothing.
+use mathlib.Core.Path.{sym}
+use native.Mathlib.Omega.{arith}
+use lib.Seq.{length-take-le}
+use borrow.Author.Needs.{needs}
+use Rattle.account.proofs.print.Statement.{statement}
+use Rattle.account.proofs.print.Tie as tie
+
+request-requires : tie.Need-request-requires
+request-requires c κs = search needs
+
+slice-aggregate-describe : tie.Need-slice-aggregate-describe
+slice-aggregate-describe c = search needs
+
+describe-requires : tie.Need-describe-requires
+describe-requires c κs = search needs
+
+enum-told : tie.Need-enum-told
+enum-told c = search needs
+
+slice-aggregate-write-all : tie.Need-slice-aggregate-write-all
+slice-aggregate-write-all c = search needs
+
+write-all-requires : tie.Need-write-all-requires
+write-all-requires c κs = search needs
+
+returns : tie.Need-returns
+returns c = search needs
+
+array-share-prefix-text : tie.Need-array-share-prefix-text
+array-share-prefix-text c = search needs
+
+slice-aggregate-write-all-2 : tie.Need-slice-aggregate-write-all-2
+slice-aggregate-write-all-2 c = sym (length-take-le _ _ (omega (arith, c .before .before .before .describe .ensures .1)))
+
+write-all-requires-2 : tie.Need-write-all-requires-2
+write-all-requires-2 c κs = search needs
+
+slice-aggregate-fail : tie.Need-slice-aggregate-fail
+slice-aggregate-fail c = search needs
+
+slice-aggregate-fail-2 : tie.Need-slice-aggregate-fail-2
+slice-aggregate-fail-2 c = search needs
+
+fail-requires : tie.Need-fail-requires
+fail-requires c κs = search needs
+
+returns-2 : tie.Need-returns-2
+returns-2 c = search needs
+
+returns-3 : tie.Need-returns-3
+returns-3 c = search needs
+
+pub print-spec : {M : Type 1} → statement M
+print-spec =
+    tie.close
+    (tie.spec
+    request-requires
+    slice-aggregate-describe
+    describe-requires
+    enum-told
+    slice-aggregate-write-all
+    write-all-requires
+    returns
+    array-share-prefix-text
+    slice-aggregate-write-all-2
+    write-all-requires-2
+    slice-aggregate-fail
+    slice-aggregate-fail-2
+    fail-requires
+    returns-2
+    returns-3)
