@@ -100,6 +100,7 @@ unfoldable pub firstFailing : ℕ → List Bool → ℕ
 firstFailing k [] = 0
 firstFailing k (t ∷ r) = cond t (firstFailing (suc k) r) k
 
+-- of an image of a right size
 unfoldable pub lastLine : ℕ → ℕ → List Segment → List ℕ
 lastLine N B l =
     let w = workOn N B true l recover in
@@ -110,7 +111,7 @@ lastLine N B l =
 -- ---- the account
 
 unfoldable pub accountOn : ℕ → ℕ → List Segment → List ℕ
-accountOn N B l = segmentLines 0 (shown N B l) ++ (blockLines (byBlock (liveSlots N (shown N B l))) ++ lastLine N B l)
+accountOn N B l = let x = shown N B l in segmentLines 0 x ++ (blockLines (byBlock (liveSlots N x)) ++ lastLine N B l)
 
 -- another size gives only this
 unfoldable pub wrongSize : List ℕ

@@ -72,7 +72,7 @@ begun = erased 5 ++ (openingBegun ∷ erased 250)
 
 -- before the erase of (b): the old segment, and the others
 abbrev old : List Page
-old = first v2 0 ∷ block 2 0 ∷ deads 1
+old = used 3 2 v2 compacted 0 ∷ block 2 0 ∷ deads 1
 
 abbrev second : List Page
 second = (used 3 2 v2 compacted 1 ∷ block 2 0 ∷ deads 1) ++ (used 3 2 lastBit erasePending 2 ∷ blanks 2)
@@ -127,6 +127,10 @@ boards =
     ∷ small (blanks 3 ++ second)
     ("seg 0 blank" ∷ "seg 1 used num 1 live 1 dead 1 empty 0" ∷ "seg 2 owing num 2 live 0 dead 0 empty 2" ∷ "block 2 len 0 seg 1 slot 1" ∷ "recover 0 steps 1" ∷ [])
     ("   0 blank" ∷ "   1 used         1 #x" ∷ ">  2 owing        2 .." ∷ [])
+    -- and where it is erased in part
+    ∷ small ((begun ∷ block 9 1 ∷ blanks 1) ++ second)
+    ("seg 0 torn" ∷ "seg 1 used num 1 live 1 dead 1 empty 0" ∷ "seg 2 owing num 2 live 0 dead 0 empty 2" ∷ "block 2 len 0 seg 1 slot 1" ∷ "recover 0 steps 3" ∷ [])
+    ("   0 torn" ∷ "   1 used         1 #x" ∷ ">  2 owing        2 .." ∷ [])
     -- (c): a torn slot is in no count
     ∷ small ((first v2 0 ∷ status 0x7F ∷ blanks 1) ++ blanks 6)
     ("seg 0 used num 0 live 0 dead 0 empty 1" ∷ "seg 1 blank" ∷ "seg 2 blank" ∷ "recover 0 steps 1" ∷ [])
@@ -167,23 +171,57 @@ boards =
     ("seg 0 used num 0 live 1 dead 0 empty 1" ∷ "seg 1 blank" ∷ "seg 2 blank" ∷ "block 3 len 1 seg 0 slot 2" ∷ "fails 7" ∷ [])
     (">  0 used         0 .#" ∷ "   1 blank" ∷ "   2 blank" ∷ [])
     -- 8, more live slots than C
-    ∷ small ((first v2 0 ∷ block 1 1 ∷ block 3 1 ∷ []) ++ ((first v2 1 ∷ block 2 1 ∷ block 4 1 ∷ []) ++ blanks 3))
+    ∷ small ((first v2 0 ∷ block 1 1 ∷ block 258 1 ∷ []) ++ ((first v2 1 ∷ block 2 1 ∷ block 4 1 ∷ []) ++ blanks 3))
     ("seg 0 used num 0 live 2 dead 0 empty 0"
     ∷ "seg 1 used num 1 live 2 dead 0 empty 0"
     ∷ "seg 2 blank"
     ∷ "block 1 len 1 seg 0 slot 1"
     ∷ "block 2 len 1 seg 1 slot 1"
-    ∷ "block 3 len 1 seg 0 slot 2"
     ∷ "block 4 len 1 seg 1 slot 2"
+    ∷ "block 258 len 1 seg 0 slot 2"
     ∷ "fails 8"
     ∷ [])
     ("   0 used         0 ##" ∷ ">  1 used         1 ##" ∷ "   2 blank" ∷ [])
+    -- damaged beside (a), (b), (c) or (d): nothing is excused
+    ∷ small ((first v2 0 ∷ status 0 ∷ blanks 1) ++ ((begun ∷ blanks 2) ++ blanks 3))
+    ("seg 0 used num 0 live 0 dead 0 empty 1" ∷ "seg 1 torn" ∷ "seg 2 blank" ∷ "fails 4" ∷ [])
+    (">  0 used         0 !." ∷ "   1 torn" ∷ "   2 blank" ∷ [])
+    ∷ small (blanks 3 ++ ((used 3 2 v2 compacted 1 ∷ status 0 ∷ deads 1) ++ (used 3 2 v2 erasePending 2 ∷ blanks 2)))
+    ("seg 0 blank" ∷ "seg 1 used num 1 live 0 dead 1 empty 0" ∷ "seg 2 owing num 2 live 0 dead 0 empty 2" ∷ "fails 3" ∷ [])
+    ("   0 blank" ∷ "   1 used         1 !x" ∷ ">  2 owing        2 .." ∷ [])
+    ∷ small ((first v2 0 ∷ block 7 1 ∷ block 7 2 ∷ []) ++ ((first v2 1 ∷ status 0x7F ∷ blanks 1) ++ blanks 3))
+    ("seg 0 used num 0 live 2 dead 0 empty 0" ∷ "seg 1 used num 1 live 0 dead 0 empty 1" ∷ "seg 2 blank" ∷ "block 7 len 1 seg 0 slot 1" ∷ "block 7 len 2 seg 0 slot 2" ∷ "fails 5" ∷ [])
+    ("   0 used         0 ##" ∷ ">  1 used         1 ~." ∷ "   2 blank" ∷ [])
+    ∷ small ((first v2 0 ∷ block 7 1 ∷ deads 1) ++ ((first v2 1 ∷ erased 256 ∷ block 7 2 ∷ []) ++ blanks 3))
+    ("seg 0 used num 0 live 1 dead 1 empty 0" ∷ "seg 1 used num 1 live 1 dead 0 empty 1" ∷ "seg 2 blank" ∷ "block 7 len 1 seg 0 slot 1" ∷ "block 7 len 2 seg 1 slot 2" ∷ "fails 6" ∷ [])
+    ("   0 used         0 #x" ∷ ">  1 used         1 .#" ∷ "   2 blank" ∷ [])
+    -- indices of two digits
+    ∷ record {
+      segments = 11;
+      slots = 2;
+      pages = blanks 30 ++ (used 11 2 v2 opened 10 ∷ blanks 2);
+      account =
+          "seg 0 blank"
+          ∷ "seg 1 blank"
+          ∷ "seg 2 blank"
+          ∷ "seg 3 blank"
+          ∷ "seg 4 blank"
+          ∷ "seg 5 blank"
+          ∷ "seg 6 blank"
+          ∷ "seg 7 blank"
+          ∷ "seg 8 blank"
+          ∷ "seg 9 blank"
+          ∷ "seg 10 used num 10 live 0 dead 0 empty 2"
+          ∷ "recover 0 steps 0"
+          ∷ [];
+      picture = "   0 blank" ∷ "   1 blank" ∷ "   2 blank" ∷ "   3 blank" ∷ "   4 blank" ∷ "   5 blank" ∷ "   6 blank" ∷ "   7 blank" ∷ "   8 blank" ∷ "   9 blank" ∷ "> 10 used        10 .." ∷ [];
+    }
     -- a wide segment is wrapped in the picture; a number takes up to nine characters
     ∷ record {
       segments = 2;
-      slots = 67;
-      pages = blanks 68 ++ (used 2 67 v2 opened 199999 ∷ block 1 1 ∷ (deads 62 ++ (status 0 ∷ block 2 1 ∷ blanks 2)));
-      account = "seg 0 blank" ∷ "seg 1 used num 199999 live 2 dead 62 empty 2" ∷ "block 1 len 1 seg 1 slot 1" ∷ "block 2 len 1 seg 1 slot 65" ∷ "fails 5" ∷ [];
-      picture = "   0 blank" ∷ ">  1 used    199999 #xxxxxxxxxxxxxxxxxxxxxxxxxxxxxxxxxxxxxxxxxxxxxxxxxxxxxxxxxxxxxx!" ∷ "                    #.." ∷ [];
+      slots = 130;
+      pages = blanks 131 ++ (used 2 130 v2 opened 199999 ∷ block 1 1 ∷ (deads 62 ++ (status 0 ∷ block 2 1 ∷ blanks 65)));
+      account = "seg 0 blank" ∷ "seg 1 used num 199999 live 2 dead 62 empty 65" ∷ "block 1 len 1 seg 1 slot 1" ∷ "block 2 len 1 seg 1 slot 65" ∷ "fails 5" ∷ [];
+      picture = "   0 blank" ∷ ">  1 used    199999 #xxxxxxxxxxxxxxxxxxxxxxxxxxxxxxxxxxxxxxxxxxxxxxxxxxxxxxxxxxxxxx!" ∷ "                    #..............................................................." ∷ "                    .." ∷ [];
     }
     ∷ []

@@ -1,8 +1,8 @@
 -- Every board of the table has its account and its picture: computed over pages, and carried to the image by the law that joins the two.
-use Prim.Native.Nat.{ℕ, suc, _+_, _*_}
+use Prim.Native.Nat.{ℕ, suc, _+_, _*_, _≤_, _<_}
 use Prim.Native.String.{String}
 use mathlib.Core.Path.{_≡_, refl, sym, ap, _∙_}
-use mathlib.Core.Bool.{Bool, true, false, cond, _&&_}
+use mathlib.Core.Bool.{Bool, true, false, cond, _&&_, false≢true}
 use mathlib.Core.List.{List, [], _∷_, _++_, flatten}
 use native.Mathlib.Omega.{arith}
 use native.Mathlib.Nat.{suc-mul}
@@ -12,13 +12,14 @@ use lib.Dec.{eqb}
 use borrow.Author.Tests.{eqb-true, eq-eqb}
 use Rattle.model.specs.Lists.{same, all, chunk}
 use Rattle.model.specs.Chip.{Image, Page, imageLength, inRange, rightSize, pagesOf}
-use Rattle.model.specs.State.{segmentsOn, segmentsOf}
+use Rattle.model.specs.State.{Segment, segmentsOn, segmentsOf, conditions, isClean, stateOf, clean}
+use Rattle.model.specs.Answers.{isDamaged}
 use Rattle.model.specs.Laws.Lists.{and-left, and-right, and-both}
 use Rattle.model.specs.Laws.Bench.{evaluate}
 use Rattle.text.specs.Text.{text}
 use Rattle.text.specs.Decimal.{decimalOf, decimal}
 use Rattle.text.specs.Buffer.{labelled}
-use Rattle.account_text.specs.Account.{unseen, shownIn, shown, useWord, slotCounts, segmentLine, segmentLines, liveAt, liveFrom, liveIn, liveSlots, insert, byBlock, blockLine, blockLines, firstFailing, lastLine, accountOn, accountText}
+use Rattle.account_text.specs.Account.{unseen, shownIn, shown, useWord, slotCounts, segmentLine, segmentLines, liveAt, liveFrom, liveIn, liveSlots, insert, byBlock, blockLine, blockLines, firstFailing, lastLine, accountOn, accountText, wrongSize}
 use Rattle.account_text.specs.Map.{mark, legend, margin, rowBreak, marksFrom, padded, rowStart, stateWord, mapRow, mapRows, allRows, mapOn, mapText}
 use Rattle.account_text.specs.Boards.{Board, boards}
 
@@ -112,3 +113,34 @@ each i (b ∷ bs) h = go (onPages b) refl h (each (suc i) bs)
 -- every board of the table has its account and its picture
 pub boards-hold : all holds boards ≡ true
 boards-hold = each 0 boards computed
+
+-- another size gives only `fails 0`, and so does the picture
+pub other-size : (N B : ℕ) (s : Image) → rightSize N B s ≡ false → (accountText N B s ≡ joined ("fails 0" ∷ [])) × (mapText N B s ≡ joined ("fails 0" ∷ []))
+unfolding accountText mapText wrongSize text joined
+other-size N B s h = rw h (refl, refl)
+
+-- ---- the place of the first condition that fails, of a damaged image: 1 to 8
+
+none-fails : (k : ℕ) (ts : List Bool) → 0 < k → all (λ t. t) ts ≡ false → (k ≤ firstFailing k ts) × (firstFailing k ts < k + length ts)
+unfolding firstFailing all
+none-fails k [] p h = absurd (false≢true (sym h))
+none-fails k (t ∷ ts) p h = go t h (none-fails (suc k) ts (omega arith))
+  where
+    go : (t : Bool) → (t && all (λ x. x) ts) ≡ false → (all (λ x. x) ts ≡ false → (suc k ≤ firstFailing (suc k) ts) × (firstFailing (suc k) ts < suc k + length ts))
+        → (k ≤ cond t (firstFailing (suc k) ts) k) × (cond t (firstFailing (suc k) ts) k < k + suc (length ts))
+    go true q ih = let r = ih q in (omega (arith, r .0), omega (arith, r .1))
+    go false q ih = (omega arith, omega arith)
+
+pub fails-one-to-eight : (N B : ℕ) (l : List Segment) → isDamaged (stateOf N B l) ≡ true → (1 ≤ firstFailing 1 (conditions N B l)) × (firstFailing 1 (conditions N B l) ≤ 8)
+unfolding conditions
+fails-one-to-eight N B l h = let r = none-fails 1 (conditions N B l) (omega arith) (unclean (isClean N B l) refl) in (r .0, omega (arith, r .1))
+  where
+    unclean : (t : Bool) → isClean N B l ≡ t → all (λ x. x) (conditions N B l) ≡ false
+    unclean true e = absurd (false≢true (sym undamaged ∙ (sym (ap isDamaged (cleaned e)) ∙ h)))
+      where
+        undamaged : isDamaged clean ≡ false
+        undamaged = unfold isDamaged in refl
+
+        cleaned : isClean N B l ≡ true → stateOf N B l ≡ clean
+        cleaned e = unfold stateOf in (rw e)
+    unclean false e = unfold isClean in e

@@ -72,7 +72,7 @@ pub fn segment_lines(
 
 // ---- blocks
 
-// One line, of the live slot on a page of the image.
+// One line, of a live slot.
 fn block_line(text: &mut [u8], at: usize, block: u32, length: u32, segment: u32, slot: u32) -> usize
     requires { ⌜ at + 80 ≤ mostText ⌝ }
     ensures { λ r. ⌜ Wrote (blockLine (record { block = block; length = length; segment = segment; slot = slot })) (now (text .entry)) at (now (text .exit)) r × (r ≤ at + 80) ⌝ }
@@ -83,7 +83,8 @@ fn block_line(text: &mut [u8], at: usize, block: u32, length: u32, segment: u32,
     add_ended(text, segments, b" slot ", slot)
 }
 
-// One for each live slot of a block, from the first page on.
+// One for each live slot of a block, from the first page on. The image is named by the contract alone: what is written
+// comes from the tables.
 fn chain_lines(
     image: &[u8],
     segments: usize,

@@ -54,8 +54,8 @@ fn packed_print(p: Printed) -> u64
     ensures { λ r. ⌜ r ≡ codeOf (p .answer) + 256 * p .length ⌝ }
 {
     let answer = p.answer;
-    let length = p.length as u64;
-    request::number_of(answer) + 256 * length
+    let bytes = p.length as u64;
+    request::number_of(answer) + 256 * bytes
 }
 
 #[no_mangle]

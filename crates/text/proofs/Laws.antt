@@ -21,11 +21,6 @@ pub over-none : (d : List ℕ) (at : ℕ) → over d at [] ≡ d
 unfolding over
 over-none d at = let e : at + 0 ≡ at = omega arith in rw e (take-append-drop at d)
 
-over-length : (d : List ℕ) (at : ℕ) (x : List ℕ) → at + length x ≤ length d → length (over d at x) ≡ length d
-unfolding over
-over-length d at x h = length-append (take at d) (x ++ drop (at + length x) d)
-    ∙ (let a = length-take-le at d (omega arith) in let b = length-append x (drop (at + length x) d) in let c = lib.ListN.length-drop (at + length x) d in omega arith)
-
 -- two pieces in a row are one
 pub over-over : (d : List ℕ) (at : ℕ) (x y : List ℕ) → at + length x + length y ≤ length d → over (over d at x) (at + length x) y ≡ over d at (x ++ y)
 unfolding over

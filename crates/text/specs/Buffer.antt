@@ -48,12 +48,12 @@ labelled w n = text w ++ decimal n
 unfoldable pub over : List ℕ → ℕ → List ℕ → List ℕ
 over buffer at bytes = take at buffer ++ (bytes ++ drop (at + length bytes) buffer)
 
--- bytes added to a text that ends at an offset: where it ends now, whether the buffer holds it or not; and if it does, they are there
+-- bytes added to a text that ends at an offset: where it ends now, whether the buffer holds it or not; and if it does, they are there. If it does not, what the buffer holds is left open
 pub record Wrote (bytes start : List ℕ) (at : ℕ) (buffer : List ℕ) (end : ℕ) : Type 0 where
   pub ends : end ≡ at + length bytes
   pub kept : length buffer ≡ length start
   pub there : end ≤ length start → buffer ≡ over start at bytes
 
--- no text is so long
+-- every text is shorter, so that offsets do not overflow
 abbrev pub mostText : ℕ
 mostText = 4294967296
