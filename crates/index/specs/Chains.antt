@@ -11,7 +11,7 @@ use lib.ListN.{length, getD, set, replicate, length-set, length-replicate, getD-
 use lib.Seq.{getD-set-same, getD-set-other}
 use lib.Dec.{eqb}
 use borrow.Author.Tests.{eqb-true, eqb-false}
-use Rattle.model.specs.Chip.{Image, mostSegments, mostSlots}
+use Rattle.model.specs.Chip.{mostSegments, mostSlots}
 use Rattle.account_text.specs.Account.{LiveSlot}
 use Rattle.index.specs.Tables.{Tables, tables, mostPages, link, linked, pageOf, ofBlock, Chain, Listed, Stands, AllStand}
 
@@ -84,9 +84,9 @@ module _ (B : ℕ) (t : Tables) (e : LiveSlot) (r : List LiveSlot) where
 -- ---- all of them
 
 -- a page of an image
-pub page-few : (N B : ℕ) (s : Image) (e : LiveSlot) → N ≤ mostSegments → B ≤ mostSlots → Stands N B s e → (0 < pageOf B e) × (pageOf B e < mostPages)
+pub page-few : (N B : ℕ) (e : LiveSlot) → N ≤ mostSegments → B ≤ mostSlots → Stands N B e → (0 < pageOf B e) × (pageOf B e < mostPages)
 unfolding pageOf
-page-few N B s e n b h =
+page-few N B e n b h =
     let p = mul-le-mul-right (B + 1) (h .segment) in
     let q = suc-mul (e .segment) (B + 1) in
     let m = mul-le-mul-right (B + 1) n in
@@ -113,16 +113,16 @@ Bare t = (b : ℕ) → getD (t .firsts) b 0 ≡ 0
 pub zeros-bare : (n : ℕ) (nexts lengths : List ℕ) → Bare (tables (replicate n 0) nexts lengths)
 zeros-bare n nexts lengths b = elim (decLt b n) [ yes h ↦ getD-replicate n b 0 0 h | no h ↦ List·getD-eq-default (replicate n 0) 0 (subst (λ (k : ℕ). k ≤ b) (sym (length-replicate n 0)) (omega arith)) ]
 
-pub linked-listed : (N B : ℕ) (s : Image) → N ≤ mostSegments → B ≤ mostSlots → (r : List LiveSlot) (t : Tables) → AllStand N B s r → AllApart B r → Whole t → Bare t → Listed B (linked B r t) r
+pub linked-listed : (N B : ℕ) → N ≤ mostSegments → B ≤ mostSlots → (r : List LiveSlot) (t : Tables) → AllStand N B r → AllApart B r → Whole t → Bare t → Listed B (linked B r t) r
 unfolding linked
-linked-listed N B s n k [] t a p w z = λ b. none b
+linked-listed N B n k [] t a p w z = λ b. none b
   where
     none : (b : ℕ) → Chain B (t .nexts) (t .lengths) (getD (t .firsts) b 0) (ofBlock b [])
     none b = unfold ofBlock in z b
-linked-listed N B s n k (e ∷ r) t a p w z =
-    let y = page-few N B s e n k (a .0) in
+linked-listed N B n k (e ∷ r) t a p w z =
+    let y = page-few N B e n k (a .0) in
     let v = linked-whole B r t w in
     let q = a .0 .block in
-    let ih : Listed B (linked B r t) r = linked-listed N B s n k r t (a .1) (p .1) w z in
+    let ih : Listed B (linked B r t) r = linked-listed N B n k r t (a .1) (p .1) w z in
     let m : Listed B (link (pageOf B e) (e .block) (e .length) (linked B r t)) (e ∷ r) = listed-more B (linked B r t) e r (rw (v .0) q) (rw (v .1) (y .1)) (rw (v .2) (y .1)) (y .0) (p .0) ih in
     m

@@ -30,9 +30,9 @@ pub each-more : (P Q : LiveSlot → Type 0) → ((e : LiveSlot) → P e → Q e)
 each-more P Q f [] h = h
 each-more P Q f (e ∷ r) h = (f e (h .0), each-more P Q f r (h .1))
 
-pub all-stand : (N B : ℕ) (s : Image) (r : List LiveSlot) → Each (λ e. Stands N B s e) r → AllStand N B s r
-all-stand N B s [] h = h
-all-stand N B s (e ∷ r) h = (h .0, all-stand N B s r (h .1))
+pub all-stand : (N B : ℕ) (r : List LiveSlot) → Each (λ e. Stands N B e) r → AllStand N B r
+all-stand N B [] h = h
+all-stand N B (e ∷ r) h = (h .0, all-stand N B r (h .1))
 
 pub free-each : (B q : ℕ) (r : List LiveSlot) → Each (λ e. pageOf B e ≢ q) r → Free B q r
 free-each B q [] h = h
@@ -86,7 +86,7 @@ short-byte n h = omega arith
 
 -- a live slot of a page of the image
 live-stands : (N B i j : ℕ) (s : Image) (b : ℕ) (c : List ℕ) → i < N → 1 ≤ j → j ≤ B → slotOf (take 256 (drop ((i * (B + 1) + j) * 256) s)) ≡ live b c
-    → Stands N B s (record { block = b; length = length c; segment = i; slot = j })
+    → Stands N B (record { block = b; length = length c; segment = i; slot = j })
 unfolding pageOf
 live-stands N B i j s b c h l m e =
     let o = (i * (B + 1) + j) * 256 in
@@ -99,17 +99,17 @@ pub slots-next : (s : Image) (o c : ℕ) → slotsAt s o (suc c) ≡ slotOf (tak
 unfolding slotsAt chunk
 slots-next s o c = rw (drop-drop 256 o s)
 
-pub row-stands : (N B i : ℕ) (s : Image) → i < N → (c j : ℕ) → 1 ≤ j → j + c ≤ B + 1 → Each (λ e. Stands N B s e) (liveFrom i j (slotsAt s ((i * (B + 1) + j) * 256) c))
+pub row-stands : (N B i : ℕ) (s : Image) → i < N → (c j : ℕ) → 1 ≤ j → j + c ≤ B + 1 → Each (λ e. Stands N B e) (liveFrom i j (slotsAt s ((i * (B + 1) + j) * 256) c))
 row-stands N B i s h zero j l m = unfold slotsAt chunk map liveFrom in tt
 row-stands N B i s h (suc c) j l m =
     let o = (i * (B + 1) + j) * 256 in
     let e : o + 256 ≡ (i * (B + 1) + suc j) * 256 = omega arith in
-    let ih : Each (λ x. Stands N B s x) (liveFrom i (suc j) (slotsAt s (o + 256) c)) =
-    subst (λ (k : ℕ). Each (λ x. Stands N B s x) (liveFrom i (suc j) (slotsAt s k c))) (sym e) (row-stands N B i s h c (suc j) (omega arith) (omega arith)) in
-    subst (λ (ks : List Slot). Each (λ x. Stands N B s x) (liveFrom i j ks)) (sym (slots-next s o c)) (go (slotOf (take 256 (drop o s))) refl ih)
+    let ih : Each (λ x. Stands N B x) (liveFrom i (suc j) (slotsAt s (o + 256) c)) =
+    subst (λ (k : ℕ). Each (λ x. Stands N B x) (liveFrom i (suc j) (slotsAt s k c))) (sym e) (row-stands N B i s h c (suc j) (omega arith) (omega arith)) in
+    subst (λ (ks : List Slot). Each (λ x. Stands N B x) (liveFrom i j ks)) (sym (slots-next s o c)) (go (slotOf (take 256 (drop o s))) refl ih)
   where
-    go : (k : Slot) → slotOf (take 256 (drop ((i * (B + 1) + j) * 256) s)) ≡ k → Each (λ x. Stands N B s x) (liveFrom i (suc j) (slotsAt s ((i * (B + 1) + j) * 256 + 256) c))
-        → Each (λ x. Stands N B s x) (liveFrom i j (k ∷ slotsAt s ((i * (B + 1) + j) * 256 + 256) c))
+    go : (k : Slot) → slotOf (take 256 (drop ((i * (B + 1) + j) * 256) s)) ≡ k → Each (λ x. Stands N B x) (liveFrom i (suc j) (slotsAt s ((i * (B + 1) + j) * 256 + 256) c))
+        → Each (λ x. Stands N B x) (liveFrom i j (k ∷ slotsAt s ((i * (B + 1) + j) * 256 + 256) c))
     go empty q k = unfold liveFrom liveAt entryOf map in k
     go torn q k = unfold liveFrom liveAt entryOf map in k
     go dead q k = unfold liveFrom liveAt entryOf map in k

@@ -7,7 +7,6 @@ use native.Mathlib.Omega.{arith}
 use lib.ListN.{length}
 use lib.Dec.{leb, ltb, eqb}
 use borrow.Author.Tests.{ltb-true, ltb-false, eqb-true, eqb-false, le-leb, lt-leb, ne-eqb}
-use Rattle.model.specs.Chip.{Image}
 use Rattle.account_text.specs.Account.{LiveSlot, insert, byBlock}
 use Rattle.index.specs.Tables.{mostPages, ofBlock, AllStand, blocksBelow}
 
@@ -137,15 +136,15 @@ of-few b (e ∷ r) = go (eqb b (e .block)) (of-few b r)
 
 -- ---- standing in an image
 
-pub stand-below : (N B : ℕ) (s : Image) (r : List LiveSlot) → AllStand N B s r → AllBelow mostPages r
-stand-below N B s [] a = tt
-stand-below N B s (e ∷ r) a = (a .0 .block, stand-below N B s r (a .1))
+pub stand-below : (N B : ℕ) (r : List LiveSlot) → AllStand N B r → AllBelow mostPages r
+stand-below N B [] a = tt
+stand-below N B (e ∷ r) a = (a .0 .block, stand-below N B r (a .1))
 
-pub stand-of : (N B : ℕ) (s : Image) (b : ℕ) (r : List LiveSlot) → AllStand N B s r → AllStand N B s (ofBlock b r)
+pub stand-of : (N B : ℕ) (b : ℕ) (r : List LiveSlot) → AllStand N B r → AllStand N B (ofBlock b r)
 unfolding ofBlock
-stand-of N B s b [] a = tt
-stand-of N B s b (e ∷ r) a = go (eqb b (e .block)) (stand-of N B s b r (a .1))
+stand-of N B b [] a = tt
+stand-of N B b (e ∷ r) a = go (eqb b (e .block)) (stand-of N B b r (a .1))
   where
-    go : (t : Bool) → AllStand N B s (ofBlock b r) → AllStand N B s (cond t (e ∷ ofBlock b r) (ofBlock b r))
+    go : (t : Bool) → AllStand N B (ofBlock b r) → AllStand N B (cond t (e ∷ ofBlock b r) (ofBlock b r))
     go true ih = (a .0, ih)
     go false ih = ih

@@ -73,17 +73,17 @@ Chain B nexts lengths p (e ∷ r) = (p ≡ pageOf B e) × (0 < p) × Chain B nex
 abbrev pub Listed : ℕ → Tables → List LiveSlot → Type 0
 Listed B t r = (b : ℕ) → Chain B (t .nexts) (t .lengths) (getD (t .firsts) b 0) (ofBlock b r)
 
--- a live slot stands in an image: at a place of one of its segments, with a length that a byte tells
-pub record Stands (N B : ℕ) (s : Image) (e : LiveSlot) : Type 0 where
+-- a live slot stands at a place of one of N segments of B slots, with a block number and a length that fit the tables
+pub record Stands (N B : ℕ) (e : LiveSlot) : Type 0 where
   pub block : e .block < mostPages
   pub segment : e .segment < N
   pub first : 1 ≤ e .slot
   pub slot : e .slot ≤ B
   pub length : e .length < 256
 
-abbrev pub AllStand : ℕ → ℕ → Image → List LiveSlot → Type 0
-AllStand N B s [] = Unit {0}
-AllStand N B s (e ∷ r) = Stands N B s e × AllStand N B s r
+abbrev pub AllStand : ℕ → ℕ → List LiveSlot → Type 0
+AllStand N B [] = Unit {0}
+AllStand N B (e ∷ r) = Stands N B e × AllStand N B r
 
 -- ---- in order
 
@@ -101,5 +101,5 @@ listOf N B s = liveSlots N (shown N B (segmentsOf N B s))
 -- tables that list them
 pub record Indexed (N B : ℕ) (s : Image) (t : Tables) : Type 0 where
   pub listed : Listed B t (listOf N B s)
-  pub stands : AllStand N B s (listOf N B s)
+  pub stands : AllStand N B (listOf N B s)
   pub few : length (listOf N B s) < mostPages

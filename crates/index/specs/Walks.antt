@@ -140,12 +140,12 @@ top-row N B s l p h P a b = go (getD l (topIndex N l) blank) refl
         let u : isInUse (getD l (topIndex N l) blank) ≡ true = ap isInUse e ∙ (unfold isInUse in refl) in
         subst P (sym (h .slots (topIndex N l) (top-below N l p) u) ∙ ap slotsIn e) b
 
-pub in-stands : (N B : ℕ) (s : Image) → 0 < N → (u : ℕ) (l : List Segment) → Held N B s l → Each (λ e. Stands N B s e) (liveIn N u l)
+pub in-stands : (N B : ℕ) (s : Image) → 0 < N → (u : ℕ) (l : List Segment) → Held N B s l → Each (λ e. Stands N B e) (liveIn N u l)
 unfolding liveIn
 in-stands N B s p zero l h = tt
 in-stands N B s p (suc u) l h =
-    each-join (λ e. Stands N B s e) (liveIn N u (set l (topIndex N l) blank)) (liveFrom (topIndex N l) 1 (topSlots N l)) (in-stands N B s p u (set l (topIndex N l) blank) (held-less N B s l p h))
-    (top-row N B s l p h (λ (ks : List Slot). Each (λ e. Stands N B s e) (liveFrom (topIndex N l) 1 ks)) (unfold liveFrom in tt)
+    each-join (λ e. Stands N B e) (liveIn N u (set l (topIndex N l) blank)) (liveFrom (topIndex N l) 1 (topSlots N l)) (in-stands N B s p u (set l (topIndex N l) blank) (held-less N B s l p h))
+    (top-row N B s l p h (λ (ks : List Slot). Each (λ e. Stands N B e) (liveFrom (topIndex N l) 1 ks)) (unfold liveFrom in tt)
     (row-stands N B (topIndex N l) s (top-below N l p) B 1 (omega arith) (omega arith)))
 
 -- each is in a segment in use
@@ -188,19 +188,19 @@ in-apart N B s p (suc u) l h =
     let m = set l (topIndex N l) blank in
     let k = held-less N B s l p h in
     let r = liveFrom (topIndex N l) 1 (topSlots N l) in
-    let rs : Each (λ e. Stands N B s e) r = top-row N B s l p h (λ (ks : List Slot). Each (λ e. Stands N B s e) (liveFrom (topIndex N l) 1 ks)) (unfold liveFrom in tt) (row-stands N B (topIndex N l) s (top-below N l p) B 1 (omega arith) (omega arith)) in
+    let rs : Each (λ e. Stands N B e) r = top-row N B s l p h (λ (ks : List Slot). Each (λ e. Stands N B e) (liveFrom (topIndex N l) 1 ks)) (unfold liveFrom in tt) (row-stands N B (topIndex N l) s (top-below N l p) B 1 (omega arith) (omega arith)) in
     apart-join B (liveIn N u m) r (in-apart N B s p u m k) (apart-from B (topIndex N l) 1 (topSlots N l))
     (cross (liveIn N u m) (in-use N B s p u m k) (in-stands N B s p u m k) r (from-all (topIndex N l) 1 (topSlots N l)) rs)
   where
     other : (e : LiveSlot) → isInUse (getD (set l (topIndex N l) blank) (e .segment) blank) ≡ true → e .segment ≢ topIndex N l
     other e q d = absurd (false≢true (sym blank-unused ∙ (sym (ap isInUse (ap (λ (k : ℕ). getD (set l (topIndex N l) blank) k blank) d ∙ getD-set-same l (topIndex N l) blank blank (rw (h .count) (top-below N l p)))) ∙ q)))
 
-    one : (e : LiveSlot) → e .segment ≢ topIndex N l → e .slot ≤ B → (r : List LiveSlot) → Each (λ y. From (topIndex N l) 1 y) r → Each (λ y. Stands N B s y) r → Free B (pageOf B e) r
+    one : (e : LiveSlot) → e .segment ≢ topIndex N l → e .slot ≤ B → (r : List LiveSlot) → Each (λ y. From (topIndex N l) 1 y) r → Each (λ y. Stands N B y) r → Free B (pageOf B e) r
     one e d a [] f g = tt
     one e d a (y ∷ r) f g = (λ z. pages-differ B (e .segment) (y .segment) (e .slot) (y .slot) (λ w. d (w ∙ f .0 .0)) a (g .0 .slot) (unfold pageOf in (sym z)), one e d a r (f .1) (g .1))
 
-    cross : (x : List LiveSlot) → Each (λ e. isInUse (getD (set l (topIndex N l) blank) (e .segment) blank) ≡ true) x → Each (λ e. Stands N B s e) x
-        → (r : List LiveSlot) → Each (λ y. From (topIndex N l) 1 y) r → Each (λ y. Stands N B s y) r → Each (λ e. Free B (pageOf B e) r) x
+    cross : (x : List LiveSlot) → Each (λ e. isInUse (getD (set l (topIndex N l) blank) (e .segment) blank) ≡ true) x → Each (λ e. Stands N B e) x
+        → (r : List LiveSlot) → Each (λ y. From (topIndex N l) 1 y) r → Each (λ y. Stands N B y) r → Each (λ e. Free B (pageOf B e) r) x
     cross [] a b r f g = tt
     cross (e ∷ x) a b r f g = (one e (other e (a .0)) (b .0 .slot) r f g, cross x (a .1) (b .1) r f g)
 
@@ -236,10 +236,10 @@ indexed N B s p n b t w z =
     let l = shown N B (segmentsOf N B s) in
     let h = held-shown N B s p in
     let u = usedCount l in
-    let a : AllStand N B s (liveIn N u l) = all-stand N B s (liveIn N u l) (in-stands N B s p u l h) in
+    let a : AllStand N B (liveIn N u l) = all-stand N B (liveIn N u l) (in-stands N B s p u l h) in
     let m = used-most l in
     let k = in-few N B s p u l h in
     let c = h .count in
     let v : u * B ≤ N * B = mul-le-mul-right B (omega arith) in
     let y : N * B ≤ mostSegments * B = mul-le-mul-right B n in
-    record { listed = linked-listed N B s n b (liveIn N u l) t a (in-apart N B s p u l h) w z; stands = a; few = omega arith }
+    record { listed = linked-listed N B n b (liveIn N u l) t a (in-apart N B s p u l h) w z; stands = a; few = omega arith }

@@ -83,9 +83,9 @@ chain-length (suc k) B nexts lengths p (e ∷ r) c h =
     rw n (ap suc (chain-length k B nexts lengths (getD nexts p 0) r (c .2) (omega arith)))
 
 -- the page of a live slot tells its segment and its place
-pub page-segment : (N B : ℕ) (s : List ℕ) (e : LiveSlot) → Stands N B s e → (pageOf B e / (B + 1) ≡ e .segment) × (pageOf B e % (B + 1) ≡ e .slot)
+pub page-segment : (N B : ℕ) (e : LiveSlot) → Stands N B e → (pageOf B e / (B + 1) ≡ e .segment) × (pageOf B e % (B + 1) ≡ e .slot)
 unfolding pageOf
-page-segment N B s e t =
+page-segment N B e t =
     let p = e .segment * (B + 1) + e .slot in
     let q = t .slot in
     let m = suc-mul (e .segment) (B + 1) in
@@ -99,9 +99,9 @@ chain-none : (B : ℕ) (nexts lengths : List ℕ) (p : ℕ) (r : List LiveSlot) 
 chain-none B nexts lengths p [] c h = refl
 chain-none B nexts lengths p (e ∷ r) c h = absurd (let z = c .1 in omega arith)
 
-chain-low : (N B : ℕ) (s nexts lengths : List ℕ) (p : ℕ) (r : List LiveSlot) → Sized N B (length s) → Chain B nexts lengths p r → AllStand N B s r → p < mostPages
+chain-low : (N B : ℕ) (s nexts lengths : List ℕ) (p : ℕ) (r : List LiveSlot) → Sized N B (length s) → Chain B nexts lengths p r → AllStand N B r → p < mostPages
 chain-low N B s nexts lengths p [] z c t = omega arith
-chain-low N B s nexts lengths p (e ∷ r) z c t = let q = page-few N B s e (z .segments) (z .slots) (t .0) in let f = c .0 in omega arith
+chain-low N B s nexts lengths p (e ∷ r) z c t = let q = page-few N B e (z .segments) (z .slots) (t .0) in let f = c .0 in omega arith
 
 live-same : (e : LiveSlot) (b n i j : ℕ) → b ≡ e .block → n ≡ e .length → i ≡ e .segment → j ≡ e .slot → record { block = b; length = n; segment = i; slot = j } ≡ e
 live-same e b n i j p q r t =
@@ -124,7 +124,7 @@ pub record Walk (N B : ℕ) (s nexts lengths : List ℕ) (block : ℕ) (whole : 
   pub rest : List LiveSlot
   pub lines : List ℕ
   pub chain : Chain B nexts lengths page rest
-  pub stands : AllStand N B s rest
+  pub stands : AllStand N B rest
   pub same : AllOf block rest
   pub few : length rest ≤ mostPages
   pub wrote : Wrote lines start at text end
@@ -139,18 +139,18 @@ pub record Next (N B : ℕ) (s nexts lengths : List ℕ) (block : ℕ) (rest : L
   pub here : page ≡ pageOf B slot
   pub chain : Chain B nexts lengths (getD nexts page 0) others
   pub length-is : getD lengths page 0 ≡ slot .length
-  pub stand : Stands N B s slot
-  pub stands : AllStand N B s others
+  pub stand : Stands N B slot
+  pub stands : AllStand N B others
   pub block-is : slot .block ≡ block
   pub same : AllOf block others
 
-some-next : (N B : ℕ) (s nexts lengths : List ℕ) (block : ℕ) (rest : List LiveSlot) (page : ℕ) → Chain B nexts lengths page rest → AllStand N B s rest → AllOf block rest → (page ≡ 0 → ⊥) → Next N B s nexts lengths block rest page
+some-next : (N B : ℕ) (s nexts lengths : List ℕ) (block : ℕ) (rest : List LiveSlot) (page : ℕ) → Chain B nexts lengths page rest → AllStand N B rest → AllOf block rest → (page ≡ 0 → ⊥) → Next N B s nexts lengths block rest page
 some-next N B s nexts lengths block [] page c t o h = absurd (h c)
 some-next N B s nexts lengths block (e ∷ r) page c t o h =
     record { slot = e; others = r; split = refl; here = c .0; chain = c .2; length-is = c .3; stand = t .0; stands = t .1; block-is = o .0; same = o .1 }
 
 module _ {N B : ℕ} {s nexts lengths : List ℕ} {block : ℕ} {whole : List LiveSlot} {start : List ℕ} {at : ℕ} where
-  pub walk-start : {page : ℕ} → Chain B nexts lengths page whole → AllStand N B s whole → AllOf block whole → length whole ≤ mostPages → Walk N B s nexts lengths block whole start at start page at
+  pub walk-start : {page : ℕ} → Chain B nexts lengths page whole → AllStand N B whole → AllOf block whole → length whole ≤ mostPages → Walk N B s nexts lengths block whole start at start page at
   walk-start c t o h =
       record { rest = whole; lines = []; chain = c; stands = t; same = o; few = h; wrote = wrote-none start at; joined = refl; near = omega arith }
 
@@ -162,7 +162,7 @@ module _ {N B : ℕ} {s nexts lengths : List ℕ} {block : ℕ} {whole : List Li
       → (page < mostPages) × (end + 80 ≤ at + 80 * length whole)
   walk-inside {text} {page} {end} z w h =
       let n = walk-next w h in
-      let p = page-few N B s (n .slot) (z .segments) (z .slots) (n .stand) in
+      let p = page-few N B (n .slot) (z .segments) (z .slots) (n .stand) in
       let l : length (w .rest) ≡ suc (length (n .others)) = ap length (n .split) in
       (rw (n .here) (p .1), let q = w .near in omega arith)
 
@@ -190,7 +190,7 @@ module _ {N B : ℕ} {s nexts lengths : List ℕ} {block : ℕ} {whole : List Li
       let e = n .slot in
       let f = w .few in
       let l : length (w .rest) ≡ suc (length (n .others)) = ap length (n .split) in
-      let place = page-segment N B s e (n .stand) in
+      let place = page-segment N B e (n .stand) in
       let is : record { block = block; length = getD lengths page 0; segment = page / (B + 1); slot = page % (B + 1) } ≡ e =
       live-same e block (getD lengths page 0) (page / (B + 1)) (page % (B + 1)) (sym (n .block-is))
       (n .length-is) (ap (λ (p : ℕ). p / (B + 1)) (n .here) ∙ place .0) (ap (λ (p : ℕ). p % (B + 1)) (n .here) ∙ place .1) in
@@ -256,11 +256,11 @@ blocks-as {r} {start} {at} {text} {other} {block} {end} {behind} e f b =
 pub blocks-room : {r : List LiveSlot} {start : List ℕ} {at : ℕ} {text : List ℕ} {block end : ℕ} → Blocks r start at text block end → end ≤ at + 80 * length r
 blocks-room {r} {start} {at} {text} {block} {end} b = let q = b .near in let f = below-few block r in omega arith
 
-pub blocks-end : (N B : ℕ) (s : List ℕ) {r : List LiveSlot} {start : List ℕ} {at : ℕ} {text : List ℕ} {block end : ℕ} → AllStand N B s r → length r < mostPages → Blocks r start at text block end → mostPages ≤ block
+pub blocks-end : (N B : ℕ) (s : List ℕ) {r : List LiveSlot} {start : List ℕ} {at : ℕ} {text : List ℕ} {block end : ℕ} → AllStand N B r → length r < mostPages → Blocks r start at text block end → mostPages ≤ block
     → Wrote (blockLines (byBlock r)) start at text end × (end ≤ at + 80 * 65536)
 blocks-end N B s {r} {start} {at} {text} {block} {end} t f b h =
     let u = b .upto in
     let e : block ≡ mostPages = omega arith in
     let q = blocks-room b in
-    let g : blocksBelow block r ≡ byBlock r = ap (λ (k : ℕ). blocksBelow k r) e ∙ sym (sorted mostPages r (stand-below N B s r t)) in
+    let g : blocksBelow block r ≡ byBlock r = ap (λ (k : ℕ). blocksBelow k r) e ∙ sym (sorted mostPages r (stand-below N B r t)) in
     (wrote-as (blockLines (byBlock r)) (ap blockLines g) (b .wrote), omega arith)

@@ -96,7 +96,7 @@ fn chain_lines(
     text: &mut [u8],
     at: usize,
 ) -> usize
-    requires { ⌜ Sized segments slots (length (now image)) × (block < 65536) × Chain slots (now nexts) (now lengths) first (ofBlock block (listOf segments slots (now image))) × AllStand segments slots (now image) (ofBlock block (listOf segments slots (now image))) × (length (ofBlock block (listOf segments slots (now image))) < 65536) × (at + 80 * (length (ofBlock block (listOf segments slots (now image))) + 1) ≤ mostText) ⌝ }
+    requires { ⌜ Sized segments slots (length (now image)) × (block < 65536) × Chain slots (now nexts) (now lengths) first (ofBlock block (listOf segments slots (now image))) × AllStand segments slots (ofBlock block (listOf segments slots (now image))) × (length (ofBlock block (listOf segments slots (now image))) < 65536) × (at + 80 * (length (ofBlock block (listOf segments slots (now image))) + 1) ≤ mostText) ⌝ }
     ensures { λ r. ⌜ Wrote (blockLines (ofBlock block (listOf segments slots (now (image .entry))))) (now (text .entry)) at (now (text .exit)) r × (r ≤ at + 80 * length (ofBlock block (listOf segments slots (now (image .entry))))) ⌝ }
 {
     let pages = slots as u32 + 1;

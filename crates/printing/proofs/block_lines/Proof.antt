@@ -40,7 +40,7 @@ chain-lines-requires c κs =
     let own = of-few (l .block) list in
     let room = blocks-room (l .inv) in
     let start = s .pre .2 in
-    (s .pre .0, c .before .before .before .loop-test .taken, i .listed (l .block), stand-of (a .segments) (a .slots) (now (a .image)) (l .block) list (i .stands), omega arith, omega arith)
+    (s .pre .0, c .before .before .before .loop-test .taken, i .listed (l .block), stand-of (a .segments) (a .slots) (l .block) list (i .stands), omega arith, omega arith)
 
 add-block : tie.Need-add-block Inv-loop μ-loop
 add-block c = search needs
