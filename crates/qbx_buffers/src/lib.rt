@@ -6,6 +6,7 @@ ghost use mathlib.Core.Bool.{true, false};
 ghost use Prim.Native.Nat.{_≤_};
 ghost use lib.Dec.{leb};
 ghost use Rattle.request.specs.Request.{sizeOf};
+ghost use Rattle.qbx_words.specs.Command.{prints};
 ghost use Rattle.qbx_buffers.specs.Buffers.{roomOf, needOf};
 
 // The bytes of the largest image that a buffer holds.
@@ -59,7 +60,7 @@ struct Process {
 
 // Each buffer has a byte more than the largest image in it, so that a larger file is seen to be one.
 fn small(process: Process, path: &[u8], command: Command, contents: &[u8]) -> bool
-    requires { ⌜ (sizeOf (command .segments) (command .slots) ≤ roomOf 0) × (needOf false 0 ≤ process .allowed) ⌝ }
+    requires { ⌜ (sizeOf (command .segments) (command .slots) ≤ roomOf 0) × (needOf false 0 ≤ process .allowed) × (prints (command .verb) ≡ false) ⌝ }
     ensures { λ r. ⌜ r ≡ true ⌝ }
 {
     let mut image = [255u8; 1048577];
@@ -75,7 +76,7 @@ fn small(process: Process, path: &[u8], command: Command, contents: &[u8]) -> bo
 }
 
 fn middle(process: Process, path: &[u8], command: Command, contents: &[u8]) -> bool
-    requires { ⌜ (sizeOf (command .segments) (command .slots) ≤ roomOf 1) × (needOf false 1 ≤ process .allowed) ⌝ }
+    requires { ⌜ (sizeOf (command .segments) (command .slots) ≤ roomOf 1) × (needOf false 1 ≤ process .allowed) × (prints (command .verb) ≡ false) ⌝ }
     ensures { λ r. ⌜ r ≡ true ⌝ }
 {
     let mut image = [255u8; 4194305];
@@ -91,7 +92,7 @@ fn middle(process: Process, path: &[u8], command: Command, contents: &[u8]) -> b
 }
 
 fn large(process: Process, path: &[u8], command: Command, contents: &[u8]) -> bool
-    requires { ⌜ (sizeOf (command .segments) (command .slots) ≤ roomOf 2) × (needOf false 2 ≤ process .allowed) ⌝ }
+    requires { ⌜ (sizeOf (command .segments) (command .slots) ≤ roomOf 2) × (needOf false 2 ≤ process .allowed) × (prints (command .verb) ≡ false) ⌝ }
     ensures { λ r. ⌜ r ≡ true ⌝ }
 {
     let mut image = [255u8; 16711681];

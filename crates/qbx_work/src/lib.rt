@@ -7,9 +7,11 @@ use qbx_words::Command;
 use qbx_words::Complaint;
 use qbx_words::Verb;
 ghost use mathlib.Core.Path.{_≡_};
+ghost use mathlib.Core.Bool.{false};
 ghost use Prim.Native.Nat.{_<_, _≤_};
 ghost use lib.ListN.{length};
 ghost use Rattle.request.specs.Request.{sizeOf};
+ghost use Rattle.qbx_words.specs.Command.{prints};
 ghost use Rattle.qbx_says.specs.Lines.{mostLine};
 
 // Says a line.
@@ -191,10 +193,10 @@ fn act(
     }
 }
 
-// A command on the image's file, in a buffer that holds the image and more, so that a larger file is seen to be one. What it
-// says goes to the one descriptor, and what is wrong to the other, beside a read's answer: its contents go out alone.
+// A command that prints no text, on the image's file in a buffer that holds the image and more, so that a larger file is seen to
+// be one. What it says goes to the one descriptor, and what is wrong to the other, beside a read's answer: its contents go out alone.
 pub fn obey(image: &mut [u8], path: &[u8], command: Command, contents: &[u8], out: i32, err: i32)
-    requires { ⌜ sizeOf (command .segments) (command .slots) < length (now image) ⌝ }
+    requires { ⌜ (sizeOf (command .segments) (command .slots) < length (now image)) × (prints (command .verb) ≡ false) ⌝ }
 {
     let file = present(image, path, command);
     if !file.whole {

@@ -81,17 +81,20 @@ large-requires : (t : ℕ) → within-lts.Need-large-requires (claims t) (at t) 
 unfolding roomOf needOf forBuffer
 large-requires t c κs =
     let k = c .before .before .before .before .before in
-    taken (k .before .before .before .before .before .before .before .before .args .last) _ (k .before .before .before .before .size-of .ensures .0) (k .before .before .before .room-of .ensures) 2 _ false (omega (arith, k .before .before .if3 .left)) (k .need-of .ensures) (omega (arith, c .before .before .before .if4 .left)) (c .before .before .if5 .left) (last-one _ _ _ (k .before .before .before .before .before .before .before .before .args .last) (c .before .if8 .left) (c .if9 .left)) (last-one _ _ _ (k .before .before .before .before .before .before .before .before .args .last) (c .before .if8 .left) (c .if9 .left))
+    let h = taken (k .before .before .before .before .before .before .before .before .args .last) _ (k .before .before .before .before .size-of .ensures .0) (k .before .before .before .room-of .ensures) 2 _ false {allowed = k .before .before .before .before .before .before .before .before .args .process .allowed} (omega (arith, k .before .before .if3 .left)) (k .need-of .ensures) (omega (arith, c .before .before .before .if4 .left)) (c .before .before .if5 .left) (last-one _ _ _ (k .before .before .before .before .before .before .before .before .args .last) (c .before .if8 .left) (c .if9 .left)) (last-one _ _ _ (k .before .before .before .before .before .before .before .before .args .last) (c .before .if8 .left) (c .if9 .left)) in
+    (h .0, h .1, sym (k .before .prints .ensures) ∙ c .before .before .if5 .left)
 
 middle-requires : (t : ℕ) → within-lts.Need-middle-requires (claims t) (at t) within.Post
 middle-requires t c κs =
     let k = c .before .before .before .before .before in
-    taken (k .before .before .before .before .before .before .before .before .args .last) _ (k .before .before .before .before .size-of .ensures .0) (k .before .before .before .room-of .ensures) 1 _ false (omega (arith, k .before .before .if3 .left)) (k .need-of .ensures) (omega (arith, c .before .before .before .if4 .left)) (c .before .before .if5 .left) (ap roomOf (c .if9 .taken)) (ap (needOf false) (c .if9 .taken))
+    let h = taken (k .before .before .before .before .before .before .before .before .args .last) _ (k .before .before .before .before .size-of .ensures .0) (k .before .before .before .room-of .ensures) 1 _ false {allowed = k .before .before .before .before .before .before .before .before .args .process .allowed} (omega (arith, k .before .before .if3 .left)) (k .need-of .ensures) (omega (arith, c .before .before .before .if4 .left)) (c .before .before .if5 .left) (ap roomOf (c .if9 .taken)) (ap (needOf false) (c .if9 .taken)) in
+    (h .0, h .1, sym (k .before .prints .ensures) ∙ c .before .before .if5 .left)
 
 small-requires : (t : ℕ) → within-lts.Need-small-requires (claims t) (at t) within.Post
 small-requires t c κs =
     let k = c .before .before .before .before in
-    taken (k .before .before .before .before .before .before .before .before .args .last) _ (k .before .before .before .before .size-of .ensures .0) (k .before .before .before .room-of .ensures) 0 _ false (omega (arith, k .before .before .if3 .left)) (k .need-of .ensures) (omega (arith, c .before .before .if4 .left)) (c .before .if5 .left) (ap roomOf (c .if8 .taken)) (ap (needOf false) (c .if8 .taken))
+    let h = taken (k .before .before .before .before .before .before .before .before .args .last) _ (k .before .before .before .before .size-of .ensures .0) (k .before .before .before .room-of .ensures) 0 _ false {allowed = k .before .before .before .before .before .before .before .before .args .process .allowed} (omega (arith, k .before .before .if3 .left)) (k .need-of .ensures) (omega (arith, c .before .before .if4 .left)) (c .before .if5 .left) (ap roomOf (c .if8 .taken)) (ap (needOf false) (c .if8 .taken)) in
+    (h .0, h .1, sym (k .before .prints .ensures) ∙ c .before .if5 .left)
 
 lack-stack-requires : (t : ℕ) → within-lts.Need-lack-stack-requires (claims t) (at t) within.Post
 lack-stack-requires t c κs = omega (arith, c .before .if4 .taken)
