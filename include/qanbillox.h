@@ -84,7 +84,8 @@ static inline size_t qbx_offset_of(uint64_t result) { return (size_t)(result >> 
  *     block 7 len 2 seg 0 slot 1                 One for each live slot of those in use, by rising block number, equal
  *                                                ones by the segment's number (num, not its index), then by the slot.
  *     recover 0 steps 2                          What qbx_recover would answer, and its steps; if the image is damaged,
- *     fails 3                                    the place, 1 to 8, of the first condition of a clean one that fails.
+ *     fails 3                                    the place, 1 to 8, of the first condition of a clean one that fails
+ *                                                (docs/FORMAT.md, States).
  *
  * An unfinished image is shown as it is; the segment whose erase is owed in it is torn, or blank, without its slots. In
  * a damaged image that one is shown as any other. A wrong n, b or length of the image is no refusal: the text is then
