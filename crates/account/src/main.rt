@@ -2,12 +2,6 @@
 use libc::STDERR_FILENO;
 use libc::STDOUT_FILENO;
 use model::Answer;
-use model::BlockNumber;
-use qbx_words::Command;
-use qbx_words::Verb;
-ghost use mathlib.Core.Path.{_≡_};
-ghost use Rattle.qbx_words.specs.Command.{plain};
-ghost use Rattle.qbx_words.specs.declared.Verb.the-variants.{Account};
 
 fn usage() {
     io::write_all(
@@ -23,23 +17,10 @@ fn fail(what: &[u8], path: &[u8]) {
     os::fail(path);
 }
 
-// What is asked of a board.
-fn request() -> Command
-    ensures { λ r. ⌜ r ≡ plain 4 15 Account ⌝ }
-{
-    Command {
-        segments: 4,
-        slots: 15,
-        verb: Verb::Account,
-        block: BlockNumber(0),
-        budget: u64::MAX,
-    }
-}
-
 // The account of an image. The longest one of a board has 2,196 bytes.
 fn print(image: &[u8]) {
     let mut text = [0u8; 4096];
-    let printed = qbx_requests::describe(image, request(), &mut text);
+    let printed = accounts::account(image, 4, 15, &mut text);
     let answer = printed.answer;
     if let Answer::ShortBuffer = answer {
         io::write_all(

@@ -89,6 +89,7 @@ pub fn account(image: &[u8], segments: usize, slots: usize, text: &mut [u8]) -> 
         &mut nexts,
         &mut lengths,
     );
+    // shorter than any text, so that nothing of it matters
     let mut none = [0u8; 1];
     let length = compose(
         image,

@@ -87,7 +87,7 @@ fn test_heads(image: &[u8], segments: usize, slots: usize) -> HeadTests
 }
 
 // Whether so many segments are in use with the numbers from the first on. Each is looked at once more where its number
-// puts it, since a table of them would take stack.
+// puts it: one that is in use costs a header, and a table of them would be a copy for each hand-over.
 fn numbers_follow(image: &[u8], segments: usize, slots: usize, first: usize, used: usize) -> bool
     requires { ⌜ Sized segments slots (length (now image)) × (first ≤ 4294967296) × (used ≤ mostSegments) ⌝ }
     ensures { λ r. ⌜ r ≡ numbersFrom segments (segmentsOf segments slots (now (image .entry))) used first ⌝ }

@@ -76,7 +76,8 @@ fn see_all(image: &[u8], segments: usize, slots: usize) -> [Shown; MOST_SEGMENTS
     table
 }
 
-// Shows a table as an account does: in an image unfinished by (b) the segment after the top is not looked at: torn, unless it is blank.
+// Shows a table as an account does. In an image unfinished by (b) the segment after the top is not looked at: it is torn,
+// unless it is blank.
 fn hide(table: [Shown; MOST_SEGMENTS], segments: usize, survey: Surveyed) -> [Shown; MOST_SEGMENTS]
     requires { ⌜ (0 < segments) × (segments ≤ mostSegments) ⌝ }
     ensures { λ r. ⌜ r ≡ hidden survey segments table ⌝ }

@@ -1,14 +1,13 @@
--- A part of an image, an image filled, and a text within its buffer.
+-- A part of an image, an image filled, and a text with its bound.
 use Prim.Native.Nat.{ℕ, _+_, _-_, _<_, _≤_}
 use mathlib.Core.Path.{_≡_, sym, _∙_, ap}
-use mathlib.Core.Bool.{Bool, true, false, cond}
 use mathlib.Core.List.{List, [], _++_, append-nil}
 use native.Mathlib.Omega.{arith}
-use lib.ListN.{length, take, drop, replicate, length-drop, length-append, drop-of-length-le}
+use lib.ListN.{length, take, drop, replicate, length-drop, drop-of-length-le}
 use lib.Seq.{take-all, take-nil}
-use lib.Dec.{leb}
-use Rattle.text.specs.Buffer.{Print, printed, printIn}
+use Rattle.text.specs.Buffer.{printed, printIn}
 use Rattle.text.specs.declared.Printed.{Printed}
+use Rattle.text.proofs.Laws.{print-within}
 
 pub piece-none : (s : List ℕ) (at count : ℕ) → length s < at → [] ≡ take count (drop at s)
 piece-none s at count h = let l : length s ≤ at = omega arith in rw (drop-of-length-le s l, take-nil {A = ℕ} count)
@@ -25,17 +24,5 @@ piece-whole s at count = let e : at + count - at ≡ count = omega arith in rw e
 pub filled : (s : List ℕ) (i : ℕ) → i ≡ length s → replicate i 255 ++ drop i s ≡ replicate (length s) 255
 filled s i e = let l : length s ≤ i = omega arith in rw (drop-of-length-le s l, append-nil) (ap (λ (k : ℕ). replicate k 255) e)
 
--- what was printed ends within the buffer
-within : (t start buffer : List ℕ) (p : Printed) → printed p buffer ≡ printIn t start → p .length ≤ length buffer
-unfolding printed printIn
-within t start buffer p e = go (leb (length t) (length start)) e
-  where
-    go : (fits : Bool) → printed p buffer ≡ cond fits (record { code = 0; length = length t; buffer = t ++ drop (length t) start }) (record { code = 14; length = 0; buffer = start }) → p .length ≤ length buffer
-    go true f =
-        let n : p .length ≡ length t = ap (λ (r : Print). r .length) f in
-        let b : buffer ≡ t ++ drop (length t) start = ap (λ (r : Print). r .buffer) f in
-        rw b (omega (arith, length-append t (drop (length t) start)))
-    go false f = let n : p .length ≡ 0 = ap (λ (r : Print). r .length) f in omega arith
-
 pub both : (t start buffer : List ℕ) (p : Printed) → printed p buffer ≡ printIn t start → (printed p buffer ≡ printIn t start) × (p .length ≤ length buffer)
-both t start buffer p e = (e, within t start buffer p e)
+both t start buffer p e = (e, print-within t start buffer p e)

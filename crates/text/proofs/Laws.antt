@@ -7,12 +7,12 @@ use native.Mathlib.Omega.{arith}
 use native.Mathlib.Nat.{mod-eq-of-lt, pow-suc}
 use lib.ListN.{length, take, drop, set, getD, length-append, take-append-drop}
 use lib.Seq.{paste-suc, drop-drop, length-take-le, take-at, drop-at, drop-cons}
-use lib.Dec.{ltb}
+use lib.Dec.{leb, ltb}
 use borrow.Author.Tests.{lt-ltb, le-ltb, le-leb, lt-leb, ltb-true, ltb-false}
 use Rattle.text.specs.Decimal.{decimalOf}
 use Rattle.model.specs.Answers.{codeOf}
 use Rattle.text.specs.declared.Printed.{Printed}
-use Rattle.text.specs.Buffer.{printed, printIn, shortOf, doneOf, over, Wrote}
+use Rattle.text.specs.Buffer.{Print, printed, printIn, shortOf, doneOf, over, Wrote}
 
 -- ---- pieces
 
@@ -159,3 +159,15 @@ print-done t start buffer r end h w e =
     let z : 0 + length t ≡ length t = omega arith in
     let b : buffer ≡ t ++ drop (0 + length t) start = w .there (omega (arith, w .ends)) in
     rw (e, le-leb (length t) (length start) h, b, n, z)
+
+-- what was printed ends within the buffer
+pub print-within : (t start buffer : List ℕ) (p : Printed) → printed p buffer ≡ printIn t start → p .length ≤ length buffer
+unfolding printed printIn
+print-within t start buffer p e = go (leb (length t) (length start)) e
+  where
+    go : (fits : Bool) → printed p buffer ≡ cond fits (record { code = 0; length = length t; buffer = t ++ drop (length t) start }) (record { code = 14; length = 0; buffer = start }) → p .length ≤ length buffer
+    go true f =
+        let n : p .length ≡ length t = ap (λ (r : Print). r .length) f in
+        let b : buffer ≡ t ++ drop (length t) start = ap (λ (r : Print). r .buffer) f in
+        rw b (omega (arith, length-append t (drop (length t) start)))
+    go false f = let n : p .length ≡ 0 = ap (λ (r : Print). r .length) f in omega arith

@@ -2,18 +2,16 @@
 use mathlib.Core.Path.{sym}
 use native.Mathlib.Omega.{arith}
 use lib.Seq.{length-take-le}
+use Rattle.text.proofs.Laws.{print-within}
 use borrow.Author.Needs.{needs}
 use Rattle.account.proofs.print.Statement.{statement}
 use Rattle.account.proofs.print.Tie as tie
 
-request-requires : tie.Need-request-requires
-request-requires c κs = search needs
+slice-aggregate-account : tie.Need-slice-aggregate-account
+slice-aggregate-account c = search needs
 
-slice-aggregate-describe : tie.Need-slice-aggregate-describe
-slice-aggregate-describe c = search needs
-
-describe-requires : tie.Need-describe-requires
-describe-requires c κs = search needs
+account-requires : tie.Need-account-requires
+account-requires c κs = search needs
 
 enum-told : tie.Need-enum-told
 enum-told c = search needs
@@ -28,10 +26,10 @@ returns : tie.Need-returns
 returns c = search needs
 
 array-share-prefix-text : tie.Need-array-share-prefix-text
-array-share-prefix-text c = search needs
+array-share-prefix-text c = let k = print-within _ _ _ _ (c .before .before .account .ensures .0) in search needs
 
 slice-aggregate-write-all-2 : tie.Need-slice-aggregate-write-all-2
-slice-aggregate-write-all-2 c = sym (length-take-le _ _ (omega (arith, c .before .before .before .describe .ensures .1)))
+slice-aggregate-write-all-2 c = sym (length-take-le _ _ (omega (arith, print-within _ _ _ _ (c .before .before .before .account .ensures .0))))
 
 write-all-requires-2 : tie.Need-write-all-requires-2
 write-all-requires-2 c κs = search needs
@@ -55,9 +53,8 @@ pub print-spec : {M : Type 1} → statement M
 print-spec =
     tie.close
     (tie.spec
-    request-requires
-    slice-aggregate-describe
-    describe-requires
+    slice-aggregate-account
+    account-requires
     enum-told
     slice-aggregate-write-all
     write-all-requires
