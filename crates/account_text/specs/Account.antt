@@ -7,7 +7,7 @@ use lib.Dec.{leb, eqb}
 use Rattle.model.specs.Lists.{count}
 use Rattle.model.specs.Chip.{Image, rightSize}
 use Rattle.model.specs.Header.{erasePending}
-use Rattle.model.specs.Slot.{Slot, isEmpty, isDead, Entry, entryOf}
+use Rattle.model.specs.Slot.{Slot, isEmpty, isReplaced, isCut, Entry, entryOf}
 use Rattle.model.specs.State.{Segment, blank, invalid, inUse, segmentsOf, topIndex, nextIndex, topSlots, usedCount, entries, conditions, caseA, caseB, caseC, caseD, State, clean, unfinished, damaged, stateOf}
 use Rattle.model.specs.Answers.{recover, workOn}
 use Rattle.text.specs.Text.{text}
@@ -38,11 +38,11 @@ shown N B l = shownIn N l (stateOf N B l)
 unfoldable pub useWord : ℕ → List ℕ
 useWord st = cond (eqb st erasePending) (text " owing") (text " used")
 
--- torn and wrong slots are in no count
+-- torn and wrong slots are in no count; of the dead ones, those that a cut left are told apart (request #107)
 unfoldable pub slotCounts : List Slot → List ℕ
-slotCounts ks = labelled " live " (length (entries ks)) ++ (labelled " dead " (count isDead ks) ++ labelled " empty " (count isEmpty ks))
+slotCounts ks = labelled " live " (length (entries ks)) ++ (labelled " dead " (count isReplaced ks) ++ (labelled " cut " (count isCut ks) ++ labelled " empty " (count isEmpty ks)))
 
--- as "seg 0 used num 0 live 0 dead 0 empty 15"
+-- as "seg 0 used num 0 live 0 dead 0 cut 0 empty 15"
 unfoldable pub segmentLine : ℕ → Segment → List ℕ
 segmentLine i blank = labelled "seg " i ++ text " blank\n"
 segmentLine i invalid = labelled "seg " i ++ text " torn\n"

@@ -6,7 +6,7 @@ use lib.ListN.{length, replicate}
 use lib.Dec.{ltb, eqb}
 use Rattle.model.specs.Chip.{Image, rightSize}
 use Rattle.model.specs.Header.{erasePending}
-use Rattle.model.specs.Slot.{Slot, empty, torn, dead, wrong, live}
+use Rattle.model.specs.Slot.{Slot, empty, torn, dead, cut, wrong, live}
 use Rattle.model.specs.State.{Segment, blank, invalid, inUse, segmentsOf, nextNumber}
 use Rattle.text.specs.Text.{text}
 use Rattle.text.specs.Decimal.{decimal}
@@ -19,11 +19,12 @@ unfoldable pub mark : Slot → ℕ
 mark empty = 46
 mark torn = 126
 mark dead = 120
+mark cut = 47
 mark wrong = 33
 mark (live b c) = 35
 
 unfoldable pub legend : List ℕ
-legend = text "# live  x dead  ~ torn  ! wrong  . empty  > active segment\n"
+legend = text "# live  x dead  / cut  ~ torn  ! wrong  . empty  > active segment\n"
 
 -- a wide segment is wrapped: so many slots to a row, and the next row begins below the first slot
 abbrev pub mostMarks : ℕ

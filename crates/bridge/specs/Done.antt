@@ -62,7 +62,7 @@ module _ (N B : ℕ) (s : Image) (v : View) (h : Held N B s v) where
         let r = held-row N B s v h k inRow in
         let kind = slot-kind N B (size .two) s (size .whole) n j (r .0) (r .1) n (getD (v .slots) k []) inSlot (r .2) in
         slot-held n j dead (onPage (slotAt N B n j) markDead) low high
-        (mark-effect N B (size .two) s (size .whole) n j (r .0) (r .1) n (getD (v .slots) k []) inSlot (r .2)
+        (mark-effect N B (size .two) s (size .whole) n j (r .0) (r .1) n (getD (v .slots) k []) inSlot (r .2) dead
         (live-markable (slotPageAt N B (size .two) s (size .whole) n j (r .0) (r .1) n (getD (v .slots) k []) inSlot (r .2)) b c (kind ∙ e)))
 
     -- an empty slot written

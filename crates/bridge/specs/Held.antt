@@ -9,7 +9,7 @@ use lib.ListN.{length, getD, drop, length-drop}
 use lib.Seq.{getD-drop}
 use Rattle.model.specs.Chip.{Image, Page, Bytes, pagesOf, rightSize}
 use Rattle.model.specs.Header.{Version}
-use Rattle.model.specs.Slot.{Slot, empty, torn, dead, wrong, live, slotOf, entryOf}
+use Rattle.model.specs.Slot.{Slot, empty, torn, dead, cut, wrong, live, slotOf, entryOf}
 use Rattle.model.specs.State.{Segment, blank, inUse, segmentsOf, numberAfter, slotsIn, versionIn, nextNumber, usedCount, firstNumber, slotsFrom, View, viewOf, entries, entriesIn, isClean, clean, state, view}
 use Rattle.model.specs.Steps.{topNumber}
 use Rattle.model.specs.Table.{tableOf}
@@ -122,6 +122,7 @@ valid-entries (p ∷ ps) f = go (slotOf p) refl (valid-entries ps (λ q b. f (su
     go empty e r = unfold entryOf in r
     go torn e r = unfold entryOf in r
     go dead e r = unfold entryOf in r
+    go cut e r = unfold entryOf in r
     go wrong e r = unfold entryOf in r
     go (live b c) e r = unfold entryOf in (live-valid p b c e (f 0 (omega arith)), r)
 

@@ -12,7 +12,7 @@ use lib.Dec.{ltb, eqb}
 use borrow.Author.Tests.{eqb-true}
 use Rattle.model.specs.Chip.{Image, Page, Step, program, erase, erased, mostSegments, largestImage, rightSize}
 use Rattle.model.specs.Header.{numberBytes, inverted, Version, version1, version2, newVersion, tallyOf, tallyBytes, headerPage, headerVersion, headerStatus, headerNumber, headerInUse, allBlank}
-use Rattle.model.specs.Slot.{Slot, empty, torn, dead, wrong, live, slotPage, slotOf, mostContents, Entry, entryOf}
+use Rattle.model.specs.Slot.{Slot, empty, torn, dead, cut, wrong, live, slotPage, slotOf, mostContents, Entry, entryOf}
 use Rattle.model.specs.State.{Segment, blank, invalid, inUse, isInUse, isInvalid, slotsIn, segmentOf, segmentsOf, nextNumber, nextIndex, topVersion, usedCount, firstNumber, slotsFrom, View, viewOf, entries, entriesIn, holds, lastSlot, Place, placeOf, placeFrom, view, older, Exception, caseA, caseB, caseC, caseD, State, clean, unfinished, damaged, stateOf}
 use Rattle.model.specs.Steps.{topRow, topNumber, firstEmpty, programs, programPart, onPage, headerAt, slotAt, writeSlot, markDead, markPlace, openSegment, copyEntries, copyOut, settle, compact, copied, Room, hasRoom, nextVersion, openNext, compactOldest, compactUntilRoom, roomFor, markOld, writeAtTop, putSteps, deleteSteps, eraseFirst, formatSteps, highestBit, clearNext, countErase, eraseNext, unlessBlank, mendSteps, recoverSteps}
 use Rattle.model.specs.Table.{present, lookup, contentsFound}
@@ -118,6 +118,7 @@ short-pages (p ∷ ps) = go (slotOf p) refl (short-pages ps)
     go empty e r = unfold entryOf in r
     go torn e r = unfold entryOf in r
     go dead e r = unfold entryOf in r
+    go cut e r = unfold entryOf in r
     go wrong e r = unfold entryOf in r
     go (live b c) e r = unfold entryOf in (live-facts p b c e .short, r)
 

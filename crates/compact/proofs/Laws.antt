@@ -12,7 +12,7 @@ use Rattle.model.specs.declared.SlotKind.{SlotKind}
 use Rattle.model.specs.declared.SlotKind.the-variants.{Live}
 use Rattle.model.specs.Chip.{Image, Page, Step, program, erase, erased, run, pagesOf}
 use Rattle.model.specs.Header.{Version, newVersion}
-use Rattle.model.specs.Slot.{mostContents, slotPage, Slot, empty, torn, dead, wrong, live, slotOf, kindOf, Entry, entryOf}
+use Rattle.model.specs.Slot.{mostContents, slotPage, Slot, empty, torn, dead, cut, wrong, live, slotOf, kindOf, Entry, entryOf}
 use Rattle.model.specs.State.{entries}
 use Rattle.model.specs.Steps.{onPage, headerAt, slotAt, writeSlot, copyEntries, settle}
 use Rattle.model.specs.Laws.Chunk.{chunk-part}
@@ -46,6 +46,7 @@ unfolding kindOf
 kind-live empty l b e = absurd (let z : _≡_ {A = ℕ} 0 1 = cc in omega arith)
 kind-live torn l b e = absurd (let z : _≡_ {A = ℕ} 0 1 = cc in omega arith)
 kind-live dead l b e = absurd (let z : _≡_ {A = ℕ} 0 1 = cc in omega arith)
+kind-live cut l b e = absurd (let z : _≡_ {A = ℕ} 0 1 = cc in omega arith)
 kind-live wrong l b e = absurd (let z : _≡_ {A = ℕ} 0 1 = cc in omega arith)
 kind-live (live n c) l b e = let f : _≡_ {A = BlockNumber} (record { 0 = n }) b = cc in (c, ap (λ (x : BlockNumber). live (x .0) c) f, cc)
 

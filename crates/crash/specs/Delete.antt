@@ -37,7 +37,7 @@ module _ (N B : ℕ) (s : Image) (b : ℕ) (z : rightSize N B s ≡ true) (h : C
   unfolding stepsFor deleteSteps view
   steps = accepted N B s (delete b) a .0
 
-  marks : Marks (getD (slotsIn (getD (segmentsOf N B s) (placeOf b (view N B s) .number % N) blank)) (placeOf b (view N B s) .slot) empty)
+  marks : Marks (getD (slotsIn (getD (segmentsOf N B s) (placeOf b (view N B s) .number % N) blank)) (placeOf b (view N B s) .slot) empty) dead
   unfolding view
   marks = live-marks (live-place N (segmentsOf N B s) b (delete-passed N B s b (accepted N B s (delete b) a .1)))
 
@@ -45,7 +45,7 @@ module _ (N B : ℕ) (s : Image) (b : ℕ) (z : rightSize N B s ≡ true) (h : C
   delete-cut u c = ⊎-elim
       (λ q. subst Left (sym q) (let d = clean-shows N B s (tableOf N B s) (formerIn N B s) (h, agree-of (tableOf N B s) (tableOf N B s) refl, refl) in (d .0, inl (d .1), d .2)))
       (λ q. subst Left (sym (q ∙ ap (λ (y : List Step). run B y s) (sym steps))) (let d = clean-shows N B (finished N B s (delete b)) (without b (tableOf N B s)) (formerIn N B s) finished-delete in (d .0, inr (d .1), d .2)))
-      (mark-whole N B s z (placeOf b (view N B s) .number) (placeOf b (view N B s) .slot) marks u (rw steps at c))
+      (mark-whole N B s z (placeOf b (view N B s) .number) (placeOf b (view N B s) .slot) dead marks u (rw steps at c))
     where
       Left : Image → Type 0
       Left y = LeftWith N B y (tableOf N B s) (without b (tableOf N B s)) (formerIn N B s)
@@ -53,5 +53,5 @@ module _ (N B : ℕ) (s : Image) (b : ℕ) (z : rightSize N B s ≡ true) (h : C
   pub delete-top : (u : Image) → CutOf N B s (delete b) u → SameTop N B s u
   delete-top u c = ⊎-elim (λ q. same-image N B s u q)
       (λ q. same-slot N B s u (placeOf b (view N B s) .number % N) (placeOf b (view N B s) .slot) dead
-      (ap (λ y. segmentsOf N B y) q ∙ mark-segments N B s z (placeOf b (view N B s) .number) (placeOf b (view N B s) .slot) marks))
-      (mark-whole N B s z (placeOf b (view N B s) .number) (placeOf b (view N B s) .slot) marks u (rw steps at c))
+      (ap (λ y. segmentsOf N B y) q ∙ mark-segments N B s z (placeOf b (view N B s) .number) (placeOf b (view N B s) .slot) dead marks))
+      (mark-whole N B s z (placeOf b (view N B s) .number) (placeOf b (view N B s) .slot) dead marks u (rw steps at c))

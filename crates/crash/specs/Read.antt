@@ -7,7 +7,7 @@ use native.Mathlib.Omega.{arith}
 use lib.ListN.{length, getD, take, drop}
 use lib.Seq.{take-at, take-take, drop-drop}
 use Rattle.model.specs.Chip.{Image, erased, pagesOf, rightSize}
-use Rattle.model.specs.Slot.{mostContents, slotPage}
+use Rattle.model.specs.Slot.{mostContents, slotPage, dead}
 use Rattle.model.specs.State.{segmentsOf, viewOf, entriesIn, placeOf, view}
 use Rattle.model.specs.Steps.{slotAt}
 use Rattle.model.specs.Table.{lookup, present, contentsFound, tableOf}
@@ -57,10 +57,10 @@ read-done N B s b z h a = rw (a, found) bytes
     here = index N B (size-facts N B s z .two) s (size-facts N B s z .whole) n
 
     inside : j < B
-    inside = slot-inside N B s z n j (live-marks l)
+    inside = slot-inside N B s z n j dead (live-marks l)
 
     facts : LiveFacts (getD (partOf N B (n % N) s) (suc j) []) b c
-    facts = live-facts (getD (partOf N B (n % N) s) (suc j) []) b c (page-kind N B s z n j (live-marks l) ∙ l .slot)
+    facts = live-facts (getD (partOf N B (n % N) s) (suc j) []) b c (page-kind N B s z n j dead (live-marks l) ∙ l .slot)
 
     page : slotPage b c ≡ take 256 (drop (p * 256) s)
     page = sym (facts .page) ∙ (part-page N B (n % N) (suc j) s here (omega (arith, inside)) ∙ (unfold pagesOf in chunk-part 256 (N * (B + 1)) p s (page-in N B (n % N) (suc j) here (omega (arith, inside)))))

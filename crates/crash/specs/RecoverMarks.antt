@@ -1,4 +1,4 @@
--- One slot marked dead: the recovery of (c) and of (d), and a delete. It is one step with no inside, so that a cut does it or not.
+-- One slot marked: the recovery of (c) and of (d), and a delete. It is one step with no inside, so that a cut does it or not.
 use Prim.Native.Nat.{ℕ, suc, _+_, _-_, _*_, _%_, _<_}
 use mathlib.Core.Path.{_≡_, refl, sym, ap, _∙_, subst}
 use mathlib.Core.Logic.{_⊎_, ⊎-elim}
@@ -11,7 +11,7 @@ use lib.Dec.{ltb, eqb}
 use borrow.Author.Tests.{eqb-true, eq-eqb, lt-ltb}
 use Rattle.model.specs.Chip.{Image, Page, clear, run, rightSize, Cut}
 use Rattle.model.specs.Header.{Version}
-use Rattle.model.specs.Slot.{Slot, empty, torn, dead, wrong, live, slotOf, isTorn, entryOf}
+use Rattle.model.specs.Slot.{Slot, empty, torn, dead, cut, wrong, live, slotOf, isTorn, entryOf}
 use Rattle.model.specs.State.{Segment, blank, invalid, inUse, segmentsOf, slotsIn, nextNumber, topIndex, topSlots, usedCount, firstNumber, slotsFrom, viewOf, entries, entriesIn, holds, isClean, withSlot, lastSlot, lastKind, tornMarked, isC, Place, placeOf, lastBlock, copies, older, olderMarked, isD, Exception, caseC, caseD, unfinished, state}
 use Rattle.model.specs.Steps.{onPage, slotAt, markDead, markPlace, mendSteps}
 use Rattle.model.specs.Table.{present, lookup}
@@ -32,36 +32,38 @@ use Rattle.crash.specs.Alike.{Like, like-of}
 use Rattle.crash.specs.Tops.{SameTop, same-image, same-slot}
 use Rattle.crash.specs.States.{isCase, mended, case-of, recover-steps, recovered-run, Kept, kept-same, Mended, kept-clean}
 
--- ---- slots that can be marked
+-- ---- slots that can be marked, and what they become
 
-abbrev pub Marks : Slot → Type 0
-Marks empty = ⊥
-Marks torn = Unit {0}
-Marks dead = ⊥
-Marks wrong = ⊥
-Marks (live b c) = Unit {0}
+abbrev pub Marks : Slot → Slot → Type 0
+Marks empty x = ⊥
+Marks torn x = x ≡ cut
+Marks dead x = ⊥
+Marks cut x = ⊥
+Marks wrong x = ⊥
+Marks (live b c) x = x ≡ dead
 
-marks-page : (p : Page) → Marks (slotOf p) → Markable (getD p 0 0)
-marks-page p m = go (slotOf p) refl m
+marks-page : (p : Page) (x : Slot) → Marks (slotOf p) x → Markable (getD p 0 0) x
+marks-page p x m = go (slotOf p) refl m
   where
-    go : (k : Slot) → slotOf p ≡ k → Marks k → Markable (getD p 0 0)
+    go : (k : Slot) → slotOf p ≡ k → Marks k x → Markable (getD p 0 0) x
     go empty e h = absurd h
-    go torn e h = torn-markable p e
+    go torn e h = rw h (torn-markable p e)
     go dead e h = absurd h
+    go cut e h = absurd h
     go wrong e h = absurd h
-    go (live b c) e h = live-markable p b c e
+    go (live b c) e h = rw h (live-markable p b c e)
 
 -- a slot that can be marked is one of a segment in use
-marks-in-use : (x : Segment) (j : ℕ) → Marks (getD (slotsIn x) j empty) → (ver : Version) × (st : ℕ) × (n : ℕ) × (x ≡ inUse ver st n (slotsIn x))
+marks-in-use : (x : Segment) (j : ℕ) (y : Slot) → Marks (getD (slotsIn x) j empty) y → (ver : Version) × (st : ℕ) × (n : ℕ) × (x ≡ inUse ver st n (slotsIn x))
 unfolding slotsIn
-marks-in-use blank j m = absurd m
-marks-in-use invalid j m = absurd m
-marks-in-use (inUse ver st n ks) j m = (ver, st, n, refl)
+marks-in-use blank j y m = absurd m
+marks-in-use invalid j y m = absurd m
+marks-in-use (inUse ver st n ks) j y m = (ver, st, n, refl)
 
-marks-inside : (ks : List Slot) (j : ℕ) → Marks (getD ks j empty) → j < length ks
-marks-inside ks j m = elim (decLt j (length ks)) [ yes p ↦ p | no p ↦ absurd (subst Marks (List·getD-eq-default ks empty (omega arith)) m) ]
+marks-inside : (ks : List Slot) (j : ℕ) (x : Slot) → Marks (getD ks j empty) x → j < length ks
+marks-inside ks j x m = elim (decLt j (length ks)) [ yes p ↦ p | no p ↦ absurd (subst (λ k. Marks k x) (List·getD-eq-default ks empty (omega arith)) m) ]
 
-module _ (N B : ℕ) (s : Image) (z : rightSize N B s ≡ true) (k j : ℕ) (m : Marks (getD (slotsIn (getD (segmentsOf N B s) (k % N) blank)) j empty)) where
+module _ (N B : ℕ) (s : Image) (z : rightSize N B s ≡ true) (k j : ℕ) (x : Slot) (m : Marks (getD (slotsIn (getD (segmentsOf N B s) (k % N) blank)) j empty) x) where
   size : SizeFacts N B s
   size = size-facts N B s z
 
@@ -69,22 +71,22 @@ module _ (N B : ℕ) (s : Image) (z : rightSize N B s ≡ true) (k j : ℕ) (m :
   row = slotsIn (getD (segmentsOf N B s) (k % N) blank)
 
   used : (ver : Version) × (st : ℕ) × (n : ℕ) × (getD (segmentsOf N B s) (k % N) blank ≡ inUse ver st n row)
-  used = marks-in-use (getD (segmentsOf N B s) (k % N) blank) j m
+  used = marks-in-use (getD (segmentsOf N B s) (k % N) blank) j x m
 
   -- a segment in use has B slots, and this is one of them
   pub slot-inside : j < B
-  slot-inside = omega (arith, marks-inside row j m, slot-count N B (size .two) s (size .whole) k 0 (used .0) (used .1) (used .2) row (omega (arith, size .slots)) (used .3))
+  slot-inside = omega (arith, marks-inside row j x m, slot-count N B (size .two) s (size .whole) k 0 (used .0) (used .1) (used .2) row (omega (arith, size .slots)) (used .3))
 
   -- its page has that kind
   pub page-kind : slotOf (getD (partOf N B (k % N) s) (suc j) []) ≡ getD (slotsIn (getD (segmentsOf N B s) (k % N) blank)) j empty
   page-kind = slot-kind N B (size .two) s (size .whole) k j (used .0) (used .1) (used .2) row slot-inside (used .3)
 
-  markable : Markable (getD (getD (partOf N B (k % N) s) (suc j) []) 0 0)
-  markable = marks-page (getD (partOf N B (k % N) s) (suc j) []) (subst Marks (sym page-kind) m)
+  markable : Markable (getD (getD (partOf N B (k % N) s) (suc j) []) 0 0) x
+  markable = marks-page (getD (partOf N B (k % N) s) (suc j) []) x (subst (λ y. Marks y x) (sym page-kind) m)
 
-  pub mark-segments : segmentsOf N B (run B (markPlace N B (record { number = k; slot = j })) s) ≡ set (segmentsOf N B s) (k % N) (withSlot j dead (getD (segmentsOf N B s) (k % N) blank))
+  pub mark-segments : segmentsOf N B (run B (markPlace N B (record { number = k; slot = j })) s) ≡ set (segmentsOf N B s) (k % N) (withSlot j x (getD (segmentsOf N B s) (k % N) blank))
   unfolding markPlace
-  mark-segments = mark-effect N B (size .two) s (size .whole) k j (used .0) (used .1) (used .2) row slot-inside (used .3) markable
+  mark-segments = mark-effect N B (size .two) s (size .whole) k j (used .0) (used .1) (used .2) row slot-inside (used .3) x markable
 
   pub mark-whole : (u : Image) → Cut B (markPlace N B (record { number = k; slot = j })) s u → (u ≡ s) ⊎ (u ≡ run B (markPlace N B (record { number = k; slot = j })) s)
   unfolding markPlace onPage markDead slotAt
@@ -94,7 +96,7 @@ module _ (N B : ℕ) (s : Image) (z : rightSize N B s ≡ true) (k j : ℕ) (m :
       byte = page-byte N B (k % N) (suc j) 0 s (index N B (size .two) s (size .whole) k) (omega (arith, slot-inside)) (omega arith)
 
       one-bit : OneBit (clear (getD s ((k % N * (B + 1) + suc j) * 256 + 0) 0) 0xDF) (getD s ((k % N * (B + 1) + suc j) * 256 + 0) 0)
-      one-bit = mark-bit (getD s ((k % N * (B + 1) + suc j) * 256 + 0) 0) (subst Markable byte markable)
+      one-bit = mark-bit (getD s ((k % N * (B + 1) + suc j) * 256 + 0) 0) x (subst (λ y. Markable y x) byte markable)
 
 -- ---- the first live slot of a block
 
@@ -133,33 +135,36 @@ live-place N l b h = record { contents = f .contents; slot = at; found = looked 
         ∙ (lookup-append b (entries (earlier g)) (entryOf (live b (f .contents)) ++ entries (later g))
         ∙ rw (f .first) (unfold lookup entryOf in (rw (eq-eqb b b refl)))))
 
-pub live-marks : {N : ℕ} {l : List Segment} {b : ℕ} (p : LivePlace N l b) → Marks (getD (slotsIn (getD l (placeOf b (viewOf N l) .number % N) blank)) (placeOf b (viewOf N l) .slot) empty)
-live-marks p = subst Marks (sym (p .slot)) tt
+pub live-marks : {N : ℕ} {l : List Segment} {b : ℕ} (p : LivePlace N l b) → Marks (getD (slotsIn (getD l (placeOf b (viewOf N l) .number % N) blank)) (placeOf b (viewOf N l) .slot) empty) dead
+live-marks p = subst (λ k. Marks k dead) (sym (p .slot)) refl
 
 -- ---- (c) and (d)
 
--- the place that a recovery marks
+-- the place that a recovery marks, and what the slot there becomes
 record OneMark (N B : ℕ) (l : List Segment) (x : Exception) : Type 0 where
   place : Place
-  marks : Marks (getD (slotsIn (getD l (place .number % N) blank)) (place .slot) empty)
+  kind : Slot
+  marks : Marks (getD (slotsIn (getD l (place .number % N) blank)) (place .slot) empty) kind
   steps : mendSteps N B l x ≡ markPlace N B place
-  same : mended N l x ≡ set l (place .number % N) (withSlot (place .slot) dead (getD l (place .number % N) blank))
+  same : mended N l x ≡ set l (place .number % N) (withSlot (place .slot) kind (getD l (place .number % N) blank))
 
 mark-c : (N B : ℕ) (l : List Segment) → isCase N B l caseC ≡ true → OneMark N B l caseC
 unfolding isCase isC lastKind topSlots topIndex mended tornMarked mendSteps
 mark-c N B l h = record {
   place = record { number = nextNumber l - 1; slot = lastSlot N l };
+  kind = cut;
   marks = torn-marks (lastKind N l) (and-left (isTorn (lastKind N l)) (isClean N B (tornMarked N l)) h);
   steps = refl;
   same = refl;
 }
   where
-    torn-marks : (k : Slot) → isTorn k ≡ true → Marks k
+    torn-marks : (k : Slot) → isTorn k ≡ true → Marks k cut
     torn-marks empty e = absurd (false≢true (unfold isTorn in e))
-    torn-marks torn e = tt
+    torn-marks torn e = refl
     torn-marks dead e = absurd (false≢true (unfold isTorn in e))
+    torn-marks cut e = absurd (false≢true (unfold isTorn in e))
     torn-marks wrong e = absurd (false≢true (unfold isTorn in e))
-    torn-marks (live b c) e = tt
+    torn-marks (live b c) e = absurd (false≢true (unfold isTorn in e))
 
 mark-d : (N B : ℕ) (l : List Segment) → isCase N B l caseD ≡ true → OneMark N B l caseD
 unfolding isCase isD older olderMarked mended mendSteps
@@ -169,6 +174,7 @@ mark-d N B l h =
     let c : copies b (entriesIn (viewOf N l)) ≡ 2 = eqb-true (copies b (entriesIn (viewOf N l))) 2 (and-left (eqb (copies b (entriesIn (viewOf N l))) 2) (isClean N B (olderMarked N l)) q) in
     record {
       place = older N l;
+      kind = dead;
       marks = live-marks (live-place N l b (holds-copies b (entriesIn (viewOf N l)) ∙ lt-ltb 0 (copies b (entriesIn (viewOf N l))) (omega arith)));
       steps = refl;
       same = refl;
@@ -180,16 +186,16 @@ module _ (N B : ℕ) (s : Image) (z : rightSize N B s ≡ true) (x : Exception) 
 
   one-mended : Mended N B s x
   one-mended = like-of N (mended N (segmentsOf N B s) x) (segmentsOf N B (recovered N B s))
-      (ap (λ y. segmentsOf N B y) one-recovered ∙ (mark-segments N B s z (o .place .number) (o .place .slot) (o .marks) ∙ sym (o .same)))
+      (ap (λ y. segmentsOf N B y) one-recovered ∙ (mark-segments N B s z (o .place .number) (o .place .slot) (o .kind) (o .marks) ∙ sym (o .same)))
 
   one-cut : (u : Image) → Sound N B s → CutOf N B s recover u → Kept N B s u
   one-cut u h c = ⊎-elim (λ q. kept-same N B s u h q) (λ q. kept-clean N B s x z e one-mended u (subst (λ (y : Image). Like N (mended N (segmentsOf N B s) x) (segmentsOf N B y)) (sym (q ∙ sym one-recovered)) one-mended))
-      (mark-whole N B s z (o .place .number) (o .place .slot) (o .marks) u (rw (recover-steps N B s x z e ∙ o .steps) at c))
+      (mark-whole N B s z (o .place .number) (o .place .slot) (o .kind) (o .marks) u (rw (recover-steps N B s x z e ∙ o .steps) at c))
 
   one-top : (u : Image) → CutOf N B s recover u → SameTop N B s u
   one-top u c = ⊎-elim (λ q. same-image N B s u q)
-      (λ q. same-slot N B s u (o .place .number % N) (o .place .slot) dead (ap (λ y. segmentsOf N B y) q ∙ mark-segments N B s z (o .place .number) (o .place .slot) (o .marks)))
-      (mark-whole N B s z (o .place .number) (o .place .slot) (o .marks) u (rw (recover-steps N B s x z e ∙ o .steps) at c))
+      (λ q. same-slot N B s u (o .place .number % N) (o .place .slot) (o .kind) (ap (λ y. segmentsOf N B y) q ∙ mark-segments N B s z (o .place .number) (o .place .slot) (o .kind) (o .marks)))
+      (mark-whole N B s z (o .place .number) (o .place .slot) (o .kind) (o .marks) u (rw (recover-steps N B s x z e ∙ o .steps) at c))
 
 module _ (N B : ℕ) (s : Image) (z : rightSize N B s ≡ true) where
   the-c : state N B s ≡ unfinished caseC → OneMark N B (segmentsOf N B s) caseC

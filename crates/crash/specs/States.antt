@@ -11,7 +11,7 @@ use lib.Dec.{ltb, eqb}
 use Rattle.model.specs.Lists.{count}
 use Rattle.model.specs.Chip.{Image, rightSize, run}
 use Rattle.model.specs.Header.{isFormer}
-use Rattle.model.specs.Slot.{dead, isTorn}
+use Rattle.model.specs.Slot.{dead, cut, isTorn}
 use Rattle.model.specs.State.{Segment, blank, isInvalid, isOwing, segmentsOf, nextNumber, nextIndex, topIndex, topVersion, usedCount, View, viewOf, entriesIn, isClean, nextBlanked, isA, settled, topSettled, isB, withSlot, lastSlot, lastKind, tornMarked, isC, lastBlock, copies, older, olderMarked, isD, Exception, caseA, caseB, caseC, caseD, State, clean, unfinished, damaged, stateOf, state, view}
 use Rattle.model.specs.Steps.{mendSteps, recoverSteps}
 use Rattle.model.specs.Table.{Table, Agree, tableOf}
@@ -192,7 +192,7 @@ mended-length : (N : ℕ) (l : List Segment) (x : Exception) → length (mended 
 unfolding mended nextBlanked topSettled tornMarked olderMarked
 mended-length N l caseA = length-set l (nextIndex N l) blank
 mended-length N l caseB = length-set (set l (nextIndex N l) blank) (topIndex N l) (settled (getD l (topIndex N l) blank)) ∙ length-set l (nextIndex N l) blank
-mended-length N l caseC = length-set l (topIndex N l) (withSlot (lastSlot N l) dead (getD l (topIndex N l) blank))
+mended-length N l caseC = length-set l (topIndex N l) (withSlot (lastSlot N l) cut (getD l (topIndex N l) blank))
 mended-length N l caseD = let i = older N l .number % N in length-set l i (withSlot (older N l .slot) dead (getD l i blank))
 
 pub mended-inside : (N B : ℕ) (s : Image) (x : Exception) → rightSize N B s ≡ true → topIndex N (mended N (segmentsOf N B s) x) < length (mended N (segmentsOf N B s) x)

@@ -10,7 +10,7 @@ use lib.Seq.{set-set, set-getD, set-at, getD-at, getD-set-same}
 use lib.Dec.{ltb}
 use Rattle.model.specs.Chip.{Image, rightSize, run, Cut}
 use Rattle.model.specs.Header.{Version, isFormer}
-use Rattle.model.specs.Slot.{Slot, empty, torn, dead, live, isEmpty, isTorn, isWrong, entryOf, numberOk}
+use Rattle.model.specs.Slot.{Slot, empty, torn, dead, cut, live, isEmpty, isTorn, isWrong, entryOf, numberOk}
 use Rattle.model.specs.State.{Segment, blank, inUse, segmentsOf, slotsIn, numberAfter, nextNumber, topIndex, topSlots, firstNumber, View, viewOf, view, entries, entriesIn, holds, distinct, isClean, withSlot, filled, lastSlot, lastKind, tornMarked, isC, placeOf, blockIn, lastBlock, copies, older, olderMarked, isD, caseC, caseD}
 use Rattle.model.specs.Steps.{topRow, topNumber, firstEmpty, onPage, slotAt, writeSlot, markPlace, markOld, mendSteps, writeAtTop}
 use Rattle.model.specs.Answers.{recover, workOf}
@@ -131,31 +131,31 @@ module _ (N B : ℕ) (s : Image) (v : View) (h : Held N B s v) (clean : CleanVie
 
   -- ---- torn: state (c), with the old table
 
-  abbrev deadView : View
-  deadView = record { first = v .first; slots = fill (gap .gap) dead; version = v .version }
+  abbrev cutView : View
+  cutView = record { first = v .first; slots = fill (gap .gap) cut; version = v .version }
 
-  -- a dead slot holds no more than an empty one
-  dead-entries : entriesIn deadView ≡ entriesIn v
+  -- a cut slot holds no more than an empty one
+  cut-entries : entriesIn cutView ≡ entriesIn v
   unfolding entriesIn entryOf
-  dead-entries = fill-entries (gap .gap) dead ∙ sym (ap (λ (y : List (List Slot)). entries (flatten y)) (gap .split) ∙ fill-entries (gap .gap) empty)
+  cut-entries = fill-entries (gap .gap) cut ∙ sym (ap (λ (y : List (List Slot)). entries (flatten y)) (gap .split) ∙ fill-entries (gap .gap) empty)
 
-  dead-clean : CleanView N B deadView
+  cut-clean : CleanView N B cutView
   unfolding isWrong isTorn isEmpty
-  dead-clean = shape-clean (filled-shape dead refl refl (clean-shape clean) gap)
-      (ap distinct dead-entries ∙ clean-distinct clean) (omega (arith, ap length dead-entries, clean-within clean))
+  cut-clean = shape-clean (filled-shape cut refl refl (clean-shape clean) gap)
+      (ap distinct cut-entries ∙ clean-distinct clean) (omega (arith, ap length cut-entries, clean-within clean))
 
-  torn-mended : mended N (changed torn) caseC ≡ changed dead
+  torn-mended : mended N (changed torn) caseC ≡ changed cut
   unfolding mended tornMarked isEmpty
-  torn-mended = rw (changed-index torn, changed-place torn refl) (changed-twice torn dead)
+  torn-mended = rw (changed-index torn, changed-place torn refl) (changed-twice torn cut)
 
   torn-case : isCase N B (changed torn) caseC ≡ true
   unfolding isCase isC isEmpty isTorn mended
   torn-case = and-both (isTorn (lastKind N (changed torn))) (isClean N B (tornMarked N (changed torn))) (ap isTorn (changed-last torn refl))
-      (ap (λ y. isClean N B y) torn-mended ∙ segments-clean N B (changed dead) (slot-ring N segments (h .ring) n j dead low high) (rw (changed-view dead) dead-clean))
+      (ap (λ y. isClean N B y) torn-mended ∙ segments-clean N B (changed cut) (slot-ring N segments (h .ring) n j cut low high) (rw (changed-view cut) cut-clean))
 
   torn-left : (u : Image) → rightSize N B u ≡ true → segmentsOf N B u ≡ changed torn → SoundWith N B u v
-  torn-left u z e = let r = case-shows N B u caseC z (rw e torn-case) (changed dead) (rw e torn-mended) tt in
-      (r .0, rw (ap entriesIn (changed-view dead) ∙ dead-entries) at (r .1), r .2 ∙ ap (λ (y : View). isFormer (y .version)) (changed-view dead))
+  torn-left u z e = let r = case-shows N B u caseC z (rw e torn-case) (changed cut) (rw e torn-mended) tt in
+      (r .0, rw (ap entriesIn (changed-view cut) ∙ cut-entries) at (r .1), r .2 ∙ ap (λ (y : View). isFormer (y .version)) (changed-view cut))
 
   -- ---- live: clean if the block was not stored, and state (d) if it was, with the new table
 
@@ -200,12 +200,12 @@ module _ (N B : ℕ) (s : Image) (v : View) (h : Held N B s v) (clean : CleanVie
       unfolding markOld
       new-held = rw stored (rw stored at (put-held N B s v h b c valid gap))
 
-      marks : Marks (getD (slotsIn (getD both (placeOf b v .number % N) blank)) (placeOf b v .slot) empty)
+      marks : Marks (getD (slotsIn (getD both (placeOf b v .number % N) blank)) (placeOf b v .slot) empty) dead
       marks = rw both-place at (live-marks (live-place N both b (ap (λ (y : View). holds b (entriesIn y)) both-view ∙ written-holds b c v gap stored)))
 
       older-mended : mended N both caseD ≡ segmentsOf N B onlyNew
       unfolding mended olderMarked
-      older-mended = rw older-place (sym (mark-segments N B wrote (wrote-held .size) (placeOf b v .number) (placeOf b v .slot) marks))
+      older-mended = rw older-place (sym (mark-segments N B wrote (wrote-held .size) (placeOf b v .number) (placeOf b v .slot) dead marks))
 
       twice : copies b (entriesIn (viewOf N both)) ≡ 2
       twice =
@@ -270,8 +270,8 @@ module _ (N B : ℕ) (s : Image) (v : View) (h : Held N B s v) (clean : CleanVie
         go false e d = same-image N B wrote u d
         go true e d = ⊎-elim (λ q. same-image N B wrote u q)
             (λ q. same-slot N B wrote u (placeOf b v .number % N) (placeOf b v .slot) dead
-            (ap (λ y. segmentsOf N B y) q ∙ mark-segments N B wrote (wrote-held .size) (placeOf b v .number) (placeOf b v .slot) (marks e)))
-            (mark-whole N B wrote (wrote-held .size) (placeOf b v .number) (placeOf b v .slot) (marks e) u d)
+            (ap (λ y. segmentsOf N B y) q ∙ mark-segments N B wrote (wrote-held .size) (placeOf b v .number) (placeOf b v .slot) dead (marks e)))
+            (mark-whole N B wrote (wrote-held .size) (placeOf b v .number) (placeOf b v .slot) dead (marks e) u d)
 
     pub put-into-cut : (u : Image) → Cut B (writeAtTop N B b c v ++ markOld N B b v) s u → LeftWith N B u (entriesIn v) (entriesIn (putInto b c v)) (isFormer (v .version))
     put-into-cut u k = ⊎-elim (λ d. write-cut u d) (λ d. let r = mark-cut u d in (r .0, inr (r .1), r .2 ∙ put-version b c v)) (cut-append B (writeAtTop N B b c v) (markOld N B b v) s u k)

@@ -6,7 +6,7 @@ use lib.Dec.{leb}
 use Rattle.model.specs.Slot.{Slot, kindOf}
 use Rattle.model.specs.State.{Segment, isInvalid, isOwing, usedCount, firstNumber, someInUse, consecutive, oneVersion, noneOwing, othersBlank}
 use Rattle.model.specs.declared.SlotKind.{SlotKind}
-use Rattle.model.specs.declared.SlotKind.the-variants.{Empty, Torn, Live, Dead, Wrong}
+use Rattle.model.specs.declared.SlotKind.the-variants.{Empty, Torn, Live, Dead, Cut, Wrong}
 use Rattle.judge.specs.Bitmap.{inBits, putBit}
 use Rattle.judge.specs.Heads.{countsOf, countOne}
 use Rattle.judge.specs.Tally.{noneMet}
@@ -54,6 +54,7 @@ testSlot Empty p = look (record { sound = p .tests .sound; distinct = p .tests .
 testSlot Torn p = look (wrote (p .tests) false (p .tests .distinct) (p .tests .live)) (p .seen)
 testSlot (Live n b) p = look (wrote (p .tests) (p .tests .sound) (p .tests .distinct && not (inBits 64 (p .seen) (b .0))) (p .tests .live + 1)) (putBit 64 (p .seen) (b .0))
 testSlot Dead p = look (wrote (p .tests) (p .tests .sound) (p .tests .distinct) (p .tests .live)) (p .seen)
+testSlot Cut p = look (wrote (p .tests) (p .tests .sound) (p .tests .distinct) (p .tests .live)) (p .seen)
 testSlot Wrong p = look (wrote (p .tests) false (p .tests .distinct) (p .tests .live)) (p .seen)
 
 unfoldable pub testSlots : List SlotKind → Look → Look

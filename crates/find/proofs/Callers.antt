@@ -9,7 +9,7 @@ use lib.ListN.{length}
 use lib.Dec.{eqb}
 use Rattle.model.specs.declared.SlotPlace.{SlotPlace}
 use Rattle.model.specs.Chip.{Image, Page}
-use Rattle.model.specs.Slot.{mostContents, Slot, empty, torn, dead, wrong, live, slotOf, entryOf}
+use Rattle.model.specs.Slot.{mostContents, Slot, empty, torn, dead, cut, wrong, live, slotOf, entryOf}
 use Rattle.model.specs.State.{View, entries, entriesIn, holds, placeOf}
 use Rattle.model.specs.Steps.{slotAt}
 use Rattle.model.specs.Table.{absent, present, lookup, contentsFound}
@@ -32,6 +32,7 @@ unfolding entryOf lookup contentsFound
 short b p empty e = omega arith
 short b p torn e = omega arith
 short b p dead e = omega arith
+short b p cut e = omega arith
 short b p wrong e = omega arith
 short b p (live n c) e = go (eqb b n)
   where

@@ -14,7 +14,7 @@ use Rattle.model.specs.declared.BlockNumber.{BlockNumber}
 use Rattle.model.specs.declared.SlotKind.{SlotKind}
 use Rattle.model.specs.declared.SlotKind.the-variants.{Live}
 use Rattle.model.specs.Chip.{Image, Page, pagesOf}
-use Rattle.model.specs.Slot.{written, slotPage, Slot, empty, torn, dead, wrong, live, slotOf, kindOf, entryOf}
+use Rattle.model.specs.Slot.{written, slotPage, Slot, empty, torn, dead, cut, wrong, live, slotOf, kindOf, entryOf}
 use Rattle.model.specs.State.{entries, holds, slotFrom, placeFrom}
 use Rattle.model.specs.Steps.{slotAt}
 use Rattle.model.specs.Table.{lookup, contentsFound}
@@ -43,6 +43,7 @@ unfolding kindOf entryOf holds lookup contentsFound
 live-holds b empty l n e = absurd (let z : _≡_ {A = ℕ} 0 1 = cc in omega arith)
 live-holds b torn l n e = absurd (let z : _≡_ {A = ℕ} 0 1 = cc in omega arith)
 live-holds b dead l n e = absurd (let z : _≡_ {A = ℕ} 0 1 = cc in omega arith)
+live-holds b cut l n e = absurd (let z : _≡_ {A = ℕ} 0 1 = cc in omega arith)
 live-holds b wrong l n e = absurd (let z : _≡_ {A = ℕ} 0 1 = cc in omega arith)
 live-holds b (live m c) l n e =
     let f : _≡_ {A = BlockNumber} (record { 0 = m }) n = cc in
@@ -69,6 +70,7 @@ passed-over p b d f = go (slotOf p) refl
     go empty e = refl
     go torn e = refl
     go dead e = refl
+    go cut e = refl
     go wrong e = refl
     go (live n c) e = or-false (eqb b n) ∙ ne-eqb b n (λ q. true≢false (sym (same c (e ∙ ap (λ (m : ℕ). live m c) (sym q))) ∙ sym d ∙ f))
 

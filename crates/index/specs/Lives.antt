@@ -8,7 +8,7 @@ use lib.ListN.{length, take, drop}
 use lib.Seq.{drop-drop}
 use Rattle.model.specs.Lists.{chunk}
 use Rattle.model.specs.Chip.{Image}
-use Rattle.model.specs.Slot.{Slot, empty, torn, dead, wrong, live, mostContents, slotOf, entryOf}
+use Rattle.model.specs.Slot.{Slot, empty, torn, dead, cut, wrong, live, mostContents, slotOf, entryOf}
 use Rattle.model.specs.Laws.SlotPage.{live-facts, number-below}
 use Rattle.judge.specs.Rows.{slotsAt}
 use Rattle.account_text.specs.Account.{LiveSlot, liveAt, liveFrom}
@@ -58,6 +58,7 @@ from-all i j [] = tt
 from-all i j (empty ∷ ks) = each-more (λ e. From i (suc j) e) (λ e. From i j e) (λ e h. (h .0, omega (arith, h .1))) (liveFrom i (suc j) ks) (from-all i (suc j) ks)
 from-all i j (torn ∷ ks) = each-more (λ e. From i (suc j) e) (λ e. From i j e) (λ e h. (h .0, omega (arith, h .1))) (liveFrom i (suc j) ks) (from-all i (suc j) ks)
 from-all i j (dead ∷ ks) = each-more (λ e. From i (suc j) e) (λ e. From i j e) (λ e h. (h .0, omega (arith, h .1))) (liveFrom i (suc j) ks) (from-all i (suc j) ks)
+from-all i j (cut ∷ ks) = each-more (λ e. From i (suc j) e) (λ e. From i j e) (λ e h. (h .0, omega (arith, h .1))) (liveFrom i (suc j) ks) (from-all i (suc j) ks)
 from-all i j (wrong ∷ ks) = each-more (λ e. From i (suc j) e) (λ e. From i j e) (λ e h. (h .0, omega (arith, h .1))) (liveFrom i (suc j) ks) (from-all i (suc j) ks)
 from-all i j (live b c ∷ ks) = ((refl, omega arith), each-more (λ e. From i (suc j) e) (λ e. From i j e) (λ e h. (h .0, omega (arith, h .1))) (liveFrom i (suc j) ks) (from-all i (suc j) ks))
 
@@ -67,6 +68,7 @@ apart-from B i j [] = tt
 apart-from B i j (empty ∷ ks) = apart-from B i (suc j) ks
 apart-from B i j (torn ∷ ks) = apart-from B i (suc j) ks
 apart-from B i j (dead ∷ ks) = apart-from B i (suc j) ks
+apart-from B i j (cut ∷ ks) = apart-from B i (suc j) ks
 apart-from B i j (wrong ∷ ks) = apart-from B i (suc j) ks
 apart-from B i j (live b c ∷ ks) =
     (free-each B (i * (B + 1) + j) (liveFrom i (suc j) ks) (each-more (λ e. From i (suc j) e) (λ e. pageOf B e ≢ i * (B + 1) + j) (λ e h z. omega (arith, ap (λ (k : ℕ). k * (B + 1)) (h .0), h .1, z)) (liveFrom i (suc j) ks) (from-all i (suc j) ks)), apart-from B i (suc j) ks)
@@ -77,6 +79,7 @@ from-few i j [] = omega arith
 from-few i j (empty ∷ ks) = let h = from-few i (suc j) ks in omega arith
 from-few i j (torn ∷ ks) = let h = from-few i (suc j) ks in omega arith
 from-few i j (dead ∷ ks) = let h = from-few i (suc j) ks in omega arith
+from-few i j (cut ∷ ks) = let h = from-few i (suc j) ks in omega arith
 from-few i j (wrong ∷ ks) = let h = from-few i (suc j) ks in omega arith
 from-few i j (live b c ∷ ks) = let h = from-few i (suc j) ks in omega arith
 
@@ -113,5 +116,6 @@ row-stands N B i s h (suc c) j l m =
     go empty q k = unfold liveFrom liveAt entryOf map in k
     go torn q k = unfold liveFrom liveAt entryOf map in k
     go dead q k = unfold liveFrom liveAt entryOf map in k
+    go cut q k = unfold liveFrom liveAt entryOf map in k
     go wrong q k = unfold liveFrom liveAt entryOf map in k
     go (live b d) q k = unfold liveFrom liveAt entryOf map in (live-stands N B i j s b d h l (omega arith) q, k)

@@ -3,7 +3,7 @@ use Prim.Native.Nat.{ℕ, suc}
 use mathlib.Core.List.{List, [], _∷_, _++_}
 use lib.ListN.{length}
 use Rattle.model.specs.Lists.{count}
-use Rattle.model.specs.Slot.{Slot, isEmpty, isDead}
+use Rattle.model.specs.Slot.{Slot, isEmpty, isReplaced, isCut}
 use Rattle.model.specs.State.{Segment, blank, invalid, inUse, entries}
 use Rattle.judge.specs.declared.SegmentState.{SegmentState}
 use Rattle.judge.specs.declared.SegmentState.the-variants.{Blank, Invalid, InUse, Owing}
@@ -16,10 +16,10 @@ use Rattle.index.specs.declared.Shown.{Shown}
 -- ---- counted
 
 unfoldable pub noCounts : Counts
-noCounts = record { live = 0; dead = 0; empty = 0 }
+noCounts = record { live = 0; dead = 0; cut = 0; empty = 0 }
 
 unfoldable pub countsOf : List Slot → Counts
-countsOf ks = record { live = length (entries ks); dead = count isDead ks; empty = count isEmpty ks }
+countsOf ks = record { live = length (entries ks); dead = count isReplaced ks; cut = count isCut ks; empty = count isEmpty ks }
 
 -- ---- shown
 
@@ -40,7 +40,7 @@ uncounted (inUse ver st n ks) = shownAs (stateSeen st) n noCounts
 -- ---- its line
 
 unfoldable pub countsLine : Counts → List ℕ
-countsLine c = labelled " live " (c .live) ++ (labelled " dead " (c .dead) ++ labelled " empty " (c .empty))
+countsLine c = labelled " live " (c .live) ++ (labelled " dead " (c .dead) ++ (labelled " cut " (c .cut) ++ labelled " empty " (c .empty)))
 
 unfoldable pub lineBy : SegmentState → ℕ → ℕ → Counts → List ℕ
 lineBy Blank i n c = labelled "seg " i ++ text " blank\n"

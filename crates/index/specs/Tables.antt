@@ -6,7 +6,7 @@ use mathlib.Core.List.{List, [], _∷_, _++_}
 use lib.ListN.{length, getD, set}
 use lib.Dec.{eqb}
 use Rattle.model.specs.declared.SlotKind.{SlotKind}
-use Rattle.model.specs.declared.SlotKind.the-variants.{Empty, Torn, Live, Dead, Wrong}
+use Rattle.model.specs.declared.SlotKind.the-variants.{Empty, Torn, Live, Dead, Cut, Wrong}
 use Rattle.model.specs.Chip.{Image}
 use Rattle.model.specs.State.{segmentsOf}
 use Rattle.account_text.specs.Account.{LiveSlot, shown, liveSlots}
@@ -34,6 +34,7 @@ linkKind p Empty t = t
 linkKind p Torn t = t
 linkKind p (Live n b) t = link p (b .0) n t
 linkKind p Dead t = t
+linkKind p Cut t = t
 linkKind p Wrong t = t
 
 -- contents that a byte tells the length of
@@ -42,6 +43,7 @@ Brief Empty = Unit {0}
 Brief Torn = Unit {0}
 Brief (Live n b) = n < 256
 Brief Dead = Unit {0}
+Brief Cut = Unit {0}
 Brief Wrong = Unit {0}
 
 -- the slots on the pages from p on, the last one first

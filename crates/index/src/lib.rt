@@ -7,6 +7,7 @@ use model::SegmentNumber;
 pub struct Counts {
     pub live: u8,
     pub dead: u8,
+    pub cut: u8,
     pub empty: u8,
 }
 

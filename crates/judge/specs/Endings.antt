@@ -1,7 +1,7 @@
 -- How slots looked at in order end, one slot more at a time.
 use mathlib.Core.Bool.{Bool, true, false, cond}
 use mathlib.Core.List.{List, [], _∷_, _++_}
-use Rattle.model.specs.Slot.{Slot, empty, torn, dead, wrong, live, Entry, entryOf}
+use Rattle.model.specs.Slot.{Slot, empty, torn, dead, cut, wrong, live, Entry, entryOf}
 use Rattle.model.specs.State.{entries, holds}
 use Rattle.judge.specs.declared.Ending.{Ending}
 use Rattle.judge.specs.declared.Ending.the-variants.{Full, Room, TornLast, TwinLast, Bad}
@@ -27,6 +27,7 @@ unfoldable pub turn : Ending → List Entry → Slot → Ending
 turn e p empty = leaveRoom e
 turn e p torn = behind e TornLast
 turn e p dead = behind e Full
+turn e p cut = behind e Full
 turn e p wrong = Bad
 turn e p (live b c) = behind e (cond (holds b p) TwinLast Full)
 

@@ -8,7 +8,7 @@ use lib.ListN.{length}
 use lib.Dec.{leb}
 use Rattle.model.specs.Lists.{all}
 use Rattle.model.specs.Header.{Version}
-use Rattle.model.specs.Slot.{Slot, empty, torn, dead, wrong, live, isEmpty, isTorn, isWrong, Entry, entryOf}
+use Rattle.model.specs.Slot.{Slot, empty, torn, dead, cut, wrong, live, isEmpty, isTorn, isWrong, Entry, entryOf}
 use Rattle.model.specs.State.{View, entries, entriesIn, holds, distinct, emptyLast, noneWrongOrTorn, blocksDistinct, emptySlotsLast, capacity, withinCapacity}
 use Rattle.bridge.specs.Views.Slots.{full, sound, entries-append, full-then, first-empty}
 use Rattle.bridge.specs.Views.Places.{Gap, fill, fill-all, fill-empty-last}
@@ -44,6 +44,7 @@ module _ (p : List Entry) where
   stop-room empty f i n e = (refl, sym e)
   stop-room torn f i n e = absurd (false≢true (unfold inOrder in (ap inOrder e ∙ i)))
   stop-room dead f i n e = absurd (true≢false (unfold isFull in (ap isFull e ∙ n)))
+  stop-room cut f i n e = absurd (true≢false (unfold isFull in (ap isFull e ∙ n)))
   stop-room wrong f i n e = absurd (false≢true (unfold inOrder in (ap inOrder e ∙ i)))
   stop-room (live b c) f i n e = go (holds b p) e
     where
@@ -56,6 +57,7 @@ module _ (p : List Entry) where
   stop-torn empty e = absurd (false≢true (unfold endsTorn in (ap endsTorn e)))
   stop-torn torn e = refl
   stop-torn dead e = absurd (false≢true (unfold endsTorn in (ap endsTorn e)))
+  stop-torn cut e = absurd (false≢true (unfold endsTorn in (ap endsTorn e)))
   stop-torn wrong e = absurd (false≢true (unfold endsTorn in (ap endsTorn e)))
   stop-torn (live b c) e = go (holds b p) e
     where
@@ -72,6 +74,7 @@ module _ (p : List Entry) where
   stop-twin empty e = absurd (false≢true (unfold endsTwin in (ap endsTwin e)))
   stop-twin torn e = absurd (false≢true (unfold endsTwin in (ap endsTwin e)))
   stop-twin dead e = absurd (false≢true (unfold endsTwin in (ap endsTwin e)))
+  stop-twin cut e = absurd (false≢true (unfold endsTwin in (ap endsTwin e)))
   stop-twin wrong e = absurd (false≢true (unfold endsTwin in (ap endsTwin e)))
   stop-twin (live b c) e = go (holds b p) refl e
     where
@@ -214,6 +217,7 @@ module _ (N B n : ℕ) (ver : Version) (l : List (List Slot)) (t : List Slot) wh
       is-torn empty q = absurd (false≢true (unfold isTorn in q))
       is-torn torn q = refl
       is-torn dead q = absurd (false≢true (unfold isTorn in q))
+      is-torn cut q = absurd (false≢true (unfold isTorn in q))
       is-torn wrong q = absurd (false≢true (unfold isTorn in q))
       is-torn (live b c) q = absurd (false≢true (unfold isTorn in q))
 

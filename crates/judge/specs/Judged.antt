@@ -6,7 +6,7 @@ use mathlib.Core.Bool.{Bool, true, false, cond, _||_, not, true≢false, false�
 use mathlib.Core.List.{List, [], _∷_, _++_, flatMap, flatten, append-assoc, append-nil}
 use native.Mathlib.Omega.{arith}
 use Rattle.model.specs.Lists.{all}
-use Rattle.model.specs.Slot.{Slot, empty, torn, dead, wrong, live, isEmpty, isTorn, isWrong, Entry, entryOf}
+use Rattle.model.specs.Slot.{Slot, empty, torn, dead, cut, wrong, live, isEmpty, isTorn, isWrong, Entry, entryOf}
 use Rattle.model.specs.State.{entries, holds, distinct, copies}
 use Rattle.model.specs.Table.{Table}
 use Rattle.bridge.specs.Views.Slots.{full, sound, entries-append, entries-cons}
@@ -88,6 +88,7 @@ judge-bad p [] = refl
 judge-bad p (empty ∷ s) = judge-bad (p ++ entryOf empty) s
 judge-bad p (torn ∷ s) = judge-bad (p ++ entryOf torn) s
 judge-bad p (dead ∷ s) = judge-bad (p ++ entryOf dead) s
+judge-bad p (cut ∷ s) = judge-bad (p ++ entryOf cut) s
 judge-bad p (wrong ∷ s) = judge-bad (p ++ entryOf wrong) s
 judge-bad p (live b c ∷ s) = judge-bad (p ++ entryOf (live b c)) s
 
@@ -114,6 +115,7 @@ judge-empty e h p [] q = refl
 judge-empty e h p (empty ∷ s) q = rw (room-kept e h) (judge-empty e h (p ++ entryOf empty) s q)
 judge-empty e h p (torn ∷ s) q = absurd (false≢true q)
 judge-empty e h p (dead ∷ s) q = absurd (false≢true q)
+judge-empty e h p (cut ∷ s) q = absurd (false≢true q)
 judge-empty e h p (wrong ∷ s) q = absurd (false≢true q)
 judge-empty e h p (live b c ∷ s) q = absurd (false≢true q)
 
@@ -128,6 +130,7 @@ stopped e f h k p [] q = (sym q, refl)
 stopped e f h k p (empty ∷ s) q = stopped e f h k (p ++ entryOf empty) s (rw (room-kept e h) at q)
 stopped e f h k p (torn ∷ s) q = absurd (broken e f h k TornLast (p ++ entryOf torn) s q)
 stopped e f h k p (dead ∷ s) q = absurd (broken e f h k Full (p ++ entryOf dead) s q)
+stopped e f h k p (cut ∷ s) q = absurd (broken e f h k Full (p ++ entryOf cut) s q)
 stopped e f h k p (wrong ∷ s) q = absurd (broken Bad f (unfold isFull in refl) k Full (p ++ entryOf wrong) s (unfold behind in q))
 stopped e f h k p (live b c ∷ s) q = absurd (broken e f h k (cond (holds b p) TwinLast Full) (p ++ entryOf (live b c)) s q)
 
@@ -139,6 +142,7 @@ plain-full p [] h = refl
 plain-full p (empty ∷ s) h = absurd (false≢true (h .full))
 plain-full p (torn ∷ s) h = absurd (false≢true (h .sound))
 plain-full p (dead ∷ s) h = plain-full (p ++ entryOf dead) s (plain-tail p dead s h)
+plain-full p (cut ∷ s) h = plain-full (p ++ entryOf cut) s (plain-tail p cut s h)
 plain-full p (wrong ∷ s) h = absurd (false≢true (h .sound))
 plain-full p (live b c ∷ s) h =
     let e : Entry = record { block = b; contents = c } in
@@ -205,6 +209,7 @@ judged f n p d (empty ∷ s) q = stop-here f Room p empty s d n refl (unfold isF
 judged f n p d (torn ∷ s) q = stop-here f TornLast p torn s d n refl (unfold isFull in refl) q
 judged f n p d (wrong ∷ s) q = absurd (broken Bad f (unfold isFull in refl) n Full (p ++ entryOf wrong) s q)
 judged f n p d (dead ∷ s) q = judged-cons f p dead s refl refl (judged f n (p ++ entryOf dead) (unfold entryOf in (ap distinct (append-nil p) ∙ d)) s q)
+judged f n p d (cut ∷ s) q = judged-cons f p cut s refl refl (judged f n (p ++ entryOf cut) (unfold entryOf in (ap distinct (append-nil p) ∙ d)) s q)
 judged f n p d (live b c ∷ s) q = go (holds b p) refl q (λ k r. judged f n (p ++ entryOf (live b c)) k s r)
   where
     go : (t : Bool) → holds b p ≡ t → judge (cond t TwinLast Full) (p ++ entryOf (live b c)) s ≡ f

@@ -8,7 +8,7 @@ use lib.ListN.{length, getD, length-append}
 use lib.Seq.{getD-at, set-at}
 use Rattle.model.specs.Lists.{all}
 use Rattle.model.specs.Header.{Version}
-use Rattle.model.specs.Slot.{Slot, empty, torn, dead, wrong, live, isEmpty, isTorn, isWrong, Entry, entryOf}
+use Rattle.model.specs.Slot.{Slot, empty, torn, dead, cut, wrong, live, isEmpty, isTorn, isWrong, Entry, entryOf}
 use Rattle.model.specs.State.{View, entries, entriesIn, distinct, emptyLast, onlyTopEmpty, noneWrongOrTorn, blocksDistinct, emptySlotsLast, filled, blockIn}
 use Rattle.model.specs.Steps.{topRow, topNumber}
 use Rattle.model.specs.Laws.Lists.{all-join, all-parts, all-flatten, flatten-last}
@@ -76,6 +76,7 @@ empty-sound [] h = refl
 empty-sound (empty ∷ s) h = empty-sound s h
 empty-sound (torn ∷ s) h = absurd (false≢true h)
 empty-sound (dead ∷ s) h = absurd (false≢true h)
+empty-sound (cut ∷ s) h = absurd (false≢true h)
 empty-sound (wrong ∷ s) h = absurd (false≢true h)
 empty-sound (live b c ∷ s) h = absurd (false≢true h)
 
@@ -162,6 +163,7 @@ none-written n ver l t e = rw (top-row l t, filled-none t e) (first t e)
     is-empty empty q = refl
     is-empty torn q = absurd (false≢true (unfold isEmpty in q))
     is-empty dead q = absurd (false≢true (unfold isEmpty in q))
+    is-empty cut q = absurd (false≢true (unfold isEmpty in q))
     is-empty wrong q = absurd (false≢true (unfold isEmpty in q))
     is-empty (live b c) q = absurd (false≢true (unfold isEmpty in q))
 

@@ -40,13 +40,13 @@ unfolding summariesOf summaryOf rowOf
 rows-kept n [] = refl
 rows-kept n (r ∷ rs) = ap {B = List Row} (λ y. r ∷ y) (rows-kept (suc n) rs)
 
--- one row more. The count of compactions ends at the first row with a dead slot
+-- one row more. The count of compactions ends at the first row with a dead slot, replaced or cut
 unfoldable pub addRow : Sum → Row → Sum
 addRow f r = record {
   live = f .live + r .live;
   written = r .written;
   compactions = cond (f .dead) (f .compactions) (f .compactions + 1);
-  dead = cond (f .dead) true (ltb 0 (r .dead));
+  dead = cond (f .dead) true (ltb 0 (r .dead + r .cut));
   ending = behind (f .ending) (r .ending);
   block = r .block;
 }

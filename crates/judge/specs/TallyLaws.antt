@@ -9,7 +9,7 @@ use lib.ListN.{length, length-set, length-replicate, length-append}
 use lib.Dec.{ltb}
 use borrow.Author.Tests.{eq-eqb, ne-eqb, lt-ltb, le-ltb}
 use Rattle.model.specs.Lists.{count}
-use Rattle.model.specs.Slot.{Slot, empty, torn, dead, wrong, live, isEmpty, isDead, kindOf, Entry, entryOf}
+use Rattle.model.specs.Slot.{Slot, empty, torn, dead, cut, wrong, live, isEmpty, isDead, kindOf, Entry, entryOf}
 use Rattle.model.specs.State.{entries, holds}
 use Rattle.model.specs.Steps.{compactions}
 use Rattle.bridge.specs.Views.Slots.{noneDead, entries-append}
@@ -31,6 +31,7 @@ Narrow [] = Unit {0}
 Narrow (empty ∷ s) = Narrow s
 Narrow (torn ∷ s) = Narrow s
 Narrow (dead ∷ s) = Narrow s
+Narrow (cut ∷ s) = Narrow s
 Narrow (wrong ∷ s) = Narrow s
 Narrow (live b c ∷ s) = ((0 < b) × (b < 65536)) × Narrow s
 
@@ -76,6 +77,7 @@ lastLive b [] = b
 lastLive b (empty ∷ s) = lastLive b s
 lastLive b (torn ∷ s) = lastLive b s
 lastLive b (dead ∷ s) = lastLive b s
+lastLive b (cut ∷ s) = lastLive b s
 lastLive b (wrong ∷ s) = lastLive b s
 lastLive b (live a c ∷ s) = lastLive a s
 
@@ -88,15 +90,18 @@ live-after [] r s = omega arith
 live-after (empty ∷ x) r s = live-after x _ s
 live-after (torn ∷ x) r s = live-after x _ s
 live-after (dead ∷ x) r s = live-after x _ s
+live-after (cut ∷ x) r s = live-after x _ s
 live-after (wrong ∷ x) r s = live-after x _ s
 live-after (live b c ∷ x) r s = live-after x _ (putBit 64 s b) ∙ omega arith
 
-dead-after : (x : List Slot) (r : Row) (s : List ℕ) → seeAll (map kindOf x) (pass r s) .row .dead ≡ r .dead + count isDead x
+-- both counts together are of the dead slots, replaced or cut
+dead-after : (x : List Slot) (r : Row) (s : List ℕ) → let t = seeAll (map kindOf x) (pass r s) .row in t .dead + t .cut ≡ (r .dead + r .cut) + count isDead x
 unfolding seeAll see kindOf count isDead
 dead-after [] r s = omega arith
 dead-after (empty ∷ x) r s = dead-after x _ s
 dead-after (torn ∷ x) r s = dead-after x _ s
 dead-after (dead ∷ x) r s = dead-after x _ s ∙ omega arith
+dead-after (cut ∷ x) r s = dead-after x _ s ∙ omega arith
 dead-after (wrong ∷ x) r s = dead-after x _ s
 dead-after (live b c ∷ x) r s = dead-after x _ (putBit 64 s b)
 
@@ -106,6 +111,7 @@ written-after [] r s = omega arith
 written-after (empty ∷ x) r s = written-after x _ s
 written-after (torn ∷ x) r s = written-after x _ s ∙ omega arith
 written-after (dead ∷ x) r s = written-after x _ s ∙ omega arith
+written-after (cut ∷ x) r s = written-after x _ s ∙ omega arith
 written-after (wrong ∷ x) r s = written-after x _ s ∙ omega arith
 written-after (live b c ∷ x) r s = written-after x _ (putBit 64 s b) ∙ omega arith
 
@@ -115,6 +121,7 @@ block-after [] r s = refl
 block-after (empty ∷ x) r s = block-after x _ s
 block-after (torn ∷ x) r s = block-after x _ s
 block-after (dead ∷ x) r s = block-after x _ s
+block-after (cut ∷ x) r s = block-after x _ s
 block-after (wrong ∷ x) r s = block-after x _ s
 block-after (live b c ∷ x) r s = block-after x _ (putBit 64 s b)
 
@@ -124,6 +131,7 @@ seen-after [] r s p n a = agree-same a
 seen-after (empty ∷ x) r s p n a = seen-after x _ s p n a
 seen-after (torn ∷ x) r s p n a = seen-after x _ s p n a
 seen-after (dead ∷ x) r s p n a = seen-after x _ s p n a
+seen-after (cut ∷ x) r s p n a = seen-after x _ s p n a
 seen-after (wrong ∷ x) r s p n a = seen-after x _ s p n a
 seen-after (live b c ∷ x) r s p n a = let e : Entry = record { block = b; contents = c } in
     rw (← (append-assoc p (e ∷ []) (flatMap entryOf x))) (seen-after x _ (putBit 64 s b) (p ++ (e ∷ [])) (n .1) (agree-put s p e (n .0 .1) a))
@@ -134,6 +142,7 @@ ending-after [] r s p n a = refl
 ending-after (empty ∷ x) r s p n a = ending-after x _ s (p ++ []) n (agree-same a)
 ending-after (torn ∷ x) r s p n a = ending-after x _ s (p ++ []) n (agree-same a)
 ending-after (dead ∷ x) r s p n a = ending-after x _ s (p ++ []) n (agree-same a)
+ending-after (cut ∷ x) r s p n a = ending-after x _ s (p ++ []) n (agree-same a)
 ending-after (wrong ∷ x) r s p n a = ending-after x _ s (p ++ []) n (agree-same a)
 ending-after (live b c ∷ x) r s p n a = let e : Entry = record { block = b; contents = c } in
     ending-after x _ (putBit 64 s b) (p ++ (e ∷ [])) (n .1) (agree-put s p e (n .0 .1) a)
@@ -158,11 +167,11 @@ unfolding addRows addRow tallies
 sum-counted [] s f h = refl
 sum-counted (x ∷ rows) s f h = sum-counted rows (seeAll (map kindOf x) (pass noRow s) .seen) _ (rw h) ∙ rw h
 
-row-dead : (x : List Slot) (s : List ℕ) → seeAll (map kindOf x) (pass noRow s) .row .dead ≡ count isDead x
+row-dead : (x : List Slot) (s : List ℕ) → let t = seeAll (map kindOf x) (pass noRow s) .row in t .dead + t .cut ≡ count isDead x
 unfolding noRow
 row-dead x s = dead-after x noRow s ∙ omega arith
 
-add-marks : (f : Sum) (r : Row) → f .dead ≡ false → addRow f r .dead ≡ ltb 0 (r .dead)
+add-marks : (f : Sum) (r : Row) → f .dead ≡ false → addRow f r .dead ≡ ltb 0 (r .dead + r .cut)
 unfolding addRow
 add-marks f r h = rw h
 

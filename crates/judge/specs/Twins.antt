@@ -11,7 +11,7 @@ use lib.Dec.{ltb, leb, eqb}
 use borrow.Author.Tests.{ltb-true, leb-true, eqb-true, lt-ltb, le-leb, eq-eqb, eqb-false}
 use Rattle.model.specs.Lists.{all}
 use Rattle.model.specs.Header.{Version}
-use Rattle.model.specs.Slot.{Slot, empty, torn, dead, wrong, live, isEmpty, isTorn, isWrong, Entry, entryOf}
+use Rattle.model.specs.Slot.{Slot, empty, torn, dead, cut, wrong, live, isEmpty, isTorn, isWrong, Entry, entryOf}
 use Rattle.model.specs.State.{View, entries, entriesIn, holds, distinct, noneWrongOrTorn, blocksDistinct, emptySlotsLast, capacity, placeOf, blockIn, copies}
 use Rattle.model.specs.Table.{Table}
 use Rattle.model.specs.Laws.View.{slotChanged}
@@ -190,6 +190,7 @@ module _ (N B n : ℕ) (ver : Version) (l : List (List Slot)) (t : List Slot) (p
       is-live empty q = absurd (unfold entryOf blockIn in omega arith)
       is-live torn q = absurd (unfold entryOf blockIn in omega arith)
       is-live dead q = absurd (unfold entryOf blockIn in omega arith)
+      is-live cut q = absurd (unfold entryOf blockIn in omega arith)
       is-live wrong q = absurd (unfold entryOf blockIn in omega arith)
       is-live (live b c) q = (record { block = b; contents = c }, refl)
 

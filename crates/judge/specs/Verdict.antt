@@ -10,7 +10,7 @@ use lib.Dec.{leb, eqb}
 use borrow.Author.Tests.{eqb-true, eq-eqb}
 use Rattle.model.specs.Lists.{all, count}
 use Rattle.model.specs.Header.{Version}
-use Rattle.model.specs.Slot.{Slot, empty, torn, dead, wrong, live, isEmpty, Entry, entryOf}
+use Rattle.model.specs.Slot.{Slot, empty, torn, dead, cut, wrong, live, isEmpty, Entry, entryOf}
 use Rattle.model.specs.State.{View, entries, entriesIn, holds, emptyLast, capacity, filled, caseC, caseD, State, clean, unfinished, damaged}
 use Rattle.model.specs.Steps.{topRow, firstEmpty, compactions}
 use Rattle.bridge.specs.Views.Slots.{full, entries-append, filled-at, find-top, top-row}
@@ -50,6 +50,7 @@ proper b [] n h = absurd (false≢true h)
 proper b (empty ∷ s) n h = proper b s n h
 proper b (torn ∷ s) n h = proper b s n h
 proper b (dead ∷ s) n h = proper b s n h
+proper b (cut ∷ s) n h = proper b s n h
 proper b (wrong ∷ s) n h = proper b s n h
 proper b (live a c ∷ s) n h = go (eqb b a) refl h (λ q. proper b s (n .1) q)
   where
@@ -74,6 +75,7 @@ none-written [] h = refl
 none-written (empty ∷ s) h = none-written s h
 none-written (torn ∷ s) h = absurd (false≢true h)
 none-written (dead ∷ s) h = absurd (false≢true h)
+none-written (cut ∷ s) h = absurd (false≢true h)
 none-written (wrong ∷ s) h = absurd (false≢true h)
 none-written (live b c ∷ s) h = absurd (false≢true h)
 
@@ -83,6 +85,7 @@ all-written [] h = refl
 all-written (empty ∷ s) h = absurd (false≢true h)
 all-written (torn ∷ s) h = ap suc (all-written s h)
 all-written (dead ∷ s) h = ap suc (all-written s h)
+all-written (cut ∷ s) h = ap suc (all-written s h)
 all-written (wrong ∷ s) h = ap suc (all-written s h)
 all-written (live b c ∷ s) h = ap suc (all-written s h)
 
@@ -92,6 +95,7 @@ first-free [] h = refl
 first-free (empty ∷ s) h = none-written s h
 first-free (torn ∷ s) h = ap suc (first-free s h)
 first-free (dead ∷ s) h = ap suc (first-free s h)
+first-free (cut ∷ s) h = ap suc (first-free s h)
 first-free (wrong ∷ s) h = ap suc (first-free s h)
 first-free (live b c ∷ s) h = ap suc (first-free s h)
 
@@ -110,11 +114,13 @@ last-live d [] b c y e = none b y e
     none a (empty ∷ s) q = none a s (unfold all isEmpty in q)
     none a (torn ∷ s) q = absurd (false≢true (unfold all isEmpty in q))
     none a (dead ∷ s) q = absurd (false≢true (unfold all isEmpty in q))
+    none a (cut ∷ s) q = absurd (false≢true (unfold all isEmpty in q))
     none a (wrong ∷ s) q = absurd (false≢true (unfold all isEmpty in q))
     none a (live g h ∷ s) q = absurd (false≢true (unfold all isEmpty in q))
 last-live d (empty ∷ x) b c y e = last-live d x b c y e
 last-live d (torn ∷ x) b c y e = last-live d x b c y e
 last-live d (dead ∷ x) b c y e = last-live d x b c y e
+last-live d (cut ∷ x) b c y e = last-live d x b c y e
 last-live d (wrong ∷ x) b c y e = last-live d x b c y e
 last-live d (live g h ∷ x) b c y e = last-live g x b c y e
 

@@ -26,13 +26,14 @@ pub enum Ending {
 pub struct Row {
     pub live: u8,
     pub dead: u8,
+    pub cut: u8,
     pub written: u8,
     pub ending: Ending,
     pub block: BlockNumber,
 }
 
 // One segment (document 01: summary). There is one for each of 255 segments, and a table of them is copied where it is
-// handed over: in this order, without a gap inside, a summary takes twelve bytes.
+// handed over: in this order, without a gap inside, a summary takes sixteen bytes.
 pub struct Summary {
     pub number: SegmentNumber,
     pub row: Row,
@@ -69,7 +70,7 @@ pub struct Headers {
 }
 
 // Rows added up: live slots; of the last row, how many are written, how it ends behind the others and its last live
-// block; and how many rows there are up to the first with a dead slot.
+// block; and how many rows there are up to the first with a dead or cut slot.
 pub struct Sum {
     pub live: usize,
     pub written: usize,

@@ -30,6 +30,7 @@ fn no_counts() -> Counts
     Counts {
         live: 0,
         dead: 0,
+        cut: 0,
         empty: 0,
     }
 }

@@ -50,6 +50,7 @@ fn list_slot(
         SlotKind::Empty => Counts {
             live: counts.live,
             dead: counts.dead,
+            cut: counts.cut,
             empty: counts.empty + 1,
         },
         SlotKind::Torn => counts,
@@ -58,12 +59,20 @@ fn list_slot(
             Counts {
                 live: counts.live + 1,
                 dead: counts.dead,
+                cut: counts.cut,
                 empty: counts.empty,
             }
         }
         SlotKind::Dead => Counts {
             live: counts.live,
             dead: counts.dead + 1,
+            cut: counts.cut,
+            empty: counts.empty,
+        },
+        SlotKind::Cut => Counts {
+            live: counts.live,
+            dead: counts.dead,
+            cut: counts.cut + 1,
             empty: counts.empty,
         },
         SlotKind::Wrong => counts,
@@ -85,6 +94,7 @@ pub fn list_row(
     let mut counts = Counts {
         live: 0,
         dead: 0,
+        cut: 0,
         empty: 0,
     };
     let mut left = slots;

@@ -29,6 +29,7 @@ fn mark_of(kind: SlotKind) -> u8
             block: _,
         } => b'#',
         SlotKind::Dead => b'x',
+        SlotKind::Cut => b'/',
         SlotKind::Wrong => b'!',
     }
 }

@@ -7,7 +7,7 @@ use lib.Dec.{ltb, leb, eqb}
 use Rattle.model.specs.Lists.{all, count}
 use Rattle.model.specs.Chip.{Image, Page, pagesOf, bySegment}
 use Rattle.model.specs.Header.{erasePending, compacted, Version, version1, versionNumber, headerVersion, headerStatus, headerNumber, headerInUse, allBlank}
-use Rattle.model.specs.Slot.{Slot, empty, dead, slotOf, isEmpty, isTorn, isWrong, Entry, entryOf}
+use Rattle.model.specs.Slot.{Slot, empty, dead, cut, slotOf, isEmpty, isTorn, isWrong, Entry, entryOf}
 
 -- ---- segments
 
@@ -229,9 +229,9 @@ lastSlot N l = filled (topSlots N l) - 1
 unfoldable pub lastKind : ℕ → List Segment → Slot
 lastKind N l = getD (topSlots N l) (lastSlot N l) empty
 
--- (c) the last non-empty slot of the top is torn. Clean with it dead
+-- (c) the last non-empty slot of the top is torn. Clean with it cut, which is dead
 unfoldable pub tornMarked : ℕ → List Segment → List Segment
-tornMarked N l = set l (topIndex N l) (withSlot (lastSlot N l) dead (getD l (topIndex N l) blank))
+tornMarked N l = set l (topIndex N l) (withSlot (lastSlot N l) cut (getD l (topIndex N l) blank))
 
 unfoldable pub isC : ℕ → ℕ → List Segment → Bool
 isC N B l = isTorn (lastKind N l) && isClean N B (tornMarked N l)

@@ -39,7 +39,7 @@ unfoldable pub writeSlot : ℕ → List ℕ → List Step
 writeSlot b c = let p = slotPage b c in
     program 0 writeBegun ∷ (programPart p 1 3 ++ (programPart p 8 (length c) ++ (program 0 written ∷ [])))
 
--- bit 5 of a slot's status cleared: live or torn becomes dead
+-- bit 5 of a slot's status cleared: live becomes dead, and torn cut
 unfoldable pub markDead : List Step
 markDead = program 0 0xDF ∷ []
 

@@ -17,12 +17,14 @@ pub struct SegmentNumber(pub u32);
 // The offset of a slot's page in the image (document 01: slot place).
 pub struct SlotPlace(pub usize);
 
-// What a slot page is, with the length and the block number of a live one.
+// What a slot page is, with the length and the block number of a live one. A dead slot was replaced or deleted (status 1F);
+// the writing of a cut one was cut by a loss of power, and recovery has marked it (5F).
 pub enum SlotKind {
     Empty,
     Torn,
     Live { length: usize, block: BlockNumber },
     Dead,
+    Cut,
     Wrong,
 }
 

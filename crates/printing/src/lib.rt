@@ -27,19 +27,20 @@ fn add_ended(text: &mut [u8], at: usize, label: &[u8], n: u32) -> usize
 
 // Of a segment in use, what stands behind its index: the label of its state with the number, and the counts.
 fn used_line(text: &mut [u8], at: usize, label: &[u8], shown: Shown) -> usize
-    requires { ⌜ (at + 75 ≤ mostText) × (length (now label) ≤ 12) ⌝ }
-    ensures { λ r. ⌜ Wrote ((now (label .entry) ++ decimal (shown .number .0)) ++ (countsLine (shown .counts) ++ ascii "\n")) (now (text .entry)) at (now (text .exit)) r × (r ≤ at + 75) ⌝ }
+    requires { ⌜ (at + 90 ≤ mostText) × (length (now label) ≤ 12) ⌝ }
+    ensures { λ r. ⌜ Wrote ((now (label .entry) ++ decimal (shown .number .0)) ++ (countsLine (shown .counts) ++ ascii "\n")) (now (text .entry)) at (now (text .exit)) r × (r ≤ at + 90) ⌝ }
 {
     let numbers = text::add_labelled(text, at, label, shown.number.0);
     let lives = text::add_labelled(text, numbers, b" live ", shown.counts.live as u32);
     let deads = text::add_labelled(text, lives, b" dead ", shown.counts.dead as u32);
-    add_ended(text, deads, b" empty ", shown.counts.empty as u32)
+    let cuts = text::add_labelled(text, deads, b" cut ", shown.counts.cut as u32);
+    add_ended(text, cuts, b" empty ", shown.counts.empty as u32)
 }
 
 // One line.
 fn segment_line(text: &mut [u8], at: usize, index: u32, shown: Shown) -> usize
-    requires { ⌜ at + 100 ≤ mostText ⌝ }
-    ensures { λ r. ⌜ Wrote (shownLine index shown) (now (text .entry)) at (now (text .exit)) r × (r ≤ at + 100) ⌝ }
+    requires { ⌜ at + 110 ≤ mostText ⌝ }
+    ensures { λ r. ⌜ Wrote (shownLine index shown) (now (text .entry)) at (now (text .exit)) r × (r ≤ at + 110) ⌝ }
 {
     let state = shown.state;
     let behind = text::add_labelled(text, at, b"seg ", index);
@@ -58,8 +59,8 @@ pub fn segment_lines(
     table: [Shown; MOST_SEGMENTS],
     segments: usize,
 ) -> usize
-    requires { ⌜ (segments ≤ mostSegments) × (at + 100 * 256 ≤ mostText) ⌝ }
-    ensures { λ r. ⌜ Wrote (shownLines 0 (take segments table)) (now (text .entry)) at (now (text .exit)) r × (r ≤ at + 100 * segments) ⌝ }
+    requires { ⌜ (segments ≤ mostSegments) × (at + 110 * 256 ≤ mostText) ⌝ }
+    ensures { λ r. ⌜ Wrote (shownLines 0 (take segments table)) (now (text .entry)) at (now (text .exit)) r × (r ≤ at + 110 * segments) ⌝ }
 {
     let mut end = at;
     let mut i: usize = 0;

@@ -15,7 +15,7 @@ use Rattle.model.specs.Slot.{slotOf, kindOf}
 use Rattle.model.specs.State.{Segment, blank, invalid, inUse, nextNumber, topVersion, stateOf, segmentsOf}
 use Rattle.model.specs.declared.SegmentNumber.{SegmentNumber}
 use Rattle.model.specs.declared.SlotKind.{SlotKind}
-use Rattle.model.specs.declared.SlotKind.the-variants.{Empty, Torn, Live, Dead, Wrong}
+use Rattle.model.specs.declared.SlotKind.the-variants.{Empty, Torn, Live, Dead, Cut, Wrong}
 use Rattle.header.specs.declared.HeaderSeen.{HeaderSeen}
 use Rattle.header.specs.declared.HeaderSeen.the-variants.{InUse, NotInUse}
 use Rattle.header.specs.Parts.{headerSeen}
@@ -46,6 +46,7 @@ counted-total c Empty = omega arith
 counted-total c Torn = omega arith
 counted-total c (Live n b) = omega arith
 counted-total c Dead = omega arith
+counted-total c Cut = omega arith
 counted-total c Wrong = omega arith
 
 pub slots-next : (m : List ℕ) (at i slots : ℕ) (c : Census) → i < slots

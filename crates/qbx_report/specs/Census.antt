@@ -7,7 +7,7 @@ use Rattle.model.specs.Header.{Version, isFormer, tallyOf, noBitLeft}
 use Rattle.model.specs.Slot.{kindOf}
 use Rattle.model.specs.State.{Segment, blank, invalid, inUse, nextNumber, topVersion, State, clean, unfinished, damaged, caseA, caseB, caseC, caseD, stateOf}
 use Rattle.model.specs.declared.SlotKind.{SlotKind}
-use Rattle.model.specs.declared.SlotKind.the-variants.{Empty, Torn, Live, Dead, Wrong}
+use Rattle.model.specs.declared.SlotKind.the-variants.{Empty, Torn, Live, Dead, Cut, Wrong}
 use Rattle.qbx_says.specs.declared.Condition.{Condition}
 use Rattle.qbx_says.specs.declared.Condition.the-variants.{Clean, UnfinishedA, UnfinishedB, UnfinishedC, UnfinishedD, Damaged}
 use Rattle.qbx_says.specs.declared.TopSeen.{TopSeen}
@@ -24,14 +24,15 @@ conditionOf (unfinished caseD) = UnfinishedD
 conditionOf damaged = Damaged
 
 abbrev pub total : Census → ℕ
-total c = c .segments + c .live + c .dead + c .empty
+total c = c .segments + c .live + c .dead + c .cut + c .empty
 
 -- one slot more; torn and wrong ones are of none of the kinds that are told
 unfoldable pub counted : Census → SlotKind → Census
-counted c Empty = record { segments = c .segments; live = c .live; dead = c .dead; empty = c .empty + 1 }
+counted c Empty = record { segments = c .segments; live = c .live; dead = c .dead; cut = c .cut; empty = c .empty + 1 }
 counted c Torn = c
-counted c (Live n b) = record { segments = c .segments; live = c .live + 1; dead = c .dead; empty = c .empty }
-counted c Dead = record { segments = c .segments; live = c .live; dead = c .dead + 1; empty = c .empty }
+counted c (Live n b) = record { segments = c .segments; live = c .live + 1; dead = c .dead; cut = c .cut; empty = c .empty }
+counted c Dead = record { segments = c .segments; live = c .live; dead = c .dead + 1; cut = c .cut; empty = c .empty }
+counted c Cut = record { segments = c .segments; live = c .live; dead = c .dead; cut = c .cut + 1; empty = c .empty }
 counted c Wrong = c
 
 unfoldable pub countKinds : Census → List SlotKind → Census
@@ -39,7 +40,7 @@ countKinds c [] = c
 countKinds c (k ∷ r) = countKinds (counted c k) r
 
 abbrev pub oneMore : Census → Census
-oneMore c = record { segments = c .segments + 1; live = c .live; dead = c .dead; empty = c .empty }
+oneMore c = record { segments = c .segments + 1; live = c .live; dead = c .dead; cut = c .cut; empty = c .empty }
 
 -- one segment more; only those in use count, and their slots
 unfoldable pub countSegment : Census → Segment → Census
@@ -52,7 +53,7 @@ countSegments c [] = c
 countSegments c (x ∷ r) = countSegments (countSegment c x) r
 
 unfoldable pub censusOf : List Segment → Census
-censusOf l = countSegments (record { segments = 0; live = 0; dead = 0; empty = 0 }) l
+censusOf l = countSegments (record { segments = 0; live = 0; dead = 0; cut = 0; empty = 0 }) l
 
 -- a version, and of version 2 the tally and whether no bit is left
 unfoldable pub versionTold : Version → TopSeen
@@ -64,4 +65,4 @@ topTold N l = cond (eqb (nextNumber l) 0) Missing (versionTold (topVersion N l))
 
 unfoldable pub reportOf : ℕ → ℕ → List Segment → Report
 reportOf N B l = let c = censusOf l in
-    record { condition = conditionOf (stateOf N B l); segments = c .segments; live = c .live; dead = c .dead; empty = c .empty; top = topTold N l }
+    record { condition = conditionOf (stateOf N B l); segments = c .segments; live = c .live; dead = c .dead; cut = c .cut; empty = c .empty; top = topTold N l }

@@ -21,6 +21,7 @@ struct Census {
     segments: u64,
     live: u64,
     dead: u64,
+    cut: u64,
     empty: u64,
 }
 
@@ -54,12 +55,14 @@ fn count(census: Census, kind: SlotKind) -> Census
     let segments = census.segments;
     let live = census.live;
     let dead = census.dead;
+    let cut = census.cut;
     let empty = census.empty;
     match kind {
         SlotKind::Empty => Census {
             segments,
             live,
             dead,
+            cut,
             empty: empty + 1,
         },
         SlotKind::Torn => census,
@@ -70,12 +73,21 @@ fn count(census: Census, kind: SlotKind) -> Census
             segments,
             live: live + 1,
             dead,
+            cut,
             empty,
         },
         SlotKind::Dead => Census {
             segments,
             live,
             dead: dead + 1,
+            cut,
+            empty,
+        },
+        SlotKind::Cut => Census {
+            segments,
+            live,
+            dead,
+            cut: cut + 1,
             empty,
         },
         SlotKind::Wrong => census,
@@ -124,6 +136,7 @@ fn count_segment(
         segments: census.segments + 1,
         live: census.live,
         dead: census.dead,
+        cut: census.cut,
         empty: census.empty,
     };
     count_slots(image, first, slots, more)
@@ -138,6 +151,7 @@ fn take_census(image: &[u8], segments: usize, slots: usize) -> Census
         segments: 0,
         live: 0,
         dead: 0,
+        cut: 0,
         empty: 0,
     };
     let mut i: usize = 0;
@@ -181,6 +195,7 @@ pub fn report_on(image: &[u8], segments: usize, slots: usize) -> Report
         segments: census.segments,
         live: census.live,
         dead: census.dead,
+        cut: census.cut,
         empty: census.empty,
         top,
     }

@@ -7,7 +7,7 @@ use Rattle.qbx_says.specs.declared.Line.{Line}
 
 -- the most bytes of a line
 abbrev pub mostLine : ℕ
-mostLine = 200
+mostLine = 240
 
 -- what a line says so far
 abbrev pub said : Line → List ℕ

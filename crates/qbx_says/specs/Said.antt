@@ -84,8 +84,8 @@ conditionText UnfinishedC = text "unfinished (c)"
 conditionText UnfinishedD = text "unfinished (d)"
 conditionText Damaged = text "damaged"
 
-unfoldable pub slotsText : ℕ → ℕ → ℕ → List ℕ
-slotsText live dead empty = (text ", slots live " ++ decimal live) ++ (text ", dead " ++ decimal dead) ++ (text ", empty " ++ decimal empty)
+unfoldable pub slotsText : ℕ → ℕ → ℕ → ℕ → List ℕ
+slotsText live dead cut empty = (text ", slots live " ++ decimal live) ++ (text ", dead " ++ decimal dead) ++ (text ", cut " ++ decimal cut) ++ (text ", empty " ++ decimal empty)
 
 -- version 2 with its tally, as ", version 2, tally 3"
 unfoldable pub tallyText : ℕ → Bool → List ℕ
@@ -96,7 +96,7 @@ topText Missing = []
 topText Version1 = text ", version 1"
 topText (Version2 tally «no_bit_left») = tallyText tally «no_bit_left»
 
--- as "clean: segments in use 2, slots live 5, dead 3, empty 22, version 2, tally 0"
+-- as "clean: segments in use 2, slots live 5, dead 3, cut 0, empty 22, version 2, tally 0"
 unfoldable pub reportText : Report → List ℕ
 reportText r =
-    conditionText (r .condition) ++ (text ": segments in use " ++ decimal (r .segments)) ++ slotsText (r .live) (r .dead) (r .empty) ++ topText (r .top) ++ text "\n"
+    conditionText (r .condition) ++ (text ": segments in use " ++ decimal (r .segments)) ++ slotsText (r .live) (r .dead) (r .cut) (r .empty) ++ topText (r .top) ++ text "\n"

@@ -9,7 +9,7 @@ pub use say::say_size;
 pub use say::say_stack;
 
 // The most bytes of a line; `mostLine` in specs/.
-pub const MOST_LINE: usize = 200;
+pub const MOST_LINE: usize = 240;
 
 // A line that is being put together.
 pub struct Line {
@@ -41,6 +41,7 @@ pub struct Report {
     pub segments: u64,
     pub live: u64,
     pub dead: u64,
+    pub cut: u64,
     pub empty: u64,
     pub top: TopSeen,
 }

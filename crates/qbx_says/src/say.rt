@@ -168,18 +168,19 @@ fn say_condition(condition: Condition) -> Line
     }
 }
 
-fn add_slots(line: Line, live: u64, dead: u64, empty: u64) -> Line
+fn add_slots(line: Line, live: u64, dead: u64, cut: u64, empty: u64) -> Line
     requires { ⌜ line .count ≤ 60 ⌝ }
-    ensures { λ r. ⌜ Added line (slotsText live dead empty) r × (r .count ≤ line .count + 90) ⌝ }
+    ensures { λ r. ⌜ Added line (slotsText live dead cut empty) r × (r .count ≤ line .count + 116) ⌝ }
 {
     let lives = add_count(line, b", slots live ", live);
     let deads = add_count(lives, b", dead ", dead);
-    add_count(deads, b", empty ", empty)
+    let cuts = add_count(deads, b", cut ", cut);
+    add_count(cuts, b", empty ", empty)
 }
 
 // The tally of a header of version 2.
 fn add_tally(line: Line, tally: u64, no_bit_left: bool) -> Line
-    requires { ⌜ line .count ≤ 145 ⌝ }
+    requires { ⌜ line .count ≤ 180 ⌝ }
     ensures { λ r. ⌜ Added line (tallyText tally «no_bit_left») r × (r .count ≤ line .count + 52) ⌝ }
 {
     let counted = add_count(line, b", version 2, tally ", tally);
@@ -190,7 +191,7 @@ fn add_tally(line: Line, tally: u64, no_bit_left: bool) -> Line
 }
 
 fn add_top(line: Line, top: TopSeen) -> Line
-    requires { ⌜ line .count ≤ 145 ⌝ }
+    requires { ⌜ line .count ≤ 180 ⌝ }
     ensures { λ r. ⌜ Added line (topText top) r × (r .count ≤ line .count + 52) ⌝ }
 {
     match top {
@@ -207,7 +208,7 @@ pub fn say_report(report: Report) -> Line
     let condition = report.condition;
     let line = say_condition(condition);
     let used = add_count(line, b": segments in use ", report.segments);
-    let told = add_slots(used, report.live, report.dead, report.empty);
+    let told = add_slots(used, report.live, report.dead, report.cut, report.empty);
     let top = report.top;
     add(add_top(told, top), b"\n")
 }

@@ -71,6 +71,7 @@ pub fn no_row() -> Row
     Row {
         live: 0,
         dead: 0,
+        cut: 0,
         written: 0,
         ending: Ending::Full,
         block: BlockNumber(0),
@@ -88,6 +89,7 @@ fn count(row: Row, kind: SlotKind, seen: &mut [u64; 1024]) -> Row
         SlotKind::Empty => Row {
             live: row.live,
             dead: row.dead,
+            cut: row.cut,
             written: row.written,
             ending: leave_room(ending),
             block,
@@ -95,6 +97,7 @@ fn count(row: Row, kind: SlotKind, seen: &mut [u64; 1024]) -> Row
         SlotKind::Torn => Row {
             live: row.live,
             dead: row.dead,
+            cut: row.cut,
             written: row.written + 1,
             ending: behind(ending, Ending::TornLast),
             block,
@@ -107,6 +110,7 @@ fn count(row: Row, kind: SlotKind, seen: &mut [u64; 1024]) -> Row
             Row {
                 live: row.live + 1,
                 dead: row.dead,
+                cut: row.cut,
                 written: row.written + 1,
                 ending: behind(ending, then),
                 block: met,
@@ -115,6 +119,15 @@ fn count(row: Row, kind: SlotKind, seen: &mut [u64; 1024]) -> Row
         SlotKind::Dead => Row {
             live: row.live,
             dead: row.dead + 1,
+            cut: row.cut,
+            written: row.written + 1,
+            ending: behind(ending, Ending::Full),
+            block,
+        },
+        SlotKind::Cut => Row {
+            live: row.live,
+            dead: row.dead,
+            cut: row.cut + 1,
             written: row.written + 1,
             ending: behind(ending, Ending::Full),
             block,
@@ -122,6 +135,7 @@ fn count(row: Row, kind: SlotKind, seen: &mut [u64; 1024]) -> Row
         SlotKind::Wrong => Row {
             live: row.live,
             dead: row.dead,
+            cut: row.cut,
             written: row.written + 1,
             ending: Ending::Bad,
             block,

@@ -12,7 +12,7 @@ use lib.Dec.{ltb, eqb}
 use borrow.Author.Tests.{ltb-true, eqb-true}
 use Rattle.model.specs.Lists.{chunk}
 use Rattle.model.specs.Chip.{Image, Page}
-use Rattle.model.specs.Slot.{Slot, empty, torn, dead, wrong, live, slotOf, numberOk}
+use Rattle.model.specs.Slot.{Slot, empty, torn, dead, cut, wrong, live, slotOf, numberOk}
 use Rattle.model.specs.State.{Segment, blank, invalid, inUse, segmentsOf, isInUse, numberAfter, slotsIn, nextNumber, topIndex, nextIndex, topVersion, usedCount, firstNumber, slotsFrom, viewOf, numbersFrom, capacity, nextBlanked, settled, topSettled, damaged}
 use Rattle.model.specs.Laws.Lists.{and-left, and-right}
 use Rattle.model.specs.Laws.Ring.{slots-length, number-in-use}
@@ -34,6 +34,7 @@ narrow-cons : (p : Page) (k : Slot) (s : List Slot) → KindFacts p k → Narrow
 narrow-cons p empty s f n = n
 narrow-cons p torn s f n = n
 narrow-cons p dead s f n = n
+narrow-cons p cut s f n = n
 narrow-cons p wrong s f n = n
 narrow-cons p (live b c) s f n = ((ltb-true 0 b (and-left (ltb 0 b) (ltb b 65535) (unfold numberOk in (f .number))), omega (arith, number-below b (f .number))), n)
 

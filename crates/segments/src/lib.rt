@@ -27,6 +27,7 @@ fn head(state: SegmentState, former: bool, number: SegmentNumber) -> Summary
     let row = Row {
         live: 0,
         dead: 0,
+        cut: 0,
         written: 0,
         ending: Ending::Full,
         block: BlockNumber(0),

@@ -18,7 +18,7 @@ const WRITTEN: u8 = 0x3F;
 
 const DEAD: u8 = 0x1F;
 
-const DEAD_TORN: u8 = 0x5F;
+const CUT: u8 = 0x5F;
 
 // Programmed over a status, this clears bit 5.
 const MARK_DEAD: u8 = 0xDF;
@@ -87,8 +87,8 @@ pub fn slot_kind(page: &[u8]) -> SlotKind
     if status == DEAD {
         return SlotKind::Dead;
     }
-    if status == DEAD_TORN {
-        return SlotKind::Dead;
+    if status == CUT {
+        return SlotKind::Cut;
     }
     let whole = flash::blank_test(page);
     if whole.blank {

@@ -9,7 +9,7 @@ use lib.Seq.{getD-append-seam, set-at, getD-at}
 use lib.Dec.{eqb}
 use borrow.Author.Tests.{eqb-true, not-true}
 use Rattle.model.specs.Lists.{all}
-use Rattle.model.specs.Slot.{Slot, empty, torn, dead, wrong, live, isEmpty, entryOf}
+use Rattle.model.specs.Slot.{Slot, empty, torn, dead, cut, wrong, live, isEmpty, entryOf}
 use Rattle.model.specs.State.{View, entries, entriesIn, holds, emptyLast, onlyTopEmpty, slotFrom, placeFrom, placeOf}
 use Rattle.model.specs.Steps.{topRow, topNumber, hasRoom, firstEmpty}
 use Rattle.model.specs.Laws.Lists.{all-append, flatten-append}
@@ -163,6 +163,7 @@ in-row b j (k ∷ s) h = go k h (λ p. in-row b (suc j) s p)
     go empty p ih = next empty refl (ih p)
     go torn p ih = next torn refl (ih p)
     go dead p ih = next dead refl (ih p)
+    go cut p ih = next cut refl (ih p)
     go wrong p ih = next wrong refl (ih p)
     go (live a c) p ih = one (eqb b a) refl p
       where

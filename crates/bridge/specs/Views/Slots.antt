@@ -8,7 +8,7 @@ use lib.ListN.{length, drop, replicate, length-append, length-replicate, length-
 use lib.Dec.{ltb}
 use borrow.Author.Tests.{lt-ltb, le-ltb}
 use Rattle.model.specs.Lists.{all, count}
-use Rattle.model.specs.Slot.{Slot, empty, torn, dead, wrong, live, isEmpty, isTorn, isDead, isWrong, Entry, entryOf, holding}
+use Rattle.model.specs.Slot.{Slot, empty, torn, dead, cut, wrong, live, isEmpty, isTorn, isDead, isWrong, Entry, entryOf, holding}
 use Rattle.model.specs.State.{entries, emptyLast, onlyTopEmpty, filled}
 use Rattle.model.specs.Steps.{topRow, firstEmpty, copied}
 use Rattle.model.specs.Laws.Lists.{all-join, all-append, all-replicate, none-count}
@@ -59,6 +59,7 @@ slots-counted [] h = omega arith
 slots-counted (empty ∷ s) h = omega (arith, slots-counted s h)
 slots-counted (torn ∷ s) h = absurd (false≢true h)
 slots-counted (dead ∷ s) h = omega (arith, slots-counted s h)
+slots-counted (cut ∷ s) h = omega (arith, slots-counted s h)
 slots-counted (wrong ∷ s) h = absurd (false≢true h)
 slots-counted (live b c ∷ s) h = omega (arith, slots-counted s h)
 
@@ -68,6 +69,7 @@ entries-length [] = omega arith
 entries-length (empty ∷ s) = omega (arith, entries-length s)
 entries-length (torn ∷ s) = omega (arith, entries-length s)
 entries-length (dead ∷ s) = omega (arith, entries-length s)
+entries-length (cut ∷ s) = omega (arith, entries-length s)
 entries-length (wrong ∷ s) = omega (arith, entries-length s)
 entries-length (live b c ∷ s) = omega (arith, entries-length s)
 
@@ -82,6 +84,7 @@ all-empty-entries [] h = refl
 all-empty-entries (empty ∷ s) h = all-empty-entries s h
 all-empty-entries (torn ∷ s) h = absurd (false≢true h)
 all-empty-entries (dead ∷ s) h = absurd (false≢true h)
+all-empty-entries (cut ∷ s) h = absurd (false≢true h)
 all-empty-entries (wrong ∷ s) h = absurd (false≢true h)
 all-empty-entries (live b c ∷ s) h = absurd (false≢true h)
 
@@ -142,6 +145,7 @@ first-empty (k ∷ s) h f = go k h f (λ p q. first-empty s p q)
     go empty p q ih = record { left = []; right = s; split = refl; place = refl; fullLeft = refl; emptyRight = p }
     go torn p q ih = next torn refl (ih p q)
     go dead p q ih = next dead refl (ih p q)
+    go cut p q ih = next cut refl (ih p q)
     go wrong p q ih = next wrong refl (ih p q)
     go (live b c) p q ih = next (live b c) refl (ih p q)
 

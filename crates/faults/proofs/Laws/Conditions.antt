@@ -10,7 +10,7 @@ use lib.Dec.{eqb, leb}
 use borrow.Author.Tests.{eq-eqb, ne-eqb}
 use Rattle.model.specs.Lists.{all}
 use Rattle.model.specs.Chip.{Image}
-use Rattle.model.specs.Slot.{Slot, empty, torn, dead, wrong, live, isEmpty, isTorn, isWrong, kindOf, Entry, entryOf}
+use Rattle.model.specs.Slot.{Slot, empty, torn, dead, cut, wrong, live, isEmpty, isTorn, isWrong, kindOf, Entry, entryOf}
 use Rattle.model.specs.State.{Segment, segmentsOf, usedCount, firstNumber, View, viewOf, entries, entriesIn, holds, distinct, emptyLast, onlyTopEmpty, someInUse, consecutive, oneVersion, noneOwing, othersBlank, noneWrongOrTorn, blocksDistinct, emptySlotsLast, capacity, withinCapacity, conditions}
 use Rattle.model.specs.Laws.Lists.{all-append, and-left}
 use Rattle.model.specs.Laws.Tables.{holds-append}
@@ -33,6 +33,7 @@ sound-slots [] p = sym (and-true (p .tests .sound))
 sound-slots (empty ∷ x) p = sound-slots x _
 sound-slots (torn ∷ x) p = sound-slots x _ ∙ sym (and-false (p .tests .sound))
 sound-slots (dead ∷ x) p = sound-slots x _
+sound-slots (cut ∷ x) p = sound-slots x _
 sound-slots (wrong ∷ x) p = sound-slots x _ ∙ sym (and-false (p .tests .sound))
 sound-slots (live b c ∷ x) p = sound-slots x _
 
@@ -51,6 +52,7 @@ live-slots [] p = omega arith
 live-slots (empty ∷ x) p = live-slots x _
 live-slots (torn ∷ x) p = live-slots x _
 live-slots (dead ∷ x) p = live-slots x _
+live-slots (cut ∷ x) p = live-slots x _
 live-slots (wrong ∷ x) p = live-slots x _
 live-slots (live b c ∷ x) p = live-slots x _ ∙ omega arith
 
@@ -86,6 +88,7 @@ once-slots [] t s p n a d = (agree-same a, d ∙ ap distinct (sym (append-nil p)
 once-slots (empty ∷ x) t s p n a d = once-slots x _ s p n a d
 once-slots (torn ∷ x) t s p n a d = once-slots x _ s p n a d
 once-slots (dead ∷ x) t s p n a d = once-slots x _ s p n a d
+once-slots (cut ∷ x) t s p n a d = once-slots x _ s p n a d
 once-slots (wrong ∷ x) t s p n a d = once-slots x _ s p n a d
 once-slots (live b c ∷ x) t s p n a d = let e : Entry = record { block = b; contents = c } in
     rw (← (append-assoc p (e ∷ []) (flatMap entryOf x)))
@@ -107,6 +110,7 @@ room-stays [] t s h = h
 room-stays (empty ∷ x) t s h = room-stays x _ s refl
 room-stays (torn ∷ x) t s h = room-stays x _ s h
 room-stays (dead ∷ x) t s h = room-stays x _ s h
+room-stays (cut ∷ x) t s h = room-stays x _ s h
 room-stays (wrong ∷ x) t s h = room-stays x _ s h
 room-stays (live b c ∷ x) t s h = room-stays x _ (putBit 64 s b) h
 
@@ -122,6 +126,7 @@ late [] t s h = sym (and-true (t .«in_order»))
 late (empty ∷ x) t s h = late x _ s refl
 late (torn ∷ x) t s h = late x _ s h ∙ spoilt (t .«in_order») (t .room) (all isEmpty x) h
 late (dead ∷ x) t s h = late x _ s h ∙ spoilt (t .«in_order») (t .room) (all isEmpty x) h
+late (cut ∷ x) t s h = late x _ s h ∙ spoilt (t .«in_order») (t .room) (all isEmpty x) h
 late (wrong ∷ x) t s h = late x _ s h ∙ spoilt (t .«in_order») (t .room) (all isEmpty x) h
 late (live b c ∷ x) t s h = late x _ (putBit 64 s b) h ∙ spoilt (t .«in_order») (t .room) (all isEmpty x) h
 
@@ -141,6 +146,7 @@ early [] t s h = (sym (and-true (t .«in_order»)), h)
 early (empty ∷ x) t s h = (late x _ s refl, room-stays x _ s refl)
 early (torn ∷ x) t s h = let q = early x _ s h in (q .0 ∙ kept (t .«in_order») (t .room) (emptyLast x) h, q .1)
 early (dead ∷ x) t s h = let q = early x _ s h in (q .0 ∙ kept (t .«in_order») (t .room) (emptyLast x) h, q .1)
+early (cut ∷ x) t s h = let q = early x _ s h in (q .0 ∙ kept (t .«in_order») (t .room) (emptyLast x) h, q .1)
 early (wrong ∷ x) t s h = let q = early x _ s h in (q .0 ∙ kept (t .«in_order») (t .room) (emptyLast x) h, q .1)
 early (live b c ∷ x) t s h = let q = early x _ (putBit 64 s b) h in (q .0 ∙ kept (t .«in_order») (t .room) (emptyLast x) h, q .1)
 

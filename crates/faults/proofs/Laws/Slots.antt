@@ -8,7 +8,7 @@ use lib.ListN.{take, drop}
 use Rattle.model.specs.Lists.{chunk}
 use Rattle.model.specs.Slot.{slotOf, kindOf}
 use Rattle.model.specs.declared.SlotKind.{SlotKind}
-use Rattle.model.specs.declared.SlotKind.the-variants.{Empty, Torn, Live, Dead, Wrong}
+use Rattle.model.specs.declared.SlotKind.the-variants.{Empty, Torn, Live, Dead, Cut, Wrong}
 use Rattle.judge.specs.Rows.{slotsAt, kindsAt}
 use Rattle.judge.specs.Parts.{slotsOffset, rowsOn}
 use Rattle.judge.specs.Tally.{noneMet}
@@ -24,6 +24,7 @@ slot-live Empty p = omega arith
 slot-live Torn p = omega arith
 slot-live (Live n b) p = omega arith
 slot-live Dead p = omega arith
+slot-live Cut p = omega arith
 slot-live Wrong p = omega arith
 
 pub row-next : (m : List ℕ) (at i slots : ℕ) (p : Look) → i < slots

@@ -2,14 +2,15 @@
 use Prim.Native.Nat.{ℕ, suc, _+_, _-_, _*_, _≤_, _<_}
 use mathlib.Core.Path.{_≡_, refl, sym, ap}
 use mathlib.Core.List.{List, [], _∷_, _++_, flatMap, map}
+use native.Mathlib.Numerals.{add-one}
 use native.Mathlib.Omega.{arith}
 use lib.ListN.{length, take, drop}
 use Rattle.model.specs.Lists.{count, chunk}
 use Rattle.model.specs.Chip.{Image}
-use Rattle.model.specs.Slot.{Slot, empty, torn, dead, wrong, live, slotOf, kindOf, isEmpty, isDead, entryOf}
+use Rattle.model.specs.Slot.{Slot, empty, torn, dead, cut, wrong, live, slotOf, kindOf, isEmpty, isReplaced, isDead, isCut, entryOf}
 use Rattle.model.specs.State.{entries}
 use Rattle.model.specs.declared.SlotKind.{SlotKind}
-use Rattle.model.specs.declared.SlotKind.the-variants.{Empty, Torn, Live, Dead, Wrong}
+use Rattle.model.specs.declared.SlotKind.the-variants.{Empty, Torn, Live, Dead, Cut, Wrong}
 use Rattle.model.specs.Laws.SlotPage.{live-facts}
 use Rattle.judge.specs.Rows.{kindsAt, slotsAt}
 use Rattle.rows.proofs.Laws.Rows.{kinds-next}
@@ -24,29 +25,22 @@ use Rattle.index.specs.Tables.{Tables, link, linkKind, Brief, linkRow, linked, 
 
 pub count-few : (k : SlotKind) (c : Counts) (i : ℕ) → Few c i → Few (countKind k c) (i + 1)
 unfolding countKind
-count-few Empty c i h = record { live = omega (arith, h .live); dead = omega (arith, h .dead); empty = omega (arith, h .empty) }
-count-few Torn c i h = record { live = omega (arith, h .live); dead = omega (arith, h .dead); empty = omega (arith, h .empty) }
-count-few (Live n b) c i h = record { live = omega (arith, h .live); dead = omega (arith, h .dead); empty = omega (arith, h .empty) }
-count-few Dead c i h = record { live = omega (arith, h .live); dead = omega (arith, h .dead); empty = omega (arith, h .empty) }
-count-few Wrong c i h = record { live = omega (arith, h .live); dead = omega (arith, h .dead); empty = omega (arith, h .empty) }
+count-few Empty c i h = record { live = omega (arith, h .live); dead = omega (arith, h .dead); cut = omega (arith, h .cut); empty = omega (arith, h .empty) }
+count-few Torn c i h = record { live = omega (arith, h .live); dead = omega (arith, h .dead); cut = omega (arith, h .cut); empty = omega (arith, h .empty) }
+count-few (Live n b) c i h = record { live = omega (arith, h .live); dead = omega (arith, h .dead); cut = omega (arith, h .cut); empty = omega (arith, h .empty) }
+count-few Dead c i h = record { live = omega (arith, h .live); dead = omega (arith, h .dead); cut = omega (arith, h .cut); empty = omega (arith, h .empty) }
+count-few Cut c i h = record { live = omega (arith, h .live); dead = omega (arith, h .dead); cut = omega (arith, h .cut); empty = omega (arith, h .empty) }
+count-few Wrong c i h = record { live = omega (arith, h .live); dead = omega (arith, h .dead); cut = omega (arith, h .cut); empty = omega (arith, h .empty) }
 
 pub counts-of : (ks : List Slot) → countRow (map kindOf ks) ≡ countsOf ks
-unfolding countRow countKind countsOf noCounts kindOf entries flatMap entryOf count isDead isEmpty map
+unfolding countRow countKind countsOf noCounts kindOf entries flatMap entryOf count isReplaced isDead isCut isEmpty map
 counts-of [] = refl
-counts-of (empty ∷ ks) = rw (counts-of ks) (more (count isEmpty ks))
-  where
-    more : (n : ℕ) → _≡_ {A = Counts} (record { live = length (entries ks); dead = count isDead ks; empty = n + 1 }) (record { live = length (entries ks); dead = count isDead ks; empty = suc n })
-    more n = let e : n + 1 ≡ suc n = omega arith in rw e
+counts-of (empty ∷ ks) = rw (counts-of ks, add-one)
 counts-of (torn ∷ ks) = counts-of ks
-counts-of (dead ∷ ks) = rw (counts-of ks) (more (count isDead ks))
-  where
-    more : (n : ℕ) → _≡_ {A = Counts} (record { live = length (entries ks); dead = n + 1; empty = count isEmpty ks }) (record { live = length (entries ks); dead = suc n; empty = count isEmpty ks })
-    more n = let e : n + 1 ≡ suc n = omega arith in rw e
+counts-of (dead ∷ ks) = rw (counts-of ks, add-one)
+counts-of (cut ∷ ks) = rw (counts-of ks, add-one)
 counts-of (wrong ∷ ks) = counts-of ks
-counts-of (live b c ∷ ks) = rw (counts-of ks) (more (length (entries ks)))
-  where
-    more : (n : ℕ) → _≡_ {A = Counts} (record { live = n + 1; dead = count isDead ks; empty = count isEmpty ks }) (record { live = suc n; dead = count isDead ks; empty = count isEmpty ks })
-    more n = let e : n + 1 ≡ suc n = omega arith in rw e
+counts-of (live b c ∷ ks) = rw (counts-of ks, add-one)
 
 -- ---- the slots from a place on
 
@@ -78,6 +72,7 @@ row-linked B i j [] t = refl
 row-linked B i j (empty ∷ ks) t = let e : suc (i * (B + 1) + j) ≡ i * (B + 1) + suc j = omega arith in rw e (row-linked B i (suc j) ks t)
 row-linked B i j (torn ∷ ks) t = let e : suc (i * (B + 1) + j) ≡ i * (B + 1) + suc j = omega arith in rw e (row-linked B i (suc j) ks t)
 row-linked B i j (dead ∷ ks) t = let e : suc (i * (B + 1) + j) ≡ i * (B + 1) + suc j = omega arith in rw e (row-linked B i (suc j) ks t)
+row-linked B i j (cut ∷ ks) t = let e : suc (i * (B + 1) + j) ≡ i * (B + 1) + suc j = omega arith in rw e (row-linked B i (suc j) ks t)
 row-linked B i j (wrong ∷ ks) t = let e : suc (i * (B + 1) + j) ≡ i * (B + 1) + suc j = omega arith in rw e (row-linked B i (suc j) ks t)
 row-linked B i j (live b c ∷ ks) t = let e : suc (i * (B + 1) + j) ≡ i * (B + 1) + suc j = omega arith in rw e (ap (link (i * (B + 1) + j) b (length c)) (row-linked B i (suc j) ks t))
 
@@ -94,5 +89,6 @@ brief p = go (slotOf p) refl
     go empty e = unfold kindOf in tt
     go torn e = unfold kindOf in tt
     go dead e = unfold kindOf in tt
+    go cut e = unfold kindOf in tt
     go wrong e = unfold kindOf in tt
     go (live b c) e = unfold kindOf in (short-byte (length c) (live-facts p b c e .short))

@@ -8,7 +8,7 @@ use lib.Dec.{leb, eqb}
 use Rattle.model.specs.Lists.{same}
 use Rattle.model.specs.Chip.{Page, erased, numberLimit}
 use Rattle.model.specs.Header.{compacted, numberBytes, inverted, value, statusInUse, Version, version1, newVersion, versionNumber, totalFits, tallyBytes, headerPage, headerStatus, headerNumber, headerVersion, oldIndex, headerInUse, isBlank}
-use Rattle.model.specs.Slot.{Slot, empty, torn, dead, wrong, live, mostContents, numberOk, slotPage, pageBlock, pageContents, slotFits, slotOf}
+use Rattle.model.specs.Slot.{Slot, empty, torn, dead, cut, wrong, live, mostContents, numberOk, slotPage, pageBlock, pageContents, slotFits, slotOf}
 use Rattle.model.specs.Laws.Bytes.{allBelow}
 
 -- every bit of byte k inverted
@@ -43,6 +43,7 @@ isLive : Slot → Bool
 isLive empty = false
 isLive torn = false
 isLive dead = false
+isLive cut = false
 isLive wrong = false
 isLive (live b c) = true
 

@@ -123,9 +123,9 @@ pub live-dead-bit : OneBit 0x1F written
 unfolding oneApart
 live-dead-bit = one-bit 8 0x1F written refl
 
-pub torn-dead-bit : OneBit 0x5F writeBegun
+pub torn-cut-bit : OneBit 0x5F writeBegun
 unfolding oneApart
-torn-dead-bit = one-bit 8 0x5F writeBegun refl
+torn-cut-bit = one-bit 8 0x5F writeBegun refl
 
 -- FF to DF, DF to 9F, 9F to 8F: a segment tidied
 pub compaction-begun-bit : OneBit compactionBegun 255

@@ -10,7 +10,7 @@ use lib.Seq.{getD-drop}
 use Rattle.model.specs.Lists.{all, chunk}
 use Rattle.model.specs.Chip.{Image, Page, Step, erase, erased, withSegment, step, run, mostSegments, eraseLimit, numberLimit, imageLength, Cut}
 use Rattle.model.specs.Header.{opened, erasePending, compacted, Version, newVersion, totalFits, noOldSegment, statusInUse, headerPage, headerStatus, headerNumber, headerVersion, oldIndex, headerInUse, isBlank, allBlank}
-use Rattle.model.specs.Slot.{Slot, empty, dead, live, slotOf}
+use Rattle.model.specs.Slot.{Slot, empty, live, slotOf}
 use Rattle.model.specs.State.{Segment, blank, invalid, inUse, segmentOf, segmentsOf, numberAfter, nextNumber, withSlot}
 use Rattle.model.specs.Steps.{onPage, headerAt, slotAt, writeSlot, markDead, openSegment, settle}
 use Rattle.model.specs.Laws.Lists.{all-get, map-set, map-length, map-get}
@@ -18,7 +18,7 @@ use Rattle.model.specs.Laws.Chunk.{chunk-replicate}
 use Rattle.model.specs.Laws.Bytes.{blank-erased, erased-blank, erased-length}
 use Rattle.model.specs.Laws.Pages.{InPage}
 use Rattle.model.specs.Laws.HeaderPage.{header-status, header-number, header-version, new-fits, header-in-use, number-fits, in-use-facts, openingHeader, settledHeader, open-segment-page, settle-page, opening-in-page, settled-in-page, opening-run, settled-run, erased-unused}
-use Rattle.model.specs.Laws.SlotPage.{Valid, slot-live, erased-empty, empty-erased, Markable, marked-dead, mark-in-page, write-in-page, write-run}
+use Rattle.model.specs.Laws.SlotPage.{Valid, slot-live, erased-empty, empty-erased, Markable, marked-kind, mark-in-page, write-in-page, write-run}
 use Rattle.model.specs.Laws.Ring.{next-at}
 use Rattle.model.specs.Laws.Segments.{partOf, part-size, page-size, segment-at, segments-length, Only, only-segments, only-part, page-in-segment, only-run, only-cut, part-run, part-cut, replaced-parts, erased-image}
 
@@ -176,9 +176,9 @@ module _ (N B : ℕ) (two : 2 ≤ N) (s : Image) (z : length s ≡ imageLength N
     slot-cut xs p u c = let r = part-cut N B (k % N) (suc j) (index k) (omega arith) xs p s z u c in
         (r .0, r .1, slot-only xs p u (only-cut N B (k % N) (onPage at xs) s u (index k) (page-in-segment B (k % N) (suc j) xs (omega arith) p) c) (r .0) (r .2))
 
-    -- a slot marked dead
-    pub mark-effect : Markable (getD slotPageAt 0 0) → segmentsOf N B (run B (onPage (slotAt N B k j) markDead) s) ≡ set (segmentsOf N B s) (k % N) (withSlot j dead (getD (segmentsOf N B s) (k % N) blank))
-    mark-effect m = slot-run markDead mark-in-page ∙ ap (λ (y : Slot). set (segmentsOf N B s) (k % N) (withSlot j y (getD (segmentsOf N B s) (k % N) blank))) (marked-dead B slotPageAt m)
+    -- a slot marked
+    pub mark-effect : (x : Slot) → Markable (getD slotPageAt 0 0) x → segmentsOf N B (run B (onPage (slotAt N B k j) markDead) s) ≡ set (segmentsOf N B s) (k % N) (withSlot j x (getD (segmentsOf N B s) (k % N) blank))
+    mark-effect x m = slot-run markDead mark-in-page ∙ ap (λ (y : Slot). set (segmentsOf N B s) (k % N) (withSlot j y (getD (segmentsOf N B s) (k % N) blank))) (marked-kind B slotPageAt x m)
 
     -- an empty slot written
     pub empty-page : getD ks j empty ≡ empty → slotPageAt ≡ erased 256

@@ -10,7 +10,7 @@ use lib.ListN.{length, getD, set, length-set, List·getD-eq-default}
 use lib.Dec.{ltb, eqb}
 use borrow.Author.Tests.{eqb-true, ltb-true}
 use Rattle.model.specs.Lists.{all, count}
-use Rattle.model.specs.Slot.{Slot, empty, torn, dead, wrong, live, isTorn, isWrong, entryOf}
+use Rattle.model.specs.Slot.{Slot, empty, torn, dead, cut, wrong, live, isTorn, isWrong, entryOf}
 use Rattle.model.specs.State.{Segment, blank, invalid, inUse, isInUse, isInvalid, isOwing, numberAfter, slotsIn, nextNumber, topIndex, nextIndex, topSlots, usedCount, firstNumber, viewOf, entriesIn, noneOwing, othersBlank, noneWrongOrTorn, blocksDistinct, isClean, nextBlanked, isA, topSettled, isB, withSlot, lastSlot, lastKind, tornMarked, isC, blockIn, lastBlock, copies, older, olderMarked, isD}
 use Rattle.model.specs.Laws.Lists.{and-left, and-right, all-row, all-fails}
 use Rattle.model.specs.Laws.Tables.{distinct-copies}
@@ -175,15 +175,15 @@ module _ (N B : ℕ) (l : List Segment) (size : length l ≡ N) where
       let e = d-facts k .1 in omega arith
 
   -- a slot marked leaves an owing segment owing
-  slot-owing : (i j : ℕ) → isClean N B (set l i (withSlot j dead (getD l i blank))) ≡ true → isOwing (getD l (topIndex N l) blank) ≡ true → ⊥
-  slot-owing i j h o = no-owing N B (set l i (withSlot j dead (getD l i blank))) (length-set l i (withSlot j dead (getD l i blank)) ∙ size) h (topIndex N l)
-      (get-kept isOwing l i (withSlot j dead (getD l i blank)) (withSlot-owing j dead (getD l i blank)) (topIndex N l) ∙ o)
+  slot-owing : (i j : ℕ) (k : Slot) → isClean N B (set l i (withSlot j k (getD l i blank))) ≡ true → isOwing (getD l (topIndex N l) blank) ≡ true → ⊥
+  slot-owing i j k h o = no-owing N B (set l i (withSlot j k (getD l i blank))) (length-set l i (withSlot j k (getD l i blank)) ∙ size) h (topIndex N l)
+      (get-kept isOwing l i (withSlot j k (getD l i blank)) (withSlot-owing j k (getD l i blank)) (topIndex N l) ∙ o)
 
   b-c : isB N B l ≡ true → isC N B l ≡ true → ⊥
-  b-c h k = slot-owing (topIndex N l) (lastSlot N l) (unfold tornMarked in (c-facts k .1)) (b-owing h)
+  b-c h k = slot-owing (topIndex N l) (lastSlot N l) cut (unfold tornMarked in (c-facts k .1)) (b-owing h)
 
   b-d : isB N B l ≡ true → isD N B l ≡ true → ⊥
-  b-d h k = slot-owing (older N l .number % N) (older N l .slot) (unfold olderMarked in (d-facts k .2)) (b-owing h)
+  b-d h k = slot-owing (older N l .number % N) (older N l .slot) dead (unfold olderMarked in (d-facts k .2)) (b-owing h)
 
   c-d : isC N B l ≡ true → isD N B l ≡ true → ⊥
   unfolding lastBlock blockIn
@@ -193,6 +193,7 @@ module _ (N B : ℕ) (l : List Segment) (size : length l ≡ N) where
       none empty q = unfold entryOf blockIn in refl
       none torn q = unfold entryOf blockIn in refl
       none dead q = unfold entryOf blockIn in refl
+      none cut q = unfold entryOf blockIn in refl
       none wrong q = unfold entryOf blockIn in refl
       none (live b c) q = absurd (false≢true (unfold isTorn in q))
 

@@ -8,10 +8,10 @@ use lib.ListN.{length, getD, set}
 use lib.Seq.{set-getD, getD-set-same}
 use Rattle.model.specs.Chip.{Image, Page, Step, program, clear, erased, step, run, Cut}
 use Rattle.model.specs.Header.{openingBegun, opened, compactionBegun, erasePending, Version, newVersion, noOldSegment, headerPage}
-use Rattle.model.specs.Slot.{writeBegun, written, slotPage, empty, torn, live, slotOf}
+use Rattle.model.specs.Slot.{writeBegun, written, slotPage, Slot, empty, torn, live, slotOf}
 use Rattle.model.specs.Steps.{programPart, writeSlot}
 use Rattle.model.specs.Laws.Chip.{run-append, cut-append}
-use Rattle.model.specs.Laws.Bytes.{clear-erased, erased-get, erased-length, OneBit, begun-bit, written-bit, live-dead-bit, torn-dead-bit, compaction-begun-bit, erase-pending-bit}
+use Rattle.model.specs.Laws.Bytes.{clear-erased, erased-get, erased-length, OneBit, begun-bit, written-bit, live-dead-bit, torn-cut-bit, compaction-begun-bit, erase-pending-bit}
 use Rattle.model.specs.Laws.Programs.{Spares, spares-append, spares-part, spared-run, spared-cut}
 use Rattle.model.specs.Laws.HeaderPage.{erased-bit-6, openingHeader, compactionHeader, pendingHeader, begunPage, opening-run, pending-run, clear-begun, clear-compaction}
 use Rattle.model.specs.Laws.SlotPage.{Valid, slot-live, erased-empty, begun-torn, writeMiddle, write-parts, write-run, Markable, clear-live, clear-torn, clear-written}
@@ -88,9 +88,9 @@ write-cut-kind B b c u v k =
     ⊎-elim (λ e. inl (ap slotOf e ∙ erased-empty)) (λ h. inr (⊎-elim (λ e. inl (begun-torn u e)) (λ e. inr (ap slotOf e ∙ slot-live b c (v .number) (v .short))) h)) (write-cut B b c u v k)
 
 -- marked or not
-pub mark-bit : (a : ℕ) → Markable a → OneBit (clear a 0xDF) a
-mark-bit a (inl e) = rw (e, clear-live) live-dead-bit
-mark-bit a (inr e) = rw (e, clear-torn) torn-dead-bit
+pub mark-bit : (a : ℕ) (k : Slot) → Markable a k → OneBit (clear a 0xDF) a
+mark-bit a k (inl (e, q)) = rw (e, clear-live) live-dead-bit
+mark-bit a k (inr (e, q)) = rw (e, clear-torn) torn-cut-bit
 
 -- ---- a header: finished, or bit 6 of its status is still set
 

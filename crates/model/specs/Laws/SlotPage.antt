@@ -2,7 +2,7 @@
 use Prim.Native.Nat.{ℕ, _+_, _-_, _/_, _%_, _≤_, _<_}
 use mathlib.Core.Path.{_≡_, refl, sym, ap, ap₂, _∙_}
 use mathlib.Core.Logic.{_⊎_, inl, inr}
-use mathlib.Core.Bool.{Bool, true, false, cond, _||_, _&&_}
+use mathlib.Core.Bool.{Bool, true, false, cond, _&&_}
 use mathlib.Core.List.{List, [], _∷_, _++_, append-assoc}
 use native.Mathlib.Omega.{arith}
 use lib.ListN.{length, getD, take, drop, length-take}
@@ -12,7 +12,7 @@ use borrow.Author.Tests.{eqb-true, le-leb, leb-true, ltb-true}
 use Rattle.model.specs.Lists.{same}
 use Rattle.model.specs.Chip.{Page, Bytes, Step, program, clear, erased, step, run}
 use Rattle.model.specs.Header.{isBlank}
-use Rattle.model.specs.Slot.{mostContents, numberOk, writeBegun, written, slotPage, pageBlock, pageContents, slotFits, Slot, empty, torn, dead, wrong, live, slotOf}
+use Rattle.model.specs.Slot.{mostContents, numberOk, writeBegun, written, slotPage, pageBlock, pageContents, slotFits, Slot, empty, torn, dead, cut, wrong, live, slotOf}
 use Rattle.model.specs.Steps.{programs, programPart, writeSlot, markDead}
 use Rattle.model.specs.Laws.Lists.{and-left, and-right}
 use Rattle.model.specs.Laws.Chip.{run-append}
@@ -74,7 +74,8 @@ pub record LiveFacts (p : Page) (b : ℕ) (c : List ℕ) : Type 0 where
 abbrev pub KindFacts : Page → Slot → Type 0
 KindFacts p empty = p ≡ erased (length p)
 KindFacts p torn = getD p 0 0 ≡ writeBegun
-KindFacts p dead = (getD p 0 0 ≡ 0x1F) ⊎ (getD p 0 0 ≡ 0x5F)
+KindFacts p dead = getD p 0 0 ≡ 0x1F
+KindFacts p cut = getD p 0 0 ≡ 0x5F
 KindFacts p wrong = Unit {0}
 KindFacts p (live b c) = LiveFacts p b c
 
@@ -99,12 +100,12 @@ module _ (p : Page) where
   if-blank true e = blank-erased p e
   if-blank false e = tt
 
-  if-marked : (t u : Bool) → eqb st 0x1F ≡ t → eqb st 0x5F ≡ u → KindFacts p (cond (t || u) dead (cond (isBlank p) empty wrong))
-  if-marked true u e f = inl (eqb-true st 0x1F e)
-  if-marked false true e f = inr (eqb-true st 0x5F f)
+  if-marked : (t u : Bool) → eqb st 0x1F ≡ t → eqb st 0x5F ≡ u → KindFacts p (cond t dead (cond u cut (cond (isBlank p) empty wrong)))
+  if-marked true u e f = eqb-true st 0x1F e
+  if-marked false true e f = eqb-true st 0x5F f
   if-marked false false e f = if-blank (isBlank p) refl
 
-  if-begun : (t : Bool) → eqb st writeBegun ≡ t → KindFacts p (cond t torn (cond (eqb st 0x1F || eqb st 0x5F) dead (cond (isBlank p) empty wrong)))
+  if-begun : (t : Bool) → eqb st writeBegun ≡ t → KindFacts p (cond t torn (cond (eqb st 0x1F) dead (cond (eqb st 0x5F) cut (cond (isBlank p) empty wrong))))
   if-begun true e = eqb-true st writeBegun e
   if-begun false e = if-marked (eqb st 0x1F) (eqb st 0x5F) refl refl
 
@@ -113,7 +114,7 @@ module _ (p : Page) where
   if-fits false e = tt
 
   if-written : (t : Bool) → eqb st written ≡ t
-      → KindFacts p (cond t (cond (slotFits p) (live (pageBlock p) (pageContents p)) wrong) (cond (eqb st writeBegun) torn (cond (eqb st 0x1F || eqb st 0x5F) dead (cond (isBlank p) empty wrong))))
+      → KindFacts p (cond t (cond (slotFits p) (live (pageBlock p) (pageContents p)) wrong) (cond (eqb st writeBegun) torn (cond (eqb st 0x1F) dead (cond (eqb st 0x5F) cut (cond (isBlank p) empty wrong)))))
   if-written true e = if-fits (slotFits p) refl
   if-written false e = if-begun (eqb st writeBegun) refl
 
@@ -142,17 +143,17 @@ live-valid p b c e v = let f = live-facts p b c e in
     contents : p ≡ slotPage b c → c ≡ take (length c) (drop 8 p)
     contents g = sym (ap (λ y. take (length c) (drop 8 y)) g ∙ take-append-seam c (erased (mostContents - length c)))
 
--- ---- a slot marked dead
+-- ---- a slot marked
 
--- the status of a live or torn slot
-abbrev pub Markable : ℕ → Type 0
-Markable st = (st ≡ written) ⊎ (st ≡ writeBegun)
+-- the status of a live or torn slot, and what the slot becomes
+abbrev pub Markable : ℕ → Slot → Type 0
+Markable st k = ((st ≡ written) × (k ≡ dead)) ⊎ ((st ≡ writeBegun) × (k ≡ cut))
 
-pub live-markable : (p : Page) (b : ℕ) (c : List ℕ) → slotOf p ≡ live b c → Markable (getD p 0 0)
-live-markable p b c e = inl (live-status p b c e)
+pub live-markable : (p : Page) (b : ℕ) (c : List ℕ) → slotOf p ≡ live b c → Markable (getD p 0 0) dead
+live-markable p b c e = inl (live-status p b c e, refl)
 
-pub torn-markable : (p : Page) → slotOf p ≡ torn → Markable (getD p 0 0)
-torn-markable p e = inr (torn-status p e)
+pub torn-markable : (p : Page) → slotOf p ≡ torn → Markable (getD p 0 0) cut
+torn-markable p e = inr (torn-status p e, refl)
 
 pub clear-live : clear written 0xDF ≡ 0x1F
 unfolding clear
@@ -162,12 +163,12 @@ pub clear-torn : clear writeBegun 0xDF ≡ 0x5F
 unfolding clear
 clear-torn = refl
 
-pub marked-dead : (B : ℕ) (p : Page) → Markable (getD p 0 0) → slotOf (run B markDead p) ≡ dead
+pub marked-kind : (B : ℕ) (p : Page) (k : Slot) → Markable (getD p 0 0) k → slotOf (run B markDead p) ≡ k
 unfolding slotOf markDead run step
-marked-dead B [] (inl e) = absurd (omega arith)
-marked-dead B [] (inr e) = absurd (omega arith)
-marked-dead B (x ∷ p) (inl e) = rw (e, clear-live)
-marked-dead B (x ∷ p) (inr e) = rw (e, clear-torn)
+marked-kind B [] k (inl (e, q)) = absurd (omega (arith, e))
+marked-kind B [] k (inr (e, q)) = absurd (omega (arith, e))
+marked-kind B (x ∷ p) k (inl (e, q)) = rw (e, clear-live, q)
+marked-kind B (x ∷ p) k (inr (e, q)) = rw (e, clear-torn, q)
 
 pub mark-in-page : InPage markDead
 unfolding markDead

@@ -12,7 +12,7 @@ use Rattle.printing.proofs.segment_lines.Statement.{statement}
 use Rattle.printing.proofs.segment_lines.Tie as tie
 
 abbrev Inv-loop : tie.InvT-loop
-Inv-loop text₀ at segments table end₀ i₀ text end i = Wrote (shownLines 0 (take i table)) text₀ at text end × (i ≤ segments) × (end ≤ at + 100 * i)
+Inv-loop text₀ at segments table end₀ i₀ text end i = Wrote (shownLines 0 (take i table)) text₀ at text end × (i ≤ segments) × (end ≤ at + 110 * i)
 
 abbrev μ-loop : tie.MeasureT-loop
 μ-loop text₀ at segments table end₀ i₀ text end i = segments - i

@@ -29,6 +29,15 @@ cast-add-labelled-2 c = search needs
 add-labelled-requires-3 : tie.Need-add-labelled-requires-3
 add-labelled-requires-3 c κs = search needs
 
+slice-aggregate-add-labelled-3 : tie.Need-slice-aggregate-add-labelled-3
+slice-aggregate-add-labelled-3 c = search needs
+
+cast-add-labelled-3 : tie.Need-cast-add-labelled-3
+cast-add-labelled-3 c = search needs
+
+add-labelled-requires-4 : tie.Need-add-labelled-requires-4
+add-labelled-requires-4 c κs = search needs
+
 slice-aggregate-add-ended : tie.Need-slice-aggregate-add-ended
 slice-aggregate-add-ended c = search needs
 
@@ -44,14 +53,15 @@ same-length c = search needs
 returns : tie.Need-returns
 unfolding labelled text
 returns c =
-    let k4 = c .before .before in
+    let k5 = c .before .before in
+    let k4 = k5 .before .before .before .before .before .before in
     let k3 = k4 .before .before .before .before .before .before in
     let k2 = k3 .before .before .before .before .before .before in
     let k1 = k2 .before .before .before .before .before .before in
     let s = k1 .before .before .before .before in
-    let counts = wrote-as _ (counts-ended (s .args .shown .counts)) (k2 .add-labelled2 .ensures .0 then k3 .add-labelled3 .ensures .0 then k4 .add-ended .ensures .0) in (
+    let counts = wrote-as _ (counts-ended (s .args .shown .counts)) (k2 .add-labelled2 .ensures .0 then k3 .add-labelled3 .ensures .0 then k4 .add-labelled4 .ensures .0 then k5 .add-ended .ensures .0) in (
       k1 .add-labelled .ensures .0 then counts,
-      omega (arith, k1 .add-labelled .ensures .1, k2 .add-labelled2 .ensures .1, k3 .add-labelled3 .ensures .1, k4 .add-ended .ensures .1, s .pre .1),
+      omega (arith, k1 .add-labelled .ensures .1, k2 .add-labelled2 .ensures .1, k3 .add-labelled3 .ensures .1, k4 .add-labelled4 .ensures .1, k5 .add-ended .ensures .1, s .pre .1),
     )
 
 pub used-line-spec : {M : Type 1} → statement M
@@ -65,6 +75,9 @@ used-line-spec =
     slice-aggregate-add-labelled-2
     cast-add-labelled-2
     add-labelled-requires-3
+    slice-aggregate-add-labelled-3
+    cast-add-labelled-3
+    add-labelled-requires-4
     slice-aggregate-add-ended
     cast-add-ended
     add-ended-requires

@@ -14,10 +14,10 @@ use types.Run.{OneOf}
 use Rattle.model.specs.Lists.{same}
 use Rattle.model.specs.Chip.{Page, erased}
 use Rattle.model.specs.Header.{isBlank}
-use Rattle.model.specs.Slot.{mostContents, writeBegun, written, numberOk, slotPage, pageBlock, pageContents, slotFits, Slot, empty, torn, dead, wrong, live, slotOf, kindOf, entryOf}
+use Rattle.model.specs.Slot.{mostContents, writeBegun, written, numberOk, slotPage, pageBlock, pageContents, slotFits, Slot, empty, torn, dead, cut, wrong, live, slotOf, kindOf, entryOf}
 use Rattle.model.specs.declared.BlockNumber.{BlockNumber}
 use Rattle.model.specs.declared.SlotKind.{SlotKind}
-use Rattle.model.specs.declared.SlotKind.the-variants.{Empty, Torn, Live, Dead, Wrong}
+use Rattle.model.specs.declared.SlotKind.the-variants.{Empty, Torn, Live, Dead, Cut, Wrong}
 use Rattle.model.proofs.SlotKind.{the-type}
 use Rattle.model.specs.Laws.Lists.{and-left}
 use Rattle.flash.proofs.Blank.{same-erased}
@@ -125,22 +125,25 @@ module _ (p : Page) where
   unfolding slotOf kindOf
   kind-torn st = rw st
 
-  pub kind-dead : (getD p 0 0 ≡ 0x1F) ⊎ (getD p 0 0 ≡ 0x5F) → kindOf (slotOf p) ≡ Dead
+  pub kind-dead : getD p 0 0 ≡ 0x1F → kindOf (slotOf p) ≡ Dead
   unfolding slotOf kindOf
-  kind-dead (inl st) = rw st
-  kind-dead (inr st) = rw st
+  kind-dead st = rw st
+
+  pub kind-cut : getD p 0 0 ≡ 0x5F → kindOf (slotOf p) ≡ Cut
+  unfolding slotOf kindOf
+  kind-cut st = rw st
 
   -- no status of the other kinds
   pub record Unmarked : Type 0 where
     pub written : getD p 0 0 ≡ 0x3F → ⊥
     pub begun : getD p 0 0 ≡ 0x7F → ⊥
     pub dead : getD p 0 0 ≡ 0x1F → ⊥
-    pub torn : getD p 0 0 ≡ 0x5F → ⊥
+    pub cut : getD p 0 0 ≡ 0x5F → ⊥
 
   unmarked : Unmarked → kindOf (slotOf p) ≡ cond (isBlank p) Empty Wrong
   unfolding slotOf kindOf
   unmarked h =
-      rw (ne-eqb (getD p 0 0) 0x3F (h .written), ne-eqb (getD p 0 0) 0x7F (h .begun), ne-eqb (getD p 0 0) 0x1F (h .dead), ne-eqb (getD p 0 0) 0x5F (h .torn)) (go (isBlank p))
+      rw (ne-eqb (getD p 0 0) 0x3F (h .written), ne-eqb (getD p 0 0) 0x7F (h .begun), ne-eqb (getD p 0 0) 0x1F (h .dead), ne-eqb (getD p 0 0) 0x5F (h .cut)) (go (isBlank p))
     where
       go : (t : Bool) → kindOf (cond t empty wrong) ≡ cond t Empty Wrong
       go true = refl
@@ -155,10 +158,10 @@ module _ (p : Page) where
 -- ---- the kinds that `let SlotKind::Live .. else` tells apart
 
 abbrev pub Other : SlotKind → Type 0
-Other k = OneOf (0 ∷ 1 ∷ 3 ∷ 4 ∷ []) (tagOf the-type k)
+Other k = OneOf (0 ∷ 1 ∷ 3 ∷ 4 ∷ 5 ∷ []) (tagOf the-type k)
 
 no-live : (l : ℕ) (b : BlockNumber) → Other (Live l b) → ⊥
-no-live l b h = ⊎-elim (λ e. omega arith) (⊎-elim (λ e. omega arith) (⊎-elim (λ e. omega arith) (λ e. omega arith))) h
+no-live l b h = ⊎-elim (λ e. omega arith) (⊎-elim (λ e. omega arith) (⊎-elim (λ e. omega arith) (⊎-elim (λ e. omega arith) (λ e. omega arith)))) h
 
 -- a slot of another kind holds nothing
 pub other-holds : (k : Slot) → Other (kindOf k) → entryOf k ≡ []
@@ -166,5 +169,6 @@ unfolding kindOf entryOf
 other-holds empty h = refl
 other-holds torn h = refl
 other-holds dead h = refl
+other-holds cut h = refl
 other-holds wrong h = refl
 other-holds (live b c) h = absurd (no-live (length c) (record { 0 = b }) h)

@@ -1,7 +1,6 @@
 -- `slot::slot_kind` is the kind of the definition. Assumes nothing.
 use mathlib.Core.Path.{sym, _∙_}
-use mathlib.Core.Logic.{inl, inr}
-use Rattle.slot.proofs.Laws.Kinds.{kind-live, kind-unfit, kind-torn, kind-dead, kind-blank, kind-other}
+use Rattle.slot.proofs.Laws.Kinds.{kind-live, kind-unfit, kind-torn, kind-dead, kind-cut, kind-blank, kind-other}
 use borrow.Author.Needs.{needs}
 use Rattle.slot.proofs.slot_kind.Statement.{statement}
 use Rattle.slot.proofs.slot_kind.Tie as tie
@@ -37,19 +36,19 @@ returns-3 : tie.Need-returns-3
 returns-3 c = sym (kind-torn _ (c .if3 .taken))
 
 returns-4 : tie.Need-returns-4
-returns-4 c = sym (kind-dead _ (inl (c .if4 .taken)))
+returns-4 c = sym (kind-dead _ (c .if4 .taken))
 
 returns-5 : tie.Need-returns-5
-returns-5 c = sym (kind-dead _ (inr (c .if5 .taken)))
+returns-5 c = sym (kind-cut _ (c .if5 .taken))
 
 blank-test-requires : tie.Need-blank-test-requires
 blank-test-requires c κs = search needs
 
 returns-6 : tie.Need-returns-6
-returns-6 c = sym (kind-blank _ (record { written = c .before .before .before .before .before .if1 .left; begun = c .before .before .before .before .if3 .left; dead = c .before .before .before .if4 .left; torn = c .before .before .if5 .left }) (sym (c .before .blank-test .ensures .0) ∙ c .if6 .taken))
+returns-6 c = sym (kind-blank _ (record { written = c .before .before .before .before .before .if1 .left; begun = c .before .before .before .before .if3 .left; dead = c .before .before .before .if4 .left; cut = c .before .before .if5 .left }) (sym (c .before .blank-test .ensures .0) ∙ c .if6 .taken))
 
 returns-7 : tie.Need-returns-7
-returns-7 c = sym (kind-other _ (record { written = c .before .before .before .before .before .if1 .left; begun = c .before .before .before .before .if3 .left; dead = c .before .before .before .if4 .left; torn = c .before .before .if5 .left }) (sym (c .before .blank-test .ensures .0) ∙ c .if6 .left))
+returns-7 c = sym (kind-other _ (record { written = c .before .before .before .before .before .if1 .left; begun = c .before .before .before .before .if3 .left; dead = c .before .before .before .if4 .left; cut = c .before .before .if5 .left }) (sym (c .before .blank-test .ensures .0) ∙ c .if6 .left))
 
 pub slot-kind-spec : {M : Type 1} → statement M
 slot-kind-spec =

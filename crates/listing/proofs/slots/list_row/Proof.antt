@@ -30,7 +30,7 @@ loop-holds c =
     let a = c .before .args in
     let e : a .slots - a .slots ≡ 0 = omega arith in
     let n = row-none (now (a .image)) ((a .header + a .slots + 1) * 256) (tables (now (a .firsts)) (now (a .nexts)) (now (a .lengths))) (a .header + a .slots + 1) in
-    (rw e (sym (n .0)), rw e (sym (n .1)), omega arith, record { live = omega arith; dead = omega arith; empty = omega arith })
+    (rw e (sym (n .0)), rw e (sym (n .1)), omega arith, record { live = omega arith; dead = omega arith; cut = omega arith; empty = omega arith })
 
 add-page : tie.Need-add-page Inv-loop μ-loop
 add-page c = omega (arith, c .before .before .before .pre)
@@ -62,7 +62,7 @@ list-slot-requires c κs =
     let o = (s .args .header + l .left) * 256 in
     let v : c .before .before .before .slot-kind .result ≡ kindOf (slotOf (take 256 (drop o (now (s .args .image))))) =
     c .before .before .before .slot-kind .ensures ∙ ap (λ (x : List ℕ). kindOf (slotOf x)) (page-part (now (s .args .image)) o) in
-    (omega (arith, s .pre), record { live = omega (arith, f .live, s .pre); dead = omega (arith, f .dead, s .pre); empty = omega (arith, f .empty, s .pre) }, subst Brief (sym v) (brief (take 256 (drop ((s .args .header + l .left) * 256) (now (s .args .image))))))
+    (omega (arith, s .pre), record { live = omega (arith, f .live, s .pre); dead = omega (arith, f .dead, s .pre); cut = omega (arith, f .cut, s .pre); empty = omega (arith, f .empty, s .pre) }, subst Brief (sym v) (brief (take 256 (drop ((s .args .header + l .left) * 256) (now (s .args .image))))))
 
 sub-left : tie.Need-sub-left Inv-loop μ-loop
 sub-left c = search needs

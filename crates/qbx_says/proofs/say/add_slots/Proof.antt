@@ -25,9 +25,15 @@ slice-aggregate-add-count-3 c = search needs
 add-count-requires-3 : tie.Need-add-count-requires-3
 add-count-requires-3 c κs = search needs
 
+slice-aggregate-add-count-4 : tie.Need-slice-aggregate-add-count-4
+slice-aggregate-add-count-4 c = search needs
+
+add-count-requires-4 : tie.Need-add-count-requires-4
+add-count-requires-4 c κs = search needs
+
 returns : tie.Need-returns
 unfolding text slotsText
-returns c = (more-both (more-both (c .before .before .before .before .add-count .ensures .0) (c .before .before .add-count2 .ensures .0)) (c .add-count3 .ensures .0), omega arith)
+returns c = (more-both (more-both (more-both (c .before .before .before .before .before .before .add-count .ensures .0) (c .before .before .before .before .add-count2 .ensures .0)) (c .before .before .add-count3 .ensures .0)) (c .add-count4 .ensures .0), omega arith)
 
 pub add-slots-spec : {M : Type 1} → statement M
 add-slots-spec =
@@ -39,4 +45,6 @@ add-slots-spec =
     add-count-requires-2
     slice-aggregate-add-count-3
     add-count-requires-3
+    slice-aggregate-add-count-4
+    add-count-requires-4
     returns)
