@@ -78,7 +78,10 @@ static inline size_t qbx_offset_of(uint64_t result) { return (size_t)(result >> 
 
 /* The account of an image, as text at the front of a lent buffer. Each line ends with the byte 0A:
  *
- *     seg 0 used num 4 live 1 dead 14 empty 0    One for each segment, by index. Torn and wrong slots are in no count.
+ *     seg 0 used num 4 live 1 dead 13 cut 1 empty 0
+ *                                                One for each segment, by index. Dead slots were replaced or deleted;
+ *                                                the writing of a cut one was cut, and recovery has marked it. Torn and
+ *                                                wrong slots are in no count.
  *     seg 1 blank                                A segment that still owes an erase has owing for used.
  *     seg 2 torn                                 One that is neither in use nor blank.
  *     block 7 len 2 seg 0 slot 1                 One for each live slot of those in use, by rising block number, equal
@@ -93,7 +96,7 @@ static inline size_t qbx_offset_of(uint64_t result) { return (size_t)(result >> 
  *
  * Answers QBX_DONE, the bytes after the text untouched, or QBX_SHORT_BUFFER, exactly if the text is longer than the
  * buffer, all of which is then untouched. The image is only read, and must not overlap the buffer. The longest text has
- * 2,196 bytes with n = 4 and b = 15, 581,192 with 64 and 255, 2,363,238 with 255 and 255. It takes 350,688 bytes of
+ * 2,220 bytes with n = 4 and b = 15, 581,576 with 64 and 255, 2,364,768 with 255 and 255. It takes 350,688 bytes of
  * stack: the tables that put the blocks in order are there. */
 uint64_t qbx_account(const uint8_t *image, size_t image_length, size_t n, size_t b, uint8_t *text, size_t text_length);
 

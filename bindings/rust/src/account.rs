@@ -34,9 +34,10 @@ impl Account {
 
 /// The account of an image: a text for people, and for tools that read it. Each line ends with 0A.
 ///
-/// - A line for each segment, by index. In use: `seg 0 used num 4 live 2 dead 13 empty 0`, with the
-///   segment's number and its slots, torn and wrong ones in no count; `owing` stands for `used` where
-///   the segment after it is still to be erased. All bytes 255: `seg 1 blank`. Neither: `seg 1 torn`.
+/// - A line for each segment, by index. In use: `seg 0 used num 4 live 2 dead 12 cut 1 empty 0`,
+///   with the segment's number and its slots: `dead` are those that were replaced or deleted, `cut`
+///   those whose writing lost its power; torn and wrong ones are in no count. `owing` stands for `used`
+///   where the segment after it is still to be erased. All bytes 255: `seg 1 blank`. Neither: `seg 1 torn`.
 /// - A line for each live slot of the segments in use, by rising block number, equal ones by the
 ///   segment's number and then the slot: `block 7 len 2 seg 0 slot 1`, with the segment's index.
 /// - What [`recover`](Geometry::recover) would answer and how many steps it would take, as
@@ -96,7 +97,7 @@ impl Geometry {
     /// chip.put(&mut image, Block(7), b"A1", UNLIMITED).into_result()?;
     /// assert_eq!(
     ///     chip.account(&image),
-    ///     "seg 0 used num 0 live 1 dead 0 empty 14\n\
+    ///     "seg 0 used num 0 live 1 dead 0 cut 0 empty 14\n\
     ///      seg 1 blank\n\
     ///      block 7 len 2 seg 0 slot 1\n\
     ///      recover 0 steps 0\n"
@@ -130,7 +131,7 @@ mod tests {
     fn accounts_are_unpacked() {
         for answer in [Answer::Done, Answer::ShortBuffer] {
             // The last is the longest text, on the largest chip.
-            for length in [0, 8, 255, 256, 65_536, 2_363_238] {
+            for length in [0, 8, 255, 256, 65_536, 2_364_768] {
                 let packed = u64::from(answer.number()) + 256 * length as u64;
                 assert_eq!(Account::unpack(packed), Account { answer, length });
             }

@@ -63,11 +63,11 @@ impl Geometry {
     ///
     /// ```
     /// let board = qanbillox::Geometry { segments: 4, slots: 15 };
-    /// assert_eq!(board.account_len(), Some(2_458)); // the longest there is has 2,196
+    /// assert_eq!(board.account_len(), Some(2_490)); // the longest there is has 2,220
     /// ```
     pub const fn account_len(self) -> Option<usize> {
         // These are as long as lines get: a segment's, a slot's and the last.
-        const SEGMENT: usize = "seg 254 owing num 25499999 live 255 dead 255 empty 255\n".len();
+        const SEGMENT: usize = "seg 254 owing num 25499999 live 255 dead 255 cut 255 empty 255\n".len();
         const SLOT: usize = "block 65534 len 248 seg 254 slot 255\n".len();
         const LAST: usize = "recover 0 steps 3\n".len();
         if self.is_valid() {
@@ -100,9 +100,9 @@ mod tests {
         assert_eq!(capacity(256, 255), None);
         // Each is above the longest account of its geometry.
         let account = |segments, slots| Geometry { segments, slots }.account_len();
-        assert!(account(4, 15) >= Some(2_196));
-        assert!(account(64, 255) >= Some(581_192));
-        assert!(account(255, 255) >= Some(2_363_238));
+        assert!(account(4, 15) >= Some(2_220));
+        assert!(account(64, 255) >= Some(581_576));
+        assert!(account(255, 255) >= Some(2_364_768));
         assert_eq!(account(255, 256), None);
         assert_eq!(account(usize::MAX, usize::MAX), None);
     }

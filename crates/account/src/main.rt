@@ -17,7 +17,7 @@ fn fail(what: &[u8], path: &[u8]) {
     os::fail(path);
 }
 
-// The account of an image. The longest one of a board has 2,196 bytes.
+// The account of an image. The longest one of a board has 2,220 bytes.
 fn print(image: &[u8]) {
     let mut text = [0u8; 4096];
     let printed = accounts::account(image, 4, 15, &mut text);

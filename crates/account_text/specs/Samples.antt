@@ -12,6 +12,7 @@ use lib.Dec.{eqb}
 use borrow.Author.Tests.{eqb-true, eq-eqb}
 use Rattle.model.specs.Lists.{same, all, chunk}
 use Rattle.model.specs.Chip.{Image, Page, imageLength, inRange, rightSize, pagesOf}
+use Rattle.model.specs.Slot.{isReplaced, isCut}
 use Rattle.model.specs.State.{Segment, segmentsOn, segmentsOf, conditions, isClean, stateOf, clean}
 use Rattle.model.specs.Answers.{isDamaged}
 use Rattle.model.specs.Laws.Lists.{and-left, and-right, and-both}
@@ -53,7 +54,7 @@ failing i [] = []
 failing i (b ∷ r) = cond (onPages b) (failing (suc i) r) (i ∷ failing (suc i) r)
 
 computed : failing 0 boards ≡ []
-unfolding evaluate text decimalOf decimal labelled unseen shownIn shown useWord slotCounts segmentLine segmentLines liveAt liveFrom liveIn liveSlots insert byBlock blockLine blockLines firstFailing lastLine accountOn mark legend margin rowBreak marksFrom padded rowStart stateWord mapRow mapRows allRows mapOn joined wellMade onPages failing boards
+unfolding evaluate isReplaced isCut text decimalOf decimal labelled unseen shownIn shown useWord slotCounts segmentLine segmentLines liveAt liveFrom liveIn liveSlots insert byBlock blockLine blockLines firstFailing lastLine accountOn mark legend margin rowBreak marksFrom padded rowStart stateWord mapRow mapRows allRows mapOn joined wellMade onPages failing boards
 computed = refl
 
 -- ---- pages joined and cut again

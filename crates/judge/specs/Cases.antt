@@ -9,7 +9,7 @@ use lib.ListN.{length, getD, set, length-set}
 use lib.Dec.{ltb, leb, eqb}
 use borrow.Author.Tests.{leb-true, eqb-true, lt-ltb}
 use Rattle.model.specs.Lists.{all}
-use Rattle.model.specs.Slot.{Slot, empty, dead, live, isTorn, entryOf}
+use Rattle.model.specs.Slot.{Slot, empty, dead, cut, live, isTorn, entryOf}
 use Rattle.model.specs.State.{Segment, blank, isInvalid, isOwing, nextNumber, topIndex, nextIndex, topSlots, usedCount, firstNumber, View, viewOf, entriesIn, someInUse, consecutive, oneVersion, noneOwing, othersBlank, noneWrongOrTorn, blocksDistinct, emptySlotsLast, withinCapacity, conditions, isClean, nextBlanked, isA, topSettled, isB, withSlot, filled, lastSlot, lastKind, tornMarked, isC, Place, placeOf, blockIn, lastBlock, copies, older, olderMarked, isD, Exception, caseA, caseB, caseC, caseD, State, clean, unfinished, damaged, stateOf}
 use Rattle.model.specs.Steps.{topRow, topNumber}
 use Rattle.model.specs.Laws.Lists.{and-left, and-right, all-same}
@@ -31,12 +31,12 @@ frame N l = someInUse N l && (consecutive N l && (oneVersion l && (noneOwing l &
 unfoldable pub fine : ℕ → ℕ → View → Bool
 fine N B v = noneWrongOrTorn v && (blocksDistinct v && (emptySlotsLast v && withinCapacity N B v))
 
--- (c) on the view: the top's last written slot is torn, and with it dead all is fine
+-- (c) on the view: the top's last written slot is torn, and with it cut all is fine
 unfoldable pub lastWritten : View → Slot
 lastWritten v = getD (topRow (v .slots)) (filled (topRow (v .slots)) - 1) empty
 
 unfoldable pub lastMarked : View → View
-lastMarked v = slotChanged (topNumber v) (filled (topRow (v .slots)) - 1) dead v
+lastMarked v = slotChanged (topNumber v) (filled (topRow (v .slots)) - 1) cut v
 
 unfoldable pub tornLast : ℕ → ℕ → View → Bool
 tornLast N B v = isTorn (lastWritten v) && fine N B (lastMarked v)
@@ -127,13 +127,13 @@ and-false-2 false t = refl
 
 module _ (N B : ℕ) (l : List Segment) (size : length l ≡ N) where
   -- a slot marked leaves an owing segment owing, and an invalid one invalid
-  marked-owing : (i j q : ℕ) → isOwing (getD l q blank) ≡ true → isClean N B (set l i (withSlot j dead (getD l i blank))) ≡ false
-  marked-owing i j q o = let y = withSlot j dead (getD l i blank) in
-      not-so (isClean N B (set l i y)) (λ h. no-owing N B (set l i y) (length-set l i y ∙ size) h q (get-kept isOwing l i y (withSlot-owing j dead (getD l i blank)) q ∙ o))
+  marked-owing : (i j : ℕ) (k : Slot) (q : ℕ) → isOwing (getD l q blank) ≡ true → isClean N B (set l i (withSlot j k (getD l i blank))) ≡ false
+  marked-owing i j k q o = let y = withSlot j k (getD l i blank) in
+      not-so (isClean N B (set l i y)) (λ h. no-owing N B (set l i y) (length-set l i y ∙ size) h q (get-kept isOwing l i y (withSlot-owing j k (getD l i blank)) q ∙ o))
 
-  marked-invalid : (i j q : ℕ) → isInvalid (getD l q blank) ≡ true → isClean N B (set l i (withSlot j dead (getD l i blank))) ≡ false
-  marked-invalid i j q o = let y = withSlot j dead (getD l i blank) in
-      not-so (isClean N B (set l i y)) (λ h. no-invalid N B (set l i y) (length-set l i y ∙ size) h q (get-kept isInvalid l i y (withSlot-invalid j dead (getD l i blank)) q ∙ o))
+  marked-invalid : (i j : ℕ) (k : Slot) (q : ℕ) → isInvalid (getD l q blank) ≡ true → isClean N B (set l i (withSlot j k (getD l i blank))) ≡ false
+  marked-invalid i j k q o = let y = withSlot j k (getD l i blank) in
+      not-so (isClean N B (set l i y)) (λ h. no-invalid N B (set l i y) (length-set l i y ∙ size) h q (get-kept isInvalid l i y (withSlot-invalid j k (getD l i blank)) q ∙ o))
 
   -- (a)'s segment, mended, leaves an owing top
   blanked-owing : isInvalid (getD l (nextIndex N l) blank) ≡ true → isOwing (getD l (topIndex N l) blank) ≡ true → isClean N B (nextBlanked N l) ≡ false
@@ -147,8 +147,8 @@ module _ (N B : ℕ) (l : List Segment) (size : length l ≡ N) where
   owing-rest o = (
     not-so (isClean N B l) (λ h. no-owing N B l size h (topIndex N l) o),
     first (isInvalid (getD l (nextIndex N l) blank)) refl,
-    rw (marked-owing (topIndex N l) (lastSlot N l) (topIndex N l) o) (and-false (isTorn (lastKind N l))),
-    rw (marked-owing (older N l .number % N) (older N l .slot) (topIndex N l) o) (and-false-2 (ltb 0 (lastBlock N l)) (eqb (copies (lastBlock N l) (entriesIn (viewOf N l))) 2)),
+    rw (marked-owing (topIndex N l) (lastSlot N l) cut (topIndex N l) o) (and-false (isTorn (lastKind N l))),
+    rw (marked-owing (older N l .number % N) (older N l .slot) dead (topIndex N l) o) (and-false-2 (ltb 0 (lastBlock N l)) (eqb (copies (lastBlock N l) (entriesIn (viewOf N l))) 2)),
   )
     where
       first : (t : Bool) → isInvalid (getD l (nextIndex N l) blank) ≡ t → (t && isClean N B (nextBlanked N l)) ≡ false
@@ -159,8 +159,8 @@ module _ (N B : ℕ) (l : List Segment) (size : length l ≡ N) where
   unfolding isC isD tornMarked olderMarked
   invalid-rest o = (
     not-so (isClean N B l) (λ h. no-invalid N B l size h (nextIndex N l) o),
-    rw (marked-invalid (topIndex N l) (lastSlot N l) (nextIndex N l) o) (and-false (isTorn (lastKind N l))),
-    rw (marked-invalid (older N l .number % N) (older N l .slot) (nextIndex N l) o) (and-false-2 (ltb 0 (lastBlock N l)) (eqb (copies (lastBlock N l) (entriesIn (viewOf N l))) 2)),
+    rw (marked-invalid (topIndex N l) (lastSlot N l) cut (nextIndex N l) o) (and-false (isTorn (lastKind N l))),
+    rw (marked-invalid (older N l .number % N) (older N l .slot) dead (nextIndex N l) o) (and-false-2 (ltb 0 (lastBlock N l)) (eqb (copies (lastBlock N l) (entriesIn (viewOf N l))) 2)),
   )
 
 -- ---- the view's tests are those of the segments
@@ -194,17 +194,17 @@ module _ (N B : ℕ) (l : List Segment) (r : RingFacts N l) (f : frame N l ≡ t
       omega (arith, used-next N l r)
 
   -- a slot of a segment in use marked
-  marked-clean : (k j : ℕ) → firstNumber l ≤ k → k < nextNumber l → k % N < length l
-      → isClean N B (set l (k % N) (withSlot j dead (getD l (k % N) blank))) ≡ fine N B (slotChanged k j dead (viewOf N l))
-  marked-clean k j lo hi i = clean-split N B (set l (k % N) (withSlot j dead (getD l (k % N) blank)))
-      ∙ rw (frame-kept N l (k % N) j dead i, f, slot-view N l r k j dead lo hi)
+  marked-clean : (k j : ℕ) (x : Slot) → firstNumber l ≤ k → k < nextNumber l → k % N < length l
+      → isClean N B (set l (k % N) (withSlot j x (getD l (k % N) blank))) ≡ fine N B (slotChanged k j x (viewOf N l))
+  marked-clean k j x lo hi i = clean-split N B (set l (k % N) (withSlot j x (getD l (k % N) blank)))
+      ∙ rw (frame-kept N l (k % N) j x i, f, slot-view N l r k j x lo hi)
 
   view-torn : isC N B l ≡ tornLast N B (viewOf N l)
   unfolding isC tornLast tornMarked lastMarked topIndex
   view-torn =
       let p : 1 ≤ nextNumber l = omega (arith, used-next N l r, r .some) in
       rw (view-last, view-number, ← view-top) (ap (λ t. isTorn (lastWritten (viewOf N l)) && t)
-      (unfold lastSlot in marked-clean (nextNumber l - 1) (filled (topSlots N l) - 1) (omega (arith, used-next N l r, r .some)) (omega arith) (index-inside N l r (nextNumber l - 1))))
+      (unfold lastSlot in marked-clean (nextNumber l - 1) (filled (topSlots N l) - 1) cut (omega (arith, used-next N l r, r .some)) (omega arith) (index-inside N l r (nextNumber l - 1))))
 
   pub view-block : lastBlock N l ≡ twinBlock (viewOf N l)
   unfolding lastBlock twinBlock
@@ -221,7 +221,7 @@ module _ (N B : ℕ) (l : List Segment) (r : RingFacts N l) (f : frame N l ≡ t
       let e : placeOf b v .number ≡ v .first + length (g .gap .rowsBefore) = place-number b v g in
       let a : v .first ≡ firstNumber l = (unfold viewOf in refl) in
       let m = ap length (g .split) ∙ fill-length (g .gap) (live b (g .contents)) in
-      rw view-block (marked-clean (placeOf b v .number) (placeOf b v .slot) (omega arith) (omega (arith, used-next N l r, view-length N l r)) (index-inside N l r (placeOf b v .number)))
+      rw view-block (marked-clean (placeOf b v .number) (placeOf b v .slot) dead (omega arith) (omega (arith, used-next N l r, view-length N l r)) (index-inside N l r (placeOf b v .number)))
 
   view-twin : isD N B l ≡ twinLast N B (viewOf N l)
   unfolding isD twinLast
@@ -239,13 +239,13 @@ module _ (N B : ℕ) (l : List Segment) (size : length l ≡ N) (some : 0 < N) w
   unfolding isC isD tornMarked olderMarked topIndex
   no-frame f = (
     clean-split N B l ∙ rw f,
-    rw (marked (nextNumber l - 1) (lastSlot N l)) (and-false (isTorn (lastKind N l))),
-    rw (marked (older N l .number) (older N l .slot)) (and-false-2 (ltb 0 (lastBlock N l)) (eqb (copies (lastBlock N l) (entriesIn (viewOf N l))) 2)),
+    rw (marked (nextNumber l - 1) (lastSlot N l) cut) (and-false (isTorn (lastKind N l))),
+    rw (marked (older N l .number) (older N l .slot) dead) (and-false-2 (ltb 0 (lastBlock N l)) (eqb (copies (lastBlock N l) (entriesIn (viewOf N l))) 2)),
   )
     where
-      marked : (k j : ℕ) → isClean N B (set l (k % N) (withSlot j dead (getD l (k % N) blank))) ≡ false
-      marked k j = clean-split N B (set l (k % N) (withSlot j dead (getD l (k % N) blank)))
-          ∙ rw (frame-kept N l (k % N) j dead (omega (arith, mod-lt k some)), f)
+      marked : (k j : ℕ) (x : Slot) → isClean N B (set l (k % N) (withSlot j x (getD l (k % N) blank))) ≡ false
+      marked k j x = clean-split N B (set l (k % N) (withSlot j x (getD l (k % N) blank)))
+          ∙ rw (frame-kept N l (k % N) j x (omega (arith, mod-lt k some)), f)
 
   with-frame : frame N l ≡ true → cond (isClean N B l) clean (cond (isC N B l) (unfinished caseC) (cond (isD N B l) (unfinished caseD) damaged)) ≡ slotState N B (viewOf N l)
   unfolding slotState

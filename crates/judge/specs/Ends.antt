@@ -191,13 +191,13 @@ module _ (N B n : ℕ) (ver : Version) (l : List (List Slot)) (t : List Slot) wh
     unfolding isEmpty
     torn-written = rw split (last-written n ver l x torn y refl rest)
 
-    torn-marked : lastMarked (rowsWith n ver l t) ≡ rowsWith n ver l (x ++ (dead ∷ y))
+    torn-marked : lastMarked (rowsWith n ver l t) ≡ rowsWith n ver l (x ++ (cut ∷ y))
     unfolding isEmpty
     torn-marked = rw split (last-marked n ver l x torn y refl rest)
 
     torn-entries : entriesIn (lastMarked (rowsWith n ver l t)) ≡ entriesIn (rowsWith n ver l t)
     unfolding entryOf
-    torn-entries = ap entriesIn torn-marked ∙ (entries-of n ver l (x ++ (dead ∷ y)) ∙ (top-entries l x dead y rest
+    torn-entries = ap entriesIn torn-marked ∙ (entries-of n ver l (x ++ (cut ∷ y)) ∙ (top-entries l x cut y rest
         ∙ sym (entries-of n ver l t ∙ (ap (λ (z : List Slot). before-top l ++ entries z) split ∙ top-entries l x torn y rest))))
 
   torn-to : tornLast N B (rowsWith n ver l t) ≡ true → (endsTorn (ending n ver l t) && leb (length (entriesIn (rowsWith n ver l t))) (capacity N B)) ≡ true
@@ -223,13 +223,13 @@ module _ (N B n : ℕ) (ver : Version) (l : List (List Slot)) (t : List Slot) wh
 
       at-last : (x y : List Slot) → t ≡ x ++ (torn ∷ y) → all isEmpty y ≡ true → (endsTorn (ending n ver l t) && leb (length (entriesIn (rowsWith n ver l t))) (capacity N B)) ≡ true
       at-last x y e r =
-          let o : Ordered l (x ++ (dead ∷ y)) = ordered-facts n ver l (x ++ (dead ∷ y)) (rw (torn-marked x y e r) at (g .0)) in
+          let o : Ordered l (x ++ (cut ∷ y)) = ordered-facts n ver l (x ++ (cut ∷ y)) (rw (torn-marked x y e r) at (g .0)) in
           let s : ending n ver l t ≡ TornLast = rows-then n ver l t (ordered-rows o) ∙ stop-judge TornLast (before-top l) t (record {
             left = x;
             slot = torn;
             right = y;
             split = e;
-            plain = ending-plain l x dead y (unfold isEmpty in refl) r o;
+            plain = ending-plain l x cut y (unfold isEmpty in refl) r o;
             rest = r;
             ending = (unfold turn behind in refl);
             stops = (unfold isFull in refl);
@@ -261,9 +261,9 @@ module _ (N B n : ℕ) (ver : Version) (l : List (List Slot)) (t : List Slot) wh
       go r (inl (e, q)) = absurd (false≢true (unfold isFull in (ap isFull e)))
       go r (inr s) =
           let e : t ≡ s .left ++ (torn ∷ s .right) = s .split ∙ ap (λ (z : Slot). s .left ++ (z ∷ s .right)) (stop-torn (before-top l ++ entries (s .left)) (s .slot) (s .ending)) in
-          let d : distinct (before-top l ++ entries (s .left) ++ entryOf dead) ≡ true = (unfold entryOf in (ap distinct (append-nil (before-top l ++ entries (s .left))) ∙ s .plain .once)) in
+          let d : distinct (before-top l ++ entries (s .left) ++ entryOf cut) ≡ true = (unfold entryOf in (ap distinct (append-nil (before-top l ++ entries (s .left))) ∙ s .plain .once)) in
           let o : ordered (lastMarked (rowsWith n ver l t)) ≡ true = ap ordered (torn-marked (s .left) (s .right) e (s .rest))
-          ∙ facts-ordered n ver l (s .left ++ (dead ∷ s .right)) (ordered-ending l (s .left) dead (s .right) r (s .plain) (s .rest) (unfold isWrong isTorn in refl) d) in
+          ∙ facts-ordered n ver l (s .left ++ (cut ∷ s .right)) (ordered-ending l (s .left) cut (s .right) r (s .plain) (s .rest) (unfold isWrong isTorn in refl) d) in
           rw (torn-written (s .left) (s .right) e (s .rest), fine-ordered N B (lastMarked (rowsWith n ver l t)), o, torn-entries (s .left) (s .right) e (s .rest)) (unfold isTorn in (g .1))
 
   pub torn-ending : tornLast N B (rowsWith n ver l t) ≡ (endsTorn (ending n ver l t) && leb (length (entriesIn (rowsWith n ver l t))) (capacity N B))

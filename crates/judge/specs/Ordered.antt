@@ -142,12 +142,12 @@ module _ (n : ℕ) (ver : Version) (l : List (List Slot)) (x : List Slot) (k : S
   unfolding lastWritten
   last-written = rw (place, top-row l (x ++ (k ∷ y))) (getD-at x k y empty (length x) refl)
 
-  pub last-marked : lastMarked (rowsWith n ver l (x ++ (k ∷ y))) ≡ rowsWith n ver l (x ++ (dead ∷ y))
+  pub last-marked : lastMarked (rowsWith n ver l (x ++ (k ∷ y))) ≡ rowsWith n ver l (x ++ (cut ∷ y))
   unfolding lastMarked slotChanged topNumber
   last-marked =
       let m = length-append l ((x ++ (k ∷ y)) ∷ []) in
       let i : length l ≡ n + length (l ++ ((x ++ (k ∷ y)) ∷ [])) - 1 - n = omega arith in
-      rw (place, ← i, getD-at l (x ++ (k ∷ y)) [] [] (length l) refl, set-at x k y dead (length x) refl, set-at l (x ++ (k ∷ y)) [] (x ++ (dead ∷ y)) (length l) refl)
+      rw (place, ← i, getD-at l (x ++ (k ∷ y)) [] [] (length l) refl, set-at x k y cut (length x) refl, set-at l (x ++ (k ∷ y)) [] (x ++ (cut ∷ y)) (length l) refl)
 
 -- and its block if it is live
 pub last-block : (n : ℕ) (ver : Version) (l : List (List Slot)) (x : List Slot) (b : ℕ) (c : List ℕ) (y : List Slot) → all isEmpty y ≡ true → twinBlock (rowsWith n ver l (x ++ (live b c ∷ y))) ≡ b

@@ -22,13 +22,13 @@ pub enum Ending {
 }
 
 // The slots of one segment, looked at in order: counts, how they end, and the block of the last live one. A segment has at
-// most 255 slots, so that a byte holds a count.
+// most 255 slots, so that a byte holds a count; `cut` takes two, so that no gap is left before the block.
 pub struct Row {
     pub live: u8,
     pub dead: u8,
-    pub cut: u8,
     pub written: u8,
     pub ending: Ending,
+    pub cut: u16,
     pub block: BlockNumber,
 }
 

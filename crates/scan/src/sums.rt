@@ -89,7 +89,7 @@ fn add_row(sum: Sum, row: Row) -> Sum
         live,
         written,
         compactions: sum.compactions + 1,
-        dead: wide(row.dead) + wide(row.cut) > 0,
+        dead: wide(row.dead) + row.cut as usize > 0,
         ending,
         block,
     }

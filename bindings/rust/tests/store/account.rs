@@ -28,6 +28,7 @@ struct Segment {
     blank: bool,
     live: usize,
     dead: usize,
+    cut: usize,
     empty: usize,
     /// Torn and wrong slots, which are in no count.
     bad: usize,
@@ -45,6 +46,7 @@ impl Segment {
             blank,
             live: 0,
             dead: 0,
+            cut: 0,
             empty: 0,
             bad: 0,
             gap: false,
@@ -61,6 +63,7 @@ impl Segment {
             }
             Kind::Live { .. } => self.live += 1,
             Kind::Dead => self.dead += 1,
+            Kind::Cut => self.cut += 1,
             Kind::Torn | Kind::Wrong => self.bad += 1,
         }
         self.gap |= self.empty > 0;
@@ -241,15 +244,15 @@ fn judged(image: &[u8], listing: Listing) -> (Option<u64>, Listing) {
 }
 
 fn write_text(listing: &Listing, last: std::fmt::Arguments) -> Result<String, std::fmt::Error> {
-    let mut text = String::with_capacity(56 * listing.segments.len() + 37 * listing.lines.len());
+    let mut text = String::with_capacity(64 * listing.segments.len() + 37 * listing.lines.len());
     for (index, segment) in listing.segments.iter().enumerate() {
         match segment.header {
             Some(found) => {
                 let state = if found.owing { "owing" } else { "used" };
                 writeln!(
                     text,
-                    "seg {index} {state} num {} live {} dead {} empty {}",
-                    found.number, segment.live, segment.dead, segment.empty
+                    "seg {index} {state} num {} live {} dead {} cut {} empty {}",
+                    found.number, segment.live, segment.dead, segment.cut, segment.empty
                 )?;
             }
             None if segment.blank => writeln!(text, "seg {index} blank")?,

@@ -219,7 +219,7 @@ fn any_slot(rng: &mut Rng, page: &mut [u8]) {
     match rng.below(12) {
         0 => page.fill(0xFF),
         1 => write_slot_page(page, WRITING, block, b"torn"),
-        2 | 3 => write_slot_page(page, rng.pick(&[DEAD, DEAD_TORN]), block, b"dead"),
+        2 | 3 => write_slot_page(page, rng.pick(&[DEAD, CUT_SLOT]), block, b"dead"),
         4 => {
             write_slot_page(page, LIVE, block, &vec![rng.byte(); length]);
             // wrong, most of the time

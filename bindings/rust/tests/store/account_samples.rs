@@ -47,7 +47,8 @@ fn told(image: &[u8], expected: &str) {
 
 #[test]
 fn a_fresh_format() {
-    let text = "seg 0 used num 0 live 0 dead 0 empty 15\nseg 1 blank\nseg 2 blank\nseg 3 blank\n\
+    let text =
+        "seg 0 used num 0 live 0 dead 0 cut 0 empty 15\nseg 1 blank\nseg 2 blank\nseg 3 blank\n\
                 recover 0 steps 0\n";
     told(&formatted(G), text);
     let mut former = formatted(G);
@@ -62,16 +63,16 @@ fn a_block() {
     put(&mut image, G, 7, b"A1", UNLIMITED);
     told(
         &image,
-        "seg 0 used num 0 live 1 dead 0 empty 14\nseg 1 blank\nseg 2 blank\nseg 3 blank\n\
+        "seg 0 used num 0 live 1 dead 0 cut 0 empty 14\nseg 1 blank\nseg 2 blank\nseg 3 blank\n\
          block 7 len 2 seg 0 slot 1\nrecover 0 steps 0\n",
     );
 }
 
 #[test]
 fn the_board_with_an_owing_top() {
-    let segments = "seg 1 used num 5 live 1 dead 14 empty 0\n\
-                    seg 2 used num 6 live 0 dead 15 empty 0\n\
-                    seg 3 owing num 7 live 2 dead 0 empty 13\n\
+    let segments = "seg 1 used num 5 live 1 dead 14 cut 0 empty 0\n\
+                    seg 2 used num 6 live 0 dead 15 cut 0 empty 0\n\
+                    seg 3 owing num 7 live 2 dead 0 cut 0 empty 13\n\
                     block 7 len 2 seg 1 slot 1\n\
                     block 8 len 1 seg 3 slot 2\n\
                     block 9 len 1 seg 3 slot 1\n";
@@ -97,10 +98,10 @@ fn the_board_damaged() {
         image[G.page(2, 4)] = WRITING;
         told(
             &image,
-            "seg 0 used num 4 live 2 dead 13 empty 0\n\
-             seg 1 used num 5 live 1 dead 14 empty 0\n\
-             seg 2 used num 6 live 0 dead 14 empty 0\n\
-             seg 3 owing num 7 live 2 dead 0 empty 13\n\
+            "seg 0 used num 4 live 2 dead 13 cut 0 empty 0\n\
+             seg 1 used num 5 live 1 dead 14 cut 0 empty 0\n\
+             seg 2 used num 6 live 0 dead 14 cut 0 empty 0\n\
+             seg 3 owing num 7 live 2 dead 0 cut 0 empty 13\n\
              block 7 len 2 seg 0 slot 1\n\
              block 7 len 2 seg 1 slot 1\n\
              block 8 len 1 seg 3 slot 2\n\
@@ -121,8 +122,8 @@ fn equal_block_numbers() {
     let same: [(u16, &[u8]); 15] = [(300, b"x"); 15];
     fill(&mut image, 7, &same[..11], 4);
     fill(&mut image, 8, &[(300, b""), (29, b"yy")], 0);
-    let mut text = "seg 0 used num 8 live 2 dead 0 empty 13\nseg 1 blank\nseg 2 blank\n\
-                    seg 3 used num 7 live 11 dead 4 empty 0\nblock 29 len 2 seg 0 slot 2\n"
+    let mut text = "seg 0 used num 8 live 2 dead 0 cut 0 empty 13\nseg 1 blank\nseg 2 blank\n\
+                    seg 3 used num 7 live 11 dead 4 cut 0 empty 0\nblock 29 len 2 seg 0 slot 2\n"
         .to_string();
     for slot in 1..=11 {
         text += &format!("block 300 len 1 seg 3 slot {slot}\n");
@@ -140,12 +141,13 @@ fn what_is_not_counted() {
     fill(&mut image, 2, &[(5, b"e")], 0);
     told(
         &image,
-        "seg 0 used num 0 live 1 dead 2 empty 10\nseg 1 blank\nseg 2 torn\nseg 3 blank\n\
+        "seg 0 used num 0 live 1 dead 2 cut 0 empty 10\nseg 1 blank\nseg 2 torn\nseg 3 blank\n\
          block 1 len 1 seg 0 slot 1\nfails 4\n",
     );
 }
 
-/// A put that was cut, through the cases (a), (c) and (d).
+/// A put that was cut, through the cases (a), (c) and (d); and what recovery marks: in (c) the slot is
+/// cut, in (d) the older one dead (request #107).
 #[test]
 fn cut_puts() {
     let lines = |counts: &str, second: &str, blocks: &str, steps| {
@@ -162,16 +164,29 @@ fn cut_puts() {
     let mut image = formatted(G);
     put(&mut image, G, 7, b"a", UNLIMITED);
     let torn = cut(image.clone(), &put_of(7, b"b"), 5);
-    told(&torn, &lines("1 dead 0 empty 13", "blank", first, 1));
+    told(&torn, &lines("1 dead 0 cut 0 empty 13", "blank", first, 1));
+    let mut marked = torn;
+    perform(&mut marked, G, &Request::Recover, UNLIMITED);
+    told(
+        &marked,
+        &lines("1 dead 0 cut 1 empty 13", "blank", first, 0),
+    );
     let both = format!("{first}block 7 len 1 seg 0 slot 2\n");
     let twice = cut(image.clone(), &put_of(7, b"b"), 6);
-    told(&twice, &lines("2 dead 0 empty 13", "blank", &both, 1));
+    told(&twice, &lines("2 dead 0 cut 0 empty 13", "blank", &both, 1));
+    let mut replaced = twice;
+    perform(&mut replaced, G, &Request::Recover, UNLIMITED);
+    let second = "block 7 len 1 seg 0 slot 2\n";
+    told(
+        &replaced,
+        &lines("1 dead 1 cut 0 empty 13", "blank", second, 0),
+    );
     for _ in 0..14 {
         put(&mut image, G, 7, b"b", UNLIMITED);
     }
     let last = "block 7 len 1 seg 0 slot 15\n";
     let opening = cut(image, &put_of(8, b"c"), 20);
-    told(&opening, &lines("1 dead 14 empty 0", "torn", last, 2));
+    told(&opening, &lines("1 dead 14 cut 0 empty 0", "torn", last, 2));
 }
 
 /// A wrong size is no refusal; nothing of the image is looked at.
@@ -216,7 +231,7 @@ fn every_length_of_the_buffer() {
 #[test]
 fn the_longest_texts() {
     let store = Store::new("the longest accounts");
-    for (n, b, length) in [(4, 15, 2_196), (64, 255, 581_192), (255, 255, 2_363_238)] {
+    for (n, b, length) in [(4, 15, 2_220), (64, 255, 581_576), (255, 255, 2_364_768)] {
         let g = Geometry { n, b };
         let mut image = blank(g);
         for number in g.wear_limit() - n as u32..g.wear_limit() {

@@ -107,7 +107,7 @@ fn mended(image: &[u8], g: Geometry) -> Vec<(char, Vec<u8>)> {
     let last_at = g.page(g.index(top.number), last + 1);
     if of_top[last] == Kind::Torn {
         let mut marked = image.to_vec();
-        marked[last_at] = DEAD_TORN;
+        marked[last_at] = CUT_SLOT;
         found.push(('c', marked));
     }
     if let Kind::Live { block: wanted, .. } = of_top[last] {

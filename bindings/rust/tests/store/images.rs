@@ -116,7 +116,7 @@ fn dead_page(rng: &mut Rng, page: &mut [u8], block: u16) {
             write_slot_page(page, LIVE, block, &contents);
         }
     }
-    page[0] = rng.pick(&[DEAD, DEAD_TORN]);
+    page[0] = rng.pick(&[DEAD, CUT_SLOT]);
 }
 
 /// A fresh chip with empty records of these blocks, as a store from before request #105 left them.
@@ -304,7 +304,7 @@ pub fn disturb(rng: &mut Rng, g: Geometry, image: &mut [u8]) {
                         for slot in 1..=g.b {
                             let at = g.page(after, slot);
                             let block = rng.between(1, 60) as u16;
-                            let status = rng.pick(&[LIVE, DEAD, DEAD_TORN]);
+                            let status = rng.pick(&[LIVE, DEAD, CUT_SLOT]);
                             write_slot_page(&mut image[at..at + PAGE], status, block, b"stale");
                         }
                         if rng.once_in(2) {

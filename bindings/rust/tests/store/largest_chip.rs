@@ -203,7 +203,7 @@ type Fill = fn(usize) -> u8;
 /// All live, all dead, and all but one.
 const FILLS: [Fill; 6] = [
     |_| LIVE,
-    |slot| if slot % 2 == 0 { DEAD } else { DEAD_TORN },
+    |slot| if slot % 2 == 0 { DEAD } else { CUT_SLOT },
     |slot| if slot == 1 { DEAD } else { LIVE },
     |slot| if slot == 255 { DEAD } else { LIVE },
     |slot| if slot == 1 { LIVE } else { DEAD },

@@ -7,6 +7,7 @@ mod account_images;
 mod account_samples;
 mod blank_test;
 mod conditions;
+mod cut_slots;
 mod cuts;
 mod damage;
 mod empty_records;

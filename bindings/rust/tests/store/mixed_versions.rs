@@ -71,7 +71,7 @@ fn every_choice_of_versions() {
         for used in 1..n {
             for choice in 0..1 << used {
                 let mut image = with_statuses(g, (7, used), b"x", |_, slot| {
-                    [LIVE, DEAD, DEAD_TORN][(slot - 1) % 3]
+                    [LIVE, DEAD, CUT_SLOT][(slot - 1) % 3]
                 });
                 for place in 0..used {
                     let version = VERSIONS[choice >> place & 1];

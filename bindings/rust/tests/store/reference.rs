@@ -44,7 +44,8 @@ pub const SETTLED: u8 = 0x8F;
 pub const WRITING: u8 = 0x7F;
 pub const LIVE: u8 = 0x3F;
 pub const DEAD: u8 = 0x1F;
-pub const DEAD_TORN: u8 = 0x5F;
+/// What recovery makes of a slot whose writing was cut.
+pub const CUT_SLOT: u8 = 0x5F;
 /// Programming this clears bit 5.
 pub const CLEAR_BIT_5: u8 = 0xDF;
 
@@ -271,20 +272,23 @@ pub fn header(image: &[u8], g: Geometry, index: usize) -> Option<InUse> {
 // Slot page
 // ---------------------------------------------------------------------------------------------
 
-/// The five kinds of slot.
+/// The kinds of slot. Request #107: of those that document 01 calls dead, one that came from a cut is
+/// told apart from one that was replaced or deleted.
 #[derive(Clone, Copy, Debug, PartialEq, Eq)]
 pub enum Kind {
     Empty,
     Torn,
     Live { block: u16, length: usize },
     Dead,
+    Cut,
     Wrong,
 }
 
 pub fn kind(page: &[u8]) -> Kind {
     match page[0] {
         WRITING => Kind::Torn,
-        DEAD | DEAD_TORN => Kind::Dead,
+        DEAD => Kind::Dead,
+        CUT_SLOT => Kind::Cut,
         0xFF if all_255(page) => Kind::Empty,
         LIVE => {
             let length = usize::from(page[1]);
@@ -448,7 +452,7 @@ pub fn state_of(image: &[u8], g: Geometry) -> State {
                         return State::Damaged;
                     }
                 }
-                Kind::Dead => {
+                Kind::Dead | Kind::Cut => {
                     view.first_dead.get_or_insert(place);
                 }
                 _ => return State::Damaged,

@@ -55,6 +55,18 @@ enum-told-4 c = search needs
 add-t22 : tie.Need-add-t22
 add-t22 c = search needs
 
+add-t23 : tie.Need-add-t23
+add-t23 c = search needs
+
+behind-requires-4 : tie.Need-behind-requires-4
+behind-requires-4 c κs = search needs
+
+enum-told-5 : tie.Need-enum-told-5
+enum-told-5 c = search needs
+
+add-t26 : tie.Need-add-t26
+add-t26 c = search needs
+
 returns : tie.Need-returns
 unfolding see
 returns c = rw (c .leave-room .ensures, c .before .enum-told .given .1)
@@ -73,7 +85,11 @@ returns-4 c = rw (c .behind3 .ensures, c .before .before .before .enum-told3 .gi
 
 returns-5 : tie.Need-returns-5
 unfolding see
-returns-5 c = rw (c .before .enum-told4 .given .1)
+returns-5 c = rw (c .behind4 .ensures, c .before .before .before .enum-told4 .given .1)
+
+returns-6 : tie.Need-returns-6
+unfolding see
+returns-6 c = rw (c .before .enum-told5 .given .1)
 
 pub count-spec : {M : Type 1} → statement M
 count-spec =
@@ -96,8 +112,13 @@ count-spec =
     behind-requires-3
     enum-told-4
     add-t22
+    add-t23
+    behind-requires-4
+    enum-told-5
+    add-t26
     returns
     returns-2
     returns-3
     returns-4
-    returns-5)
+    returns-5
+    returns-6)

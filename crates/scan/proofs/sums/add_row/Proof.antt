@@ -24,11 +24,21 @@ returns c = (rw (c .before .before .before .before .wide .ensures, c .before .be
 add-t9 : tie.Need-add-t9
 add-t9 c = search needs
 
+wide-requires-3 : tie.Need-wide-requires-3
+wide-requires-3 c κs = search needs
+
+cast-t12 : tie.Need-cast-t12
+cast-t12 c = search needs
+
+add-t13 : tie.Need-add-t13
+add-t13 c = search needs
+
 returns-2 : tie.Need-returns-2
 unfolding addRow
-returns-2 c = (rw (c .before .before .before .before .before .before .wide .ensures, c .before .before .before .before .wide2 .ensures, c .before .before .before .behind .ensures, c .before .before .if1 .left), omega arith, omega arith)
+returns-2 c = let k = c .before .before .before in
+    (rw (k .before .before .before .before .wide .ensures, k .before .before .wide2 .ensures, k .before .behind .ensures, k .if1 .left, c .before .wide3 .ensures), omega arith, omega arith)
 
 pub add-row-spec : {M : Type 1} → statement M
 add-row-spec =
     tie.close
-    (tie.spec wide-requires add-live wide-requires-2 behind-requires returns add-t9 returns-2)
+    (tie.spec wide-requires add-live wide-requires-2 behind-requires returns add-t9 wide-requires-3 cast-t12 add-t13 returns-2)
