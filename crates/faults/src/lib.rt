@@ -191,7 +191,8 @@ fn test_slot(tests: SlotTests, kind: SlotKind, seen: &mut [u64; 1024]) -> SlotTe
             let once = still(distinct, rows::meet(seen, block));
             written(tests, sound, once, live + 1)
         }
-        SlotKind::Dead | SlotKind::Cut => written(tests, sound, distinct, live),
+        SlotKind::Dead => written(tests, sound, distinct, live),
+        SlotKind::Cut => written(tests, sound, distinct, live),
         SlotKind::Wrong => written(tests, false, distinct, live),
     }
 }

@@ -45,6 +45,6 @@ pub fn add_legend(text: &mut [u8], at: usize) -> usize
     text::add(
         text,
         at,
-        b"# live  x dead  ~ torn  ! wrong  . empty  > active segment\n",
+        b"# live  x dead  / cut  ~ torn  ! wrong  . empty  > active segment\n",
     )
 }

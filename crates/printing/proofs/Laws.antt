@@ -45,12 +45,7 @@ line-owing i x e = rw e
 -- the counts and the end of the line, as they are written
 pub counts-ended : (c : Counts) → labelled " live " (c .live) ++ (labelled " dead " (c .dead) ++ (labelled " cut " (c .cut) ++ (labelled " empty " (c .empty) ++ text "\n"))) ≡ countsLine c ++ text "\n"
 unfolding countsLine
-counts-ended c =
-    let l = labelled " live " (c .live) in
-    let d = labelled " dead " (c .dead) in
-    let k = labelled " cut " (c .cut) in
-    let e = labelled " empty " (c .empty) in
-    simp append-assoc
+counts-ended c = simp append-assoc
 
 shown-more : (i : ℕ) (a : List Shown) (x : Shown) → shownLines i a ++ shownLine (i + length a) x ≡ shownLines i (a ++ (x ∷ []))
 unfolding shownLines

@@ -1,4 +1,5 @@
 // The lines of an account, added to a text.
+use index::Counts;
 use index::Shown;
 use judge::SegmentState;
 use model::MOST_SEGMENTS;
@@ -25,16 +26,24 @@ fn add_ended(text: &mut [u8], at: usize, label: &[u8], n: u32) -> usize
 
 // ---- segments
 
+// The counts of a segment in use, and the end of its line.
+fn counts_line(text: &mut [u8], at: usize, counts: Counts) -> usize
+    requires { ⌜ at + 66 ≤ mostText ⌝ }
+    ensures { λ r. ⌜ Wrote (countsLine counts ++ ascii "\n") (now (text .entry)) at (now (text .exit)) r × (r ≤ at + 66) ⌝ }
+{
+    let lives = text::add_labelled(text, at, b" live ", counts.live as u32);
+    let deads = text::add_labelled(text, lives, b" dead ", counts.dead as u32);
+    let cuts = text::add_labelled(text, deads, b" cut ", counts.cut as u32);
+    add_ended(text, cuts, b" empty ", counts.empty as u32)
+}
+
 // Of a segment in use, what stands behind its index: the label of its state with the number, and the counts.
 fn used_line(text: &mut [u8], at: usize, label: &[u8], shown: Shown) -> usize
     requires { ⌜ (at + 90 ≤ mostText) × (length (now label) ≤ 12) ⌝ }
     ensures { λ r. ⌜ Wrote ((now (label .entry) ++ decimal (shown .number .0)) ++ (countsLine (shown .counts) ++ ascii "\n")) (now (text .entry)) at (now (text .exit)) r × (r ≤ at + 90) ⌝ }
 {
     let numbers = text::add_labelled(text, at, label, shown.number.0);
-    let lives = text::add_labelled(text, numbers, b" live ", shown.counts.live as u32);
-    let deads = text::add_labelled(text, lives, b" dead ", shown.counts.dead as u32);
-    let cuts = text::add_labelled(text, deads, b" cut ", shown.counts.cut as u32);
-    add_ended(text, cuts, b" empty ", shown.counts.empty as u32)
+    counts_line(text, numbers, shown.counts)
 }
 
 // One line.

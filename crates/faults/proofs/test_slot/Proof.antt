@@ -40,6 +40,12 @@ enum-told-4 c = search needs
 written-requires-4 : tie.Need-written-requires-4
 written-requires-4 c κs = search needs
 
+enum-told-5 : tie.Need-enum-told-5
+enum-told-5 c = search needs
+
+written-requires-5 : tie.Need-written-requires-5
+written-requires-5 c κs = search needs
+
 returns : tie.Need-returns
 unfolding testSlot
 returns c = rw (c .enum-told .given .1)
@@ -60,6 +66,10 @@ returns-5 : tie.Need-returns-5
 unfolding testSlot
 returns-5 c = rw (c .written4 .ensures, c .before .enum-told4 .given .1)
 
+returns-6 : tie.Need-returns-6
+unfolding testSlot
+returns-6 c = rw (c .written5 .ensures, c .before .enum-told5 .given .1)
+
 pub test-slot-spec : {M : Type 1} → statement M
 test-slot-spec =
     tie.close
@@ -76,8 +86,11 @@ test-slot-spec =
     written-requires-3
     enum-told-4
     written-requires-4
+    enum-told-5
+    written-requires-5
     returns
     returns-2
     returns-3
     returns-4
-    returns-5)
+    returns-5
+    returns-6)

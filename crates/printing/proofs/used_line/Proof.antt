@@ -1,9 +1,6 @@
 -- `printing::used_line`: the label with the number, then the counts. Assumes nothing.
 use native.Mathlib.Omega.{arith}
-use Rattle.text.specs.Text.{text}
-use Rattle.text.specs.Buffer.{labelled}
-use Rattle.text.proofs.Laws.{_then_, wrote-as}
-use Rattle.printing.proofs.Laws.{counts-ended}
+use Rattle.text.proofs.Laws.{_then_}
 use borrow.Author.Needs.{needs}
 use Rattle.printing.proofs.used_line.Statement.{statement}
 use Rattle.printing.proofs.used_line.Tie as tie
@@ -11,75 +8,19 @@ use Rattle.printing.proofs.used_line.Tie as tie
 add-labelled-requires : tie.Need-add-labelled-requires
 add-labelled-requires c κs = search needs
 
-slice-aggregate-add-labelled : tie.Need-slice-aggregate-add-labelled
-slice-aggregate-add-labelled c = search needs
-
-cast-add-labelled : tie.Need-cast-add-labelled
-cast-add-labelled c = search needs
-
-add-labelled-requires-2 : tie.Need-add-labelled-requires-2
-add-labelled-requires-2 c κs = search needs
-
-slice-aggregate-add-labelled-2 : tie.Need-slice-aggregate-add-labelled-2
-slice-aggregate-add-labelled-2 c = search needs
-
-cast-add-labelled-2 : tie.Need-cast-add-labelled-2
-cast-add-labelled-2 c = search needs
-
-add-labelled-requires-3 : tie.Need-add-labelled-requires-3
-add-labelled-requires-3 c κs = search needs
-
-slice-aggregate-add-labelled-3 : tie.Need-slice-aggregate-add-labelled-3
-slice-aggregate-add-labelled-3 c = search needs
-
-cast-add-labelled-3 : tie.Need-cast-add-labelled-3
-cast-add-labelled-3 c = search needs
-
-add-labelled-requires-4 : tie.Need-add-labelled-requires-4
-add-labelled-requires-4 c κs = search needs
-
-slice-aggregate-add-ended : tie.Need-slice-aggregate-add-ended
-slice-aggregate-add-ended c = search needs
-
-cast-add-ended : tie.Need-cast-add-ended
-cast-add-ended c = search needs
-
-add-ended-requires : tie.Need-add-ended-requires
-add-ended-requires c κs = search needs
+counts-line-requires : tie.Need-counts-line-requires
+counts-line-requires c κs = search needs
 
 same-length : tie.Need-same-length
 same-length c = search needs
 
 returns : tie.Need-returns
-unfolding labelled text
 returns c =
-    let k5 = c .before .before in
-    let k4 = k5 .before .before .before .before .before .before in
-    let k3 = k4 .before .before .before .before .before .before in
-    let k2 = k3 .before .before .before .before .before .before in
-    let k1 = k2 .before .before .before .before .before .before in
+    let k2 = c .before .before in
+    let k1 = k2 .before .before .before .before in
     let s = k1 .before .before .before .before in
-    let counts = wrote-as _ (counts-ended (s .args .shown .counts)) (k2 .add-labelled2 .ensures .0 then k3 .add-labelled3 .ensures .0 then k4 .add-labelled4 .ensures .0 then k5 .add-ended .ensures .0) in (
-      k1 .add-labelled .ensures .0 then counts,
-      omega (arith, k1 .add-labelled .ensures .1, k2 .add-labelled2 .ensures .1, k3 .add-labelled3 .ensures .1, k4 .add-labelled4 .ensures .1, k5 .add-ended .ensures .1, s .pre .1),
-    )
+    (k1 .add-labelled .ensures .0 then k2 .counts-line .ensures .0, omega (arith, k1 .add-labelled .ensures .1, k2 .counts-line .ensures .1, s .pre .1))
 
 pub used-line-spec : {M : Type 1} → statement M
 used-line-spec =
-    tie.close
-    (tie.spec
-    add-labelled-requires
-    slice-aggregate-add-labelled
-    cast-add-labelled
-    add-labelled-requires-2
-    slice-aggregate-add-labelled-2
-    cast-add-labelled-2
-    add-labelled-requires-3
-    slice-aggregate-add-labelled-3
-    cast-add-labelled-3
-    add-labelled-requires-4
-    slice-aggregate-add-ended
-    cast-add-ended
-    add-ended-requires
-    same-length
-    returns)
+    tie.close (tie.spec add-labelled-requires counts-line-requires same-length returns)

@@ -7,8 +7,8 @@ use Rattle.qbx_report.proofs.count.Tie as tie
 enum-told : tie.Need-enum-told
 enum-told c = search needs
 
-add-t8 : tie.Need-add-t8
-add-t8 c = search needs
+add-t9 : tie.Need-add-t9
+add-t9 c = search needs
 
 enum-told-2 : tie.Need-enum-told-2
 enum-told-2 c = search needs
@@ -16,17 +16,23 @@ enum-told-2 c = search needs
 enum-told-3 : tie.Need-enum-told-3
 enum-told-3 c = search needs
 
-add-t9 : tie.Need-add-t9
-add-t9 c = search needs
+add-t10 : tie.Need-add-t10
+add-t10 c = search needs
 
 enum-told-4 : tie.Need-enum-told-4
 enum-told-4 c = search needs
 
-add-t10 : tie.Need-add-t10
-add-t10 c = search needs
+add-t11 : tie.Need-add-t11
+add-t11 c = search needs
 
 enum-told-5 : tie.Need-enum-told-5
 enum-told-5 c = search needs
+
+add-t12 : tie.Need-add-t12
+add-t12 c = search needs
+
+enum-told-6 : tie.Need-enum-told-6
+enum-told-6 c = search needs
 
 returns : tie.Need-returns
 unfolding counted
@@ -48,20 +54,27 @@ returns-5 : tie.Need-returns-5
 unfolding counted
 returns-5 c = rw (c .enum-told5 .given .1)
 
+returns-6 : tie.Need-returns-6
+unfolding counted
+returns-6 c = rw (c .enum-told6 .given .1)
+
 pub count-spec : {M : Type 1} → statement M
 count-spec =
     tie.close
     (tie.spec
     enum-told
-    add-t8
+    add-t9
     enum-told-2
     enum-told-3
-    add-t9
-    enum-told-4
     add-t10
+    enum-told-4
+    add-t11
     enum-told-5
+    add-t12
+    enum-told-6
     returns
     returns-2
     returns-3
     returns-4
-    returns-5)
+    returns-5
+    returns-6)

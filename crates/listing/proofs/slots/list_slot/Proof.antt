@@ -35,6 +35,12 @@ add-t16 c = search needs
 enum-told-4 : tie.Need-enum-told-4
 enum-told-4 c = search needs
 
+add-t17 : tie.Need-add-t17
+add-t17 c = search needs
+
+enum-told-5 : tie.Need-enum-told-5
+enum-told-5 c = search needs
+
 returns : tie.Need-returns
 unfolding countKind linkKind
 returns c = rw (c .before .enum-told .given .1) (refl, refl)
@@ -55,7 +61,11 @@ returns-4 c = rw (c .before .enum-told3 .given .1) (refl, refl)
 
 returns-5 : tie.Need-returns-5
 unfolding countKind linkKind
-returns-5 c = rw (c .enum-told4 .given .1) (refl, refl)
+returns-5 c = rw (c .before .enum-told4 .given .1) (refl, refl)
+
+returns-6 : tie.Need-returns-6
+unfolding countKind linkKind
+returns-6 c = rw (c .enum-told5 .given .1) (refl, refl)
 
 pub list-slot-spec : {M : Type 1} → statement M
 list-slot-spec =
@@ -70,8 +80,11 @@ list-slot-spec =
     enum-told-3
     add-t16
     enum-told-4
+    add-t17
+    enum-told-5
     returns
     returns-2
     returns-3
     returns-4
-    returns-5)
+    returns-5
+    returns-6)
