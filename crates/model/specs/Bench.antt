@@ -1,4 +1,4 @@
--- Document 01, "Bench examples": those marked "Proved", 1 to 8, the lengths of 10 with what request #105 keeps, the sizes of 11 with what request #108 takes, and what request #104 adds: entries of one table under one statement (Laws.Bench).
+-- Document 01, "Bench examples": those marked "Proved", 1 to 8, the lengths of 10 with what request #105 keeps, the sizes of 11 with what request #108 takes, and what requests #104 and #107 add: entries of one table under one statement (Laws.Bench).
 use Prim.Native.Nat.{ℕ, zero, suc, _+_, _*_}
 use mathlib.Core.Bool.{Bool, true, cond, _||_, _&&_, not}
 use mathlib.Core.List.{List, [], _∷_, _++_}
@@ -200,6 +200,10 @@ noBits = replicate 224 0
 abbrev fours : List Call
 fours = putEach (1 ∷ 2 ∷ 4 ∷ 4 ∷ [])
 
+-- a put whose writing is cut, and recovered
+abbrev cutPut : Request → ℕ → List Call
+cutPut r k = call r k ∷ whole recover ∷ []
+
 abbrev twice : Setup
 twice = after 3 2 (fours ++ (call (put 4 (2 ∷ [])) 20 ∷ (counting 2 ++ (whole recover ∷ whole (put 4 (2 ∷ [])) ∷ []))))
 
@@ -311,6 +315,11 @@ examples =
     -- by the last of two numbers
     ∷ answers (aged 3 0 99998 [] fours) (put 4 (2 ∷ [])) 0 73 2
     ∷ answers (aged 3 0 99999 [] fours) (put 4 (2 ∷ [])) 8 0 0
+    -- request #107: recovery leaves 5F in (c), of the torn slot, and 1F in (d), of the older one
+    ∷ begins (after 2 2 (sevens (1 ∷ []) ++ cutPut (seven 2) 3)) 2 (0x5F ∷ 0x01 ∷ 0x07 ∷ 0xFF ∷ [])
+    ∷ begins (after 2 2 (sevens (1 ∷ []) ++ cutPut (seven 2) 6)) 1 (0x1F ∷ 0x01 ∷ 0x07 ∷ 0x00 ∷ [])
+    -- 5F counts for 8: the oldest segment has no other dead slot, and one more number would be one too many
+    ∷ answers (aged 3 0 99999 [] (putEach (1 ∷ []) ++ (cutPut (put 2 (1 ∷ [])) 3 ++ putEach (2 ∷ 3 ∷ [])))) (put 3 (2 ∷ [])) 0 37 1
     -- a put with room is never worn
     ∷ answers (aged 2 0 0 noBits (sevens (1 ∷ []))) (seven 2) 0 7 0
     ∷ answers (aged 2 0 99999 (0x7F ∷ []) (sevens (1 ∷ []))) (seven 2) 0 7 0
