@@ -1,0 +1,2 @@
+-- The statements; and the induction over histories.
+pub mod Law
