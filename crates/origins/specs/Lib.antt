@@ -1,2 +1,3 @@
 -- The statements; and the induction over histories.
 pub mod Law
+pub mod Reads
