@@ -1,3 +1,5 @@
 -- The statements; and the induction over histories.
 pub mod Law
 pub mod Reads
+pub mod Untorn
+pub mod Last

@@ -6,7 +6,7 @@ use mathlib.Core.Bool.{Bool, true, false, cond, not}
 use mathlib.Core.List.{List, [], _∷_}
 use lib.ListN.{length, getD, set}
 use lib.Dec.{eqb}
-use borrow.Author.Tests.{not-true}
+use borrow.Author.Tests.{not-true, eqb-true, eq-eqb}
 use Rattle.model.specs.Lists.{all}
 use Rattle.model.specs.Chip.{Image}
 use Rattle.model.specs.Slot.{Slot, empty, torn, dead, cut, wrong, live}
@@ -66,13 +66,28 @@ plain-reads x p none = go (eqb (numberAfter x) (suc (p .number)))
     go true h = none (p .slot) h
     go false h = h
 
--- a slot set: at each place it is the one that was set, or as before
-set-or-not : (ks : List Slot) (j q : ℕ) (c : Slot) → (getD (set ks j c) q empty ≡ c) ⊎ (getD (set ks j c) q empty ≡ getD ks q empty)
-set-or-not [] j q c = inr refl
-set-or-not (x ∷ ks) zero zero c = inl refl
-set-or-not (x ∷ ks) zero (suc q) c = inr refl
-set-or-not (x ∷ ks) (suc j) zero c = inr refl
-set-or-not (x ∷ ks) (suc j) (suc q) c = set-or-not ks j q c
+-- what reads such a kind has the place's number, and that kind there
+pub read-taken : (x : Segment) (p : Place) (k : Slot) → Telling k → readAt x p ≡ k → (numberAfter x ≡ suc (p .number)) × (getD (slotsIn x) (p .slot) empty ≡ k)
+unfolding readAt
+read-taken x p k t h = go (eqb (numberAfter x) (suc (p .number))) refl h
+  where
+    go : (b : Bool) → eqb (numberAfter x) (suc (p .number)) ≡ b → cond b (getD (slotsIn x) (p .slot) empty) empty ≡ k → (numberAfter x ≡ suc (p .number)) × (getD (slotsIn x) (p .slot) empty ≡ k)
+    go true e q = (eqb-true (numberAfter x) (suc (p .number)) e, q)
+    go false e q = absurd (subst Telling (sym q) t)
+
+-- and the other way round
+pub read-there : (x : Segment) (p : Place) → numberAfter x ≡ suc (p .number) → readAt x p ≡ getD (slotsIn x) (p .slot) empty
+unfolding readAt
+read-there x p e = rw (eq-eqb (numberAfter x) (suc (p .number)) e)
+
+-- ---- one slot set
+
+elsewhere : {A : Type 0} (l : List A) (i q : ℕ) (y d : A) → ((q ≡ i) × (getD (set l i y) q d ≡ y)) ⊎ (getD (set l i y) q d ≡ getD l q d)
+elsewhere [] i q y d = inr refl
+elsewhere (x ∷ l) zero zero y d = inl (refl, refl)
+elsewhere (x ∷ l) zero (suc q) y d = inr refl
+elsewhere (x ∷ l) (suc i) zero y d = inr refl
+elsewhere (x ∷ l) (suc i) (suc q) y d = ⊎-elim (λ e. inl (ap suc (e .0), e .1)) (λ e. inr e) (elsewhere l i q y d)
 
 pub with-slots : (j : ℕ) (c : Slot) (x : Segment) → slotsIn (withSlot j c x) ≡ set (slotsIn x) j c
 unfolding withSlot slotsIn
@@ -80,13 +95,25 @@ with-slots j c blank = refl
 with-slots j c invalid = refl
 with-slots j c (inUse ver st n ks) = refl
 
-pub with-slot : (j : ℕ) (c : Slot) (x : Segment) (p : Place) → (readAt (withSlot j c x) p ≡ c) ⊎ (readAt (withSlot j c x) p ≡ readAt x p)
+-- the place is slot j of this segment
+abbrev pub IsSlot : Segment → ℕ → Place → Type 0
+IsSlot x j p = (numberAfter x ≡ suc (p .number)) × (p .slot ≡ j)
+
+-- every other place reads as before
+pub slot-elsewhere : (j : ℕ) (c : Slot) (x : Segment) (p : Place) → (IsSlot x j p × (readAt (withSlot j c x) p ≡ c)) ⊎ (readAt (withSlot j c x) p ≡ readAt x p)
 unfolding readAt
-with-slot j c x p = rw (withSlot-number j c x, with-slots j c x) (go (eqb (numberAfter x) (suc (p .number))))
+slot-elsewhere j c x p = rw (withSlot-number j c x, with-slots j c x) (go (eqb (numberAfter x) (suc (p .number))) refl)
   where
-    go : (t : Bool) → (cond t (getD (set (slotsIn x) j c) (p .slot) empty) empty ≡ c) ⊎ (cond t (getD (set (slotsIn x) j c) (p .slot) empty) empty ≡ cond t (getD (slotsIn x) (p .slot) empty) empty)
-    go true = set-or-not (slotsIn x) j (p .slot) c
-    go false = inr refl
+    go : (t : Bool) → eqb (numberAfter x) (suc (p .number)) ≡ t
+        → (IsSlot x j p × (cond t (getD (set (slotsIn x) j c) (p .slot) empty) empty ≡ c)) ⊎ (cond t (getD (set (slotsIn x) j c) (p .slot) empty) empty ≡ cond t (getD (slotsIn x) (p .slot) empty) empty)
+    go true e = ⊎-elim (λ q. inl ((eqb-true (numberAfter x) (suc (p .number)) e, q .0), q .1)) (λ q. inr q) (elsewhere (slotsIn x) j (p .slot) c empty)
+    go false e = inr refl
+
+pub place-elsewhere : (l : List Segment) (i j q : ℕ) (c : Slot) (p : Place) → IsSlot (getD l i blank) j p ⊎ (readAt (getD (set l i (withSlot j c (getD l i blank))) q blank) p ≡ readAt (getD l q blank) p)
+place-elsewhere l i j q c p = ⊎-elim
+    (λ a. ⊎-elim (λ b. inl (b .0)) (λ b. inr (ap (λ x. readAt x p) (a .1) ∙ (b ∙ ap (λ (y : ℕ). readAt (getD l y blank) p) (sym (a .0))))) (slot-elsewhere j c (getD l i blank) p))
+    (λ a. inr (ap (λ x. readAt x p) a))
+    (elsewhere l i q (withSlot j c (getD l i blank)) blank)
 
 -- ---- two lists
 
@@ -183,7 +210,7 @@ no-new-slot k N B s u i j c n e paid =
     let l = segmentsOf N B s in
     let x = getD l i blank in
     no-new-replaced k N B s u i (withSlot j c x) e paid (replaced-force N l i (withSlot j c x) paid (withSlot-number j c x) (withSlot-owing j c x))
-    (λ p h. ⊎-elim (λ q. absurd (n (sym q ∙ h))) (λ q. sym q ∙ h) (with-slot j c x p))
+    (λ p h. ⊎-elim (λ q. absurd (n (sym (q .1) ∙ h))) (λ q. sym q ∙ h) (slot-elsewhere j c x p))
 
 -- a segment without slots replaced by another, blank or invalid
 abbrev pub Unused : Segment → Type 0
