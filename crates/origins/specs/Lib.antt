@@ -3,3 +3,4 @@ pub mod Law
 pub mod Reads
 pub mod Untorn
 pub mod Last
+pub mod Torn
