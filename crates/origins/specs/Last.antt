@@ -92,7 +92,7 @@ module _ (N B : ℕ) (s : Image) (z : rightSize N B s ≡ true) (e : state N B s
   unfolding slotOn
   reads-before p = slot-reads N l p ∙ ap (λ (y : List Segment). readAt (getD y (p .number % N) blank) p) (paid-force N l last-paid)
 
-  recovered-segments : segmentsOf N B (recovered N B s) ≡ marked
+  pub recovered-segments : segmentsOf N B (recovered N B s) ≡ set (segmentsOf N B s) ((nextNumber (segmentsOf N B s) - 1) % N) (withSlot (lastSlot N (segmentsOf N B s)) cut (getD (segmentsOf N B s) ((nextNumber (segmentsOf N B s) - 1) % N) blank))
   unfolding mendSteps
   recovered-segments = ap (λ y. segmentsOf N B y) (recovered-run N B s caseC z e) ∙ mark-segments N B s z (nextNumber l - 1) j cut marks
 

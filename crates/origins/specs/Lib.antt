@@ -4,3 +4,5 @@ pub mod Reads
 pub mod Untorn
 pub mod Last
 pub mod Torn
+pub mod Owing
+pub mod Recovers
