@@ -6,3 +6,5 @@ pub mod Last
 pub mod Torn
 pub mod Owing
 pub mod Recovers
+pub mod Room
+pub mod Puts

@@ -13,7 +13,7 @@ use Rattle.model.specs.Slot.{Slot, empty, torn, dead, cut, wrong, live}
 use Rattle.model.specs.State.{Segment, blank, invalid, inUse, isOwing, segmentsOf, numberAfter, slotsIn, nextNumber, topIndex, noneOwing, isClean, nextBlanked, withSlot, Place}
 use Rattle.model.specs.Laws.Lists.{and-left, and-right}
 use Rattle.model.specs.Laws.Ring.{get-kept, next-kept}
-use Rattle.model.specs.Laws.Clean.{clean-ring}
+use Rattle.model.specs.Laws.Clean.{RingFacts, clean-ring}
 use Rattle.model.specs.Laws.View.{withSlot-number, withSlot-owing}
 use Rattle.origins.specs.Law.{inForce, slotIn, slotOn}
 
@@ -163,12 +163,18 @@ none-owing [] i h = refl
 none-owing (x ∷ l) zero h = not-true (isOwing x) (and-left (not (isOwing x)) (all (λ y. not (isOwing y)) l) h)
 none-owing (x ∷ l) (suc i) h = none-owing l i (and-right (not (isOwing x)) (all (λ y. not (isOwing y)) l) h)
 
--- clean segments owe nothing
+-- segments that form a ring owe nothing, and clean ones do
+pub ring-paid : (N : ℕ) (l : List Segment) (i : ℕ) → RingFacts N l → isOwing (getD l i blank) ≡ false
+ring-paid N l i r = none-owing l i (r .paid)
+
+pub ring-force : (N : ℕ) (l : List Segment) → RingFacts N l → inForce N l ≡ l
+ring-force N l r = paid-force N l (ring-paid N l (topIndex N l) r)
+
 pub clean-paid : (N B : ℕ) (l : List Segment) (i : ℕ) → length l ≡ N → isClean N B l ≡ true → isOwing (getD l i blank) ≡ false
-clean-paid N B l i e h = none-owing l i (clean-ring N B l e h .paid)
+clean-paid N B l i e h = ring-paid N l i (clean-ring N B l e h)
 
 pub clean-force : (N B : ℕ) (l : List Segment) → length l ≡ N → isClean N B l ≡ true → inForce N l ≡ l
-clean-force N B l e h = paid-force N l (clean-paid N B l (topIndex N l) e h)
+clean-force N B l e h = ring-force N l (clean-ring N B l e h)
 
 -- a segment replaced by one with its number that owes as it does, where the top is paid
 pub replaced-force : (N : ℕ) (l : List Segment) (i : ℕ) (y : Segment) → isOwing (getD l (topIndex N l) blank) ≡ false → numberAfter y ≡ numberAfter (getD l i blank) → isOwing y ≡ isOwing (getD l i blank)
