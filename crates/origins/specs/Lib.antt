@@ -8,3 +8,4 @@ pub mod Owing
 pub mod Recovers
 pub mod Room
 pub mod Puts
+pub mod Events
