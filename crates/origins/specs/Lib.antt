@@ -9,3 +9,5 @@ pub mod Recovers
 pub mod Room
 pub mod Puts
 pub mod Events
+pub mod Fresh
+pub mod Theorem

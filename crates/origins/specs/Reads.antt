@@ -4,7 +4,7 @@ use mathlib.Core.Path.{_≡_, refl, sym, ap, ap₂, _∙_, subst}
 use mathlib.Core.Logic.{_⊎_, inl, inr, ⊎-elim, _≢_}
 use mathlib.Core.Bool.{Bool, true, false, cond, not}
 use mathlib.Core.List.{List, [], _∷_}
-use lib.ListN.{length, getD, set}
+use lib.ListN.{length, getD, set, replicate}
 use lib.Dec.{eqb}
 use borrow.Author.Tests.{not-true, eqb-true, eq-eqb}
 use Rattle.model.specs.Lists.{all}
@@ -56,6 +56,11 @@ blank-reads p = empty-slots (eqb (numberAfter blank) (suc (p .number))) (p .slot
 pub invalid-reads : (p : Place) → readAt invalid p ≡ empty
 unfolding readAt slotsIn
 invalid-reads p = empty-slots (eqb (numberAfter invalid) (suc (p .number))) (p .slot)
+
+pub empty-plain : (n j : ℕ) → Telling (getD (replicate n empty) j empty) → ⊥
+empty-plain zero j t = t
+empty-plain (suc n) zero t = t
+empty-plain (suc n) (suc j) t = empty-plain n j t
 
 -- of a segment in use none of whose slots is of such a kind
 pub plain-reads : (x : Segment) (p : Place) → ((j : ℕ) → Telling (getD (slotsIn x) j empty) → ⊥) → Telling (readAt x p) → ⊥

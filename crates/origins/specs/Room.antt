@@ -27,16 +27,11 @@ use Rattle.crash.specs.RecoverErase.{unused-segment}
 use Rattle.crash.specs.RoomOwing.{Full, old-valid, old-fits}
 use Rattle.crash.specs.RoomCuts.{TornNext, open-left, copy-out-left, owed, rest-after, rest-last}
 use Rattle.origins.specs.Law.{inForce}
-use Rattle.origins.specs.Reads.{readAt, Telling, not-telling, blank-reads, plain-reads, Fewer, fewer-trans, fewer-set, ring-paid, ring-force, owing-force, NoNew, no-new-same, no-new-image, no-new-trans, no-new-replaced, no-new-unused}
+use Rattle.origins.specs.Reads.{readAt, Telling, not-telling, blank-reads, empty-plain, plain-reads, Fewer, fewer-trans, fewer-set, ring-paid, ring-force, owing-force, NoNew, no-new-same, no-new-image, no-new-trans, no-new-replaced, no-new-unused}
 use Rattle.origins.specs.Torn.{owing-b}
 use Rattle.origins.specs.Owing.{ending}
 
 -- ---- new segments
-
-empty-plain : (n j : ℕ) → Telling (getD (replicate n empty) j empty) → ⊥
-empty-plain zero j t = t
-empty-plain (suc n) zero t = t
-empty-plain (suc n) (suc j) t = empty-plain n j t
 
 copied-plain : (es : List Entry) (n j : ℕ) → Telling (getD (map holding es ++ replicate n empty) j empty) → ⊥
 unfolding holding
