@@ -11,3 +11,4 @@ pub mod Puts
 pub mod Events
 pub mod Fresh
 pub mod Theorem
+pub mod Uncut
