@@ -12,7 +12,7 @@ use Rattle.model.specs.Chip.{Image, rightSize, run, Cut}
 use Rattle.model.specs.Header.{Version, isFormer}
 use Rattle.model.specs.Slot.{Slot, empty, torn, dead, cut, live, slotOf, isEmpty, isTorn, isWrong, entryOf, numberOk}
 use Rattle.model.specs.State.{Segment, blank, inUse, segmentsOf, slotsIn, numberAfter, nextNumber, topIndex, topSlots, firstNumber, View, viewOf, view, entries, entriesIn, holds, distinct, isClean, withSlot, filled, lastSlot, lastKind, tornMarked, isC, placeOf, blockIn, lastBlock, copies, older, olderMarked, isD, caseC, caseD}
-use Rattle.model.specs.Steps.{topRow, topNumber, firstEmpty, onPage, slotAt, writeSlot, markPlace, markOld, mendSteps, writeAtTop}
+use Rattle.model.specs.Steps.{topRow, topNumber, firstEmpty, writeSlot, markPlace, markOld, mendSteps, writeAtTop}
 use Rattle.model.specs.Answers.{recover, workOf}
 use Rattle.model.specs.Laws.Lists.{and-left, and-both}
 use Rattle.model.specs.Laws.Chip.{SizeFacts, size-facts, whole-cut, cut-append, cut-size}

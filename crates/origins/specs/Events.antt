@@ -2,16 +2,16 @@
 use Prim.Native.Nat.{ℕ, zero, suc}
 use mathlib.Core.Path.{_≡_, refl, sym, ap, _∙_, subst}
 use mathlib.Core.Logic.{_⊎_, inl, inr, ⊎-elim, _≢_}
-use mathlib.Core.Bool.{true, false, cond, true≢false}
+use mathlib.Core.Bool.{true, cond, true≢false}
 use mathlib.Core.List.{List, []}
 use native.Mathlib.Omega.{arith}
 use lib.Dec.{eqb}
 use borrow.Author.Tests.{ne-eqb}
 use Rattle.model.specs.Chip.{Image, Bytes, rightSize}
-use Rattle.model.specs.Slot.{Slot, torn, dead, cut, isTorn, isCut}
+use Rattle.model.specs.Slot.{torn, dead, cut, isTorn, isCut}
 use Rattle.model.specs.State.{segmentsOf, Place, Exception, caseA, caseB, caseC, caseD, State, clean, unfinished, damaged, state}
-use Rattle.model.specs.Answers.{Request, format, put, delete, read, readOr, recover, workOf, outcomeOf}
-use Rattle.model.specs.Histories.{Seen, answered, lost, Proper, Does, recovered}
+use Rattle.model.specs.Answers.{Request, format, put, delete, read, readOr, recover, workOf}
+use Rattle.model.specs.Histories.{Seen, answered, lost, Proper, Does}
 use Rattle.model.specs.Laws.Chip.{run-size, whole-cut}
 use Rattle.bridge.specs.Accepted.{recover-none}
 use Rattle.crash.specs.Machine.{malformed, IsCut, OnTable, WantsRecovery}
@@ -19,7 +19,7 @@ use Rattle.crash.specs.Sound.{SoundAs, Sound, Clean, finished, Accepted, CutOf}
 use Rattle.crash.specs.Requests.{refused-idle, idle-cut, read-idle, readOr-idle, Unfinished, code-unfinished, ended-or-stopped}
 use Rattle.crash.specs.Theorem.{request-laws}
 use Rattle.origins.specs.Law.{slotOn, lastPlace, IsPut}
-use Rattle.origins.specs.Reads.{NoNew, old-slot, no-new-image}
+use Rattle.origins.specs.Reads.{old-slot, no-new-image}
 use Rattle.origins.specs.Last.{others-stay, recovery-left}
 use Rattle.origins.specs.Torn.{untorn-clean}
 use Rattle.origins.specs.Recovers.{recovers-a, recovers-b, recovers-c, recovers-d}

@@ -1,18 +1,17 @@
 -- A finished format leaves empty slots alone.
 use Prim.Native.Nat.{ℕ, zero, suc, _-_, _%_}
-use mathlib.Core.Path.{_≡_, refl, sym, ap, _∙_, subst}
+use mathlib.Core.Path.{_≡_, sym, ap, _∙_, subst}
 use mathlib.Core.Logic.{_≢_}
 use mathlib.Core.Bool.{true}
-use mathlib.Core.List.{List, [], _∷_}
-use lib.ListN.{getD, replicate}
+use mathlib.Core.List.{List, []}
+use lib.ListN.{getD}
 use Rattle.model.specs.Chip.{Image, rightSize, run}
 use Rattle.model.specs.Slot.{Slot, empty, cut}
-use Rattle.model.specs.State.{Segment, blank, segmentsOf, slotsIn, firstNumber, View, viewOf, view, Place}
+use Rattle.model.specs.State.{Segment, blank, segmentsOf, slotsIn, firstNumber, View, view, Place}
 use Rattle.model.specs.Steps.{formatSteps}
 use Rattle.bridge.specs.Predicted.{fresh}
-use Rattle.bridge.specs.Held.{Held}
 use Rattle.bridge.specs.Format.{format-held}
-use Rattle.origins.specs.Law.{inForce, slotOn}
+use Rattle.origins.specs.Law.{slotOn}
 use Rattle.origins.specs.Reads.{readAt, slot-reads, Telling, empty-plain, read-taken, ring-force}
 use Rattle.origins.specs.Untorn.{numbered-row}
 

@@ -1,29 +1,26 @@
 -- (c): the last slot of the top is torn, a recovery marks it cut, and every other slot stays. With it, that a recovery of (c) makes exactly one.
-use Prim.Native.Nat.{ℕ, zero, suc, _-_, _%_, _≤_, _<_}
-use mathlib.Core.Path.{_≡_, refl, sym, ap, ap₂, _∙_, subst}
+use Prim.Native.Nat.{ℕ, suc, _-_, _%_, _<_}
+use mathlib.Core.Path.{_≡_, refl, sym, ap, ap₂, _∙_}
 use mathlib.Core.Logic.{_⊎_, inl, inr, ⊎-elim, _≢_}
-use mathlib.Core.Bool.{Bool, true, false, cond, _&&_, true≢false}
-use mathlib.Core.List.{List, [], _∷_}
+use mathlib.Core.Bool.{true, false, true≢false}
+use mathlib.Core.List.{List}
 use native.Mathlib.Omega.{arith}
 use native.Mathlib.Decide.{decLt}
 use lib.ListN.{length, getD, set, length-set, List·getD-eq-default}
 use lib.Seq.{getD-set-same}
-use lib.Dec.{eqb}
-use borrow.Author.Tests.{eqb-true}
-use Rattle.model.specs.Chip.{Image, rightSize, run, Cut}
-use Rattle.model.specs.Slot.{Slot, empty, torn, dead, cut, wrong, live, isTorn, isCut}
-use Rattle.model.specs.State.{Segment, blank, invalid, inUse, isOwing, segmentsOf, numberAfter, slotsIn, nextNumber, topIndex, topSlots, isClean, withSlot, filled, lastSlot, lastKind, tornMarked, isC, Place, caseC, unfinished, state}
-use Rattle.model.specs.Steps.{markPlace, mendSteps}
+use Rattle.model.specs.Chip.{Image, rightSize}
+use Rattle.model.specs.Slot.{Slot, empty, torn, dead, cut, wrong, live, isCut}
+use Rattle.model.specs.State.{Segment, blank, invalid, inUse, isOwing, segmentsOf, numberAfter, slotsIn, nextNumber, topIndex, isClean, withSlot, lastSlot, tornMarked, Place, caseC, unfinished, state}
+use Rattle.model.specs.Steps.{mendSteps}
 use Rattle.model.specs.Histories.{recovered}
 use Rattle.model.specs.Answers.{recover}
-use Rattle.model.specs.Laws.Lists.{and-left}
 use Rattle.model.specs.Laws.Chip.{size-facts}
 use Rattle.model.specs.Laws.Segments.{segments-length}
 use Rattle.model.specs.Laws.Effects.{index, top-at}
 use Rattle.model.specs.Laws.Ring.{get-kept, next-ge}
 use Rattle.model.specs.Laws.View.{withSlot-number, withSlot-owing}
 use Rattle.crash.specs.Sound.{CutOf}
-use Rattle.crash.specs.States.{isCase, mended, mended-clean, case-of, recover-steps, recovered-run}
+use Rattle.crash.specs.States.{mended, mended-clean, case-of, recover-steps, recovered-run}
 use Rattle.crash.specs.RecoverMarks.{Marks, last-marks, mark-segments, mark-whole}
 use Rattle.origins.specs.Law.{inForce, slotOn, lastPlace, OneMade}
 use Rattle.origins.specs.Reads.{readAt, slot-reads, not-telling, read-there, with-slots, place-elsewhere, paid-force, clean-paid, clean-force}

@@ -2,12 +2,12 @@
 use Prim.Native.Nat.{ℕ, suc, _-_, _%_}
 use mathlib.Core.Path.{_≡_}
 use mathlib.Core.Logic.{_⊎_, _≢_}
-use mathlib.Core.Bool.{Bool, true, false, cond}
+use mathlib.Core.Bool.{true, cond}
 use mathlib.Core.List.{List, [], _∷_, _++_}
 use lib.ListN.{getD}
 use lib.Dec.{eqb}
 use Rattle.model.specs.Chip.{Image, rightSize, run}
-use Rattle.model.specs.Slot.{Slot, empty, torn, cut, isCut, isTorn}
+use Rattle.model.specs.Slot.{Slot, empty, torn, cut}
 use Rattle.model.specs.State.{Segment, blank, isOwing, segmentsOf, numberAfter, slotsIn, nextNumber, topIndex, nextBlanked, lastSlot, Place, caseC, unfinished, state}
 use Rattle.model.specs.Steps.{formatSteps}
 use Rattle.model.specs.Answers.{Request, format, put, delete, read, readOr, recover}

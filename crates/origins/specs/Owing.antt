@@ -1,14 +1,14 @@
 -- An owing top, as a compaction and a cut recovery leave it. The segment after it is left aside, so that a cut erase of it makes nothing; and settling the top keeps what it reads.
 use Prim.Native.Nat.{ℕ, _-_, _%_, _≤_}
 use mathlib.Core.Path.{_≡_, sym, ap, _∙_}
-use mathlib.Core.Logic.{inl, inr, ⊎-elim}
+use mathlib.Core.Logic.{⊎-elim}
 use mathlib.Core.Bool.{true}
 use mathlib.Core.List.{List, [], _∷_}
-use lib.ListN.{length, getD, set, length-set}
+use lib.ListN.{getD, set, length-set}
 use lib.Seq.{set-set, getD-set-other}
 use Rattle.model.specs.Chip.{Image, erase, rightSize, step, run, Cut}
 use Rattle.model.specs.Slot.{Slot}
-use Rattle.model.specs.State.{Segment, blank, isOwing, segmentsOf, numberAfter, nextNumber, topIndex, nextIndex, isClean, nextBlanked, settled, topSettled, Place, caseB, unfinished, state}
+use Rattle.model.specs.State.{Segment, blank, isOwing, segmentsOf, numberAfter, nextNumber, topIndex, nextIndex, nextBlanked, settled, topSettled, caseB, unfinished, state}
 use Rattle.model.specs.Steps.{settle}
 use Rattle.model.specs.Laws.Chip.{cut-append, whole-cut}
 use Rattle.model.specs.Laws.Segments.{segments-length}
@@ -17,7 +17,7 @@ use Rattle.crash.specs.States.{mended, mended-clean, case-of}
 use Rattle.crash.specs.RecoverOwing.{apart, replaced-next, replaced-top, settle-whole, settled-there, wiped-segments, wiped-size}
 use Rattle.crash.specs.OwingCuts.{erasing-left}
 use Rattle.origins.specs.Law.{inForce}
-use Rattle.origins.specs.Reads.{readAt, Fewer, fewer-same, fewer-set, owing-force, clean-force, NoNew, no-new-image, no-new-trans}
+use Rattle.origins.specs.Reads.{readAt, fewer-same, fewer-set, owing-force, clean-force, NoNew, no-new-image, no-new-trans}
 use Rattle.origins.specs.Torn.{settled-reads, owing-b}
 
 module _ (k : Slot) (N B : ℕ) (s : Image) (z : rightSize N B s ≡ true) (e : state N B s ≡ unfinished caseB) where

@@ -1,13 +1,12 @@
 -- A put and a delete on a clean image, whole or cut: a put makes slots torn, live and dead, a delete makes them dead, and neither makes one cut.
 use Prim.Native.Nat.{ℕ, _%_}
 use mathlib.Core.Path.{_≡_, sym, ap, _∙_}
-use mathlib.Core.Logic.{_⊎_, inl, inr, ⊎-elim, _≢_}
-use mathlib.Core.Bool.{true, false, true≢false}
+use mathlib.Core.Logic.{_⊎_, ⊎-elim, _≢_}
+use mathlib.Core.Bool.{true, true≢false}
 use mathlib.Core.List.{List, _++_}
-use lib.ListN.{getD}
 use Rattle.model.specs.Chip.{Image, Bytes, rightSize, run, Cut}
 use Rattle.model.specs.Slot.{Slot, empty, torn, dead, cut, live, isCut}
-use Rattle.model.specs.State.{blank, isOwing, segmentsOf, topIndex, View, view, placeOf, clean, state}
+use Rattle.model.specs.State.{segmentsOf, topIndex, View, view, placeOf}
 use Rattle.model.specs.Steps.{topNumber, topRow, firstEmpty, roomFor, writeAtTop, markOld}
 use Rattle.model.specs.Answers.{put, delete}
 use Rattle.model.specs.Laws.Chip.{cut-append, whole-cut}

@@ -1,15 +1,15 @@
 -- A recovery, whole or cut: of (a) and of (b) it makes no slot read any kind newly; of (c) only cut, and of (d) only dead.
-use Prim.Native.Nat.{ℕ, _-_, _%_, _≤_, _<_}
+use Prim.Native.Nat.{ℕ, _-_, _%_}
 use mathlib.Core.Path.{_≡_, refl, sym, ap, _∙_}
-use mathlib.Core.Logic.{_⊎_, inl, inr, ⊎-elim, _≢_}
+use mathlib.Core.Logic.{_⊎_, inr, ⊎-elim, _≢_}
 use mathlib.Core.Bool.{true, false}
 use mathlib.Core.List.{List, [], _∷_, _++_}
-use lib.ListN.{length, getD, set, length-set}
-use lib.Seq.{set-set, set-getD, getD-set-other}
-use Rattle.model.specs.Chip.{Image, Step, erase, rightSize, step, run, Cut}
+use lib.ListN.{getD, set}
+use lib.Seq.{set-getD}
+use Rattle.model.specs.Chip.{Image, Step, erase, rightSize, run, Cut}
 use Rattle.model.specs.Header.{Version}
 use Rattle.model.specs.Slot.{Slot, dead, cut}
-use Rattle.model.specs.State.{Segment, blank, invalid, inUse, isOwing, segmentsOf, numberAfter, slotsIn, nextNumber, topIndex, nextIndex, isClean, nextBlanked, lastSlot, older, Place, caseA, caseB, caseC, caseD, unfinished, state}
+use Rattle.model.specs.State.{Segment, blank, invalid, inUse, isOwing, segmentsOf, slotsIn, nextNumber, topIndex, nextBlanked, lastSlot, older, Place, caseA, caseB, caseC, caseD, unfinished, state}
 use Rattle.model.specs.Steps.{settle, mendSteps}
 use Rattle.model.specs.Answers.{recover}
 use Rattle.model.specs.Laws.Chip.{size-facts, run-size, cut-append, cut-size, whole-cut}
@@ -17,14 +17,13 @@ use Rattle.model.specs.Laws.Segments.{segments-length}
 use Rattle.model.specs.Laws.Counted.{withVersion, withVersion-number, withVersion-owing}
 use Rattle.crash.specs.Sound.{Sound, CutOf}
 use Rattle.crash.specs.Alike.{Like, like-blanked}
-use Rattle.crash.specs.States.{mended, mended-clean, case-of, recover-steps}
+use Rattle.crash.specs.States.{recover-steps}
 use Rattle.crash.specs.RecoverCount.{counts, counted-like}
 use Rattle.crash.specs.RecoverMarks.{mark-segments, mark-whole}
 use Rattle.crash.specs.RecoverErase
 use Rattle.crash.specs.RecoverOwing
 use Rattle.crash.specs.OwingCuts
-use Rattle.origins.specs.Law.{inForce}
-use Rattle.origins.specs.Reads.{readAt, Telling, reads-same, Fewer, fewer-same, fewer-set, paid-force, owing-force, clean-force, replaced-force, NoNew, no-new-same, no-new-image, no-new-trans, no-new-replaced, no-new-slot, no-new-unused}
+use Rattle.origins.specs.Reads.{readAt, Telling, reads-same, Fewer, fewer-set, owing-force, replaced-force, NoNew, no-new-image, no-new-trans, no-new-replaced, no-new-slot, no-new-unused}
 use Rattle.origins.specs.Last.{last-paid, recovered-segments, recovery-left}
 use Rattle.origins.specs.Torn.{paid-a, owing-b, marks-d, paid-d}
 use Rattle.origins.specs.Owing.{settling, ending}

@@ -1,7 +1,7 @@
 -- Room made for a put, whole or cut: a segment opened or copied to has only live and empty slots, and the one that it replaces is left aside.
 use Prim.Native.Nat.{ℕ, zero, suc, _+_, _-_, _%_, _<_}
 use mathlib.Core.Path.{_≡_, refl, sym, ap, _∙_, subst}
-use mathlib.Core.Logic.{_⊎_, inl, inr, ⊎-elim}
+use mathlib.Core.Logic.{_⊎_, inl, ⊎-elim}
 use mathlib.Core.Bool.{Bool, true, false, cond}
 use mathlib.Core.List.{List, [], _∷_, _++_, map}
 use native.Mathlib.Omega.{arith}
@@ -11,11 +11,11 @@ use borrow.Author.Tests.{ltb-true, ltb-false}
 use Rattle.model.specs.Chip.{Image, Bytes, Step, erase, rightSize, run, numberLimit, Cut}
 use Rattle.model.specs.Header.{opened, erasePending, Version, newVersion, tallyOf}
 use Rattle.model.specs.Slot.{Slot, empty, Entry, holding}
-use Rattle.model.specs.State.{Segment, blank, inUse, isOwing, segmentOf, segmentsOf, slotsIn, nextNumber, topIndex, nextIndex, nextBlanked, View, view, entries, Place}
-use Rattle.model.specs.Steps.{topNumber, hasRoom, copied, openSegment, copyOut, compact, settle, nextVersion, Room, openNext, compactOldest, compactUntilRoom, roomFor}
+use Rattle.model.specs.State.{Segment, blank, inUse, isOwing, segmentOf, segmentsOf, slotsIn, topIndex, nextIndex, nextBlanked, View, entries, Place}
+use Rattle.model.specs.Steps.{topNumber, hasRoom, copied, copyOut, compact, settle, nextVersion, Room, openNext, compactOldest, compactUntilRoom, roomFor}
 use Rattle.model.specs.Laws.Chip.{SizeFacts, size-facts, run-size, cut-append, whole-cut}
 use Rattle.model.specs.Laws.Bytes.{run-bytes}
-use Rattle.model.specs.Laws.Segments.{partOf, Only, only-segments}
+use Rattle.model.specs.Laws.Segments.{partOf, only-segments}
 use Rattle.model.specs.Laws.Effects.{open-effect}
 use Rattle.bridge.specs.Predicted.{CleanView, Carries}
 use Rattle.bridge.specs.Views.Shape.{opened-top}
@@ -27,7 +27,7 @@ use Rattle.crash.specs.RecoverErase.{unused-segment}
 use Rattle.crash.specs.RoomOwing.{Full, old-valid, old-fits}
 use Rattle.crash.specs.RoomCuts.{TornNext, open-left, copy-out-left, owed, rest-after, rest-last}
 use Rattle.origins.specs.Law.{inForce}
-use Rattle.origins.specs.Reads.{readAt, Telling, not-telling, blank-reads, empty-plain, plain-reads, Fewer, fewer-trans, fewer-set, ring-paid, ring-force, owing-force, NoNew, no-new-same, no-new-image, no-new-trans, no-new-replaced, no-new-unused}
+use Rattle.origins.specs.Reads.{readAt, Telling, not-telling, blank-reads, empty-plain, plain-reads, fewer-trans, fewer-set, ring-paid, ring-force, owing-force, NoNew, no-new-same, no-new-image, no-new-trans, no-new-replaced, no-new-unused}
 use Rattle.origins.specs.Torn.{owing-b}
 use Rattle.origins.specs.Owing.{ending}
 

@@ -1,13 +1,12 @@
 -- The induction over histories, from the end to the start: what reads cut at the end was cut at the start, or torn there and marked later, or both happened in between.
-use Prim.Native.Nat.{ℕ, _%_}
+use Prim.Native.Nat.{ℕ}
 use mathlib.Core.Path.{_≡_, refl, sym, ap, _∙_, subst}
-use mathlib.Core.Logic.{_⊎_, inl, inr, ⊎-elim, _≢_}
+use mathlib.Core.Logic.{_⊎_, ⊎-elim}
 use mathlib.Core.Bool.{true, false}
 use mathlib.Core.List.{List, [], _∷_, _++_}
-use lib.ListN.{getD}
 use Rattle.model.specs.Chip.{Image, Bytes, rightSize, run}
-use Rattle.model.specs.Slot.{Slot, empty, torn, cut}
-use Rattle.model.specs.State.{Segment, blank, segmentsOf, slotsIn, Place, caseC, unfinished, state}
+use Rattle.model.specs.Slot.{torn, cut}
+use Rattle.model.specs.State.{Place, caseC, unfinished, state}
 use Rattle.model.specs.Steps.{formatSteps}
 use Rattle.model.specs.Answers.{Request, format, put, delete, read, readOr, recover}
 use Rattle.model.specs.Histories.{Seen, Proper, Does, Event, History, wears}
@@ -91,15 +90,39 @@ module _ (N B : ℕ) where
     came-before (was-torn h between e after split c waits d marked follows) = ⊎-elim
         (λ q. was-torn q (v ∷ between) e after (ap {B = List Event} (λ y. v ∷ y) split) c (proper, worn, (m, does, waits)) d marked follows)
         (λ q. in-between (record {
-          before = []; interrupted = v; between = between; recovery = e; after = after; split = ap {B = List Event} (λ y. v ∷ y) split;
-          a = s; leads = refl; b = m;
+          before = [];
+          interrupted = v;
+          between = between;
+          recovery = e;
+          after = after;
+          split = ap {B = List Event} (λ y. v ∷ y) split;
+          a = s;
+          leads = refl;
+          b = m;
           tore = tore-here h q;
-          c = c; waits = waits; d = d; marked = marked; follows = follows;
+          c = c;
+          waits = waits;
+          d = d;
+          marked = marked;
+          follows = follows;
         }))
         (new-torn N B s m (fit .size) (fit .sound) (fit .bytes) p (v .request) (v .seen) does work h)
     came-before (in-between f) = in-between (record {
-      before = v ∷ f .before; interrupted = f .interrupted; between = f .between; recovery = f .recovery; after = f .after; split = ap {B = List Event} (λ y. v ∷ y) (f .split);
-      a = f .a; leads = (proper, worn, (m, does, f .leads)); b = f .b; tore = f .tore; c = f .c; waits = f .waits; d = f .d; marked = f .marked; follows = f .follows;
+      before = v ∷ f .before;
+      interrupted = f .interrupted;
+      between = f .between;
+      recovery = f .recovery;
+      after = f .after;
+      split = ap {B = List Event} (λ y. v ∷ y) (f .split);
+      a = f .a;
+      leads = (proper, worn, (m, does, f .leads));
+      b = f .b;
+      tore = f .tore;
+      c = f .c;
+      waits = f .waits;
+      d = f .d;
+      marked = f .marked;
+      follows = f .follows;
     })
 
   came : (es : List Event) (s u : Image) → Unformatted es → Stands s → History N B s es u → (p : Place) → slotOn N B u p ≡ cut → Came N B s es u p

@@ -1,12 +1,12 @@
 -- Where a slot in use may be torn: in (c), and there the last of the top alone. With it, which cases have a top that owes.
 use Prim.Native.Nat.{ℕ, _%_}
 use mathlib.Core.Path.{_≡_, refl, sym, ap, _∙_, subst}
-use mathlib.Core.Logic.{_⊎_, inl, inr, ⊎-elim, _≢_}
+use mathlib.Core.Logic.{_⊎_, inr, ⊎-elim, _≢_}
 use mathlib.Core.Bool.{true, false, true≢false}
 use mathlib.Core.List.{List}
 use lib.ListN.{length, getD, set, length-set}
 use Rattle.model.specs.Chip.{Image, rightSize}
-use Rattle.model.specs.Slot.{Slot, empty, torn, dead, cut, isCut}
+use Rattle.model.specs.Slot.{Slot, empty, torn, dead, isCut}
 use Rattle.model.specs.State.{Segment, blank, invalid, inUse, isOwing, segmentsOf, numberAfter, slotsIn, nextNumber, topIndex, nextIndex, isClean, nextBlanked, settled, topSettled, withSlot, older, olderMarked, Place, Exception, caseA, caseB, caseC, caseD, State, clean, unfinished, damaged, state}
 use Rattle.model.specs.Answers.{recover, workOf}
 use Rattle.model.specs.Histories.{recovered}
@@ -22,7 +22,7 @@ use Rattle.crash.specs.RecoverErase.{torn-segment}
 use Rattle.crash.specs.RecoverOwing.{owing}
 use Rattle.crash.specs.Recover.{recover-done}
 use Rattle.origins.specs.Law.{inForce, slotOn, lastPlace}
-use Rattle.origins.specs.Reads.{readAt, slot-reads, Telling, not-telling, reads-same, blank-reads, read-taken, slot-elsewhere, Fewer, fewer-same, fewer-trans, fewer-set, fewer-back, paid-force, owing-force, clean-paid, clean-force, unused-reads}
+use Rattle.origins.specs.Reads.{readAt, slot-reads, Telling, not-telling, reads-same, blank-reads, read-taken, slot-elsewhere, Fewer, fewer-same, fewer-set, fewer-back, paid-force, owing-force, clean-paid, unused-reads}
 use Rattle.origins.specs.Untorn.{clean-untorn}
 use Rattle.origins.specs.Last.{others-stay}
 

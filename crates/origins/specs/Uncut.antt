@@ -1,18 +1,16 @@
 -- Sequences of demand 3 as histories of demand 2: without a cut there is no event that a slot could have been torn by.
 use Prim.Native.Nat.{ℕ}
-use mathlib.Core.Path.{_≡_, refl, sym, ap, _∙_, subst}
-use mathlib.Core.Logic.{inl, inr, ⊎-elim, _≢_}
+use mathlib.Core.Path.{refl, sym, ap, subst}
+use mathlib.Core.Logic.{inl, inr, _≢_}
 use mathlib.Core.Bool.{Bool, true, false, true≢false}
 use mathlib.Core.List.{List, [], _∷_, _++_}
-use Rattle.model.specs.Chip.{Image, rightSize, run}
-use Rattle.model.specs.Slot.{cut}
-use Rattle.model.specs.State.{Place}
+use Rattle.model.specs.Chip.{Image, run}
 use Rattle.model.specs.Steps.{formatSteps}
 use Rattle.model.specs.Answers.{Request, format, put, delete, read, readOr, recover, outcomeOf}
 use Rattle.model.specs.Histories.{Reply, Seen, answered, lost, replyOf, Proper, Event, History, wears}
 use Rattle.model.specs.Sequences.{Call, play, observe, observed, InSequence, Uncut}
 use Rattle.crash.specs.Machine.{IsCut, OnTable}
-use Rattle.origins.specs.Law.{slotOn, Unformatted, FromACut, NoneUncut}
+use Rattle.origins.specs.Law.{Unformatted, NoneUncut}
 use Rattle.origins.specs.Theorem.{cut-tells}
 
 -- the events of a sequence

@@ -3,13 +3,13 @@ use Prim.Native.Nat.{ℕ, suc, _+_, _-_, _%_, _≤_, _<_}
 use mathlib.Core.Path.{_≡_, refl, sym, ap, _∙_, subst}
 use mathlib.Core.Logic.{_≢_}
 use mathlib.Core.Bool.{true, false, _||_, not, true≢false, false≢true}
-use mathlib.Core.List.{List, [], flatten}
+use mathlib.Core.List.{List, []}
 use native.Mathlib.Omega.{arith}
 use native.Mathlib.Decide.{decLt}
 use lib.ListN.{length, getD, List·getD-eq-default}
 use Rattle.model.specs.Lists.{all}
 use Rattle.model.specs.Slot.{Slot, empty, torn, isTorn, isWrong}
-use Rattle.model.specs.State.{Segment, blank, isInUse, numberAfter, slotsIn, nextNumber, usedCount, firstNumber, View, viewOf, noneWrongOrTorn, isClean, Place}
+use Rattle.model.specs.State.{Segment, blank, isInUse, numberAfter, slotsIn, usedCount, firstNumber, viewOf, noneWrongOrTorn, isClean, Place}
 use Rattle.model.specs.Laws.Lists.{all-get, all-row}
 use Rattle.model.specs.Laws.Ring.{next-ge, number-in-use, only-numbered, slots-get}
 use Rattle.model.specs.Laws.Clean.{RingFacts, clean-ring, clean-slots, used-next, index-inside, numbered}
