@@ -1,4 +1,4 @@
--- One event, on an image as demand 2 knows it: which slots read cut after it, and which torn, that did not before.
+-- One event, on an image as demand 2 knows it: which slots read cut after it, which torn, and which dead, that did not before.
 use Prim.Native.Nat.{ℕ, zero, suc}
 use mathlib.Core.Path.{_≡_, refl, sym, ap, _∙_, subst}
 use mathlib.Core.Logic.{_⊎_, inl, inr, ⊎-elim, _≢_}
@@ -18,7 +18,7 @@ use Rattle.crash.specs.Machine.{malformed, IsCut, OnTable, WantsRecovery}
 use Rattle.crash.specs.Sound.{SoundAs, Sound, Clean, finished, Accepted, CutOf}
 use Rattle.crash.specs.Requests.{refused-idle, idle-cut, read-idle, readOr-idle, Unfinished, code-unfinished, ended-or-stopped}
 use Rattle.crash.specs.Theorem.{request-laws}
-use Rattle.origins.specs.Law.{slotOn, lastPlace, IsPut}
+use Rattle.origins.specs.Law.{slotOn, lastPlace, IsPut, IsDelete}
 use Rattle.origins.specs.Reads.{old-slot, no-new-image}
 use Rattle.origins.specs.Last.{others-stay, recovery-left}
 use Rattle.origins.specs.Torn.{untorn-clean}
@@ -126,3 +126,13 @@ module _ (N B : ℕ) (s m : Image) (z : rightSize N B s ≡ true) (sound : Sound
   new-torn r o w (recovers caseB e d) h = inl (old-slot torn N B s m (recovers-b torn tt N B s z sound e m d) p h)
   new-torn r o w (recovers caseC e d) h = inl (old-slot torn N B s m (recovers-c torn cut-torn N B s z e m d) p h)
   new-torn r o w (recovers caseD e d) h = inl (old-slot torn N B s m (recovers-d torn dead-torn N B s z e m d) p h)
+
+  -- a slot that reads dead did before, or this is a put, a delete, or a recovery of (d)
+  pub new-dead : (r : Request) → Worked N B s m r → slotOn N B m p ≡ dead → (slotOn N B s p ≡ dead) ⊎ (IsPut r ⊎ (IsDelete r ⊎ ((r ≡ recover) × (state N B s ≡ unfinished caseD))))
+  new-dead r (idle e) h = inl (old-slot dead N B s m (no-new-image dead N B s m e) p h)
+  new-dead r (puts b c k v a d) h = inr (inl tt)
+  new-dead r (deletes b k a d) h = inr (inr (inl tt))
+  new-dead r (recovers caseA e d) h = inl (old-slot dead N B s m (recovers-a dead tt N B s z sound e m d) p h)
+  new-dead r (recovers caseB e d) h = inl (old-slot dead N B s m (recovers-b dead tt N B s z sound e m d) p h)
+  new-dead r (recovers caseC e d) h = inl (old-slot dead N B s m (recovers-c dead (λ q. dead-not (sym q)) N B s z e m d) p h)
+  new-dead r (recovers caseD e d) h = inr (inr (inr (refl, e)))

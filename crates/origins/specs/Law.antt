@@ -7,8 +7,8 @@ use mathlib.Core.List.{List, [], _∷_, _++_}
 use lib.ListN.{getD}
 use lib.Dec.{eqb}
 use Rattle.model.specs.Chip.{Image, rightSize, run}
-use Rattle.model.specs.Slot.{Slot, empty, torn, cut}
-use Rattle.model.specs.State.{Segment, blank, isOwing, segmentsOf, numberAfter, slotsIn, nextNumber, topIndex, nextBlanked, lastSlot, Place, caseC, unfinished, state}
+use Rattle.model.specs.Slot.{Slot, empty, torn, dead, cut}
+use Rattle.model.specs.State.{Segment, blank, isOwing, segmentsOf, numberAfter, slotsIn, nextNumber, topIndex, nextBlanked, lastSlot, Place, caseC, caseD, unfinished, state}
 use Rattle.model.specs.Steps.{formatSteps}
 use Rattle.model.specs.Answers.{Request, format, put, delete, read, readOr, recover}
 use Rattle.model.specs.Histories.{Seen, Proper, Does, Event, History, recovered}
@@ -101,3 +101,19 @@ abbrev pub NothingElse : Type 0
 NothingElse = (N B : ℕ) (s u m : Image) (es : List Event) (r : Request) (o : Seen) → rightSize N B s ≡ true → History N B (run B (formatSteps N B) s) es u → Unformatted es
     → OnTable r → Proper r → Does N B r o u m
     → (p : Place) → slotOn N B m p ≡ cut → (slotOn N B u p ≡ cut) ⊎ ((r ≡ recover) × (state N B u ≡ unfinished caseC) × (p ≡ lastPlace N B u))
+
+-- ---- where a slot that reads 1F comes from
+
+abbrev pub IsDelete : Request → Type 0
+IsDelete format = ⊥
+IsDelete (put b c) = ⊥
+IsDelete (delete b) = Unit {0}
+IsDelete (read b) = ⊥
+IsDelete (readOr b f) = ⊥
+IsDelete recover = ⊥
+
+-- After such a history, whatever is asked next and wherever it is cut: a slot in use that reads 1F read so before; or this is a put or a delete, or a recovery of (d), which ends a put.
+abbrev pub DeadTells : Type 0
+DeadTells = (N B : ℕ) (s u m : Image) (es : List Event) (r : Request) (o : Seen) → rightSize N B s ≡ true → History N B (run B (formatSteps N B) s) es u → Unformatted es
+    → OnTable r → Proper r → Does N B r o u m
+    → (p : Place) → slotOn N B m p ≡ dead → (slotOn N B u p ≡ dead) ⊎ (IsPut r ⊎ (IsDelete r ⊎ ((r ≡ recover) × (state N B u ≡ unfinished caseD))))

@@ -19,10 +19,10 @@ use Rattle.crash.specs.Invariant.{Invariant}
 use Rattle.crash.specs.Skeleton.{one-event, May}
 use Rattle.crash.specs.Starts.{formatted-stores}
 use Rattle.crash.specs.Theorem.{request-laws}
-use Rattle.origins.specs.Law.{slotOn, lastPlace, Unformatted, IsPut, Tore, Marked, FromACut, CutTells, NothingElse}
+use Rattle.origins.specs.Law.{slotOn, lastPlace, Unformatted, IsPut, Tore, Marked, FromACut, CutTells, NothingElse, DeadTells}
 use Rattle.origins.specs.Last.{last-before}
 use Rattle.origins.specs.Torn.{untorn-clean, torn-last}
-use Rattle.origins.specs.Events.{cut-of, Worked, worked, new-cut, new-torn}
+use Rattle.origins.specs.Events.{cut-of, Worked, worked, new-cut, new-torn, new-dead}
 use Rattle.origins.specs.Fresh.{formatted-uncut}
 
 -- ---- what demand 2 knows of an image
@@ -147,7 +147,21 @@ cut-tells N B s u es z runs none p k = go (came N B es f u none (begins N B s z)
     go (was-torn h between e after split c waits d marked follows) = absurd (untorn-clean N B (run B (formatSteps N B) s) (run-size N B (formatSteps N B) s ∙ z) (request-laws N B .format-done s z .0) p h)
     go (in-between h) = h
 
+-- whatever is asked next
+module _ (N B : ℕ) (s u m : Image) (es : List Event) (r : Request) (o : Seen) (z : rightSize N B s ≡ true) (runs : History N B (run B (formatSteps N B) s) es u) (none : Unformatted es)
+    (on : OnTable r) (proper : Proper r) (does : Does N B r o u m) where
+  fit-then : Fit N B u
+  fit-then = stands-fit N B u (stands N B es (run B (formatSteps N B) s) u none (begins N B s z) runs)
+
+  work-then : Worked N B u m r
+  work-then = worked N B u m (fit-then .size) r on proper (fit-then .sound) (cut-of N B r o u m does)
+
 pub nothing-else : NothingElse
 nothing-else N B s u m es r o z runs none on proper does p k =
-    let fit = stands-fit N B u (stands N B es (run B (formatSteps N B) s) u none (begins N B s z) runs) in
-    new-cut N B u m (fit .size) (fit .sound) (fit .bytes) p r (worked N B u m (fit .size) r on proper (fit .sound) (cut-of N B r o u m does)) k
+    let fit = fit-then N B s u m es r o z runs none on proper does in
+    new-cut N B u m (fit .size) (fit .sound) (fit .bytes) p r (work-then N B s u m es r o z runs none on proper does) k
+
+pub dead-tells : DeadTells
+dead-tells N B s u m es r o z runs none on proper does p k =
+    let fit = fit-then N B s u m es r o z runs none on proper does in
+    new-dead N B u m (fit .size) (fit .sound) (fit .bytes) p r (work-then N B s u m es r o z runs none on proper does) k
