@@ -1,4 +1,4 @@
--- The statements; and the induction over histories.
+-- The statements, what each event does to slots, the induction over histories, and two histories computed.
 pub mod Law
 pub mod Reads
 pub mod Untorn
@@ -12,3 +12,4 @@ pub mod Events
 pub mod Fresh
 pub mod Theorem
 pub mod Uncut
+pub mod Examples

@@ -14,7 +14,7 @@ use Rattle.origins.specs.Law.{Unformatted, NoneUncut}
 use Rattle.origins.specs.Theorem.{cut-tells}
 
 -- the events of a sequence
-unfoldable eventsOf : ℕ → ℕ → Image → List Call → List Event
+unfoldable pub eventsOf : ℕ → ℕ → Image → List Call → List Event
 eventsOf N B s [] = []
 eventsOf N B s (x ∷ xs) =
     record { request = x .request; worn = wears N B s; seen = answered (replyOf N B s (x .allowance) (x .request)) } ∷ eventsOf N B (outcomeOf N B s (x .allowance) (x .request) .image) xs
@@ -27,15 +27,23 @@ in-sequence (read b) h = (tt, tt)
 in-sequence (readOr b f) h = (tt, tt)
 in-sequence recover h = (tt, tt)
 
-module _ (N B : ℕ) where
-  played : (xs : List Call) (s : Image) → Uncut (observed N B s xs) → History N B s (eventsOf N B s xs) (play N B s xs) × Unformatted (eventsOf N B s xs)
-  unfolding eventsOf play observed observe
-  played [] s h = (refl, tt)
-  played (x ∷ xs) s h =
-      let m = outcomeOf N B s (x .allowance) (x .request) .image in
-      let r = played xs m (h .2) in
-      let i = in-sequence (x .request) (h .0) in
-      ((i .0, refl, (m, (x .allowance, refl, refl), r .0)), (i .1, r .1))
+abbrev pub Plain : List Call → Type 0
+Plain [] = Unit {0}
+Plain (x ∷ xs) = InSequence (x .request) × Plain xs
+
+pub played : (N B : ℕ) (xs : List Call) (s : Image) → Plain xs → History N B s (eventsOf N B s xs) (play N B s xs) × Unformatted (eventsOf N B s xs)
+unfolding eventsOf play
+played N B [] s h = (refl, tt)
+played N B (x ∷ xs) s h =
+    let m = outcomeOf N B s (x .allowance) (x .request) .image in
+    let r = played N B xs m (h .1) in
+    let i = in-sequence (x .request) (h .0) in
+    ((i .0, refl, (m, (x .allowance, refl, refl), r .0)), (i .1, r .1))
+
+uncut-plain : (N B : ℕ) (xs : List Call) (s : Image) → Uncut (observed N B s xs) → Plain xs
+unfolding observed observe
+uncut-plain N B [] s h = tt
+uncut-plain N B (x ∷ xs) s h = (h .0, uncut-plain N B xs (outcomeOf N B s (x .allowance) (x .request) .image) (h .2))
 
 -- events none of which is cut
 abbrev Whole : List Event → Type 0
@@ -68,6 +76,6 @@ whole-at (x ∷ before) e after w = whole-at before e after (w .1)
 pub none-uncut : NoneUncut
 none-uncut N B s xs z uncut p h =
     let f = run B (formatSteps N B) s in
-    let (runs, none) = played N B xs f uncut in
+    let (runs, none) = played N B xs f (uncut-plain N B xs f uncut) in
     let c = cut-tells N B s (play N B f xs) (eventsOf N B f xs) z runs none p h in
     whole-at (c .before) (c .interrupted) (c .between ++ (c .recovery ∷ c .after)) (subst Whole (c .split) (uncut-whole N B xs f uncut)) (c .tore .cuts)
