@@ -12,14 +12,14 @@ use Rattle.model.specs.Slot.{torn, dead, cut, isTorn, isCut}
 use Rattle.model.specs.State.{segmentsOf, Place, Exception, caseA, caseB, caseC, caseD, State, clean, unfinished, damaged, state}
 use Rattle.model.specs.Answers.{Request, format, put, delete, read, readOr, recover, workOf}
 use Rattle.model.specs.Histories.{Seen, answered, lost, Proper, Does}
-use Rattle.model.specs.Laws.Chip.{run-size, whole-cut}
+use Rattle.model.specs.Laws.Chip.{whole-cut}
 use Rattle.bridge.specs.Accepted.{recover-none}
 use Rattle.crash.specs.Machine.{malformed, IsCut, OnTable, WantsRecovery}
 use Rattle.crash.specs.Sound.{SoundAs, Sound, Clean, finished, Accepted, CutOf}
 use Rattle.crash.specs.Requests.{refused-idle, idle-cut, read-idle, readOr-idle, Unfinished, code-unfinished, ended-or-stopped}
 use Rattle.crash.specs.Theorem.{request-laws}
 use Rattle.origins.specs.Law.{slotOn, lastPlace, IsPut, IsDelete}
-use Rattle.origins.specs.Reads.{old-slot, no-new-image}
+use Rattle.origins.specs.Fewer.{old-slot, no-new-image}
 use Rattle.origins.specs.Last.{others-stay, recovery-left}
 use Rattle.origins.specs.Torn.{untorn-clean}
 use Rattle.origins.specs.Recovers.{recovers-a, recovers-b, recovers-c, recovers-d}
@@ -109,14 +109,14 @@ module _ (N B : ℕ) (s m : Image) (z : rightSize N B s ≡ true) (sound : Sound
       (λ q. ⊎-elim (λ a. inr (refl, e, a)) (λ a. inl (sym a ∙ (ap (λ y. slotOn N B y p) (sym q) ∙ h))) (others-stay N B s z e p)) (recovery-left N B s z e m d)
   new-cut r (recovers caseD e d) h = inl (old-slot cut N B s m (recovers-d cut dead-not N B s z e m d) p h)
 
-  -- a slot that reads torn did before, or a put that was cut has left it
-  pub new-torn : (r : Request) (o : Seen) → Does N B r o s m → Worked N B s m r → slotOn N B m p ≡ torn → (slotOn N B s p ≡ torn) ⊎ (IsPut r × IsCut o)
+  -- a slot that reads torn did before, or a put on a clean image that was cut has left it
+  pub new-torn : (r : Request) (o : Seen) → Does N B r o s m → Worked N B s m r → slotOn N B m p ≡ torn → (slotOn N B s p ≡ torn) ⊎ (IsPut r × IsCut o × Clean N B s)
   new-torn r o w (idle e) h = inl (old-slot torn N B s m (no-new-image torn N B s m e) p h)
-  new-torn r o w (puts b c k v a d) h = inr (tt, cut-put o w)
+  new-torn r o w (puts b c k v a d) h = inr (tt, cut-put o w, k)
     where
       -- a whole put leaves a clean image
       whole : m ≡ finished N B s (put b c) → ⊥
-      whole q = untorn-clean N B (finished N B s (put b c)) (run-size N B (workOf N B s (put b c) .steps) s ∙ z) (request-laws N B .put-done s b c z bytes k v a .0) p (ap (λ y. slotOn N B y p) (sym q) ∙ h)
+      whole q = untorn-clean N B (finished N B s (put b c)) (request-laws N B .put-done s b c z bytes k v a .0) p (ap (λ y. slotOn N B y p) (sym q) ∙ h)
 
       cut-put : (x : Seen) → Does N B (put b c) x s m → IsCut x
       cut-put lost y = inl refl

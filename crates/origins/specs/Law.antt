@@ -48,11 +48,12 @@ IsPut recover = ⊥
 
 -- ---- where a slot that reads 5F comes from
 
--- a put that a loss of power, or its allowance, cut: it left this slot torn, and no other
+-- a put that a loss of power, or its allowance, cut: no slot was torn before, and it left this one torn, and no other
 pub record Tore (N B : ℕ) (s m : Image) (e : Event) (p : Place) : Type 0 where
   pub puts : IsPut (e .request)
   pub cuts : IsCut (e .seen)
   pub leaves : Does N B (e .request) (e .seen) s m
+  pub untorn : (q : Place) → slotOn N B s q ≢ torn
   pub left : slotOn N B m p ≡ torn
   pub only : (q : Place) → slotOn N B m q ≡ torn → q ≡ p
 

@@ -1,6 +1,7 @@
 -- The statements, what each event does to slots, the induction over histories, and two histories computed.
 pub mod Law
 pub mod Reads
+pub mod Fewer
 pub mod Untorn
 pub mod Last
 pub mod Torn

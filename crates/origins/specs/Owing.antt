@@ -17,7 +17,8 @@ use Rattle.crash.specs.States.{mended, mended-clean, case-of}
 use Rattle.crash.specs.RecoverOwing.{apart, replaced-next, replaced-top, settle-whole, settled-there, wiped-segments, wiped-size}
 use Rattle.crash.specs.OwingCuts.{erasing-left}
 use Rattle.origins.specs.Law.{inForce}
-use Rattle.origins.specs.Reads.{readAt, fewer-same, fewer-set, owing-force, clean-force, NoNew, no-new-image, no-new-trans}
+use Rattle.origins.specs.Reads.{readAt}
+use Rattle.origins.specs.Fewer.{fewer-same, fewer-set, owing-force, clean-force, NoNew, no-new-image, no-new-trans}
 use Rattle.origins.specs.Torn.{settled-reads, owing-b}
 
 module _ (k : Slot) (N B : ℕ) (s : Image) (z : rightSize N B s ≡ true) (e : state N B s ≡ unfinished caseB) where

@@ -18,7 +18,7 @@ use Rattle.bridge.specs.Requests.{write-top-held, put-valid, room-carries, room
 use Rattle.crash.specs.Sound.{Clean, Accepted, CutOf}
 use Rattle.crash.specs.WriteTop.{write-left, mark-left}
 use Rattle.crash.specs.Delete.{delete-left}
-use Rattle.origins.specs.Reads.{ring-paid, NoNew, no-new-image, no-new-trans, no-new-slot}
+use Rattle.origins.specs.Fewer.{ring-paid, NoNew, no-new-image, no-new-trans, no-new-slot}
 use Rattle.origins.specs.Torn.{clean-top}
 use Rattle.origins.specs.Room.{making-room}
 
@@ -75,5 +75,5 @@ put-uncut N B s z e b c bs bc a u d =
 
 pub delete-no-new : (k : Slot) → dead ≢ k → (N B : ℕ) (s : Image) (z : rightSize N B s ≡ true) (e : Clean N B s) (b : ℕ) → Accepted N B s (delete b) → (u : Image) → CutOf N B s (delete b) u → NoNew k N B s u
 delete-no-new k n N B s z e b a u d = ⊎-elim (λ q. no-new-image k N B s u q)
-    (λ q. no-new-slot k N B s u (placeOf b (view N B s) .number % N) (placeOf b (view N B s) .slot) dead n q (clean-top N B s z e))
+    (λ q. no-new-slot k N B s u (placeOf b (view N B s) .number % N) (placeOf b (view N B s) .slot) dead n q (clean-top N B s e))
     (delete-left N B s b z e a u d)

@@ -27,7 +27,8 @@ use Rattle.crash.specs.RecoverErase.{unused-segment}
 use Rattle.crash.specs.RoomOwing.{Full, old-valid, old-fits}
 use Rattle.crash.specs.RoomCuts.{TornNext, open-left, copy-out-left, owed, rest-after, rest-last}
 use Rattle.origins.specs.Law.{inForce}
-use Rattle.origins.specs.Reads.{readAt, Telling, not-telling, blank-reads, empty-plain, plain-reads, fewer-trans, fewer-set, ring-paid, ring-force, owing-force, NoNew, no-new-same, no-new-image, no-new-trans, no-new-replaced, no-new-unused}
+use Rattle.origins.specs.Reads.{readAt, Telling, not-telling, blank-reads, empty-plain, plain-reads}
+use Rattle.origins.specs.Fewer.{fewer-trans, fewer-set, ring-paid, ring-force, owing-force, NoNew, no-new-same, no-new-image, no-new-trans, no-new-replaced, no-new-unused}
 use Rattle.origins.specs.Torn.{owing-b}
 use Rattle.origins.specs.Owing.{ending}
 

@@ -12,7 +12,7 @@ use Rattle.model.specs.Answers.{Request, format, put, delete, read, readOr, rec
 use Rattle.model.specs.Histories.{Seen, Proper, Does, Event, History, wears}
 use Rattle.model.specs.Laws.Chip.{run-size}
 use Rattle.crash.specs.Machine.{Promise, settled, interrupted, unknown, IsCut, OnTable}
-use Rattle.crash.specs.Sound.{Sound}
+use Rattle.crash.specs.Sound.{Sound, Clean}
 use Rattle.crash.specs.Requests.{sound-clean}
 use Rattle.crash.specs.ReadingRuns.{Known, move-known}
 use Rattle.crash.specs.Invariant.{Invariant}
@@ -81,9 +81,9 @@ module _ (N B : ℕ) where
         was-torn found [] v es refl s refl m (record { recovers = r; case = c; found = found; leaves = subst (λ y. Does N B y (v .seen) s m) r does; marks = h }) rest
 
     -- or tore it: two torn slots are the same one, the last of the top
-    tore-here : slotOn N B m p ≡ torn → IsPut (v .request) × IsCut (v .seen) → Tore N B s m v p
+    tore-here : slotOn N B m p ≡ torn → IsPut (v .request) × IsCut (v .seen) × Clean N B s → Tore N B s m v p
     tore-here h q = let last = torn-last N B m (fit-after .size) (fit-after .sound) in
-        record { puts = q .0; cuts = q .1; leaves = does; left = h; only = λ x t. last x t .1 ∙ sym (last p h .1) }
+        record { puts = q .0; cuts = q .1; leaves = does; untorn = untorn-clean N B s (q .2); left = h; only = λ x t. last x t .1 ∙ sym (last p h .1) }
 
     came-before : Came N B m es u p → Came N B s (v ∷ es) u p
     came-before (was-cut h) = ⊎-elim (λ q. was-cut q) (λ q. marked-here h q) (new-cut N B s m (fit .size) (fit .sound) (fit .bytes) p (v .request) work h)
@@ -144,7 +144,7 @@ cut-tells N B s u es z runs none p k = go (came N B es f u none (begins N B s z)
 
     go : Came N B (run B (formatSteps N B) s) es u p → FromACut N B (run B (formatSteps N B) s) es u p
     go (was-cut h) = absurd (formatted-uncut N B s z p h)
-    go (was-torn h between e after split c waits d marked follows) = absurd (untorn-clean N B (run B (formatSteps N B) s) (run-size N B (formatSteps N B) s ∙ z) (request-laws N B .format-done s z .0) p h)
+    go (was-torn h between e after split c waits d marked follows) = absurd (untorn-clean N B (run B (formatSteps N B) s) (request-laws N B .format-done s z .0) p h)
     go (in-between h) = h
 
 -- whatever is asked next

@@ -8,9 +8,7 @@ use lib.ListN.{length, getD, set, length-set}
 use Rattle.model.specs.Chip.{Image, rightSize}
 use Rattle.model.specs.Slot.{Slot, empty, torn, dead, isCut}
 use Rattle.model.specs.State.{Segment, blank, invalid, inUse, isOwing, segmentsOf, numberAfter, slotsIn, nextNumber, topIndex, nextIndex, isClean, nextBlanked, settled, topSettled, withSlot, older, olderMarked, Place, Exception, caseA, caseB, caseC, caseD, State, clean, unfinished, damaged, state}
-use Rattle.model.specs.Answers.{recover, workOf}
 use Rattle.model.specs.Histories.{recovered}
-use Rattle.model.specs.Laws.Chip.{run-size}
 use Rattle.model.specs.Laws.Segments.{segments-length}
 use Rattle.model.specs.Laws.Ring.{get-kept}
 use Rattle.model.specs.Laws.Clean.{state-clean}
@@ -22,7 +20,8 @@ use Rattle.crash.specs.RecoverErase.{torn-segment}
 use Rattle.crash.specs.RecoverOwing.{owing}
 use Rattle.crash.specs.Recover.{recover-done}
 use Rattle.origins.specs.Law.{inForce, slotOn, lastPlace}
-use Rattle.origins.specs.Reads.{readAt, slot-reads, Telling, not-telling, reads-same, blank-reads, read-taken, slot-elsewhere, Fewer, fewer-same, fewer-set, fewer-back, paid-force, owing-force, clean-paid, unused-reads}
+use Rattle.origins.specs.Reads.{readAt, slot-reads, Telling, not-telling, reads-same, blank-reads, read-taken, slot-elsewhere}
+use Rattle.origins.specs.Fewer.{Fewer, fewer-same, fewer-set, fewer-back, paid-force, owing-force, clean-paid, unused-reads}
 use Rattle.origins.specs.Untorn.{clean-untorn}
 use Rattle.origins.specs.Last.{others-stay}
 
@@ -40,12 +39,14 @@ settled-reads x p = reads-same x (settled x) p (number x) (slots x)
     slots invalid = unfold settled in refl
     slots (inUse ver st n ks) = unfold settled slotsIn in refl
 
-module _ (N B : ℕ) (s : Image) (z : rightSize N B s ≡ true) where
+-- ---- a clean image
+
+module _ (N B : ℕ) (s : Image) where
   abbrev l : List Segment
   l = segmentsOf N B s
 
-  size-of : length l ≡ N
-  size-of = segments-length N B s
+  size : length l ≡ N
+  size = segments-length N B s
 
   -- segments that are clean, and read torn wherever those in use do
   untorn-by : (m : List Segment) → length m ≡ N → isClean N B m ≡ true → Fewer torn m (inForce N (segmentsOf N B s)) → (p : Place) → slotOn N B s p ≢ torn
@@ -54,11 +55,11 @@ module _ (N B : ℕ) (s : Image) (z : rightSize N B s ≡ true) where
 
   pub clean-top : state N B s ≡ clean → isOwing (getD (segmentsOf N B s) (topIndex N (segmentsOf N B s)) blank) ≡ false
   unfolding state
-  clean-top e = clean-paid N B l (topIndex N l) size-of (state-clean N B l e)
+  clean-top e = clean-paid N B l (topIndex N l) size (state-clean N B l e)
 
   pub untorn-clean : state N B s ≡ clean → (p : Place) → slotOn N B s p ≢ torn
   unfolding state
-  untorn-clean e = untorn-by l size-of (state-clean N B l e) (fewer-same torn l (inForce N l) (paid-force N l (clean-top e)))
+  untorn-clean e = untorn-by l size (state-clean N B l e) (fewer-same torn l (inForce N l) (paid-force N l (clean-top e)))
 
 -- ---- the cases
 
@@ -66,8 +67,8 @@ module _ (N B : ℕ) (s : Image) (z : rightSize N B s ≡ true) where
   abbrev list : List Segment
   list = segmentsOf N B s
 
-  size : length (segmentsOf N B s) ≡ N
-  size = segments-length N B s
+  count : length (segmentsOf N B s) ≡ N
+  count = segments-length N B s
 
   -- ---- (a)
 
@@ -81,10 +82,10 @@ module _ (N B : ℕ) (s : Image) (z : rightSize N B s ≡ true) where
 
     pub paid-a : isOwing (getD (segmentsOf N B s) (topIndex N (segmentsOf N B s)) blank) ≡ false
     unfolding isOwing
-    paid-a = sym (get-kept isOwing list k blank (ap isOwing (sym (torn-segment N B s z e))) (topIndex N list)) ∙ clean-paid N B (set list k blank) (topIndex N list) (length-set list k blank ∙ size) clean-a
+    paid-a = sym (get-kept isOwing list k blank (ap isOwing (sym (torn-segment N B s z e))) (topIndex N list)) ∙ clean-paid N B (set list k blank) (topIndex N list) (length-set list k blank ∙ count) clean-a
 
     untorn-a : (p : Place) → slotOn N B s p ≢ torn
-    untorn-a = untorn-by N B s z (set list k blank) (length-set list k blank ∙ size) clean-a
+    untorn-a = untorn-by N B s (set list k blank) (length-set list k blank ∙ count) clean-a
         (rw (paid-force N list paid-a) (fewer-back torn list k blank (λ p h. blank-reads p ∙ (sym (unused-reads (getD list k blank) (inr (torn-segment N B s z e)) p) ∙ h))))
 
   -- ---- (b)
@@ -104,7 +105,7 @@ module _ (N B : ℕ) (s : Image) (z : rightSize N B s ≡ true) where
 
     untorn-b : (p : Place) → slotOn N B s p ≢ torn
     unfolding state mended topSettled nextBlanked
-    untorn-b = untorn-by N B s z (topSettled N list) (length-set old (topIndex N list) (settled (getD list (topIndex N list) blank)) ∙ (length-set list (nextIndex N list) blank ∙ size)) (mended-clean N B list caseB (case-of N B list caseB e))
+    untorn-b = untorn-by N B s (topSettled N list) (length-set old (topIndex N list) (settled (getD list (topIndex N list) blank)) ∙ (length-set list (nextIndex N list) blank ∙ count)) (mended-clean N B list caseB (case-of N B list caseB e))
         (rw (owing-force N list owing-b) (fewer-back torn old (topIndex N list) (settled (getD list (topIndex N list) blank)) (λ p h. settled-reads (getD list (topIndex N list) blank) p ∙ top-reads torn tt p h)))
 
   -- ---- (d)
@@ -131,7 +132,7 @@ module _ (N B : ℕ) (s : Image) (z : rightSize N B s ≡ true) where
     clean-d = mended-clean N B list caseD (case-of N B list caseD e)
 
     pub paid-d : isOwing (getD (segmentsOf N B s) (topIndex N (segmentsOf N B s)) blank) ≡ false
-    paid-d = sym (get-kept isOwing list i (withSlot j dead x) (withSlot-owing j dead x) (topIndex N list)) ∙ clean-paid N B marked (topIndex N list) (length-set list i (withSlot j dead x) ∙ size) clean-d
+    paid-d = sym (get-kept isOwing list i (withSlot j dead x) (withSlot-owing j dead x) (topIndex N list)) ∙ clean-paid N B marked (topIndex N list) (length-set list i (withSlot j dead x) ∙ count) clean-d
 
     -- the slot that is marked is live
     live-there : getD (slotsIn x) j empty ≢ torn
@@ -139,7 +140,7 @@ module _ (N B : ℕ) (s : Image) (z : rightSize N B s ≡ true) where
     live-there h = true≢false (sym (ap isCut (subst (λ y. Marks y dead) h marks-d)))
 
     untorn-d : (p : Place) → slotOn N B s p ≢ torn
-    untorn-d = untorn-by N B s z marked (length-set list i (withSlot j dead x) ∙ size) clean-d (rw (paid-force N list paid-d) (fewer-back torn list i (withSlot j dead x) stays))
+    untorn-d = untorn-by N B s marked (length-set list i (withSlot j dead x) ∙ count) clean-d (rw (paid-force N list paid-d) (fewer-back torn list i (withSlot j dead x) stays))
       where
         stays : (p : Place) → readAt x p ≡ torn → readAt (withSlot j dead x) p ≡ torn
         stays p h = ⊎-elim (λ a. absurd (live-there (ap (λ (y : ℕ). getD (slotsIn x) y empty) (sym (a .0 .1)) ∙ read-taken x p torn tt h .1))) (λ a. a ∙ h) (slot-elsewhere j dead x p)
@@ -155,10 +156,10 @@ module _ (N B : ℕ) (s : Image) (z : rightSize N B s ≡ true) where
       case caseC e = (e, ⊎-elim (λ q. q) (λ q. absurd (marked-untorn (q ∙ t))) (others-stay N B s z e p))
         where
           marked-untorn : slotOn N B (recovered N B s) p ≢ torn
-          marked-untorn = untorn-clean N B (recovered N B s) (unfold recovered in (run-size N B (workOf N B s recover .steps) s ∙ z)) (recover-done N B s z h) p
+          marked-untorn = untorn-clean N B (recovered N B s) (recover-done N B s z h) p
       case caseD e = absurd (untorn-d e p t)
 
       go : (y : State) → state N B s ≡ y → SoundAs N B s (segmentsOf N B s) y → (state N B s ≡ unfinished caseC) × (p ≡ lastPlace N B s)
-      go clean e k = absurd (untorn-clean N B s z e p t)
+      go clean e k = absurd (untorn-clean N B s e p t)
       go (unfinished y) e k = case y e
       go damaged e k = absurd k
