@@ -1,14 +1,14 @@
 -- A delete finished, and cut: it has done nothing, or all, since it is one step with no inside.
 use Prim.Native.Nat.{ℕ, _%_}
 use mathlib.Core.Path.{_≡_, refl, sym, ap, _∙_, subst}
-use mathlib.Core.Logic.{inl, inr, ⊎-elim}
+use mathlib.Core.Logic.{_⊎_, inl, inr, ⊎-elim}
 use mathlib.Core.Bool.{true}
 use mathlib.Core.List.{List}
-use lib.ListN.{getD}
+use lib.ListN.{getD, set}
 use Rattle.model.specs.Chip.{Image, Step, rightSize, run}
 use Rattle.model.specs.Header.{isFormer}
 use Rattle.model.specs.Slot.{empty, dead}
-use Rattle.model.specs.State.{blank, segmentsOf, slotsIn, View, placeOf, view}
+use Rattle.model.specs.State.{blank, segmentsOf, slotsIn, View, withSlot, placeOf, view}
 use Rattle.model.specs.Steps.{markPlace, deleteSteps}
 use Rattle.model.specs.Table.{without, tableOf}
 use Rattle.model.specs.Answers.{delete, stepsFor, workOf}
@@ -50,8 +50,11 @@ module _ (N B : ℕ) (s : Image) (b : ℕ) (z : rightSize N B s ≡ true) (h : C
       Left : Image → Type 0
       Left y = LeftWith N B y (tableOf N B s) (without b (tableOf N B s)) (formerIn N B s)
 
-  pub delete-top : (u : Image) → CutOf N B s (delete b) u → SameTop N B s u
-  delete-top u c = ⊎-elim (λ q. same-image N B s u q)
-      (λ q. same-slot N B s u (placeOf b (view N B s) .number % N) (placeOf b (view N B s) .slot) dead
-      (ap (λ y. segmentsOf N B y) q ∙ mark-segments N B s z (placeOf b (view N B s) .number) (placeOf b (view N B s) .slot) dead marks))
+  -- the slot is marked or not
+  pub delete-left : (u : Image) → CutOf N B s (delete b) u → (u ≡ s)
+      ⊎ (segmentsOf N B u ≡ set (segmentsOf N B s) (placeOf b (view N B s) .number % N) (withSlot (placeOf b (view N B s) .slot) dead (getD (segmentsOf N B s) (placeOf b (view N B s) .number % N) blank)))
+  delete-left u c = ⊎-elim (λ q. inl q) (λ q. inr (ap (λ y. segmentsOf N B y) q ∙ mark-segments N B s z (placeOf b (view N B s) .number) (placeOf b (view N B s) .slot) dead marks))
       (mark-whole N B s z (placeOf b (view N B s) .number) (placeOf b (view N B s) .slot) dead marks u (rw steps at c))
+
+  pub delete-top : (u : Image) → CutOf N B s (delete b) u → SameTop N B s u
+  delete-top u c = ⊎-elim (λ q. same-image N B s u q) (λ q. same-slot N B s u (placeOf b (view N B s) .number % N) (placeOf b (view N B s) .slot) dead q) (delete-left u c)

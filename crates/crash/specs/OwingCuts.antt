@@ -125,11 +125,16 @@ module _ (N B : ℕ) (s : Image) (z : rightSize N B s ≡ true) (e : state N B s
       let byte = replaced-byte N B j (inside N B s z e) s (size N B s z e) (erased ((B + 1) * 256)) (erased-length ((B + 1) * 256)) (8 + k) (omega arith) in
       omega (arith, byte, erased-get ((B + 1) * 256) (8 + k) (omega arith), both-bytes (m - N) k)))
 
+  -- the erase changes the old segment alone, and leaves it no larger number
+  pub erasing-left : (u : Image) → Cut B (erase (nextNumber (segmentsOf N B s) % N) ∷ []) s u
+      → (u ≡ s) ⊎ ((y : Segment) × (segmentsOf N B u ≡ set (segmentsOf N B s) (nextNumber (segmentsOf N B s) % N) y) × (numberAfter y ≤ nextNumber (segmentsOf N B s)))
+  erasing-left u (inl q) = inl q
+  erasing-left u (inr (inl (v, r, q))) = inr (segmentOf N B j (partOf N B j u), raised-new u v r q, kept-number u (raised-keeps u v r q))
+  erasing-left u (inr (inr q)) = inr (blank, ap (λ y. segmentsOf N B y) q ∙ erase-effect N B (two N B s z e) s (size N B s z e) j (inside N B s z e), (unfold numberAfter in omega arith))
+
   -- the top is the same
   erasing-top : (u : Image) → Cut B (erase j ∷ []) s u → SameTop N B s u
-  erasing-top u (inl q) = same-image N B s u q
-  erasing-top u (inr (inl (v, r, q))) = replaced-top-same N B s z e (segmentOf N B j (partOf N B j u)) (kept-number u (raised-keeps u v r q)) u (raised-new u v r q)
-  erasing-top u (inr (inr q)) = replaced-top-same N B s z e blank (unfold numberAfter in omega arith) u (ap (λ y. segmentsOf N B y) q ∙ erase-effect N B (two N B s z e) s (size N B s z e) j (inside N B s z e))
+  erasing-top u c = ⊎-elim (λ q. same-image N B s u q) (λ q. replaced-top-same N B s z e (q .0) (q .2) u (q .1)) (erasing-left u c)
 
   pub rest-top : (u : Image) → Cut B (erase (nextNumber (segmentsOf N B s) % N) ∷ settle N B (nextNumber (segmentsOf N B s) - 1)) s u → SameTop N B s u
   unfolding run
@@ -155,7 +160,7 @@ module _ (N B : ℕ) (s : Image) (z : rightSize N B s ≡ true) (e : state N B s
       (cut-append B (erase j ∷ []) (settle N B (m - 1)) s u c)
 
   -- the count cut
-  counted-kept : (u : Image) → Cut B (counts N B (segmentsOf N B s)) s u → Kept N B s u
+  pub counted-kept : (u : Image) → Cut B (counts N B (segmentsOf N B s)) s u → Kept N B s u
   unfolding headerAt
   counted-kept u d =
       let zu = cut-size N B (counts N B (segmentsOf N B s)) s u d ∙ z in

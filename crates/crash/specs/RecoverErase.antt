@@ -25,7 +25,7 @@ use Rattle.model.specs.Laws.Clean.{clean-ring, used-next}
 use Rattle.crash.specs.Sound.{SoundAs, Sound, CutOf}
 use Rattle.crash.specs.Alike.{Like, like-of, index-apart, like-next, like-blanked, like-a}
 use Rattle.crash.specs.RecoverCount.{header-byte, other-byte, counts, counted-like}
-use Rattle.crash.specs.Tops.{SameTop, same-image, same-set}
+use Rattle.crash.specs.Tops.{SameTop, same-set}
 use Rattle.crash.specs.States.{isCase, mended, case-of, state-case, recover-steps, recovered-run, Kept, kept-same, kept-trans, Mended, kept-clean, kept-case}
 
 -- ---- a segment's bytes replaced, and an erase cut inside
@@ -54,7 +54,7 @@ module _ (N B i : ℕ) (h : i < N) (s : Image) (z : length s ≡ imageLength N B
         old = unfold segmentBytes in (getD-take ((B + 1) * 256) (drop (i * (B + 1) * 256) s) k 0 (omega arith) ∙ getD-drop (i * (B + 1) * 256) s k 0)
 
 -- with bit 6 of its status set, a segment is blank or invalid
-unused-segment : (N B i : ℕ) (ps : List Page) → getD (getD ps 0 []) 5 0 / 64 % 2 ≡ 1 → (segmentOf N B i ps ≡ blank) ⊎ (segmentOf N B i ps ≡ invalid)
+pub unused-segment : (N B i : ℕ) (ps : List Page) → getD (getD ps 0 []) 5 0 / 64 % 2 ≡ 1 → (segmentOf N B i ps ≡ blank) ⊎ (segmentOf N B i ps ≡ invalid)
 unfolding segmentOf
 unused-segment N B i ps e = rw (bit-6-unused N B i (getD ps 0 []) e) (go (allBlank ps))
   where
@@ -78,7 +78,7 @@ module _ (N B : ℕ) (s : Image) (z : rightSize N B s ≡ true) (e : state N B s
   inside : i < N
   inside = index N B (size-facts N B s z .two) s size (nextNumber l)
 
-  torn-segment : getD l i blank ≡ invalid
+  pub torn-segment : getD (segmentsOf N B s) (nextNumber (segmentsOf N B s) % N) blank ≡ invalid
   unfolding state isCase isA nextIndex
   torn-segment = is-invalid (getD l i blank) (and-left (isInvalid (getD l i blank)) (isClean N B (nextBlanked N l)) (case-of N B l caseA e))
     where
@@ -126,7 +126,7 @@ module _ (N B : ℕ) (s : Image) (z : rightSize N B s ≡ true) (e : state N B s
     unfolding topIndex
     in-list = omega (arith, index N B two s size (nextNumber l - 1), segments-length N B s)
 
-    counted-state : state N B u ≡ unfinished caseA
+    pub counted-state : state N B u ≡ unfinished caseA
     unfolding state isCase
     counted-state = state-case N B m caseA (segments-length N B u) (like-a N B l m (left .1) (segments-length N B s) two some blanked-same (case-of N B l caseA e))
 
@@ -134,7 +134,7 @@ module _ (N B : ℕ) (s : Image) (z : rightSize N B s ≡ true) (e : state N B s
     unfolding mended
     counted-mended = like-blanked N l m (left .1) in-list (segments-length N B s) two some blanked-same
 
-    counted-next : nextNumber m ≡ nextNumber l
+    pub counted-next : nextNumber m ≡ nextNumber l
     counted-next = like-next N l m (left .1) in-list
 
     counted-bit : Sound N B s → SoundAs N B u m (unfinished caseA)
@@ -199,22 +199,17 @@ erase-cut N B s u z e h c = go c
         new = subst (λ (y : Image). segmentsOf N B y ≡ set l′ k (segmentOf N B k (partOf N B k y))) (sym q) (raised-segments N B k (inside N B s z e) s (size N B s z e) v r)
     go (inr (inr q)) = blanked (ap (λ y. segmentsOf N B y) q ∙ erase-effect N B (size-facts N B s z .two) s (size N B s z e) k (inside N B s z e))
 
--- the top is the same
-erase-top : (N B : ℕ) (s u : Image) → rightSize N B s ≡ true → state N B s ≡ unfinished caseA → Sound N B s → Cut B (erase (nextNumber (segmentsOf N B s) % N) ∷ []) s u → SameTop N B s u
-erase-top N B s u z e h c = go c
+-- whatever the erase leaves of that segment is blank or invalid
+pub erase-left : (N B : ℕ) (s u : Image) → rightSize N B s ≡ true → state N B s ≡ unfinished caseA → Sound N B s → Cut B (erase (nextNumber (segmentsOf N B s) % N) ∷ []) s u
+    → (y : Segment) × (segmentsOf N B u ≡ set (segmentsOf N B s) (nextNumber (segmentsOf N B s) % N) y) × ((y ≡ blank) ⊎ (y ≡ invalid))
+erase-left N B s u z e h c = go c
   where
     k : ℕ
     k = nextNumber (segmentsOf N B s) % N
 
-    unused : (y : Segment) → segmentsOf N B u ≡ set (segmentsOf N B s) k y → numberAfter y ≡ 0 → versionIn y ≡ versionIn blank → SameTop N B s u
-    unused y q n v = same-set N B s u k y q (n ∙ (unfold numberAfter in ap numberAfter (sym (torn-segment N B s z e)))) (v ∙ (unfold versionIn in ap versionIn (sym (torn-segment N B s z e))))
-
-    go : Cut B (erase k ∷ []) s u → SameTop N B s u
-    go (inl q) = same-image N B s u q
-    go (inr (inl (v, r, q))) = ⊎-elim
-        (λ p. unused blank (new ∙ ap (λ (y : Segment). set (segmentsOf N B s) k y) p) (unfold numberAfter in refl) refl)
-        (λ p. unused invalid (new ∙ ap (λ (y : Segment). set (segmentsOf N B s) k y) p) (unfold numberAfter in refl) (unfold versionIn in refl))
-        (unused-segment N B k (partOf N B k u) (rw (header-byte N B k 5 u (inside N B s z e) (omega arith)) bit))
+    go : Cut B (erase k ∷ []) s u → (y : Segment) × (segmentsOf N B u ≡ set (segmentsOf N B s) k y) × ((y ≡ blank) ⊎ (y ≡ invalid))
+    go (inl q) = (invalid, ap (λ y. segmentsOf N B y) q ∙ sym (ap (λ (y : Segment). set (segmentsOf N B s) k y) (sym (torn-segment N B s z e)) ∙ set-getD (segmentsOf N B s) k blank), inr refl)
+    go (inr (inl (v, r, q))) = (segmentOf N B k (partOf N B k u), new, unused-segment N B k (partOf N B k u) (rw (header-byte N B k 5 u (inside N B s z e) (omega arith)) bit))
       where
         bit : getD u (k * (B + 1) * 256 + 5) 0 / 64 % 2 ≡ 1
         bit = bit-6-kept (getD s (k * (B + 1) * 256 + 5) 0) (getD u (k * (B + 1) * 256 + 5) 0)
@@ -224,10 +219,18 @@ erase-top N B s u z e h c = go c
 
         new : segmentsOf N B u ≡ set (segmentsOf N B s) k (segmentOf N B k (partOf N B k u))
         new = subst (λ (y : Image). segmentsOf N B y ≡ set (segmentsOf N B s) k (segmentOf N B k (partOf N B k y))) (sym q) (raised-segments N B k (inside N B s z e) s (size N B s z e) v r)
-    go (inr (inr q)) = unused blank (ap (λ y. segmentsOf N B y) q ∙ erase-effect N B (size-facts N B s z .two) s (size N B s z e) k (inside N B s z e)) (unfold numberAfter in refl) refl
+    go (inr (inr q)) = (blank, ap (λ y. segmentsOf N B y) q ∙ erase-effect N B (size-facts N B s z .two) s (size N B s z e) k (inside N B s z e), inl refl)
+
+-- the top is the same
+erase-top : (N B : ℕ) (s u : Image) → rightSize N B s ≡ true → state N B s ≡ unfinished caseA → Sound N B s → Cut B (erase (nextNumber (segmentsOf N B s) % N) ∷ []) s u → SameTop N B s u
+unfolding numberAfter versionIn
+erase-top N B s u z e h c =
+    let (y, q, k) = erase-left N B s u z e h c in
+    let old = torn-segment N B s z e in
+    same-set N B s u (nextNumber (segmentsOf N B s) % N) y q (⊎-elim (λ d. ap numberAfter d) (λ d. ap numberAfter d) k ∙ ap numberAfter (sym old)) (⊎-elim (λ d. ap versionIn d) (λ d. ap versionIn d) k ∙ ap versionIn (sym old))
 
 -- the count cut
-counted-kept : (N B : ℕ) (s w : Image) (z : rightSize N B s ≡ true) (e : state N B s ≡ unfinished caseA) → Sound N B s → Cut B (counts N B (segmentsOf N B s)) s w → Kept N B s w
+pub counted-kept : (N B : ℕ) (s w : Image) (z : rightSize N B s ≡ true) (e : state N B s ≡ unfinished caseA) → Sound N B s → Cut B (counts N B (segmentsOf N B s)) s w → Kept N B s w
 counted-kept N B s w z e h d =
     let zw = cut-size N B (counts N B (segmentsOf N B s)) s w d ∙ z in
     let f = counted-state N B s z e w d in

@@ -140,23 +140,10 @@ live-marks p = subst (λ k. Marks k dead) (sym (p .slot)) refl
 
 -- ---- (c) and (d)
 
--- the place that a recovery marks, and what the slot there becomes
-record OneMark (N B : ℕ) (l : List Segment) (x : Exception) : Type 0 where
-  place : Place
-  kind : Slot
-  marks : Marks (getD (slotsIn (getD l (place .number % N) blank)) (place .slot) empty) kind
-  steps : mendSteps N B l x ≡ markPlace N B place
-  same : mended N l x ≡ set l (place .number % N) (withSlot (place .slot) kind (getD l (place .number % N) blank))
-
-mark-c : (N B : ℕ) (l : List Segment) → isCase N B l caseC ≡ true → OneMark N B l caseC
-unfolding isCase isC lastKind topSlots topIndex mended tornMarked mendSteps
-mark-c N B l h = record {
-  place = record { number = nextNumber l - 1; slot = lastSlot N l };
-  kind = cut;
-  marks = torn-marks (lastKind N l) (and-left (isTorn (lastKind N l)) (isClean N B (tornMarked N l)) h);
-  steps = refl;
-  same = refl;
-}
+-- the slot that is marked is torn in (c), and live in (d)
+pub last-marks : (N B : ℕ) (l : List Segment) → isCase N B l caseC ≡ true → Marks (getD (slotsIn (getD l ((nextNumber l - 1) % N) blank)) (lastSlot N l) empty) cut
+unfolding isCase isC lastKind topSlots topIndex
+last-marks N B l h = torn-marks (lastKind N l) (and-left (isTorn (lastKind N l)) (isClean N B (tornMarked N l)) h)
   where
     torn-marks : (k : Slot) → isTorn k ≡ true → Marks k cut
     torn-marks empty e = absurd (false≢true (unfold isTorn in e))
@@ -166,19 +153,29 @@ mark-c N B l h = record {
     torn-marks wrong e = absurd (false≢true (unfold isTorn in e))
     torn-marks (live b c) e = absurd (false≢true (unfold isTorn in e))
 
-mark-d : (N B : ℕ) (l : List Segment) → isCase N B l caseD ≡ true → OneMark N B l caseD
-unfolding isCase isD older olderMarked mended mendSteps
-mark-d N B l h =
+pub older-marks : (N B : ℕ) (l : List Segment) → isCase N B l caseD ≡ true → Marks (getD (slotsIn (getD l (older N l .number % N) blank)) (older N l .slot) empty) dead
+unfolding isCase isD older
+older-marks N B l h =
     let b = lastBlock N l in
     let q = and-right (ltb 0 b) (eqb (copies b (entriesIn (viewOf N l))) 2 && isClean N B (olderMarked N l)) h in
     let c : copies b (entriesIn (viewOf N l)) ≡ 2 = eqb-true (copies b (entriesIn (viewOf N l))) 2 (and-left (eqb (copies b (entriesIn (viewOf N l))) 2) (isClean N B (olderMarked N l)) q) in
-    record {
-      place = older N l;
-      kind = dead;
-      marks = live-marks (live-place N l b (holds-copies b (entriesIn (viewOf N l)) ∙ lt-ltb 0 (copies b (entriesIn (viewOf N l))) (omega arith)));
-      steps = refl;
-      same = refl;
-    }
+    live-marks (live-place N l b (holds-copies b (entriesIn (viewOf N l)) ∙ lt-ltb 0 (copies b (entriesIn (viewOf N l))) (omega arith)))
+
+-- the place that a recovery marks, and what the slot there becomes
+record OneMark (N B : ℕ) (l : List Segment) (x : Exception) : Type 0 where
+  place : Place
+  kind : Slot
+  marks : Marks (getD (slotsIn (getD l (place .number % N) blank)) (place .slot) empty) kind
+  steps : mendSteps N B l x ≡ markPlace N B place
+  same : mended N l x ≡ set l (place .number % N) (withSlot (place .slot) kind (getD l (place .number % N) blank))
+
+mark-c : (N B : ℕ) (l : List Segment) → isCase N B l caseC ≡ true → OneMark N B l caseC
+unfolding topIndex mended tornMarked mendSteps
+mark-c N B l h = record { place = record { number = nextNumber l - 1; slot = lastSlot N l }; kind = cut; marks = last-marks N B l h; steps = refl; same = refl }
+
+mark-d : (N B : ℕ) (l : List Segment) → isCase N B l caseD ≡ true → OneMark N B l caseD
+unfolding olderMarked mended mendSteps
+mark-d N B l h = record { place = older N l; kind = dead; marks = older-marks N B l h; steps = refl; same = refl }
 
 module _ (N B : ℕ) (s : Image) (z : rightSize N B s ≡ true) (x : Exception) (e : state N B s ≡ unfinished x) (o : OneMark N B (segmentsOf N B s) x) where
   one-recovered : recovered N B s ≡ run B (markPlace N B (o .place)) s

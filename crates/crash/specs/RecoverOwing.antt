@@ -64,7 +64,7 @@ module _ (N B : ℕ) (s : Image) (z : rightSize N B s ≡ true) (e : state N B s
   unfolding state isCase
   is-b = case-of N B l caseB e
 
-  owing : isOwing (getD l (n % N) blank) ≡ true
+  pub owing : isOwing (getD l (n % N) blank) ≡ true
   unfolding isB topIndex
   owing = and-left (isOwing (getD l (n % N) blank)) (eqb (usedCount (topSettled N l)) (N - 1) && isClean N B (topSettled N l)) is-b
 
@@ -148,7 +148,7 @@ module _ (N B : ℕ) (s : Image) (z : rightSize N B s ≡ true) (e : state N B s
         let g : getD (set l i y) (n % N) blank ≡ getD l (n % N) blank = getD-set-other l i (n % N) y blank apart in
         rw (replaced-next, set-set l i y blank, g)
 
-    replaced-top : getD (set l i y) (topIndex N (set l i y)) blank ≡ getD l (topIndex N l) blank
+    pub replaced-top : getD (set l i y) (topIndex N (set l i y)) blank ≡ getD l (topIndex N l) blank
     unfolding topIndex
     replaced-top = rw replaced-next (getD-set-other l i (n % N) y blank apart)
 
@@ -168,7 +168,7 @@ module _ (N B : ℕ) (s : Image) (z : rightSize N B s ≡ true) (e : state N B s
 
   -- ---- an erase counted: it is (b) still, and is mended to the same
 
-  blanked-same : nextNumber (nextBlanked N l) ≡ nextNumber l
+  pub blanked-same : nextNumber (nextBlanked N l) ≡ nextNumber l
   unfolding nextBlanked nextIndex
   blanked-same = next-same l i blank old-number (unfold numberAfter in omega arith)
 
@@ -179,7 +179,7 @@ module _ (N B : ℕ) (s : Image) (z : rightSize N B s ≡ true) (e : state N B s
     abbrev counted : List Segment
     counted = segmentsOf N B u
 
-    in-list : topIndex N l < length l
+    pub in-list : topIndex N l < length l
     unfolding topIndex
     in-list = omega (arith, index N B two s size (nextNumber l - 1), segments-length N B s)
 

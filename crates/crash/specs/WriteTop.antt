@@ -1,7 +1,7 @@
 -- A block put where there is room, cut anywhere: its slot written at the top's first empty place, and then the old one marked, which is the recovery of state (d).
 use Prim.Native.Nat.{ℕ, suc, _+_, _-_, _%_, _≤_, _<_}
 use mathlib.Core.Path.{_≡_, refl, sym, ap, ap₂, _∙_}
-use mathlib.Core.Logic.{inl, inr, ⊎-elim}
+use mathlib.Core.Logic.{_⊎_, inl, inr, ⊎-elim}
 use mathlib.Core.Bool.{Bool, true, false, cond}
 use mathlib.Core.List.{List, [], _∷_, _++_, flatten}
 use native.Mathlib.Omega.{arith}
@@ -10,9 +10,9 @@ use lib.Seq.{set-set, set-getD, set-at, getD-at, getD-set-same}
 use lib.Dec.{ltb}
 use Rattle.model.specs.Chip.{Image, rightSize, run, Cut}
 use Rattle.model.specs.Header.{Version, isFormer}
-use Rattle.model.specs.Slot.{Slot, empty, torn, dead, cut, live, isEmpty, isTorn, isWrong, entryOf, numberOk}
+use Rattle.model.specs.Slot.{Slot, empty, torn, dead, cut, live, slotOf, isEmpty, isTorn, isWrong, entryOf, numberOk}
 use Rattle.model.specs.State.{Segment, blank, inUse, segmentsOf, slotsIn, numberAfter, nextNumber, topIndex, topSlots, firstNumber, View, viewOf, view, entries, entriesIn, holds, distinct, isClean, withSlot, filled, lastSlot, lastKind, tornMarked, isC, placeOf, blockIn, lastBlock, copies, older, olderMarked, isD, caseC, caseD}
-use Rattle.model.specs.Steps.{topRow, topNumber, firstEmpty, onPage, slotAt, writeSlot, markPlace, markOld, mendSteps, writeAtTop}
+use Rattle.model.specs.Steps.{topRow, topNumber, firstEmpty, writeSlot, markPlace, markOld, mendSteps, writeAtTop}
 use Rattle.model.specs.Answers.{recover, workOf}
 use Rattle.model.specs.Laws.Lists.{and-left, and-both}
 use Rattle.model.specs.Laws.Chip.{SizeFacts, size-facts, whole-cut, cut-append, cut-size}
@@ -233,19 +233,40 @@ module _ (N B : ℕ) (s : Image) (v : View) (h : Held N B s v) (clean : CleanVie
 
     -- ---- cut in writing the slot, or in marking the old one
 
-    write-cut : (u : Image) → Cut B (writeAtTop N B b c v) s u → LeftWith N B u (entriesIn v) (entriesIn (putInto b c v)) (isFormer (v .version))
+    -- the slot is empty still, or torn, or live
+    pub write-left : (u : Image) → Cut B (writeAtTop N B b c v) s u → (k : Slot) × ((k ≡ empty) ⊎ ((k ≡ torn) ⊎ (k ≡ live b c)))
+        × (segmentsOf N B u ≡ set (segmentsOf N B s) (topNumber v % N) (withSlot (firstEmpty (topRow (v .slots))) k (getD (segmentsOf N B s) (topNumber v % N) blank)))
     unfolding writeAtTop
-    write-cut u k =
-        let z = cut-size N B (onPage (slotAt N B n j) (writeSlot b c)) s u k ∙ h .size in
+    write-left u k =
         let x = slot-cut N B (size .two) s (size .whole) n j (top-segment .0) (top-segment .1) n (row empty) inside (top-segment .2) (writeSlot b c) (write-in-page b c (valid .short)) u k in
         let p = rw (empty-page N B (size .two) s (size .whole) n j (top-segment .0) (top-segment .1) n (row empty) inside (top-segment .2) (row-at empty)) at (x .1) in
+        (slotOf (x .0), write-cut-kind B b c (x .0) valid p, x .2)
+
+    write-cut : (u : Image) → Cut B (writeAtTop N B b c v) s u → LeftWith N B u (entriesIn v) (entriesIn (putInto b c v)) (isFormer (v .version))
+    write-cut u k =
+        let z = cut-size N B (writeAtTop N B b c v) s u k ∙ h .size in
+        let (x, q, e) = write-left u k in
         ⊎-elim
-        (λ e. let r = held-shows N B s v u h clean ((rw e at (x .2)) ∙ changed-same) in (r .0, inl (r .1), r .2))
-        (λ q. ⊎-elim
-        (λ e. let r = torn-left u z (rw e at (x .2)) in (r .0, inl (r .1), r .2))
-        (λ e. let r = live-left u z ((rw e at (x .2)) ∙ sym wrote-segments) in (r .0, inr (r .1), r .2 ∙ put-version b c v))
-        q)
-        (write-cut-kind B b c (x .0) valid p)
+        (λ d. let r = held-shows N B s v u h clean ((rw d at e) ∙ changed-same) in (r .0, inl (r .1), r .2))
+        (λ w. ⊎-elim
+        (λ d. let r = torn-left u z (rw d at e) in (r .0, inl (r .1), r .2))
+        (λ d. let r = live-left u z ((rw d at e) ∙ sym wrote-segments) in (r .0, inr (r .1), r .2 ∙ put-version b c v))
+        w)
+        q
+
+    -- the old slot is marked or not
+    pub mark-left : (u : Image) → Cut B (markOld N B b v) (run B (writeAtTop N B b c v) s) u → (u ≡ run B (writeAtTop N B b c v) s)
+        ⊎ (segmentsOf N B u ≡ set (segmentsOf N B (run B (writeAtTop N B b c v) s)) (placeOf b v .number % N)
+        (withSlot (placeOf b v .slot) dead (getD (segmentsOf N B (run B (writeAtTop N B b c v) s)) (placeOf b v .number % N) blank)))
+    unfolding markOld
+    mark-left u k = go (holds b (entriesIn v)) refl k
+      where
+        go : (t : Bool) → holds b (entriesIn v) ≡ t → Cut B (cond t (markPlace N B (placeOf b v)) []) wrote u
+            → (u ≡ wrote) ⊎ (segmentsOf N B u ≡ set (segmentsOf N B wrote) (placeOf b v .number % N) (withSlot (placeOf b v .slot) dead (getD (segmentsOf N B wrote) (placeOf b v .number % N) blank)))
+        go false e d = inl d
+        go true e d = ⊎-elim (λ q. inl q)
+            (λ q. inr (ap (λ y. segmentsOf N B y) q ∙ mark-segments N B wrote (wrote-held .size) (placeOf b v .number) (placeOf b v .slot) dead (marks e)))
+            (mark-whole N B wrote (wrote-held .size) (placeOf b v .number) (placeOf b v .slot) dead (marks e) u d)
 
     mark-cut : (u : Image) → Cut B (markOld N B b v) wrote u → SoundWith N B u (putInto b c v)
     unfolding markOld
@@ -259,19 +280,13 @@ module _ (N B : ℕ) (s : Image) (v : View) (h : Held N B s v) (clean : CleanVie
 
     -- the top is the same
     pub put-into-top : (u : Image) → Cut B (writeAtTop N B b c v ++ markOld N B b v) s u → SameTop N B s u
-    unfolding writeAtTop markOld
-    put-into-top u k = ⊎-elim (λ d. write-top u d) (λ d. same-trans N B s wrote u (write-top wrote (whole-cut B (writeAtTop N B b c v) s)) (go (holds b (entriesIn v)) refl d)) (cut-append B (writeAtTop N B b c v) (markOld N B b v) s u k)
+    put-into-top u k = ⊎-elim (λ d. write-top u d) (λ d. same-trans N B s wrote u (write-top wrote (whole-cut B (writeAtTop N B b c v) s)) (mark-top d)) (cut-append B (writeAtTop N B b c v) (markOld N B b v) s u k)
       where
         write-top : (w : Image) → Cut B (writeAtTop N B b c v) s w → SameTop N B s w
-        write-top w d = let x = slot-cut N B (size .two) s (size .whole) n j (top-segment .0) (top-segment .1) n (row empty) inside (top-segment .2) (writeSlot b c) (write-in-page b c (valid .short)) w (unfold writeAtTop in d) in
-            same-slot N B s w (n % N) j _ (x .2)
+        write-top w d = let (x, q, e) = write-left w d in same-slot N B s w (n % N) j x e
 
-        go : (t : Bool) → holds b (entriesIn v) ≡ t → Cut B (cond t (markPlace N B (placeOf b v)) []) wrote u → SameTop N B wrote u
-        go false e d = same-image N B wrote u d
-        go true e d = ⊎-elim (λ q. same-image N B wrote u q)
-            (λ q. same-slot N B wrote u (placeOf b v .number % N) (placeOf b v .slot) dead
-            (ap (λ y. segmentsOf N B y) q ∙ mark-segments N B wrote (wrote-held .size) (placeOf b v .number) (placeOf b v .slot) dead (marks e)))
-            (mark-whole N B wrote (wrote-held .size) (placeOf b v .number) (placeOf b v .slot) dead (marks e) u d)
+        mark-top : Cut B (markOld N B b v) wrote u → SameTop N B wrote u
+        mark-top d = ⊎-elim (λ q. same-image N B wrote u q) (λ q. same-slot N B wrote u (placeOf b v .number % N) (placeOf b v .slot) dead q) (mark-left u d)
 
     pub put-into-cut : (u : Image) → Cut B (writeAtTop N B b c v ++ markOld N B b v) s u → LeftWith N B u (entriesIn v) (entriesIn (putInto b c v)) (isFormer (v .version))
     put-into-cut u k = ⊎-elim (λ d. write-cut u d) (λ d. let r = mark-cut u d in (r .0, inr (r .1), r .2 ∙ put-version b c v)) (cut-append B (writeAtTop N B b c v) (markOld N B b v) s u k)
