@@ -2,14 +2,15 @@
 use Prim.Native.Nat.{ℕ, zero, suc}
 use mathlib.Core.Path.{_≡_, refl, sym, ap, _∙_, subst}
 use mathlib.Core.Logic.{_⊎_, inl, inr, ⊎-elim, _≢_}
-use mathlib.Core.Bool.{true, cond, true≢false}
+use mathlib.Core.Bool.{Bool, true, false, cond, true≢false}
 use mathlib.Core.List.{List, []}
 use native.Mathlib.Omega.{arith}
 use lib.Dec.{eqb}
 use borrow.Author.Tests.{ne-eqb}
 use Rattle.model.specs.Chip.{Image, Bytes, rightSize}
 use Rattle.model.specs.Slot.{torn, dead, cut, isTorn, isCut}
-use Rattle.model.specs.State.{segmentsOf, Place, Exception, caseA, caseB, caseC, caseD, State, clean, unfinished, damaged, state}
+use Rattle.model.specs.State.{segmentsOf, holds, Place, Exception, caseA, caseB, caseC, caseD, State, clean, unfinished, damaged, state}
+use Rattle.model.specs.Table.{tableOf}
 use Rattle.model.specs.Answers.{Request, format, put, delete, read, readOr, recover, workOf}
 use Rattle.model.specs.Histories.{Seen, answered, lost, Proper, Does}
 use Rattle.model.specs.Laws.Chip.{whole-cut}
@@ -18,12 +19,12 @@ use Rattle.crash.specs.Machine.{malformed, IsCut, OnTable, WantsRecovery}
 use Rattle.crash.specs.Sound.{SoundAs, Sound, Clean, finished, Accepted, CutOf}
 use Rattle.crash.specs.Requests.{refused-idle, idle-cut, read-idle, readOr-idle, Unfinished, code-unfinished, ended-or-stopped}
 use Rattle.crash.specs.Theorem.{request-laws}
-use Rattle.origins.specs.Law.{slotOn, lastPlace, IsPut, IsDelete}
+use Rattle.origins.specs.Law.{slotOn, lastPlace, IsPut, IsRewrite, IsDelete}
 use Rattle.origins.specs.Fewer.{old-slot, no-new-image}
 use Rattle.origins.specs.Last.{others-stay, recovery-left}
 use Rattle.origins.specs.Torn.{untorn-clean}
 use Rattle.origins.specs.Recovers.{recovers-a, recovers-b, recovers-c, recovers-d}
-use Rattle.origins.specs.Puts.{dead-not, put-uncut, delete-no-new}
+use Rattle.origins.specs.Puts.{dead-not, put-uncut, put-undead, delete-no-new}
 
 -- ---- what an event has done
 
@@ -127,10 +128,14 @@ module _ (N B : ℕ) (s m : Image) (z : rightSize N B s ≡ true) (sound : Sound
   new-torn r o w (recovers caseC e d) h = inl (old-slot torn N B s m (recovers-c torn cut-torn N B s z e m d) p h)
   new-torn r o w (recovers caseD e d) h = inl (old-slot torn N B s m (recovers-d torn dead-torn N B s z e m d) p h)
 
-  -- a slot that reads dead did before, or this is a put, a delete, or a recovery of (d)
-  pub new-dead : (r : Request) → Worked N B s m r → slotOn N B m p ≡ dead → (slotOn N B s p ≡ dead) ⊎ (IsPut r ⊎ (IsDelete r ⊎ ((r ≡ recover) × (state N B s ≡ unfinished caseD))))
+  -- a slot that reads dead did before, or this is a rewrite, a delete, or a recovery of (d)
+  pub new-dead : (r : Request) → Worked N B s m r → slotOn N B m p ≡ dead → (slotOn N B s p ≡ dead) ⊎ (IsRewrite N B s r ⊎ (IsDelete r ⊎ ((r ≡ recover) × (state N B s ≡ unfinished caseD))))
   new-dead r (idle e) h = inl (old-slot dead N B s m (no-new-image dead N B s m e) p h)
-  new-dead r (puts b c k v a d) h = inr (inl tt)
+  new-dead r (puts b c k v a d) h = go (holds b (tableOf N B s)) refl
+    where
+      go : (t : Bool) → holds b (tableOf N B s) ≡ t → (slotOn N B s p ≡ dead) ⊎ ((holds b (tableOf N B s) ≡ true) ⊎ (⊥ ⊎ ((put b c ≡ recover) × (state N B s ≡ unfinished caseD))))
+      go true q = inr (inl q)
+      go false q = inl (old-slot dead N B s m (put-undead N B s z k b c bytes v a m d q) p h)
   new-dead r (deletes b k a d) h = inr (inr (inl tt))
   new-dead r (recovers caseA e d) h = inl (old-slot dead N B s m (recovers-a dead tt N B s z sound e m d) p h)
   new-dead r (recovers caseB e d) h = inl (old-slot dead N B s m (recovers-b dead tt N B s z sound e m d) p h)

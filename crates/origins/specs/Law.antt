@@ -8,8 +8,9 @@ use lib.ListN.{getD}
 use lib.Dec.{eqb}
 use Rattle.model.specs.Chip.{Image, rightSize, run}
 use Rattle.model.specs.Slot.{Slot, empty, torn, dead, cut}
-use Rattle.model.specs.State.{Segment, blank, isOwing, segmentsOf, numberAfter, slotsIn, nextNumber, topIndex, nextBlanked, lastSlot, Place, caseC, caseD, unfinished, state}
+use Rattle.model.specs.State.{Segment, blank, isOwing, segmentsOf, numberAfter, slotsIn, nextNumber, topIndex, nextBlanked, lastSlot, holds, Place, caseC, caseD, unfinished, state}
 use Rattle.model.specs.Steps.{formatSteps}
+use Rattle.model.specs.Table.{tableOf}
 use Rattle.model.specs.Answers.{Request, format, put, delete, read, readOr, recover}
 use Rattle.model.specs.Histories.{Seen, Proper, Does, Event, History, recovered}
 use Rattle.model.specs.Sequences.{Call, play, observed, Uncut}
@@ -105,6 +106,15 @@ NothingElse = (N B : ℕ) (s u m : Image) (es : List Event) (r : Request) (o : S
 
 -- ---- where a slot that reads 1F comes from
 
+-- a put of a block that is stored
+abbrev pub IsRewrite : ℕ → ℕ → Image → Request → Type 0
+IsRewrite N B s format = ⊥
+IsRewrite N B s (put b c) = holds b (tableOf N B s) ≡ true
+IsRewrite N B s (delete b) = ⊥
+IsRewrite N B s (read b) = ⊥
+IsRewrite N B s (readOr b f) = ⊥
+IsRewrite N B s recover = ⊥
+
 abbrev pub IsDelete : Request → Type 0
 IsDelete format = ⊥
 IsDelete (put b c) = ⊥
@@ -113,8 +123,8 @@ IsDelete (read b) = ⊥
 IsDelete (readOr b f) = ⊥
 IsDelete recover = ⊥
 
--- After such a history, whatever is asked next and wherever it is cut: a slot in use that reads 1F read so before; or this is a put or a delete, or a recovery of (d), which ends a put.
+-- After such a history, whatever is asked next and wherever it is cut: a slot in use that reads 1F read so before; or this is a rewrite or a delete, or a recovery of (d), which ends a rewrite that was cut.
 abbrev pub DeadTells : Type 0
 DeadTells = (N B : ℕ) (s u m : Image) (es : List Event) (r : Request) (o : Seen) → rightSize N B s ≡ true → History N B (run B (formatSteps N B) s) es u → Unformatted es
     → OnTable r → Proper r → Does N B r o u m
-    → (p : Place) → slotOn N B m p ≡ dead → (slotOn N B u p ≡ dead) ⊎ (IsPut r ⊎ (IsDelete r ⊎ ((r ≡ recover) × (state N B u ≡ unfinished caseD))))
+    → (p : Place) → slotOn N B m p ≡ dead → (slotOn N B u p ≡ dead) ⊎ (IsRewrite N B u r ⊎ (IsDelete r ⊎ ((r ≡ recover) × (state N B u ≡ unfinished caseD))))
