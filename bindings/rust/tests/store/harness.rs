@@ -97,8 +97,14 @@ impl Store {
         }
         #[cfg(qbx_lib)]
         {
+            // A buffer of the text's length each time, and in turn one that is too short, none, and one
+            // that is longer, with the string that the binding allocates.
             let whole = text.len();
-            library::compare_account(image, g, &text, &[whole, whole - 1, 0, whole + 100]);
+            let other = [whole - 1, 0, whole + 100][self.requests.get() as usize % 3];
+            library::compare_account(image, g, &text, &[whole, other]);
+            if other > whole {
+                library::compare_string(image, g, &text);
+            }
         }
         text
     }
@@ -230,7 +236,10 @@ pub mod library {
                 );
             }
         }
-        assert!(geometry(g).account(&lent) == text);
         assert!(lent == image, "the account writes to the image");
+    }
+
+    pub fn compare_string(image: &[u8], g: reference::Geometry, text: &str) {
+        assert!(geometry(g).account(image) == text);
     }
 }
