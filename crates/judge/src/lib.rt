@@ -22,18 +22,17 @@ pub enum Ending {
 }
 
 // The slots of one segment, looked at in order: counts, how they end, and the block of the last live one. A segment has at
-// most 255 slots, so that a byte holds a count; `cut` takes two, so that no gap is left before the block.
+// most 255 slots, so that a byte holds a count.
 pub struct Row {
     pub live: u8,
     pub dead: u8,
-    pub written: u8,
+    pub cut: u8,
     pub ending: Ending,
-    pub cut: u16,
     pub block: BlockNumber,
 }
 
 // One segment (document 01: summary). There is one for each of 255 segments, and a table of them is copied where it is
-// handed over: in this order, without a gap inside, a summary takes sixteen bytes.
+// handed over: in this order, without a gap inside, a summary takes twelve bytes.
 pub struct Summary {
     pub number: SegmentNumber,
     pub row: Row,
