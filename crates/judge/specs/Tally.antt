@@ -44,9 +44,9 @@ rows-kept n (r ∷ rs) = ap {B = List Row} (λ y. r ∷ y) (rows-kept (suc n) rs
 unfoldable pub writtenIn : Row → ℕ
 writtenIn r = r .live + r .dead + r .cut + cond (endsTorn (r .ending)) 1 0
 
--- the most that three bytes and a torn slot say
+-- three counts and a torn slot
 abbrev pub mostWritten : ℕ
-mostWritten = 3 * 255 + 1
+mostWritten = 3 * mostSlots + 1
 
 -- one row more. The count of compactions ends at the first row with a dead slot, replaced or cut
 unfoldable pub addRow : Sum → Row → Sum

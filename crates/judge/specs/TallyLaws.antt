@@ -71,7 +71,7 @@ agree-same {s} {p} a = rw (append-nil p) a
 
 -- ---- endings
 
--- a row that ends by the rules behind others: those are full, and it ended so itself
+-- what ends by the rules: all before is full, and what follows ends so by itself
 behind-good : (e d : Ending) → isBad (behind e d) ≡ false → e ≡ Full
 unfolding behind isBad
 behind-good Full d h = refl
@@ -141,7 +141,7 @@ dead-after (cut ∷ x) r s = dead-after x _ s ∙ omega arith
 dead-after (wrong ∷ x) r s = dead-after x _ s
 dead-after (live b c ∷ x) r s = dead-after x _ (putBit 64 s b)
 
--- one slot more of a row that ends by the rules: the row ended so before, and one more is written, or as many
+-- a row that ends by the rules with one slot more: it did so before, and one more is written, or an empty one follows
 written-one : (r q : Row) (d : Ending) → isBad (q .ending) ≡ false → q .ending ≡ behind (r .ending) d
     → q .live + q .dead + q .cut + cond (endsTorn d) 1 0 ≡ r .live + r .dead + r .cut + 1 → (isBad (r .ending) ≡ false) × (writtenIn q ≡ writtenIn r + 1)
 written-one r q d h e n =
@@ -277,11 +277,11 @@ sum-compactions (x ∷ rows) s f h = go (noneDead x) refl (λ q. sum-compactions
     go true e ih = ap (λ (g : Sum). g .compactions) first ∙ (ih (marks ∙ le-ltb 0 (count isDead x) (omega (arith, none-count isDead x e))) ∙ omega (arith, one))
     go false e ih = ap (λ (g : Sum). g .compactions) first ∙ (sum-counted rows (seeAll (map kindOf x) (pass noRow s) .seen) (addRow f r) (marks ∙ lt-ltb 0 (count isDead x) (some-count isDead x e)) ∙ one)
 
--- the last row is the top
 nothing-written : writtenIn noRow ≡ 0
 unfolding writtenIn noRow endsTorn
 nothing-written = refl
 
+-- the last row is the top: its written slots are told where the rows end by the rules
 pub sum-written : (l : List (List Slot)) (t : List Slot) (s : List ℕ) (f : Sum) → isBad (addRows (tallies (l ++ (t ∷ [])) s) f .ending) ≡ false
     → addRows (tallies (l ++ (t ∷ [])) s) f .written ≡ count isWritten t
 unfolding addRows addRow tallies

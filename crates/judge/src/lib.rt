@@ -68,8 +68,8 @@ pub struct Headers {
     pub frame: Frame,
 }
 
-// Rows added up: live slots; of the last row, how many are written, how it ends behind the others and its last live
-// block; and how many rows there are up to the first with a dead or cut slot.
+// Rows added up: live slots; of the last row, how many are written if it ends by the rules, how it ends behind the others
+// and its last live block; and how many rows there are up to the first with a dead or cut slot.
 pub struct Sum {
     pub live: usize,
     pub written: usize,
