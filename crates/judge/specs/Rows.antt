@@ -22,18 +22,18 @@ abbrev pub pass : Row → List ℕ → Pass
 pass r s = record { row = r; seen = s }
 
 unfoldable pub noRow : Row
-noRow = record { live = 0; dead = 0; cut = 0; written = 0; ending = Full; block = record { 0 = 0 } }
+noRow = record { live = 0; dead = 0; cut = 0; ending = Full; block = record { 0 = 0 } }
 
 -- the next slot: it is counted and its number is met whatever came before
 unfoldable pub see : SlotKind → Pass → Pass
-see Empty p = pass (record { live = p .row .live; dead = p .row .dead; cut = p .row .cut; written = p .row .written; ending = leaveRoom (p .row .ending); block = p .row .block }) (p .seen)
-see Torn p = pass (record { live = p .row .live; dead = p .row .dead; cut = p .row .cut; written = p .row .written + 1; ending = behind (p .row .ending) TornLast; block = p .row .block }) (p .seen)
+see Empty p = pass (record { live = p .row .live; dead = p .row .dead; cut = p .row .cut; ending = leaveRoom (p .row .ending); block = p .row .block }) (p .seen)
+see Torn p = pass (record { live = p .row .live; dead = p .row .dead; cut = p .row .cut; ending = behind (p .row .ending) TornLast; block = p .row .block }) (p .seen)
 see (Live n b) p = pass
-    (record { live = p .row .live + 1; dead = p .row .dead; cut = p .row .cut; written = p .row .written + 1; ending = behind (p .row .ending) (cond (inBits 64 (p .seen) (b .0)) TwinLast Full); block = b })
+    (record { live = p .row .live + 1; dead = p .row .dead; cut = p .row .cut; ending = behind (p .row .ending) (cond (inBits 64 (p .seen) (b .0)) TwinLast Full); block = b })
     (putBit 64 (p .seen) (b .0))
-see Dead p = pass (record { live = p .row .live; dead = p .row .dead + 1; cut = p .row .cut; written = p .row .written + 1; ending = behind (p .row .ending) Full; block = p .row .block }) (p .seen)
-see Cut p = pass (record { live = p .row .live; dead = p .row .dead; cut = p .row .cut + 1; written = p .row .written + 1; ending = behind (p .row .ending) Full; block = p .row .block }) (p .seen)
-see Wrong p = pass (record { live = p .row .live; dead = p .row .dead; cut = p .row .cut; written = p .row .written + 1; ending = Bad; block = p .row .block }) (p .seen)
+see Dead p = pass (record { live = p .row .live; dead = p .row .dead + 1; cut = p .row .cut; ending = behind (p .row .ending) Full; block = p .row .block }) (p .seen)
+see Cut p = pass (record { live = p .row .live; dead = p .row .dead; cut = p .row .cut + 1; ending = behind (p .row .ending) Full; block = p .row .block }) (p .seen)
+see Wrong p = pass (record { live = p .row .live; dead = p .row .dead; cut = p .row .cut; ending = Bad; block = p .row .block }) (p .seen)
 
 unfoldable pub seeAll : List SlotKind → Pass → Pass
 seeAll [] p = p
@@ -44,7 +44,6 @@ pub record Small (r : Row) (i : ℕ) : Type 0 where
   pub live : r .live ≤ i
   pub dead : r .dead ≤ i
   pub cut : r .cut ≤ i
-  pub written : r .written ≤ i
 
 -- the slots on c pages from an offset on, and their kinds
 unfoldable pub slotsAt : Image → ℕ → ℕ → List Slot

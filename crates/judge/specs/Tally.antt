@@ -13,7 +13,7 @@ use Rattle.judge.specs.declared.Row.{Row}
 use Rattle.judge.specs.declared.Summary.{Summary}
 use Rattle.judge.specs.declared.Sum.{Sum}
 use Rattle.judge.specs.declared.Frame.{Frame}
-use Rattle.judge.specs.Endings.{behind}
+use Rattle.judge.specs.Endings.{behind, endsTorn}
 use Rattle.judge.specs.Rows.{pass, seeAll, noRow}
 
 -- no block number met yet
@@ -40,11 +40,19 @@ unfolding summariesOf summaryOf rowOf
 rows-kept n [] = refl
 rows-kept n (r ∷ rs) = ap {B = List Row} (λ y. r ∷ y) (rows-kept (suc n) rs)
 
+-- the slots that are not empty, of a row that does not end against the rules
+unfoldable pub writtenIn : Row → ℕ
+writtenIn r = r .live + r .dead + r .cut + cond (endsTorn (r .ending)) 1 0
+
+-- three counts and a torn slot
+abbrev pub mostWritten : ℕ
+mostWritten = 3 * mostSlots + 1
+
 -- one row more. The count of compactions ends at the first row with a dead slot, replaced or cut
 unfoldable pub addRow : Sum → Row → Sum
 addRow f r = record {
   live = f .live + r .live;
-  written = r .written;
+  written = writtenIn r;
   compactions = cond (f .dead) (f .compactions) (f .compactions + 1);
   dead = cond (f .dead) true (ltb 0 (r .dead + r .cut));
   ending = behind (f .ending) (r .ending);
@@ -65,7 +73,7 @@ badSum = record { live = 0; written = 0; compactions = 0; dead = false; ending =
 -- sums of at most i rows
 pub record Few (f : Sum) (i : ℕ) : Type 0 where
   pub live : f .live ≤ mostSlots * i
-  pub written : f .written ≤ mostSlots
+  pub written : f .written ≤ mostWritten
   pub compactions : f .compactions ≤ i
 
 -- numbers of a frame fit

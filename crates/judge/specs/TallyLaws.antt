@@ -1,7 +1,7 @@
 -- What the sums of rows say: the live slots, the compactions, the ending, and of the top its written slots and its last live block.
 use Prim.Native.Nat.{ℕ, suc, _+_, _-_, _<_}
 use mathlib.Core.Path.{_≡_, refl, sym, ap, _∙_}
-use mathlib.Core.Bool.{Bool, true, false, cond, _||_, not}
+use mathlib.Core.Bool.{Bool, true, false, cond, _||_, not, true≢false}
 use mathlib.Core.List.{List, [], _∷_, _++_, map, flatMap, flatten, append-nil, append-assoc}
 use native.Mathlib.Omega.{arith}
 use native.Mathlib.Decide.{ℕ-discrete}
@@ -14,14 +14,14 @@ use Rattle.model.specs.State.{entries, holds}
 use Rattle.model.specs.Steps.{compactions}
 use Rattle.bridge.specs.Views.Slots.{noneDead, entries-append}
 use Rattle.judge.specs.declared.Ending.{Ending}
-use Rattle.judge.specs.declared.Ending.the-variants.{Full, TwinLast}
+use Rattle.judge.specs.declared.Ending.the-variants.{Full, Room, TornLast, TwinLast, Bad}
 use Rattle.judge.specs.declared.Row.{Row}
 use Rattle.judge.specs.declared.Sum.{Sum}
 use Rattle.judge.specs.Bitmap.{inBits, putBit}
 use Rattle.judge.specs.BitLaws.{in-same, in-other, in-none}
-use Rattle.judge.specs.Endings.{behind, turn, judge, ring}
+use Rattle.judge.specs.Endings.{behind, leaveRoom, turn, judge, ring, isBad, endsTorn}
 use Rattle.judge.specs.Rows.{pass, see, seeAll, noRow}
-use Rattle.judge.specs.Tally.{noneMet, tallies, addRow, addRows}
+use Rattle.judge.specs.Tally.{noneMet, tallies, writtenIn, addRow, addRows}
 use Rattle.model.specs.Laws.Lists.{none-count, some-count}
 use Rattle.model.specs.Laws.Tables.{holds-append}
 
@@ -69,6 +69,42 @@ agree-put s p e h a = record {
 pub agree-same : {s : List ℕ} {p : List Entry} → Agree s p → Agree s (p ++ [])
 agree-same {s} {p} a = rw (append-nil p) a
 
+-- ---- endings
+
+-- what ends by the rules: all before is full, and what follows ends so by itself
+behind-good : (e d : Ending) → isBad (behind e d) ≡ false → e ≡ Full
+unfolding behind isBad
+behind-good Full d h = refl
+behind-good Room d h = absurd (true≢false h)
+behind-good TornLast d h = absurd (true≢false h)
+behind-good TwinLast d h = absurd (true≢false h)
+behind-good Bad d h = absurd (true≢false h)
+
+behind-last : (e d : Ending) → isBad (behind e d) ≡ false → isBad d ≡ false
+unfolding behind
+behind-last e d h = rw (behind-good e d h) at h
+
+room-bad : (e : Ending) → isBad (leaveRoom e) ≡ isBad e
+unfolding leaveRoom isBad
+room-bad Full = refl
+room-bad Room = refl
+room-bad TornLast = refl
+room-bad TwinLast = refl
+room-bad Bad = refl
+
+room-torn : (e : Ending) → endsTorn (leaveRoom e) ≡ endsTorn e
+unfolding leaveRoom endsTorn
+room-torn Full = refl
+room-torn Room = refl
+room-torn TornLast = refl
+room-torn TwinLast = refl
+room-torn Bad = refl
+
+live-torn : (t : Bool) → _≡_ {A = ℕ} (cond (endsTorn (cond t TwinLast Full)) 1 0) 0
+unfolding endsTorn
+live-torn true = refl
+live-torn false = refl
+
 -- ---- one row
 
 -- the block of the last live slot
@@ -105,15 +141,55 @@ dead-after (cut ∷ x) r s = dead-after x _ s ∙ omega arith
 dead-after (wrong ∷ x) r s = dead-after x _ s
 dead-after (live b c ∷ x) r s = dead-after x _ (putBit 64 s b)
 
-written-after : (x : List Slot) (r : Row) (s : List ℕ) → seeAll (map kindOf x) (pass r s) .row .written ≡ r .written + count isWritten x
-unfolding seeAll see kindOf count isWritten isEmpty
-written-after [] r s = omega arith
-written-after (empty ∷ x) r s = written-after x _ s
-written-after (torn ∷ x) r s = written-after x _ s ∙ omega arith
-written-after (dead ∷ x) r s = written-after x _ s ∙ omega arith
-written-after (cut ∷ x) r s = written-after x _ s ∙ omega arith
-written-after (wrong ∷ x) r s = written-after x _ s ∙ omega arith
-written-after (live b c ∷ x) r s = written-after x _ (putBit 64 s b) ∙ omega arith
+-- a row that ends by the rules with one slot more: it did so before, and one more is written, or an empty one follows
+written-one : (r q : Row) (d : Ending) → isBad (q .ending) ≡ false → q .ending ≡ behind (r .ending) d
+    → q .live + q .dead + q .cut + cond (endsTorn d) 1 0 ≡ r .live + r .dead + r .cut + 1 → (isBad (r .ending) ≡ false) × (writtenIn q ≡ writtenIn r + 1)
+written-one r q d h e n =
+    let f = behind-good (r .ending) d (ap isBad (sym e) ∙ h) in
+    let k : q .ending ≡ d = e ∙ (ap (λ (y : Ending). behind y d) f ∙ (unfold behind in refl)) in
+    (ap isBad f ∙ (unfold isBad in refl), after k ∙ (n ∙ omega (arith, before f)))
+  where
+    before : r .ending ≡ Full → writtenIn r ≡ r .live + r .dead + r .cut + 0
+    before f = unfold writtenIn endsTorn in rw f
+
+    after : q .ending ≡ d → writtenIn q ≡ q .live + q .dead + q .cut + cond (endsTorn d) 1 0
+    after k = unfold writtenIn in rw k
+
+written-room : (r q : Row) → isBad (q .ending) ≡ false → q .ending ≡ leaveRoom (r .ending) → q .live + q .dead + q .cut ≡ r .live + r .dead + r .cut
+    → (isBad (r .ending) ≡ false) × (writtenIn q ≡ writtenIn r)
+written-room r q h e n = (sym (room-bad (r .ending)) ∙ (ap isBad (sym e) ∙ h), unfold writtenIn in rw (e, room-torn (r .ending), n))
+
+-- a row that ends by the rules has so many slots written
+written-after : (x : List Slot) (r : Row) (s : List ℕ) → let t = seeAll (map kindOf x) (pass r s) .row in isBad (t .ending) ≡ false
+    → (isBad (r .ending) ≡ false) × (writtenIn t ≡ writtenIn r + count isWritten x)
+unfolding seeAll see kindOf count isWritten isEmpty endsTorn isBad
+written-after [] r s h = (h, omega arith)
+written-after (empty ∷ x) r s h =
+    let n : Row = see (kindOf empty) (pass r s) .row in
+    let q = written-after x n s h in
+    let o = written-room r n (q .0) refl refl in
+    (o .0, q .1 ∙ omega (arith, o .1))
+written-after (torn ∷ x) r s h =
+    let n : Row = see (kindOf torn) (pass r s) .row in
+    let q = written-after x n s h in
+    let o = written-one r n TornLast (q .0) refl refl in
+    (o .0, q .1 ∙ omega (arith, o .1))
+written-after (dead ∷ x) r s h =
+    let n : Row = see (kindOf dead) (pass r s) .row in
+    let q = written-after x n s h in
+    let o = written-one r n Full (q .0) refl (omega arith) in
+    (o .0, q .1 ∙ omega (arith, o .1))
+written-after (cut ∷ x) r s h =
+    let n : Row = see (kindOf cut) (pass r s) .row in
+    let q = written-after x n s h in
+    let o = written-one r n Full (q .0) refl (omega arith) in
+    (o .0, q .1 ∙ omega (arith, o .1))
+written-after (wrong ∷ x) r s h = absurd (true≢false (written-after x (see (kindOf wrong) (pass r s) .row) s h .0))
+written-after (live b c ∷ x) r s h =
+    let n : Row = see (kindOf (live b c)) (pass r s) .row in
+    let q = written-after x n (putBit 64 s b) h in
+    let o = written-one r n (cond (inBits 64 s b) TwinLast Full) (q .0) refl (omega (arith, live-torn (inBits 64 s b))) in
+    (o .0, q .1 ∙ omega (arith, o .1))
 
 block-after : (x : List Slot) (r : Row) (s : List ℕ) → seeAll (map kindOf x) (pass r s) .row .block .0 ≡ lastLive (r .block .0) x
 unfolding seeAll see kindOf lastLive
@@ -201,9 +277,18 @@ sum-compactions (x ∷ rows) s f h = go (noneDead x) refl (λ q. sum-compactions
     go true e ih = ap (λ (g : Sum). g .compactions) first ∙ (ih (marks ∙ le-ltb 0 (count isDead x) (omega (arith, none-count isDead x e))) ∙ omega (arith, one))
     go false e ih = ap (λ (g : Sum). g .compactions) first ∙ (sum-counted rows (seeAll (map kindOf x) (pass noRow s) .seen) (addRow f r) (marks ∙ lt-ltb 0 (count isDead x) (some-count isDead x e)) ∙ one)
 
--- the last row is the top
-pub sum-top : (l : List (List Slot)) (t : List Slot) (s : List ℕ) (f : Sum)
-    → (addRows (tallies (l ++ (t ∷ [])) s) f .written ≡ count isWritten t) × (addRows (tallies (l ++ (t ∷ [])) s) f .block .0 ≡ lastLive 0 t)
+nothing-written : writtenIn noRow ≡ 0
+unfolding writtenIn noRow endsTorn
+nothing-written = refl
+
+-- the last row is the top: its written slots are told where the rows end by the rules
+pub sum-written : (l : List (List Slot)) (t : List Slot) (s : List ℕ) (f : Sum) → isBad (addRows (tallies (l ++ (t ∷ [])) s) f .ending) ≡ false
+    → addRows (tallies (l ++ (t ∷ [])) s) f .written ≡ count isWritten t
 unfolding addRows addRow tallies
-sum-top [] t s f = (written-after t noRow s ∙ (unfold noRow in omega arith), block-after t noRow s ∙ (unfold noRow in refl))
-sum-top (x ∷ l) t s f = sum-top l t (seeAll (map kindOf x) (pass noRow s) .seen) _
+sum-written [] t s f h = written-after t noRow s (behind-last (f .ending) (seeAll (map kindOf t) (pass noRow s) .row .ending) h) .1 ∙ omega (arith, nothing-written)
+sum-written (x ∷ l) t s f h = sum-written l t (seeAll (map kindOf x) (pass noRow s) .seen) _ h
+
+pub sum-block : (l : List (List Slot)) (t : List Slot) (s : List ℕ) (f : Sum) → addRows (tallies (l ++ (t ∷ [])) s) f .block .0 ≡ lastLive 0 t
+unfolding addRows addRow tallies
+sum-block [] t s f = block-after t noRow s ∙ (unfold noRow in refl)
+sum-block (x ∷ l) t s f = sum-block l t (seeAll (map kindOf x) (pass noRow s) .seen) _

@@ -24,7 +24,7 @@ use Rattle.judge.specs.Ordered.{rowsWith, before-top, last-block}
 use Rattle.judge.specs.Ends.{ending, fine-ending, torn-ending, ending-ordered, rows-plain, stop-torn, stop-twin}
 use Rattle.judge.specs.Twins.{twin-ending}
 use Rattle.judge.specs.Tally.{noneMet, tallies, addRows, noSum}
-use Rattle.judge.specs.TallyLaws.{Narrow, NarrowRows, agree-none, lastLive, isWritten, sum-live, sum-ending, sum-compactions, sum-top}
+use Rattle.judge.specs.TallyLaws.{Narrow, NarrowRows, agree-none, lastLive, isWritten, sum-live, sum-ending, sum-compactions, sum-written, sum-block}
 use Rattle.model.specs.Laws.Lists.{flatten-last, count-append}
 use Rattle.model.specs.Laws.Tables.{holds-append}
 
@@ -138,6 +138,24 @@ held-last l x e y =
     here : (e : Entry) (y : List Slot) → holds (e .block) (entries (live (e .block) (e .contents) ∷ y)) ≡ true
     here e y = unfold holds entries flatMap entryOf in rw (eq-eqb (e .block) (e .block) refl)
 
+-- ---- endings that are not against the rules
+
+order-good : (e : Ending) → inOrder e ≡ true → isBad e ≡ false
+unfolding inOrder isBad
+order-good Full h = refl
+order-good Room h = refl
+order-good TornLast h = refl
+order-good TwinLast h = refl
+order-good Bad h = absurd (false≢true h)
+
+last-good : (e : Ending) → (endsTorn e || endsTwin e) ≡ true → isBad e ≡ false
+unfolding endsTorn endsTwin isBad
+last-good Full h = refl
+last-good Room h = refl
+last-good TornLast h = refl
+last-good TwinLast h = refl
+last-good Bad h = absurd (false≢true h)
+
 -- ---- what the sums of rows say of the view
 
 pub record Told (N B : ℕ) (v : View) (f : Sum) : Type 0 where
@@ -165,6 +183,9 @@ module _ (N B n : ℕ) (ver : Version) (l : List (List Slot)) (t : List Slot) (n
   f-compactions : f .compactions ≡ compactions (l ++ (t ∷ []))
   unfolding noSum
   f-compactions = sum-compactions (l ++ (t ∷ [])) noneMet noSum refl ∙ omega arith
+
+  f-written : isBad (f .ending) ≡ false → f .written ≡ count isWritten t
+  f-written = sum-written l t noneMet noSum
 
   f-state : slotState N B (rowsWith n ver l t) ≡ verdict (capacity N B) f
   unfolding slotState verdict orderly tornWithin twinWithin entriesIn
@@ -233,15 +254,15 @@ module _ (N B n : ℕ) (ver : Version) (l : List (List Slot)) (t : List Slot) (n
       go Bad q k = absurd (false≢true (unfold endsTwin in k))
 
   told-top : Told N B (rowsWith n ver l t) f
-  told-top = let w = sum-top l t noneMet noSum in record {
+  told-top = let b = sum-block l t noneMet noSum in record {
     live = f-live;
     compactions = f-compactions;
     fine = fine-ending n ver l t N B ∙ f-orderly;
     state = f-state;
-    free = λ h. w .0 ∙ (first-free t (ending-ordered n ver l t (ap inOrder (sym f-ending) ∙ h) .last) ∙ ap firstEmpty (sym (top-row l t)));
-    last = λ h. w .0 ∙ (f-last h ∙ ap filled (sym (top-row l t)));
-    block = λ h. w .1 ∙ f-block h;
-    held = λ h. ap (λ (b : ℕ). holds b (entries (flatten (l ++ (t ∷ []))))) (w .1) ∙ f-held h;
+    free = λ h. f-written (order-good (f .ending) h) ∙ (first-free t (ending-ordered n ver l t (ap inOrder (sym f-ending) ∙ h) .last) ∙ ap firstEmpty (sym (top-row l t)));
+    last = λ h. f-written (last-good (f .ending) h) ∙ (f-last h ∙ ap filled (sym (top-row l t)));
+    block = λ h. b ∙ f-block h;
+    held = λ h. ap (λ (b : ℕ). holds b (entries (flatten (l ++ (t ∷ []))))) b ∙ f-held h;
   }
 
 pub told : (N B n : ℕ) (ver : Version) (rows : List (List Slot)) → 1 ≤ length rows → NarrowRows rows → Told N B (record { first = n; slots = rows; version = ver }) (addRows (tallies rows noneMet) noSum)

@@ -22,18 +22,17 @@ pub enum Ending {
 }
 
 // The slots of one segment, looked at in order: counts, how they end, and the block of the last live one. A segment has at
-// most 255 slots, so that a byte holds a count; `cut` takes two, so that no gap is left before the block.
+// most 255 slots, so that a byte holds a count.
 pub struct Row {
     pub live: u8,
     pub dead: u8,
-    pub written: u8,
+    pub cut: u8,
     pub ending: Ending,
-    pub cut: u16,
     pub block: BlockNumber,
 }
 
 // One segment (document 01: summary). There is one for each of 255 segments, and a table of them is copied where it is
-// handed over: in this order, without a gap inside, a summary takes sixteen bytes.
+// handed over: in this order, without a gap inside, a summary takes twelve bytes.
 pub struct Summary {
     pub number: SegmentNumber,
     pub row: Row,
@@ -69,8 +68,8 @@ pub struct Headers {
     pub frame: Frame,
 }
 
-// Rows added up: live slots; of the last row, how many are written, how it ends behind the others and its last live
-// block; and how many rows there are up to the first with a dead or cut slot.
+// Rows added up: live slots; of the last row, how many are written if it ends by the rules, how it ends behind the others
+// and its last live block; and how many rows there are up to the first with a dead or cut slot.
 pub struct Sum {
     pub live: usize,
     pub written: usize,

@@ -5,7 +5,7 @@ use mathlib.Core.Bool.{cond, _||_, _&&_, not}
 use mathlib.Core.List.{List}
 use lib.ListN.{length, getD}
 use lib.Dec.{eqb}
-use Rattle.model.specs.Chip.{Image, mostSegments, mostSlots}
+use Rattle.model.specs.Chip.{Image, mostSegments}
 use Rattle.model.specs.State.{Segment, blank, segmentsOf, isInUse, isInvalid, nextNumber, nextIndex, viewOf, entriesIn, capacity, lastSlot, older, Exception, caseA, caseB, caseC, caseD, State, clean, unfinished, damaged, stateOf}
 use Rattle.model.specs.Steps.{slotAt, topRow, firstEmpty, compactions}
 use Rattle.flash.specs.Pages.{Sized}
@@ -19,7 +19,7 @@ use Rattle.scan.specs.declared.Surveyed.{Surveyed}
 use Rattle.scan.specs.declared.Surveyed.the-variants.{Clean, TornSegment, ErasePending, TornSlot, OldSlot, Damaged}
 use Rattle.judge.specs.Heads.{headersOf}
 use Rattle.judge.specs.Parts.{rowsOn}
-use Rattle.judge.specs.Tally.{noneMet, tallies, addRows, noSum, badSum}
+use Rattle.judge.specs.Tally.{noneMet, tallies, mostWritten, addRows, noSum, badSum}
 use Rattle.judge.specs.Verdict.{orderly}
 
 -- ---- a survey
@@ -87,7 +87,7 @@ oldIn Nothing = Damaged
 pub record Bounded (e : Exam) : Type 0 where
   pub whole : e .first + e .used ≤ 4294967296
   pub used : e .used ≤ mostSegments
-  pub written : e .sum .written ≤ mostSlots
+  pub written : e .sum .written ≤ mostWritten
 
 -- the headers of an image of a right size, and the segments in use that they tell of, examined
 pub record Looked (N B : ℕ) (s : Image) (h : Headers) (e : Exam) : Type 0 where

@@ -15,6 +15,7 @@ ghost use Rattle.model.specs.State.{numbersFrom, segmentsOf, slotsFrom};
 ghost use Rattle.model.specs.Steps.{slotAt};
 ghost use Rattle.flash.specs.Pages.{Sized};
 ghost use Rattle.find.specs.Search.{foundIn};
+ghost use Rattle.judge.specs.Tally.{mostWritten};
 ghost use Rattle.scan.specs.Surveys.{surveyOf, owingIn, tornIn, cleanIn, oldIn, Looked};
 
 // The segments in use that a table of summaries shows, and their rows added up.
@@ -65,7 +66,7 @@ fn top_number(next: usize) -> SegmentNumber
 
 // The place of a slot of the segment with a number.
 fn slot_place(segments: usize, slots: usize, number: usize, slot: usize) -> SlotPlace
-    requires { ⌜ (0 < segments) × (segments ≤ mostSegments) × (slots ≤ mostSlots) × (slot ≤ mostSlots) ⌝ }
+    requires { ⌜ (0 < segments) × (segments ≤ mostSegments) × (slots ≤ mostSlots) × (slot ≤ mostWritten) ⌝ }
     ensures { λ r. ⌜ r .0 ≡ slotAt segments slots number slot * 256 ⌝ }
 {
     SlotPlace((number % segments * (slots + 1) + 1 + slot) * 256)

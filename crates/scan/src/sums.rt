@@ -19,7 +19,7 @@ ghost use Rattle.judge.specs.Endings.{inOrder, endsTorn, endsTwin};
 ghost use Rattle.judge.specs.Verdict.{orderly, tornWithin, twinWithin};
 ghost use Rattle.scan.specs.Surveys.{examOf, Bounded};
 ghost use Rattle.judge.specs.Parts.{rowsOn};
-ghost use Rattle.judge.specs.Tally.{noneMet, tallies, summaryOf, summariesOf, rowOf, addRow, addRows, noSum, Few, Ranged};
+ghost use Rattle.judge.specs.Tally.{noneMet, tallies, summaryOf, summariesOf, rowOf, writtenIn, mostWritten, addRow, addRows, noSum, Few, Ranged};
 
 fn wide(x: u8) -> usize
     ensures { λ r. ⌜ r ≡ x ⌝ }
@@ -65,15 +65,28 @@ fn gather(
     ring
 }
 
+// The slots of a row that are not empty, if it does not end against the rules.
+fn written(row: Row) -> usize
+    ensures { λ r. ⌜ (r ≡ writtenIn row) × (r ≤ mostWritten) ⌝ }
+{
+    let ending = row.ending;
+    let counted = wide(row.live) + wide(row.dead) + wide(row.cut);
+    if ends_torn(ending) {
+        counted + 1
+    } else {
+        counted
+    }
+}
+
 fn add_row(sum: Sum, row: Row) -> Sum
     requires { ⌜ Few sum 1000 ⌝ }
-    ensures { λ r. ⌜ (r ≡ addRow sum row) × (row .live ≤ mostSlots) × (row .written ≤ mostSlots) ⌝ }
+    ensures { λ r. ⌜ (r ≡ addRow sum row) × (row .live ≤ mostSlots) × (writtenIn row ≤ mostWritten) ⌝ }
 {
     let block = row.block;
     let before = sum.ending;
     let then = row.ending;
     let live = sum.live + wide(row.live);
-    let written = wide(row.written);
+    let written = written(row);
     let ending = rows::behind(before, then);
     if sum.dead {
         return Sum {
@@ -89,7 +102,7 @@ fn add_row(sum: Sum, row: Row) -> Sum
         live,
         written,
         compactions: sum.compactions + 1,
-        dead: wide(row.dead) + row.cut as usize > 0,
+        dead: wide(row.dead) + wide(row.cut) > 0,
         ending,
         block,
     }
@@ -97,7 +110,7 @@ fn add_row(sum: Sum, row: Row) -> Sum
 
 fn sum_rows(ring: [Summary; MOST_SEGMENTS], used: usize) -> Sum
     requires { ⌜ used ≤ mostSegments ⌝ }
-    ensures { λ r. ⌜ (r ≡ addRows (map rowOf (take used ring)) noSum) × (r .written ≤ mostSlots) ⌝ }
+    ensures { λ r. ⌜ (r ≡ addRows (map rowOf (take used ring)) noSum) × (r .written ≤ mostWritten) ⌝ }
 {
     let mut sum = Sum {
         live: 0,

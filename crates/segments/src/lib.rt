@@ -28,7 +28,6 @@ fn head(state: SegmentState, former: bool, number: SegmentNumber) -> Summary
         live: 0,
         dead: 0,
         cut: 0,
-        written: 0,
         ending: Ending::Full,
         block: BlockNumber(0),
     };

@@ -13,16 +13,16 @@ use Rattle.judge.specs.Rows.{Pass, noRow, see, seeAll, kindsAt, slotsAt, Small}
 
 pub none-small : Small noRow 0
 unfolding noRow
-none-small = record { live = omega arith; dead = omega arith; cut = omega arith; written = omega arith }
+none-small = record { live = omega arith; dead = omega arith; cut = omega arith }
 
 pub see-small : (k : SlotKind) (p : Pass) (i : ℕ) → Small (p .row) i → Small (see k p .row) (i + 1)
 unfolding see
-see-small Empty p i h = record { live = omega arith; dead = omega arith; cut = omega arith; written = omega arith }
-see-small Torn p i h = record { live = omega arith; dead = omega arith; cut = omega arith; written = omega arith }
-see-small (Live l n) p i h = record { live = omega arith; dead = omega arith; cut = omega arith; written = omega arith }
-see-small Dead p i h = record { live = omega arith; dead = omega arith; cut = omega arith; written = omega arith }
-see-small Cut p i h = record { live = omega arith; dead = omega arith; cut = omega arith; written = omega arith }
-see-small Wrong p i h = record { live = omega arith; dead = omega arith; cut = omega arith; written = omega arith }
+see-small Empty p i h = record { live = omega arith; dead = omega arith; cut = omega arith }
+see-small Torn p i h = record { live = omega arith; dead = omega arith; cut = omega arith }
+see-small (Live l n) p i h = record { live = omega arith; dead = omega arith; cut = omega arith }
+see-small Dead p i h = record { live = omega arith; dead = omega arith; cut = omega arith }
+see-small Cut p i h = record { live = omega arith; dead = omega arith; cut = omega arith }
+see-small Wrong p i h = record { live = omega arith; dead = omega arith; cut = omega arith }
 
 pub kinds-next : (m : List ℕ) (o c : ℕ) → kindsAt m o (suc c) ≡ kindOf (slotOf (take 256 (drop o m))) ∷ kindsAt m (o + 256) c
 unfolding kindsAt slotsAt chunk

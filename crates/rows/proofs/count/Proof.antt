@@ -13,9 +13,6 @@ leave-room-requires c κs = search needs
 enum-told-2 : tie.Need-enum-told-2
 enum-told-2 c = search needs
 
-add-t10 : tie.Need-add-t10
-add-t10 c = search needs
-
 behind-requires : tie.Need-behind-requires
 behind-requires c κs = search needs
 
@@ -28,11 +25,8 @@ meet-requires c κs = search needs
 live-ending-requires : tie.Need-live-ending-requires
 live-ending-requires c κs = search needs
 
-add-t15 : tie.Need-add-t15
-add-t15 c = search needs
-
-add-t16 : tie.Need-add-t16
-add-t16 c = search needs
+add-t14 : tie.Need-add-t14
+add-t14 c = search needs
 
 behind-requires-2 : tie.Need-behind-requires-2
 behind-requires-2 c κs = search needs
@@ -40,11 +34,8 @@ behind-requires-2 c κs = search needs
 enum-told-3 : tie.Need-enum-told-3
 enum-told-3 c = search needs
 
-add-t18 : tie.Need-add-t18
-add-t18 c = search needs
-
-add-t19 : tie.Need-add-t19
-add-t19 c = search needs
+add-t16 : tie.Need-add-t16
+add-t16 c = search needs
 
 behind-requires-3 : tie.Need-behind-requires-3
 behind-requires-3 c κs = search needs
@@ -52,11 +43,8 @@ behind-requires-3 c κs = search needs
 enum-told-4 : tie.Need-enum-told-4
 enum-told-4 c = search needs
 
-add-t22 : tie.Need-add-t22
-add-t22 c = search needs
-
-add-t23 : tie.Need-add-t23
-add-t23 c = search needs
+add-t19 : tie.Need-add-t19
+add-t19 c = search needs
 
 behind-requires-4 : tie.Need-behind-requires-4
 behind-requires-4 c κs = search needs
@@ -64,32 +52,29 @@ behind-requires-4 c κs = search needs
 enum-told-5 : tie.Need-enum-told-5
 enum-told-5 c = search needs
 
-add-t26 : tie.Need-add-t26
-add-t26 c = search needs
-
 returns : tie.Need-returns
 unfolding see
 returns c = rw (c .leave-room .ensures, c .before .enum-told .given .1)
 
 returns-2 : tie.Need-returns-2
 unfolding see
-returns-2 c = rw (c .behind .ensures, c .before .before .enum-told2 .given .1)
+returns-2 c = rw (c .behind .ensures, c .before .enum-told2 .given .1)
 
 returns-3 : tie.Need-returns-3
 unfolding see
-returns-3 c = rw (c .behind2 .ensures, c .before .before .before .live-ending .ensures, c .before .before .before .before .meet .ensures .0, c .before .before .before .before .meet .ensures .1, c .before .before .before .before .before .before .before .kind .given .1)
+returns-3 c = rw (c .behind2 .ensures, c .before .before .live-ending .ensures, c .before .before .before .meet .ensures .0, c .before .before .before .meet .ensures .1, c .before .before .before .before .before .before .kind .given .1)
 
 returns-4 : tie.Need-returns-4
 unfolding see
-returns-4 c = rw (c .behind3 .ensures, c .before .before .before .enum-told3 .given .1)
+returns-4 c = rw (c .behind3 .ensures, c .before .before .enum-told3 .given .1)
 
 returns-5 : tie.Need-returns-5
 unfolding see
-returns-5 c = rw (c .behind4 .ensures, c .before .before .before .enum-told4 .given .1)
+returns-5 c = rw (c .behind4 .ensures, c .before .before .enum-told4 .given .1)
 
 returns-6 : tie.Need-returns-6
 unfolding see
-returns-6 c = rw (c .before .enum-told5 .given .1)
+returns-6 c = rw (c .enum-told5 .given .1)
 
 pub count-spec : {M : Type 1} → statement M
 count-spec =
@@ -98,24 +83,19 @@ count-spec =
     enum-told
     leave-room-requires
     enum-told-2
-    add-t10
     behind-requires
     enum-known-kind
     meet-requires
     live-ending-requires
-    add-t15
-    add-t16
+    add-t14
     behind-requires-2
     enum-told-3
-    add-t18
-    add-t19
+    add-t16
     behind-requires-3
     enum-told-4
-    add-t22
-    add-t23
+    add-t19
     behind-requires-4
     enum-told-5
-    add-t26
     returns
     returns-2
     returns-3

@@ -55,7 +55,7 @@ count-requires : tie.Need-count-requires Inv-loop μ-loop
 count-requires c κs =
     let k = c .before .before .before .before .loop .inv .2 in
     let p = c .before .before .before .before .before .before .before .pre in
-    record { live = omega arith; dead = omega arith; cut = omega arith; written = omega arith }
+    record { live = omega arith; dead = omega arith; cut = omega arith }
 
 add-i : tie.Need-add-i Inv-loop μ-loop
 add-i c = search needs
@@ -82,7 +82,7 @@ returns c =
     let l = c .before .loop in
     let k = l .inv .2 in (
       sym (row-end (now (a .image)) (a .at + l .i * 256) (l .i) (a .slots) (pass (l .row) (l .seen)) (c .loop-test .left)) ∙ l .inv .0,
-      record { live = omega (arith, l .inv .1); dead = omega (arith, l .inv .1); cut = omega (arith, l .inv .1); written = omega (arith, l .inv .1) },
+      record { live = omega (arith, l .inv .1); dead = omega (arith, l .inv .1); cut = omega (arith, l .inv .1) },
     )
 
 pub scan-row-spec : {M : Type 1} → statement M

@@ -14,7 +14,7 @@ use Rattle.judge.specs.declared.Summary.{Summary}
 use Rattle.judge.specs.declared.Sum.{Sum}
 use Rattle.judge.specs.Rows.{Pass, pass, seeAll, noRow, kindsAt}
 use Rattle.judge.specs.Parts.{slotsOffset, rowsOn}
-use Rattle.judge.specs.Tally.{noneMet, tallies, summaryOf, summariesOf, rowOf, addRow, addRows, noSum, Few}
+use Rattle.judge.specs.Tally.{noneMet, tallies, summaryOf, summariesOf, rowOf, writtenIn, mostWritten, addRow, addRows, noSum, Few}
 
 -- the slots of a segment lie inside the image
 pub slots-inside : (N B i : ℕ) → i < N → slotsOffset B i + B * 256 ≤ N * (B + 1) * 256
@@ -67,13 +67,13 @@ pub few-start : Few noSum 0
 unfolding noSum
 few-start = record { live = omega arith; written = omega arith; compactions = omega arith }
 
-pub few-more : (f : Sum) (r : Row) (i : ℕ) → r .live ≤ mostSlots → r .written ≤ mostSlots → Few f i → Few (addRow f r) (i + 1)
+pub few-more : (f : Sum) (r : Row) (i : ℕ) → r .live ≤ mostSlots → writtenIn r ≤ mostWritten → Few f i → Few (addRow f r) (i + 1)
 few-more f r i h m k = go (f .dead) refl
   where
     live : addRow f r .live ≡ f .live + r .live
     live = unfold addRow in refl
 
-    last : addRow f r .written ≡ r .written
+    last : addRow f r .written ≡ writtenIn r
     last = unfold addRow in refl
 
     one : addRow f r .compactions ≡ cond (f .dead) (f .compactions) (f .compactions + 1)
