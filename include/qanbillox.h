@@ -6,7 +6,7 @@
  * answers QBX_CUT. Recover before the next request then, as after any loss of power.
  *
  * No function allocates, keeps a pointer or has state of its own. A request takes at most 15,408 bytes of stack on
- * x86-64, the account 350,688 bytes, measured up to n = 255 and b = 255 (bench/stack.c). Link with libqanbillox.a. */
+ * x86-64, the account 353,744 bytes, measured up to n = 255 and b = 255 (bench/stack.c). Link with libqanbillox.a. */
 #ifndef QANBILLOX_H
 #define QANBILLOX_H
 
@@ -96,7 +96,7 @@ static inline size_t qbx_offset_of(uint64_t result) { return (size_t)(result >> 
  *
  * Answers QBX_DONE, the bytes after the text untouched, or QBX_SHORT_BUFFER, exactly if the text is longer than the
  * buffer, all of which is then untouched. The image is only read, and must not overlap the buffer. The longest text has
- * 2,220 bytes with n = 4 and b = 15, 581,576 with 64 and 255, 2,364,768 with 255 and 255. It takes 350,688 bytes of
+ * 2,220 bytes with n = 4 and b = 15, 581,576 with 64 and 255, 2,364,768 with 255 and 255. It takes 353,744 bytes of
  * stack: the tables that put the blocks in order are there. */
 uint64_t qbx_account(const uint8_t *image, size_t image_length, size_t n, size_t b, uint8_t *text, size_t text_length);
 
