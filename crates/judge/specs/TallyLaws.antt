@@ -1,7 +1,7 @@
 -- What the sums of rows say: the live slots, the compactions, the ending, and of the top its written slots and its last live block.
 use Prim.Native.Nat.{ℕ, suc, _+_, _-_, _<_}
 use mathlib.Core.Path.{_≡_, refl, sym, ap, _∙_}
-use mathlib.Core.Bool.{Bool, true, false, cond, _||_, not, true≢false}
+use mathlib.Core.Bool.{Bool, true, false, cond, _||_, _&&_, not, true≢false, false≢true}
 use mathlib.Core.List.{List, [], _∷_, _++_, map, flatMap, flatten, append-nil, append-assoc}
 use native.Mathlib.Omega.{arith}
 use native.Mathlib.Decide.{ℕ-discrete}
@@ -9,7 +9,7 @@ use lib.ListN.{length, length-set, length-replicate, length-append}
 use lib.Dec.{ltb}
 use borrow.Author.Tests.{eq-eqb, ne-eqb, lt-ltb, le-ltb}
 use Rattle.model.specs.Lists.{count}
-use Rattle.model.specs.Slot.{Slot, empty, torn, dead, cut, wrong, live, isEmpty, isDead, kindOf, Entry, entryOf}
+use Rattle.model.specs.Slot.{Slot, empty, torn, dead, cut, wrong, live, isEmpty, isDead, isCut, isReplaced, kindOf, Entry, entryOf}
 use Rattle.model.specs.State.{entries, holds}
 use Rattle.model.specs.Steps.{compactions}
 use Rattle.bridge.specs.Views.Slots.{noneDead, entries-append}
@@ -130,16 +130,37 @@ live-after (cut ∷ x) r s = live-after x _ s
 live-after (wrong ∷ x) r s = live-after x _ s
 live-after (live b c ∷ x) r s = live-after x _ (putBit 64 s b) ∙ omega arith
 
--- both counts together are of the dead slots, replaced or cut
-dead-after : (x : List Slot) (r : Row) (s : List ℕ) → let t = seeAll (map kindOf x) (pass r s) .row in t .dead + t .cut ≡ (r .dead + r .cut) + count isDead x
-unfolding seeAll see kindOf count isDead
-dead-after [] r s = omega arith
-dead-after (empty ∷ x) r s = dead-after x _ s
-dead-after (torn ∷ x) r s = dead-after x _ s
-dead-after (dead ∷ x) r s = dead-after x _ s ∙ omega arith
-dead-after (cut ∷ x) r s = dead-after x _ s ∙ omega arith
-dead-after (wrong ∷ x) r s = dead-after x _ s
-dead-after (live b c ∷ x) r s = dead-after x _ (putBit 64 s b)
+-- each of the two counts is of its kind
+pub kinds-after : (x : List Slot) (r : Row) (s : List ℕ) → let t = seeAll (map kindOf x) (pass r s) .row in (t .dead ≡ r .dead + count isReplaced x) × (t .cut ≡ r .cut + count isCut x)
+unfolding seeAll see kindOf count isReplaced isDead isCut
+kinds-after [] r s = (omega arith, omega arith)
+kinds-after (empty ∷ x) r s = kinds-after x _ s
+kinds-after (torn ∷ x) r s = kinds-after x _ s
+kinds-after (dead ∷ x) r s = let q = kinds-after x _ s in (q .0 ∙ omega arith, q .1)
+kinds-after (cut ∷ x) r s = let q = kinds-after x _ s in (q .0, q .1 ∙ omega arith)
+kinds-after (wrong ∷ x) r s = kinds-after x _ s
+kinds-after (live b c ∷ x) r s = kinds-after x _ (putBit 64 s b)
+
+-- and a dead slot is of one of the two
+dead-either : (x : List Slot) → count isReplaced x + count isCut x ≡ count isDead x
+unfolding count isReplaced
+dead-either [] = refl
+dead-either (k ∷ x) = go (isDead k) (isCut k) (cut-dead k) (dead-either x)
+  where
+    cut-dead : (k : Slot) → isCut k ≡ true → isDead k ≡ true
+    cut-dead empty h = absurd (false≢true (unfold isCut in h))
+    cut-dead torn h = absurd (false≢true (unfold isCut in h))
+    cut-dead dead h = unfold isDead in refl
+    cut-dead cut h = unfold isDead in refl
+    cut-dead wrong h = absurd (false≢true (unfold isCut in h))
+    cut-dead (live b c) h = absurd (false≢true (unfold isCut in h))
+
+    go : (d t : Bool) → (t ≡ true → d ≡ true) → count isReplaced x + count isCut x ≡ count isDead x
+        → cond (d && not t) (suc (count isReplaced x)) (count isReplaced x) + cond t (suc (count isCut x)) (count isCut x) ≡ cond d (suc (count isDead x)) (count isDead x)
+    go true true h e = omega arith
+    go true false h e = omega arith
+    go false true h e = absurd (false≢true (h refl))
+    go false false h e = e
 
 -- a row that ends by the rules with one slot more: it did so before, and one more is written, or an empty one follows
 written-one : (r q : Row) (d : Ending) → isBad (q .ending) ≡ false → q .ending ≡ behind (r .ending) d
@@ -245,7 +266,7 @@ sum-counted (x ∷ rows) s f h = sum-counted rows (seeAll (map kindOf x) (pass n
 
 row-dead : (x : List Slot) (s : List ℕ) → let t = seeAll (map kindOf x) (pass noRow s) .row in t .dead + t .cut ≡ count isDead x
 unfolding noRow
-row-dead x s = dead-after x noRow s ∙ omega arith
+row-dead x s = let q = kinds-after x noRow s in omega (arith, q .0, q .1, dead-either x)
 
 add-marks : (f : Sum) (r : Row) → f .dead ≡ false → addRow f r .dead ≡ ltb 0 (r .dead + r .cut)
 unfolding addRow
