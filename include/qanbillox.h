@@ -104,7 +104,11 @@ uint64_t qbx_account(const uint8_t *image, size_t image_length, size_t n, size_t
 static inline size_t qbx_text_length_of(uint64_t result) { return (size_t)(result >> 8); }
 
 /* A length that no account of this geometry exceeds: as many lines as there may be, each as long as they get. */
-static inline size_t qbx_account_length(size_t n, size_t b) { return n * (55 + 37 * b) + 18; }
+static inline size_t qbx_account_length(size_t n, size_t b) {
+    const size_t segment = sizeof "seg 254 owing num 25499999 live 255 dead 255 cut 255 empty 255\n" - 1;
+    const size_t slot = sizeof "block 65534 len 248 seg 254 slot 255\n" - 1;
+    return n * (segment + b * slot) + sizeof "recover 0 steps 3\n" - 1;
+}
 
 /* Whether every byte is 255, as an erase leaves it: the store's own test. It looks at groups of eight bytes, from the
  * first byte on, and stops after the first that differs; the last may be shorter. Any bytes, any length, none too. */

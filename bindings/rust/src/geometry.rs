@@ -67,7 +67,8 @@ impl Geometry {
     /// ```
     pub const fn account_len(self) -> Option<usize> {
         // These are as long as lines get: a segment's, a slot's and the last.
-        const SEGMENT: usize = "seg 254 owing num 25499999 live 255 dead 255 cut 255 empty 255\n".len();
+        const SEGMENT: usize =
+            "seg 254 owing num 25499999 live 255 dead 255 cut 255 empty 255\n".len();
         const SLOT: usize = "block 65534 len 248 seg 254 slot 255\n".len();
         const LAST: usize = "recover 0 steps 3\n".len();
         if self.is_valid() {

@@ -13,6 +13,6 @@ pub record PageAt (at bytes : ℕ) : Type 0 where
   pub whole : at ≡ page * 256
   pub inside : at < bytes
 
--- a slot was marked dead, in the page at an offset
+-- a slot was marked, in the page at an offset
 abbrev pub MarkedAt : ℕ → ℕ → Performed → Image → Image → Type 0
 MarkedAt at budget p from to = (q B : ℕ) → at ≡ q * 256 → Carried [] (onPage q markDead) B budget p from to

@@ -20,7 +20,7 @@ ghost use Rattle.request.specs.Request.{Carried};
 ghost use Rattle.mend.specs.Marks.{PageAt, MarkedAt};
 ghost use Rattle.mend.specs.Erasing.{counting, erasing};
 
-// Marks a slot dead.
+// Marks a slot: a torn one in (c), the older of two live ones in (d).
 pub fn mark_slot(image: &mut [u8], place: SlotPlace, budget: u64) -> Performed
     requires { ⌜ PageAt (place .0) (length (now image)) ⌝ }
     ensures { λ r. ⌜ MarkedAt (place .0) budget r (now (image .entry)) (now (image .exit)) ⌝ }

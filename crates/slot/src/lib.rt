@@ -154,7 +154,7 @@ pub fn write_slot(
     write_page(image, place, &made, contents.len(), budget)
 }
 
-// Clears bit 5 of a slot's status: live or torn becomes dead.
+// Clears bit 5 of a slot's status: live becomes dead, and torn cut, which document 01 calls dead too.
 pub fn mark_dead(image: &mut [u8], place: SlotPlace, budget: u64) -> u64
     requires { ⌜ place .0 < length (now image) ⌝ }
     ensures { λ r. ⌜ OnPageAt (place .0) markDead budget r (now (image .entry)) (now (image .exit)) ⌝ }

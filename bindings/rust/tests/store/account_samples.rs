@@ -43,6 +43,13 @@ fn owing_board(version: Version) -> Vec<u8> {
 fn told(image: &[u8], expected: &str) {
     let store = Store::new("a sample of the account");
     assert_eq!(store.account(image, G), expected);
+    #[cfg(qbx_lib)]
+    {
+        use crate::harness::library;
+        let whole = expected.len();
+        library::compare_account(image, G, expected, &[whole - 1, 0, whole + 100]);
+        library::compare_string(image, G, expected);
+    }
 }
 
 #[test]

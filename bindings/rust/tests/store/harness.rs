@@ -100,7 +100,8 @@ impl Store {
             // A buffer of the text's length each time, and in turn one that is too short, none, and one
             // that is longer, with the string that the binding allocates.
             let whole = text.len();
-            let other = [whole - 1, 0, whole + 100][self.requests.get() as usize % 3];
+            let turn = library::TURN.fetch_add(1, std::sync::atomic::Ordering::Relaxed) % 3;
+            let other = [whole - 1, 0, whole + 100][turn];
             library::compare_account(image, g, &text, &[whole, other]);
             if other > whole {
                 library::compare_string(image, g, &text);
@@ -141,6 +142,10 @@ pub mod library {
     use crate::account;
     use crate::reference::{self, ReadReply, Reply};
     use qanbillox::{Block, Geometry, Request};
+    use std::sync::atomic::AtomicUsize;
+
+    /// So that the accounts of all tests take their turn.
+    pub static TURN: AtomicUsize = AtomicUsize::new(0);
 
     fn geometry(g: reference::Geometry) -> Geometry {
         Geometry {
@@ -211,8 +216,7 @@ pub mod library {
         assert_eq!(piece.as_ptr_range(), expected.as_ptr_range());
     }
 
-    /// Runs both forms of the account on the library, and compares: that into a buffer with buffers
-    /// of these lengths, every byte of them. The image lent is a copy, which must stay as it was.
+    /// Runs the account on the library with buffers of these lengths, and compares every byte of them. The image lent is a copy, which must stay as it was.
     pub fn compare_account(image: &[u8], g: reference::Geometry, text: &str, lengths: &[usize]) {
         let lent = image.to_vec();
         for &length in lengths {
@@ -239,6 +243,7 @@ pub mod library {
         assert!(lent == image, "the account writes to the image");
     }
 
+    /// The form that allocates.
     pub fn compare_string(image: &[u8], g: reference::Geometry, text: &str) {
         assert!(geometry(g).account(image) == text);
     }

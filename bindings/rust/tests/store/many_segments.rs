@@ -157,7 +157,7 @@ fn every_allowance_of_format_delete_and_recover() {
 }
 
 /// Answer 8 by the count of compactions, up to 254 of them: only the segment at this place has a
-/// dead slot.
+/// dead slot, replaced or cut.
 #[test]
 fn worn_after_many_compactions() {
     let store = Store::new("worn after many compactions");
@@ -165,12 +165,17 @@ fn worn_after_many_compactions() {
         let used = g.n - 1;
         for place in [1, 2, used / 2, used / 2 + 1, used - 1, used] {
             // The last compaction would give the limit, or the number before it.
-            for (last, code) in [(g.wear_limit(), WORN), (g.wear_limit() - 1, DONE)] {
+            for (last, code, status) in [
+                (g.wear_limit(), WORN, DEAD),
+                (g.wear_limit(), WORN, CUT_SLOT),
+                (g.wear_limit() - 1, DONE, DEAD),
+                (g.wear_limit() - 1, DONE, CUT_SLOT),
+            ] {
                 let oldest = last - place as u32 - (used as u32 - 1);
                 let dead = (place, 2);
                 let mut image = with_statuses(g, (oldest, used), b"x", |place, slot| {
                     if (place, slot) == dead {
-                        DEAD
+                        status
                     } else {
                         LIVE
                     }

@@ -64,7 +64,8 @@ impl Need {
         };
         with_statuses(g, (top + 1 - used as u32, used), b"x", |place, slot| {
             if (place, slot) == (dead, 2) {
-                DEAD
+                // either kind, by turns of the number
+                [DEAD, CUT_SLOT][top as usize % 2]
             } else {
                 LIVE
             }
