@@ -80,7 +80,8 @@ static inline size_t qbx_offset_of(uint64_t result) { return (size_t)(result >> 
  *
  *     seg 0 used num 4 live 1 dead 13 cut 1 empty 0
  *                                                One for each segment, by index. Dead slots were replaced or deleted;
- *                                                the writing of a cut one was cut, and recovery has marked it. Torn and
+ *                                                the writing of a cut one was cut, and recovery has marked it (so in an
+ *                                                image that the store has written since a finished format). Torn and
  *                                                wrong slots are in no count.
  *     seg 1 blank                                A segment that still owes an erase has owing for used.
  *     seg 2 torn                                 One that is neither in use nor blank.

@@ -36,8 +36,8 @@ impl Account {
 ///
 /// - A line for each segment, by index. In use: `seg 0 used num 4 live 2 dead 12 cut 1 empty 0`,
 ///   with the segment's number and its slots: `dead` are those that were replaced or deleted, `cut`
-///   those whose writing lost its power, once recovery has marked them; before that they are torn, and
-///   torn and wrong ones are in no count. `owing` stands for `used`
+///   those whose writing lost its power, once recovery has marked them, in an image that the store has
+///   written since a finished format; torn and wrong ones are in no count. `owing` stands for `used`
 ///   where the segment after it is still to be erased. All bytes 255: `seg 1 blank`. Neither: `seg 1 torn`.
 /// - A line for each live slot of the segments in use, by rising block number, equal ones by the
 ///   segment's number and then the slot: `block 7 len 2 seg 0 slot 1`, with the segment's index.

@@ -113,7 +113,7 @@ module _ (N B : ℕ) (s m : Image) (z : rightSize N B s ≡ true) (sound : Sound
   -- a slot that reads torn did before, or a put on a clean image that was cut has left it
   pub new-torn : (r : Request) (o : Seen) → Does N B r o s m → Worked N B s m r → slotOn N B m p ≡ torn → (slotOn N B s p ≡ torn) ⊎ (IsPut r × IsCut o × Clean N B s)
   new-torn r o w (idle e) h = inl (old-slot torn N B s m (no-new-image torn N B s m e) p h)
-  new-torn r o w (puts b c k v a d) h = inr (tt, cut-put o w, k)
+  new-torn r o w (puts b c k v a d) h = inr ((b, c, refl), cut-put o w, k)
     where
       -- a whole put leaves a clean image
       whole : m ≡ finished N B s (put b c) → ⊥
@@ -133,10 +133,10 @@ module _ (N B : ℕ) (s m : Image) (z : rightSize N B s ≡ true) (sound : Sound
   new-dead r (idle e) h = inl (old-slot dead N B s m (no-new-image dead N B s m e) p h)
   new-dead r (puts b c k v a d) h = go (holds b (tableOf N B s)) refl
     where
-      go : (t : Bool) → holds b (tableOf N B s) ≡ t → (slotOn N B s p ≡ dead) ⊎ ((holds b (tableOf N B s) ≡ true) ⊎ (⊥ ⊎ ((put b c ≡ recover) × (state N B s ≡ unfinished caseD))))
-      go true q = inr (inl q)
+      go : (t : Bool) → holds b (tableOf N B s) ≡ t → (slotOn N B s p ≡ dead) ⊎ (IsRewrite N B s (put b c) ⊎ (IsDelete (put b c) ⊎ ((put b c ≡ recover) × (state N B s ≡ unfinished caseD))))
+      go true q = inr (inl (b, c, refl, q))
       go false q = inl (old-slot dead N B s m (put-undead N B s z k b c bytes v a m d q) p h)
-  new-dead r (deletes b k a d) h = inr (inr (inl tt))
+  new-dead r (deletes b k a d) h = inr (inr (inl (b, refl)))
   new-dead r (recovers caseA e d) h = inl (old-slot dead N B s m (recovers-a dead tt N B s z sound e m d) p h)
   new-dead r (recovers caseB e d) h = inl (old-slot dead N B s m (recovers-b dead tt N B s z sound e m d) p h)
   new-dead r (recovers caseC e d) h = inl (old-slot dead N B s m (recovers-c dead (λ q. dead-not (sym q)) N B s z e m d) p h)

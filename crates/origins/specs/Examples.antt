@@ -10,7 +10,7 @@ use lib.ListN.{getD, set, replicate, take, drop}
 use lib.Bits.{and-self, and-mask}
 use Rattle.model.specs.Chip.{Image, Bytes, rightSize, pagesOf, program, erase, clear, withSegment, segmentBytes, step, run, Between, Raised}
 use Rattle.model.specs.Slot.{empty, torn, cut, isCut}
-use Rattle.model.specs.State.{blank, segmentsOf, slotsIn, Place, view}
+use Rattle.model.specs.State.{blank, segmentsOf, nextNumber, slotsIn, Place, view}
 use Rattle.model.specs.Steps.{formatSteps}
 use Rattle.model.specs.Answers.{Request, put, recover, workOf, outcomeOf}
 use Rattle.model.specs.Histories.{lost, Event, History, wears}
@@ -19,7 +19,7 @@ use Rattle.model.specs.Bench.{call, whole}
 use Rattle.model.specs.Laws.Bench.{evaluate}
 use Rattle.model.specs.Laws.Bytes.{bytes-take, bytes-drop, step-bytes, run-bytes}
 use Rattle.bridge.specs.Format.{format-bytes}
-use Rattle.origins.specs.Law.{inForce, slotIn, slotOn, lastPlace, FromACut}
+use Rattle.origins.specs.Law.{inForce, slotIn, slotOn, lastPlace, CutIn}
 use Rattle.origins.specs.Theorem.{cut-tells}
 use Rattle.origins.specs.Uncut.{eventsOf, Plain, played}
 
@@ -66,12 +66,20 @@ pub cut-then : slotOn 2 2 (left marked) second ≡ cut
 unfolding evaluateSlots
 cut-then = refl
 
-marked-plain : Plain marked
+pub marked-plain : Plain marked
 marked-plain = ((omega arith, tt), ((omega arith, tt), (tt, tt)))
 
 -- what the theorem says of it
-pub told : FromACut 2 2 formatted (eventsOf 2 2 formatted marked) (left marked) second
+pub told : CutIn 2 2 formatted (eventsOf 2 2 formatted marked) (left marked) (played 2 2 marked formatted marked-plain .0) second
 told = let (runs, none) = played 2 2 marked formatted marked-plain in cut-tells 2 2 zeros (left marked) (eventsOf 2 2 formatted marked) right-size runs none second cut-then
+
+-- it stays cut when another segment is the top
+abbrev further : Image
+further = play 3 2 (run 2 (formatSteps 3 2) (replicate 2304 0)) (whole (seven 1) ∷ call (seven 2) 3 ∷ whole recover ∷ whole (put 8 (1 ∷ [])) ∷ [])
+
+pub cut-still : (slotOn 3 2 further second ≡ cut) × (nextNumber (segmentsOf 3 2 further) ≡ 2)
+unfolding evaluateSlots
+cut-still = (refl, refl)
 
 -- ---- block 7 put three times, cut at the owing mark; and a recovery that counts, begins to erase the old segment, and is lost
 

@@ -6,7 +6,7 @@ use mathlib.Core.Bool.{true}
 use mathlib.Core.List.{List, []}
 use lib.ListN.{getD}
 use Rattle.model.specs.Chip.{Image, rightSize, run}
-use Rattle.model.specs.Slot.{Slot, empty, cut}
+use Rattle.model.specs.Slot.{Slot, empty}
 use Rattle.model.specs.State.{Segment, blank, segmentsOf, slotsIn, firstNumber, View, view, Place}
 use Rattle.model.specs.Steps.{formatSteps}
 use Rattle.bridge.specs.Predicted.{fresh}
@@ -22,14 +22,14 @@ unfolding fresh
 fresh-plain B zero j t = empty-plain B j t
 fresh-plain B (suc q) j t = t
 
-pub formatted-uncut : (N B : ℕ) (s : Image) → rightSize N B s ≡ true → (p : Place) → slotOn N B (run B (formatSteps N B) s) p ≢ cut
+pub formatted-plain : (w : Slot) → Telling w → (N B : ℕ) (s : Image) → rightSize N B s ≡ true → (p : Place) → slotOn N B (run B (formatSteps N B) s) p ≢ w
 unfolding slotOn view
-formatted-uncut N B s z p h =
+formatted-plain w t N B s z p h =
     let l = segmentsOf N B (run B (formatSteps N B) s) in
     let held = format-held N B s z in
     let x = getD l (p .number % N) blank in
-    let reads : readAt x p ≡ cut = ap (λ (y : List Segment). readAt (getD y (p .number % N) blank) p) (sym (ring-force N l (held .ring))) ∙ (sym (slot-reads N l p) ∙ h) in
-    let (n, k) = read-taken x p cut tt reads in
+    let reads : readAt x p ≡ w = ap (λ (y : List Segment). readAt (getD y (p .number % N) blank) p) (sym (ring-force N l (held .ring))) ∙ (sym (slot-reads N l p) ∙ h) in
+    let (n, k) = read-taken x p w t reads in
     let row : slotsIn x ≡ getD (fresh B .slots) (p .number - firstNumber l) [] =
     numbered-row N l (held .ring) (p .number) n ∙ ap (λ (v : View). getD (v .slots) (p .number - firstNumber l) []) (held .view) in
-    fresh-plain B (p .number - firstNumber l) (p .slot) (subst Telling (sym k ∙ ap (λ (y : List Slot). getD y (p .slot) empty) row) tt)
+    fresh-plain B (p .number - firstNumber l) (p .slot) (subst Telling (sym k ∙ ap (λ (y : List Slot). getD y (p .slot) empty) row) t)

@@ -1,4 +1,4 @@
--- The statements, what each event does to slots, the induction over histories, and two histories computed.
+-- The statements, what each event does to slots, the induction over histories, that the account shows these slots, and two histories computed.
 pub mod Law
 pub mod Reads
 pub mod Fewer
@@ -13,4 +13,5 @@ pub mod Events
 pub mod Fresh
 pub mod Theorem
 pub mod Uncut
+pub mod Shown
 pub mod Examples

@@ -1,11 +1,11 @@
 -- The induction over histories, from the end to the start: what reads cut at the end was cut at the start, or torn there and marked later, or both happened in between.
 use Prim.Native.Nat.{ℕ}
 use mathlib.Core.Path.{_≡_, refl, sym, ap, _∙_, subst}
-use mathlib.Core.Logic.{_⊎_, ⊎-elim}
-use mathlib.Core.Bool.{true, false}
-use mathlib.Core.List.{List, [], _∷_, _++_}
+use mathlib.Core.Logic.{_⊎_, inl, inr, ⊎-elim, _≢_}
+use mathlib.Core.Bool.{true, false, true≢false}
+use mathlib.Core.List.{List, [], _∷_}
 use Rattle.model.specs.Chip.{Image, Bytes, rightSize, run}
-use Rattle.model.specs.Slot.{torn, cut}
+use Rattle.model.specs.Slot.{Slot, empty, torn, dead, cut, wrong, live, isDead, isCut, isReplaced}
 use Rattle.model.specs.State.{Place, caseC, unfinished, state}
 use Rattle.model.specs.Steps.{formatSteps}
 use Rattle.model.specs.Answers.{Request, format, put, delete, read, readOr, recover}
@@ -19,11 +19,11 @@ use Rattle.crash.specs.Invariant.{Invariant}
 use Rattle.crash.specs.Skeleton.{one-event, May}
 use Rattle.crash.specs.Starts.{formatted-stores}
 use Rattle.crash.specs.Theorem.{request-laws}
-use Rattle.origins.specs.Law.{slotOn, lastPlace, Unformatted, IsPut, Tore, Marked, FromACut, CutTells, NothingElse, DeadTells}
+use Rattle.origins.specs.Law.{slotOn, lastPlace, Unformatted, IsPut, Tore, Marked, MarkedIn, CutIn, ReplacedIn, CutTells, NothingElse, DeadTells}
 use Rattle.origins.specs.Last.{last-before}
 use Rattle.origins.specs.Torn.{untorn-clean, torn-last}
 use Rattle.origins.specs.Events.{cut-of, Worked, worked, new-cut, new-torn, new-dead}
-use Rattle.origins.specs.Fresh.{formatted-uncut}
+use Rattle.origins.specs.Fresh.{formatted-plain}
 
 -- ---- what demand 2 knows of an image
 
@@ -38,11 +38,23 @@ fit-of N B s (interrupted t) (z, k) h = record { size = z; sound = k .sound; byt
 fit-of N B s unknown (z, k) h = absurd h
 
 -- where a slot that reads cut at the end of a history comes from, seen from its start
-data Came (N B : ℕ) (s : Image) (es : List Event) (u : Image) (p : Place) : Type 0 where
-  was-cut : slotOn N B s p ≡ cut → Came N B s es u p
-  was-torn : slotOn N B s p ≡ torn → (between : List Event) (e : Event) (after : List Event) → es ≡ between ++ (e ∷ after)
-      → (c : Image) → History N B s between c → (d : Image) → Marked N B c d e p → History N B d after u → Came N B s es u p
-  in-between : FromACut N B s es u p → Came N B s es u p
+data Came (N B : ℕ) (s : Image) (es : List Event) (u : Image) (h : History N B s es u) (p : Place) : Type 0 where
+  was-cut : slotOn N B s p ≡ cut → Came N B s es u h p
+  was-torn : slotOn N B s p ≡ torn → MarkedIn N B s es u h p → Came N B s es u h p
+  in-between : CutIn N B s es u h p → Came N B s es u h p
+
+other : (k : Slot) → isReplaced k ≡ false → k ≢ dead
+unfolding isReplaced isDead isCut
+other k f e = true≢false (sym (ap isReplaced e) ∙ f)
+
+or-dead : (k : Slot) → (k ≡ dead) ⊎ (k ≢ dead)
+unfolding isReplaced isDead isCut
+or-dead empty = inr (other empty refl)
+or-dead torn = inr (other torn refl)
+or-dead dead = inl refl
+or-dead cut = inr (other cut refl)
+or-dead wrong = inr (other wrong refl)
+or-dead (live b c) = inr (other (live b c) refl)
 
 module _ (N B : ℕ) where
   may : (r : Request) → OnTable r → May N B false (request-laws N B) r
@@ -75,61 +87,35 @@ module _ (N B : ℕ) where
     work = worked N B s m (fit .size) (v .request) on proper (fit .sound) (cut-of N B (v .request) (v .seen) s m does)
 
     -- the event that marked it
-    marked-here : slotOn N B m p ≡ cut → (v .request ≡ recover) × (state N B s ≡ unfinished caseC) × (p ≡ lastPlace N B s) → Came N B s (v ∷ es) u p
-    marked-here h (r, c, l) =
-        let found : slotOn N B s p ≡ torn = ap (λ y. slotOn N B s y) l ∙ last-before N B s (fit .size) c in
-        was-torn found [] v es refl s refl m (record { recovers = r; case = c; found = found; leaves = subst (λ y. Does N B y (v .seen) s m) r does; marks = h }) rest
+    marked-here : slotOn N B m p ≡ cut → (v .request ≡ recover) × (state N B s ≡ unfinished caseC) × (p ≡ lastPlace N B s) → Marked N B s m v p
+    marked-here h (r, c, l) = record { recovers = r; case = c; found = ap (λ y. slotOn N B s y) l ∙ last-before N B s (fit .size) c; marks = h }
 
     -- or tore it: two torn slots are the same one, the last of the top
     tore-here : slotOn N B m p ≡ torn → IsPut (v .request) × IsCut (v .seen) × Clean N B s → Tore N B s m v p
     tore-here h q = let last = torn-last N B m (fit-after .size) (fit-after .sound) in
-        record { puts = q .0; cuts = q .1; leaves = does; untorn = untorn-clean N B s (q .2); left = h; only = λ x t. last x t .1 ∙ sym (last p h .1) }
+        record { puts = q .0; cuts = q .1; untorn = untorn-clean N B s (q .2); left = h; only = λ x t. last x t .1 ∙ sym (last p h .1) }
 
-    came-before : Came N B m es u p → Came N B s (v ∷ es) u p
-    came-before (was-cut h) = ⊎-elim (λ q. was-cut q) (λ q. marked-here h q) (new-cut N B s m (fit .size) (fit .sound) (fit .bytes) p (v .request) work h)
-    came-before (was-torn h between e after split c waits d marked follows) = ⊎-elim
-        (λ q. was-torn q (v ∷ between) e after (ap {B = List Event} (λ y. v ∷ y) split) c (proper, worn, (m, does, waits)) d marked follows)
-        (λ q. in-between (record {
-          before = [];
-          interrupted = v;
-          between = between;
-          recovery = e;
-          after = after;
-          split = ap {B = List Event} (λ y. v ∷ y) split;
-          a = s;
-          leads = refl;
-          b = m;
-          tore = tore-here h q;
-          c = c;
-          waits = waits;
-          d = d;
-          marked = marked;
-          follows = follows;
-        }))
-        (new-torn N B s m (fit .size) (fit .sound) (fit .bytes) p (v .request) (v .seen) does work h)
-    came-before (in-between f) = in-between (record {
-      before = v ∷ f .before;
-      interrupted = f .interrupted;
-      between = f .between;
-      recovery = f .recovery;
-      after = f .after;
-      split = ap {B = List Event} (λ y. v ∷ y) (f .split);
-      a = f .a;
-      leads = (proper, worn, (m, does, f .leads));
-      b = f .b;
-      tore = f .tore;
-      c = f .c;
-      waits = f .waits;
-      d = f .d;
-      marked = f .marked;
-      follows = f .follows;
-    })
+    came-before : Came N B m es u rest p → Came N B s (v ∷ es) u (proper, worn, (m, does, rest)) p
+    came-before (was-cut h) = ⊎-elim (λ q. was-cut q) (λ q. let k = marked-here h q in was-torn (k .found) (inl k)) (new-cut N B s m (fit .size) (fit .sound) (fit .bytes) p (v .request) work h)
+    came-before (was-torn h k) = ⊎-elim (λ q. was-torn q (inr k)) (λ q. in-between (inl (tore-here h q, k))) (new-torn N B s m (fit .size) (fit .sound) (fit .bytes) p (v .request) (v .seen) does work h)
+    came-before (in-between k) = in-between (inr k)
 
-  came : (es : List Event) (s u : Image) → Unformatted es → Stands s → History N B s es u → (p : Place) → slotOn N B u p ≡ cut → Came N B s es u p
+    -- the same of dead slots, which were so or were made so here
+    dead-before : (slotOn N B m p ≡ dead) ⊎ ReplacedIn N B m es u rest p → (slotOn N B s p ≡ dead) ⊎ ReplacedIn N B s (v ∷ es) u (proper, worn, (m, does, rest)) p
+    dead-before (inr k) = inr (inr k)
+    dead-before (inl h) = ⊎-elim (λ q. inl q) (λ n. ⊎-elim (λ q. inl q) (λ q. inr (inl (record { replaces = q; undead = n; marks = h }))) (new-dead N B s m (fit .size) (fit .sound) (fit .bytes) p (v .request) work h)) (or-dead (slotOn N B s p))
+
+  came : (es : List Event) (s u : Image) → Unformatted es → Stands s → (h : History N B s es u) → (p : Place) → slotOn N B u p ≡ cut → Came N B s es u h p
   came [] s u none h e p k = was-cut (ap (λ y. slotOn N B y p) (sym e) ∙ k)
   came (v ∷ es) s u none h (q, w, (m, d, rest)) p k =
       let next = one-stands s m (v .request) (v .seen) (none .0) q h d in
       came-before v es s m u p (stands-fit s h) (stands-fit m next) (none .0) q w d rest (came es m u (none .1) next rest p k)
+
+  came-dead : (es : List Event) (s u : Image) → Unformatted es → Stands s → (h : History N B s es u) → (p : Place) → slotOn N B u p ≡ dead → (slotOn N B s p ≡ dead) ⊎ ReplacedIn N B s es u h p
+  came-dead [] s u none h e p k = inl (ap (λ y. slotOn N B y p) (sym e) ∙ k)
+  came-dead (v ∷ es) s u none h (q, w, (m, d, rest)) p k =
+      let next = one-stands s m (v .request) (v .seen) (none .0) q h d in
+      dead-before v es s m u p (stands-fit s h) (stands-fit m next) (none .0) q w d rest (came-dead es m u (none .1) next rest p k)
 
 -- ---- from a finished format
 
@@ -142,26 +128,16 @@ cut-tells N B s u es z runs none p k = go (came N B es f u none (begins N B s z)
     f : Image
     f = run B (formatSteps N B) s
 
-    go : Came N B (run B (formatSteps N B) s) es u p → FromACut N B (run B (formatSteps N B) s) es u p
-    go (was-cut h) = absurd (formatted-uncut N B s z p h)
-    go (was-torn h between e after split c waits d marked follows) = absurd (untorn-clean N B (run B (formatSteps N B) s) (request-laws N B .format-done s z .0) p h)
-    go (in-between h) = h
-
--- whatever is asked next
-module _ (N B : ℕ) (s u m : Image) (es : List Event) (r : Request) (o : Seen) (z : rightSize N B s ≡ true) (runs : History N B (run B (formatSteps N B) s) es u) (none : Unformatted es)
-    (on : OnTable r) (proper : Proper r) (does : Does N B r o u m) where
-  fit-then : Fit N B u
-  fit-then = stands-fit N B u (stands N B es (run B (formatSteps N B) s) u none (begins N B s z) runs)
-
-  work-then : Worked N B u m r
-  work-then = worked N B u m (fit-then .size) r on proper (fit-then .sound) (cut-of N B r o u m does)
-
-pub nothing-else : NothingElse
-nothing-else N B s u m es r o z runs none on proper does p k =
-    let fit = fit-then N B s u m es r o z runs none on proper does in
-    new-cut N B u m (fit .size) (fit .sound) (fit .bytes) p r (work-then N B s u m es r o z runs none on proper does) k
+    go : Came N B (run B (formatSteps N B) s) es u runs p → CutIn N B (run B (formatSteps N B) s) es u runs p
+    go (was-cut h) = absurd (formatted-plain cut tt N B s z p h)
+    go (was-torn h k) = absurd (formatted-plain torn tt N B s z p h)
+    go (in-between k) = k
 
 pub dead-tells : DeadTells
-dead-tells N B s u m es r o z runs none on proper does p k =
-    let fit = fit-then N B s u m es r o z runs none on proper does in
-    new-dead N B u m (fit .size) (fit .sound) (fit .bytes) p r (work-then N B s u m es r o z runs none on proper does) k
+dead-tells N B s u es z runs none p k = ⊎-elim (λ h. absurd (formatted-plain dead tt N B s z p h)) (λ h. h) (came-dead N B es (run B (formatSteps N B) s) u none (begins N B s z) runs p k)
+
+-- whatever is asked next
+pub nothing-else : NothingElse
+nothing-else N B s u m es r o z runs none on proper does p k =
+    let fit = stands-fit N B u (stands N B es (run B (formatSteps N B) s) u none (begins N B s z) runs) in
+    new-cut N B u m (fit .size) (fit .sound) (fit .bytes) p r (worked N B u m (fit .size) r on proper (fit .sound) (cut-of N B r o u m does)) k

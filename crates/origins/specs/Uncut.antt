@@ -1,16 +1,17 @@
 -- Sequences of demand 3 as histories of demand 2: without a cut there is no event that a slot could have been torn by.
 use Prim.Native.Nat.{ℕ}
-use mathlib.Core.Path.{refl, sym, ap, subst}
+use mathlib.Core.Path.{refl, sym, ap}
 use mathlib.Core.Logic.{inl, inr, _≢_}
 use mathlib.Core.Bool.{Bool, true, false, true≢false}
-use mathlib.Core.List.{List, [], _∷_, _++_}
+use mathlib.Core.List.{List, [], _∷_}
 use Rattle.model.specs.Chip.{Image, run}
+use Rattle.model.specs.State.{Place}
 use Rattle.model.specs.Steps.{formatSteps}
 use Rattle.model.specs.Answers.{Request, format, put, delete, read, readOr, recover, outcomeOf}
 use Rattle.model.specs.Histories.{Reply, Seen, answered, lost, replyOf, Proper, Event, History, wears}
 use Rattle.model.specs.Sequences.{Call, play, observe, observed, InSequence, Uncut}
 use Rattle.crash.specs.Machine.{IsCut, OnTable}
-use Rattle.origins.specs.Law.{Unformatted, NoneUncut}
+use Rattle.origins.specs.Law.{Unformatted, CutIn, NoneUncut}
 use Rattle.origins.specs.Theorem.{cut-tells}
 
 -- the events of a sequence
@@ -69,13 +70,13 @@ unfolding eventsOf observed observe replyOf
 uncut-whole N B [] s h = tt
 uncut-whole N B (x ∷ xs) s h = (λ c. answered-whole (replyOf N B s (x .allowance) (x .request)) (h .1) c, uncut-whole N B xs (outcomeOf N B s (x .allowance) (x .request) .image) (h .2))
 
-whole-at : (before : List Event) (e : Event) (after : List Event) → Whole (before ++ (e ∷ after)) → IsCut (e .seen) → ⊥
-whole-at [] e after w = w .0
-whole-at (x ∷ before) e after w = whole-at before e after (w .1)
+none-torn : (N B : ℕ) (es : List Event) (s u : Image) (h : History N B s es u) (p : Place) → Whole es → CutIn N B s es u h p → ⊥
+none-torn N B [] s u h p w c = c
+none-torn N B (e ∷ es) s u (proper, worn, (m, does, rest)) p w (inl (tore, marked)) = w .0 (tore .cuts)
+none-torn N B (e ∷ es) s u (proper, worn, (m, does, rest)) p w (inr c) = none-torn N B es m u rest p (w .1) c
 
 pub none-uncut : NoneUncut
 none-uncut N B s xs z uncut p h =
     let f = run B (formatSteps N B) s in
     let (runs, none) = played N B xs f (uncut-plain N B xs f uncut) in
-    let c = cut-tells N B s (play N B f xs) (eventsOf N B f xs) z runs none p h in
-    whole-at (c .before) (c .interrupted) (c .between ++ (c .recovery ∷ c .after)) (subst Whole (c .split) (uncut-whole N B xs f uncut)) (c .tore .cuts)
+    none-torn N B (eventsOf N B f xs) f (play N B f xs) runs p (uncut-whole N B xs f uncut) (cut-tells N B s (play N B f xs) (eventsOf N B f xs) z runs none p h)
