@@ -27,12 +27,7 @@ ghost use Rattle.listing.specs.Walk.{largest, hidden};
 fn no_counts() -> Counts
     ensures { λ r. ⌜ r ≡ noCounts ⌝ }
 {
-    Counts {
-        live: 0,
-        dead: 0,
-        cut: 0,
-        empty: 0,
-    }
+    slots::counts_of(0, 0, 0, 0)
 }
 
 // A segment before its slots are counted.

@@ -34,6 +34,17 @@ fn link(
     lengths[page] = length as u8;
 }
 
+pub fn counts_of(live: u8, dead: u8, cut: u8, empty: u8) -> Counts
+    ensures { λ r. ⌜ r ≡ record { live = live; dead = dead; cut = cut; empty = empty } ⌝ }
+{
+    Counts {
+        live,
+        dead,
+        cut,
+        empty,
+    }
+}
+
 // One slot more.
 fn list_slot(
     counts: Counts,
@@ -46,35 +57,19 @@ fn list_slot(
     requires { ⌜ (page < mostPages) × Few counts 254 × Brief kind ⌝ }
     ensures { λ r. ⌜ (r ≡ countKind kind counts) × (tables (now (firsts .exit)) (now (nexts .exit)) (now (lengths .exit)) ≡ linkKind page kind (tables (now (firsts .entry)) (now (nexts .entry)) (now (lengths .entry)))) ⌝ }
 {
+    let live = counts.live;
+    let dead = counts.dead;
+    let cut = counts.cut;
+    let empty = counts.empty;
     match kind {
-        SlotKind::Empty => Counts {
-            live: counts.live,
-            dead: counts.dead,
-            cut: counts.cut,
-            empty: counts.empty + 1,
-        },
+        SlotKind::Empty => counts_of(live, dead, cut, empty + 1),
         SlotKind::Torn => counts,
         SlotKind::Live { length, block } => {
             link(firsts, nexts, lengths, page, block, length);
-            Counts {
-                live: counts.live + 1,
-                dead: counts.dead,
-                cut: counts.cut,
-                empty: counts.empty,
-            }
+            counts_of(live + 1, dead, cut, empty)
         }
-        SlotKind::Dead => Counts {
-            live: counts.live,
-            dead: counts.dead + 1,
-            cut: counts.cut,
-            empty: counts.empty,
-        },
-        SlotKind::Cut => Counts {
-            live: counts.live,
-            dead: counts.dead,
-            cut: counts.cut + 1,
-            empty: counts.empty,
-        },
+        SlotKind::Dead => counts_of(live, dead + 1, cut, empty),
+        SlotKind::Cut => counts_of(live, dead, cut + 1, empty),
         SlotKind::Wrong => counts,
     }
 }
@@ -91,12 +86,7 @@ pub fn list_row(
     requires { ⌜ ((header + slots + 1) * 256 ≤ length (now image)) × (header + slots < mostPages) × (slots ≤ mostSlots) ⌝ }
     ensures { λ r. ⌜ (r ≡ countRow (kindsAt (now (image .entry)) ((header + 1) * 256) slots)) × (tables (now (firsts .exit)) (now (nexts .exit)) (now (lengths .exit)) ≡ linkRow (header + 1) (kindsAt (now (image .entry)) ((header + 1) * 256) slots) (tables (now (firsts .entry)) (now (nexts .entry)) (now (lengths .entry)))) ⌝ }
 {
-    let mut counts = Counts {
-        live: 0,
-        dead: 0,
-        cut: 0,
-        empty: 0,
-    };
+    let mut counts = counts_of(0, 0, 0, 0);
     let mut left = slots;
     while left > 0 {
         let page = header + left;

@@ -64,17 +64,23 @@ fn live_ending(again: bool) -> Ending
     }
 }
 
+fn row_of(live: u8, dead: u8, cut: u8, ending: Ending, block: BlockNumber) -> Row
+    ensures { λ r. ⌜ r ≡ record { live = live; dead = dead; cut = cut; ending = ending; block = block } ⌝ }
+{
+    Row {
+        live,
+        dead,
+        cut,
+        ending,
+        block,
+    }
+}
+
 // A row before its first slot.
 pub fn no_row() -> Row
     ensures { λ r. ⌜ r ≡ noRow ⌝ }
 {
-    Row {
-        live: 0,
-        dead: 0,
-        cut: 0,
-        ending: Ending::Full,
-        block: BlockNumber(0),
-    }
+    row_of(0, 0, 0, Ending::Full, BlockNumber(0))
 }
 
 // The next slot of a row: it is counted, and the number of a live one is met, whatever came before. A row of 255 has no next.
@@ -82,57 +88,24 @@ fn count(row: Row, kind: SlotKind, seen: &mut [u64; 1024]) -> Row
     requires { ⌜ Small row 254 ⌝ }
     ensures { λ r. ⌜ pass r (now (seen .exit)) ≡ see kind (pass row (now (seen .entry))) ⌝ }
 {
+    let live = row.live;
+    let dead = row.dead;
+    let cut = row.cut;
     let ending = row.ending;
     let block = row.block;
     match kind {
-        SlotKind::Empty => Row {
-            live: row.live,
-            dead: row.dead,
-            cut: row.cut,
-            ending: leave_room(ending),
-            block,
-        },
-        SlotKind::Torn => Row {
-            live: row.live,
-            dead: row.dead,
-            cut: row.cut,
-            ending: behind(ending, Ending::TornLast),
-            block,
-        },
+        SlotKind::Empty => row_of(live, dead, cut, leave_room(ending), block),
+        SlotKind::Torn => row_of(live, dead, cut, behind(ending, Ending::TornLast), block),
         SlotKind::Live {
             length: _,
             block: met,
         } => {
             let then = live_ending(meet(seen, met));
-            Row {
-                live: row.live + 1,
-                dead: row.dead,
-                cut: row.cut,
-                ending: behind(ending, then),
-                block: met,
-            }
+            row_of(live + 1, dead, cut, behind(ending, then), met)
         }
-        SlotKind::Dead => Row {
-            live: row.live,
-            dead: row.dead + 1,
-            cut: row.cut,
-            ending: behind(ending, Ending::Full),
-            block,
-        },
-        SlotKind::Cut => Row {
-            live: row.live,
-            dead: row.dead,
-            cut: row.cut + 1,
-            ending: behind(ending, Ending::Full),
-            block,
-        },
-        SlotKind::Wrong => Row {
-            live: row.live,
-            dead: row.dead,
-            cut: row.cut,
-            ending: Ending::Bad,
-            block,
-        },
+        SlotKind::Dead => row_of(live, dead + 1, cut, behind(ending, Ending::Full), block),
+        SlotKind::Cut => row_of(live, dead, cut + 1, behind(ending, Ending::Full), block),
+        SlotKind::Wrong => row_of(live, dead, cut, Ending::Bad, block),
     }
 }
 

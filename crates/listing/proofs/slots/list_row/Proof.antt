@@ -24,22 +24,26 @@ Inv-loop image header slots firsts₀ nexts₀ lengths₀ counts₀ left₀ firs
 abbrev μ-loop : tie.MeasureT-loop
 μ-loop image header slots firsts₀ nexts₀ lengths₀ counts₀ left₀ firsts nexts lengths counts left = left
 
+counts-of-requires : tie.Need-counts-of-requires Inv-loop μ-loop
+counts-of-requires c κs = search needs
+
 loop-holds : tie.Need-loop-holds Inv-loop μ-loop
 unfolding noCounts
 loop-holds c =
-    let a = c .before .args in
+    let a = c .before .before .args in
+    let o = c .counts-of .ensures in
     let e : a .slots - a .slots ≡ 0 = omega arith in
     let n = row-none (now (a .image)) ((a .header + a .slots + 1) * 256) (tables (now (a .firsts)) (now (a .nexts)) (now (a .lengths))) (a .header + a .slots + 1) in
-    (rw e (sym (n .0)), rw e (sym (n .1)), omega arith, record { live = omega arith; dead = omega arith; cut = omega arith; empty = omega arith })
+    (o ∙ rw e (sym (n .0)), rw e (sym (n .1)), omega arith, rw o (record { live = omega arith; dead = omega arith; cut = omega arith; empty = omega arith }))
 
 add-page : tie.Need-add-page Inv-loop μ-loop
-add-page c = omega (arith, c .before .before .before .pre)
+add-page c = omega (arith, c .before .before .before .before .pre)
 
 mul-at : tie.Need-mul-at Inv-loop μ-loop
-mul-at c = omega (arith, c .before .before .before .pre)
+mul-at c = omega (arith, c .before .before .before .before .pre)
 
 add-end : tie.Need-add-end Inv-loop μ-loop
-add-end c = omega (arith, c .before .before .before .pre)
+add-end c = omega (arith, c .before .before .before .before .pre)
 
 sub-slot-kind : tie.Need-sub-slot-kind Inv-loop μ-loop
 sub-slot-kind c = search needs
@@ -48,14 +52,14 @@ part-slot-kind-start : tie.Need-part-slot-kind-start Inv-loop μ-loop
 part-slot-kind-start c = search needs
 
 part-slot-kind-end : tie.Need-part-slot-kind-end Inv-loop μ-loop
-part-slot-kind-end c = omega (arith, c .before .before .before .pre)
+part-slot-kind-end c = omega (arith, c .before .before .before .before .pre)
 
 slot-kind-requires : tie.Need-slot-kind-requires Inv-loop μ-loop
-slot-kind-requires c κs = simp (length-take, length-drop) (omega (arith, c .before .before .before .before .pre))
+slot-kind-requires c κs = simp (length-take, length-drop) (omega (arith, c .before .before .before .before .before .pre))
 
 list-slot-requires : tie.Need-list-slot-requires Inv-loop μ-loop
 list-slot-requires c κs =
-    let s = c .before .before .before .before .before .before .before .before in
+    let s = c .before .before .before .before .before .before .before .before .before in
     let l = c .before .before .before .before .before .before .loop in
     let f = l .inv .3 in
     let t = c .before .before .before .before .before .loop-test .taken in
@@ -72,7 +76,7 @@ loop-less c = search needs
 
 loop-again : tie.Need-loop-again Inv-loop μ-loop
 loop-again c =
-    let s = c .before .before .before .before .before .before .before .before .before in
+    let s = c .before .before .before .before .before .before .before .before .before .before in
     let a = s .args in
     let l = c .before .before .before .before .before .before .before .loop in
     let t = c .before .before .before .before .before .before .loop-test .taken in
@@ -91,7 +95,7 @@ loop-again c =
 
 returns : tie.Need-returns Inv-loop μ-loop
 returns c =
-    let a = c .before .before .before .args in
+    let a = c .before .before .before .before .args in
     let l = c .before .loop in
     let e : l .left ≡ 0 = omega (arith, c .loop-test .left) in
     let f : a .header + 0 + 1 ≡ a .header + 1 = omega arith in
@@ -104,6 +108,7 @@ list-row-spec =
     (tie.spec
     Inv-loop
     μ-loop
+    counts-of-requires
     loop-holds
     add-page
     mul-at

@@ -9,8 +9,11 @@ use Rattle.listing.proofs.slots.list_slot.Tie as tie
 enum-told : tie.Need-enum-told
 enum-told c = search needs
 
-add-t10 : tie.Need-add-t10
-add-t10 c = search needs
+add-counts-of : tie.Need-add-counts-of
+add-counts-of c = search needs
+
+counts-of-requires : tie.Need-counts-of-requires
+counts-of-requires c κs = search needs
 
 enum-told-2 : tie.Need-enum-told-2
 enum-told-2 c = search needs
@@ -23,27 +26,36 @@ link-requires c κs =
     let k = c .before .before .before .before in
     (k .before .before .pre .0, subst Brief (k .kind .given .1) (k .before .before .pre .2))
 
-add-t15 : tie.Need-add-t15
-add-t15 c = search needs
+add-counts-of-2 : tie.Need-add-counts-of-2
+add-counts-of-2 c = search needs
+
+counts-of-requires-2 : tie.Need-counts-of-requires-2
+counts-of-requires-2 c κs = search needs
 
 enum-told-3 : tie.Need-enum-told-3
 enum-told-3 c = search needs
 
-add-t16 : tie.Need-add-t16
-add-t16 c = search needs
+add-counts-of-3 : tie.Need-add-counts-of-3
+add-counts-of-3 c = search needs
+
+counts-of-requires-3 : tie.Need-counts-of-requires-3
+counts-of-requires-3 c κs = search needs
 
 enum-told-4 : tie.Need-enum-told-4
 enum-told-4 c = search needs
 
-add-t17 : tie.Need-add-t17
-add-t17 c = search needs
+add-counts-of-4 : tie.Need-add-counts-of-4
+add-counts-of-4 c = search needs
+
+counts-of-requires-4 : tie.Need-counts-of-requires-4
+counts-of-requires-4 c κs = search needs
 
 enum-told-5 : tie.Need-enum-told-5
 enum-told-5 c = search needs
 
 returns : tie.Need-returns
 unfolding countKind linkKind
-returns c = rw (c .before .enum-told .given .1) (refl, refl)
+returns c = rw (c .counts-of .ensures, c .before .enum-told .given .1) (refl, refl)
 
 returns-2 : tie.Need-returns-2
 unfolding countKind linkKind
@@ -53,15 +65,15 @@ returns-3 : tie.Need-returns-3
 unfolding countKind linkKind
 returns-3 c =
     let k = c .before .before .before .before .before in
-    rw (k .before .kind .given .1) (refl, c .before .link .ensures)
+    rw (c .counts-of2 .ensures, k .before .kind .given .1) (refl, c .before .link .ensures)
 
 returns-4 : tie.Need-returns-4
 unfolding countKind linkKind
-returns-4 c = rw (c .before .enum-told3 .given .1) (refl, refl)
+returns-4 c = rw (c .counts-of3 .ensures, c .before .enum-told3 .given .1) (refl, refl)
 
 returns-5 : tie.Need-returns-5
 unfolding countKind linkKind
-returns-5 c = rw (c .before .enum-told4 .given .1) (refl, refl)
+returns-5 c = rw (c .counts-of4 .ensures, c .before .enum-told4 .given .1) (refl, refl)
 
 returns-6 : tie.Need-returns-6
 unfolding countKind linkKind
@@ -72,15 +84,19 @@ list-slot-spec =
     tie.close
     (tie.spec
     enum-told
-    add-t10
+    add-counts-of
+    counts-of-requires
     enum-told-2
     enum-known-kind
     link-requires
-    add-t15
+    add-counts-of-2
+    counts-of-requires-2
     enum-told-3
-    add-t16
+    add-counts-of-3
+    counts-of-requires-3
     enum-told-4
-    add-t17
+    add-counts-of-4
+    counts-of-requires-4
     enum-told-5
     returns
     returns-2
