@@ -1,18 +1,22 @@
--- The census: one slot and one segment more, and the ends; the state that a survey says; the top's version and tally.
-use Prim.Native.Nat.{ℕ, suc, _+_, _-_, _*_, _≤_, _<_}
+-- The census: one slot and one segment more, the one left aside, and the ends; the state that a survey says; the top's version and tally.
+use Prim.Native.Nat.{ℕ, suc, _+_, _-_, _*_, _%_, _≤_, _<_}
 use mathlib.Core.Path.{_≡_, refl, sym, ap, _∙_}
 use mathlib.Core.Bool.{Bool, true, false, cond}
-use mathlib.Core.List.{List}
+use mathlib.Core.List.{List, [], _∷_}
+use mathlib.Core.Logic.{⊎-elim}
 use native.Mathlib.Numerals.{add-one}
 use native.Mathlib.Omega.{arith}
-use lib.ListN.{length, getD, take, drop, drop-of-length-le}
-use lib.Seq.{drop-cons}
+use denote.Enum.Declared.{tagOf}
+use types.Run.{OneOf}
+use lib.ListN.{length, getD, take, drop, set, length-set, drop-of-length-le}
+use lib.Seq.{drop-cons, set-out, getD-set-same, getD-set-other}
 use borrow.Author.Tests.{eq-eqb, ne-eqb}
 use Rattle.model.specs.Lists.{chunk}
 use Rattle.model.specs.Chip.{Image, Page}
 use Rattle.model.specs.Header.{isFormer, headerVersion, headerInUse, headerStatus, headerNumber, isBlank}
 use Rattle.model.specs.Slot.{slotOf, kindOf}
-use Rattle.model.specs.State.{Segment, blank, invalid, inUse, nextNumber, topVersion, stateOf, segmentsOf}
+use Rattle.model.specs.State.{Segment, blank, invalid, inUse, nextNumber, nextIndex, topVersion, State, clean, unfinished, damaged, caseA, caseB, caseC, caseD, stateOf, segmentsOf}
+use Rattle.model.specs.Laws.Segments.{segments-length}
 use Rattle.model.specs.declared.SegmentNumber.{SegmentNumber}
 use Rattle.model.specs.declared.SlotKind.{SlotKind}
 use Rattle.model.specs.declared.SlotKind.the-variants.{Empty, Torn, Live, Dead, Cut, Wrong}
@@ -29,9 +33,13 @@ use Rattle.scan.specs.Surveys.{surveyOf, stateIn, survey-state}
 use Rattle.judge.specs.Rows.{kindsAt, slotsAt}
 use Rattle.judge.specs.Parts.{headerOffset, slotsOffset, segmentSeen, segment-seen}
 use Rattle.rows.proofs.Laws.Rows.{kinds-next, page-part}
+use Rattle.account_text.specs.Account.{unseen, shownIn, shown}
+use Rattle.qbx_says.specs.declared.Condition.{Condition}
+use Rattle.qbx_says.specs.declared.Condition.the-variants.{Clean, UnfinishedA, UnfinishedB, UnfinishedC, UnfinishedD, Damaged}
+use Rattle.qbx_says.proofs.Condition.{the-type}
 use Rattle.qbx_says.specs.declared.TopSeen.the-variants.{Missing, Version1, Version2}
 use Rattle.qbx_report.specs.declared.Census.{Census}
-use Rattle.qbx_report.specs.Census.{conditionOf, total, counted, countKinds, oneMore, countSegment, countSegments, versionTold, topTold}
+use Rattle.qbx_report.specs.Census.{conditionOf, asideIn, setAside, total, counted, countKinds, oneMore, countSegment, countSegments, censusOf, versionTold, topTold}
 
 -- ---- the state
 
@@ -102,6 +110,56 @@ pub segments-end : (l : List Segment) (i : ℕ) (c : Census) → length l ≤ i 
 unfolding countSegments
 segments-end l i c h = rw (drop-of-length-le l h)
 
+-- ---- the segment left aside
+
+module _ (N : ℕ) (l : List Segment) where
+  -- the tag of another condition than (b)
+  pub aside-none : (k : Condition) → OneOf (0 ∷ 1 ∷ 3 ∷ 4 ∷ 5 ∷ []) (tagOf the-type k) → asideIn N l k ≡ N
+  unfolding asideIn
+  aside-none Clean h = refl
+  aside-none UnfinishedA h = refl
+  aside-none UnfinishedB h = absurd (⊎-elim (λ q. omega arith) (⊎-elim (λ q. omega arith) (⊎-elim (λ q. omega arith) (⊎-elim (λ q. omega arith) (λ q. omega arith)))) h)
+  aside-none UnfinishedC h = refl
+  aside-none UnfinishedD h = refl
+  aside-none Damaged h = refl
+
+  -- what the account shows has the one left aside that a state leaves
+  aside-shown : (B : ℕ) → length l ≡ N → setAside (asideIn N l (conditionOf (stateOf N B l))) l ≡ shown N B l
+  unfolding shown
+  aside-shown B z = go (stateOf N B l)
+    where
+      none : set l N (unseen (getD l N blank)) ≡ l
+      none = set-out l N (unseen (getD l N blank)) (omega (arith, z))
+
+      go : (x : State) → setAside (asideIn N l (conditionOf x)) l ≡ shownIn N l x
+      go clean = unfold asideIn conditionOf shownIn in none
+      go (unfinished caseA) = unfold asideIn conditionOf shownIn in none
+      go (unfinished caseB) = unfold asideIn conditionOf shownIn in refl
+      go (unfinished caseC) = unfold asideIn conditionOf shownIn in none
+      go (unfinished caseD) = unfold asideIn conditionOf shownIn in none
+      go damaged = unfold asideIn conditionOf shownIn in none
+
+  pub census-shown : (B : ℕ) → length l ≡ N → (k : Condition) → k ≡ conditionOf (stateOf N B l) → (i : ℕ) → i ≡ asideIn N l k → (r : Census) → r ≡ censusOf (setAside i l) → r ≡ censusOf (shown N B l)
+  census-shown B z k e i a r q = q ∙ ap censusOf (ap (λ (j : ℕ). setAside j l) (a ∙ ap (asideIn N l) e) ∙ aside-shown B z)
+
+-- it counts nothing
+unseen-counts : (c : Census) (x : Segment) → c ≡ countSegment c (unseen x)
+unfolding unseen countSegment
+unseen-counts c blank = refl
+unseen-counts c invalid = refl
+unseen-counts c (inUse e st n ks) = refl
+
+pub aside-there : (l : List Segment) (i k : ℕ) (c : Census) → i < length l → i ≡ k → c ≡ countSegment c (getD (setAside k l) i blank)
+aside-there l i k c h e =
+    let g : getD (setAside k l) i blank ≡ unseen (getD l i blank) = ap (λ (j : ℕ). getD (setAside j l) i blank) (sym e) ∙ getD-set-same l i (unseen (getD l i blank)) blank h in
+    unseen-counts c (getD l i blank) ∙ ap (countSegment c) (sym g)
+
+pub aside-other : (l : List Segment) (i k : ℕ) (c : Census) → (i ≡ k → ⊥) → countSegment c (getD l i blank) ≡ countSegment c (getD (setAside k l) i blank)
+aside-other l i k c h = ap (countSegment c) (sym (getD-set-other l k i (unseen (getD l k blank)) blank h))
+
+pub aside-length : (N B : ℕ) (s : Image) (k : ℕ) → length (setAside k (segmentsOf N B s)) ≡ N
+aside-length N B s k = length-set (segmentsOf N B s) k (unseen (getD (segmentsOf N B s) k blank)) ∙ segments-length N B s
+
 -- ---- the top
 
 module _ (N B : ℕ) (s : Image) (some : 0 < N) where
@@ -112,6 +170,10 @@ module _ (N B : ℕ) (s : Image) (some : 0 < N) where
     next-is : h .next ≡ nextNumber l
     unfolding headersOf headersBy
     next-is = ap (λ (x : Headers). x .next) e
+
+    pub aside-next : (k : Condition) → k ≡ UnfinishedB → h .next % N ≡ asideIn N l k
+    unfolding asideIn nextIndex
+    aside-next k q = rw (q, next-is)
 
     pub top-missing : h .next ≡ 0 → Missing ≡ topTold N l
     unfolding topTold

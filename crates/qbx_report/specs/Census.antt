@@ -3,11 +3,13 @@ use Prim.Native.Nat.{ℕ, _+_}
 use mathlib.Core.Bool.{cond}
 use mathlib.Core.List.{List, [], _∷_, map}
 use lib.Dec.{eqb}
+use lib.ListN.{getD, set}
 use Rattle.model.specs.Header.{Version, isFormer, tallyOf, noBitLeft}
 use Rattle.model.specs.Slot.{kindOf}
-use Rattle.model.specs.State.{Segment, blank, invalid, inUse, nextNumber, topVersion, State, clean, unfinished, damaged, caseA, caseB, caseC, caseD, stateOf}
+use Rattle.model.specs.State.{Segment, blank, invalid, inUse, nextNumber, nextIndex, topVersion, State, clean, unfinished, damaged, caseA, caseB, caseC, caseD, stateOf}
 use Rattle.model.specs.declared.SlotKind.{SlotKind}
 use Rattle.model.specs.declared.SlotKind.the-variants.{Empty, Torn, Live, Dead, Cut, Wrong}
+use Rattle.account_text.specs.Account.{unseen, shown}
 use Rattle.qbx_says.specs.declared.Condition.{Condition}
 use Rattle.qbx_says.specs.declared.Condition.the-variants.{Clean, UnfinishedA, UnfinishedB, UnfinishedC, UnfinishedD, Damaged}
 use Rattle.qbx_says.specs.declared.TopSeen.{TopSeen}
@@ -22,6 +24,19 @@ conditionOf (unfinished caseB) = UnfinishedB
 conditionOf (unfinished caseC) = UnfinishedC
 conditionOf (unfinished caseD) = UnfinishedD
 conditionOf damaged = Damaged
+
+-- the index of the segment that the account does not look at, or N if it looks at all
+unfoldable pub asideIn : ℕ → List Segment → Condition → ℕ
+asideIn N l Clean = N
+asideIn N l UnfinishedA = N
+asideIn N l UnfinishedB = nextIndex N l
+asideIn N l UnfinishedC = N
+asideIn N l UnfinishedD = N
+asideIn N l Damaged = N
+
+-- the segments with one left aside, if the index is one of theirs
+abbrev pub setAside : ℕ → List Segment → List Segment
+setAside k l = set l k (unseen (getD l k blank))
 
 abbrev pub total : Census → ℕ
 total c = c .segments + c .live + c .dead + c .cut + c .empty
@@ -63,6 +78,7 @@ versionTold e = cond (isFormer e) Version1 (Version2 (tallyOf e) (noBitLeft e))
 unfoldable pub topTold : ℕ → List Segment → TopSeen
 topTold N l = cond (eqb (nextNumber l) 0) Missing (versionTold (topVersion N l))
 
+-- counted is what the account shows: a cut erase makes dead slots look cut, which no cut program left
 unfoldable pub reportOf : ℕ → ℕ → List Segment → Report
-reportOf N B l = let c = censusOf l in
+reportOf N B l = let c = censusOf (shown N B l) in
     record { condition = conditionOf (stateOf N B l); segments = c .segments; live = c .live; dead = c .dead; cut = c .cut; empty = c .empty; top = topTold N l }

@@ -14,7 +14,7 @@ ghost use Rattle.model.specs.Chip.{rightSize};
 ghost use Rattle.model.specs.State.{blank, segmentsOf, stateOf};
 ghost use Rattle.flash.specs.Pages.{Sized};
 ghost use Rattle.judge.specs.Rows.{kindsAt};
-ghost use Rattle.qbx_report.specs.Census.{conditionOf, total, counted, countKinds, countSegment, censusOf, topTold, reportOf};
+ghost use Rattle.qbx_report.specs.Census.{conditionOf, asideIn, setAside, total, counted, countKinds, countSegment, censusOf, topTold, reportOf};
 
 // Segments in use, and their slots by kind.
 struct Census {
@@ -47,6 +47,32 @@ fn condition_of(image: &[u8], segments: usize, slots: usize) -> Condition
     }
 }
 
+// The index of the segment after the top, which is being erased in an image unfinished by (b) and is left aside; in others
+// none is, which is the index behind the last.
+fn left_aside(image: &[u8], segments: usize, slots: usize, condition: Condition) -> usize
+    requires { ⌜ rightSize segments slots (now image) ≡ true ⌝ }
+    ensures { λ r. ⌜ r ≡ asideIn segments (segmentsOf segments slots (now (image .entry))) condition ⌝ }
+{
+    let Condition::UnfinishedB = condition else {
+        return segments;
+    };
+    let seen = segments::see_headers(image, segments, slots);
+    seen.next % segments
+}
+
+// A census of these counts.
+fn census_of(segments: u64, live: u64, dead: u64, cut: u64, empty: u64) -> Census
+    ensures { λ r. ⌜ r ≡ record { segments = segments; live = live; dead = dead; cut = cut; empty = empty } ⌝ }
+{
+    Census {
+        segments,
+        live,
+        dead,
+        cut,
+        empty,
+    }
+}
+
 // One slot more.
 fn count(census: Census, kind: SlotKind) -> Census
     requires { ⌜ total census ≤ 1000000 ⌝ }
@@ -58,38 +84,14 @@ fn count(census: Census, kind: SlotKind) -> Census
     let cut = census.cut;
     let empty = census.empty;
     match kind {
-        SlotKind::Empty => Census {
-            segments,
-            live,
-            dead,
-            cut,
-            empty: empty + 1,
-        },
+        SlotKind::Empty => census_of(segments, live, dead, cut, empty + 1),
         SlotKind::Torn => census,
         SlotKind::Live {
             length: _,
             block: _,
-        } => Census {
-            segments,
-            live: live + 1,
-            dead,
-            cut,
-            empty,
-        },
-        SlotKind::Dead => Census {
-            segments,
-            live,
-            dead: dead + 1,
-            cut,
-            empty,
-        },
-        SlotKind::Cut => Census {
-            segments,
-            live,
-            dead,
-            cut: cut + 1,
-            empty,
-        },
+        } => census_of(segments, live + 1, dead, cut, empty),
+        SlotKind::Dead => census_of(segments, live, dead + 1, cut, empty),
+        SlotKind::Cut => census_of(segments, live, dead, cut + 1, empty),
         SlotKind::Wrong => census,
     }
 }
@@ -142,21 +144,17 @@ fn count_segment(
     count_slots(image, first, slots, more)
 }
 
-// Every segment.
-fn take_census(image: &[u8], segments: usize, slots: usize) -> Census
+// Every segment but the one left aside.
+fn take_census(image: &[u8], segments: usize, slots: usize, aside: usize) -> Census
     requires { ⌜ Sized segments slots (length (now image)) ⌝ }
-    ensures { λ r. ⌜ r ≡ censusOf (segmentsOf segments slots (now (image .entry))) ⌝ }
+    ensures { λ r. ⌜ r ≡ censusOf (setAside aside (segmentsOf segments slots (now (image .entry)))) ⌝ }
 {
-    let mut census = Census {
-        segments: 0,
-        live: 0,
-        dead: 0,
-        cut: 0,
-        empty: 0,
-    };
+    let mut census = census_of(0, 0, 0, 0, 0);
     let mut i: usize = 0;
     while i < segments {
-        census = count_segment(image, segments, slots, i, census);
+        if i != aside {
+            census = count_segment(image, segments, slots, i, census);
+        }
         i += 1;
     }
     census
@@ -188,7 +186,8 @@ pub fn report_on(image: &[u8], segments: usize, slots: usize) -> Report
     ensures { λ r. ⌜ r ≡ reportOf segments slots (segmentsOf segments slots (now (image .entry))) ⌝ }
 {
     let condition = condition_of(image, segments, slots);
-    let census = take_census(image, segments, slots);
+    let aside = left_aside(image, segments, slots, condition);
+    let census = take_census(image, segments, slots, aside);
     let top = see_top(image, segments, slots);
     Report {
         condition,
