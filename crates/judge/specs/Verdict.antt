@@ -138,23 +138,14 @@ held-last l x e y =
     here : (e : Entry) (y : List Slot) → holds (e .block) (entries (live (e .block) (e .contents) ∷ y)) ≡ true
     here e y = unfold holds entries flatMap entryOf in rw (eq-eqb (e .block) (e .block) refl)
 
--- ---- endings that are not against the rules
-
-order-good : (e : Ending) → inOrder e ≡ true → isBad e ≡ false
-unfolding inOrder isBad
-order-good Full h = refl
-order-good Room h = refl
-order-good TornLast h = refl
-order-good TwinLast h = refl
-order-good Bad h = absurd (false≢true h)
-
-last-good : (e : Ending) → (endsTorn e || endsTwin e) ≡ true → isBad e ≡ false
-unfolding endsTorn endsTwin isBad
-last-good Full h = refl
-last-good Room h = refl
-last-good TornLast h = refl
-last-good TwinLast h = refl
-last-good Bad h = absurd (false≢true h)
+-- an ending that passes a test which the one against the rules fails
+good : (t : Ending → Bool) → t Bad ≡ false → (e : Ending) → t e ≡ true → isBad e ≡ false
+unfolding isBad
+good t n Full h = refl
+good t n Room h = refl
+good t n TornLast h = refl
+good t n TwinLast h = refl
+good t n Bad h = absurd (false≢true (sym n ∙ h))
 
 -- ---- what the sums of rows say of the view
 
@@ -259,8 +250,8 @@ module _ (N B n : ℕ) (ver : Version) (l : List (List Slot)) (t : List Slot) (n
     compactions = f-compactions;
     fine = fine-ending n ver l t N B ∙ f-orderly;
     state = f-state;
-    free = λ h. f-written (order-good (f .ending) h) ∙ (first-free t (ending-ordered n ver l t (ap inOrder (sym f-ending) ∙ h) .last) ∙ ap firstEmpty (sym (top-row l t)));
-    last = λ h. f-written (last-good (f .ending) h) ∙ (f-last h ∙ ap filled (sym (top-row l t)));
+    free = λ h. f-written (good inOrder (unfold inOrder in refl) (f .ending) h) ∙ (first-free t (ending-ordered n ver l t (ap inOrder (sym f-ending) ∙ h) .last) ∙ ap firstEmpty (sym (top-row l t)));
+    last = λ h. f-written (good (λ e. endsTorn e || endsTwin e) (unfold endsTorn endsTwin in refl) (f .ending) h) ∙ (f-last h ∙ ap filled (sym (top-row l t)));
     block = λ h. b ∙ f-block h;
     held = λ h. ap (λ (b : ℕ). holds b (entries (flatten (l ++ (t ∷ []))))) b ∙ f-held h;
   }

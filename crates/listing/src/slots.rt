@@ -34,6 +34,7 @@ fn link(
     lengths[page] = length as u8;
 }
 
+// So many slots of each kind.
 pub fn counts_of(live: u8, dead: u8, cut: u8, empty: u8) -> Counts
     ensures { λ r. ⌜ r ≡ record { live = live; dead = dead; cut = cut; empty = empty } ⌝ }
 {

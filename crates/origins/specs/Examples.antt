@@ -19,7 +19,7 @@ use Rattle.model.specs.Bench.{call, whole}
 use Rattle.model.specs.Laws.Bench.{evaluate}
 use Rattle.model.specs.Laws.Bytes.{bytes-take, bytes-drop, step-bytes, run-bytes}
 use Rattle.bridge.specs.Format.{format-bytes}
-use Rattle.origins.specs.Law.{inForce, slotIn, slotOn, lastPlace, CutIn}
+use Rattle.origins.specs.Law.{inForce, readAt, slotIn, slotOn, lastPlace, CutIn}
 use Rattle.origins.specs.Theorem.{cut-tells}
 use Rattle.origins.specs.Uncut.{eventsOf, Plain, played}
 
@@ -42,7 +42,7 @@ right-size = refl
 
 -- all that these compute with unfolds where this name does
 unfoldable evaluateSlots : ℕ
-unfolding evaluate play outcomeOf workOf rightSize segmentsOf pagesOf run step withSegment segmentBytes view isCut inForce slotIn slotOn lastPlace
+unfolding evaluate play outcomeOf workOf rightSize segmentsOf pagesOf run step withSegment segmentBytes view isCut inForce readAt slotIn slotOn lastPlace
 evaluateSlots = 0
 
 -- ---- block 7 put, put again and cut after three steps, and recovered

@@ -14,8 +14,8 @@ use Rattle.model.specs.Laws.Lists.{and-left, and-right}
 use Rattle.model.specs.Laws.Ring.{get-kept, next-kept}
 use Rattle.model.specs.Laws.Clean.{RingFacts, clean-ring}
 use Rattle.model.specs.Laws.View.{withSlot-number, withSlot-owing}
-use Rattle.origins.specs.Law.{inForce, slotOn}
-use Rattle.origins.specs.Reads.{readAt, slot-reads, Telling, blank-reads, invalid-reads, slot-elsewhere}
+use Rattle.origins.specs.Law.{readAt, inForce, slotOn}
+use Rattle.origins.specs.Reads.{slot-reads, Telling, blank-reads, invalid-reads, slot-elsewhere}
 
 -- ---- two lists
 

@@ -11,8 +11,8 @@ use Rattle.model.specs.State.{Segment, blank, segmentsOf, slotsIn, firstNumber,
 use Rattle.model.specs.Steps.{formatSteps}
 use Rattle.bridge.specs.Predicted.{fresh}
 use Rattle.bridge.specs.Format.{format-held}
-use Rattle.origins.specs.Law.{slotOn}
-use Rattle.origins.specs.Reads.{readAt, slot-reads, Telling, empty-plain, read-taken}
+use Rattle.origins.specs.Law.{readAt, slotOn}
+use Rattle.origins.specs.Reads.{slot-reads, Telling, empty-plain, read-taken}
 use Rattle.origins.specs.Fewer.{ring-force}
 use Rattle.origins.specs.Untorn.{numbered-row}
 

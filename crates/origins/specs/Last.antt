@@ -22,8 +22,8 @@ use Rattle.model.specs.Laws.View.{withSlot-number, withSlot-owing}
 use Rattle.crash.specs.Sound.{CutOf}
 use Rattle.crash.specs.States.{mended, mended-clean, case-of, recover-steps, recovered-run}
 use Rattle.crash.specs.RecoverMarks.{Marks, last-marks, mark-segments, mark-whole}
-use Rattle.origins.specs.Law.{inForce, slotOn, lastPlace, OneMade}
-use Rattle.origins.specs.Reads.{readAt, slot-reads, not-telling, read-there, with-slots, place-elsewhere}
+use Rattle.origins.specs.Law.{readAt, inForce, slotOn, lastPlace, OneMade}
+use Rattle.origins.specs.Reads.{slot-reads, not-telling, read-there, with-slots, place-elsewhere}
 use Rattle.origins.specs.Fewer.{paid-force, clean-paid, clean-force}
 
 -- ---- the top

@@ -22,9 +22,13 @@ use Rattle.crash.specs.Machine.{OnTable, IsCut}
 unfoldable pub inForce : ℕ → List Segment → List Segment
 inForce N l = cond (isOwing (getD l (topIndex N l) blank)) (nextBlanked N l) l
 
+-- what a segment has at a place: nothing, if it has another number
+unfoldable pub readAt : Segment → Place → Slot
+readAt x p = cond (eqb (numberAfter x) (suc (p .number))) (getD (slotsIn x) (p .slot) empty) empty
+
 -- the slot at a place, by its segment's number; empty if no segment in use has that number
 unfoldable pub slotIn : ℕ → List Segment → Place → Slot
-slotIn N l p = let x = getD (inForce N l) (p .number % N) blank in cond (eqb (numberAfter x) (suc (p .number))) (getD (slotsIn x) (p .slot) empty) empty
+slotIn N l p = readAt (getD (inForce N l) (p .number % N) blank) p
 
 unfoldable pub slotOn : ℕ → ℕ → Image → Place → Slot
 slotOn N B s p = slotIn N (segmentsOf N B s) p

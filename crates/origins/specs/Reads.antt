@@ -10,16 +10,12 @@ use borrow.Author.Tests.{eqb-true, eq-eqb}
 use Rattle.model.specs.Slot.{Slot, empty, torn, dead, cut, wrong, live}
 use Rattle.model.specs.State.{Segment, blank, invalid, inUse, numberAfter, slotsIn, withSlot, Place}
 use Rattle.model.specs.Laws.View.{withSlot-number}
-use Rattle.origins.specs.Law.{inForce, slotIn}
+use Rattle.origins.specs.Law.{readAt, inForce, slotIn}
 
 -- ---- one segment
 
--- what it has at a place: nothing, if it has another number
-unfoldable pub readAt : Segment → Place → Slot
-readAt x p = cond (eqb (numberAfter x) (suc (p .number))) (getD (slotsIn x) (p .slot) empty) empty
-
 pub slot-reads : (N : ℕ) (l : List Segment) (p : Place) → slotIn N l p ≡ readAt (getD (inForce N l) (p .number % N) blank) p
-unfolding slotIn readAt
+unfolding slotIn
 slot-reads N l p = refl
 
 -- kinds that neither an empty slot nor a live one is of

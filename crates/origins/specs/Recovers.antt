@@ -23,7 +23,8 @@ use Rattle.crash.specs.RecoverMarks.{mark-segments, mark-whole}
 use Rattle.crash.specs.RecoverErase
 use Rattle.crash.specs.RecoverOwing
 use Rattle.crash.specs.OwingCuts
-use Rattle.origins.specs.Reads.{readAt, Telling, reads-same}
+use Rattle.origins.specs.Law.{readAt}
+use Rattle.origins.specs.Reads.{Telling, reads-same}
 use Rattle.origins.specs.Fewer.{Fewer, fewer-set, owing-force, replaced-force, NoNew, no-new-image, no-new-trans, no-new-replaced, no-new-slot, no-new-unused}
 use Rattle.origins.specs.Last.{last-paid, recovered-segments, recovery-left}
 use Rattle.origins.specs.Torn.{paid-a, owing-b, marks-d, paid-d}

@@ -26,8 +26,8 @@ use Rattle.bridge.specs.Requests.{until-room, until-more, top-rises, carries-ne
 use Rattle.crash.specs.RecoverErase.{unused-segment}
 use Rattle.crash.specs.RoomOwing.{Full, old-valid, old-fits}
 use Rattle.crash.specs.RoomCuts.{TornNext, open-left, copy-out-left, owed, rest-after, rest-last}
-use Rattle.origins.specs.Law.{inForce}
-use Rattle.origins.specs.Reads.{readAt, Telling, not-telling, blank-reads, empty-plain, plain-reads}
+use Rattle.origins.specs.Law.{readAt, inForce}
+use Rattle.origins.specs.Reads.{Telling, not-telling, blank-reads, empty-plain, plain-reads}
 use Rattle.origins.specs.Fewer.{fewer-trans, fewer-set, ring-paid, ring-force, owing-force, NoNew, no-new-same, no-new-image, no-new-trans, no-new-replaced, no-new-unused}
 use Rattle.origins.specs.Torn.{owing-b}
 use Rattle.origins.specs.Owing.{ending}

@@ -19,8 +19,8 @@ use Rattle.crash.specs.RecoverMarks.{Marks, older-marks}
 use Rattle.crash.specs.RecoverErase.{torn-segment}
 use Rattle.crash.specs.RecoverOwing.{owing}
 use Rattle.crash.specs.Recover.{recover-done}
-use Rattle.origins.specs.Law.{inForce, slotOn, lastPlace}
-use Rattle.origins.specs.Reads.{readAt, slot-reads, Telling, not-telling, reads-same, blank-reads, read-taken, slot-elsewhere}
+use Rattle.origins.specs.Law.{readAt, inForce, slotOn, lastPlace}
+use Rattle.origins.specs.Reads.{slot-reads, Telling, not-telling, reads-same, blank-reads, read-taken, slot-elsewhere}
 use Rattle.origins.specs.Fewer.{Fewer, fewer-same, fewer-set, fewer-back, paid-force, owing-force, clean-paid, unused-reads}
 use Rattle.origins.specs.Untorn.{clean-untorn}
 use Rattle.origins.specs.Last.{others-stay}

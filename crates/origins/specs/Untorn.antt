@@ -13,7 +13,8 @@ use Rattle.model.specs.State.{Segment, blank, isInUse, numberAfter, slotsIn, us
 use Rattle.model.specs.Laws.Lists.{all-get, all-row}
 use Rattle.model.specs.Laws.Ring.{next-ge, number-in-use, only-numbered, slots-get}
 use Rattle.model.specs.Laws.Clean.{RingFacts, clean-ring, clean-slots, used-next, index-inside, numbered}
-use Rattle.origins.specs.Reads.{not-telling, readAt, read-taken}
+use Rattle.origins.specs.Law.{readAt}
+use Rattle.origins.specs.Reads.{not-telling, read-taken}
 
 module _ (N : ℕ) (l : List Segment) (r : RingFacts N l) where
   -- its number is not below the first

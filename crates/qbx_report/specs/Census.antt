@@ -78,7 +78,7 @@ versionTold e = cond (isFormer e) Version1 (Version2 (tallyOf e) (noBitLeft e))
 unfoldable pub topTold : ℕ → List Segment → TopSeen
 topTold N l = cond (eqb (nextNumber l) 0) Missing (versionTold (topVersion N l))
 
--- counted is what the account shows: a cut erase makes dead slots look cut, which no cut program left
+-- the slots counted are those that the account shows: an erase that is cut makes dead slots look cut
 unfoldable pub reportOf : ℕ → ℕ → List Segment → Report
 reportOf N B l = let c = censusOf (shown N B l) in
     record { condition = conditionOf (stateOf N B l); segments = c .segments; live = c .live; dead = c .dead; cut = c .cut; empty = c .empty; top = topTold N l }

@@ -47,7 +47,7 @@ fn condition_of(image: &[u8], segments: usize, slots: usize) -> Condition
     }
 }
 
-// The index of the segment after the top, which is being erased in an image unfinished by (b) and is left aside; in others
+// The index of the segment after the top, whose erase is owed in an image unfinished by (b) and which is left aside; in others
 // none is, which is the index behind the last.
 fn left_aside(image: &[u8], segments: usize, slots: usize, condition: Condition) -> usize
     requires { ⌜ rightSize segments slots (now image) ≡ true ⌝ }

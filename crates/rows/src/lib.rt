@@ -64,6 +64,7 @@ fn live_ending(again: bool) -> Ending
     }
 }
 
+// A row of these counts.
 fn row_of(live: u8, dead: u8, cut: u8, ending: Ending, block: BlockNumber) -> Row
     ensures { λ r. ⌜ r ≡ record { live = live; dead = dead; cut = cut; ending = ending; block = block } ⌝ }
 {
