@@ -8,6 +8,7 @@ pub mod Sound
 pub mod Requests
 pub mod Invariant
 pub mod Skeleton
+pub mod Works
 pub mod Starts
 -- recovery, delete and read
 pub mod Alike

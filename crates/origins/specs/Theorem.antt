@@ -8,21 +8,22 @@ use Rattle.model.specs.Chip.{Image, Bytes, rightSize, run}
 use Rattle.model.specs.Slot.{Slot, empty, torn, dead, cut, wrong, live, isDead, isCut, isReplaced}
 use Rattle.model.specs.State.{Place, caseC, unfinished, state}
 use Rattle.model.specs.Steps.{formatSteps}
-use Rattle.model.specs.Answers.{Request, format, put, delete, read, readOr, recover}
+use Rattle.model.specs.Answers.{Request, recover}
 use Rattle.model.specs.Histories.{Seen, Proper, Does, Event, History, wears}
 use Rattle.model.specs.Laws.Chip.{run-size}
 use Rattle.crash.specs.Machine.{Promise, settled, interrupted, unknown, IsCut, OnTable}
-use Rattle.crash.specs.Sound.{Sound, Clean}
+use Rattle.crash.specs.Sound.{Sound, Clean, CutOf}
 use Rattle.crash.specs.Requests.{sound-clean}
 use Rattle.crash.specs.ReadingRuns.{Known, move-known}
 use Rattle.crash.specs.Invariant.{Invariant}
-use Rattle.crash.specs.Skeleton.{one-event, May}
+use Rattle.crash.specs.Skeleton.{one-event}
+use Rattle.crash.specs.Works.{Works, works, may}
 use Rattle.crash.specs.Starts.{formatted-stores}
 use Rattle.crash.specs.Theorem.{request-laws}
 use Rattle.origins.specs.Law.{slotOn, lastPlace, Unformatted, IsPut, Tore, Marked, MarkedIn, CutIn, ReplacedIn, CutTells, NothingElse, DeadTells}
 use Rattle.origins.specs.Last.{last-before}
 use Rattle.origins.specs.Torn.{untorn-clean, torn-last}
-use Rattle.origins.specs.Events.{cut-of, Worked, worked, new-cut, new-torn, new-dead}
+use Rattle.origins.specs.Events.{cut-of, new-cut, new-torn, new-dead}
 use Rattle.origins.specs.Fresh.{formatted-plain}
 
 -- ---- what demand 2 knows of an image
@@ -57,14 +58,6 @@ or-dead wrong = inr (other wrong refl)
 or-dead (live b c) = inr (other (live b c) refl)
 
 module _ (N B : ℕ) where
-  may : (r : Request) → OnTable r → May N B false (request-laws N B) r
-  may format o = absurd o
-  may (put b c) o = tt
-  may (delete b) o = tt
-  may (read b) o = tt
-  may (readOr b f) o = tt
-  may recover o = tt
-
   -- the machine goes along
   abbrev Stands : Image → Type 0
   Stands s = (x : Promise) × Invariant N B false s x × Known x
@@ -73,7 +66,7 @@ module _ (N B : ℕ) where
   stands-fit s h = fit-of N B s (h .0) (h .1) (h .2)
 
   one-stands : (s m : Image) (r : Request) (o : Seen) → OnTable r → Proper r → Stands s → Does N B r o s m → Stands m
-  one-stands s m r o on p h d = let a = one-event N B false (request-laws N B) s m (h .0) r (may r on) p (h .1) o d in (a .0, a .2, move-known (a .1) on (h .2))
+  one-stands s m r o on p h d = let a = one-event N B false (request-laws N B) s m (h .0) r (may N B (request-laws N B) r on) p (h .1) o d in (a .0, a .2, move-known (a .1) on (h .2))
 
   stands : (es : List Event) (s u : Image) → Unformatted es → Stands s → History N B s es u → Stands u
   stands [] s u none h e = subst Stands (sym e) h
@@ -83,8 +76,11 @@ module _ (N B : ℕ) where
 
   module _ (v : Event) (es : List Event) (s m u : Image) (p : Place) (fit : Fit N B s) (fit-after : Fit N B m)
       (on : OnTable (v .request)) (proper : Proper (v .request)) (worn : v .worn ≡ wears N B s) (does : Does N B (v .request) (v .seen) s m) (rest : History N B m es u) where
-    work : Worked N B s m (v .request)
-    work = worked N B s m (fit .size) (v .request) on proper (fit .sound) (cut-of N B (v .request) (v .seen) s m does)
+    work : Works N B s (v .request)
+    work = works N B s (fit .size) (v .request) on proper (fit .sound)
+
+    left : CutOf N B s (v .request) m
+    left = cut-of N B (v .request) (v .seen) s m does
 
     -- the event that marked it
     marked-here : slotOn N B m p ≡ cut → (v .request ≡ recover) × (state N B s ≡ unfinished caseC) × (p ≡ lastPlace N B s) → Marked N B s m v p
@@ -96,14 +92,14 @@ module _ (N B : ℕ) where
         record { puts = q .0; cuts = q .1; untorn = untorn-clean N B s (q .2); left = h; only = λ x t. last x t .1 ∙ sym (last p h .1) }
 
     came-before : Came N B m es u rest p → Came N B s (v ∷ es) u (proper, worn, (m, does, rest)) p
-    came-before (was-cut h) = ⊎-elim (λ q. was-cut q) (λ q. let k = marked-here h q in was-torn (k .found) (inl k)) (new-cut N B s m (fit .size) (fit .sound) (fit .bytes) p (v .request) work h)
-    came-before (was-torn h k) = ⊎-elim (λ q. was-torn q (inr k)) (λ q. in-between (inl (tore-here h q, k))) (new-torn N B s m (fit .size) (fit .sound) (fit .bytes) p (v .request) (v .seen) does work h)
+    came-before (was-cut h) = ⊎-elim (λ q. was-cut q) (λ q. let k = marked-here h q in was-torn (k .found) (inl k)) (new-cut N B s m (fit .size) (fit .sound) (fit .bytes) p (v .request) work left h)
+    came-before (was-torn h k) = ⊎-elim (λ q. was-torn q (inr k)) (λ q. in-between (inl (tore-here h q, k))) (new-torn N B s m (fit .size) (fit .sound) (fit .bytes) p (v .request) (v .seen) does work left h)
     came-before (in-between k) = in-between (inr k)
 
     -- the same of dead slots, which were so or were made so here
     dead-before : (slotOn N B m p ≡ dead) ⊎ ReplacedIn N B m es u rest p → (slotOn N B s p ≡ dead) ⊎ ReplacedIn N B s (v ∷ es) u (proper, worn, (m, does, rest)) p
     dead-before (inr k) = inr (inr k)
-    dead-before (inl h) = ⊎-elim (λ q. inl q) (λ n. ⊎-elim (λ q. inl q) (λ q. inr (inl (record { replaces = q; undead = n; marks = h }))) (new-dead N B s m (fit .size) (fit .sound) (fit .bytes) p (v .request) work h)) (or-dead (slotOn N B s p))
+    dead-before (inl h) = ⊎-elim (λ q. inl q) (λ n. ⊎-elim (λ q. inl q) (λ q. inr (inl (record { replaces = q; undead = n; marks = h }))) (new-dead N B s m (fit .size) (fit .sound) (fit .bytes) p (v .request) work left h)) (or-dead (slotOn N B s p))
 
   came : (es : List Event) (s u : Image) → Unformatted es → Stands s → (h : History N B s es u) → (p : Place) → slotOn N B u p ≡ cut → Came N B s es u h p
   came [] s u none h e p k = was-cut (ap (λ y. slotOn N B y p) (sym e) ∙ k)
@@ -140,4 +136,4 @@ dead-tells N B s u es z runs none p k = ⊎-elim (λ h. absurd (formatted-plain 
 pub nothing-else : NothingElse
 nothing-else N B s u m es r o z runs none on proper does p k =
     let fit = stands-fit N B u (stands N B es (run B (formatSteps N B) s) u none (begins N B s z) runs) in
-    new-cut N B u m (fit .size) (fit .sound) (fit .bytes) p r (worked N B u m (fit .size) r on proper (fit .sound) (cut-of N B r o u m does)) k
+    new-cut N B u m (fit .size) (fit .sound) (fit .bytes) p r (works N B u (fit .size) r on proper (fit .sound)) (cut-of N B r o u m does) k

@@ -1,5 +1,5 @@
 -- The induction over histories: one lemma for each event, by what demand 2 knows of the image.
-use Prim.Native.Nat.{ℕ, zero, suc, _+_, _-_, _≤_, _<_}
+use Prim.Native.Nat.{ℕ, suc, _+_, _-_, _≤_, _<_}
 use mathlib.Core.Path.{_≡_, refl, sym, ap, _∙_, subst}
 use mathlib.Core.Logic.{inl, inr}
 use mathlib.Core.Bool.{Bool, true, false, cond, true≢false}
@@ -7,11 +7,10 @@ use mathlib.Core.List.{List, [], _∷_}
 use native.Mathlib.Omega.{arith}
 use lib.ListN.{length}
 use lib.Dec.{eqb}
-use borrow.Author.Tests.{ne-eqb}
 use Rattle.model.specs.Lists.{count}
 use Rattle.model.specs.Chip.{Image, Bytes, rightSize, run, erased}
 use Rattle.model.specs.Header.{newVersion, isFormer, bitValues, clearedIn, clearedBits, tallyOf, noBitLeft}
-use Rattle.model.specs.State.{segmentsOf, nextNumber, topVersion, View, viewOf, view, State, clean, unfinished, damaged, state}
+use Rattle.model.specs.State.{segmentsOf, nextNumber, topVersion, View, viewOf, view, Exception, clean, unfinished, state}
 use Rattle.model.specs.Steps.{formatSteps}
 use Rattle.model.specs.Answers.{Request, format, put, delete, read, readOr, recover, stepsFor, workOf, outcomeOf}
 use Rattle.model.specs.Histories.{Seen, answered, lost, Proper, Does}
@@ -20,15 +19,17 @@ use Rattle.model.specs.Begun.{CutBegun, DoesBegun, Turn, Turns, cutSeen, cutsIn
 use Rattle.model.specs.Laws.Chip.{size-facts, run-size}
 use Rattle.model.specs.Laws.Begun.{begun-cut, begun-none, taken-begun}
 use Rattle.bridge.specs.Predicted.{fresh}
-use Rattle.bridge.specs.Accepted.{recover-none, accepted}
+use Rattle.bridge.specs.Accepted.{accepted}
 use Rattle.bridge.specs.Held.{Held}
 use Rattle.bridge.specs.Format.{format-held}
 use Rattle.crash.specs.Machine.{Board, malformed, Promise, settled, interrupted, unknown, IsCut, OnTable, WantsRecovery, Moves, answers, answers-again, asks-recovery, refuses-malformed, not-begun, wholly-done, formats, format-cut, no-promise}
-use Rattle.crash.specs.Sound.{SoundAs, Sound, Clean}
-use Rattle.crash.specs.Requests.{refused-idle, read-idle, readOr-idle, Unfinished, code-unfinished}
+use Rattle.crash.specs.Sound.{Sound}
+use Rattle.crash.specs.Requests.{sound-clean}
 use Rattle.crash.specs.ReadingRuns.{Known, move-known}
 use Rattle.crash.specs.Invariant.{Invariant}
-use Rattle.crash.specs.Skeleton.{one-event, May}
+use Rattle.crash.specs.Skeleton.{one-event}
+use Rattle.crash.specs.Works
+use Rattle.crash.specs.Works.{Works, puts, deletes, works, may}
 use Rattle.crash.specs.Starts.{formatted-stores}
 use Rattle.crash.specs.Tops.{same-image}
 use Rattle.crash.specs.Delete.{delete-top}
@@ -72,46 +73,18 @@ none-by (read b) = refl
 none-by (readOr b f) = refl
 none-by recover = refl
 
--- a request on a clean image
-on-clean : (N B : ℕ) (s m : Image) (r : Request) (es : List ℕ) (x : Promise) → OnTable r → Proper r → rightSize N B s ≡ true → Bytes s → Clean N B s → CutBegun B (workOf N B s r .steps) s m es → Shown N B s m r es x
-on-clean N B s m r es x o p z y h c = go (workOf N B s r .code) refl
-  where
-    by-request : (a : Request) → OnTable a → Proper a → workOf N B s a .code ≡ 0 → CutBegun B (workOf N B s a .steps) s m es → Shown N B s m a es x
-    by-request format oa pa e d = absurd oa
-    by-request (put b v) oa pa e d = carries-on (put-advances N B s z h b v y pa e m es d) (unfold byRecovery in refl)
-    by-request (delete b) oa pa e d =
-        let xs = workOf N B s (delete b) .steps in
-        carries-on (advances-same N B s m es (begun-none B xs s m es (delete-erases b e) d) (delete-top N B s b z h e m (begun-cut B xs s m es d))) (unfold byRecovery in refl)
-      where
-        delete-erases : (b : ℕ) → workOf N B s (delete b) .code ≡ 0 → erasesIn (workOf N B s (delete b) .steps) ≡ []
-        delete-erases b e = unfold stepsFor in (ap erasesIn (accepted N B s (delete b) e .0) ∙ delete-none N B b (viewOf N (segmentsOf N B s)))
-    by-request (read b) oa pa e d = idle N B s m (read b) es x (none-by (read b)) (read-idle N B s b) d
-    by-request (readOr b f) oa pa e d = idle N B s m (readOr b f) es x (none-by (readOr b f)) (readOr-idle N B s b f) d
-    by-request recover oa pa e d = idle N B s m recover es x (none-by recover) (recover-none N B s h) d
+delete-erases : (N B : ℕ) (s : Image) (b : ℕ) → workOf N B s (delete b) .code ≡ 0 → erasesIn (workOf N B s (delete b) .steps) ≡ []
+delete-erases N B s b e = unfold stepsFor in (ap erasesIn (accepted N B s (delete b) e .0) ∙ delete-none N B b (viewOf N (segmentsOf N B s)))
 
-    go : (n : ℕ) → workOf N B s r .code ≡ n → Shown N B s m r es x
-    go zero e = by-request r o p e c
-    go (suc n) e = idle N B s m r es x (none-by r) (refused-idle N B s r n e) c
-
--- a request on an unfinished one
-on-unfinished : (N B : ℕ) (s m : Image) (r : Request) (es : List ℕ) (x : Promise) → OnTable r → rightSize N B s ≡ true → Bytes s → Sound N B s → Unfinished N B s
-    → isFormer (topVersion N (segmentsOf N B s)) ≡ false → IsInterrupted x → CutBegun B (workOf N B s r .steps) s m es → Shown N B s m r es x
-on-unfinished N B s m r es x o z y h f new i c = by-request r o c
-  where
-    asks : (a : Request) → WantsRecovery a → workOf N B s a .steps ≡ []
-    asks a w = go (malformed a) (code-unfinished N B s z f a w)
-      where
-        go : (n : ℕ) → workOf N B s a .code ≡ cond (eqb n 0) 5 n → workOf N B s a .steps ≡ []
-        go zero e = refused-idle N B s a 4 e
-        go (suc n) e = refused-idle N B s a n (e ∙ rw (ne-eqb (suc n) 0 (λ q. omega arith)))
-
-    by-request : (a : Request) → OnTable a → CutBegun B (workOf N B s a .steps) s m es → Shown N B s m a es x
-    by-request format oa d = absurd oa
-    by-request (put b v) oa d = idle N B s m (put b v) es x (none-by (put b v)) (asks (put b v) tt) d
-    by-request (delete b) oa d = idle N B s m (delete b) es x (none-by (delete b)) (asks (delete b) tt) d
-    by-request (read b) oa d = idle N B s m (read b) es x (none-by (read b)) (asks (read b) tt) d
-    by-request (readOr b g) oa d = idle N B s m (readOr b g) es x (none-by (readOr b g)) (asks (readOr b g) tt) d
-    by-request recover oa d = recovers (recover-counts N B s z h new y m es d) refl i (unfold byRecovery in refl)
+-- by what a request can do; an image that is not clean is one of an interrupted request
+shown-by : (N B : ℕ) (s m : Image) (r : Request) (es : List ℕ) (x : Promise) → rightSize N B s ≡ true → Bytes s → Sound N B s → isFormer (topVersion N (segmentsOf N B s)) ≡ false
+    → ((q : Exception) → state N B s ≡ unfinished q → IsInterrupted x) → Works N B s r → CutBegun B (workOf N B s r .steps) s m es → Shown N B s m r es x
+shown-by N B s m r es x z y h new i (Works.idle e) c = idle N B s m r es x (none-by r) e c
+shown-by N B s m r es x z y h new i (puts b v k p a) c = carries-on (put-advances N B s z k b v y p a m es c) (unfold byRecovery in refl)
+shown-by N B s m r es x z y h new i (deletes b k a) c =
+    let xs = workOf N B s (delete b) .steps in
+    carries-on (advances-same N B s m es (begun-none B xs s m es (delete-erases N B s b a) c) (delete-top N B s b z k a m (begun-cut B xs s m es c))) (unfold byRecovery in refl)
+shown-by N B s m r es x z y h new i (Works.recovers q e) c = recovers (recover-counts N B s z h new y m es c) refl (i q e) (unfold byRecovery in refl)
 
 -- ---- the invariant
 
@@ -211,32 +184,22 @@ same-counts N B s x R K Q L E F r k f t = record {
 module _ (N B : ℕ) where
   event-shown : (s m : Image) (r : Request) (o : Seen) (es : List ℕ) (x : Promise) (R K : ℕ) (E : ℕ → ℕ) → OnTable r → Proper r → Invariant N B false s x → Known x
       → Tallies N B s x R K E → DoesBegun N B r o s m es → Shown N B s m r es x
-  event-shown s m r o es (settled t) R K E on p (z, k) kn tl d = on-clean N B s m r es (settled t) on p z (k .bytes) (k .clean) (begun-of N B r o s m es d)
-  event-shown s m r o es (interrupted t) R K E on p (z, k) kn tl d = go (state N B s) refl (k .sound)
+  event-shown s m r o es (settled t) R K E on p (z, k) kn tl d =
+      let h = sound-clean N B s (k .clean) in
+      shown-by N B s m r es (settled t) z (k .bytes) h (tl .second) (λ q e. clash q (sym (k .clean) ∙ e)) (works N B s z r on p h) (begun-of N B r o s m es d)
     where
-      c : CutBegun B (workOf N B s r .steps) s m es
-      c = begun-of N B r o s m es d
-
-      go : (q : State) → state N B s ≡ q → SoundAs N B s (segmentsOf N B s) q → Shown N B s m r es (interrupted t)
-      go clean e h = on-clean N B s m r es (interrupted t) on p z (k .bytes) e c
-      go (unfinished q) e h = on-unfinished N B s m r es (interrupted t) on z (k .bytes) (k .sound) (q, e) (tl .second) tt c
-      go damaged e h = absurd h
+      clash : (q : Exception) → clean ≡ unfinished q → ⊥
+      clash q e = let n : _≡_ {A = ℕ} 0 1 = cc in omega (arith, n)
+  event-shown s m r o es (interrupted t) R K E on p (z, k) kn tl d =
+      shown-by N B s m r es (interrupted t) z (k .bytes) (k .sound) (tl .second) (λ q e. tt) (works N B s z r on p (k .sound)) (begun-of N B r o s m es d)
   event-shown s m r o es unknown R K E on p (z, k) kn tl d = absurd kn
-
-  may : (r : Request) → OnTable r → May N B false (request-laws N B) r
-  may format o = absurd o
-  may (put b c) o = tt
-  may (delete b) o = tt
-  may (read b) o = tt
-  may (readOr b f) o = tt
-  may recover o = tt
 
   history : (es : List Turn) (s u : Image) (x : Promise) (R K : ℕ) (E : ℕ → ℕ) → Unformatted es → Invariant N B false s x → Known x → Tallies N B s x R K E → Turns N B s es u
       → (y : Promise) × Tallies N B u y (recoveryErases es + R) (cutsIn es + K) (λ i. begunOn i es + E i)
   unfolding recoveryErases cutsIn begunOn
   history [] s u x R K E none inv kn t e = (x, same-counts N B u x R K (0 + R) (0 + K) E (λ i. 0 + E i) (omega arith) (omega arith) (λ i. omega arith) (subst (λ (q : Image). Tallies N B q x R K E) (sym e) t))
   history (v ∷ es) s u x R K E none inv kn t (p, (m, d, rest)) =
-      let a = one-event N B false (request-laws N B) s m x (v .request) (may (v .request) (none .0)) p inv (v .seen) (does-of N B (v .request) (v .seen) s m (v .begun) d) in
+      let a = one-event N B false (request-laws N B) s m x (v .request) (may N B (request-laws N B) (v .request) (none .0)) p inv (v .seen) (does-of N B (v .request) (v .seen) s m (v .begun) d) in
       let sh = event-shown s m (v .request) (v .seen) (v .begun) x R K E (none .0) p inv kn t d in
       let t2 = step-tallies N B s m (v .request) (v .seen) (v .begun) x (a .0) R K E (none .0) (a .1) t sh in
       let b = history es m u (a .0) (byRecovery (v .request) (v .begun) + R) (cutSeen (v .seen) + K) (λ i. count (λ k. eqb i k) (v .begun) + E i) (none .1) (a .2) (move-known (a .1) (none .0) kn) t2 rest in
