@@ -5,3 +5,4 @@ pub mod Shape
 pub mod Room
 pub mod Times
 pub mod Requests
+pub mod Entries

@@ -13,7 +13,7 @@ use Rattle.model.specs.Table.{lookup, contentsFound}
 use Rattle.model.specs.declared.Answer.{Answer}
 use Rattle.model.specs.declared.Performed.{Performed}
 use Rattle.model.specs.declared.Located.{Located}
-use Rattle.model.specs.declared.Answer.the-variants.{Done, Size, Number, Length, Damaged, Unfinished, Absent, Full, Worn, Cut, FormerVersion, ShortBuffer}
+use Rattle.model.specs.declared.Answer.the-variants.{Done, Size, Number, Length, Damaged, Unfinished, Absent, Full, Worn, Cut, ShortTable, FormerVersion, ShortBuffer}
 
 -- the paper's number of an answer
 unfoldable pub codeOf : Answer → ℕ
@@ -27,6 +27,7 @@ codeOf Absent = 6
 codeOf Full = 7
 codeOf Worn = 8
 codeOf Cut = 9
+codeOf ShortTable = 10
 codeOf FormerVersion = 11
 codeOf ShortBuffer = 14
 

@@ -11,6 +11,7 @@ pub mod Answers
 pub mod Histories
 pub mod Sequences
 pub mod Begun
+pub mod Mounted
 pub mod Pages
 pub mod Bench
 pub mod Laws

@@ -28,7 +28,7 @@ pub enum SlotKind {
     Wrong,
 }
 
-// What comes back, in the order of document 01's table of answers, with 11 of request #104 and 14 of #101.
+// What comes back, in the order of document 01's table of answers, with 10 of request #102, 11 of #104 and 14 of #101.
 pub enum Answer {
     Done,
     Size,
@@ -40,6 +40,7 @@ pub enum Answer {
     Full,
     Worn,
     Cut,
+    ShortTable,
     FormerVersion,
     ShortBuffer,
 }

@@ -4,7 +4,7 @@ use mathlib.Core.Bool.{Bool, cond}
 use mathlib.Core.List.{List, [], _++_}
 use lib.Dec.{eqb}
 use Rattle.model.specs.declared.Answer.{Answer}
-use Rattle.model.specs.declared.Answer.the-variants.{Done, Size, Number, Length, Damaged as AnswerDamaged, Unfinished, Absent, Full, Worn, Cut, FormerVersion, ShortBuffer}
+use Rattle.model.specs.declared.Answer.the-variants.{Done, Size, Number, Length, Damaged as AnswerDamaged, Unfinished, Absent, Full, Worn, Cut, ShortTable, FormerVersion, ShortBuffer}
 use Rattle.model.specs.Answers.{codeOf}
 use Rattle.model.specs.Chip.{inRange, imageLength}
 use Rattle.text.specs.Text.{text}
@@ -35,6 +35,7 @@ reason Absent = text " absent"
 reason Full = text " full"
 reason Worn = text " worn"
 reason Cut = []
+reason ShortTable = text " short table"
 reason FormerVersion = text " former version"
 reason ShortBuffer = text " short buffer"
 

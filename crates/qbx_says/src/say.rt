@@ -47,6 +47,7 @@ fn add_reason(line: Line, answer: Answer) -> Line
         Answer::Full => add(line, b" full"),
         Answer::Worn => add(line, b" worn"),
         Answer::Cut => add(line, b""),
+        Answer::ShortTable => add(line, b" short table"),
         Answer::FormerVersion => add(line, b" former version"),
         Answer::ShortBuffer => add(line, b" short buffer"),
     }

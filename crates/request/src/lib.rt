@@ -110,7 +110,7 @@ pub fn finished(budget: u64, left: u64, before: u64, last: u64) -> Performed
     }
 }
 
-// The number of an answer in document 01's table; 11 is of request #104, 14 of #101.
+// The number of an answer in document 01's table; 10 is of request #102, 11 of #104, 14 of #101.
 pub fn code_of(answer: Answer) -> u8
     ensures { λ r. ⌜ r ≡ codeOf answer ⌝ }
 {
@@ -125,6 +125,7 @@ pub fn code_of(answer: Answer) -> u8
         Answer::Full => 7,
         Answer::Worn => 8,
         Answer::Cut => 9,
+        Answer::ShortTable => 10,
         Answer::FormerVersion => 11,
         Answer::ShortBuffer => 14,
     }

@@ -114,6 +114,15 @@ slice-aggregate-add-12 c = search needs
 add-requires-12 : tie.Need-add-requires-12
 add-requires-12 c κs = search needs
 
+enum-told-13 : tie.Need-enum-told-13
+enum-told-13 c = search needs
+
+slice-aggregate-add-13 : tie.Need-slice-aggregate-add-13
+slice-aggregate-add-13 c = search needs
+
+add-requires-13 : tie.Need-add-requires-13
+add-requires-13 c κs = search needs
+
 returns : tie.Need-returns
 unfolding text reason
 returns c = rw (c .before .before .enum-told .given .1) (c .add .ensures, omega arith)
@@ -162,6 +171,10 @@ returns-12 : tie.Need-returns-12
 unfolding text reason
 returns-12 c = rw (c .before .before .enum-told12 .given .1) (c .add12 .ensures, omega arith)
 
+returns-13 : tie.Need-returns-13
+unfolding text reason
+returns-13 c = rw (c .before .before .enum-told13 .given .1) (c .add13 .ensures, omega arith)
+
 pub add-reason-spec : {M : Type 1} → statement M
 add-reason-spec =
     tie.close
@@ -202,6 +215,9 @@ add-reason-spec =
     enum-told-12
     slice-aggregate-add-12
     add-requires-12
+    enum-told-13
+    slice-aggregate-add-13
+    add-requires-13
     returns
     returns-2
     returns-3
@@ -213,4 +229,5 @@ add-reason-spec =
     returns-9
     returns-10
     returns-11
-    returns-12)
+    returns-12
+    returns-13)
