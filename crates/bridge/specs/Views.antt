@@ -6,3 +6,4 @@ pub mod Room
 pub mod Times
 pub mod Requests
 pub mod Entries
+pub mod EntriesAfter
