@@ -7,7 +7,7 @@ use mathlib.Core.List.{List, [], _∷_, _++_}
 use lib.ListN.{length, getD, drop, set}
 use lib.Dec.{ltb, eqb}
 use Rattle.model.specs.Chip.{Image, rightSize}
-use Rattle.model.specs.Slot.{numberOk}
+use Rattle.model.specs.Slot.{mostContents, numberOk}
 use Rattle.model.specs.State.{View, entriesIn, holds, placeOf, state, view}
 use Rattle.model.specs.Steps.{slotAt}
 use Rattle.model.specs.declared.Answer.{Answer}
@@ -103,10 +103,10 @@ MountedPut N B b c allowance o s t u = Writes N B b (lengthOk (length c)) (0 ∷
 abbrev pub MountedDelete : ℕ → ℕ → ℕ → ℕ → Outcome → Image → Places → Places → Type 0
 MountedDelete N B b allowance o s t u = Writes N B b true (0 ∷ 4 ∷ 5 ∷ 6 ∷ 9 ∷ []) (delete b) allowance o s t u
 
--- A mounted read of block b gives o. Out of step only the first four hold: they leave open which of the codes comes, and where in the image the contents are.
+-- A mounted read of block b gives o. Out of step only the first four hold: they leave open which of the codes comes, and where in the image up to 248 bytes of contents are.
 pub record MountedRead (N B b : ℕ) (o : ReadOutcome) (s : Image) (t : Places) : Type 0 where
   pub bound : mountedRefusal N B s t b true ≢ 0 → o .code ≡ mountedRefusal N B s t b true
   pub listed : mountedRefusal N B s t b true ≡ 0 → among (o .code) (0 ∷ 4 ∷ 5 ∷ 6 ∷ []) ≡ true
   pub refused : o .code ≢ 0 → (o .offset ≡ 0) × (o .length ≡ 0)
-  pub inside : o .offset + o .length ≤ length s
+  pub inside : (o .offset + o .length ≤ length s) × (o .length ≤ mostContents)
   pub same : InStep N B s t → o ≡ readOutcome N B s b
