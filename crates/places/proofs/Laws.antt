@@ -1,2 +1,4 @@
 pub mod Walk
 pub mod Seen
+pub mod Rows
+pub mod Entered
