@@ -1,30 +1,41 @@
+-- `places::fill` makes the filled table of the definition. Assumes nothing.
+use native.Mathlib.Omega.{arith}
+use denote.Ref.{now}
+use Rattle.model.specs.Laws.Bytes.{bytes-known}
+use Rattle.flash.proofs.Pages.{sized}
+use Rattle.places.proofs.Laws.Filled.{fill-number, begun-length, fill-length, fill-made}
 use borrow.Author.Needs.{needs}
 use Rattle.places.proofs.fill.Statement.{statement}
 use Rattle.places.proofs.fill.Tie as tie
-use Rattle.places.proofs.fill.Reads as reads
-use Rattle.places.proofs.fill.Lts as lts
-use Rattle.places.proofs.empty.Reads as empty-reads
-use Rattle.places.proofs.enter.Reads as enter-reads
 
--- src/lib.rt:146:5
 empty-requires : tie.Need-empty-requires
 empty-requires c κs = search needs
 
--- src/lib.rt:147:5
 slice-write-places : tie.Need-slice-write-places
 slice-write-places c = search needs
 
--- src/lib.rt:148:5
 enter-requires : tie.Need-enter-requires
-enter-requires c κs = ?
+enter-requires c κs =
+    let a = c .before .before .before .before .before .before .before in (
+      sized (a .args .segments) (a .args .slots) (now (a .args .image)) (a .pre .0 .size),
+      fill-number (a .args .segments) (a .args .slots) (now (a .args .image)) _ _ (a .pre .0),
+      omega (arith, a .pre .1, begun-length (now (a .args .places)) (a .pre .1) _ (c .before .before .before .empty .ensures)),
+    )
 
--- src/lib.rt:135:1
 same-length : tie.Need-same-length
-same-length c = ?
+same-length c =
+    let call = c .before .before in
+    let begin = call .before .before .before .before in
+    let a = begin .before .before .before .before in
+    fill-length (now (a .args .places)) (a .pre .1) _ (begin .empty .ensures) _ _ _ _ _ _ (call .enter .ensures)
 
--- src/lib.rt:135:1
 returns : tie.Need-returns
-returns c = ?
+returns c =
+    let call = c .before .before in
+    let begin = call .before .before .before .before in
+    let a = begin .before .before .before .before in
+    fill-made (a .args .segments) (a .args .slots) (now (a .args .image)) _ _ (a .pre .0) (bytes-known (now (a .args .image)) (λ i. omega (arith, begin .before .before .before .shared-slice-known .given i)))
+    (now (a .args .places)) (a .pre .1) _ _ (begin .empty .ensures) (call .enter .ensures)
 
 pub fill-spec : {M : Type 1} → statement M
 fill-spec =
