@@ -20,7 +20,7 @@ pub enum Found {
 }
 
 // The place of the first slot of the segment with a number.
-fn first_slot(segments: usize, slots: usize, number: SegmentNumber) -> SlotPlace
+pub fn first_slot(segments: usize, slots: usize, number: SegmentNumber) -> SlotPlace
     requires { ⌜ (0 < segments) × (segments ≤ 255) × (slots ≤ 255) ⌝ }
     ensures { λ r. ⌜ r .0 ≡ slotAt segments slots (number .0) 0 * 256 ⌝ }
 {

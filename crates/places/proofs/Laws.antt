@@ -1,0 +1,6 @@
+pub mod Walk
+pub mod Seen
+pub mod Rows
+pub mod Entered
+pub mod Filled
+pub mod Kept
