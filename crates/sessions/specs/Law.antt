@@ -6,11 +6,11 @@ use mathlib.Core.Bool.{Bool, true, false, not}
 use mathlib.Core.List.{List, [], _∷_}
 use lib.ListN.{length, take, drop}
 use lib.Dec.{eqb}
-use Rattle.model.specs.Chip.{Image, Bytes, Cut, rightSize}
+use Rattle.model.specs.Chip.{Image, Cut, rightSize}
 use Rattle.model.specs.State.{clean, state}
 use Rattle.model.specs.Answers.{Request, format, put, delete, read, readOr, recover, workOf, outcomeOf, ReadOutcome}
 use Rattle.model.specs.Histories.{bytesRead, Seen, answered, lost, Proper, Does, wears, Event}
-use Rattle.model.specs.Sequences.{Call, Observed, observed, InSequence, Uncut}
+use Rattle.model.specs.Sequences.{Call, Observed, observed, InSequence}
 use Rattle.model.specs.Mounted.{Places, leastPlaces, mountOutcome, InStep, MountedPut, MountedDelete, MountedRead}
 use Rattle.crash.specs.Machine.{Promise, unknown, PlainRuns}
 use Rattle.crash.specs.Demand2.{Keeps, board}

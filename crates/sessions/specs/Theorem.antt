@@ -1,20 +1,20 @@
 -- The proofs: a mounted call in step is the unmounted one, and runs and sessions go by it call by call.
 use Prim.Native.Nat.{ℕ, zero, suc, _+_, _≤_}
 use mathlib.Core.Path.{_≡_, refl, sym, ap, ap₂, _∙_, subst}
-use mathlib.Core.Logic.{_⊎_, inl, inr, ⊎-elim, _≢_}
-use mathlib.Core.Bool.{Bool, true, false, cond, _||_, not, true≢false}
+use mathlib.Core.Logic.{⊎-elim, _≢_}
+use mathlib.Core.Bool.{Bool, true, false, cond, not, true≢false}
 use mathlib.Core.List.{List, [], _∷_, _++_}
 use native.Mathlib.Decide.{ℕ-discrete}
 use native.Mathlib.Omega.{arith}
 use lib.ListN.{length, take, drop, length-append}
-use lib.Dec.{ltb, leb, eqb}
-use borrow.Author.Tests.{le-ltb, le-leb, eqb-true, ne-eqb, eq-eqb}
+use lib.Dec.{ltb, eqb}
+use borrow.Author.Tests.{le-ltb, le-leb, eqb-true}
 use Rattle.model.specs.Chip.{Image, Step, rightSize, run}
 use Rattle.model.specs.State.{View, state, view}
-use Rattle.model.specs.Answers.{Request, format, put, delete, read, readOr, recover, _when_, firstOf, isDamaged, isUnfinished, Work, workOf, codeUnder, Outcome, outcomeOf, ReadOutcome, readOutcome, pieceRead}
-use Rattle.model.specs.Histories.{Reply, bytesRead, replyOf, Seen, answered, lost, Proper, Does, wears, Event, History}
-use Rattle.model.specs.Sequences.{Call, Observed, observe, observed, InSequence, Uncut}
-use Rattle.model.specs.Mounted.{Places, leastPlaces, placesFrom, filledPlaces, unusable, MountOutcome, mountRefusals, mountOutcome, InStep, Writes, MountedRead}
+use Rattle.model.specs.Answers.{Request, format, put, delete, read, readOr, recover, _when_, firstOf, isDamaged, isUnfinished, workOf, codeUnder, Outcome, outcomeOf, ReadOutcome, readOutcome, pieceRead}
+use Rattle.model.specs.Histories.{Reply, bytesRead, replyOf, Seen, answered, lost, Does, Event, History}
+use Rattle.model.specs.Sequences.{Call, observe, observed, Uncut}
+use Rattle.model.specs.Mounted.{Places, leastPlaces, placesFrom, filledPlaces, MountOutcome, mountRefusals, mountOutcome, InStep, Writes}
 use Rattle.crash.specs.Requests.{read-idle}
 use Rattle.crash.specs.Theorem.{demand2}
 use Rattle.wear.specs.Sequence.{demand3}

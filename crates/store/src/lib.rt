@@ -3,7 +3,7 @@
 // Forms that document 01 names: the budget (its allowance) falls with each flash step, and `request` counts the steps by it;
 // block numbers, segment numbers and slot places are the three tuple structs of `model`; `let .. else` takes the clean
 // survey or the slot that was found, and all else is a refusal; `read_or` returns a part of either of two slices.
-mod check;
+pub mod check;
 mod erasing;
 mod look;
 

@@ -1,24 +1,23 @@
 -- The table of places that a view fills (request #102): entry by entry, and what making room, a put and a delete change of it.
 use Prim.Native.Nat.{ℕ, zero, suc, _+_, _-_, _*_, _≤_, _<_}
-use mathlib.Core.Path.{_≡_, refl, sym, ap, ap₂, _∙_}
-use mathlib.Core.Logic.{_≢_}
-use mathlib.Core.Bool.{Bool, true, false, cond, _||_, false≢true, true≢false}
+use mathlib.Core.Path.{_≡_, refl, sym, ap, _∙_}
+use mathlib.Core.Bool.{Bool, true, false, cond, _||_, true≢false}
 use mathlib.Core.List.{List, [], _∷_, _++_, flatMap, flatten, append-assoc, append-nil}
 use native.Mathlib.Omega.{arith}
 use lib.ListN.{length, getD, drop, replicate, length-append}
-use lib.Dec.{ltb, eqb}
-use borrow.Author.Tests.{ltb-true, ltb-false, ne-eqb, eq-eqb, eqb-true, eqb-false}
-use Rattle.model.specs.Slot.{Slot, empty, torn, dead, cut, wrong, live, entryOf}
-use Rattle.model.specs.State.{View, entries, entriesIn, holds, distinct, Place, slotFrom, placeFrom, placeOf}
-use Rattle.model.specs.Steps.{slotAt, topRow, topNumber, hasRoom, firstEmpty, copied, nextVersion, openNext, compactOldest, roomFor, compactions, newNumbers}
+use lib.Dec.{ltb}
+use borrow.Author.Tests.{ltb-false}
+use Rattle.model.specs.Slot.{Slot, empty, dead}
+use Rattle.model.specs.State.{View, entries, entriesIn, holds, distinct, Place, placeFrom, placeOf}
+use Rattle.model.specs.Steps.{slotAt, topNumber, hasRoom, copied, openNext, compactOldest, roomFor, compactions, newNumbers}
 use Rattle.model.specs.Mounted.{placeEntry}
 use Rattle.model.specs.Laws.Lists.{flatten-append, flatten-one}
 use Rattle.model.specs.Laws.Tables.{holds-append, copies-append, distinct-copies, held-copies}
 use Rattle.bridge.specs.Predicted.{CleanView}
 use Rattle.bridge.specs.Views.Slots.{entries-append, copied-entries, copied-none}
-use Rattle.bridge.specs.Views.Shape.{clean-distinct, rowAdded, opened-view}
-use Rattle.bridge.specs.Views.Room.{some-dead, compactions-length, room-made}
-use Rattle.bridge.specs.Views.Times.{compactTimes, Needs, After, after-times, room-times}
+use Rattle.bridge.specs.Views.Shape.{clean-distinct}
+use Rattle.bridge.specs.Views.Room.{some-dead, compactions-length}
+use Rattle.bridge.specs.Views.Times.{compactTimes, Needs, after-times, room-times}
 
 -- entry k, of rows whose numbers start at n
 unfoldable pub rowsEntry : ℕ → ℕ → ℕ → List (List Slot) → ℕ → ℕ

@@ -2,22 +2,22 @@
 use Prim.Native.Nat.{ℕ, zero, suc, _+_, _-_, _*_, _≤_, _<_}
 use mathlib.Core.Path.{_≡_, refl, sym, ap, _∙_}
 use mathlib.Core.Logic.{_≢_}
-use mathlib.Core.Bool.{Bool, true, false, cond, _||_, false≢true, or-true}
-use mathlib.Core.List.{List, [], _∷_, _++_, flatMap, flatten}
+use mathlib.Core.Bool.{Bool, true, false, cond, _||_, or-true}
+use mathlib.Core.List.{List, [], _∷_, _++_, flatten}
 use native.Mathlib.Decide.{ℕ-discrete}
 use native.Mathlib.Omega.{arith}
 use lib.ListN.{length, getD, set}
 use lib.Seq.{getD-set-same, getD-set-other}
 use lib.Dec.{eqb}
 use borrow.Author.Tests.{ne-eqb, eq-eqb}
-use Rattle.model.specs.Slot.{Slot, empty, torn, dead, cut, wrong, live, entryOf}
+use Rattle.model.specs.Slot.{Slot, empty, dead, live, entryOf}
 use Rattle.model.specs.State.{View, entries, entriesIn, holds, copies, distinct, Place, slotFrom, placeFrom, placeOf}
 use Rattle.model.specs.Steps.{slotAt, topRow, topNumber, hasRoom, firstEmpty}
 use Rattle.model.specs.Mounted.{placeEntry}
 use Rattle.model.specs.Laws.Tables.{holds-append, copies-append, distinct-copies, held-copies, copies-absent, copies-without-same, stored-last-distinct}
 use Rattle.bridge.specs.Predicted.{slotChanged, written, marked, putInto, afterDelete, CleanView}
 use Rattle.bridge.specs.Views.Slots.{entries-append, entries-cons}
-use Rattle.bridge.specs.Views.Places.{Gap, fill, FirstLive, first-live, TopGap, InView, in-view, gap-slot, fill-length, marked-at, written-at, written-place, written-holds}
+use Rattle.bridge.specs.Views.Places.{Gap, fill, TopGap, in-view, gap-slot, fill-length, marked-at, written-at, written-place, written-holds}
 use Rattle.bridge.specs.Views.Shape.{clean-shape, shape-gap, clean-distinct, first-live-in}
 use Rattle.bridge.specs.Views.Requests.{stored, deleted-entries}
 use Rattle.bridge.specs.Views.Entries.{rowsEntry, view-entry, entry-append}

@@ -1,0 +1,145 @@
+// The mounted form of the requests (request #102): a table of places, lent by the caller and filled once from a clean image,
+// takes the place of the pass over the image. Nothing is required of a caller: what a call may do with a table that is not
+// the image's stands in its contract.
+//
+// The form that document 01 names for it: a `&mut [u32]` kept equal to the scan's answers by put and delete.
+use model::Answer;
+use model::BlockNumber;
+use model::Located;
+use model::Performed;
+use places::Entry;
+use places::LEAST_PLACES;
+use scan::Surveyed;
+ghost use mathlib.Core.Path.{_≡_};
+ghost use mathlib.Core.Bool.{true};
+ghost use Prim.Native.Nat.{_<_, _≤_};
+ghost use lib.ListN.{length};
+ghost use Rattle.model.specs.Answers.{codeOf, performed, located};
+ghost use Rattle.model.specs.Mounted.{leastPlaces, mountedAs, mountOutcome, mountedRefusal, MountedDelete, MountedRead};
+ghost use Rattle.mounted.specs.Noted.{noted};
+
+// Fills a table of places from a clean image.
+pub fn mount(image: &[u8], segments: usize, slots: usize, places: &mut [u32]) -> Answer
+    ensures { λ r. ⌜ mountedAs r (now (places .exit)) ≡ mountOutcome segments slots (now (image .entry)) (now (places .entry)) ⌝ }
+{
+    if !request::right_size(image.len(), segments, slots) {
+        return Answer::Size;
+    }
+    if places.len() < LEAST_PLACES {
+        return Answer::ShortTable;
+    }
+    let surveyed = scan::survey(image, segments, slots);
+    let Surveyed::Clean {
+        first,
+        used,
+        live: _,
+        free: _,
+        compactions: _,
+    } = surveyed
+    else {
+        places[0] = 0;
+        return store::check::state_answer(surveyed);
+    };
+    places::fill(image, segments, slots, first, used, places);
+    Answer::Done
+}
+
+// What refuses a mounted call whatever the table says of the image: 1, 10, 2, 3, and 5 for a table that is not usable.
+fn refusal(
+    image: &[u8],
+    segments: usize,
+    slots: usize,
+    places: &[u32],
+    block: BlockNumber,
+    taken: bool,
+) -> Answer
+    ensures { λ r. ⌜ codeOf r ≡ mountedRefusal segments slots (now (image .entry)) (now (places .entry)) (block .0) taken ⌝ }
+{
+    if !request::right_size(image.len(), segments, slots) {
+        return Answer::Size;
+    }
+    if places.len() < LEAST_PLACES {
+        return Answer::ShortTable;
+    }
+    if !request::number_ok(block) {
+        return Answer::Number;
+    }
+    if !taken {
+        return Answer::Length;
+    }
+    if places[0] != 1 {
+        return Answer::Unfinished;
+    }
+    Answer::Done
+}
+
+// Where a block's contents are in the image: two entries of the table and the slot's length are looked at.
+pub fn read(image: &[u8], segments: usize, slots: usize, places: &[u32], block: BlockNumber) -> Located
+    ensures { λ r. ⌜ MountedRead segments slots (block .0) (located r) (now (image .entry)) (now (places .entry)) ⌝ }
+{
+    let refused = refusal(image, segments, slots, places, block, true);
+    let Answer::Done = refused else {
+        return nowhere(refused);
+    };
+    let entry = places::look_up(image, slots, places, block);
+    match entry {
+        Entry::At(place, length) => Located {
+            answer: Answer::Done,
+            offset: place.0 + 8,
+            length,
+        },
+        Entry::Absent => nowhere(Answer::Absent),
+        Entry::Stale => nowhere(Answer::Damaged),
+    }
+}
+
+// A read that is refused tells no place.
+fn nowhere(answer: Answer) -> Located
+    ensures { λ r. ⌜ (r .answer ≡ answer) × (r .offset ≡ 0) × (r .length ≡ 0) ⌝ }
+{
+    Located {
+        answer,
+        offset: 0,
+        length: 0,
+    }
+}
+
+// The table after steps were taken for a block: its entry is the slot's place, or 0; but a table is not usable once a call
+// was cut.
+fn note(places: &mut [u32], block: BlockNumber, place: usize, done: Performed)
+    requires { ⌜ (leastPlaces ≤ length (now places)) × (place < 4294967296) ⌝ }
+    ensures { λ _. ⌜ now (places .exit) ≡ noted (now (places .entry)) (block .0) place (codeOf (done .answer)) ⌝ }
+{
+    if request::code_of(done.answer) == 0 {
+        places[block.0 as usize] = place as u32;
+        return;
+    }
+    places[0] = 0;
+}
+
+// Deletes a block: its slot is marked dead where the table says it is, and its entry is 0.
+pub fn delete(
+    image: &mut [u8],
+    segments: usize,
+    slots: usize,
+    places: &mut [u32],
+    block: BlockNumber,
+    budget: u64,
+) -> Performed
+    ensures { λ r. ⌜ MountedDelete segments slots (block .0) budget (performed r (now (image .exit))) (now (image .entry)) (now (places .entry)) (now (places .exit)) ⌝ }
+{
+    let refused = refusal(&image[..], segments, slots, &places[..], block, true);
+    let Answer::Done = refused else {
+        return request::refused(refused);
+    };
+    let entry = places::look_up(&image[..], slots, &places[..], block);
+    match entry {
+        Entry::At(place, _) => {
+            let done = mend::mark_slot(image, place, budget);
+            note(places, block, 0, done);
+            done
+        }
+        Entry::Absent => request::refused(Answer::Absent),
+        Entry::Stale => request::refused(Answer::Damaged),
+    }
+}
