@@ -28,8 +28,9 @@ use Rattle.flash.proofs.Pages.{sized}
 use Rattle.room.specs.declared.Plan.{Plan}
 use Rattle.room.specs.declared.Room as rooms
 use Rattle.request.specs.Request.{Finished}
-use Rattle.room.specs.Room.{Planned, Roomed}
-use Rattle.put.specs.Writing.{Accepted, Ready, lastSteps, Wrote}
+use Rattle.room.specs.Room.{Planned, Writable, Roomed}
+use Rattle.put.specs.Writing.{Accepted, Ready, lastSteps, lastStepsAt, Wrote}
+use Rattle.put.proofs.Laws.LastSteps.{last-steps}
 use Rattle.bridge.specs.Lengths.{page-length, write-length}
 use Rattle.request.proofs.Answered.{carried, carried-outcome}
 use Rattle.bridge.specs.Refusals.{put-accepted}
@@ -44,6 +45,10 @@ module _ (N B : ℕ) (p : Plan) (total : ℕ) (f : Found) (b : ℕ) (c : List �
 
   abbrev room : Room
   room = roomFor N B v
+
+  -- so room is made as the definition says (`Worked.exact`)
+  pub accepted-writable : Writable N B p total s
+  accepted-writable = record { plan = k; bytes = a .put .bytes; second = a .second; fresh = a .fresh; tally = a .tally }
 
   accepted-code : refusal N B s (put b c) ≡ 0
   accepted-code = put-accepted N B s (k .size) b c (a .put .number) (a .put .taken) (a .second) (k .state) (a .space) (a .fresh)
@@ -131,9 +136,9 @@ module _ (N B : ℕ) (p : Plan) (total : ℕ) (f : Found) (b : ℕ) (c : List �
           left = ran-left (d .ran);
         }
 
-    pub put-done : {u : Image} {q : Performed} → Wrote N B b c budget (r .left) q t u → performed q u ≡ outcomeOf N B s budget (put b c)
-    put-done {u} {q} w =
+    pub put-done : (o : Found) → o ≡ foundIn N B (r .first .0) (rowsAt N B t (r .used) (r .first .0)) b → {u : Image} {q : Performed} → Wrote N B r o b c budget q t u → performed q u ≡ outcomeOf N B s budget (put b c)
+    put-done o e {u} {q} w =
         let ys = lastSteps N B b c (room .result) in
-        let same : lastSteps N B b c (view N B t) ≡ ys = ap (lastSteps N B b c) (room-made-held .view) in
+        let same : lastStepsAt N B r o b c ≡ ys = last-steps N B r o b c budget t (room-ready o e) ∙ ap (lastSteps N B b c) (room-made-held .view) in
         carried-outcome N B s budget (put b c) (room .steps) ys accepted-code accepted-steps (last-some (room .result))
         (carried (room .steps) ys (_then_ (d .ran) (rw same at (w .ran))) (d .ran .rest) refl (rw same at (w .finished)))

@@ -2,7 +2,6 @@
 use native.Mathlib.Omega.{arith}
 use mathlib.Core.Path.{refl}
 use denote.Ref.{now}
-use Rattle.flash.proofs.Laws.{ran-length}
 use Rattle.room.proofs.Laws.{worked-there, worked-opened}
 use borrow.Author.Needs.{needs}
 use Rattle.room.proofs.make_room.Statement.{statement}
