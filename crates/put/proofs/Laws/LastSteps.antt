@@ -1,12 +1,12 @@
 -- Laws of the last steps of a put: the slot is written, and then the old one is marked. On a clean image they are those of the definition.
 use Prim.Native.Nat.{ℕ, _+_, _-_, _*_, _%_, _≤_, _<_}
-use mathlib.Core.Path.{_≡_, refl, sym, ap₂, _∙_, subst}
-use mathlib.Core.List.{List, [], _++_, append-nil}
+use mathlib.Core.Path.{_≡_, refl, ap₂, _∙_, subst}
+use mathlib.Core.List.{List, _++_, append-nil}
 use native.Mathlib.Nat.{mod-lt, mul-le-mul-right, suc-mul}
 use native.Mathlib.Omega.{arith}
 use lib.ListN.{length, length-append}
 use Rattle.model.specs.Chip.{Image}
-use Rattle.model.specs.State.{View, entriesIn, holds, placeOf, view}
+use Rattle.model.specs.State.{View, placeOf, view}
 use Rattle.model.specs.Steps.{onPage, slotAt, writeSlot, markDead, markPlace, topNumber, writeAtTop, markOld}
 use Rattle.model.specs.declared.Performed.{Performed}
 use Rattle.model.specs.declared.SlotPlace.{SlotPlace}

@@ -1,7 +1,7 @@
 -- Laws of an accepted put: the image once room was made, and the whole list.
-use Prim.Native.Nat.{ℕ, _+_, _-_, _≤_, _<_}
+use Prim.Native.Nat.{ℕ, _+_, _-_, _*_, _≤_, _<_}
 use mathlib.Core.Path.{_≡_, refl, sym, ap, _∙_}
-use mathlib.Core.Bool.{true, false}
+use mathlib.Core.Bool.{true, false, cond}
 use mathlib.Core.List.{List, _++_}
 use native.Mathlib.Omega.{arith}
 use lib.ListN.{length, length-append}
@@ -9,8 +9,9 @@ use lib.Dec.{ltb, leb}
 use borrow.Author.Tests.{lt-ltb, ltb-true, leb-false}
 use Rattle.model.specs.Chip.{Image, numberLimit, run}
 use Rattle.model.specs.Slot.{mostContents}
-use Rattle.model.specs.State.{segmentsOf, View, view, clean, state}
+use Rattle.model.specs.State.{segmentsOf, View, entriesIn, holds, placeOf, view}
 use Rattle.model.specs.Steps.{onPage, slotAt, writeSlot, writeAtTop, markOld, topRow, topNumber, hasRoom, firstEmpty, Room, roomFor, newNumbers, putSteps}
+use Rattle.model.specs.Table.{lookup, contentsFound}
 use Rattle.model.specs.Answers.{put, stepsFor, performed, outcomeOf}
 use Rattle.model.specs.declared.Performed.{Performed}
 use Rattle.model.specs.Laws.Chip.{size-facts}
@@ -20,7 +21,8 @@ use Rattle.bridge.specs.Requests.{held-below, room-held}
 use Rattle.bridge.specs.Views.Room.{Made, room-made}
 use Rattle.bridge.specs.Views.Requests.{room-numbered, worn-carries}
 use Rattle.find.specs.declared.Found.{Found}
-use Rattle.find.specs.Search.{rowsAt, foundIn}
+use Rattle.find.specs.declared.Found.the-variants.{At, Nothing}
+use Rattle.find.specs.Search.{rowsAt, foundIn, held-found}
 use Rattle.flash.specs.Ran.{Ran}
 use Rattle.flash.proofs.Laws.{_then_, ran-spent, ran-left, whole-run}
 use Rattle.flash.specs.Pages.{Sized}
@@ -120,6 +122,12 @@ module _ (N B : ℕ) (p : Plan) (total : ℕ) (f : Found) (b : ℕ) (c : List �
         let ef : r .first .0 ≡ p .first .0 = d .first ∙ rw x (sym (k .first)) in
         let eu : r .used ≡ p .used = d .used ∙ rw x (sym (k .used)) in
         rw (same, ef, eu) (a .found h)
+
+    -- what a search finds once room was made, by the view
+    pub room-found : foundIn N B (r .first .0) (rowsAt N B t (r .used) (r .first .0)) b
+        ≡ cond (holds b (entriesIn (roomFor N B (view N B s) .result)))
+        (At (record { 0 = slotAt N B (placeOf b (roomFor N B (view N B s) .result) .number) (placeOf b (roomFor N B (view N B s) .result) .slot) * 256 }) (length (contentsFound (lookup b (entriesIn (roomFor N B (view N B s) .result)))))) Nothing
+    room-found = rw (d .first, d .used) (held-found N B t (room .result) b room-made-held)
 
     pub room-ready : (o : Found) → o ≡ foundIn N B (r .first .0) (rowsAt N B t (r .used) (r .first .0)) b → Ready N B r o b c budget t
     room-ready o e =

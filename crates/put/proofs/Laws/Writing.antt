@@ -13,7 +13,7 @@ use borrow.Author.Tests.{lt-ltb, le-ltb, leb-false, ltb-false}
 use Rattle.model.specs.Chip.{Image, eraseLimit, rightSize}
 use Rattle.model.specs.Header.{isFormer, tallyOf, noBitLeft, headerVersion}
 use Rattle.model.specs.State.{segmentsOf, nextNumber, View, viewOf, entriesIn, capacity, view}
-use Rattle.model.specs.Steps.{topNumber, hasRoom, compactions, newNumbers, isWorn}
+use Rattle.model.specs.Steps.{topNumber, compactions, newNumbers, isWorn}
 use Rattle.model.specs.Answers.{codeOf, put, isFull}
 use Rattle.model.specs.Laws.Chip.{size-facts}
 use Rattle.model.specs.declared.Answer.{Answer}
