@@ -15,7 +15,7 @@ use Rattle.find.specs.declared.Found.{Found}
 use Rattle.find.specs.declared.Found.the-variants.{At, Nothing}
 use Rattle.find.proofs.Callers.{Inside, found-inside, FoundAt, found-at, found-nothing}
 use Rattle.flash.specs.Ran.{Ran, shifted}
-use Rattle.flash.proofs.Laws.{_then_, ran-length, ran-left, shifted-page}
+use Rattle.flash.proofs.Laws.{_then_, shifted-page}
 use Rattle.flash.specs.Pages.{OnPageAt}
 use Rattle.flash.proofs.Pages.{in-page, sized}
 use Rattle.room.specs.declared.Room.{Room}
@@ -44,12 +44,6 @@ module _ (N B : ℕ) (r : Room) (f : Found) (b : ℕ) (c : List ℕ) (budget : �
     ran-top : Ran (onPage page (writeSlot b c)) B (r .left) written t w
     ran-top = in-page at page (writeSlot b c) e d B
 
-    pub write-left : written ≤ r .left
-    write-left = ran-left ran-top
-
-    pub write-size : length w ≡ length t
-    write-size = ran-length ran-top
-
     -- nothing to mark
     pub wrote-new : {p : Performed} → f ≡ Nothing → Finished budget written (r .left) (5 + length c) p → Wrote N B r f b c budget p t w
     unfolding lastStepsAt markFound
@@ -61,9 +55,6 @@ module _ (N B : ℕ) (r : Room) (f : Found) (b : ℕ) (c : List ℕ) (budget : �
 
     -- and then the old slot
     module _ (q : SlotPlace) (n : ℕ) (o : f ≡ At q n) (left : ℕ) {x : Image} (g : OnPageAt (q .0) markDead written left w x) where
-      pub mark-left : left ≤ written
-      mark-left = ran-left (g B)
-
       mark-length : length (shifted (q .0) markDead) ≡ 1
       unfolding shifted markDead
       mark-length = refl

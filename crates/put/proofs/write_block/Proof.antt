@@ -1,7 +1,8 @@
 -- `put::write_block` takes the last steps of a put, on any image. Assumes nothing.
 use native.Mathlib.Omega.{arith}
 use denote.Ref.{now}
-use Rattle.put.proofs.Laws.LastSteps.{place-inside, old-inside, write-left, write-size, wrote-new, mark-left, wrote-old}
+use Rattle.flash.proofs.Laws.{ran-length, ran-left}
+use Rattle.put.proofs.Laws.LastSteps.{place-inside, old-inside, wrote-new, wrote-old}
 use borrow.Author.Needs.{needs}
 use Rattle.put.proofs.write_block.Statement.{statement}
 use Rattle.put.proofs.write_block.Tie as tie
@@ -30,7 +31,7 @@ finished-requires : tie.Need-finished-requires
 finished-requires c κs =
     let x = c .before .before .before .before .before .before .before .before .before in
     let a = x .args in
-    omega (arith, x .pre .left, write-left (a .segments) (a .slots) (a .room) (a .old) (a .block .0) (now (a .contents)) (a .budget) (now (a .image)) (x .pre) _ _ (c .before .before .before .before .before .before .free-place .ensures) (c .before .before .before .before .write-slot .ensures))
+    omega (arith, x .pre .left, ran-left (c .before .before .before .before .write-slot .ensures (a .slots)))
 
 same-length : tie.Need-same-length
 same-length c = search needs
@@ -48,7 +49,7 @@ mark-dead-requires c κs =
     omega (
       arith,
       old-inside (a .segments) (a .slots) (a .room) (a .old) (a .block .0) (now (a .contents)) (a .budget) (now (a .image)) (x .pre) _ _ (c .before .before .old .given .1),
-      write-size (a .segments) (a .slots) (a .room) (a .old) (a .block .0) (now (a .contents)) (a .budget) (now (a .image)) (x .pre) _ _ (c .before .before .before .before .before .before .before .before .free-place .ensures) (c .before .before .before .before .before .before .write-slot .ensures),
+      ran-length (c .before .before .before .before .before .before .write-slot .ensures (a .slots)),
     )
 
 add-finished : tie.Need-add-finished
@@ -61,8 +62,8 @@ finished-requires-2 c κs =
     omega (
       arith,
       x .pre .left,
-      write-left (a .segments) (a .slots) (a .room) (a .old) (a .block .0) (now (a .contents)) (a .budget) (now (a .image)) (x .pre) _ _ (c .before .before .before .before .before .before .before .before .before .before .before .free-place .ensures) (c .before .before .before .before .before .before .before .before .before .write-slot .ensures),
-      mark-left (a .segments) (a .slots) (a .room) (a .old) (a .block .0) (now (a .contents)) (a .budget) (now (a .image)) (x .pre) _ _ (c .before .before .before .before .before .before .before .before .before .before .before .free-place .ensures) (c .before .before .before .before .before .before .before .before .before .write-slot .ensures) _ _ (c .before .before .before .before .before .old .given .1) _ (c .before .before .mark-dead .ensures),
+      ran-left (c .before .before .before .before .before .before .before .before .before .write-slot .ensures (a .slots)),
+      ran-left (c .before .before .mark-dead .ensures (a .slots)),
     )
 
 same-length-2 : tie.Need-same-length-2
