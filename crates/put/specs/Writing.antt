@@ -1,15 +1,15 @@
--- A put on a clean image: what it is refused for, and its parts.
+-- A put: what it is refused for on a clean image, and its parts.
 use Prim.Native.Nat.{ℕ, _+_, _-_, _/_, _≤_, _<_}
 use mathlib.Core.Path.{_≡_}
 use mathlib.Core.Bool.{Bool, true, false, cond, _||_, _&&_, not}
-use mathlib.Core.List.{List, _++_}
+use mathlib.Core.List.{List, [], _++_}
 use lib.ListN.{length}
 use lib.Dec.{ltb, leb}
 use Rattle.model.specs.Chip.{Image, Bytes, Step, mostSegments, eraseLimit, rightSize}
 use Rattle.model.specs.Header.{isFormer, tallyOf}
 use Rattle.model.specs.Slot.{numberOk}
 use Rattle.model.specs.State.{View, view, capacity, clean, state}
-use Rattle.model.specs.Steps.{topRow, firstEmpty, writeAtTop, markOld, isWorn}
+use Rattle.model.specs.Steps.{onPage, slotAt, writeSlot, markDead, topRow, firstEmpty, writeAtTop, markOld, isWorn}
 use Rattle.model.specs.Answers.{lengthOk, isFull}
 use Rattle.model.specs.declared.Answer.{Answer}
 use Rattle.model.specs.declared.Answer.the-variants.{Done, Full, Worn}
@@ -17,7 +17,8 @@ use Rattle.model.specs.declared.Performed.{Performed}
 use Rattle.find.specs.declared.Found.{Found}
 use Rattle.find.specs.declared.Found.the-variants.{At, Nothing}
 use Rattle.find.specs.Search.{rowsAt, foundIn}
-use Rattle.flash.specs.Ran.{Ran}
+use Rattle.flash.specs.Ran.{Ran, shifted}
+use Rattle.flash.specs.Pages.{Sized}
 use Rattle.tally.specs.declared.Tally.{Tally}
 use Rattle.room.specs.declared.Plan.{Plan}
 use Rattle.room.specs.declared.Room.{Room}
@@ -43,18 +44,18 @@ newNumbersBy N p = cond (ltb (p .used) (N - 1)) 1 (p .compactions)
 unfoldable pub wornBy : ℕ → ℕ → Plan → Tally → Bool
 wornBy N B p t = not (ltb (p .slot) B) && (t .«no_bit_left» || leb eraseLimit ((p .first .0 + p .used - 1 + newNumbersBy N p) / N + t .count))
 
--- a put of a block that was found or not is refused as full
-unfoldable pub fullBy : ℕ → ℕ → Plan → Found → Bool
-fullBy N B p (At q n) = false
-fullBy N B p Nothing = leb (capacity N B) (p .live)
+-- a put of a block that was found or not is refused as full, with so many slots live
+unfoldable pub fullBy : ℕ → ℕ → ℕ → Found → Bool
+fullBy N B live (At q n) = false
+fullBy N B live Nothing = leb (capacity N B) live
 
 -- the answer but for a cut, on an image of version 2
-unfoldable pub answerFor : ℕ → ℕ → Plan → Tally → Found → Answer
-answerFor N B p t f = cond (fullBy N B p f) Full (cond (wornBy N B p t) Worn Done)
+unfoldable pub answerFor : ℕ → ℕ → Plan → ℕ → Tally → Found → Answer
+answerFor N B p live t f = cond (fullBy N B live f) Full (cond (wornBy N B p t) Worn Done)
 
 -- where a block's slot is, if that is asked before room is made
-unfoldable pub foundBefore : ℕ → ℕ → Plan → Image → ℕ → Found
-foundBefore N B p s b = cond (ltb (p .slot) B || leb (capacity N B) (p .live)) (foundIn N B (p .first .0) (rowsAt N B s (p .used) (p .first .0)) b) Nothing
+unfoldable pub foundBefore : ℕ → ℕ → Plan → ℕ → Image → ℕ → Found
+foundBefore N B p live s b = cond (ltb (p .slot) B || leb (capacity N B) live) (foundIn N B (p .first .0) (rowsAt N B s (p .used) (p .first .0)) b) Nothing
 
 -- ---- what each part of a put wants to know of the image
 
@@ -64,14 +65,14 @@ pub record Puttable (N B : ℕ) (p : Plan) (b : ℕ) (c : List ℕ) (s : Image) 
   pub number : numberOk b ≡ true
   pub taken : lengthOk (length c) ≡ true
 
--- not refused. The search was made at least where nothing will move
+-- not refused. The search was made at least where nothing will move, and the tally is right at least where there will be a new header
 pub record Accepted (N B : ℕ) (p : Plan) (total : ℕ) (f : Found) (b : ℕ) (c : List ℕ) (s : Image) : Type 0 where
   pub put : Puttable N B p b c s
   pub second : isFormer (view N B s .version) ≡ false
   pub found : leb B (p .slot) ≡ false → f ≡ foundIn N B (p .first .0) (rowsAt N B s (p .used) (p .first .0)) b
   pub space : isFull N B b (view N B s) ≡ false
   pub fresh : isWorn N (view N B s) ≡ false
-  pub tally : total ≡ tallyOf (view N B s .version)
+  pub tally : B ≤ p .slot → total ≡ tallyOf (view N B s .version)
 
 -- room is made, and the old slot is searched
 pub record Ready (N B : ℕ) (r : Room) (f : Found) (b : ℕ) (c : List ℕ) (budget : ℕ) (s : Image) : Type 0 where
@@ -89,7 +90,33 @@ pub record Ready (N B : ℕ) (r : Room) (f : Found) (b : ℕ) (c : List ℕ) (bu
 unfoldable pub lastSteps : ℕ → ℕ → ℕ → List ℕ → View → List Step
 lastSteps N B b c v = writeAtTop N B b c v ++ markOld N B b v
 
-pub record Wrote (N B b : ℕ) (c : List ℕ) (budget before : ℕ) (p : Performed) (from to : Image) : Type 0 where
+-- ---- the last steps on any image
+
+-- an old slot begins inside the image
+abbrev pub OldInside : Found → ℕ → Type 0
+OldInside (At q n) bytes = q .0 < bytes
+OldInside Nothing bytes = Unit {0}
+
+-- what writing a slot and marking an old one ask for, whatever the image
+pub record Placed (N B : ℕ) (r : Room) (f : Found) (c : List ℕ) (budget bytes : ℕ) : Type 0 where
+  pub sized : Sized N B bytes
+  pub some : 1 ≤ r .used
+  pub few : r .used ≤ mostSegments
+  pub room : r .slot < B
+  pub old : OldInside f bytes
+  pub short : length c ≤ 248
+  pub left : r .left ≤ budget
+
+-- the old slot marked, if there is one
+unfoldable pub markFound : Found → List Step
+markFound (At q n) = shifted (q .0) markDead
+markFound Nothing = []
+
+-- the last steps by what was found out: where the slot is free, and where the old one is
+unfoldable pub lastStepsAt : ℕ → ℕ → Room → Found → ℕ → List ℕ → List Step
+lastStepsAt N B r f b c = onPage (slotAt N B (r .first .0 + r .used - 1) (r .slot)) (writeSlot b c) ++ markFound f
+
+pub record Wrote (N B : ℕ) (r : Room) (f : Found) (b : ℕ) (c : List ℕ) (budget : ℕ) (p : Performed) (from to : Image) : Type 0 where
   pub left : ℕ
-  pub ran : Ran (lastSteps N B b c (view N B from)) B before left from to
-  pub finished : Finished budget left before (length (lastSteps N B b c (view N B from))) p
+  pub ran : Ran (lastStepsAt N B r f b c) B (r .left) left from to
+  pub finished : Finished budget left (r .left) (length (lastStepsAt N B r f b c)) p

@@ -1,4 +1,4 @@
-// A put on a clean image.
+// A put on a clean image. Its last parts hold on any.
 use find::Found;
 use model::Answer;
 use model::BlockNumber;
@@ -13,12 +13,13 @@ ghost use mathlib.Core.Path.{_≡_};
 ghost use mathlib.Core.Bool.{false};
 ghost use Prim.Native.Nat.{_+_, _-_, _*_, _≤_, _<_};
 ghost use lib.ListN.{length};
-ghost use Rattle.model.specs.Chip.{mostSegments};
+ghost use Rattle.model.specs.Chip.{mostSegments, mostSlots};
+ghost use Rattle.model.specs.State.{entriesIn, view};
 ghost use Rattle.model.specs.Steps.{slotAt};
 ghost use Rattle.model.specs.Answers.{performed, outcomeOf, put};
 ghost use Rattle.find.specs.Search.{rowsAt, foundIn};
 ghost use Rattle.flash.specs.Pages.{Sized};
-ghost use Rattle.put.specs.Writing.{Ranged, newNumbersBy, wornBy, fullBy, answerFor, foundBefore, Puttable, Accepted, Ready, Wrote};
+ghost use Rattle.put.specs.Writing.{Ranged, newNumbersBy, wornBy, fullBy, answerFor, foundBefore, Puttable, Accepted, Placed, Wrote};
 
 // The steps that write a slot, besides one for each byte of contents.
 const SLOT_STEPS: u64 = 5;
@@ -44,7 +45,7 @@ fn new_numbers(segments: usize, plan: Plan) -> usize
 
 // Whether room for a put would wear the chip: a new header is needed, and the top's has no bit left, or the erases by number
 // and by the tally reach the limit. It is found out before the first step.
-fn is_worn(segments: usize, slots: usize, plan: Plan, tally: Tally) -> bool
+pub fn is_worn(segments: usize, slots: usize, plan: Plan, tally: Tally) -> bool
     requires { ⌜ Ranged segments slots plan × (plan .first .0 + plan .used ≤ 4294967296) × (tally .count < 4294969344) ⌝ }
     ensures { λ r. ⌜ r ≡ wornBy segments slots plan tally ⌝ }
 {
@@ -60,25 +61,32 @@ fn is_worn(segments: usize, slots: usize, plan: Plan, tally: Tally) -> bool
 }
 
 // Whether a put of a block that is not stored finds as many slots live as may be.
-fn is_full(segments: usize, slots: usize, plan: Plan, found: Found) -> bool
-    requires { ⌜ Ranged segments slots plan ⌝ }
-    ensures { λ r. ⌜ r ≡ fullBy segments slots plan found ⌝ }
+fn is_full(segments: usize, slots: usize, live: usize, found: Found) -> bool
+    requires { ⌜ (2 ≤ segments) × (segments ≤ mostSegments) × (2 ≤ slots) × (slots ≤ mostSlots) ⌝ }
+    ensures { λ r. ⌜ r ≡ fullBy segments slots live found ⌝ }
 {
     let Found::Nothing = found else {
         return false;
     };
-    request::capacity(segments, slots) <= plan.live
+    request::capacity(segments, slots) <= live
 }
 
 // Where a block's slot is, if it has to be known before room is made: where nothing will move, or where the answer turns on
 // it. Else a pass over all slots is saved. `Found::Nothing` is harmless there: below capacity the answer does not turn on
 // it, and `old_slot` searches once room was made.
-fn slot_before(image: &[u8], segments: usize, slots: usize, plan: Plan, block: BlockNumber) -> Found
+fn slot_before(
+    image: &[u8],
+    segments: usize,
+    slots: usize,
+    plan: Plan,
+    live: usize,
+    block: BlockNumber,
+) -> Found
     requires { ⌜ Ranged segments slots plan × Sized segments slots (length (now image)) × (plan .first .0 + plan .used ≤ 4294967296) ⌝ }
-    ensures { λ r. ⌜ r ≡ foundBefore segments slots plan (now (image .entry)) (block .0) ⌝ }
+    ensures { λ r. ⌜ r ≡ foundBefore segments slots plan live (now (image .entry)) (block .0) ⌝ }
 {
     if slots <= plan.slot {
-        if plan.live < request::capacity(segments, slots) {
+        if live < request::capacity(segments, slots) {
             return Found::Nothing;
         }
     }
@@ -86,11 +94,18 @@ fn slot_before(image: &[u8], segments: usize, slots: usize, plan: Plan, block: B
 }
 
 // The answer of a put on a clean image of version 2, but for a cut.
-fn put_answer(segments: usize, slots: usize, plan: Plan, tally: Tally, found: Found) -> Answer
+fn put_answer(
+    segments: usize,
+    slots: usize,
+    plan: Plan,
+    live: usize,
+    tally: Tally,
+    found: Found,
+) -> Answer
     requires { ⌜ Ranged segments slots plan × (plan .first .0 + plan .used ≤ 4294967296) × (tally .count < 4294969344) ⌝ }
-    ensures { λ r. ⌜ r ≡ answerFor segments slots plan tally found ⌝ }
+    ensures { λ r. ⌜ r ≡ answerFor segments slots plan live tally found ⌝ }
 {
-    if is_full(segments, slots, plan, found) {
+    if is_full(segments, slots, live, found) {
         return Answer::Full;
     }
     if is_worn(segments, slots, plan, tally) {
@@ -119,7 +134,7 @@ fn old_slot(
 }
 
 // The place of the first empty slot of the top.
-fn free_place(segments: usize, slots: usize, room: Room) -> SlotPlace
+pub fn free_place(segments: usize, slots: usize, room: Room) -> SlotPlace
     requires { ⌜ (0 < segments) × (segments ≤ 255) × (slots ≤ 255) × (room .slot < slots) × (1 ≤ room .used) × (room .used ≤ 255) ⌝ }
     ensures { λ r. ⌜ r .0 ≡ slotAt segments slots (room .first .0 + room .used - 1) (room .slot) * 256 ⌝ }
 {
@@ -128,7 +143,7 @@ fn free_place(segments: usize, slots: usize, room: Room) -> SlotPlace
 }
 
 // Writes the slot, and only then marks the old one.
-fn write_block(
+pub fn write_block(
     image: &mut [u8],
     segments: usize,
     slots: usize,
@@ -138,8 +153,8 @@ fn write_block(
     contents: &[u8],
     budget: u64,
 ) -> Performed
-    requires { ⌜ Ready segments slots room old (block .0) (now contents) budget (now image) ⌝ }
-    ensures { λ r. ⌜ Wrote segments slots (block .0) (now (contents .entry)) budget (room .left) r (now (image .entry)) (now (image .exit)) ⌝ }
+    requires { ⌜ Placed segments slots room old (now contents) budget (length (now image)) ⌝ }
+    ensures { λ r. ⌜ Wrote segments slots room old (block .0) (now (contents .entry)) budget r (now (image .entry)) (now (image .exit)) ⌝ }
 {
     let before = room.left;
     let steps = SLOT_STEPS + contents.len() as u64;
@@ -164,7 +179,7 @@ fn put_accepted(
     contents: &[u8],
     budget: u64,
 ) -> Performed
-    requires { ⌜ Accepted segments slots plan total found (block .0) (now contents) (now image) ⌝ }
+    requires { ⌜ Accepted segments slots plan total found (block .0) (now contents) (now image) × (plan .compactions ≤ plan .used) ⌝ }
     ensures { λ r. ⌜ performed r (now (image .exit)) ≡ outcomeOf segments slots (now (image .entry)) budget (put (block .0) (now (contents .entry))) ⌝ }
 {
     let room = room::make_room(image, segments, slots, plan, total, budget);
@@ -176,25 +191,26 @@ fn put_accepted(
     write_block(image, segments, slots, room, old, block, contents, budget)
 }
 
-// A put on a clean image. One of version 1 takes none.
+// A put on a clean image, of which so many slots are live. One of version 1 takes none.
 pub fn put_clean(
     image: &mut [u8],
     segments: usize,
     slots: usize,
     plan: Plan,
+    live: usize,
     block: BlockNumber,
     contents: &[u8],
     budget: u64,
 ) -> Performed
-    requires { ⌜ Puttable segments slots plan (block .0) (now contents) (now image) ⌝ }
+    requires { ⌜ Puttable segments slots plan (block .0) (now contents) (now image) × (live ≡ length (entriesIn (view segments slots (now image)))) × (plan .compactions ≤ plan .used) ⌝ }
     ensures { λ r. ⌜ performed r (now (image .exit)) ≡ outcomeOf segments slots (now (image .entry)) budget (put (block .0) (now (contents .entry))) ⌝ }
 {
     let tally = tally::tally_in(&image[..], segments, slots, top_number(plan));
     if tally.former {
         return request::refused(Answer::FormerVersion);
     }
-    let found = slot_before(&image[..], segments, slots, plan, block);
-    let answer = put_answer(segments, slots, plan, tally, found);
+    let found = slot_before(&image[..], segments, slots, plan, live, block);
+    let answer = put_answer(segments, slots, plan, live, tally, found);
     let Answer::Done = answer else {
         return request::refused(answer);
     };

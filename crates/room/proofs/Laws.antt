@@ -1,8 +1,9 @@
--- Laws of room for a put: the top has an empty slot or not, the numbers stay small, and the loop of compactions does the steps of the definition.
+-- Laws of room for a put: the top has an empty slot or not, the numbers stay small, and the loop of compactions does the steps of the definition on a clean image, and some
+-- steps on any other.
 use Prim.Native.Nat.{ℕ, zero, suc, _+_, _*_, _-_, _%_, _≤_, _<_}
 use mathlib.Core.Path.{_≡_, refl, sym, ap, ap₂, _∙_}
 use mathlib.Core.Bool.{Bool, true, false, cond, _&&_, not}
-use mathlib.Core.List.{List, [], _∷_}
+use mathlib.Core.List.{List, [], _∷_, _++_}
 use native.Mathlib.Nat.{mod-lt}
 use native.Mathlib.Numerals.{add-one}
 use native.Mathlib.Omega.{arith}
@@ -29,14 +30,14 @@ use Rattle.bridge.specs.Views.Room.{compactions-some, compactions-length, room-
 use Rattle.bridge.specs.Views.Requests.{room-numbered, worn-carries}
 use Rattle.bridge.specs.Views.Times.{compactTimes, Needs, after-times, room-times, copied-empty, times-top}
 use Rattle.flash.specs.Ran.{Ran, Programmed}
-use Rattle.flash.proofs.Laws.{ran-none}
+use Rattle.flash.proofs.Laws.{ran-none, _then_}
 use Rattle.flash.specs.Pages.{Sized}
 use Rattle.flash.proofs.Pages.{sized}
 use Rattle.compact.specs.Compaction.{liveEntries, Apart, Compaction}
 use Rattle.compact.specs.Composed.{then-list-if-whole}
 use Rattle.room.specs.declared.Plan.{Plan}
 use Rattle.room.specs.declared.Room.{Room}
-use Rattle.room.specs.Room.{Planned, Full, Roomed}
+use Rattle.room.specs.Room.{Plannable, Full, Planned, Writable, Roomed, Worked}
 
 -- ---- a row
 
@@ -84,8 +85,7 @@ times-tally N B (suc i) v = omega (arith, times-tally N B i v)
 -- ---- a plan
 
 -- i compactions, as far as the budget went. The count of the last is told if some of the budget is left
-pub record Compacting (N B : ℕ) (p : Plan) (s : Image) (budget i left slot : ℕ) (t : Image) : Type 0 where
-  pub bound : i ≤ p .compactions
+pub record Compacting (N B : ℕ) (s : Image) (budget i left slot : ℕ) (t : Image) : Type 0 where
   pub ran : Ran (compactTimes N B i (view N B s) .steps) B budget left s t
   pub last : 0 < left → (j : ℕ) → suc j ≡ i → slot ≡ length (entries (getD (view N B s .slots) j []))
 
@@ -124,7 +124,6 @@ module _ (N B : ℕ) (p : Plan) (s : Image) (k : Planned N B p s) where
     pub spare : p .used + 1 ≤ N
     pub number : p .first .0 + p .used ≤ numberLimit N
     pub limit : numberLimit N ≤ 100000 * mostSegments
-    pub few : p .compactions ≤ p .used
 
   pub small : Small
   unfolding topNumber numberLimit
@@ -133,8 +132,11 @@ module _ (N B : ℕ) (p : Plan) (s : Image) (k : Planned N B p s) where
     spare = omega (arith, k .used, plan-clean .spare, two);
     number = omega (arith, k .first, k .used, plan-clean .some, held-below N B s v plan-held plan-clean);
     limit = omega (arith, size-facts N B s (k .size) .most);
-    few = omega (arith, k .used, k .compactions, compactions-length (v .slots));
   }
+
+  pub plannable : p .compactions ≤ p .used → Plannable N B p (length s)
+  plannable few = let h = small in
+      record { sized = plan-sized; some = h .some; spare = h .spare; number = omega (arith, h .number, h .limit); few = few }
 
   pub find-fits : Sized N B (length s) × (p .first .0 + p .used ≤ 4294967296)
   find-fits = let h = small in (plan-sized, omega arith)
@@ -211,11 +213,11 @@ module _ (N B : ℕ) (p : Plan) (s : Image) (k : Planned N B p s) where
     last-empty zero slot e h = absurd (omega (arith, compactions-some (v .slots) (plan-clean .some)))
     last-empty (suc j) slot e h = h j refl ∙ sym (ap firstEmpty (times-top N B v needs j e) ∙ copied-empty N B (entries (getD (v .slots) j [])) (last-short j e))
 
-    pub compacting-start : (budget : ℕ) → Compacting N B p s budget 0 budget 0 s
+    pub compacting-start : (budget : ℕ) → Compacting N B s budget 0 budget 0 s
     unfolding compactTimes
-    compacting-start budget = record { bound = omega arith; ran = ran-none B budget s; last = λ h j e. absurd (omega arith) }
+    compacting-start budget = record { ran = ran-none B budget s; last = λ h j e. absurd (omega arith) }
 
-    module _ (budget i left slot : ℕ) (t : Image) (d : Compacting N B p s budget i left slot t) (more : i < p .compactions) where
+    module _ (budget i left slot : ℕ) (t : Image) (d : Compacting N B s budget i left slot t) (more : i < p .compactions) where
       abbrev w : View
       w = compactTimes N B i v .result
 
@@ -223,7 +225,7 @@ module _ (N B : ℕ) (p : Plan) (s : Image) (k : Planned N B p s) where
       xs = compactTimes N B i v .steps
 
       within : i < compactions (v .slots)
-      within = omega (arith, k .compactions)
+      within = omega (arith, k .compactions f)
 
       -- what the next compaction finds, if those before were done
       found : (o : ℕ) → o ≡ p .first .0 + i → length xs ≤ budget → liveEntries N B o t ≡ entries (getD (w .slots) 0 [])
@@ -241,7 +243,7 @@ module _ (N B : ℕ) (p : Plan) (s : Image) (k : Planned N B p s) where
           rw z at (a .left 0 (omega (arith, within, compactions-length (v .slots))))
 
       pub compacting-next : (total o n left₁ count : ℕ) {u : Image} → total ≡ tallyOf (view N B s .version) → o ≡ p .first .0 + i → n ≡ p .first .0 + (p .used + i)
-          → Compaction N B total o n left left₁ count t u → Compacting N B p s budget (i + 1) left₁ count u
+          → Compaction N B total o n left left₁ count t u → Compacting N B s budget (i + 1) left₁ count u
       unfolding compactTimes compactOldest nextVersion
       compacting-next total o n left₁ count {u} tally eo en c =
           let a = after-times N B v needs i (omega (arith, within)) in
@@ -250,26 +252,89 @@ module _ (N B : ℕ) (p : Plan) (s : Image) (k : Planned N B p s) where
           let carried : total ≡ tallyOf (w .version) = tally ∙ sym (times-tally N B i v) in
           let same : length xs ≤ budget → compact N B (newVersion total) o n (liveEntries N B o t) ≡ compact N B (newVersion (tallyOf (w .version))) (w .first) (suc (topNumber w)) (entries (getD (w .slots) 0 [])) =
           (λ h. rw (found o eo h, carried, first, next)) in record {
-            bound = omega arith;
             ran = rw add-one (then-list-if-whole (d .ran) (c .ran) same);
             last = λ h j e.
                 let j-is : j ≡ i = omega arith in
                 c .counted ∙ ap length (found o eo (omega (arith, c .ran .rest, d .ran .rest)) ∙ ap entries (oldest ∙ ap (λ (y : ℕ). getD (v .slots) y []) (sym j-is)));
           }
 
-    pub targets-apart : (i o n : ℕ) → o ≡ p .first .0 + i → n ≡ p .first .0 + (p .used + i) → Apart N o n
-    targets-apart i o n eo en e =
-        let next : n ≡ o + p .used = omega arith in
-        apart-before N (p .used) o (omega (arith, small .spare)) o (omega arith) (omega (arith, small .some)) (rw next at e)
-
-    pub compacting-end : (budget i left slot : ℕ) (r : Room) {t : Image} → Compacting N B p s budget i left slot t → p .compactions ≤ i → r .left ≡ left → r .slot ≡ slot → r .first .0 ≡ p .first .0 + i
+    pub compacting-end : (budget i left slot : ℕ) (r : Room) {t : Image} → Compacting N B s budget i left slot t → i ≡ p .compactions → r .left ≡ left → r .slot ≡ slot → r .first .0 ≡ p .first .0 + i
         → r .used ≡ p .used → Roomed N B budget r s t
     compacting-end budget i left slot r {t} d h el es ef eu =
-        let n : i ≡ compactions (v .slots) = omega (arith, d .bound, k .compactions) in
+        let n : i ≡ compactions (v .slots) = h ∙ k .compactions f in
         let a = after-times N B v needs i (omega arith) in
         let room = room-times N B two slots-two v plan-clean none-left not-few in record {
           ran = rw (room, ← n, el) (d .ran);
           first = rw (room, ← n) (omega (arith, ef, k .first, a .first));
           used = rw (room, ← n) (omega (arith, eu, k .used, a .rows));
           slot = λ z. rw (room, ← n) (es ∙ last-empty i slot n (d .last (omega (arith, el))));
+        }
+
+-- ---- any image
+
+-- i compactions were done by the plan, as far as the budget went: some steps, and on a clean image those of the definition
+pub record Progress (N B : ℕ) (p : Plan) (total : ℕ) (s : Image) (budget i left slot : ℕ) (t : Image) : Type 0 where
+  pub bound : i ≤ p .compactions
+  pub steps : List Step
+  pub ran : Ran steps B budget left s t
+  pub exact : Writable N B p total s → Compacting N B s budget i left slot t
+
+module _ (N B : ℕ) (p : Plan) (total : ℕ) (s : Image) (a : Plannable N B p (length s)) (budget : ℕ) where
+  pub targets-apart : (i o n : ℕ) → o ≡ p .first .0 + i → n ≡ p .first .0 + (p .used + i) → Apart N o n
+  targets-apart i o n eo en e =
+      let next : n ≡ o + p .used = omega arith in
+      apart-before N (p .used) o (omega (arith, a .spare)) o (omega arith) (omega (arith, a .some)) (rw next at e)
+
+  pub worked-there : (r : Room) → p .slot < B → r .left ≡ budget → r .first .0 ≡ p .first .0 → r .used ≡ p .used → r .slot ≡ p .slot → Worked N B p total budget r s s
+  worked-there r h l f u j = record {
+    steps = [];
+    ran = rw l (ran-none B budget s);
+    some = omega (arith, u, a .some);
+    spare = omega (arith, u, a .spare);
+    low = omega (arith, f, u);
+    number = omega (arith, f, u);
+    exact = λ w. room-there N B p s (w .plan) budget r h l f u j;
+  }
+
+  pub worked-opened : (n : ℕ) (r : Room) {t : Image} → B ≤ p .slot → p .used + 1 < N → n ≡ p .first .0 + p .used → r .first .0 ≡ p .first .0 → r .used ≡ p .used + 1 → r .slot ≡ 0
+      → Programmed (openSegment N B (newVersion total) n) budget (r .left) s t → Worked N B p total budget r s t
+  worked-opened n r {t} h u e f g j d = record {
+    steps = openSegment N B (newVersion total) n;
+    ran = d B;
+    some = omega (arith, g);
+    spare = omega (arith, g, u);
+    low = omega (arith, f, g);
+    number = omega (arith, f, g);
+    exact = λ w. room-opened N B p s (w .plan) budget total n r (w .tally h) h u e f g j d;
+  }
+
+  module _ (f : Full N B p) where
+    pub progress-start : Progress N B p total s budget 0 budget 0 s
+    progress-start = record {
+      bound = omega arith;
+      steps = [];
+      ran = ran-none B budget s;
+      exact = λ w. compacting-start N B p s (w .plan) (w .bytes) (w .second) (w .fresh) f budget;
+    }
+
+    pub progress-next : (i left slot : ℕ) (t : Image) → Progress N B p total s budget i left slot t → i < p .compactions → (o n left₁ count : ℕ) {u : Image} → o ≡ p .first .0 + i → n ≡ p .first .0 + (p .used + i)
+        → Compaction N B total o n left left₁ count t u → Progress N B p total s budget (i + 1) left₁ count u
+    progress-next i left slot t d more o n left₁ count {u} eo en c = record {
+      bound = omega arith;
+      steps = d .steps ++ compact N B (newVersion total) o n (liveEntries N B o t);
+      ran = _then_ (d .ran) (c .ran);
+      exact = λ w. compacting-next N B p s (w .plan) (w .bytes) (w .second) (w .fresh) f budget i left slot t (d .exact w) more total o n left₁ count (w .tally (f .top)) eo en c;
+    }
+
+    pub progress-end : (i left slot : ℕ) (r : Room) {t : Image} → Progress N B p total s budget i left slot t → p .compactions ≤ i → r .left ≡ left → r .slot ≡ slot → r .first .0 ≡ p .first .0 + i
+        → r .used ≡ p .used → Worked N B p total budget r s t
+    progress-end i left slot r {t} d h el es ef eu =
+        let all : i ≡ p .compactions = omega (arith, d .bound) in record {
+          steps = d .steps;
+          ran = rw el (d .ran);
+          some = omega (arith, eu, a .some);
+          spare = omega (arith, eu, a .spare);
+          low = omega (arith, ef, eu);
+          number = omega (arith, ef, eu, all, a .few, a .spare, a .sized .segments);
+          exact = λ w. compacting-end N B p s (w .plan) (w .bytes) (w .second) (w .fresh) f budget i left slot r (d .exact w) all el es ef eu;
         }

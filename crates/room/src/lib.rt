@@ -2,15 +2,15 @@
 use model::SegmentNumber;
 ghost use mathlib.Core.Path.{_≡_};
 ghost use Prim.Native.Nat.{_+_, _-_, _≤_, _<_};
-ghost use Rattle.room.specs.Room.{Writable, Full, Roomed};
+ghost use lib.ListN.{length};
+ghost use Rattle.room.specs.Room.{Plannable, Full, Worked};
 
-// The segments in use of a clean image: the smallest number, their count, the first empty slot of the top (or the count of
-// slots, if there is none), how many slots are live, and how many compactions would make room.
+// The segments in use: the smallest number, their count, the first empty slot of the top (or the count of slots, if there
+// is none), and how many compactions would make room.
 pub struct Plan {
     pub first: SegmentNumber,
     pub used: usize,
     pub slot: usize,
-    pub live: usize,
     pub compactions: usize,
 }
 
@@ -39,8 +39,8 @@ fn compact_oldest(
     total: usize,
     budget: u64,
 ) -> Room
-    requires { ⌜ Writable segments slots plan total (now image) × Full segments slots plan ⌝ }
-    ensures { λ r. ⌜ Roomed segments slots budget r (now (image .entry)) (now (image .exit)) ⌝ }
+    requires { ⌜ Plannable segments slots plan (length (now image)) × Full segments slots plan ⌝ }
+    ensures { λ r. ⌜ Worked segments slots plan total budget r (now (image .entry)) (now (image .exit)) ⌝ }
 {
     let mut left = budget;
     let mut slot = 0;
@@ -64,7 +64,7 @@ fn compact_oldest(
 }
 
 // Makes room: nothing, if the top has an empty slot; else one more segment is opened, if two are left; else the oldest are
-// compacted. Each new header carries this total of recoveries' erases on.
+// compacted. Each new header carries this total of recoveries' erases on. It goes by the plan: the image may be any of its size.
 pub fn make_room(
     image: &mut [u8],
     segments: usize,
@@ -73,8 +73,8 @@ pub fn make_room(
     total: usize,
     budget: u64,
 ) -> Room
-    requires { ⌜ Writable segments slots plan total (now image) ⌝ }
-    ensures { λ r. ⌜ Roomed segments slots budget r (now (image .entry)) (now (image .exit)) ⌝ }
+    requires { ⌜ Plannable segments slots plan (length (now image)) ⌝ }
+    ensures { λ r. ⌜ Worked segments slots plan total budget r (now (image .entry)) (now (image .exit)) ⌝ }
 {
     let first = plan.first;
     let used = plan.used;

@@ -71,10 +71,9 @@ pub fn put(
         first,
         used,
         slot: free,
-        live,
         compactions,
     };
-    put::put_clean(image, segments, slots, plan, block, contents, budget)
+    put::put_clean(image, segments, slots, plan, live, block, contents, budget)
 }
 
 // Deletes a block: its slot is marked dead.

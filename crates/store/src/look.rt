@@ -44,7 +44,7 @@ pub fn look(image: &[u8], segments: usize, slots: usize, block: BlockNumber) -> 
     let Surveyed::Clean {
         first,
         used,
-        live,
+        live: _,
         free,
         compactions,
     } = surveyed
@@ -55,7 +55,6 @@ pub fn look(image: &[u8], segments: usize, slots: usize, block: BlockNumber) -> 
         first,
         used,
         slot: free,
-        live,
         compactions,
     };
     look_clean(image, segments, slots, plan, block)

@@ -1,7 +1,7 @@
 -- Laws of an accepted put: the image once room was made, and the whole list.
-use Prim.Native.Nat.{ℕ, _+_, _-_, _≤_, _<_}
+use Prim.Native.Nat.{ℕ, _+_, _-_, _*_, _≤_, _<_}
 use mathlib.Core.Path.{_≡_, refl, sym, ap, _∙_}
-use mathlib.Core.Bool.{true, false}
+use mathlib.Core.Bool.{true, false, cond}
 use mathlib.Core.List.{List, _++_}
 use native.Mathlib.Omega.{arith}
 use lib.ListN.{length, length-append}
@@ -9,8 +9,9 @@ use lib.Dec.{ltb, leb}
 use borrow.Author.Tests.{lt-ltb, ltb-true, leb-false}
 use Rattle.model.specs.Chip.{Image, numberLimit, run}
 use Rattle.model.specs.Slot.{mostContents}
-use Rattle.model.specs.State.{segmentsOf, View, view, clean, state}
+use Rattle.model.specs.State.{segmentsOf, View, entriesIn, holds, placeOf, view}
 use Rattle.model.specs.Steps.{onPage, slotAt, writeSlot, writeAtTop, markOld, topRow, topNumber, hasRoom, firstEmpty, Room, roomFor, newNumbers, putSteps}
+use Rattle.model.specs.Table.{lookup, contentsFound}
 use Rattle.model.specs.Answers.{put, stepsFor, performed, outcomeOf}
 use Rattle.model.specs.declared.Performed.{Performed}
 use Rattle.model.specs.Laws.Chip.{size-facts}
@@ -20,7 +21,8 @@ use Rattle.bridge.specs.Requests.{held-below, room-held}
 use Rattle.bridge.specs.Views.Room.{Made, room-made}
 use Rattle.bridge.specs.Views.Requests.{room-numbered, worn-carries}
 use Rattle.find.specs.declared.Found.{Found}
-use Rattle.find.specs.Search.{rowsAt, foundIn}
+use Rattle.find.specs.declared.Found.the-variants.{At, Nothing}
+use Rattle.find.specs.Search.{rowsAt, foundIn, held-found}
 use Rattle.flash.specs.Ran.{Ran}
 use Rattle.flash.proofs.Laws.{_then_, ran-spent, ran-left, whole-run}
 use Rattle.flash.specs.Pages.{Sized}
@@ -28,8 +30,9 @@ use Rattle.flash.proofs.Pages.{sized}
 use Rattle.room.specs.declared.Plan.{Plan}
 use Rattle.room.specs.declared.Room as rooms
 use Rattle.request.specs.Request.{Finished}
-use Rattle.room.specs.Room.{Planned, Roomed}
-use Rattle.put.specs.Writing.{Accepted, Ready, lastSteps, Wrote}
+use Rattle.room.specs.Room.{Planned, Writable, Roomed}
+use Rattle.put.specs.Writing.{Accepted, Ready, lastSteps, lastStepsAt, Wrote}
+use Rattle.put.proofs.Laws.LastSteps.{last-steps}
 use Rattle.bridge.specs.Lengths.{page-length, write-length}
 use Rattle.request.proofs.Answered.{carried, carried-outcome}
 use Rattle.bridge.specs.Refusals.{put-accepted}
@@ -44,6 +47,10 @@ module _ (N B : ℕ) (p : Plan) (total : ℕ) (f : Found) (b : ℕ) (c : List �
 
   abbrev room : Room
   room = roomFor N B v
+
+  -- so room is made as the definition says (`Worked.exact`)
+  pub accepted-writable : Writable N B p total s
+  accepted-writable = record { plan = k; bytes = a .put .bytes; second = a .second; fresh = a .fresh; tally = a .tally }
 
   accepted-code : refusal N B s (put b c) ≡ 0
   accepted-code = put-accepted N B s (k .size) b c (a .put .number) (a .put .taken) (a .second) (k .state) (a .space) (a .fresh)
@@ -116,6 +123,12 @@ module _ (N B : ℕ) (p : Plan) (total : ℕ) (f : Found) (b : ℕ) (c : List �
         let eu : r .used ≡ p .used = d .used ∙ rw x (sym (k .used)) in
         rw (same, ef, eu) (a .found h)
 
+    -- what a search finds once room was made, by the view
+    pub room-found : foundIn N B (r .first .0) (rowsAt N B t (r .used) (r .first .0)) b
+        ≡ cond (holds b (entriesIn (roomFor N B (view N B s) .result)))
+        (At (record { 0 = slotAt N B (placeOf b (roomFor N B (view N B s) .result) .number) (placeOf b (roomFor N B (view N B s) .result) .slot) * 256 }) (length (contentsFound (lookup b (entriesIn (roomFor N B (view N B s) .result)))))) Nothing
+    room-found = rw (d .first, d .used) (held-found N B t (room .result) b room-made-held)
+
     pub room-ready : (o : Found) → o ≡ foundIn N B (r .first .0) (rowsAt N B t (r .used) (r .first .0)) b → Ready N B r o b c budget t
     room-ready o e =
         let h = room-made-held in
@@ -131,9 +144,9 @@ module _ (N B : ℕ) (p : Plan) (total : ℕ) (f : Found) (b : ℕ) (c : List �
           left = ran-left (d .ran);
         }
 
-    pub put-done : {u : Image} {q : Performed} → Wrote N B b c budget (r .left) q t u → performed q u ≡ outcomeOf N B s budget (put b c)
-    put-done {u} {q} w =
+    pub put-done : (o : Found) → o ≡ foundIn N B (r .first .0) (rowsAt N B t (r .used) (r .first .0)) b → {u : Image} {q : Performed} → Wrote N B r o b c budget q t u → performed q u ≡ outcomeOf N B s budget (put b c)
+    put-done o e {u} {q} w =
         let ys = lastSteps N B b c (room .result) in
-        let same : lastSteps N B b c (view N B t) ≡ ys = ap (lastSteps N B b c) (room-made-held .view) in
+        let same : lastStepsAt N B r o b c ≡ ys = last-steps N B r o b c budget t (room-ready o e) ∙ ap (lastSteps N B b c) (room-made-held .view) in
         carried-outcome N B s budget (put b c) (room .steps) ys accepted-code accepted-steps (last-some (room .result))
         (carried (room .steps) ys (_then_ (d .ran) (rw same at (w .ran))) (d .ran .rest) refl (rw same at (w .finished)))

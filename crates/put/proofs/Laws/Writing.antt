@@ -8,11 +8,12 @@ use native.Mathlib.Omega.{arith}
 use denote.Enum.Declared.{tagOf}
 use types.Run.{OneOf}
 use lib.Dec.{ltb, leb, eqb}
-use borrow.Author.Tests.{lt-ltb, le-ltb, leb-false}
-use Rattle.model.specs.Chip.{Image, eraseLimit}
+use lib.ListN.{length}
+use borrow.Author.Tests.{lt-ltb, le-ltb, leb-false, ltb-false}
+use Rattle.model.specs.Chip.{Image, eraseLimit, rightSize}
 use Rattle.model.specs.Header.{isFormer, tallyOf, noBitLeft, headerVersion}
-use Rattle.model.specs.State.{segmentsOf, nextNumber, View, viewOf, capacity, view}
-use Rattle.model.specs.Steps.{topNumber, newNumbers, isWorn}
+use Rattle.model.specs.State.{segmentsOf, nextNumber, View, viewOf, entriesIn, capacity, view}
+use Rattle.model.specs.Steps.{topNumber, compactions, newNumbers, isWorn}
 use Rattle.model.specs.Answers.{codeOf, put, isFull}
 use Rattle.model.specs.Laws.Chip.{size-facts}
 use Rattle.model.specs.declared.Answer.{Answer}
@@ -28,10 +29,17 @@ use Rattle.tally.specs.declared.Tally.{Tally}
 use Rattle.tally.specs.Seen.{headerIn, tallySeen}
 use Rattle.tally.proofs.Laws.{top-version}
 use Rattle.room.specs.declared.Plan.{Plan}
-use Rattle.room.specs.Room.{Planned}
+use Rattle.room.specs.Room.{Plannable, Planned}
 use Rattle.put.specs.Writing.{Ranged, newNumbersBy, wornBy, fullBy, answerFor, foundBefore, Puttable, Accepted}
 use Rattle.bridge.specs.Refusals.{put-former, put-full, put-worn}
-use Rattle.room.proofs.Laws.{plan-held, room-test, small, top-is}
+use Rattle.room.proofs.Laws.{plan-held, room-test, top-is}
+
+-- ---- ranges
+
+pub ranged : (N B : ℕ) (p : Plan) (s : Image) → rightSize N B s ≡ true → Plannable N B p (length s) → Ranged N B p
+ranged N B p s e a =
+    let z = size-facts N B s e in record
+    { least = z .two; most = z .most; slots = z .slots; few = omega (arith, z .mostB); some = a .some; spare = omega (arith, z .most, a .spare); compactions = omega (arith, z .most, a .spare, a .few) }
 
 -- ---- the top's header
 
@@ -64,27 +72,11 @@ module _ (N B : ℕ) (p : Plan) (t : Tally) where
   unfolding wornBy
   worn-number top new h u d e = rw (le-ltb (p .slot) B h, u, d, e)
 
--- ---- the answer, from a plan and a search
+-- ---- a clean image and its plan
 
--- an answer other than 0
-abbrev pub Refusing : Answer → Type 0
-Refusing a = OneOf (1 ∷ 2 ∷ 3 ∷ 4 ∷ 5 ∷ 6 ∷ 7 ∷ 8 ∷ 9 ∷ 10 ∷ 11 ∷ 12 ∷ []) (tagOf the-type a)
-
-refusing-not : Refusing Done → ⊥
-refusing-not h = ⊎-elim (λ q. omega arith) (⊎-elim (λ q. omega arith) (⊎-elim (λ q. omega arith) (⊎-elim (λ q. omega arith) (⊎-elim (λ q. omega arith) (⊎-elim (λ q. omega arith) (⊎-elim (λ q. omega arith) (⊎-elim (λ q. omega arith) (⊎-elim (λ q. omega arith) (⊎-elim (λ q. omega arith) (⊎-elim (λ q. omega arith) (λ q. omega arith))))))))))) h
-
-module _ (N B : ℕ) (p : Plan) (b : ℕ) (c : List ℕ) (s : Image) (u : Puttable N B p b c s) where
-  abbrev k : Planned N B p s
-  k = u .plan
-
+module _ (N B : ℕ) (p : Plan) (s : Image) (k : Planned N B p s) where
   abbrev v : View
   v = view N B s
-
-  pub ranged : Ranged N B p
-  ranged =
-      let z = size-facts N B s (k .size) in
-      let m = small N B p s k in record
-      { least = z .two; most = z .most; slots = z .slots; few = omega (arith, z .mostB); some = m .some; spare = omega (arith, z .most, m .spare); compactions = omega (arith, z .most, m .spare, m .few) }
 
   top-number : p .first .0 + p .used - 1 ≡ topNumber v
   top-number = omega (arith, top-is N B p s k)
@@ -93,78 +85,103 @@ module _ (N B : ℕ) (p : Plan) (b : ℕ) (c : List ℕ) (s : Image) (u : Puttab
   pub top-seen : (n : ℕ) (t : Tally) → n ≡ p .first .0 + p .used - 1 → t ≡ tallySeen (headerVersion (headerIn N B n s)) → t ≡ tallySeen (view N B s .version)
   top-seen n t e w = w ∙ (ap (λ (y : ℕ). tallySeen (headerVersion (headerIn N B y s))) (e ∙ top-number) ∙ ap tallySeen (held-version N B s v (plan-held N B p s k)))
 
-  -- what a search finds
-  abbrev there : Found
-  there = foundIn N B (p .first .0) (rowsAt N B s (p .used) (p .first .0)) b
+  pub former-same : (t : Tally) → t ≡ tallySeen (view N B s .version) → t .former ≡ isFormer (view N B s .version)
+  unfolding tallySeen
+  former-same t seen = ap (λ (y : Tally). y .former) seen
 
-  full-found : (r : Found) → r ≡ there → fullBy N B p r ≡ isFull N B b v
-  unfolding fullBy isFull
-  full-found (At q n) e = rw (found-at N B b s v (plan-held N B p s k) (k .first) (k .used) e q n refl .held)
-  full-found Nothing e = rw (found-nothing N B b s v (plan-held N B p s k) (k .first) (k .used) e refl) (ap (leb (capacity N B)) (k .live))
-
-  -- where the search is left out, its result would not have mattered
-  full-before : fullBy N B p (foundBefore N B p s b) ≡ fullBy N B p there
-  unfolding fullBy foundBefore
-  full-before = go (ltb (p .slot) B) (leb (capacity N B) (p .live)) refl there
+  numbers-same : B ≤ p .slot → newNumbersBy N p ≡ cond (ltb (length (v .slots)) (N - 1)) 1 (compactions (v .slots))
+  unfolding newNumbersBy
+  numbers-same h = rw (← (k .used)) (go (ltb (p .used) (N - 1)) refl)
     where
-      go : (x y : Bool) → leb (capacity N B) (p .live) ≡ y → (r : Found) → fullBy N B p (cond (x || y) r Nothing) ≡ fullBy N B p r
-      go true y e r = refl
-      go false true e r = refl
-      go false false e (At q n) = e
-      go false false e Nothing = refl
+      go : (u : Bool) → ltb (p .used) (N - 1) ≡ u → cond u 1 (p .compactions) ≡ cond u 1 (compactions (v .slots))
+      go true e = refl
+      go false e = k .compactions (record { top = h; used = omega (arith, ltb-false (p .used) (N - 1) e) })
 
-  module _ (t : Tally) (seen : t ≡ tallySeen (view N B s .version)) where
-    worn-same : wornBy N B p t ≡ isWorn N v
-    unfolding wornBy newNumbersBy isWorn newNumbers tallySeen
-    worn-same = rw (seen, room-test N B p s k, ← (k .used), ← (k .compactions), ← top-number) (go (ltb (p .slot) B))
+  -- the tally is asked for only where there will be a new header
+  pub worn-same : (t : Tally) → (B ≤ p .slot → t ≡ tallySeen (view N B s .version)) → wornBy N B p t ≡ isWorn N (view N B s)
+  unfolding wornBy isWorn newNumbers tallySeen
+  worn-same t seen = rw (room-test N B p s k) (go (ltb (p .slot) B) refl)
+    where
+      reckoned : ℕ → Bool
+      reckoned x = noBitLeft (v .version) || leb eraseLimit ((topNumber v + x) / N + tallyOf (v .version))
+
+      go : (u : Bool) → ltb (p .slot) B ≡ u
+          → (not u && (t .«no_bit_left» || leb eraseLimit ((p .first .0 + p .used - 1 + newNumbersBy N p) / N + t .count))) ≡ (not u && reckoned (cond u 0 (cond (ltb (length (v .slots)) (N - 1)) 1 (compactions (v .slots)))))
+      go true e = refl
+      go false e = let h = ltb-false (p .slot) B e in rw (seen h, numbers-same h, top-number)
+
+  module _ (live b : ℕ) where
+    -- what a search finds
+    abbrev there : Found
+    there = foundIn N B (p .first .0) (rowsAt N B s (p .used) (p .first .0)) b
+
+    pub full-found : live ≡ length (entriesIn (view N B s)) → (r : Found) → r ≡ foundIn N B (p .first .0) (rowsAt N B s (p .used) (p .first .0)) b → fullBy N B live r ≡ isFull N B b (view N B s)
+    unfolding fullBy isFull
+    full-found l (At q n) e = rw (found-at N B b s v (plan-held N B p s k) (k .first) (k .used) e q n refl .held)
+    full-found l Nothing e = rw (found-nothing N B b s v (plan-held N B p s k) (k .first) (k .used) e refl) (ap (leb (capacity N B)) l)
+
+    -- where the search is left out, its result would not have mattered
+    pub full-before : fullBy N B live (foundBefore N B p live s b) ≡ fullBy N B live there
+    unfolding fullBy foundBefore
+    full-before = go (ltb (p .slot) B) (leb (capacity N B) live) refl there
       where
-        reckoned : ℕ → Bool
-        reckoned x = noBitLeft (v .version) || leb eraseLimit ((p .first .0 + p .used - 1 + x) / N + tallyOf (v .version))
+        go : (x y : Bool) → leb (capacity N B) live ≡ y → (r : Found) → fullBy N B live (cond (x || y) r Nothing) ≡ fullBy N B live r
+        go true y e r = refl
+        go false true e r = refl
+        go false false e (At q n) = e
+        go false false e Nothing = refl
 
-        go : (u : Bool) → (not u && reckoned (cond (ltb (p .used) (N - 1)) 1 (p .compactions))) ≡ (not u && reckoned (cond u 0 (cond (ltb (p .used) (N - 1)) 1 (p .compactions))))
-        go true = refl
-        go false = refl
+-- ---- the answer, from a plan, the count of live slots and a search
 
-    former-same : t .former ≡ isFormer (v .version)
-    unfolding tallySeen
-    former-same = ap (λ (y : Tally). y .former) seen
+-- an answer other than 0
+abbrev pub Refusing : Answer → Type 0
+Refusing a = OneOf (1 ∷ 2 ∷ 3 ∷ 4 ∷ 5 ∷ 6 ∷ 7 ∷ 8 ∷ 9 ∷ 10 ∷ 11 ∷ 12 ∷ []) (tagOf the-type a)
 
-    -- version 1
-    pub former-refuses : t .former ≡ true → (refusal N B s (put b c) ≡ codeOf FormerVersion) × (eqb (codeOf FormerVersion) 0 ≡ false)
-    unfolding codeOf
-    former-refuses o = (put-former N B s (k .size) b c (u .number) (u .taken) (k .state) (sym former-same ∙ o), refl)
+refusing-not : Refusing Done → ⊥
+refusing-not h = ⊎-elim (λ q. omega arith) (⊎-elim (λ q. omega arith) (⊎-elim (λ q. omega arith) (⊎-elim (λ q. omega arith) (⊎-elim (λ q. omega arith) (⊎-elim (λ q. omega arith) (⊎-elim (λ q. omega arith) (⊎-elim (λ q. omega arith) (⊎-elim (λ q. omega arith) (⊎-elim (λ q. omega arith) (⊎-elim (λ q. omega arith) (λ q. omega arith))))))))))) h
 
-    module _ (o : t .former ≡ false) where
-      second : isFormer (v .version) ≡ false
-      second = sym former-same ∙ o
+module _ (N B : ℕ) (p : Plan) (live b : ℕ) (c : List ℕ) (s : Image) (u : Puttable N B p b c s) (t : Tally) (seen : t ≡ tallySeen (view N B s .version)) where
+  abbrev k : Planned N B p s
+  k = u .plan
 
-      module _ (f : Found) (e : f ≡ foundBefore N B p s b) where
-        full-same : fullBy N B p f ≡ isFull N B b v
-        full-same = ap (fullBy N B p) e ∙ (full-before ∙ full-found there refl)
+  -- version 1
+  pub former-refuses : t .former ≡ true → (refusal N B s (put b c) ≡ codeOf FormerVersion) × (eqb (codeOf FormerVersion) 0 ≡ false)
+  unfolding codeOf
+  former-refuses o = (put-former N B s (k .size) b c (u .number) (u .taken) (k .state) (sym (former-same N B p s k t seen) ∙ o), refl)
 
-        -- a refusal
-        pub answer-refuses : (a : Answer) → a ≡ answerFor N B p t f → Refusing a → (refusal N B s (put b c) ≡ codeOf a) × (eqb (codeOf a) 0 ≡ false)
-        unfolding answerFor codeOf
-        answer-refuses a w m = go (fullBy N B p f) (wornBy N B p t) refl refl a w m
-          where
-            go : (x y : Bool) → fullBy N B p f ≡ x → wornBy N B p t ≡ y → (a : Answer) → a ≡ cond x Full (cond y Worn Done) → Refusing a → (refusal N B s (put b c) ≡ codeOf a) × (eqb (codeOf a) 0 ≡ false)
-            go true y q r a w m = rw w (put-full N B s (k .size) b c (u .number) (u .taken) second (k .state) (sym full-same ∙ q), refl)
-            go false true q r a w m = rw w (put-worn N B s (k .size) b c (u .number) (u .taken) second (k .state) (sym full-same ∙ q) (sym worn-same ∙ r), refl)
-            go false false q r a w m = absurd (refusing-not (subst Refusing w m))
+  module _ (l : live ≡ length (entriesIn (view N B s))) (o : t .former ≡ false) (f : Found) (e : f ≡ foundBefore N B p live s b) where
+    second : isFormer (view N B s .version) ≡ false
+    second = sym (former-same N B p s k t seen) ∙ o
 
-        -- no refusal
-        pub answer-accepts : (a : Answer) → a ≡ answerFor N B p t f → a ≡ Done → Accepted N B p (t .count) f b c s
-        unfolding answerFor foundBefore tallySeen
-        answer-accepts a w m = go (fullBy N B p f) (wornBy N B p t) refl refl (sym m ∙ w)
-          where
-            go : (x y : Bool) → fullBy N B p f ≡ x → wornBy N B p t ≡ y → Done ≡ cond x Full (cond y Worn Done) → Accepted N B p (t .count) f b c s
-            go true y q r w = absurd (let z : _≡_ {A = ℕ} 0 1 = cc in omega arith)
-            go false true q r w = absurd (let z : _≡_ {A = ℕ} 0 1 = cc in omega arith)
-            go false false q r w = record {
-              put = u;
-              second = second;
-              found = λ h. rw (lt-ltb (p .slot) B (leb-false B (p .slot) h)) at e;
-              space = sym full-same ∙ q;
-              fresh = sym worn-same ∙ r;
-              tally = ap (λ (y : Tally). y .count) seen;
-            }
+    full-same : fullBy N B live f ≡ isFull N B b (view N B s)
+    full-same = ap (fullBy N B live) e ∙ (full-before N B p s k live b ∙ full-found N B p s k live b l _ refl)
+
+    fresh-same : wornBy N B p t ≡ isWorn N (view N B s)
+    fresh-same = worn-same N B p s k t (λ h. seen)
+
+    -- a refusal
+    pub answer-refuses : (a : Answer) → a ≡ answerFor N B p live t f → Refusing a → (refusal N B s (put b c) ≡ codeOf a) × (eqb (codeOf a) 0 ≡ false)
+    unfolding answerFor codeOf
+    answer-refuses a w m = go (fullBy N B live f) (wornBy N B p t) refl refl a w m
+      where
+        go : (x y : Bool) → fullBy N B live f ≡ x → wornBy N B p t ≡ y → (a : Answer) → a ≡ cond x Full (cond y Worn Done) → Refusing a → (refusal N B s (put b c) ≡ codeOf a) × (eqb (codeOf a) 0 ≡ false)
+        go true y q r a w m = rw w (put-full N B s (k .size) b c (u .number) (u .taken) second (k .state) (sym full-same ∙ q), refl)
+        go false true q r a w m = rw w (put-worn N B s (k .size) b c (u .number) (u .taken) second (k .state) (sym full-same ∙ q) (sym fresh-same ∙ r), refl)
+        go false false q r a w m = absurd (refusing-not (subst Refusing w m))
+
+    -- no refusal
+    pub answer-accepts : (a : Answer) → a ≡ answerFor N B p live t f → a ≡ Done → Accepted N B p (t .count) f b c s
+    unfolding answerFor foundBefore tallySeen
+    answer-accepts a w m = go (fullBy N B live f) (wornBy N B p t) refl refl (sym m ∙ w)
+      where
+        go : (x y : Bool) → fullBy N B live f ≡ x → wornBy N B p t ≡ y → Done ≡ cond x Full (cond y Worn Done) → Accepted N B p (t .count) f b c s
+        go true y q r w = absurd (let z : _≡_ {A = ℕ} 0 1 = cc in omega arith)
+        go false true q r w = absurd (let z : _≡_ {A = ℕ} 0 1 = cc in omega arith)
+        go false false q r w = record {
+          put = u;
+          second = second;
+          found = λ h. rw (lt-ltb (p .slot) B (leb-false B (p .slot) h)) at e;
+          space = sym full-same ∙ q;
+          fresh = sym fresh-same ∙ r;
+          tally = λ h. ap (λ (y : Tally). y .count) seen;
+        }

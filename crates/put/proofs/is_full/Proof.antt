@@ -19,7 +19,7 @@ capacity-requires c κs = search needs
 
 returns-2 : tie.Need-returns-2
 unfolding fullBy
-returns-2 c = rw (c .before .before .enum-told .given .1, c .before .capacity .ensures .0)
+returns-2 c = rw (c .before .enum-told .given .1, c .capacity .ensures .0)
 
 pub is-full-spec : {M : Type 1} → statement M
 is-full-spec = tie.close (tie.spec enum-told enum-told-2 returns capacity-requires returns-2)

@@ -2,7 +2,7 @@
 use denote.Ref.{now}
 use Rattle.model.specs.Answers.{put}
 use Rattle.request.proofs.Answered.{refused-outcome}
-use Rattle.room.proofs.Laws.{find-fits}
+use Rattle.room.proofs.Laws.{find-fits, plannable}
 use Rattle.put.proofs.Laws.Writing.{ranged, top-seen, former-refuses, answer-refuses, answer-accepts}
 use borrow.Author.Needs.{needs}
 use Rattle.put.proofs.put_clean.Statement.{statement}
@@ -12,15 +12,15 @@ top-number-requires : tie.Need-top-number-requires
 top-number-requires c κs =
     let x = c .before .before .before in
     let a = x .args in
-    let z = find-fits (a .segments) (a .slots) (a .plan) (now (a .image)) (x .pre .plan) in
-    let r = ranged (a .segments) (a .slots) (a .plan) (a .block .0) (now (a .contents)) (now (a .image)) (x .pre) in
+    let z = find-fits (a .segments) (a .slots) (a .plan) (now (a .image)) (x .pre .0 .plan) in
+    let r = ranged (a .segments) (a .slots) (a .plan) (now (a .image)) (x .pre .0 .plan .size) (plannable (a .segments) (a .slots) (a .plan) (now (a .image)) (x .pre .0 .plan) (x .pre .2)) in
     (r .some, r .spare, z .1)
 
 tally-in-requires : tie.Need-tally-in-requires
 tally-in-requires c κs =
     let x = c .before .before .before .before in
     let a = x .args in
-    find-fits (a .segments) (a .slots) (a .plan) (now (a .image)) (x .pre .plan) .0
+    find-fits (a .segments) (a .slots) (a .plan) (now (a .image)) (x .pre .0 .plan) .0
 
 refused-requires : tie.Need-refused-requires
 refused-requires c κs = search needs
@@ -33,23 +33,23 @@ returns c =
     let y = c .before .before in
     let x = y .before .before .before .before .before in
     let a = x .args in
-    let t = top-seen (a .segments) (a .slots) (a .plan) (a .block .0) (now (a .contents)) (now (a .image)) (x .pre) _ _ (y .before .top-number .ensures) (y .tally-in .ensures .0) in
-    let r = former-refuses (a .segments) (a .slots) (a .plan) (a .block .0) (now (a .contents)) (now (a .image)) (x .pre) _ t (c .before .if1 .taken) in
+    let t = top-seen (a .segments) (a .slots) (a .plan) (now (a .image)) (x .pre .0 .plan) _ _ (y .before .top-number .ensures) (y .tally-in .ensures .0) in
+    let r = former-refuses (a .segments) (a .slots) (a .plan) (a .live) (a .block .0) (now (a .contents)) (now (a .image)) (x .pre .0) _ t (c .before .if1 .taken) in
     refused-outcome (a .segments) (a .slots) (now (a .image)) (a .budget) (put (a .block .0) (now (a .contents))) _ _ (r .0) (r .1) (c .refused .ensures)
 
 slot-before-requires : tie.Need-slot-before-requires
 slot-before-requires c κs =
     let x = c .before .before .before .before .before .before .before in
     let a = x .args in
-    let z = find-fits (a .segments) (a .slots) (a .plan) (now (a .image)) (x .pre .plan) in
-    (ranged (a .segments) (a .slots) (a .plan) (a .block .0) (now (a .contents)) (now (a .image)) (x .pre), z .0, z .1)
+    let z = find-fits (a .segments) (a .slots) (a .plan) (now (a .image)) (x .pre .0 .plan) in
+    (ranged (a .segments) (a .slots) (a .plan) (now (a .image)) (x .pre .0 .plan .size) (plannable (a .segments) (a .slots) (a .plan) (now (a .image)) (x .pre .0 .plan) (x .pre .2)), z .0, z .1)
 
 put-answer-requires : tie.Need-put-answer-requires
 put-answer-requires c κs =
     let x = c .before .before .before .before .before .before .before .before in
     let a = x .args in
-    let z = find-fits (a .segments) (a .slots) (a .plan) (now (a .image)) (x .pre .plan) in
-    (ranged (a .segments) (a .slots) (a .plan) (a .block .0) (now (a .contents)) (now (a .image)) (x .pre), z .1, c .before .before .before .tally-in .ensures .1)
+    let z = find-fits (a .segments) (a .slots) (a .plan) (now (a .image)) (x .pre .0 .plan) in
+    (ranged (a .segments) (a .slots) (a .plan) (now (a .image)) (x .pre .0 .plan .size) (plannable (a .segments) (a .slots) (a .plan) (now (a .image)) (x .pre .0 .plan) (x .pre .2)), z .1, c .before .before .before .tally-in .ensures .1)
 
 enum-told : tie.Need-enum-told
 enum-told c = search needs
@@ -65,8 +65,8 @@ returns-2 c =
     let y = c .before .before .before .before .before .before in
     let x = y .before .before .before .before .before in
     let a = x .args in
-    let t = top-seen (a .segments) (a .slots) (a .plan) (a .block .0) (now (a .contents)) (now (a .image)) (x .pre) _ _ (y .before .top-number .ensures) (y .tally-in .ensures .0) in
-    let r = answer-refuses (a .segments) (a .slots) (a .plan) (a .block .0) (now (a .contents)) (now (a .image)) (x .pre) _ t (c .before .before .before .before .before .if1 .left) _ (c .before .before .before .slot-before .ensures) _ (c .before .before .put-answer .ensures) (c .before .match .keys2) in
+    let t = top-seen (a .segments) (a .slots) (a .plan) (now (a .image)) (x .pre .0 .plan) _ _ (y .before .top-number .ensures) (y .tally-in .ensures .0) in
+    let r = answer-refuses (a .segments) (a .slots) (a .plan) (a .live) (a .block .0) (now (a .contents)) (now (a .image)) (x .pre .0) _ t (x .pre .1) (c .before .before .before .before .before .if1 .left) _ (c .before .before .before .slot-before .ensures) _ (c .before .before .put-answer .ensures) (c .before .match .keys2) in
     refused-outcome (a .segments) (a .slots) (now (a .image)) (a .budget) (put (a .block .0) (now (a .contents))) _ _ (r .0) (r .1) (c .refused2 .ensures)
 
 put-accepted-requires : tie.Need-put-accepted-requires
@@ -74,8 +74,8 @@ put-accepted-requires c κs =
     let y = c .before .before .before .before .before .before .before in
     let x = y .before .before .before .before .before in
     let a = x .args in
-    let t = top-seen (a .segments) (a .slots) (a .plan) (a .block .0) (now (a .contents)) (now (a .image)) (x .pre) _ _ (y .before .top-number .ensures) (y .tally-in .ensures .0) in
-    answer-accepts (a .segments) (a .slots) (a .plan) (a .block .0) (now (a .contents)) (now (a .image)) (x .pre) _ t (c .before .before .before .before .before .before .if1 .left) _ (c .before .before .before .before .slot-before .ensures) _ (c .before .before .before .put-answer .ensures) (c .before .enum-told .given .1)
+    let t = top-seen (a .segments) (a .slots) (a .plan) (now (a .image)) (x .pre .0 .plan) _ _ (y .before .top-number .ensures) (y .tally-in .ensures .0) in
+    (answer-accepts (a .segments) (a .slots) (a .plan) (a .live) (a .block .0) (now (a .contents)) (now (a .image)) (x .pre .0) _ t (x .pre .1) (c .before .before .before .before .before .before .if1 .left) _ (c .before .before .before .before .slot-before .ensures) _ (c .before .before .before .put-answer .ensures) (c .before .enum-told .given .1), x .pre .2)
 
 same-length-3 : tie.Need-same-length-3
 same-length-3 c = search needs

@@ -14,8 +14,8 @@ capacity-requires c κs = search needs
 returns : tie.Need-returns
 unfolding foundBefore
 returns c =
-    let a = c .before .before .before .before .before .before .args in
-    rw (le-ltb _ _ (c .before .before .before .if1 .taken), lt-leb (capacity (a .segments) (a .slots)) (a .plan .live) (omega arith))
+    let a = c .before .before .before .before .before .args in
+    rw (le-ltb _ _ (c .before .before .if1 .taken), lt-leb (capacity (a .segments) (a .slots)) (a .live) (omega arith))
 
 find-requires : tie.Need-find-requires
 find-requires c κs = search needs
@@ -25,7 +25,7 @@ unfolding foundBefore
 returns-2 c =
     let a = c .before .before .before .before .args in
     ⊎-elim
-    (λ w. rw (le-ltb _ _ (w .0 .taken), le-leb (capacity (a .segments) (a .slots)) (a .plan .live) (omega arith)) (c .find .ensures))
+    (λ w. rw (le-ltb _ _ (w .0 .taken), le-leb (capacity (a .segments) (a .slots)) (a .live) (omega arith)) (c .find .ensures))
     (λ w. rw (lt-ltb _ _ (w .left)) (c .find .ensures))
     (c .before .if1 .came)
 

@@ -1,7 +1,8 @@
--- `put::write_block` takes the last steps of a put. Assumes nothing.
+-- `put::write_block` takes the last steps of a put, on any image. Assumes nothing.
 use native.Mathlib.Omega.{arith}
 use denote.Ref.{now}
-use Rattle.put.proofs.Laws.LastSteps.{ready-sized, ready-used, place-inside, old-inside, write-left, write-size, wrote-new, mark-left, wrote-old}
+use Rattle.flash.proofs.Laws.{ran-length, ran-left}
+use Rattle.put.proofs.Laws.LastSteps.{place-inside, old-inside, wrote-new, wrote-old}
 use borrow.Author.Needs.{needs}
 use Rattle.put.proofs.write_block.Statement.{statement}
 use Rattle.put.proofs.write_block.Tie as tie
@@ -11,11 +12,8 @@ add-steps c = search needs
 
 free-place-requires : tie.Need-free-place-requires
 free-place-requires c κs =
-    let x = c .before .before in
-    let a = x .args in
-    let z = ready-sized (a .segments) (a .slots) (a .room) (a .old) (a .block .0) (now (a .contents)) (a .budget) (now (a .image)) (x .pre) in
-    let u = ready-used (a .segments) (a .slots) (a .room) (a .old) (a .block .0) (now (a .contents)) (a .budget) (now (a .image)) (x .pre) in
-    (z .some, z .segments, z .slots, x .pre .room, u .0, u .1)
+    let k = c .before .before .pre in
+    (k .sized .some, k .sized .segments, k .sized .slots, k .room, k .some, k .few)
 
 write-slot-requires : tie.Need-write-slot-requires
 write-slot-requires c κs =
@@ -33,7 +31,7 @@ finished-requires : tie.Need-finished-requires
 finished-requires c κs =
     let x = c .before .before .before .before .before .before .before .before .before in
     let a = x .args in
-    omega (arith, x .pre .left, write-left (a .segments) (a .slots) (a .room) (a .old) (a .block .0) (now (a .contents)) (a .budget) (now (a .image)) (x .pre) _ _ _ (c .before .before .before .before .before .before .free-place .ensures) (c .before .before .before .before .write-slot .ensures))
+    omega (arith, x .pre .left, ran-left (c .before .before .before .before .write-slot .ensures (a .slots)))
 
 same-length : tie.Need-same-length
 same-length c = search needs
@@ -42,7 +40,7 @@ returns : tie.Need-returns
 returns c =
     let x = c .before .before .before .before .before .before .before .before .before .before in
     let a = x .args in
-    wrote-new (a .segments) (a .slots) (a .room) (a .old) (a .block .0) (now (a .contents)) (a .budget) (now (a .image)) (x .pre) _ _ _ (c .before .before .before .before .before .before .before .free-place .ensures) (c .before .before .before .before .before .write-slot .ensures) (c .before .enum-told .given .1) (c .finished .ensures)
+    wrote-new (a .segments) (a .slots) (a .room) (a .old) (a .block .0) (now (a .contents)) (a .budget) (now (a .image)) (x .pre) _ _ (c .before .before .before .before .before .before .before .free-place .ensures) (c .before .before .before .before .before .write-slot .ensures) (c .before .enum-told .given .1) (c .finished .ensures)
 
 mark-dead-requires : tie.Need-mark-dead-requires
 mark-dead-requires c κs =
@@ -51,7 +49,7 @@ mark-dead-requires c κs =
     omega (
       arith,
       old-inside (a .segments) (a .slots) (a .room) (a .old) (a .block .0) (now (a .contents)) (a .budget) (now (a .image)) (x .pre) _ _ (c .before .before .old .given .1),
-      write-size (a .segments) (a .slots) (a .room) (a .old) (a .block .0) (now (a .contents)) (a .budget) (now (a .image)) (x .pre) _ _ _ (c .before .before .before .before .before .before .before .before .free-place .ensures) (c .before .before .before .before .before .before .write-slot .ensures),
+      ran-length (c .before .before .before .before .before .before .write-slot .ensures (a .slots)),
     )
 
 add-finished : tie.Need-add-finished
@@ -64,8 +62,8 @@ finished-requires-2 c κs =
     omega (
       arith,
       x .pre .left,
-      write-left (a .segments) (a .slots) (a .room) (a .old) (a .block .0) (now (a .contents)) (a .budget) (now (a .image)) (x .pre) _ _ _ (c .before .before .before .before .before .before .before .before .before .before .before .free-place .ensures) (c .before .before .before .before .before .before .before .before .before .write-slot .ensures),
-      mark-left (a .segments) (a .slots) (a .room) (a .old) (a .block .0) (now (a .contents)) (a .budget) (now (a .image)) (x .pre) _ _ _ (c .before .before .before .before .before .before .before .before .before .before .before .free-place .ensures) (c .before .before .before .before .before .before .before .before .before .write-slot .ensures) _ _ (c .before .before .before .before .before .old .given .1) _ (c .before .before .mark-dead .ensures),
+      ran-left (c .before .before .before .before .before .before .before .before .before .write-slot .ensures (a .slots)),
+      ran-left (c .before .before .mark-dead .ensures (a .slots)),
     )
 
 same-length-2 : tie.Need-same-length-2
@@ -75,7 +73,7 @@ returns-2 : tie.Need-returns-2
 returns-2 c =
     let x = c .before .before .before .before .before .before .before .before .before .before .before .before .before .before .before in
     let a = x .args in
-    wrote-old (a .segments) (a .slots) (a .room) (a .old) (a .block .0) (now (a .contents)) (a .budget) (now (a .image)) (x .pre) _ _ _ (c .before .before .before .before .before .before .before .before .before .before .before .before .free-place .ensures) (c .before .before .before .before .before .before .before .before .before .before .write-slot .ensures) _ _ (c .before .before .before .before .before .before .old .given .1) _
+    wrote-old (a .segments) (a .slots) (a .room) (a .old) (a .block .0) (now (a .contents)) (a .budget) (now (a .image)) (x .pre) _ _ (c .before .before .before .before .before .before .before .before .before .before .before .before .free-place .ensures) (c .before .before .before .before .before .before .before .before .before .before .write-slot .ensures) _ _ (c .before .before .before .before .before .before .old .given .1) _
     (c .before .before .before .mark-dead .ensures) (c .finished2 .ensures)
 
 pub write-block-spec : {M : Type 1} → statement M

@@ -1,8 +1,8 @@
--- `room::make_room` makes room as the definition says. Assumes nothing.
+-- `room::make_room` makes room by the plan, on a clean image as the definition says. Assumes nothing.
 use native.Mathlib.Omega.{arith}
 use mathlib.Core.Path.{refl}
 use denote.Ref.{now}
-use Rattle.room.proofs.Laws.{small, plan-sized, room-there, room-opened}
+use Rattle.room.proofs.Laws.{worked-there, worked-opened}
 use borrow.Author.Needs.{needs}
 use Rattle.room.proofs.make_room.Statement.{statement}
 use Rattle.room.proofs.make_room.Tie as tie
@@ -10,24 +10,20 @@ use Rattle.room.proofs.make_room.Tie as tie
 returns : tie.Need-returns
 returns c =
     let a = c .before .before .before .before in
-    room-there (a .args .segments) (a .args .slots) (a .args .plan) (now (a .args .image)) (a .pre .plan) (a .args .budget) _ (c .if1 .taken) refl refl refl refl
+    worked-there (a .args .segments) (a .args .slots) (a .args .plan) (a .args .total) (now (a .args .image)) (a .pre) (a .args .budget) _ (c .if1 .taken) refl refl refl refl
 
 add-if2 : tie.Need-add-if2
 add-if2 c =
-    let a = c .before .before .before .before in
-    let h = small (a .args .segments) (a .args .slots) (a .args .plan) (now (a .args .image)) (a .pre .plan) in
-    omega arith
+    let h = c .before .before .before .before .pre in
+    omega (arith, h .sized .segments)
 
 after-requires : tie.Need-after-requires
 after-requires c κs =
-    let a = c .before .before .before .before .before .before in
-    let h = small (a .args .segments) (a .args .slots) (a .args .plan) (now (a .args .image)) (a .pre .plan) in
+    let h = c .before .before .before .before .before .before .pre in
     omega arith
 
 open-header-requires : tie.Need-open-header-requires
-open-header-requires c κs =
-    let a = c .before .before .before .before .before .before .before in
-    plan-sized (a .args .segments) (a .args .slots) (a .args .plan) (now (a .args .image)) (a .pre .plan)
+open-header-requires c κs = c .before .before .before .before .before .before .before .pre .sized
 
 add-t15 : tie.Need-add-t15
 add-t15 c = search needs
@@ -38,7 +34,7 @@ same-length c = search needs
 returns-2 : tie.Need-returns-2
 returns-2 c =
     let a = c .before .before .before .before .before .before .before .before .before .before in
-    room-opened (a .args .segments) (a .args .slots) (a .args .plan) (now (a .args .image)) (a .pre .plan) (a .args .budget) _ _ _ (a .pre .tally) (c .before .before .before .before .before .before .if1 .left) (c .before .before .before .before .before .if2 .taken) (c .before .before .before .after .ensures) refl refl refl (c .before .before .open-header .ensures)
+    worked-opened (a .args .segments) (a .args .slots) (a .args .plan) (a .args .total) (now (a .args .image)) (a .pre) (a .args .budget) _ _ (c .before .before .before .before .before .before .if1 .left) (c .before .before .before .before .before .if2 .taken) (c .before .before .before .after .ensures) refl refl refl (c .before .before .open-header .ensures)
 
 compact-oldest-requires : tie.Need-compact-oldest-requires
 compact-oldest-requires c κs = search needs

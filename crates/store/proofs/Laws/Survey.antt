@@ -1,5 +1,5 @@
 -- A survey by its kinds: a clean image and its plan, or another.
-use Prim.Native.Nat.{ℕ, _-_}
+use Prim.Native.Nat.{ℕ, _≤_}
 use mathlib.Core.Path.{_≡_, ap, _∙_}
 use mathlib.Core.Logic.{⊎-elim}
 use mathlib.Core.Bool.{true}
@@ -9,13 +9,14 @@ use denote.Enum.Declared.{tagOf}
 use types.Run.{OneOf}
 use lib.ListN.{length}
 use Rattle.model.specs.Chip.{Image, rightSize}
-use Rattle.model.specs.State.{segmentsOf, viewOf, entriesIn, clean, state, view}
+use Rattle.model.specs.State.{segmentsOf, View, entriesIn, clean, state, view}
 use Rattle.model.specs.Steps.{topRow, firstEmpty, compactions as compactions-in}
 use Rattle.model.specs.declared.SegmentNumber.{SegmentNumber}
 use Rattle.scan.specs.declared.Surveyed.{Surveyed}
 use Rattle.scan.specs.declared.Surveyed.the-variants.{Clean, TornSegment, ErasePending, TornSlot, OldSlot, Damaged}
 use Rattle.scan.proofs.Surveyed.{the-type}
 use Rattle.scan.specs.Surveys.{surveyIn, surveyOf, stateIn}
+use Rattle.bridge.specs.Views.Room.{compactions-length}
 use Rattle.room.specs.Room.{Planned}
 use Rattle.scan.proofs.Laws.Told.{survey-says, told, survey-clean}
 
@@ -36,20 +37,31 @@ module _ (N B : ℕ) (s : Image) (r : Surveyed) (e : r ≡ surveyOf N B (segment
   pub survey-other : Other r → state N B s ≡ clean → ⊥
   survey-other o c = other-state r o (survey-says N B s r e ∙ c)
 
-  pub survey-plan : rightSize N B s ≡ true → (first : SegmentNumber) (used live free compactions : ℕ) → r ≡ Clean first used live free compactions
-      → Planned N B (record { first = first; used = used; slot = free; live = live; compactions = compactions }) s
-  unfolding view surveyIn
-  survey-plan z first used live free compactions w =
-      let l = segmentsOf N B s in
-      let v = viewOf N l in
-      let c : state N B s ≡ clean = survey-clean N B s r e first used live free compactions w in
-      let f : Clean first used live free compactions ≡ Clean (record { 0 = v .first }) (length (v .slots)) (length (entriesIn v)) (firstEmpty (topRow (v .slots))) (compactions-in (v .slots)) =
-      told N B s r e (Clean first used live free compactions) w c in record {
-        size = z;
-        state = c;
-        first = let n : first ≡ record { 0 = v .first } = cc in ap (λ (y : SegmentNumber). y .0) n;
-        used = cc;
-        slot = cc;
-        live = cc;
-        compactions = cc;
-      }
+  -- what a survey of a clean image tells
+  module _ (first : SegmentNumber) (used live free compactions : ℕ) (w : r ≡ Clean first used live free compactions) where
+    abbrev v : View
+    v = view N B s
+
+    survey-told : Clean first used live free compactions ≡ Clean (record { 0 = v .first }) (length (v .slots)) (length (entriesIn v)) (firstEmpty (topRow (v .slots))) (compactions-in (v .slots))
+    unfolding view surveyIn
+    survey-told = told N B s r e (Clean first used live free compactions) w (survey-clean N B s r e first used live free compactions w)
+
+    pub survey-plan : rightSize N B s ≡ true → Planned N B (record { first = first; used = used; slot = free; compactions = compactions }) s
+    survey-plan z = let f = survey-told in record {
+      size = z;
+      state = survey-clean N B s r e first used live free compactions w;
+      first = let n : first ≡ record { 0 = v .first } = cc in ap (λ (y : SegmentNumber). y .0) n;
+      used = cc;
+      slot = cc;
+      compactions = λ h. cc;
+    }
+
+    pub survey-live : live ≡ length (entriesIn (view N B s))
+    survey-live = let f = survey-told in cc
+
+    pub survey-few : compactions ≤ used
+    survey-few =
+        let f = survey-told in
+        let c : compactions ≡ compactions-in (v .slots) = cc in
+        let u : used ≡ length (v .slots) = cc in
+        omega (arith, compactions-length (v .slots))

@@ -10,7 +10,7 @@ use Rattle.request.proofs.Laws.{wrong-size, right-size}
 use Rattle.model.specs.Laws.Bytes.{bytes-known}
 use Rattle.request.proofs.Answered.{refused-outcome}
 use Rattle.scan.proofs.Laws.Told.{survey-says}
-use Rattle.store.proofs.Laws.Survey.{survey-other, survey-plan}
+use Rattle.store.proofs.Laws.Survey.{survey-other, survey-plan, survey-live, survey-few}
 use Rattle.store.proofs.Laws.Requests.{size-refused, put-unclean-refused}
 use borrow.Author.Needs.{needs}
 use Rattle.store.proofs.put.Statement.{statement}
@@ -86,12 +86,17 @@ returns-4 c =
 put-clean-requires : tie.Need-put-clean-requires
 put-clean-requires c κs =
     let a = c .before .before .before .before .before .before .before .before .before .before .before .before .before .before .args in
-    let r = c .before .before .before .before .survey in record {
-      plan = survey-plan (a .segments) (a .slots) (now (a .image)) (r .result) (r .ensures) (right-size (a .segments) (a .slots) (now (a .image)) _ (c .before .before .before .before .before .before .before .before .before .before .before .right-size .ensures) (c .before .before .before .before .before .before .before .before .before .before .if1 .left)) _ _ _ _ _ (c .before .before .surveyed .given .1);
-      bytes = bytes-known (now (a .image)) (λ i. omega (arith, c .before .before .before .before .before .before .before .before .before .before .before .before .before .slice-known .given i));
-      number = sym (c .before .before .before .before .before .before .before .before .before .number-ok .ensures) ∙ not-false _ (c .before .before .before .before .before .before .before .before .if2 .left);
-      taken = sym (c .before .before .before .before .before .before .before .length-ok .ensures) ∙ not-false _ (c .before .before .before .before .before .before .if3 .left);
-    }
+    let r = c .before .before .before .before .survey in
+    let w = c .before .before .surveyed .given .1 in (
+      record {
+        plan = survey-plan (a .segments) (a .slots) (now (a .image)) (r .result) (r .ensures) _ _ _ _ _ w (right-size (a .segments) (a .slots) (now (a .image)) _ (c .before .before .before .before .before .before .before .before .before .before .before .right-size .ensures) (c .before .before .before .before .before .before .before .before .before .before .if1 .left));
+        bytes = bytes-known (now (a .image)) (λ i. omega (arith, c .before .before .before .before .before .before .before .before .before .before .before .before .before .slice-known .given i));
+        number = sym (c .before .before .before .before .before .before .before .before .before .number-ok .ensures) ∙ not-false _ (c .before .before .before .before .before .before .before .before .if2 .left);
+        taken = sym (c .before .before .before .before .before .before .before .length-ok .ensures) ∙ not-false _ (c .before .before .before .before .before .before .if3 .left);
+      },
+      survey-live (a .segments) (a .slots) (now (a .image)) (r .result) (r .ensures) _ _ _ _ _ w,
+      survey-few (a .segments) (a .slots) (now (a .image)) (r .result) (r .ensures) _ _ _ _ _ w,
+    )
 
 same-length-2 : tie.Need-same-length-2
 same-length-2 c = search needs

@@ -52,7 +52,7 @@ look-clean-requires : tie.Need-look-clean-requires
 look-clean-requires c κs =
     let a = c .before .before .before .before .before .before .before .before .before .args in
     let r = c .before .before .before .survey in (
-      survey-plan (a .segments) (a .slots) (now (a .image)) (r .result) (r .ensures) (right-size (a .segments) (a .slots) (now (a .image)) _ (c .before .before .before .before .before .before .before .right-size .ensures) (c .before .before .before .before .before .before .if1 .left)) _ _ _ _ _ (c .before .surveyed .given .1),
+      survey-plan (a .segments) (a .slots) (now (a .image)) (r .result) (r .ensures) _ _ _ _ _ (c .before .surveyed .given .1) (right-size (a .segments) (a .slots) (now (a .image)) _ (c .before .before .before .before .before .before .before .right-size .ensures) (c .before .before .before .before .before .before .if1 .left)),
       sym (c .before .before .before .before .before .number-ok .ensures) ∙ not-false _ (c .before .before .before .before .if2 .left),
     )
 
