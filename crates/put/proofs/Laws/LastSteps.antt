@@ -15,15 +15,30 @@ use Rattle.find.specs.declared.Found.{Found}
 use Rattle.find.specs.declared.Found.the-variants.{At, Nothing}
 use Rattle.find.proofs.Callers.{Inside, found-inside, FoundAt, found-at, found-nothing}
 use Rattle.flash.specs.Ran.{Ran, shifted}
-use Rattle.flash.proofs.Laws.{_then_, shifted-page}
-use Rattle.flash.specs.Pages.{OnPageAt}
+use Rattle.flash.proofs.Laws.{_then_, ran-length, ran-left, shifted-page}
+use Rattle.flash.specs.Pages.{Sized, OnPageAt}
 use Rattle.flash.proofs.Pages.{in-page, sized}
+use Rattle.room.specs.declared.Plan.{Plan}
 use Rattle.room.specs.declared.Room.{Room}
+use Rattle.room.specs.Room.{Worked}
 use Rattle.request.specs.Request.{Finished}
 use Rattle.put.specs.Writing.{Ready, lastSteps, OldInside, Placed, markFound, lastStepsAt, Wrote}
 use Rattle.bridge.specs.Lengths.{page-length, write-length}
 
 -- ---- any image
+
+-- once room was made, a free slot and an old one inside the image are all that is left to test
+pub worked-placed : (N B : ℕ) (p : Plan) (total budget : ℕ) (r : Room) (f : Found) (c : List ℕ) {s t : Image} → Sized N B (length s) → Worked N B p total budget r s t
+    → r .slot < B → OldInside f (length t) → length c ≤ 248 → Placed N B r f c budget (length t)
+worked-placed N B p total budget r f c z w h o k = record {
+  sized = rw (ran-length (w .ran)) z;
+  some = w .some;
+  few = omega (arith, w .spare, z .segments);
+  room = h;
+  old = o;
+  short = k;
+  left = ran-left (w .ran);
+}
 
 module _ (N B : ℕ) (r : Room) (f : Found) (b : ℕ) (c : List ℕ) (budget : ℕ) (t : Image) (k : Placed N B r f c budget (length t)) where
   abbrev page : ℕ
