@@ -4,17 +4,17 @@ use mathlib.Core.Path.{_≡_, refl, sym, ap, ap₂, _∙_}
 use mathlib.Core.Logic.{_≢_, _⊎_, inl, inr, ⊎-elim}
 use mathlib.Core.Bool.{Bool, true, false, cond, not, true≢false, false≢true}
 use mathlib.Core.List.{List, [], _∷_}
-use native.Mathlib.Decide.{decEq, decLt}
+use native.Mathlib.Decide.{decLt}
 use native.Mathlib.Nat.{mod-lt, mod-add-mod, mul-le-mul-right, suc-mul}
 use native.Mathlib.Omega.{arith}
 use lib.ListN.{length, getD, take, drop}
 use lib.Dec.{eqb}
-use borrow.Author.Tests.{eqb-true, not-true}
+use borrow.Author.Tests.{eqb-true, eqb-false, not-true}
 use Rattle.model.specs.Lists.{all, count}
 use Rattle.model.specs.Chip.{Image, Page, erased, eraseLimit, numberLimit, imageLength, pagesOf, rightSize}
 use Rattle.model.specs.Header.{Version, statusInUse, headerStatus, headerNumber}
 use Rattle.model.specs.Slot.{Slot}
-use Rattle.model.specs.State.{Segment, blank, invalid, inUse, isInUse, isInvalid, numberAfter, slotsIn, nextNumber, topIndex, nextIndex, usedCount, firstNumber, othersBlank, segmentsOf, View, view, state, clean}
+use Rattle.model.specs.State.{Segment, blank, invalid, inUse, isInUse, isInvalid, numberAfter, slotsIn, versionIn, nextNumber, topIndex, nextIndex, usedCount, firstNumber, othersBlank, segmentsOf, View, view, state, clean}
 use Rattle.model.specs.Laws.Lists.{all-get}
 use Rattle.model.specs.Laws.Bytes.{erased-get}
 use Rattle.model.specs.Laws.Chip.{size-facts}
@@ -24,7 +24,7 @@ use Rattle.model.specs.Laws.Segments.{partOf, part-page, page-in, page-byte, se
 use Rattle.model.specs.Laws.Effects.{in-use-parts, numbered-at, blank-page}
 use Rattle.model.specs.Laws.Ring.{Apart, apart-later, number-in-use, only-numbered}
 use Rattle.model.specs.Laws.Clean.{RingFacts, used-next, numbered, next-unused, in-use-numbered}
-use Rattle.bridge.specs.Held.{Held, held-of-clean, held-first, held-count}
+use Rattle.bridge.specs.Held.{Held, held-of-clean, held-count, held-next}
 use Rattle.flash.specs.Pages.{Sized}
 use Rattle.plan.specs.Statuses.{spaced, statusAt, statusesFrom, counts}
 use Rattle.plan.specs.Seen.{EdgeAt, EdgeSeen, SeenRing}
@@ -37,13 +37,15 @@ use Rattle.plan.specs.declared.Ring.the-variants.{InUse, Broken}
 -- one of the u numbers from n on has index i, or none has
 either-number : (N u n i : ℕ) → ((j : ℕ) × (n ≤ j) × (j < n + u) × (j % N ≡ i)) ⊎ Apart N u n i
 either-number N zero n i = inr (λ j p q. absurd (omega arith))
-either-number N (suc u) n i = elim (decEq (n % N) i) [
-  | yes e ↦ inl (n, omega arith, omega arith, e)
-  | no e ↦ ⊎-elim (λ w. inl (w .0, omega (arith, w .1), omega (arith, w .2), w .3)) (λ a. inr (λ j p q. later e a j p q)) (either-number N u (suc n) i)
-]
+either-number N (suc u) n i = go (eqb (n % N) i) refl (either-number N u (suc n) i)
   where
     later : n % N ≢ i → Apart N u (suc n) i → (j : ℕ) → n ≤ j → j < n + suc u → j % N ≢ i
     later e a j p q = elim (decLt n j) [ yes l ↦ a j (omega arith) (omega arith) | no l ↦ let f : j ≡ n = omega arith in rw f e ]
+
+    go : (t : Bool) → eqb (n % N) i ≡ t → ((j : ℕ) × (suc n ≤ j) × (j < suc n + u) × (j % N ≡ i)) ⊎ Apart N u (suc n) i → ((j : ℕ) × (n ≤ j) × (j < n + suc u) × (j % N ≡ i)) ⊎ Apart N (suc u) n i
+    go true e ih = inl (n, omega arith, omega arith, eqb-true (n % N) i e)
+    go false e (inl (j, p, q, d)) = inl (j, omega arith, omega arith, d)
+    go false e (inr a) = inr (later (eqb-false (n % N) i e) a)
 
 -- ---- statuses
 
@@ -133,3 +135,69 @@ module _ (N B : ℕ) (s : Image) (v : View) (h : Held N B s v) where
               absurd (true≢false (sym (rw f at t) ∙ (sym (counts-used ((i + 1) % N) (mod-lt (i + 1) some)) ∙ d .1)))
             | no q ↦ here ∙ omega arith
           ]
+
+  pub record Told (i n : ℕ) : Type 0 where
+    pub index : n % N ≡ i
+    pub below : n < numberLimit N
+    pub last : suc n ≡ nextNumber l
+
+  -- the number in the header of an edge is the top's
+  pub edge-told : (i at n : ℕ) → i < N → EdgeAt N B s i → at ≡ i * (B + 1) * 256 → n ≡ headerNumber (take (at + 256 - at) (drop at s)) → Told i n
+  unfolding pagesOf
+  edge-told i at n p d a e =
+      let m = nextNumber l - 1 in
+      let o : numberAfter (getD l i blank) ≡ suc m = edge-number i p d ∙ omega (arith, used-next N l r, r .some) in
+      let x = getD l i blank in
+      let f : at + 256 - at ≡ 256 = omega arith in
+      let g : at ≡ (i * (B + 1) + 0) * 256 = omega arith in
+      let page : take (at + 256 - at) (drop at s) ≡ getD (partOf N B i s) 0 [] =
+      rw (f, g) (sym (part-page N B i 0 s p (omega arith) ∙ chunk-part 256 (N * (B + 1)) (i * (B + 1) + 0) s (page-in N B i 0 p (omega arith)))) in
+      let t = in-use-numbered x m o in
+      let same : n ≡ m = e ∙ ap headerNumber page ∙ in-use-parts N B i (partOf N B i s) (versionIn x) (t .0) m (slotsIn x) (sym (segment-at N B i s p) ∙ t .1) .number in
+      let q = numbered-at N B s i m p o in
+      record { index = rw same (q .0); below = rw same (q .1); last = omega (arith, same, used-next N l r, r .some) }
+
+-- ---- what is seen
+
+module _ (N B : ℕ) (s : Image) where
+  abbrev broken : Type 0
+  broken = (v : View) → Held N B s v → ⊥
+
+  is-broken : broken → SeenRing N B s Broken
+  is-broken f = record { bounded = tt; exact = λ z c. absurd (f (view N B s) (held-of-clean N B s z c)) }
+
+  module _ (e : Edge) (w : EdgeSeen N B s e) where
+    pub ring-none : N ≤ e .top → SeenRing N B s Broken
+    ring-none h = is-broken (λ v k. let t = top-edge N B s v k in w .none h (topIndex N (segmentsOf N B s)) (t .0) (t .1))
+
+    used-held : (v : View) → Held N B s v → e .count ≡ length (v .slots)
+    used-held v k = w .counted ∙ used-counted N B s v k
+
+    pub ring-all : N ≤ e .count → SeenRing N B s Broken
+    ring-all h = is-broken (λ v k. omega (arith, used-held v k, held-count N B s v k, k .ring .spare, k .ring .some))
+
+    module _ (p : e .top < N) (at n : ℕ) (a : at ≡ e .top * (B + 1) * 256) (q : n ≡ headerNumber (take (at + 256 - at) (drop at s))) where
+      told : (v : View) (k : Held N B s v) → Told N B s v k (e .top) n
+      told v k = edge-told N B s v k (e .top) at n p (w .edge p) a q
+
+      pub ring-limit : eraseLimit * N ≤ n → SeenRing N B s Broken
+      unfolding numberLimit
+      ring-limit h = is-broken (λ v k. omega (arith, told v k .below))
+
+      pub ring-index : n % N ≢ e .top → SeenRing N B s Broken
+      ring-index h = is-broken (λ v k. h (told v k .index))
+
+      numbers : (v : View) (k : Held N B s v) → v .first + length (v .slots) ≡ n + 1
+      numbers v k = held-next N B s v k ∙ omega (arith, told v k .last)
+
+      pub ring-few : n + 1 < e .count → SeenRing N B s Broken
+      ring-few h = is-broken (λ v k. omega (arith, used-held v k, numbers v k))
+
+      pub ring-seen : e .count < N → n < eraseLimit * N → e .count ≤ n + 1 → SeenRing N B s (InUse (record { 0 = n + 1 - e .count }) (e .count))
+      ring-seen h b f = record { bounded = (w .some p, omega arith, omega arith); exact = λ z c. exactly (view N B s) (held-of-clean N B s z c) }
+        where
+          exactly : (v : View) → Held N B s v → InUse (record { 0 = n + 1 - e .count }) (e .count) ≡ InUse (record { 0 = v .first }) (length (v .slots))
+          exactly v k =
+              let u = used-held v k in
+              let m : n + 1 - e .count ≡ v .first = omega (arith, u, numbers v k) in
+              rw (m, u)
