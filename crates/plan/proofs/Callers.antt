@@ -2,14 +2,14 @@
 use Prim.Native.Nat.{ℕ, zero, suc, _+_, _-_, _*_, _%_, _≤_, _<_}
 use mathlib.Core.Path.{_≡_, refl, sym, ap, _∙_, subst}
 use mathlib.Core.Bool.{Bool, true, false, cond, _||_, _&&_, not}
-use mathlib.Core.List.{List, [], _∷_, _++_, flatten}
+use mathlib.Core.List.{List, [], _∷_, flatten}
 use native.Mathlib.Nat.{mod-lt}
 use native.Mathlib.Omega.{arith}
 use lib.ListN.{length, getD}
 use lib.Dec.{leb, eqb}
-use borrow.Author.Tests.{leb-true, leb-false, le-leb, lt-leb, eqb-true, eq-eqb, ne-eqb}
+use borrow.Author.Tests.{leb-true, leb-false, le-leb, lt-leb, eq-eqb, ne-eqb}
 use Rattle.model.specs.Lists.{all, count}
-use Rattle.model.specs.Chip.{Image, Page, rightSize}
+use Rattle.model.specs.Chip.{Image, rightSize}
 use Rattle.model.specs.Slot.{Slot, empty, slotOf, isEmpty, isTorn, isWrong}
 use Rattle.model.specs.State.{View, entriesIn, noneWrongOrTorn, emptyLast, onlyTopEmpty, emptySlotsLast, capacity, clean, state, view}
 use Rattle.model.specs.Steps.{slotAt, topRow, topNumber, firstEmpty, compactions}
@@ -146,7 +146,6 @@ module _ (N B : ℕ) (s : Image) (z : rightSize N B s ≡ true) (c : state N B s
   clean-first-free {r} n e w =
       let m = length (v .slots) - 1 in
       let h : m < length (v .slots) = omega (arith, fine .some) in
-      let f : v .first + m ≡ n = omega (arith, e, fine .some) in
       let l : length (topRow (v .slots)) ≡ B = rw top-at at (row-long m h) in
       first-empty-at (topRow (v .slots)) r top-empty-last (omega (arith, l, w .within))
       (λ p. told r (omega (arith, l)) ∙ eq-eqb _ 255 (w .free (omega (arith, l)))) (λ p. told (r - 1) (omega (arith, l, w .within)) ∙ ne-eqb _ 255 (w .taken p))

@@ -3,7 +3,6 @@
 use model::ERASE_LIMIT;
 use model::SegmentNumber;
 ghost use mathlib.Core.Path.{_≡_};
-ghost use mathlib.Core.Bool.{not};
 ghost use mathlib.Core.List.{flatten};
 ghost use Prim.Native.Nat.{_+_, _*_, _<_, _≤_, min};
 ghost use lib.ListN.{length};
@@ -68,7 +67,7 @@ fn find_edge(image: &[u8], segments: usize, slots: usize) -> Edge
 
 // The segments in use. The top of a clean image is the one whose next is blank; the number in its header tells the others.
 pub fn see_ring(image: &[u8], segments: usize, slots: usize) -> Ring
-    requires { ⌜ Sized segments slots (length (now image)) × (2 ≤ segments) ⌝ }
+    requires { ⌜ Sized segments slots (length (now image)) ⌝ }
     ensures { λ r. ⌜ SeenRing segments slots (now (image .entry)) r ⌝ }
 {
     let edge = find_edge(image, segments, slots);

@@ -2,7 +2,7 @@
 use Prim.Native.Nat.{ℕ, suc, _+_, _-_, _*_, _%_, _≤_, _<_}
 use mathlib.Core.Path.{_≡_, refl, sym, ap, _∙_}
 use mathlib.Core.Logic.{_≢_}
-use mathlib.Core.Bool.{Bool, true, false, not, true≢false}
+use mathlib.Core.Bool.{Bool, true, false, true≢false}
 use mathlib.Core.List.{_∷_}
 use native.Mathlib.Decide.{decLt}
 use native.Mathlib.Nat.{mod-eq-of-lt, mod-self, mul-le-mul-right, suc-mul}
@@ -15,7 +15,6 @@ use Rattle.model.specs.Chip.{Image}
 use Rattle.flash.specs.Pages.{Sized}
 use Rattle.plan.specs.Statuses.{spaced, statusAt, statusesFrom, counts}
 use Rattle.plan.specs.Seen.{EdgeAt, EdgeSeen}
-use Rattle.plan.specs.declared.Edge.{Edge}
 
 -- a header lies inside the image
 pub status-inside : (N B i bytes : ℕ) → Sized N B bytes → i < N → i * ((B + 1) * 256) + 256 ≤ bytes

@@ -1,22 +1,20 @@
 -- What a slot's status says of its kind, where no slot is wrong or torn; and what rows of statuses say of rows of slots.
 use Prim.Native.Nat.{ℕ, zero, suc, _+_, _-_, _*_, _≤_, _<_}
 use mathlib.Core.Path.{_≡_, refl, sym, ap, _∙_}
-use mathlib.Core.Logic.{_≢_}
-use mathlib.Core.Bool.{Bool, true, false, cond, _||_, _&&_, not, true≢false, false≢true, and-eq-true-iff}
+use mathlib.Core.Bool.{Bool, true, false, cond, _||_, not, true≢false, false≢true}
 use mathlib.Core.List.{List, [], _∷_, _++_, flatMap, flatten}
 use native.Mathlib.Omega.{arith}
 use lib.ListN.{length, getD, length-append}
 use lib.Dec.{eqb}
-use borrow.Author.Tests.{eq-eqb, eqb-true}
 use Rattle.model.specs.Lists.{all, count}
-use Rattle.model.specs.Chip.{Image, Page, erased}
+use Rattle.model.specs.Chip.{Image, Page}
 use Rattle.model.specs.Slot.{Slot, empty, torn, dead, cut, wrong, live, slotOf, isEmpty, isTorn, isDead, isWrong, entryOf}
 use Rattle.model.specs.State.{entries, emptyLast}
 use Rattle.model.specs.Steps.{firstEmpty, compactions}
 use Rattle.model.specs.Laws.Lists.{all-get, count-append}
 use Rattle.model.specs.Laws.Bytes.{erased-get}
 use Rattle.model.specs.Laws.SlotPage.{KindFacts, kind-facts, slot-status}
-use Rattle.bridge.specs.Views.Slots.{noneDead, entries-append, entries-cons}
+use Rattle.bridge.specs.Views.Slots.{noneDead, entries-append}
 use Rattle.plan.specs.Statuses.{spaced, isMarked, noneMarked, firstMarked, unwritten}
 
 -- ---- one slot
@@ -24,7 +22,7 @@ use Rattle.plan.specs.Statuses.{spaced, isMarked, noneMarked, firstMarke
 pub record Tells (k : Slot) (x : ℕ) : Type 0 where
   pub free : isEmpty k ≡ eqb x 255
   pub marked : isDead k ≡ isMarked x
-  pub live : suc (length (entryOf k)) ≡ cond (unwritten x) 1 2
+  pub live : length (entryOf k) ≡ cond (unwritten x) 0 1
 
 status-tells : (p : Page) (k : Slot) → length p ≡ 256 → KindFacts p k → not (isWrong k || isTorn k) ≡ true → Tells k (getD p 0 0)
 unfolding isWrong isTorn isEmpty isDead isMarked unwritten entryOf
@@ -89,7 +87,7 @@ row-live [] (x ∷ xs) t = absurd t
 row-live (k ∷ ks) [] t = absurd t
 row-live (k ∷ ks) (x ∷ xs) t = go (unwritten x) (t .0 .live) (row-live ks xs (t .1))
   where
-    go : (b : Bool) → suc (length (entryOf k)) ≡ cond b 1 2 → count unwritten xs + length (entries ks) ≡ length ks
+    go : (b : Bool) → length (entryOf k) ≡ cond b 0 1 → count unwritten xs + length (entries ks) ≡ length ks
         → cond b (suc (count unwritten xs)) (count unwritten xs) + length (entryOf k ++ flatMap entryOf ks) ≡ suc (length ks)
     go true e ih = unfold entries in omega (arith, ih, length-append (entryOf k) (flatMap entryOf ks))
     go false e ih = unfold entries in omega (arith, ih, length-append (entryOf k) (flatMap entryOf ks))

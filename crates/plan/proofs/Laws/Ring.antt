@@ -1,35 +1,32 @@
 -- On a clean image: a segment counts as in use exactly if it is, the top alone is an edge, and the number in its header tells the others.
 use Prim.Native.Nat.{ℕ, zero, suc, _+_, _-_, _*_, _%_, _≤_, _<_}
-use mathlib.Core.Path.{_≡_, refl, sym, ap, ap₂, _∙_}
+use mathlib.Core.Path.{_≡_, refl, sym, ap, _∙_}
 use mathlib.Core.Logic.{_≢_, _⊎_, inl, inr, ⊎-elim}
-use mathlib.Core.Bool.{Bool, true, false, cond, not, true≢false, false≢true}
+use mathlib.Core.Bool.{Bool, true, false, not, true≢false, false≢true}
 use mathlib.Core.List.{List, [], _∷_}
 use native.Mathlib.Decide.{decLt}
-use native.Mathlib.Nat.{mod-lt, mod-add-mod, mul-le-mul-right, suc-mul}
+use native.Mathlib.Nat.{mod-lt, mod-add-mod, suc-mul}
 use native.Mathlib.Omega.{arith}
 use lib.ListN.{length, getD, take, drop}
 use lib.Dec.{eqb}
 use borrow.Author.Tests.{eqb-true, eqb-false, not-true}
-use Rattle.model.specs.Lists.{all, count}
-use Rattle.model.specs.Chip.{Image, Page, erased, eraseLimit, numberLimit, imageLength, pagesOf, rightSize}
-use Rattle.model.specs.Header.{Version, statusInUse, headerStatus, headerNumber}
-use Rattle.model.specs.Slot.{Slot}
-use Rattle.model.specs.State.{Segment, blank, invalid, inUse, isInUse, isInvalid, numberAfter, slotsIn, versionIn, nextNumber, topIndex, nextIndex, usedCount, firstNumber, othersBlank, segmentsOf, View, view, state, clean}
+use Rattle.model.specs.Lists.{count}
+use Rattle.model.specs.Chip.{Image, erased, eraseLimit, numberLimit, pagesOf}
+use Rattle.model.specs.Header.{statusInUse, headerStatus, headerNumber}
+use Rattle.model.specs.State.{Segment, blank, invalid, inUse, isInUse, isInvalid, numberAfter, slotsIn, versionIn, nextNumber, topIndex, nextIndex, usedCount, firstNumber, othersBlank, segmentsOf, View, view}
 use Rattle.model.specs.Laws.Lists.{all-get}
 use Rattle.model.specs.Laws.Bytes.{erased-get}
 use Rattle.model.specs.Laws.Chip.{size-facts}
 use Rattle.model.specs.Laws.Chunk.{chunk-part}
 use Rattle.model.specs.Laws.HeaderPage.{in-use-facts}
-use Rattle.model.specs.Laws.Segments.{partOf, part-page, page-in, page-byte, segment-at, segments-length}
+use Rattle.model.specs.Laws.Segments.{partOf, part-page, page-in, page-byte, segment-at}
 use Rattle.model.specs.Laws.Effects.{in-use-parts, numbered-at, blank-page}
-use Rattle.model.specs.Laws.Ring.{Apart, apart-later, number-in-use, only-numbered}
+use Rattle.model.specs.Laws.Ring.{Apart, number-in-use, only-numbered}
 use Rattle.model.specs.Laws.Clean.{RingFacts, used-next, numbered, next-unused, in-use-numbered}
 use Rattle.bridge.specs.Held.{Held, held-of-clean, held-count, held-next}
-use Rattle.flash.specs.Pages.{Sized}
 use Rattle.plan.specs.Statuses.{spaced, statusAt, statusesFrom, counts}
 use Rattle.plan.specs.Seen.{EdgeAt, EdgeSeen, SeenRing}
 use Rattle.plan.specs.declared.Edge.{Edge}
-use Rattle.plan.specs.declared.Ring.{Ring}
 use Rattle.plan.specs.declared.Ring.the-variants.{InUse, Broken}
 
 -- ---- numbers
@@ -130,9 +127,9 @@ module _ (N B : ℕ) (s : Image) (v : View) (h : Held N B s v) where
           let here : numberAfter (getD l i blank) ≡ suc j = rw e at (numbered N l r j a below) in
           elim (decLt (suc j) (nextNumber l)) [
             | yes q ↦
-              let f : suc j % N ≡ (i + 1) % N = let g : suc j ≡ j + 1 = omega arith in ap (λ (y : ℕ). y % N) g ∙ sym (mod-add-mod j N 1) ∙ ap (λ (y : ℕ). (y + 1) % N) e in
-              let t : isInUse (getD l (suc j % N) blank) ≡ true = number-in-use (getD l (suc j % N) blank) (suc j) (numbered N l r (suc j) (omega arith) q) in
-              absurd (true≢false (sym (rw f at t) ∙ (sym (counts-used ((i + 1) % N) (mod-lt (i + 1) some)) ∙ d .1)))
+                let f : suc j % N ≡ (i + 1) % N = let g : suc j ≡ j + 1 = omega arith in ap (λ (y : ℕ). y % N) g ∙ sym (mod-add-mod j N 1) ∙ ap (λ (y : ℕ). (y + 1) % N) e in
+                let t : isInUse (getD l (suc j % N) blank) ≡ true = number-in-use (getD l (suc j % N) blank) (suc j) (numbered N l r (suc j) (omega arith) q) in
+                absurd (true≢false (sym (rw f at t) ∙ (sym (counts-used ((i + 1) % N) (mod-lt (i + 1) some)) ∙ d .1)))
             | no q ↦ here ∙ omega arith
           ]
 

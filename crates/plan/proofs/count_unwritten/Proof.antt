@@ -57,8 +57,14 @@ returns c =
     let k = test .before in
     let f = k .before in
     let a = f .before .before .args in
-    omega (arith, c .if2 .taken, k .loop .inv .2, k .loop .inv .3, unwritten-more (now (a .image)) (a .slots) (f .first-slot .result) (k .loop .slot) (test .loop-test .taken) (c .before .if1 .left),
-    ap (count unwritten) (row-read (a .segments) (a .slots) (a .number .0) _ (now (a .image)) (f .first-slot .ensures)))
+    omega (
+      arith,
+      c .if2 .taken,
+      k .loop .inv .2,
+      k .loop .inv .3,
+      unwritten-more (now (a .image)) (a .slots) (f .first-slot .result) (k .loop .slot) (test .loop-test .taken) (c .before .if1 .left),
+      ap (count unwritten) (row-read (a .segments) (a .slots) (a .number .0) _ (now (a .image)) (f .first-slot .ensures)),
+    )
 
 loop-less-2 : tie.Need-loop-less-2 Inv-loop μ-loop
 loop-less-2 c = search needs
@@ -76,8 +82,13 @@ returns-2 c =
     let k = c .before in
     let f = k .before in
     let a = f .before .before .args in
-    omega (arith, k .loop .inv .2, k .loop .inv .3, unwritten-end (now (a .image)) (a .slots) (f .first-slot .result) (k .loop .slot) (c .loop-test .left),
-    ap (count unwritten) (row-read (a .segments) (a .slots) (a .number .0) _ (now (a .image)) (f .first-slot .ensures)))
+    omega (
+      arith,
+      k .loop .inv .2,
+      k .loop .inv .3,
+      unwritten-end (now (a .image)) (a .slots) (f .first-slot .result) (k .loop .slot) (c .loop-test .left),
+      ap (count unwritten) (row-read (a .segments) (a .slots) (a .number .0) _ (now (a .image)) (f .first-slot .ensures)),
+    )
 
 pub count-unwritten-spec : {M : Type 1} → statement M
 count-unwritten-spec =

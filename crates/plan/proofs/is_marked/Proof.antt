@@ -1,6 +1,5 @@
 -- `plan::is_marked` is the test of the definition. Assumes nothing.
 use Rattle.plan.proofs.Laws.Walks.{marked-dead, marked-cut}
-use borrow.Author.Needs.{needs}
 use Rattle.plan.proofs.is_marked.Statement.{statement}
 use Rattle.plan.proofs.is_marked.Tie as tie
 

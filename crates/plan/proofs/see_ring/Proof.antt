@@ -24,19 +24,19 @@ mul-at : tie.Need-mul-at
 mul-at c =
     let e = c .before .before .find-edge .result in
     let a = c .before .before .before .before in
-    record { fits = omega (arith, status-inside (a .args .segments) (a .args .slots) (e .top) _ (a .pre .0) (c .before .if1 .left)) }
+    record { fits = omega (arith, status-inside (a .args .segments) (a .args .slots) (e .top) _ (a .pre) (c .before .if1 .left)) }
 
 mul-at-2 : tie.Need-mul-at-2
 mul-at-2 c =
     let e = c .before .before .find-edge .result in
     let a = c .before .before .before .before in
-    record { fits = omega (arith, status-inside (a .args .segments) (a .args .slots) (e .top) _ (a .pre .0) (c .before .if1 .left)) }
+    record { fits = omega (arith, status-inside (a .args .segments) (a .args .slots) (e .top) _ (a .pre) (c .before .if1 .left)) }
 
 add-end : tie.Need-add-end
 add-end c =
     let e = c .before .before .find-edge .result in
     let a = c .before .before .before .before in
-    record { fits = omega (arith, status-inside (a .args .segments) (a .args .slots) (e .top) _ (a .pre .0) (c .before .if1 .left)) }
+    record { fits = omega (arith, status-inside (a .args .segments) (a .args .slots) (e .top) _ (a .pre) (c .before .if1 .left)) }
 
 sub-header-number : tie.Need-sub-header-number
 sub-header-number c = search needs
@@ -48,7 +48,7 @@ part-header-number-end : tie.Need-part-header-number-end
 part-header-number-end c =
     let e = c .before .before .find-edge .result in
     let a = c .before .before .before .before in
-    omega (arith, status-inside (a .args .segments) (a .args .slots) (e .top) _ (a .pre .0) (c .before .if1 .left))
+    omega (arith, status-inside (a .args .segments) (a .args .slots) (e .top) _ (a .pre) (c .before .if1 .left))
 
 header-number-requires : tie.Need-header-number-requires
 header-number-requires c κs = search needs
