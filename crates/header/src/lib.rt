@@ -55,7 +55,7 @@ fn long(a: u8, b: u8, c: u8, d: u8) -> u32
 }
 
 // The number in a header page, in use or not.
-fn header_number(page: &[u8]) -> SegmentNumber
+pub fn header_number(page: &[u8]) -> SegmentNumber
     requires { ⌜ length (now page) ≡ 256 ⌝ }
     ensures { λ r. ⌜ r .0 ≡ headerNumber (now (page .entry)) ⌝ }
 {

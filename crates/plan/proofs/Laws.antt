@@ -1,0 +1,4 @@
+pub mod Walks
+pub mod Edges
+pub mod Ring
+pub mod Kinds
