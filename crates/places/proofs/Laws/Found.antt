@@ -1,7 +1,7 @@
 -- What a lookup sees in a table that is in step: the block's live slot and the length of its contents, or that the block is not stored.
-use Prim.Native.Nat.{ℕ, suc, _+_, _*_, _/_, _%_, _≤_, _<_}
+use Prim.Native.Nat.{ℕ, suc, _+_, _*_, _/_, _%_, _<_}
 use mathlib.Core.Path.{_≡_, refl, sym, ap, _∙_, subst}
-use mathlib.Core.Bool.{Bool, true, false, cond, _||_}
+use mathlib.Core.Bool.{Bool, true, false, cond}
 use mathlib.Core.List.{List, [], _∷_, flatten}
 use native.Mathlib.Omega.{arith}
 use native.Mathlib.Nat.{mod-lt, mod-eq-of-lt, mul-add-mod-self-right, mul-le-mul-right, suc-mul}
@@ -9,37 +9,32 @@ use lib.ListN.{length, getD}
 use lib.Dec.{ltb}
 use borrow.Author.Tests.{eq-eqb, ltb-true}
 use Rattle.model.specs.Chip.{Image, Page, imageLength}
-use Rattle.model.specs.Slot.{numberOk, mostContents, slotPage, Slot, empty, live, slotOf, entryOf}
+use Rattle.model.specs.Slot.{numberOk, mostContents, slotPage, Slot, live, slotOf, entryOf}
 use Rattle.model.specs.State.{View, entries, entriesIn, holds, Place, placeOf, view}
 use Rattle.model.specs.Steps.{slotAt}
-use Rattle.model.specs.Table.{present, lookup, contentsFound}
+use Rattle.model.specs.Table.{lookup, contentsFound}
 use Rattle.model.specs.Mounted.{Places, placeEntry}
 use Rattle.model.specs.Laws.Lists.{and-left}
 use Rattle.model.specs.Laws.Chip.{size-facts}
 use Rattle.model.specs.Laws.Segments.{partOf, page-byte}
 use Rattle.model.specs.Laws.SlotPage.{live-facts, number-below}
-use Rattle.model.specs.Laws.Effects.{index, slot-kind}
+use Rattle.model.specs.Laws.Effects.{slot-kind}
 use Rattle.model.specs.Laws.Tables.{lookup-append}
 use Rattle.bridge.specs.Held.{Held, held-row, held-lengths, held-of-clean}
 use Rattle.bridge.specs.Views.Places.{FirstLive, first-live, earlier, later, fill-entries, InView, in-view}
 use Rattle.places.specs.declared.Entry.{Entry}
 use Rattle.places.specs.declared.Entry.the-variants.{At, Absent}
 use Rattle.places.specs.Places.{entrySeen}
-use Rattle.places.proofs.Laws.Seen.{seen-absent, seen-at}
+use Rattle.places.proofs.Laws.Seen.{Believed, seen-absent, believed-seen}
 use Rattle.places.proofs.Laws.Kept.{Kept}
 
 -- ---- where a stored block's slot lies
 
--- the place is that of a slot, and the length there is that of the contents
-pub record Stored (N B b : ℕ) (s : Image) (v : View) (e : ℕ) : Type 0 where
-  pub some : e ≡ 0 → ⊥
-  pub even : e % 256 ≡ 0
-  pub slot : e / 256 % (B + 1) ≡ 0 → ⊥
-  pub inside : e + 256 ≤ length s
-  pub long : getD s (e + 1) 0 ≡ length (contentsFound (lookup b (entriesIn v)))
-  pub short : getD s (e + 1) 0 ≤ 248
-
 module _ (N B b : ℕ) (s : Image) (v : View) (h : Held N B s v) (f : FirstLive b (v .first) (v .slots)) where
+  -- a place that is believed, with the length of the contents
+  abbrev Stored : ℕ → Type 0
+  Stored e = Believed B s e (record { 0 = e }) (length (contentsFound (lookup b (entriesIn v))))
+
   abbrev c : List ℕ
   c = f .contents
 
@@ -76,22 +71,24 @@ module _ (N B b : ℕ) (s : Image) (v : View) (h : Held N B s v) (f : FirstLive 
       let d : (n % N * (B + 1) + suc j) * 256 / 256 ≡ n % N * (B + 1) + suc j = omega arith in
       rw d (mul-add-mod-self-right (n % N) (B + 1) (suc j) ∙ mod-eq-of-lt {n = suc j} {m = B + 1} (omega (arith, i .short)))
 
-  stored : Stored N B b s v ((n % N * (B + 1) + suc j) * 256)
+  stored : Stored ((n % N * (B + 1) + suc j) * 256)
   unfolding imageLength mostContents
   stored = record {
+    place = refl;
     some = λ q. omega arith;
     even = omega arith;
     slot = λ q. omega (arith, remainder, q);
     inside = omega (arith, size-facts N B s (h .size) .whole, mul-le-mul-right (B + 1) here, suc-mul (n % N) (B + 1), i .short);
-    long = byte ∙ ap length (sym contents);
-    short = omega (arith, byte, live-facts (getD (partOf N B (n % N) s) (suc j) []) b c page .short);
+    long = ap length contents ∙ sym byte;
+    short = omega (arith, ap length contents, live-facts (getD (partOf N B (n % N) s) (suc j) []) b c page .short);
   }
 
-  stored-first : Stored N B b s v (slotAt N B (placeOf b v .number) (placeOf b v .slot) * 256)
+  stored-first : Stored (slotAt N B (placeOf b v .number) (placeOf b v .slot) * 256)
   unfolding slotAt placeOf
-  stored-first = subst (λ (p : Place). Stored N B b s v ((p .number % N * (B + 1) + suc (p .slot)) * 256)) (sym (f .place)) stored
+  stored-first = subst (λ (p : Place). Stored ((p .number % N * (B + 1) + suc (p .slot)) * 256)) (sym (f .place)) stored
 
-pub stored-place : (N B b : ℕ) (s : Image) (v : View) → Held N B s v → holds b (entriesIn v) ≡ true → Stored N B b s v (slotAt N B (placeOf b v .number) (placeOf b v .slot) * 256)
+pub stored-place : (N B b : ℕ) (s : Image) (v : View) → Held N B s v → holds b (entriesIn v) ≡ true
+    → let e = slotAt N B (placeOf b v .number) (placeOf b v .slot) * 256 in Believed B s e (record { 0 = e }) (length (contentsFound (lookup b (entriesIn v))))
 unfolding entriesIn
 stored-place N B b s v h e = stored-first N B b s v h (first-live b (v .first) (v .slots) e)
 
@@ -106,10 +103,7 @@ unfolding placeEntry
 entry-seen N B b s v h = go (holds b (entriesIn v)) refl
   where
     go : (x : Bool) → holds b (entriesIn v) ≡ x → entrySeen B s (placeEntry N B v b) ≡ foundEntry N B b v
-    go true e =
-        let p = slotAt N B (placeOf b v .number) (placeOf b v .slot) * 256 in
-        let d = stored-place N B b s v h e in
-        rw e (sym (seen-at B s p (d .some) (d .even) (d .slot) (d .inside) (d .short) (length (contentsFound (lookup b (entriesIn v)))) (sym (d .long))))
+    go true e = rw e (believed-seen B s (slotAt N B (placeOf b v .number) (placeOf b v .slot) * 256) _ _ (stored-place N B b s v h e))
     go false e = rw e (sym (seen-absent B s 0 refl))
 
 -- in a table that is in step
