@@ -158,7 +158,8 @@ pub record Walking (N B b : ℕ) (s : Image) (first used turn from slot : ℕ) :
   pub rest : foundFrom N B b (first + turn) slot (slotsLeft N B s (first + turn) slot) (rowsAt N B s (used - (turn + 1)) (suc (first + turn)))
       ≡ foundIn N B first (rowsAt N B s used first) b
 
-slots-inside : (N B n : ℕ) → n % N < N → slotAt N B n 0 * 256 + B * 256 ≤ N * (B + 1) * 256
+-- its slots lie in the image
+pub slots-inside : (N B n : ℕ) → n % N < N → slotAt N B n 0 * 256 + B * 256 ≤ N * (B + 1) * 256
 unfolding slotAt
 slots-inside N B n h = omega (arith, mul-le-mul-right (B + 1) h, suc-mul (n % N) (B + 1))
 

@@ -4,3 +4,4 @@ pub mod Rows
 pub mod Entered
 pub mod Filled
 pub mod Kept
+pub mod Found

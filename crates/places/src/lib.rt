@@ -80,9 +80,10 @@ fn enter_slots(image: &[u8], slots: usize, from: SlotPlace, places: &mut [u32])
     requires { ⌜ (from .0 + slots * 256 ≤ length (now image)) × (length (now image) ≤ 4294967296) × (leastPlaces ≤ length (now places)) ⌝ }
     ensures { λ _. ⌜ now (places .exit) ≡ entered (from .0) (chunk slots 256 (drop (from .0) (now (image .entry)))) (now (places .entry)) ⌝ }
 {
+    let start = from.0;
     let mut slot = 0;
     while slot < slots {
-        let at = from.0 + slot * 256;
+        let at = start + slot * 256;
         let status = image[at];
         if status == UNWRITTEN {
             return;

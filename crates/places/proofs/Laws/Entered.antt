@@ -2,12 +2,12 @@
 -- clean view each entry is by the view's rows.
 use Prim.Native.Nat.{ℕ, zero, suc, _+_, _*_, _%_, _≤_, _<_}
 use mathlib.Core.Path.{_≡_, refl, sym, ap, _∙_, subst}
-use mathlib.Core.Bool.{Bool, true, false, cond, _||_, false≢true, true≢false}
+use mathlib.Core.Bool.{Bool, true, false, cond, _||_, false≢true}
 use mathlib.Core.List.{List, [], _∷_, _++_, map, flatMap, flatten}
 use native.Mathlib.Omega.{arith}
 use native.Mathlib.Decide.{decLt}
 use lib.ListN.{length, getD, drop, set, List·getD-eq-default}
-use lib.Seq.{drop-set-lt, getD-drop, drop-nil}
+use lib.Seq.{drop-set-lt, getD-drop}
 use lib.Dec.{eqb}
 use borrow.Author.Tests.{eqb-true}
 use Rattle.model.specs.Chip.{Image, Page, Bytes, pagesOf}
@@ -16,7 +16,7 @@ use Rattle.model.specs.State.{View, entries, entriesIn, holds, noneWrongOrTorn,
 use Rattle.model.specs.Steps.{slotAt}
 use Rattle.model.specs.Mounted.{Places, leastPlaces}
 use Rattle.model.specs.Laws.Bytes.{bytes-get, chunk-bytes}
-use Rattle.model.specs.Laws.Segments.{partOf, parts-length, part-page, part-size}
+use Rattle.model.specs.Laws.Segments.{parts, partOf, parts-length, part-page, part-size}
 use Rattle.model.specs.Laws.SlotPage.{live-facts}
 use Rattle.bridge.specs.Held.{Held}
 use Rattle.bridge.specs.Predicted.{CleanView}
@@ -53,7 +53,7 @@ module _ (N B : ℕ) (s : Image) (bytes : Bytes s) where
       | yes k ↦ rw (part-page N B i q s h k) (chunk-bytes (N * (B + 1)) 256 (i * (B + 1) + q) s bytes)
       | no k ↦ subst Bytes (sym (List·getD-eq-default (partOf N B i s) [] {n = q} (omega (arith, part-size N B i s h)))) tt
     ]
-    | no h ↦ subst (λ (ps : List Page). Bytes (getD ps q [])) (sym (List·getD-eq-default (Rattle.model.specs.Laws.Segments.parts N B s) [] {n = i} (omega (arith, parts-length N B s)))) tt
+    | no h ↦ subst (λ (ps : List Page). Bytes (getD ps q [])) (sym (List·getD-eq-default (parts N B s) [] {n = i} (omega (arith, parts-length N B s)))) tt
   ]
 
   -- the entries past the block numbers stay

@@ -1,14 +1,14 @@
 -- A filled table, entry by entry; and that what the code makes is one. The count of entries is a variable here: nothing computes a list of 65,536.
-use Prim.Native.Nat.{ℕ, zero, suc, _+_, _-_, _*_, _≤_, _<_}
+use Prim.Native.Nat.{ℕ, zero, suc, _+_, _-_, _≤_, _<_}
 use mathlib.Core.Path.{_≡_, refl, sym, ap, _∙_}
 use mathlib.Core.Bool.{Bool, true, false, cond}
-use mathlib.Core.List.{List, [], _∷_, _++_, flatten}
+use mathlib.Core.List.{_∷_, _++_, flatten}
 use native.Mathlib.Omega.{arith}
 use native.Mathlib.Decide.{decLt}
 use lib.ListN.{length, getD, drop, set, replicate, length-append, length-drop, length-set, length-replicate, getD-replicate, List·getD-append}
 use lib.Seq.{ext-getD, getD-drop, getD-append-add, getD-set-same, getD-set-other, drop-set-lt, drop-at}
 use Rattle.model.specs.Chip.{Image, Bytes, numberLimit}
-use Rattle.model.specs.State.{View, entries, entriesIn, holds, view}
+use Rattle.model.specs.State.{View, entries, holds, view}
 use Rattle.model.specs.Steps.{topNumber}
 use Rattle.model.specs.Mounted.{Places, leastPlaces, placeEntry, placesFrom, filledPlaces}
 use Rattle.model.specs.Laws.Chip.{size-facts}

@@ -1,11 +1,11 @@
 -- Image and table in step, fact by fact.
 use Prim.Native.Nat.{ℕ, _≤_, _<_}
 use mathlib.Core.Path.{_≡_, refl, sym, ap, _∙_}
-use mathlib.Core.Bool.{Bool, true, false, cond, _||_, not}
+use mathlib.Core.Bool.{Bool, true, false, not, true≢false}
 use mathlib.Core.List.{[], _∷_}
 use native.Mathlib.Omega.{arith}
 use lib.ListN.{length, getD}
-use lib.Dec.{ltb, eqb}
+use lib.Dec.{ltb}
 use borrow.Author.Tests.{ltb-false, le-ltb, not-false}
 use Rattle.model.specs.Chip.{Image, rightSize}
 use Rattle.model.specs.State.{State, clean, unfinished, damaged, state, view}
@@ -31,8 +31,8 @@ none-applies false false false false e = (refl, refl, refl, refl)
 neither : (x : State) → isDamaged x ≡ false → isUnfinished x ≡ false → x ≡ clean
 unfolding isDamaged isUnfinished
 neither clean a b = refl
-neither (unfinished x) a b = absurd (mathlib.Core.Bool.true≢false b)
-neither damaged a b = absurd (mathlib.Core.Bool.true≢false a)
+neither (unfinished x) a b = absurd (true≢false b)
+neither damaged a b = absurd (true≢false a)
 
 module _ (N B : ℕ) (s : Image) (t : Places) where
   pub in-step-kept : InStep N B s t → Kept N B s t

@@ -1,29 +1,28 @@
 -- What the walk enters, entry by entry: of one row of slots, and of rows.
-use Prim.Native.Nat.{ℕ, zero, suc, _+_, _*_, _/_, _%_, _≤_, _<_}
-use mathlib.Core.Path.{_≡_, refl, sym, ap, _∙_, subst}
-use mathlib.Core.Bool.{Bool, true, false, cond, _||_, _&&_, not, false≢true, true≢false}
+use Prim.Native.Nat.{ℕ, zero, suc, _+_, _*_, _%_, _≤_, _<_}
+use mathlib.Core.Path.{_≡_, refl, ap, _∙_}
+use mathlib.Core.Bool.{Bool, true, false, cond, _||_, _&&_, not, false≢true}
 use mathlib.Core.List.{List, [], _∷_, _++_, map, flatMap, flatten}
 use native.Mathlib.Omega.{arith}
-use native.Mathlib.Decide.{ℕ-discrete}
 use lib.ListN.{length, getD, drop, set, length-set}
 use lib.Seq.{getD-set-same, getD-set-other}
 use lib.Dec.{eqb}
-use borrow.Author.Tests.{eqb-true, eqb-false, eq-eqb, ne-eqb, not-true}
+use borrow.Author.Tests.{eqb-true, eqb-false, ne-eqb, not-true}
 use Rattle.model.specs.Lists.{all}
 use Rattle.model.specs.Chip.{Image, Page}
-use Rattle.model.specs.Slot.{written, slotPage, pageBlock, slotFits, pageContents, numberOk, Slot, empty, torn, dead, cut, wrong, live, slotOf, isEmpty, isTorn, isWrong, entryOf}
+use Rattle.model.specs.Slot.{written, slotPage, pageBlock, slotFits, pageContents, Slot, empty, torn, dead, cut, wrong, live, slotOf, isEmpty, isTorn, isWrong, entryOf}
 use Rattle.model.specs.State.{entries, holds, distinct, copies, slotFrom, placeFrom, emptyLast, onlyTopEmpty}
 use Rattle.model.specs.Steps.{slotAt}
 use Rattle.model.specs.Mounted.{Places}
 use Rattle.model.specs.Laws.Lists.{and-left, and-right, all-parts}
 use Rattle.model.specs.Laws.Segments.{partOf}
 use Rattle.model.specs.Laws.SlotPage.{kind-facts, live-facts, live-status}
-use Rattle.model.specs.Laws.Tables.{holds-append, copies-append, held-copies, absent-copies, copies-absent, distinct-copies, copies-distinct}
+use Rattle.model.specs.Laws.Tables.{holds-append, copies-append, held-copies, copies-absent, distinct-copies, copies-distinct}
 use Rattle.bridge.specs.Views.Slots.{full, sound, entries-append, all-empty-entries}
 use Rattle.bridge.specs.Views.Entries.{rowsEntry}
 use Rattle.find.specs.Search.{rowsAt}
 use Rattle.places.specs.Places.{entered, enteredFrom}
-use Rattle.places.proofs.Laws.Walk.{entered-stop, entered-live, entered-over, entered-length}
+use Rattle.places.proofs.Laws.Walk.{entered-live, entered-over, entered-length}
 
 -- ---- what a kind says of the status
 

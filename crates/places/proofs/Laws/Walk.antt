@@ -4,7 +4,7 @@ use mathlib.Core.Path.{_≡_, refl, sym, ap, _∙_}
 use mathlib.Core.Bool.{Bool, true, false, cond}
 use mathlib.Core.List.{List, [], _∷_}
 use native.Mathlib.Omega.{arith}
-use native.Mathlib.Nat.{mod-lt, mul-le-mul-right, suc-mul}
+use native.Mathlib.Nat.{mod-lt, mul-le-mul-right}
 use lib.ListN.{length, getD, take, drop, set, length-set, length-drop}
 use lib.Seq.{getD-take, getD-drop, drop-drop, ext-getD}
 use lib.Dec.{eqb}
@@ -17,6 +17,7 @@ use Rattle.model.specs.Mounted.{Places}
 use Rattle.model.specs.Laws.Chunk.{chunk-length, chunk-part}
 use Rattle.model.specs.Laws.Segments.{partOf, part-page, part-size, page-in}
 use Rattle.flash.specs.Pages.{Sized}
+use Rattle.find.proofs.Laws.{slots-inside}
 use Rattle.places.specs.Places.{entered, enteredFrom}
 
 -- ---- one page more
@@ -168,10 +169,9 @@ module _ (N B : ℕ) (s : Image) (first count turn : ℕ) (t t₀ : Places) (w :
         rest = rw g at (ap (λ (y : Places). enteredFrom N B s (count - (turn + 1)) (suc n) y) p ∙ whole);
       }
 
--- the slots of a segment lie in the image
+-- the slots of a segment lie in the image, which has few bytes
 pub slots-within : (N B n bytes : ℕ) → Sized N B bytes → slotAt N B n 0 * 256 + B * 256 ≤ bytes
-unfolding slotAt
-slots-within N B n bytes z = omega (arith, z .whole, mul-le-mul-right (B + 1) (mod-lt n {m = N} (z .some)), suc-mul (n % N) (B + 1))
+slots-within N B n bytes z = omega (arith, z .whole, slots-inside N B n (mod-lt n {m = N} (z .some)))
 
 pub few-bytes : (N B bytes : ℕ) → Sized N B bytes → bytes ≤ 16711680
 few-bytes N B bytes z = omega (arith, z .whole, mul-le-mul-right (B + 1) (z .segments), z .slots)

@@ -1,7 +1,6 @@
 -- `places::enter` enters the segments of the definition. The invariant: those that are left, entered, give the whole. Assumes nothing.
 use Prim.Native.Nat.{_+_, _-_}
 use native.Mathlib.Omega.{arith}
-use denote.Ref.{now}
 use Rattle.places.proofs.Laws.Walk.{Rounding, rounding-start, rounding-next, rounding-end, slots-within, few-bytes}
 use borrow.Author.Needs.{needs}
 use Rattle.places.proofs.enter.Statement.{statement}

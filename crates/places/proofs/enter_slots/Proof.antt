@@ -1,17 +1,15 @@
 -- `places::enter_slots` enters the slots of the definition. The invariant: those that are left, entered, give the whole. Assumes nothing.
 use Prim.Native.Nat.{_-_}
-use native.Mathlib.Omega.{arith}
-use denote.Ref.{now}
 use Rattle.places.proofs.Laws.Walk.{Entering, entering-start, entering-stop, entering-over, entering-live, entering-end}
 use borrow.Author.Needs.{needs}
 use Rattle.places.proofs.enter_slots.Statement.{statement}
 use Rattle.places.proofs.enter_slots.Tie as tie
 
 abbrev Inv-loop : tie.InvT-loop
-Inv-loop image slots from places₀ slot₀ places slot = Entering image slots (from .0) slot places places₀
+Inv-loop image slots places₀ start slot₀ places slot = Entering image slots start slot places places₀
 
 abbrev μ-loop : tie.MeasureT-loop
-μ-loop image slots from places₀ slot₀ places slot = slots - slot
+μ-loop image slots places₀ start slot₀ places slot = slots - slot
 
 loop-holds : tie.Need-loop-holds Inv-loop μ-loop
 loop-holds c = entering-start _ _ _ _
@@ -26,19 +24,19 @@ shared-slice-read-status : tie.Need-shared-slice-read-status Inv-loop μ-loop
 shared-slice-read-status c = search needs
 
 same-length : tie.Need-same-length Inv-loop μ-loop
-same-length c = c .before .before .before .before .loop .inv .long
+same-length c = c .before .before .before .loop .inv .long
 
 -- what is entered stands before the ranges: an edit is refused for that
 loop-again-2 : tie.Need-loop-again-2 Inv-loop μ-loop
 loop-again-2 c =
-    let test = c .before .before .before in
-    let k = test .before .before .before .before .before in
-    entering-live _ _ _ _ _ _ (k .loop .inv) (test .before .before .before .before .loop-test .taken) (test .if2 .left) _ (c .word .ensures .0)
+    let status = c .before .before .before in
+    let test = status .before .before .before in
+    entering-live _ _ _ _ _ _ (test .before .loop .inv) (test .loop-test .taken) (status .if2 .left) _ (c .word .ensures .0)
 
 returns : tie.Need-returns Inv-loop μ-loop
 returns c =
-    let k = c .before .before .before .before in
-    entering-stop _ _ _ _ _ _ (k .loop .inv) (c .before .before .before .loop-test .taken) (c .if1 .taken)
+    let test = c .before .before in
+    entering-stop _ _ _ _ _ _ (test .before .loop .inv) (test .loop-test .taken) (c .if1 .taken)
 
 add-slot : tie.Need-add-slot Inv-loop μ-loop
 add-slot c = search needs
@@ -48,8 +46,8 @@ loop-less c = search needs
 
 loop-again : tie.Need-loop-again Inv-loop μ-loop
 loop-again c =
-    let k = c .before .before .before .before .before in
-    entering-over _ _ _ _ _ _ (k .loop .inv) (c .before .before .before .before .loop-test .taken) (c .before .if1 .left) (c .if2 .taken)
+    let test = c .before .before .before in
+    entering-over _ _ _ _ _ _ (test .before .loop .inv) (test .loop-test .taken) (c .before .if1 .left) (c .if2 .taken)
 
 add-word : tie.Need-add-word Inv-loop μ-loop
 add-word c = search needs

@@ -39,7 +39,7 @@ add-if4 : tie.Need-add-if4
 add-if4 c = record { fits = omega (arith, c .before .before .before .before .before .shared-slice-known2 .given (c .before .before .before .before .before .before .before .args .block .0)) }
 
 returns-4 : tie.Need-returns-4
-returns-4 c = seen-outside _ _ _ (c .before .before .before .if1 .left) (c .before .before .if2 .left) (c .before .if3 .left) (c .if4 .taken)
+returns-4 c = seen-outside _ _ _ (c .before .before .before .if1 .left) (c .before .before .if2 .left) (c .before .if3 .left) (omega (arith, c .if4 .taken))
 
 add-wide : tie.Need-add-wide
 add-wide c = search needs
