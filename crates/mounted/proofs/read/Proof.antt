@@ -1,66 +1,89 @@
+-- `mounted::read` keeps its contract. Assumes nothing.
+use mathlib.Core.Path.{sym, ap, _∙_}
+use native.Mathlib.Omega.{arith}
+use denote.Ref.{now}
+use lib.ListN.{getD}
+use Rattle.model.specs.Answers.{codeOf, located}
+use Rattle.places.proofs.Laws.Seen.{seen-believed}
+use Rattle.mounted.proofs.Laws.Refusals.{none-refuses, slots-few, refusing-code}
+use Rattle.mounted.proofs.Laws.Reads.{read-bound, read-absent-entry, read-stale-entry, read-entry}
 use borrow.Author.Needs.{needs}
 use Rattle.mounted.proofs.read.Statement.{statement}
 use Rattle.mounted.proofs.read.Tie as tie
-use Rattle.mounted.proofs.read.Reads as reads
-use Rattle.mounted.proofs.read.Lts as lts
-use Rattle.mounted.proofs.nowhere.Reads as nowhere-reads
-use Rattle.mounted.proofs.refusal.Reads as refusal-reads
-use Rattle.places.proofs.look_up.Reads as look-up-reads
 
--- src/lib.rt:80:9
 refusal-requires : tie.Need-refusal-requires
 refusal-requires c κs = search needs
 
 enum-told : tie.Need-enum-told
 enum-told c = search needs
 
--- src/lib.rt:82:9
 nowhere-requires : tie.Need-nowhere-requires
 nowhere-requires c κs = search needs
 
--- src/lib.rt:82:9
 returns : tie.Need-returns
-returns c = ?
+unfolding located
+returns c =
+    let y = c .before .before in
+    let a = y .before .before .before .args in
+    let n = c .nowhere .ensures in
+    rw (n .0, n .1, n .2) (read-bound (a .segments) (a .slots) (now (a .image)) (now (a .places)) (a .block .0) _ (y .refusal .ensures) (λ z. refusing-code _ (c .before .match .keys2) (y .refusal .ensures ∙ z)))
 
--- src/lib.rt:84:9
 look-up-requires : tie.Need-look-up-requires
-look-up-requires c κs = ?
+look-up-requires c κs =
+    let y = c .before .before in
+    let a = y .before .before .before .args in
+    slots-few (a .segments) (a .slots) (now (a .image)) (now (a .places)) (a .block .0) _ (none-refuses (a .segments) (a .slots) (now (a .image)) (now (a .places)) (a .block .0) _ _ (y .refusal .ensures) (c .enum-told .given .1))
 
--- src/lib.rt:86:19
 enum-known-entry : tie.Need-enum-known-entry
 enum-known-entry c = search needs
 
--- src/lib.rt:88:21
 add-t12 : tie.Need-add-t12
-add-t12 c = ?
+add-t12 c =
+    let y = c .before .before .before .before in
+    let a = y .before .before .before .before .before .before .args in
+    let i = seen-believed (a .slots) (now (a .image)) (getD (now (a .places)) (a .block .0) 0) _ _ (sym (y .look-up .ensures) ∙ c .before .before .entry .given .1) in
+    omega (arith, i .place, i .inside)
 
--- src/lib.rt:91:34
 enum-told-2 : tie.Need-enum-told-2
 enum-told-2 c = search needs
 
--- src/lib.rt:91:26
 nowhere-requires-2 : tie.Need-nowhere-requires-2
 nowhere-requires-2 c κs = search needs
 
--- src/lib.rt:92:33
 enum-told-3 : tie.Need-enum-told-3
 enum-told-3 c = search needs
 
--- src/lib.rt:92:25
 nowhere-requires-3 : tie.Need-nowhere-requires-3
 nowhere-requires-3 c κs = search needs
 
--- src/lib.rt:77:1
 returns-2 : tie.Need-returns-2
-returns-2 c = ?
+unfolding located codeOf
+returns-2 c =
+    let y = c .before .before .before .before in
+    let x = y .before .before .before in
+    let a = x .before .before .before .args in
+    read-entry (a .segments) (a .slots) (now (a .image)) (now (a .places)) (a .block .0) (none-refuses (a .segments) (a .slots) (now (a .image)) (now (a .places)) (a .block .0) _ _ (x .refusal .ensures) (y .before .enum-told .given .1)) _ _
+    (sym (y .look-up .ensures) ∙ c .before .before .entry .given .1)
 
--- src/lib.rt:77:1
 returns-3 : tie.Need-returns-3
-returns-3 c = ?
+unfolding located
+returns-3 c =
+    let y = c .before .before .before in
+    let x = y .before .before .before in
+    let a = x .before .before .before .args in
+    let n = c .nowhere2 .ensures in
+    rw (n .0, n .1, n .2) (read-absent-entry (a .segments) (a .slots) (now (a .image)) (now (a .places)) (a .block .0) (none-refuses (a .segments) (a .slots) (now (a .image)) (now (a .places)) (a .block .0) _ _ (x .refusal .ensures) (y .before .enum-told .given .1))
+    (sym (y .look-up .ensures) ∙ c .before .enum-told2 .given .1))
 
--- src/lib.rt:77:1
 returns-4 : tie.Need-returns-4
-returns-4 c = ?
+unfolding located
+returns-4 c =
+    let y = c .before .before .before in
+    let x = y .before .before .before in
+    let a = x .before .before .before .args in
+    let n = c .nowhere3 .ensures in
+    rw (n .0, n .1, n .2) (read-stale-entry (a .segments) (a .slots) (now (a .image)) (now (a .places)) (a .block .0) (none-refuses (a .segments) (a .slots) (now (a .image)) (now (a .places)) (a .block .0) _ _ (x .refusal .ensures) (y .before .enum-told .given .1))
+    (sym (y .look-up .ensures) ∙ c .before .enum-told3 .given .1))
 
 pub read-spec : {M : Type 1} → statement M
 read-spec =

@@ -1,46 +1,60 @@
+-- `mounted::refusal` is the first of the refusals that bind a mounted call. Assumes nothing.
+use mathlib.Core.Path.{sym, _∙_}
+use native.Mathlib.Omega.{arith}
+use denote.Ref.{now}
+use borrow.Author.Tests.{not-true, not-false}
+use Rattle.request.proofs.Laws.{wrong-size, right-size}
+use Rattle.mounted.proofs.Laws.Refusals.{refuses-size, refuses-short, refuses-number, refuses-length, refuses-unusable, refuses-none}
 use borrow.Author.Needs.{needs}
 use Rattle.mounted.proofs.refusal.Statement.{statement}
 use Rattle.mounted.proofs.refusal.Tie as tie
-use Rattle.mounted.proofs.refusal.Reads as reads
-use Rattle.mounted.proofs.refusal.Lts as lts
-use Rattle.request.proofs.number_ok.Reads as number-ok-reads
-use Rattle.request.proofs.right_size.Reads as right-size-reads
 
--- src/lib.rt:58:9
 right-size-requires : tie.Need-right-size-requires
 right-size-requires c κs = search needs
 
--- src/lib.rt:59:9
 returns : tie.Need-returns
-returns c = ?
+returns c =
+    let a = c .before .before .before .before .args in
+    refuses-size (a .segments) (a .slots) (now (a .image)) (now (a .places)) (a .block .0) (a .taken) (wrong-size (a .segments) (a .slots) (now (a .image)) _ (c .before .right-size .ensures) (c .if1 .taken))
 
--- src/lib.rt:62:9
 returns-2 : tie.Need-returns-2
-returns-2 c = ?
+returns-2 c =
+    let a = c .before .before .before .before .before .args in
+    refuses-short (a .segments) (a .slots) (now (a .image)) (now (a .places)) (a .block .0) (a .taken) (right-size (a .segments) (a .slots) (now (a .image)) _ (c .before .before .right-size .ensures) (c .before .if1 .left)) (c .if2 .taken)
 
--- src/lib.rt:64:9
 number-ok-requires : tie.Need-number-ok-requires
 number-ok-requires c κs = search needs
 
--- src/lib.rt:65:9
 returns-3 : tie.Need-returns-3
-returns-3 c = ?
+returns-3 c =
+    let y = c .before .before in
+    let a = y .before .before .before .before .before .args in
+    refuses-number (a .segments) (a .slots) (now (a .image)) (now (a .places)) (a .block .0) (a .taken) (right-size (a .segments) (a .slots) (now (a .image)) _ (y .before .before .right-size .ensures) (y .before .if1 .left)) (omega (arith, y .if2 .left))
+    (sym (c .before .number-ok .ensures) ∙ not-true _ (c .if3 .taken))
 
--- src/lib.rt:68:9
 returns-4 : tie.Need-returns-4
-returns-4 c = ?
+returns-4 c =
+    let y = c .before .before .before in
+    let a = y .before .before .before .before .before .args in
+    refuses-length (a .segments) (a .slots) (now (a .image)) (now (a .places)) (a .block .0) (a .taken) (right-size (a .segments) (a .slots) (now (a .image)) _ (y .before .before .right-size .ensures) (y .before .if1 .left)) (omega (arith, y .if2 .left))
+    (sym (c .before .before .number-ok .ensures) ∙ not-false _ (c .before .if3 .left)) (not-true _ (c .if4 .taken))
 
--- src/lib.rt:70:8
 shared-slice-read-if5 : tie.Need-shared-slice-read-if5
 shared-slice-read-if5 c = search needs
 
--- src/lib.rt:71:9
 returns-5 : tie.Need-returns-5
-returns-5 c = ?
+returns-5 c =
+    let y = c .before .before .before .before .before in
+    let a = y .before .before .before .before .before .args in
+    refuses-unusable (a .segments) (a .slots) (now (a .image)) (now (a .places)) (a .block .0) (a .taken) (right-size (a .segments) (a .slots) (now (a .image)) _ (y .before .before .right-size .ensures) (y .before .if1 .left)) (omega (arith, y .if2 .left))
+    (sym (c .before .before .before .before .number-ok .ensures) ∙ not-false _ (c .before .before .before .if3 .left)) (not-false _ (c .before .before .if4 .left)) (c .if5 .taken)
 
--- src/lib.rt:48:1
 returns-6 : tie.Need-returns-6
-returns-6 c = ?
+returns-6 c =
+    let y = c .before .before .before .before .before in
+    let a = y .before .before .before .before .before .args in
+    refuses-none (a .segments) (a .slots) (now (a .image)) (now (a .places)) (a .block .0) (a .taken) (right-size (a .segments) (a .slots) (now (a .image)) _ (y .before .before .right-size .ensures) (y .before .if1 .left)) (omega (arith, y .if2 .left))
+    (sym (c .before .before .before .before .number-ok .ensures) ∙ not-false _ (c .before .before .before .if3 .left)) (not-false _ (c .before .before .if4 .left)) (c .if5 .left)
 
 pub refusal-spec : {M : Type 1} → statement M
 refusal-spec =

@@ -137,7 +137,7 @@ module _ (N B : ℕ) (p : Plan) (s : Image) (k : Planned N B p s) where
 abbrev pub Refusing : Answer → Type 0
 Refusing a = OneOf (1 ∷ 2 ∷ 3 ∷ 4 ∷ 5 ∷ 6 ∷ 7 ∷ 8 ∷ 9 ∷ 10 ∷ 11 ∷ 12 ∷ []) (tagOf the-type a)
 
-refusing-not : Refusing Done → ⊥
+pub refusing-not : Refusing Done → ⊥
 refusing-not h = ⊎-elim (λ q. omega arith) (⊎-elim (λ q. omega arith) (⊎-elim (λ q. omega arith) (⊎-elim (λ q. omega arith) (⊎-elim (λ q. omega arith) (⊎-elim (λ q. omega arith) (⊎-elim (λ q. omega arith) (⊎-elim (λ q. omega arith) (⊎-elim (λ q. omega arith) (⊎-elim (λ q. omega arith) (⊎-elim (λ q. omega arith) (λ q. omega arith))))))))))) h
 
 module _ (N B : ℕ) (p : Plan) (live b : ℕ) (c : List ℕ) (s : Image) (u : Puttable N B p b c s) (t : Tally) (seen : t ≡ tallySeen (view N B s .version)) where
