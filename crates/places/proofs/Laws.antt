@@ -5,3 +5,4 @@ pub mod Entered
 pub mod Filled
 pub mod Kept
 pub mod Found
+pub mod Noted

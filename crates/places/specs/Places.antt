@@ -9,7 +9,7 @@ use Rattle.model.specs.Chip.{Image, Page, rightSize}
 use Rattle.model.specs.Slot.{written, mostContents, pageBlock}
 use Rattle.model.specs.State.{clean, state, view}
 use Rattle.model.specs.Steps.{slotAt}
-use Rattle.model.specs.Mounted.{Places}
+use Rattle.model.specs.Mounted.{Places, unusable}
 use Rattle.model.specs.Laws.Segments.{partOf}
 use Rattle.places.specs.declared.Entry.{Entry}
 use Rattle.places.specs.declared.Entry.the-variants.{At, Absent, Stale}
@@ -50,3 +50,9 @@ pub record Fillable (N B : ℕ) (s : Image) (first used : ℕ) : Type 0 where
   pub fine : state N B s ≡ clean
   pub oldest : first ≡ view N B s .first
   pub count : used ≡ length (view N B s .slots)
+
+-- ---- after a call
+
+-- the entry of block b is a place, if the answer was 0; else the table is not usable
+unfoldable pub noted : Places → ℕ → ℕ → ℕ → Places
+noted t b place code = cond (eqb code 0) (set t b place) (unusable t)

@@ -1,4 +1,5 @@
-// The table of places by block number (request #102): looked up, entered by a walk over slots, and filled.
+// The table of places by block number (request #102): looked up, entered by a walk over slots, filled, and noted after a call.
+use model::Answer;
 use model::BlockNumber;
 use model::SegmentNumber;
 use model::SlotPlace;
@@ -8,9 +9,10 @@ ghost use lib.ListN.{length, getD, drop};
 ghost use Rattle.model.specs.Lists.{chunk};
 ghost use Rattle.model.specs.Chip.{mostSlots};
 ghost use Rattle.model.specs.State.{view};
+ghost use Rattle.model.specs.Answers.{codeOf};
 ghost use Rattle.model.specs.Mounted.{leastPlaces, filledPlaces};
 ghost use Rattle.flash.specs.Pages.{Sized};
-ghost use Rattle.places.specs.Places.{entrySeen, entered, enteredFrom, emptied, Fillable};
+ghost use Rattle.places.specs.Places.{entrySeen, entered, enteredFrom, emptied, noted, Fillable};
 
 // The entries that a table has at least; `leastPlaces` in specs/.
 pub const LEAST_PLACES: usize = 65536;
@@ -147,4 +149,19 @@ pub fn fill(
     empty(places);
     places[0] = 1;
     enter(image, segments, slots, first, used, places);
+}
+
+// ---- noted
+
+// The table after steps were taken for a block: its entry is the slot's place, or 0; but a table is not usable once a call
+// was cut.
+pub fn note(places: &mut [u32], block: BlockNumber, place: usize, answer: Answer)
+    requires { ⌜ (leastPlaces ≤ length (now places)) × (place < 4294967296) ⌝ }
+    ensures { λ _. ⌜ now (places .exit) ≡ noted (now (places .entry)) (block .0) place (codeOf answer) ⌝ }
+{
+    let Answer::Done = answer else {
+        places[0] = 0;
+        return;
+    };
+    places[block.0 as usize] = place as u32;
 }

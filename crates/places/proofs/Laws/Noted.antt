@@ -1,0 +1,77 @@
+-- The table after steps were taken for a block: by the answer, and what stays.
+use Prim.Native.Nat.{ℕ, _≤_, _<_}
+use mathlib.Core.Path.{_≡_, refl, _∙_}
+use mathlib.Core.Logic.{_≢_, ⊎-elim}
+use mathlib.Core.Bool.{Bool, true, false, cond}
+use mathlib.Core.List.{[], _∷_}
+use native.Mathlib.Omega.{arith}
+use denote.Enum.Declared.{tagOf}
+use types.Run.{OneOf}
+use lib.ListN.{length, getD, drop, set, length-set}
+use lib.Seq.{drop-set-lt, getD-set-same}
+use lib.Dec.{eqb}
+use borrow.Author.Tests.{ne-eqb}
+use Rattle.model.specs.Answers.{codeOf}
+use Rattle.model.specs.Mounted.{Places, leastPlaces, unusable}
+use Rattle.model.specs.declared.Answer.{Answer}
+use Rattle.model.specs.declared.Answer.the-variants.{Done, Size, Number, Length, Damaged, Unfinished, Absent, Full, Worn, Cut, ShortTable, FormerVersion, ShortBuffer}
+use Rattle.model.proofs.Answer.{the-type}
+use Rattle.places.specs.Places.{noted}
+
+-- ---- by the answer
+
+-- an answer other than 0
+abbrev Other : Answer → Type 0
+Other a = OneOf (1 ∷ 2 ∷ 3 ∷ 4 ∷ 5 ∷ 6 ∷ 7 ∷ 8 ∷ 9 ∷ 10 ∷ 11 ∷ 12 ∷ []) (tagOf the-type a)
+
+done-not : Other Done → ⊥
+done-not h = ⊎-elim (λ q. omega arith) (⊎-elim (λ q. omega arith) (⊎-elim (λ q. omega arith) (⊎-elim (λ q. omega arith) (⊎-elim (λ q. omega arith) (⊎-elim (λ q. omega arith) (⊎-elim (λ q. omega arith) (⊎-elim (λ q. omega arith) (⊎-elim (λ q. omega arith) (⊎-elim (λ q. omega arith) (⊎-elim (λ q. omega arith) (λ q. omega arith))))))))))) h
+
+other-code : (a : Answer) → Other a → eqb (codeOf a) 0 ≡ false
+unfolding codeOf
+other-code Done h = absurd (done-not h)
+other-code Size h = refl
+other-code Number h = refl
+other-code Length h = refl
+other-code Damaged h = refl
+other-code Unfinished h = refl
+other-code Absent h = refl
+other-code Full h = refl
+other-code Worn h = refl
+other-code Cut h = refl
+other-code ShortTable h = refl
+other-code FormerVersion h = refl
+other-code ShortBuffer h = refl
+
+module _ (t : Places) (b place : ℕ) (a : Answer) where
+  pub noted-done : a ≡ Done → set t b place ≡ noted t b place (codeOf a)
+  unfolding noted codeOf
+  noted-done e = rw e
+
+  pub noted-other : OneOf (1 ∷ 2 ∷ 3 ∷ 4 ∷ 5 ∷ 6 ∷ 7 ∷ 8 ∷ 9 ∷ 10 ∷ 11 ∷ 12 ∷ []) (tagOf the-type a) → set t 0 0 ≡ noted t b place (codeOf a)
+  unfolding noted unusable
+  noted-other h = rw (other-code a h)
+
+-- ---- what callers know
+
+module _ (t : Places) (b place code : ℕ) where
+  pub noted-length : length (noted t b place code) ≡ length t
+  unfolding noted unusable
+  noted-length = go (eqb code 0)
+    where
+      go : (x : Bool) → length (cond x (set t b place) (set t 0 0)) ≡ length t
+      go true = length-set t b place
+      go false = length-set t 0 0
+
+  -- the entries past the block numbers stay
+  pub noted-past : b < leastPlaces → drop leastPlaces (noted t b place code) ≡ drop leastPlaces t
+  unfolding noted unusable
+  noted-past h = go (eqb code 0)
+    where
+      go : (x : Bool) → drop leastPlaces (cond x (set t b place) (set t 0 0)) ≡ drop leastPlaces t
+      go true = drop-set-lt leastPlaces t b place h
+      go false = drop-set-lt leastPlaces t 0 0 (omega arith)
+
+  pub noted-unusable : leastPlaces ≤ length t → code ≢ 0 → getD (noted t b place code) 0 0 ≡ 0
+  unfolding noted unusable
+  noted-unusable l n = rw (ne-eqb code 0 n) (getD-set-same t 0 0 0 (omega arith))
