@@ -1,3 +1,4 @@
 pub mod Refusals
 pub mod Mounts
 pub mod Reads
+pub mod Writes

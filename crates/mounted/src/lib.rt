@@ -16,7 +16,6 @@ ghost use Prim.Native.Nat.{_<_, _≤_};
 ghost use lib.ListN.{length};
 ghost use Rattle.model.specs.Answers.{codeOf, performed, located};
 ghost use Rattle.model.specs.Mounted.{leastPlaces, mountedAs, mountOutcome, mountedRefusal, MountedDelete, MountedRead};
-ghost use Rattle.mounted.specs.Noted.{noted};
 
 // Fills a table of places from a clean image.
 pub fn mount(image: &[u8], segments: usize, slots: usize, places: &mut [u32]) -> Answer
@@ -104,19 +103,6 @@ fn nowhere(answer: Answer) -> Located
     }
 }
 
-// The table after steps were taken for a block: its entry is the slot's place, or 0; but a table is not usable once a call
-// was cut.
-fn note(places: &mut [u32], block: BlockNumber, place: usize, done: Performed)
-    requires { ⌜ (leastPlaces ≤ length (now places)) × (place < 4294967296) ⌝ }
-    ensures { λ _. ⌜ now (places .exit) ≡ noted (now (places .entry)) (block .0) place (codeOf (done .answer)) ⌝ }
-{
-    if request::code_of(done.answer) == 0 {
-        places[block.0 as usize] = place as u32;
-        return;
-    }
-    places[0] = 0;
-}
-
 // Deletes a block: its slot is marked dead where the table says it is, and its entry is 0.
 pub fn delete(
     image: &mut [u8],
@@ -136,7 +122,8 @@ pub fn delete(
     match entry {
         Entry::At(place, _) => {
             let done = mend::mark_slot(image, place, budget);
-            note(places, block, 0, done);
+            let answer = done.answer;
+            places::note(places, block, 0, answer);
             done
         }
         Entry::Absent => request::refused(Answer::Absent),

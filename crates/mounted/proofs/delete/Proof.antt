@@ -1,104 +1,109 @@
+-- `mounted::delete` keeps its contract. Assumes nothing.
+use mathlib.Core.Path.{sym, _∙_}
+use native.Mathlib.Omega.{arith}
+use denote.Ref.{now}
+use Rattle.model.specs.Answers.{delete}
+use Rattle.mounted.proofs.Laws.Refusals.{none-refuses, slots-few, refusing-code}
+use Rattle.mounted.proofs.Laws.Writes.{delete-bound, delete-absent, delete-stale, entry-page, delete-writes}
 use borrow.Author.Needs.{needs}
 use Rattle.mounted.proofs.delete.Statement.{statement}
 use Rattle.mounted.proofs.delete.Tie as tie
-use Rattle.mounted.proofs.delete.Reads as reads
-use Rattle.mounted.proofs.delete.Lts as lts
-use Rattle.mend.proofs.mark_slot.Reads as mark-slot-reads
-use Rattle.mounted.proofs.note.Reads as note-reads
-use Rattle.mounted.proofs.refusal.Reads as refusal-reads
-use Rattle.places.proofs.look_up.Reads as look-up-reads
-use Rattle.request.proofs.refused.Reads as refused-reads
 
--- src/lib.rt:131:9
 refusal-requires : tie.Need-refusal-requires
 refusal-requires c κs = search needs
 
 enum-told : tie.Need-enum-told
 enum-told c = search needs
 
--- src/lib.rt:133:9
 refused-requires : tie.Need-refused-requires
 refused-requires c κs = search needs
 
--- src/lib.rt:133:9
 same-length : tie.Need-same-length
 same-length c = search needs
 
--- src/lib.rt:133:9
 same-length-2 : tie.Need-same-length-2
 same-length-2 c = search needs
 
--- src/lib.rt:133:9
 returns : tie.Need-returns
-returns c = ?
+returns c =
+    let y = c .before .before in
+    let a = y .before .before .before .before .before .args in
+    delete-bound (a .segments) (a .slots) (now (a .image)) (now (a .places)) (a .block .0) (a .budget) _ (y .refusal .ensures) (λ z. refusing-code _ (c .before .match .keys2) (y .refusal .ensures ∙ z)) (c .refused .ensures)
 
--- src/lib.rt:135:9
 look-up-requires : tie.Need-look-up-requires
-look-up-requires c κs = ?
+look-up-requires c κs =
+    let y = c .before .before .before .before in
+    let a = y .before .before .before .before .before .args in
+    slots-few (a .segments) (a .slots) (now (a .image)) (now (a .places)) (a .block .0) _ (none-refuses (a .segments) (a .slots) (now (a .image)) (now (a .places)) (a .block .0) _ _ (y .refusal .ensures) (c .before .before .enum-told .given .1))
 
--- src/lib.rt:137:19
 enum-known-entry : tie.Need-enum-known-entry
 enum-known-entry c = search needs
 
--- src/lib.rt:138:17
 mark-slot-requires : tie.Need-mark-slot-requires
-mark-slot-requires c κs = ?
+mark-slot-requires c κs =
+    let l = c .before .before .before .before in
+    let y = l .before .before .before .before .before in
+    let a = y .before .before .before .before .before .args in
+    entry-page (a .segments) (a .slots) (now (a .image)) (now (a .places)) (a .block .0) (a .budget) (none-refuses (a .segments) (a .slots) (now (a .image)) (now (a .places)) (a .block .0) _ _ (y .refusal .ensures) (l .before .before .before .enum-told .given .1)) _ _ (sym (l .look-up .ensures) ∙ c .before .before .entry .given .1)
 
--- src/lib.rt:139:13
 note-requires : tie.Need-note-requires
-note-requires c κs = ?
+note-requires c κs =
+    let l = c .before .before .before .before .before .before .before .before in
+    let y = l .before .before .before .before .before in
+    let a = y .before .before .before .before .before .args in
+    (slots-few (a .segments) (a .slots) (now (a .image)) (now (a .places)) (a .block .0) _ (none-refuses (a .segments) (a .slots) (now (a .image)) (now (a .places)) (a .block .0) _ _ (y .refusal .ensures) (l .before .before .before .enum-told .given .1)) .1, omega arith)
 
--- src/lib.rt:142:43
 enum-told-2 : tie.Need-enum-told-2
 enum-told-2 c = search needs
 
--- src/lib.rt:142:26
 refused-requires-2 : tie.Need-refused-requires-2
 refused-requires-2 c κs = search needs
 
--- src/lib.rt:143:42
 enum-told-3 : tie.Need-enum-told-3
 enum-told-3 c = search needs
 
--- src/lib.rt:143:25
 refused-requires-3 : tie.Need-refused-requires-3
 refused-requires-3 c κs = search needs
 
--- src/lib.rt:121:1
 same-length-3 : tie.Need-same-length-3
 same-length-3 c = search needs
 
--- src/lib.rt:121:1
 same-length-4 : tie.Need-same-length-4
 same-length-4 c = search needs
 
--- src/lib.rt:121:1
 returns-2 : tie.Need-returns-2
-returns-2 c = ?
+returns-2 c =
+    let m = c .before .before .before .before .before .before in
+    let l = m .before .before .before .before .before in
+    let y = l .before .before .before .before .before in
+    let a = y .before .before .before .before .before .args in
+    delete-writes (a .segments) (a .slots) (now (a .image)) (now (a .places)) (a .block .0) (a .budget) (none-refuses (a .segments) (a .slots) (now (a .image)) (now (a .places)) (a .block .0) _ _ (y .refusal .ensures) (l .before .before .before .enum-told .given .1)) _ _ (sym (l .look-up .ensures) ∙ m .before .before .before .entry .given .1) (m .mark-slot .ensures) (c .before .before .note .ensures)
 
--- src/lib.rt:121:1
 same-length-5 : tie.Need-same-length-5
 same-length-5 c = search needs
 
--- src/lib.rt:121:1
 same-length-6 : tie.Need-same-length-6
 same-length-6 c = search needs
 
--- src/lib.rt:121:1
 returns-3 : tie.Need-returns-3
-returns-3 c = ?
+returns-3 c =
+    let l = c .before .before .before in
+    let y = l .before .before .before .before .before in
+    let a = y .before .before .before .before .before .args in
+    delete-absent (a .segments) (a .slots) (now (a .image)) (now (a .places)) (a .block .0) (a .budget) (none-refuses (a .segments) (a .slots) (now (a .image)) (now (a .places)) (a .block .0) _ _ (y .refusal .ensures) (l .before .before .before .enum-told .given .1)) (sym (l .look-up .ensures) ∙ c .before .enum-told2 .given .1) (c .refused2 .ensures)
 
--- src/lib.rt:121:1
 same-length-7 : tie.Need-same-length-7
 same-length-7 c = search needs
 
--- src/lib.rt:121:1
 same-length-8 : tie.Need-same-length-8
 same-length-8 c = search needs
 
--- src/lib.rt:121:1
 returns-4 : tie.Need-returns-4
-returns-4 c = ?
+returns-4 c =
+    let l = c .before .before .before in
+    let y = l .before .before .before .before .before in
+    let a = y .before .before .before .before .before .args in
+    delete-stale (a .segments) (a .slots) (now (a .image)) (now (a .places)) (a .block .0) (a .budget) (none-refuses (a .segments) (a .slots) (now (a .image)) (now (a .places)) (a .block .0) _ _ (y .refusal .ensures) (l .before .before .before .enum-told .given .1)) (sym (l .look-up .ensures) ∙ c .before .enum-told3 .given .1) (c .refused3 .ensures)
 
 pub delete-spec : {M : Type 1} → statement M
 delete-spec =

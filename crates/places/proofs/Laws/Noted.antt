@@ -75,3 +75,7 @@ module _ (t : Places) (b place code : ℕ) where
   pub noted-unusable : leastPlaces ≤ length t → code ≢ 0 → getD (noted t b place code) 0 0 ≡ 0
   unfolding noted unusable
   noted-unusable l n = rw (ne-eqb code 0 n) (getD-set-same t 0 0 0 (omega arith))
+
+  pub noted-zero : code ≡ 0 → noted t b place code ≡ set t b place
+  unfolding noted
+  noted-zero e = rw e
