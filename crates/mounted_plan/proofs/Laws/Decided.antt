@@ -6,10 +6,10 @@ use mathlib.Core.List.{flatten}
 use native.Mathlib.Omega.{arith}
 use lib.ListN.{length}
 use lib.Dec.{ltb, leb}
-use borrow.Author.Tests.{leb-true, leb-false, ltb-true, ltb-false, lt-leb}
+use borrow.Author.Tests.{leb-true, leb-false, ltb-true, lt-leb}
 use Rattle.model.specs.Lists.{count}
-use Rattle.model.specs.Chip.{Image, eraseLimit, rightSize}
-use Rattle.model.specs.Header.{isFormer, tallyOf, headerVersion}
+use Rattle.model.specs.Chip.{Image, mostSegments, eraseLimit, rightSize}
+use Rattle.model.specs.Header.{isFormer, headerVersion}
 use Rattle.model.specs.State.{View, entriesIn, holds, capacity, clean, state, view}
 use Rattle.model.specs.Steps.{topRow, topNumber, firstEmpty, compactions, isWorn}
 use Rattle.model.specs.Answers.{codeOf, isFull}
@@ -20,7 +20,6 @@ use Rattle.model.specs.declared.Answer.the-variants.{Damaged, Full as FullAnswe
 use Rattle.bridge.specs.Predicted.{CleanView}
 use Rattle.bridge.specs.Held.{clean-view}
 use Rattle.bridge.specs.Refusals.{put-former, put-full, put-worn}
-use Rattle.flash.specs.Pages.{Sized}
 use Rattle.flash.proofs.Pages.{sized}
 use Rattle.tally.specs.declared.Tally.{Tally}
 use Rattle.tally.specs.Seen.{headerIn, tallySeen}
@@ -79,7 +78,7 @@ module _ (N B : ℕ) (s : Image) (z : rightSize N B s ≡ true) (r : Ring) (w : 
   decided-damaged absent e = record { any = refl; exact = λ c. absurd (true≢false (ap isWhole (sym (w .exact z c) ∙ e))) }
 
 module _ (N B : ℕ) (s : Image) (z : rightSize N B s ≡ true) (f : SegmentNumber) (u : ℕ) (k : Ringed N B f u s) where
-  pub number-fits : f .0 + u ≤ 25500000
+  pub number-fits : f .0 + u ≤ eraseLimit * mostSegments
   number-fits = omega (arith, k .number, size-facts N B s z .most)
 
   pub plan-fits : (slot : ℕ) → Plannable N B (record { first = f; used = u; slot = slot; compactions = 0 }) (length s)

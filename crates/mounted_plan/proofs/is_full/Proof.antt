@@ -23,7 +23,7 @@ add-if3 c = search needs
 returns-3 : tie.Need-returns-3
 returns-3 c =
     let a = c .before .before .before .before .before .before .args in
-    full-two (a .segments) (a .slots) (a .absent) (a .plan) (now (a .image)) (c .before .before .before .before .if1 .left) (c .before .before .if2 .left) (c .if3 .taken)
+    full-two (a .segments) (a .slots) (a .absent) (a .plan) (now (a .image)) (c .before .before .before .before .if1 .left) (c .before .before .if2 .left) (omega (arith, c .if3 .taken))
 
 is-crowded-requires : tie.Need-is-crowded-requires
 is-crowded-requires c κs = search needs
