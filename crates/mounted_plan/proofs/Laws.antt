@@ -1,0 +1,3 @@
+pub mod Space
+pub mod Seen
+pub mod Decided
