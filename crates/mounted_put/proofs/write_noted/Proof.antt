@@ -1,35 +1,37 @@
+-- `mounted_put::write_noted` takes the last steps of a put and notes the slot's place. Assumes nothing.
+use Prim.Native.Nat.{ℕ}
+use mathlib.Core.Path.{ap, _∙_}
+use denote.Ref.{now}
+use Rattle.model.specs.Answers.{codeOf}
+use Rattle.places.specs.Places.{noted}
+use Rattle.mounted_put.proofs.Laws.Parts.{place-fits}
 use borrow.Author.Needs.{needs}
 use Rattle.mounted_put.proofs.write_noted.Statement.{statement}
 use Rattle.mounted_put.proofs.write_noted.Tie as tie
-use Rattle.mounted_put.proofs.write_noted.Reads as reads
-use Rattle.mounted_put.proofs.write_noted.Lts as lts
-use Rattle.places.proofs.note.Reads as note-reads
-use Rattle.put.proofs.free_place.Reads as free-place-reads
-use Rattle.put.proofs.write_block.Reads as write-block-reads
 
--- src/lib.rt:65:9
 write-block-requires : tie.Need-write-block-requires
 write-block-requires c κs = search needs
 
--- src/lib.rt:66:9
 free-place-requires : tie.Need-free-place-requires
 free-place-requires c κs = search needs
 
--- src/lib.rt:68:5
 note-requires : tie.Need-note-requires
-note-requires c κs = ?
+note-requires c κs =
+    let x = c .before .before .before .before .before .before .before .before .before in
+    let a = x .args in
+    (x .pre .1, place-fits (a .segments) (a .slots) (a .room) (a .old) (a .block .0) (now (a .contents)) (a .budget) (now (a .image)) (x .pre .0) _ (c .before .free-place .ensures))
 
--- src/lib.rt:51:1
 same-length : tie.Need-same-length
 same-length c = search needs
 
--- src/lib.rt:51:1
 same-length-2 : tie.Need-same-length-2
 same-length-2 c = search needs
 
--- src/lib.rt:51:1
 returns : tie.Need-returns
-returns c = ?
+returns c =
+    let a = c .before .before .before .before .before .before .before .before .before .before .before .before .args in
+    let done = c .before .before .before .before .before .before .before .write-block in
+    (done .ensures, c .before .before .note .ensures ∙ ap (λ (y : ℕ). noted (now (a .places)) (a .block .0) y (codeOf (done .result .answer))) (c .before .before .before .before .free-place .ensures))
 
 pub write-noted-spec : {M : Type 1} → statement M
 write-noted-spec =
