@@ -106,10 +106,11 @@ entry-seen N B b s v h = go (holds b (entriesIn v)) refl
     go true e = rw e (believed-seen B s (slotAt N B (placeOf b v .number) (placeOf b v .slot) * 256) _ _ (stored-place N B b s v h e))
     go false e = rw e (sym (seen-absent B s 0 refl))
 
+pub number-above : (b : ℕ) → numberOk b ≡ true → 0 < b
+unfolding numberOk
+number-above b h = ltb-true 0 b (and-left (ltb 0 b) (ltb b 65535) h)
+
 -- in a table that is in step
 pub kept-seen : (N B b : ℕ) (s : Image) (t : Places) → Kept N B s t → numberOk b ≡ true → entrySeen B s (getD t b 0) ≡ foundEntry N B b (view N B s)
 kept-seen N B b s t k o =
     rw (k .entry b (number-above b o) (omega (arith, number-below b o))) (entry-seen N B b s (view N B s) (held-of-clean N B s (k .size) (k .fine)))
-  where
-    number-above : (m : ℕ) → numberOk m ≡ true → 0 < m
-    number-above m q = unfold numberOk in ltb-true 0 m (and-left (ltb 0 m) (ltb m 65535) q)

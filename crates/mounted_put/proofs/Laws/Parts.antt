@@ -1,0 +1,64 @@
+-- The parts of a put once room was made, as the code takes them one after the other, on any image with any table.
+use Prim.Native.Nat.{ℕ, _+_, _-_, _*_, _≤_, _<_}
+use mathlib.Core.Path.{_≡_, refl, sym, ap, _∙_}
+use mathlib.Core.Logic.{_⊎_, inl, inr}
+use mathlib.Core.List.{List}
+use native.Mathlib.Omega.{arith}
+use lib.ListN.{length, getD, set}
+use Rattle.model.specs.Chip.{Image}
+use Rattle.model.specs.Steps.{slotAt}
+use Rattle.model.specs.Answers.{codeOf}
+use Rattle.model.specs.Mounted.{Places, unusable}
+use Rattle.model.specs.declared.Performed.{Performed}
+use Rattle.model.specs.declared.SlotPlace.{SlotPlace}
+use Rattle.find.specs.declared.Found.{Found}
+use Rattle.find.specs.declared.Found.the-variants.{At, Nothing}
+use Rattle.request.specs.Request.{Finished}
+use Rattle.places.specs.declared.Entry.{Entry}
+use Rattle.places.specs.declared.Entry.the-variants as entries
+use Rattle.places.specs.Places.{entrySeen, noted}
+use Rattle.places.proofs.Laws.Seen.{seen-believed}
+use Rattle.places.proofs.Laws.Walk.{few-bytes}
+use Rattle.room.specs.declared.Room.{Room}
+use Rattle.put.specs.Writing.{OldInside, Placed, Wrote}
+use Rattle.put.proofs.Laws.LastSteps.{place-inside}
+use Rattle.mounted_put.specs.Performing.{RoomMade, entryFor, Continued}
+
+pub made-unusable : (t : Places) → set t 0 0 ≡ unusable t
+unfolding unusable
+made-unusable t = refl
+
+-- a slot's place fits an entry
+pub place-fits : (N B : ℕ) (r : Room) (f : Found) (b : ℕ) (c : List ℕ) (budget : ℕ) (s : Image) → Placed N B r f c budget (length s) → (at : ℕ) → at ≡ slotAt N B (r .first .0 + r .used - 1) (r .slot) * 256 → at < 4294967296
+place-fits N B r f b c budget s k at e = omega (arith, place-inside N B r f b c budget s k at e, few-bytes N B (length s) (k .sized))
+
+module _ (N B : ℕ) (r : Room) (b : ℕ) (c : List ℕ) (budget : ℕ) (s : Image) (t : Places) where
+  -- ---- a slot may be written
+
+  placed : RoomMade N B r c budget (length s) → r .slot < B → (f : Found) → OldInside f (length s) → Placed N B r f c budget (length s)
+  placed m h f o = record { sized = m .sized; some = m .some; few = m .few; room = h; old = o; short = m .short; left = m .left }
+
+  pub placed-at : RoomMade N B r c budget (length s) → r .slot < B → (e : Entry) → e ≡ entrySeen B s (getD t b 0) → (q : SlotPlace) (n : ℕ) → e ≡ entries.At q n → Placed N B r (At q n) c budget (length s)
+  placed-at m h e seen q n i = let y = seen-believed B s (getD t b 0) q n (sym seen ∙ i) in placed m h (At q n) (omega (arith, y .place, y .inside))
+
+  pub placed-new : RoomMade N B r c budget (length s) → r .slot < B → Placed N B r Nothing c budget (length s)
+  placed-new m h = placed m h Nothing tt
+
+  -- ---- it was written, or nothing was
+
+  module _ (e : Entry) (seen : e ≡ entrySeen B s (getD t b 0)) {p : Performed} {u : Image} {w : Places} where
+    pub continued-at : (q : SlotPlace) (n : ℕ) → e ≡ entries.At q n → Wrote N B r (At q n) b c budget p s u → w ≡ noted t b (slotAt N B (r .first .0 + r .used - 1) (r .slot) * 256) (codeOf (p .answer))
+        → Continued N B r b c budget p s u t w
+    unfolding entryFor
+    continued-at q n i d j = inl (At q n, record { seen = sym seen ∙ i; wrote = d; table = j })
+
+    pub continued-new : e ≡ entries.Absent → Wrote N B r Nothing b c budget p s u → w ≡ noted t b (slotAt N B (r .first .0 + r .used - 1) (r .slot) * 256) (codeOf (p .answer))
+        → Continued N B r b c budget p s u t w
+    unfolding entryFor
+    continued-new i d j = inl (Nothing, record { seen = sym seen ∙ i; wrote = d; table = j })
+
+    pub continued-stale : e ≡ entries.Stale → u ≡ s → Finished budget (r .left) 0 1 p → w ≡ unusable t → Continued N B r b c budget p s u t w
+    continued-stale i same fin j = inr (record { why = inr (sym seen ∙ i); image = same; finished = fin; table = j })
+
+  pub continued-full : {p : Performed} {w : Places} → B ≤ r .slot → Finished budget (r .left) 0 1 p → w ≡ unusable t → Continued N B r b c budget p s s t w
+  continued-full h fin j = inr (record { why = inl h; image = refl; finished = fin; table = j })

@@ -1,0 +1,45 @@
+-- `mounted_put::write_noted` takes the last steps of a put and notes the slot's place. Assumes nothing.
+use Prim.Native.Nat.{ℕ}
+use mathlib.Core.Path.{ap, _∙_}
+use denote.Ref.{now}
+use Rattle.model.specs.Answers.{codeOf}
+use Rattle.places.specs.Places.{noted}
+use Rattle.mounted_put.proofs.Laws.Parts.{place-fits}
+use borrow.Author.Needs.{needs}
+use Rattle.mounted_put.proofs.write_noted.Statement.{statement}
+use Rattle.mounted_put.proofs.write_noted.Tie as tie
+
+write-block-requires : tie.Need-write-block-requires
+write-block-requires c κs = search needs
+
+free-place-requires : tie.Need-free-place-requires
+free-place-requires c κs = search needs
+
+note-requires : tie.Need-note-requires
+note-requires c κs =
+    let x = c .before .before .before .before .before .before .before .before .before in
+    let a = x .args in
+    (x .pre .1, place-fits (a .segments) (a .slots) (a .room) (a .old) (a .block .0) (now (a .contents)) (a .budget) (now (a .image)) (x .pre .0) _ (c .before .free-place .ensures))
+
+same-length : tie.Need-same-length
+same-length c = search needs
+
+same-length-2 : tie.Need-same-length-2
+same-length-2 c = search needs
+
+returns : tie.Need-returns
+returns c =
+    let a = c .before .before .before .before .before .before .before .before .before .before .before .before .args in
+    let done = c .before .before .before .before .before .before .before .write-block in
+    (done .ensures, c .before .before .note .ensures ∙ ap (λ (y : ℕ). noted (now (a .places)) (a .block .0) y (codeOf (done .result .answer))) (c .before .before .before .before .free-place .ensures))
+
+pub write-noted-spec : {M : Type 1} → statement M
+write-noted-spec =
+    tie.close
+    (tie.spec
+    write-block-requires
+    free-place-requires
+    note-requires
+    same-length
+    same-length-2
+    returns)
