@@ -7,6 +7,7 @@ use model::Answer;
 use model::BlockNumber;
 use model::Located;
 use model::Performed;
+use mounted_plan::Decision;
 use places::Entry;
 use places::LEAST_PLACES;
 use scan::Surveyed;
@@ -15,7 +16,8 @@ ghost use mathlib.Core.Bool.{true};
 ghost use Prim.Native.Nat.{_<_, _≤_};
 ghost use lib.ListN.{length};
 ghost use Rattle.model.specs.Answers.{codeOf, performed, located};
-ghost use Rattle.model.specs.Mounted.{leastPlaces, mountedAs, mountOutcome, mountedRefusal, MountedDelete, MountedRead};
+ghost use Rattle.model.specs.Mounted.{leastPlaces, mountedAs, mountOutcome, mountedRefusal, MountedPut, MountedDelete, MountedRead};
+ghost use Rattle.mounted.specs.Puts.{Puts};
 
 // Fills a table of places from a clean image.
 pub fn mount(image: &[u8], segments: usize, slots: usize, places: &mut [u32]) -> Answer
@@ -73,7 +75,13 @@ fn refusal(
 }
 
 // Where a block's contents are in the image: two entries of the table and the slot's length are looked at.
-pub fn read(image: &[u8], segments: usize, slots: usize, places: &[u32], block: BlockNumber) -> Located
+pub fn read(
+    image: &[u8],
+    segments: usize,
+    slots: usize,
+    places: &[u32],
+    block: BlockNumber,
+) -> Located
     ensures { λ r. ⌜ MountedRead segments slots (block .0) (located r) (now (image .entry)) (now (places .entry)) ⌝ }
 {
     let refused = refusal(image, segments, slots, places, block, true);
@@ -100,6 +108,85 @@ fn nowhere(answer: Answer) -> Located
         answer,
         offset: 0,
         length: 0,
+    }
+}
+
+// Puts a block that has a slot or not, where nothing has refused it yet: decided from the image's status bytes, then performed.
+fn put_block(
+    image: &mut [u8],
+    segments: usize,
+    slots: usize,
+    places: &mut [u32],
+    absent: bool,
+    block: BlockNumber,
+    contents: &[u8],
+    budget: u64,
+) -> Performed
+    requires { ⌜ Puts segments slots absent (block .0) (now contents) (now image) (now places) ⌝ }
+    ensures { λ r. ⌜ MountedPut segments slots (block .0) (now (contents .entry)) budget (performed r (now (image .exit))) (now (image .entry)) (now (places .entry)) (now (places .exit)) ⌝ }
+{
+    let decision = mounted_plan::decide(&image[..], segments, slots, absent);
+    match decision {
+        Decision::Refused(answer) => request::refused(answer),
+        Decision::Accepted { plan, total } => mounted_put::perform(
+            image,
+            segments,
+            slots,
+            places,
+            plan,
+            total,
+            block,
+            contents,
+            budget,
+        ),
+    }
+}
+
+// Stores contents under a block number. The image's status bytes say where there is room, and the table where the block's old
+// slot is; the entries of blocks that a compaction moves are mended.
+pub fn put(
+    image: &mut [u8],
+    segments: usize,
+    slots: usize,
+    places: &mut [u32],
+    block: BlockNumber,
+    contents: &[u8],
+    budget: u64,
+) -> Performed
+    ensures { λ r. ⌜ MountedPut segments slots (block .0) (now (contents .entry)) budget (performed r (now (image .exit))) (now (image .entry)) (now (places .entry)) (now (places .exit)) ⌝ }
+{
+    let taken = request::length_ok(contents.len());
+    let refused = refusal(&image[..], segments, slots, &places[..], block, taken);
+    let Answer::Done = refused else {
+        return request::refused(refused);
+    };
+    let entry = places::look_up(&image[..], slots, &places[..], block);
+    match entry {
+        Entry::At(_, _) => {
+            put_block(
+                image,
+                segments,
+                slots,
+                places,
+                false,
+                block,
+                contents,
+                budget,
+            )
+        }
+        Entry::Absent => {
+            put_block(
+                image,
+                segments,
+                slots,
+                places,
+                true,
+                block,
+                contents,
+                budget,
+            )
+        }
+        Entry::Stale => request::refused(Answer::Damaged),
     }
 }
 

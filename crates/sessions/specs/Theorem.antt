@@ -159,9 +159,16 @@ session-history : (N B : ℕ) (ready : Bool) (s : Image) (t : Places) (es : List
 unfolding eventsIn
 session-history N B ready s t [] u p h = h
 session-history N B ready s t (plain e ∷ es) u p h =
-    let m = h .2 .0 in
-    (h .0, h .1, (m, h .2 .1, ⊎-elim (λ k. subst (λ (y : Image). History N B y (eventsIn es) u) (sym (k .0)) (session-history N B ready s t es u p (k .1)))
-    (λ k. session-history N B false m t es u (λ z. absurd (true≢false (sym z))) k) (h .2 .2)))
+    let m = h .2 .0 in (
+      h .0,
+      h .1,
+      (
+        m,
+        h .2 .1,
+        ⊎-elim (λ k. subst (λ (y : Image). History N B y (eventsIn es) u) (sym (k .0)) (session-history N B ready s t es u p (k .1)))
+            (λ k. session-history N B false m t es u (λ z. absurd (true≢false (sym z))) k) (h .2 .2),
+      ),
+    )
 session-history N B ready s t (mount code ∷ es) u p h =
     session-history N B (eqb code 0) s (mountOutcome N B s (h .0) .places) es u (λ z. mount-in-step N B s (h .0) (sym (h .1) ∙ eqb-true code 0 z)) (h .2)
 session-history N B true s t (call e ∷ es) u p h =
