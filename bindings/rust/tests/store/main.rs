@@ -21,12 +21,21 @@ mod images;
 mod largest_chip;
 mod many_segments;
 mod mixed_versions;
+mod mounted_cuts;
+mod mounted_harness;
+mod mounted_plain;
+mod mounted_reference;
+mod mounted_runs;
 mod pages;
 mod power_cuts;
 mod prng;
 mod reference;
 mod sequences;
 mod step_lists;
+#[cfg(qbx_lib)]
+#[allow(dead_code)]
+#[path = "../../src/sys.rs"]
+mod sys;
 mod tally_bits;
 mod tally_of_a_life;
 mod version_one;
