@@ -21,6 +21,8 @@ mod images;
 mod largest_chip;
 mod many_segments;
 mod mixed_versions;
+#[cfg(qbx_lib)]
+mod mounted_binding;
 mod mounted_cuts;
 mod mounted_harness;
 mod mounted_plain;
