@@ -56,7 +56,14 @@ fn call(store: &Store, rng: &mut Rng, board: &mut Board, request: &Request, seen
         return;
     };
     let before = (view_of(board), board.table[usize::from(*block)]);
-    let reply = board.perform(store, request, UNLIMITED);
+    // At times the allowance is just what is needed, or little more.
+    let allowance = if rng.once_in(4) {
+        let (_, list) = steps_of(&board.image, board.g, request);
+        (list.len() + rng.below(2)) as u64
+    } else {
+        UNLIMITED
+    };
+    let reply = board.perform(store, request, allowance);
     seen.count(board.g, before, reply, view_of(board));
     let any = rng.between(1, board.g.capacity() + 2) as u16;
     let never = rng.pick(&[0, 65_534, 65_535]);
