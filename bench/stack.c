@@ -6,10 +6,11 @@
  *     target/stack [BYTES ACCOUNT]
  *
  * It prints the most bytes that each request took on any of the chips below; with BYTES and ACCOUNT it ends with 1 if
- * one took more than BYTES, or the account, which has large tables of its own, more than ACCOUNT. Counted is all that
- * the call of a request puts on the stack, down to the deepest byte written: the arguments that find no register, its
- * frames, and those of memcpy and memset. Not counted is what an empty call puts there too, the return address. The
- * images are made by the library's own requests, with budgets for cuts. */
+ * one took more than BYTES, or the account, which has large tables of its own, more than ACCOUNT. The table of mounted
+ * requests is lent, and not on the stack. Counted is all that the call of a request puts there, down to the deepest
+ * byte written: the arguments that find no register, its frames, and those of memcpy and memset. Not counted is what an
+ * empty call puts there too, the return address. The images are made by the library's own requests, with budgets for
+ * cuts. */
 #define _XOPEN_SOURCE 700
 #include "qanbillox.h"
 
@@ -30,8 +31,9 @@ static const struct {
 static size_t n, b, length;
 static uint8_t image[LONGEST], base[LONGEST], cut[LONGEST];
 
-/* What an account is written to. */
+/* What an account is written to, and the table that is lent to mounted calls. */
 static uint8_t text[LONGEST_TEXT];
+static uint32_t places[QBX_PLACES];
 
 /* The block that the requests are about, and what is put: once there is room, that takes SLOT steps for a block that
  * is stored already. */
@@ -41,9 +43,12 @@ static const uint8_t contents[QBX_MOST_CONTENTS];
 static struct {
     const char *name;
     size_t bytes;
-} rows[] = {{"format", 0},      {"put, with room", 0}, {"put, opening a segment", 0}, {"put, compacting first", 0},
-            {"read", 0},        {"delete", 0},         {"recover, nothing to do", 0}, {"recover (a)", 0},
-            {"recover (b)", 0}, {"recover (c)", 0},    {"recover (d)", 0},            {"blank test", 0},
+} rows[] = {{"format", 0},                   {"put, with room", 0},           {"put, opening a segment", 0},
+            {"put, compacting first", 0},    {"read", 0},                     {"delete", 0},
+            {"recover, nothing to do", 0},   {"recover (a)", 0},              {"recover (b)", 0},
+            {"recover (c)", 0},              {"recover (d)", 0},              {"blank test", 0},
+            {"mount", 0},                    {"mounted put, with room", 0},   {"mounted put, opening", 0},
+            {"mounted put, compacting", 0},  {"mounted read", 0},             {"mounted delete", 0},
             {"account", 0}};
 /* The account is the last row, and has its own limit. */
 enum { ROWS = sizeof rows / sizeof rows[0], REQUESTS = ROWS - 1 };
@@ -56,7 +61,20 @@ static void stop(const char *what)
 
 /* ---- One request on the painted stack ---- */
 
-enum request { NOTHING, FORMAT, PUT, READ, DELETE, RECOVER, BLANK, ACCOUNT };
+enum request {
+    NOTHING,
+    FORMAT,
+    PUT,
+    READ,
+    DELETE,
+    RECOVER,
+    BLANK,
+    ACCOUNT,
+    MOUNT,
+    MOUNTED_PUT,
+    MOUNTED_READ,
+    MOUNTED_DELETE
+};
 
 static enum request request;
 static uint64_t result;
@@ -77,6 +95,14 @@ static void make_request(void)
     /* the last segment but for three bytes, so that the last group is a shorter one */
     case BLANK: result = qbx_is_blank(image + length - length / n, length / n - 3); break;
     case ACCOUNT: result = qbx_account(image, length, n, b, text, sizeof text); break;
+    case MOUNT: result = qbx_mount(image, length, n, b, places, QBX_PLACES); break;
+    case MOUNTED_PUT:
+        result = qbx_mounted_put(image, length, n, b, places, QBX_PLACES, BLOCK, contents, sizeof contents, UINT64_MAX);
+        break;
+    case MOUNTED_READ: result = qbx_mounted_read(image, length, n, b, places, QBX_PLACES, BLOCK); break;
+    case MOUNTED_DELETE:
+        result = qbx_mounted_delete(image, length, n, b, places, QBX_PLACES, BLOCK, UINT64_MAX);
+        break;
     }
 }
 
@@ -111,6 +137,8 @@ static void measure(const char *name, enum request wanted, const uint8_t *before
     /* Twice: in the first the dynamic linker may look for memcpy and memset, on this stack. */
     for (int turn = 0; turn < 2; turn++) {
         memcpy(image, before, length);
+        if (wanted > MOUNT && qbx_mount(image, length, n, b, places, QBX_PLACES) != QBX_DONE)
+            stop("mount");
         bytes = depth_of(wanted) - empty;
     }
     if (wanted == BLANK ? !qbx_blank_of(result) : qbx_answer_of(result) != QBX_DONE)
@@ -176,15 +204,22 @@ static void measure_chip(int full_ring)
     measure_recovery("recover (c)", 2, 1);
     measure_recovery("recover (d)", 1, 1);
     measure("blank test", BLANK, base);
+    measure("mount", MOUNT, base);
+    measure("mounted put, with room", MOUNTED_PUT, base);
+    measure("mounted read", MOUNTED_READ, base);
+    measure("mounted delete", MOUNTED_DELETE, base);
     measure_accounts();
     if (n > 2) {
         write_slots(b);
         measure("put, opening a segment", PUT, base);
+        measure("mounted put, opening", MOUNTED_PUT, base);
         measure_recovery("recover (a)", SLOT + 3, 2);
     }
     if (full_ring) {
         write_slots((n - 1) * b);
         measure("put, compacting first", PUT, base);
+        measure("mount", MOUNT, base);
+        measure("mounted put, compacting", MOUNTED_PUT, base);
         measure_recovery("recover (a)", SLOT + 3, 2);
         measure_recovery("recover (b)", SLOT + 2, 3);
         measure_accounts();

@@ -1,7 +1,8 @@
 /* Qanbillox: a proved record store on NOR flash.
  *
  * Every request takes the whole image, the number of segments n (2 to 255) and of slots in each b (2 to 255).
- * Any arguments get an answer from the table below; a refused request (1 to 8, 11, 14) changes no byte.
+ * Any arguments get an answer from the table below; a refused request (1 to 8, 10, 11, 14) changes no byte, but for a
+ * mount that marks its table unusable.
  * budget is the most flash steps to take: when it is spent the request stops as if the power had gone, and
  * answers QBX_CUT. Recover before the next request then, as after any loss of power.
  *
@@ -17,7 +18,8 @@
 extern "C" {
 #endif
 
-/* The first that applies is given, in the order 1 to 5, 11, 6 to 9. The account answers 0 or 14, no other request 14.
+/* The first that applies is given, in the order 1, 10, 2 to 5, 11, 6 to 9. Only the mounted form answers 10. The
+ * account answers 0 or 14, no other request 14.
  *
  * A put is worn only if it needs a new segment, and then in two cases: the whole part of number / n, number being the
  * largest that it would give a segment, plus the tally of erases that recoveries have set about since the format,
@@ -32,17 +34,19 @@ enum qbx_answer {
     QBX_NUMBER = 2,          /* block number 0 or 65,535 */
     QBX_LENGTH = 3,          /* put of 0 bytes, or of over 248 */
     QBX_DAMAGED = 4,         /* the image is neither clean nor unfinished; only format helps */
-    QBX_UNFINISHED = 5,      /* put, delete, read: recover first */
+    QBX_UNFINISHED = 5,      /* put, delete, read, mount: recover first; mounted put, delete, read: mount again */
     QBX_ABSENT = 6,          /* read or delete of a block that is not stored */
     QBX_FULL = 7,            /* put of a new block while (n-1)*b-1 are stored */
     QBX_WORN = 8,            /* put: the chip is worn, as said above */
     QBX_CUT = 9,             /* the budget ended before the steps did */
+    QBX_SHORT_TABLE = 10,    /* mounted form: the table has under 65,536 entries; it is untouched */
     QBX_FORMER_VERSION = 11, /* put on an image of version 1; what to do is said above */
     QBX_SHORT_BUFFER = 14    /* account: the buffer is too short for the text; it is untouched, and the length is 0 */
 };
 
 #define QBX_PAGE 256u          /* bytes in a page */
 #define QBX_MOST_CONTENTS 248u /* bytes in a record at most; the least that qbx_put takes is 1 */
+#define QBX_PLACES 65536u      /* entries in a table of places at least */
 
 /* The bytes of an image of this geometry. */
 static inline size_t qbx_image_length(size_t n, size_t b) { return n * (b + 1) * QBX_PAGE; }
@@ -68,13 +72,45 @@ uint64_t qbx_recover(uint8_t *image, size_t image_length, size_t n, size_t b, ui
 /* Find a block's contents in the image. Only a record from a store that still took 0 bytes has length 0. */
 uint64_t qbx_read(const uint8_t *image, size_t image_length, size_t n, size_t b, uint16_t block);
 
-/* What format, put, delete and recover give: the answer, and the flash steps done. */
+/* What format, put, delete and recover give, mounted or not: the answer, and the flash steps done. */
 static inline enum qbx_answer qbx_answer_of(uint64_t result) { return (enum qbx_answer)(result & 0xFF); }
 static inline uint64_t qbx_steps_of(uint64_t result) { return result >> 8; }
 
 /* What read gives beside the answer: the contents' length and their offset in the image, both 0 if refused. */
 static inline size_t qbx_length_of(uint64_t result) { return (size_t)((result >> 8) & 0xFF); }
 static inline size_t qbx_offset_of(uint64_t result) { return (size_t)(result >> 16); }
+
+/* The mounted form: a table of places, which the caller lends, says where each block is, so that a call need not go
+ * over the whole image. Entry k is the offset of block k's slot in the image, or 0 if it is not stored; entry 0 is 1
+ * while the table is usable. It has QBX_PLACES entries, 256 KiB; those past them are never touched. table_length counts
+ * entries, not bytes.
+ *
+ * Mount once, then make mounted calls with the mount's n and b, on image and table as the mount or the last mounted
+ * call left them: answers, steps and image are those of qbx_put, qbx_delete and qbx_read, and the table is kept right.
+ * If anybody else writes to either meanwhile (a qbx_put, a qbx_recover that takes a step), mount again before the next
+ * mounted call: one without it ends, stays inside image and table, and changes nothing if it is refused, but its answer
+ * and what it writes are open. Image and table must not overlap.
+ *
+ * The table is unusable (entry 0 is 0, the rest means nothing) after a mount that answers QBX_DAMAGED or QBX_UNFINISHED
+ * and after a mounted call that answers QBX_CUT, with a budget of 0 too. While entry 0 is not 1, a mounted call answers
+ * QBX_UNFINISHED, if not 1, 10, 2 or 3: recover, and mount again. No other refusal touches the table. */
+
+/* Fill the table from a clean image. Answers QBX_DONE, QBX_SIZE, QBX_SHORT_TABLE, QBX_DAMAGED or QBX_UNFINISHED. */
+uint64_t qbx_mount(const uint8_t *image, size_t image_length, size_t n, size_t b,
+                   uint32_t *table, size_t table_length);
+
+/* Store contents, as qbx_put does. */
+uint64_t qbx_mounted_put(uint8_t *image, size_t image_length, size_t n, size_t b,
+                         uint32_t *table, size_t table_length, uint16_t block,
+                         const uint8_t *contents, size_t contents_length, uint64_t budget);
+
+/* Forget a block, as qbx_delete does. */
+uint64_t qbx_mounted_delete(uint8_t *image, size_t image_length, size_t n, size_t b,
+                            uint32_t *table, size_t table_length, uint16_t block, uint64_t budget);
+
+/* Find a block's contents, as qbx_read does. */
+uint64_t qbx_mounted_read(const uint8_t *image, size_t image_length, size_t n, size_t b,
+                          const uint32_t *table, size_t table_length, uint16_t block);
 
 /* The account of an image, as text at the front of a lent buffer. Each line ends with the byte 0A:
  *

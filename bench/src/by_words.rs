@@ -7,6 +7,10 @@ pub mod reference;
 #[path = "../../bindings/rust/tests/store/account.rs"]
 pub mod account;
 
+#[allow(dead_code)]
+#[path = "../../bindings/rust/tests/store/mounted_plain.rs"]
+pub mod mounted_plain;
+
 pub fn all_255(bytes: &[u8]) -> bool {
     let (words, rest) = bytes.as_chunks();
     words

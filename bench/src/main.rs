@@ -3,15 +3,17 @@
 //! and with its blank test by words of eight bytes.
 //!
 //!     rt staticlib qanbillox                  # at the root of the repository
-//!     cargo run --release --offline           # here
+//!     cargo run --release --offline           # here; with the word mounted, those tables alone
 //!
 //! One process; the three sides get the same images in turn, and their answers, steps and images
-//! are compared, and the texts of their accounts. The buffer is filled from a prepared image before each request, outside the time
+//! are compared, and the texts of their accounts. The mounted form has two sides of its own
+//! (`mounted.rs`). The buffer is filled from a prepared image before each request, outside the time
 //! taken, so each finds it in the cache as far as it fits. The figures are medians.
 
 mod accounts;
 mod by_bytes;
 mod by_words;
+mod mounted;
 #[path = "../../bindings/rust/tests/store/pages.rs"]
 mod pages;
 // The tests use the rest of it.
@@ -30,6 +32,15 @@ use std::time::{Duration, Instant};
 const CONTENTS: [u8; 100] = [0x41; 100];
 
 fn main() {
+    if !std::env::args().any(|word| word == "mounted") {
+        unmounted_tables();
+    }
+    mounted::rows(21);
+    println!();
+    mounted::beside_unmounted(&[16, 64, 255], 31);
+}
+
+fn unmounted_tables() {
     blank_row(16 * 1024 * 1024, 51);
     for (n, b, runs) in [(4, 15, 401), (16, 255, 101), (64, 255, 51), (255, 255, 31)] {
         let g = Geometry { n, b };
@@ -45,6 +56,7 @@ fn main() {
     by_segments(&[16, 64, 128, 255], 1001);
     println!();
     accounts::rows(&[(16, 255, 101), (255, 255, 31)]);
+    println!();
 }
 
 /// How the time grows with the number of segments, each with the fewest slots. The block that is

@@ -1,4 +1,4 @@
-/* The store from C: a rewrite loses its power half way, and the acknowledged contents stand.
+/* The store from C: a rewrite loses its power half way, and the acknowledged contents stand. Then the same mounted.
  *
  *     rt staticlib qanbillox                                        (at the root of the repository)
  *     cc -Wall -Wextra -Werror -Iinclude bindings/c/example.c target/staticlib/libqanbillox.a -o target/example
@@ -29,14 +29,15 @@ static uint64_t put(const char *contents, uint64_t budget)
     return qbx_put(image, sizeof image, SEGMENTS, SLOTS, BLOCK, (const uint8_t *)contents, strlen(contents), budget);
 }
 
+static uint64_t block_read(void) { return qbx_read(image, sizeof image, SEGMENTS, SLOTS, BLOCK); }
+
 /* Says what a read shows; returns 0 if those are the contents. */
-static int shows(const char *contents)
+static int shows(const char *request, uint64_t result, const char *contents)
 {
-    uint64_t result = qbx_read(image, sizeof image, SEGMENTS, SLOTS, BLOCK);
     const uint8_t *found = image + qbx_offset_of(result);
     size_t length = qbx_length_of(result);
 
-    printf("%-28s answer %d, '%.*s'\n", "read", (int)qbx_answer_of(result), (int)length, (const char *)found);
+    printf("%-28s answer %d, '%.*s'\n", request, (int)qbx_answer_of(result), (int)length, (const char *)found);
     return qbx_answer_of(result) != QBX_DONE || length != strlen(contents) || memcmp(found, contents, length) != 0;
 }
 
@@ -70,6 +71,41 @@ static void make_version_1(void)
     memset(header + 17, 255, QBX_PAGE - 17);
 }
 
+/* The table of places, which is lent to the mounted form. */
+static uint32_t places[QBX_PLACES];
+
+static uint64_t mount_store(void) { return qbx_mount(image, sizeof image, SEGMENTS, SLOTS, places, QBX_PLACES); }
+
+static uint64_t mounted_put(const char *contents, uint64_t budget)
+{
+    return qbx_mounted_put(image, sizeof image, SEGMENTS, SLOTS, places, QBX_PLACES, BLOCK, (const uint8_t *)contents,
+                           strlen(contents), budget);
+}
+
+static uint64_t mounted_read(void)
+{
+    return qbx_mounted_read(image, sizeof image, SEGMENTS, SLOTS, places, QBX_PLACES, BLOCK);
+}
+
+/* A mounted store, from a format on; after a cut it is recovered and mounted again. Returns 0 if all is as expected. */
+static int mounted(void)
+{
+    int wrong = 0;
+
+    wrong += told("format", qbx_format(image, sizeof image, SEGMENTS, SLOTS, unlimited), QBX_DONE, 23);
+    wrong += told("mount", mount_store(), QBX_DONE, 0);
+    wrong += told("mounted put", mounted_put("A", unlimited), QBX_DONE, 6);
+    wrong += told("mounted put again", mounted_put("B", unlimited), QBX_DONE, 7);
+    wrong += told("mounted put, compacting", mounted_put("C", unlimited), QBX_DONE, 37);
+    wrong += shows("mounted read", mounted_read(), "C");
+    wrong += told("mounted put, cut", mounted_put("D", 28), QBX_CUT, 28);
+    wrong += told("the table is unusable", mounted_put("D", unlimited), QBX_UNFINISHED, 0);
+    wrong += told("recover", qbx_recover(image, sizeof image, SEGMENTS, SLOTS, unlimited), QBX_DONE, 3);
+    wrong += told("mount", mount_store(), QBX_DONE, 0);
+    wrong += shows("mounted read", mounted_read(), "C");
+    return wrong;
+}
+
 int main(void)
 {
     int wrong = 0;
@@ -81,15 +117,16 @@ int main(void)
     wrong += told("put, cut after 28 steps", put("C", 28), QBX_CUT, 28);
     wrong += account("recover 0 steps 3\n");
     wrong += told("recover", qbx_recover(image, sizeof image, SEGMENTS, SLOTS, unlimited), QBX_DONE, 3);
-    wrong += shows("B");
+    wrong += shows("read", block_read(), "B");
     wrong += told("put", put("C", unlimited), QBX_DONE, 7);
-    wrong += shows("C");
+    wrong += shows("read", block_read(), "C");
     wrong += told("put of nothing", put("", unlimited), QBX_LENGTH, 0);
-    wrong += shows("C");
+    wrong += shows("read", block_read(), "C");
     wrong += blank(0, 1);
     make_version_1();
     wrong += told("put on version 1", put("D", unlimited), QBX_FORMER_VERSION, 0);
-    wrong += shows("C");
+    wrong += shows("read", block_read(), "C");
     wrong += told("an image that is too short", qbx_format(image, sizeof image - 1, SEGMENTS, SLOTS, unlimited), QBX_SIZE, 0);
+    wrong += mounted();
     return wrong != 0;
 }

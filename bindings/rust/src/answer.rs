@@ -2,8 +2,8 @@ use core::error::Error;
 use core::fmt;
 
 /// What a request answers. The numbers are those of document 01, "What comes back", and of the later
-/// requests. Where several apply, the store gives the smallest; but 11 comes right after 5. 14 is for
-/// the account alone.
+/// requests. Where several apply, the store gives the smallest; but 10 comes right after 1, and 11
+/// right after 5. 10 is for the mounted form alone, 14 for the account.
 #[derive(Clone, Copy, Debug, PartialEq, Eq, PartialOrd, Ord, Hash)]
 #[repr(u8)]
 pub enum Answer {
@@ -17,7 +17,8 @@ pub enum Answer {
     Length = 3,
     /// 4: the image is damaged; only a format helps. A format never answers it.
     Damaged = 4,
-    /// 5: a power cut left something unfinished; recover first.
+    /// 5: a power cut left something unfinished; recover first. On a [`Mounted`](crate::Mounted)
+    /// store: it was cut, and is to be recovered and mounted again.
     Unfinished = 5,
     /// 6: the block to be read or deleted is not stored.
     Absent = 6,
@@ -33,6 +34,9 @@ pub enum Answer {
     /// 9: the step budget ended before the request did. The image is as after a power cut: some
     /// first steps of the request are done, and [`recover`](crate::Geometry::recover) comes next.
     Cut = 9,
+    /// 10: the table lent to a [`mount`](crate::Geometry::mount) has fewer than
+    /// [`PLACES`](crate::PLACES) entries. It is untouched.
+    ShortTable = 10,
     /// 11: a put on an image of version 1. It can be read, deleted from and recovered, but not put
     /// to. To go on writing, read its records out, by a [`read`](crate::Geometry::read) of each
     /// block that its [account](crate::Geometry::account_into) lists, format, which makes version 2,
@@ -44,7 +48,7 @@ pub enum Answer {
 
 impl Answer {
     /// All answers by rising number.
-    pub const ALL: [Answer; 12] = [
+    pub const ALL: [Answer; 13] = [
         Answer::Done,
         Answer::Size,
         Answer::Number,
@@ -55,6 +59,7 @@ impl Answer {
         Answer::Full,
         Answer::Worn,
         Answer::Cut,
+        Answer::ShortTable,
         Answer::FormerVersion,
         Answer::ShortBuffer,
     ];
@@ -73,15 +78,15 @@ impl Answer {
     /// ```
     /// use qanbillox::Answer;
     /// assert_eq!(Answer::from_number(7), Some(Answer::Full));
-    /// assert_eq!(Answer::from_number(10), None);
     /// assert_eq!(Answer::from_number(11), Some(Answer::FormerVersion));
+    /// assert_eq!(Answer::from_number(12), None);
     /// ```
     pub fn from_number(number: u8) -> Option<Answer> {
         Answer::ALL.into_iter().find(|a| a.number() == number)
     }
 
-    /// Whether this is a refusal, 1 to 8, 11 or 14. A refused request has changed no byte, of the image
-    /// or of a buffer lent for text.
+    /// Whether this is a refusal, 1 to 8, 10, 11 or 14. A refused request has changed no byte, of the
+    /// image or of a buffer lent for text.
     pub const fn is_refusal(self) -> bool {
         !matches!(self, Answer::Done | Answer::Cut)
     }
@@ -100,6 +105,7 @@ impl fmt::Display for Answer {
             Answer::Full => "store full",
             Answer::Worn => "chip worn out",
             Answer::Cut => "step budget spent",
+            Answer::ShortTable => "table of places too short",
             Answer::FormerVersion => "image of a former version: no puts",
             Answer::ShortBuffer => "buffer too short for the text",
         })
@@ -117,17 +123,17 @@ mod tests {
         for number in 0..=u8::MAX {
             match Answer::from_number(number) {
                 Some(answer) => assert_eq!(answer.number(), number),
-                None => assert!(matches!(number, 10 | 12 | 13) || number > 14),
+                None => assert!(matches!(number, 12 | 13) || number > 14),
             }
         }
         let numbers = Answer::ALL.map(Answer::number);
-        assert_eq!(numbers, [0, 1, 2, 3, 4, 5, 6, 7, 8, 9, 11, 14]);
+        assert_eq!(numbers, [0, 1, 2, 3, 4, 5, 6, 7, 8, 9, 10, 11, 14]);
     }
 
     #[test]
-    fn refusals_are_one_to_eight_eleven_and_fourteen() {
+    fn done_and_cut_alone_are_no_refusals() {
         for answer in Answer::ALL {
-            let refusal = matches!(answer.number(), 1..=8 | 11 | 14);
+            let refusal = matches!(answer.number(), 1..=8 | 10 | 11 | 14);
             assert_eq!(answer.is_refusal(), refusal);
         }
     }

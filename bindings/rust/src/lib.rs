@@ -6,13 +6,15 @@
 //! acknowledged requests made, with the interrupted request wholly done or not begun.
 //!
 //! This crate is a thin, safe layer over the proved static library: it adds types, and takes
-//! nothing away. It holds no state and has no dependency. Only `Geometry::account` allocates, the
-//! text that it gives back; without the feature `alloc`, which is a default one, the crate lacks it
-//! and wants no allocator.
+//! nothing away. It holds no state but what is lent to it, and has no dependency. Only
+//! `Geometry::account` allocates, the text that it gives back; without the feature `alloc`, which is a
+//! default one, the crate lacks it and wants no allocator.
 //!
 //! - [`Geometry`] is the shape of the chip, and its methods are the requests:
 //!   [`format`](Geometry::format), [`put`](Geometry::put), [`delete`](Geometry::delete),
 //!   [`recover`](Geometry::recover), [`read`](Geometry::read) and [`read_or`](Geometry::read_or).
+//! - [`Geometry::mount`] makes a [`Mounted`] store, of an image and a table of places that is lent
+//!   too: its requests do the same, but do not go over the whole image each time.
 //! - [`Geometry::account_into`] says what an image holds, for paper, as text in a buffer that is
 //!   lent; `Geometry::account` gives the same as a string.
 //! - [`Answer`] is what comes back, with the numbers of document 01.
@@ -45,6 +47,32 @@
 //! }
 //! ```
 //!
+//! # Mounted
+//!
+//! Each request on an image goes over the whole of it. Whoever makes many lends a table of [`PLACES`]
+//! entries, 256 KiB, and mounts once:
+//!
+#![cfg_attr(qbx_lib, doc = "```")]
+#![cfg_attr(not(qbx_lib), doc = "```no_run")]
+//! use qanbillox::{Answer, Block, Geometry, PLACES, UNLIMITED};
+//!
+//! fn main() -> Result<(), Answer> {
+//!     let chip = Geometry { segments: 16, slots: 255 };
+//!     let mut image = vec![0xFF; chip.image_len().unwrap()];
+//!     let mut places = vec![0; PLACES];
+//!     chip.format(&mut image, UNLIMITED).into_result()?;
+//!
+//!     let mut store = chip.mount(&mut image, &mut places)?;
+//!     for shelf in 1..=1_000 {
+//!         store.put(Block(shelf), b"tenant 12", UNLIMITED).into_result()?;
+//!     }
+//!     assert_eq!(store.read(Block(31)).into_result()?, b"tenant 12");
+//!     Ok(())
+//! }
+//! ```
+//!
+//! A power cut takes a mounted store away: [`Mounted`] says what comes then.
+//!
 //! # Versions
 //!
 //! A format makes an image of version 2, which counts the erases that recoveries make. Images of
@@ -66,6 +94,7 @@ mod account;
 mod answer;
 mod blank;
 mod geometry;
+mod mounted;
 mod request;
 mod sys;
 
@@ -73,4 +102,5 @@ pub use account::Account;
 pub use answer::Answer;
 pub use blank::{blank_test, BlankTest};
 pub use geometry::{Geometry, MAX_CONTENTS, PAGE};
+pub use mounted::{Mounted, PLACES};
 pub use request::{Block, Outcome, Read, Request, UNLIMITED};

@@ -53,7 +53,7 @@ impl Outcome {
     }
 
     /// From `answer + 256 × steps`.
-    fn unpack(packed: u64) -> Outcome {
+    pub(crate) fn unpack(packed: u64) -> Outcome {
         Outcome {
             answer: unpack_answer(packed),
             steps: packed >> 8,
@@ -75,6 +75,17 @@ pub struct Read<'a> {
 }
 
 impl<'a> Read<'a> {
+    /// From `answer + 256 × length + 65,536 × offset`, and the image that was read.
+    pub(crate) fn unpack(packed: u64, image: &'a [u8]) -> Read<'a> {
+        let length = (packed >> 8 & 0xFF) as usize;
+        let offset = (packed >> 16) as usize;
+        Read {
+            answer: unpack_answer(packed),
+            offset,
+            contents: &image[offset..offset + length],
+        }
+    }
+
     /// The contents of a block that is stored; any other answer is the error.
     pub fn into_result(self) -> Result<&'a [u8], Answer> {
         match self.answer {
@@ -87,7 +98,7 @@ impl<'a> Read<'a> {
 /// The answer in the lowest byte of what the library returns.
 pub(crate) fn unpack_answer(packed: u64) -> Answer {
     // The library is proved to answer these; another number means a library of another version.
-    Answer::from_number((packed & 0xFF) as u8).expect("an answer from 0 to 9, 11 or 14")
+    Answer::from_number((packed & 0xFF) as u8).expect("an answer from 0 to 11, or 14")
 }
 
 /// The requests. Each works on an image that the caller lends for the call; the store keeps nothing
@@ -291,13 +302,7 @@ impl Geometry {
                 block.0,
             )
         };
-        let length = (packed >> 8 & 0xFF) as usize;
-        let offset = (packed >> 16) as usize;
-        Read {
-            answer: unpack_answer(packed),
-            offset,
-            contents: &image[offset..offset + length],
-        }
+        Read::unpack(packed, image)
     }
 
     /// Finds the contents of the block or, if it is not stored, gives the default record that is
@@ -335,7 +340,7 @@ impl Geometry {
 
 #[cfg(test)]
 mod tests {
-    use super::{Answer, Outcome};
+    use super::{Answer, Outcome, Read};
 
     #[test]
     fn outcomes_are_unpacked() {
@@ -344,6 +349,24 @@ mod tests {
             for steps in [0, 1, 255, 256, 16_392_907] {
                 let packed = u64::from(answer.number()) + 256 * steps;
                 assert_eq!(Outcome::unpack(packed), Outcome { answer, steps });
+            }
+        }
+    }
+
+    #[test]
+    fn reads_are_unpacked() {
+        let image: [u8; 1_000] = core::array::from_fn(|i| i as u8);
+        for answer in Answer::ALL {
+            for (offset, length) in [(0, 0), (264, 0), (264, 1), (264, 248), (776, 224)] {
+                let packed = u64::from(answer.number()) + 256 * length + 65_536 * offset;
+                let contents = &image[offset as usize..][..length as usize];
+                let offset = offset as usize;
+                let read = Read {
+                    answer,
+                    offset,
+                    contents,
+                };
+                assert_eq!(Read::unpack(packed, &image), read);
             }
         }
     }

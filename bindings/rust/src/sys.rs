@@ -1,8 +1,8 @@
 //! The exports of the static library, as they are.
 //!
 //! A slice crosses as a pointer and then a length. None of the functions asks anything of its
-//! arguments but what a slice asks: the pointer is valid for that many bytes, and nobody else
-//! writes them during the call.
+//! arguments but what a slice asks: the pointer is valid for that many bytes (or entries of 32 bits,
+//! and aligned), and nobody else writes them during the call.
 
 extern "C" {
     /// Answer + 256 × steps done.
@@ -51,6 +51,53 @@ extern "C" {
         image_len: usize,
         segments: usize,
         slots: usize,
+        block: u16,
+    ) -> u64;
+
+    /// The answer.
+    pub fn qbx_mount(
+        image: *const u8,
+        image_len: usize,
+        segments: usize,
+        slots: usize,
+        table: *mut u32,
+        table_len: usize,
+    ) -> u64;
+
+    /// Answer + 256 × steps done.
+    pub fn qbx_mounted_put(
+        image: *mut u8,
+        image_len: usize,
+        segments: usize,
+        slots: usize,
+        table: *mut u32,
+        table_len: usize,
+        block: u16,
+        contents: *const u8,
+        contents_len: usize,
+        budget: u64,
+    ) -> u64;
+
+    /// Answer + 256 × steps done.
+    pub fn qbx_mounted_delete(
+        image: *mut u8,
+        image_len: usize,
+        segments: usize,
+        slots: usize,
+        table: *mut u32,
+        table_len: usize,
+        block: u16,
+        budget: u64,
+    ) -> u64;
+
+    /// Answer + 256 × length + 65,536 × offset.
+    pub fn qbx_mounted_read(
+        image: *const u8,
+        image_len: usize,
+        segments: usize,
+        slots: usize,
+        table: *const u32,
+        table_len: usize,
         block: u16,
     ) -> u64;
 

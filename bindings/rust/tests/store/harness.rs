@@ -32,7 +32,7 @@ impl Store {
         }
     }
 
-    fn count(&self) {
+    pub fn count(&self) {
         self.requests.set(self.requests.get() + 1);
     }
 

@@ -21,12 +21,26 @@ mod images;
 mod largest_chip;
 mod many_segments;
 mod mixed_versions;
+#[cfg(qbx_lib)]
+mod mounted_binding;
+mod mounted_cuts;
+mod mounted_harness;
+mod mounted_plain;
+mod mounted_reference;
+mod mounted_runs;
+mod mounted_strange;
+mod mounted_strangers;
+mod mounted_tables;
 mod pages;
 mod power_cuts;
 mod prng;
 mod reference;
 mod sequences;
 mod step_lists;
+#[cfg(qbx_lib)]
+#[allow(dead_code)]
+#[path = "../../src/sys.rs"]
+mod sys;
 mod tally_bits;
 mod tally_of_a_life;
 mod version_one;

@@ -28,6 +28,8 @@ pub const ABSENT: u8 = 6;
 pub const FULL: u8 = 7;
 pub const WORN: u8 = 8;
 pub const CUT: u8 = 9;
+/// Request #102: a lent table has under 65,536 entries, checked after 1.
+pub const SHORT_TABLE: u8 = 10;
 /// Request #104: a put on an image of version 1, checked after 5.
 pub const FORMER_VERSION: u8 = 11;
 /// Request #101: a lent buffer is too short for the text.

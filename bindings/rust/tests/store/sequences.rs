@@ -16,7 +16,7 @@ pub fn table_of(image: &[u8], g: Geometry) -> Option<Table> {
 
 /// How a sequence chooses its requests.
 #[derive(Clone, Copy, Debug)]
-enum Habit {
+pub enum Habit {
     /// Anything, refused requests included.
     Mixed,
     /// One block again and again beside a full store: the most tidying for each rewrite.
@@ -27,9 +27,9 @@ enum Habit {
     Churn,
 }
 
-const HABITS: [Habit; 4] = [Habit::Mixed, Habit::OneBlock, Habit::InTurn, Habit::Churn];
+pub const HABITS: [Habit; 4] = [Habit::Mixed, Habit::OneBlock, Habit::InTurn, Habit::Churn];
 
-fn choose(rng: &mut Rng, habit: Habit, g: Geometry, i: usize, stored: &Table) -> Request {
+pub fn choose(rng: &mut Rng, habit: Habit, g: Geometry, i: usize, stored: &Table) -> Request {
     let capacity = g.capacity();
     let contents = if g.n * g.b > 200 {
         rng.bytes(2)
