@@ -7,6 +7,7 @@ use Rattle.model.specs.Chip.{Image}
 use Rattle.model.specs.Header.{isBlank}
 use Rattle.model.specs.Blank.{blankGroups}
 use Rattle.model.specs.Answers.{Outcome, ReadOutcome}
+use Rattle.model.specs.Mounted.{Places, MountOutcome}
 use Rattle.text.specs.Buffer.{Print}
 
 -- the answer + 256 × the steps done
@@ -25,6 +26,23 @@ packedRead o = o .code + 256 * o .length + 65536 * o .offset
 -- how many counts 64 bits can tell above the lowest eight: 2 to the 56th
 unfoldable pub counts : ℕ
 counts = 72057594037927936
+
+-- the answer + 256 × the steps done of a mounted call, and the image afterwards
+pub record Packs (o : Outcome) (r : ℕ) (s : Image) : Type 0 where
+  pub number : r ≡ o .code + 256 * (o .count % counts)
+  pub image : s ≡ o .image
+
+-- an outcome that a mounted call's contract allows, so packed
+abbrev pub Allows : (Outcome → Type 0) → ℕ → Image → Type 0
+Allows P r s = (o : Outcome) × (P o × Packs o r s)
+
+abbrev pub AllowsRead : (ReadOutcome → Type 0) → ℕ → Type 0
+AllowsRead P r = (o : ReadOutcome) × (P o × (r ≡ packedRead o))
+
+-- a mount's answer, and the table afterwards
+pub record Mounts (o : MountOutcome) (r : ℕ) (t : Places) : Type 0 where
+  pub number : r ≡ o .code
+  pub table : t ≡ o .places
 
 -- 1 if all are 255, otherwise 0, + 256 × the groups looked at
 unfoldable pub packedBlank : List ℕ → ℕ

@@ -1,5 +1,5 @@
-// The library's exports to C and Rust: the requests, the blank test and the account, with what comes back packed into one
-// number.
+// The library's exports to C and Rust: the requests, with a table of places too, the blank test and the account, with what
+// comes back packed into one number.
 use flash::BlankTest;
 use model::BlockNumber;
 use model::Located;
@@ -10,9 +10,10 @@ ghost use mathlib.Core.Bool.{cond};
 ghost use Prim.Native.Nat.{_+_, _*_, _%_, _≤_};
 ghost use Rattle.model.specs.Chip.{largestImage};
 ghost use Rattle.model.specs.Answers.{codeOf, outcomeOf, readOutcome, format, put, delete, recover};
+ghost use Rattle.model.specs.Mounted.{mountOutcome, MountedPut, MountedDelete, MountedRead};
 ghost use Rattle.text.specs.Buffer.{printIn, mostText};
 ghost use Rattle.account_text.specs.Account.{accountText};
-ghost use Rattle.qanbillox.specs.Packed.{Gives, packedRead, counts, packedBlank, Prints};
+ghost use Rattle.qanbillox.specs.Packed.{Gives, packedRead, counts, Allows, AllowsRead, Mounts, packedBlank, Prints};
 
 // The answer, and 256 times the steps done: a list never has more than some sixteen million.
 fn packed(p: Performed) -> u64
@@ -32,6 +33,15 @@ fn packed_read(p: Located) -> u64
     let length = p.length as u64;
     let offset = p.offset as u64;
     request::number_of(answer) + 256 * length + 65536 * offset
+}
+
+// The same of a mounted call, of whose list of steps nothing is known if the table is not the image's. In step it is told
+// whole.
+fn packed_mounted(p: Performed) -> u64
+    ensures { λ r. ⌜ r ≡ codeOf (p .answer) + 256 * (p .steps % counts) ⌝ }
+{
+    let answer = p.answer;
+    request::number_of(answer) + 256 * (p.steps % COUNTS)
 }
 
 // How many counts the bits above the lowest eight can tell.
@@ -112,4 +122,53 @@ pub extern "C" fn qbx_account(image: &[u8], n: usize, b: usize, text: &mut [u8])
     ensures { λ r. ⌜ Prints (printIn (accountText n b (now (image .entry))) (now (text .entry))) r (now (text .exit)) ⌝ }
 {
     packed_print(accounts::account(image, n, b, text))
+}
+
+#[no_mangle]
+pub extern "C" fn qbx_mount(image: &[u8], n: usize, b: usize, table: &mut [u32]) -> u64
+    ensures { λ r. ⌜ Mounts (mountOutcome n b (now (image .entry)) (now (table .entry))) r (now (table .exit)) ⌝ }
+{
+    request::number_of(mounted::mount(image, n, b, table))
+}
+
+#[no_mangle]
+pub extern "C" fn qbx_mounted_put(
+    image: &mut [u8],
+    n: usize,
+    b: usize,
+    table: &mut [u32],
+    block: u16,
+    contents: &[u8],
+    budget: u64,
+) -> u64
+    ensures { λ r. ⌜ Allows (λ o. MountedPut n b block (now (contents .entry)) budget o (now (image .entry)) (now (table .entry)) (now (table .exit))) r (now (image .exit)) ⌝ }
+{
+    packed_mounted(mounted::put(image, n, b, table, BlockNumber(block), contents, budget))
+}
+
+#[no_mangle]
+pub extern "C" fn qbx_mounted_delete(
+    image: &mut [u8],
+    n: usize,
+    b: usize,
+    table: &mut [u32],
+    block: u16,
+    budget: u64,
+) -> u64
+    ensures { λ r. ⌜ Allows (λ o. MountedDelete n b block budget o (now (image .entry)) (now (table .entry)) (now (table .exit))) r (now (image .exit)) ⌝ }
+{
+    packed_mounted(mounted::delete(image, n, b, table, BlockNumber(block), budget))
+}
+
+#[no_mangle]
+pub extern "C" fn qbx_mounted_read(
+    image: &[u8],
+    n: usize,
+    b: usize,
+    table: &[u32],
+    block: u16,
+) -> u64
+    ensures { λ r. ⌜ AllowsRead (λ o. MountedRead n b block o (now (image .entry)) (now (table .entry))) r ⌝ }
+{
+    packed_read(mounted::read(image, n, b, table, BlockNumber(block)))
 }
