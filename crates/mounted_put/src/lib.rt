@@ -44,7 +44,14 @@ fn enter_new(
 {
     let next = plan.first.0 as usize + plan.used;
     let count = room.first.0 as usize + room.used - next;
-    places::enter(image, segments, slots, SegmentNumber(next as u32), count, places);
+    places::enter(
+        image,
+        segments,
+        slots,
+        SegmentNumber(next as u32),
+        count,
+        places,
+    );
 }
 
 // Writes the slot, marks the old one, and notes the place of the new one.
@@ -92,16 +99,27 @@ fn write_found(
     match entry {
         Entry::At(place, length) => {
             let old = Found::At(place, length);
-            write_noted(image, segments, slots, places, room, old, block, contents, budget)
-        }
-        Entry::Absent => {
             write_noted(
                 image,
                 segments,
                 slots,
                 places,
                 room,
-                Found::Nothing,
+                old,
+                block,
+                contents,
+                budget,
+            )
+        }
+        Entry::Absent => {
+            let old = Found::Nothing;
+            write_noted(
+                image,
+                segments,
+                slots,
+                places,
+                room,
+                old,
                 block,
                 contents,
                 budget,
@@ -132,5 +150,14 @@ pub fn perform(
         return stop(places, budget, 0);
     }
     enter_new(&image[..], segments, slots, places, plan, room);
-    write_found(image, segments, slots, places, room, block, contents, budget)
+    write_found(
+        image,
+        segments,
+        slots,
+        places,
+        room,
+        block,
+        contents,
+        budget,
+    )
 }
