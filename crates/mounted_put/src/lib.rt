@@ -112,13 +112,14 @@ fn write_found(
             )
         }
         Entry::Absent => {
+            let old = Found::Nothing;
             write_noted(
                 image,
                 segments,
                 slots,
                 places,
                 room,
-                Found::Nothing,
+                old,
                 block,
                 contents,
                 budget,

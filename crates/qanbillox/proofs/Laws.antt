@@ -3,11 +3,12 @@ use Prim.Native.Nat.{ℕ, _+_, _*_, _%_, _≤_, _<_}
 use mathlib.Core.Path.{_≡_, refl, sym, ap, _∙_}
 use mathlib.Core.Bool.{true, cond}
 use mathlib.Core.List.{List}
-use native.Mathlib.Nat.{mod-eq-of-lt}
+use native.Mathlib.Nat.{mod-eq-of-lt, mul-le-mul}
 use native.Mathlib.Decide.{ℕ-discrete}
 use native.Mathlib.Omega.{arith}
 use lib.ListN.{length}
-use Rattle.model.specs.Chip.{Image, largestImage}
+use Rattle.model.specs.Chip.{Image, imageLength, largestImage, rightSize}
+use Rattle.model.specs.Laws.Chip.{size-facts}
 use Rattle.model.specs.Slot.{mostContents}
 use Rattle.model.specs.Header.{isBlank}
 use Rattle.model.specs.Blank.{blankGroups}
@@ -67,6 +68,12 @@ gives-in-step N B t budget q o r s e p = record {
 pub mounts : (a : Answer) (t : Places) (r : ℕ) (o : MountOutcome) → mountedAs a t ≡ o → r ≡ codeOf a → Mounts o r t
 unfolding mountedAs
 mounts a t r o e h = record { number = h ∙ ap (λ (x : MountOutcome). x .code) e; table = ap (λ (x : MountOutcome). x .places) e }
+
+right-largest : (N B : ℕ) (s : Image) → rightSize N B s ≡ true → length s ≤ largestImage
+right-largest N B s z =
+    let f = size-facts N B s z in
+    let b : N * (B + 1) ≤ 255 * 256 = mul-le-mul (omega (arith, f .most)) (omega (arith, f .mostB)) in
+    omega (arith, f .whole)
 
 -- a mounted read's place fits, whatever the table was
 pub mounted-small : (N B b : ℕ) (s : Image) (t : Places) (p : Located) → MountedRead N B b (located p) s t → (p .offset ≤ largestImage) × (p .length ≤ 248)

@@ -1,6 +1,6 @@
 -- A put performed, from its parts: what holds whatever image and table are, with what holds in step.
 use Prim.Native.Nat.{ℕ, _+_, _-_, _≤_, _<_}
-use mathlib.Core.Path.{_≡_, refl, sym, ap, _∙_, subst}
+use mathlib.Core.Path.{_≡_, sym, ap, _∙_, subst}
 use mathlib.Core.Logic.{_⊎_, inl, inr, ⊎-elim}
 use mathlib.Core.Bool.{Bool, true, false, cond}
 use mathlib.Core.List.{List}
@@ -9,21 +9,18 @@ use lib.ListN.{length, getD, drop, take}
 use lib.Seq.{drop-set-lt, getD-set-same}
 use lib.Dec.{ltb}
 use Rattle.model.specs.Chip.{Image, Bytes}
-use Rattle.model.specs.Answers.{codeOf, put, performed, outcomeOf}
+use Rattle.model.specs.Answers.{codeOf}
 use Rattle.model.specs.Mounted.{Places, leastPlaces, unusable}
 use Rattle.model.specs.declared.Performed.{Performed}
 use Rattle.model.specs.Laws.Bytes.{run-bytes}
 use Rattle.find.specs.declared.Found.{Found}
-use Rattle.flash.proofs.Laws.{ran-left}
 use Rattle.request.specs.Request.{Finished}
 use Rattle.places.specs.Places.{enteredFrom}
 use Rattle.places.proofs.Laws.Entered.{entered-from-length, entered-from-past}
 use Rattle.places.proofs.Laws.Noted.{noted-past, noted-unusable}
-use Rattle.places.proofs.Laws.Kept.{Kept}
 use Rattle.room.specs.declared.Plan.{Plan}
 use Rattle.room.specs.declared.Room.{Room}
 use Rattle.room.specs.Room.{Worked}
-use Rattle.put.specs.Writing.{Accepted}
 use Rattle.put.proofs.Laws.Put.{accepted-writable, put-spent}
 use Rattle.mounted_put.specs.Performing.{Written, Stopped, Continued, Performs}
 use Rattle.mounted_put.proofs.Laws.InStep.{not-stopped, written-outcome, written-kept}

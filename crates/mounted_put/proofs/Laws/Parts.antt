@@ -1,7 +1,7 @@
 -- The parts of a put once room was made, as the code takes them one after the other, on any image with any table.
 use Prim.Native.Nat.{ℕ, _+_, _-_, _*_, _≤_, _<_}
 use mathlib.Core.Path.{_≡_, refl, sym, ap, _∙_}
-use mathlib.Core.Logic.{_⊎_, inl, inr}
+use mathlib.Core.Logic.{inl, inr}
 use mathlib.Core.List.{List}
 use native.Mathlib.Omega.{arith}
 use lib.ListN.{length, getD, set}
@@ -28,6 +28,10 @@ pub made-unusable : (t : Places) → set t 0 0 ≡ unusable t
 unfolding unusable
 made-unusable t = refl
 
+-- noted at the place that was found
+pub noted-at : (t w : Places) (b at place code : ℕ) → w ≡ noted t b at code → at ≡ place → w ≡ noted t b place code
+noted-at t w b at place code d e = d ∙ ap (λ (y : ℕ). noted t b y code) e
+
 -- a slot's place fits an entry
 pub place-fits : (N B : ℕ) (r : Room) (f : Found) (b : ℕ) (c : List ℕ) (budget : ℕ) (s : Image) → Placed N B r f c budget (length s) → (at : ℕ) → at ≡ slotAt N B (r .first .0 + r .used - 1) (r .slot) * 256 → at < 4294967296
 place-fits N B r f b c budget s k at e = omega (arith, place-inside N B r f b c budget s k at e, few-bytes N B (length s) (k .sized))
@@ -40,9 +44,6 @@ module _ (N B : ℕ) (r : Room) (b : ℕ) (c : List ℕ) (budget : ℕ) (s : Ima
 
   pub placed-at : RoomMade N B r c budget (length s) → r .slot < B → (e : Entry) → e ≡ entrySeen B s (getD t b 0) → (q : SlotPlace) (n : ℕ) → e ≡ entries.At q n → Placed N B r (At q n) c budget (length s)
   placed-at m h e seen q n i = let y = seen-believed B s (getD t b 0) q n (sym seen ∙ i) in placed m h (At q n) (omega (arith, y .place, y .inside))
-
-  pub placed-new : RoomMade N B r c budget (length s) → r .slot < B → Placed N B r Nothing c budget (length s)
-  placed-new m h = placed m h Nothing tt
 
   -- ---- it was written, or nothing was
 

@@ -2,7 +2,7 @@
 use mathlib.Core.Path.{refl}
 use native.Mathlib.Omega.{arith}
 use denote.Ref.{now}
-use Rattle.mounted_put.proofs.Laws.Parts.{placed-at, placed-new, continued-at, continued-new, continued-stale, continued-full}
+use Rattle.mounted_put.proofs.Laws.Parts.{placed-at, continued-at, continued-new, continued-stale, continued-full}
 use borrow.Author.Needs.{needs}
 use Rattle.mounted_put.proofs.write_found.Statement.{statement}
 use Rattle.mounted_put.proofs.write_found.Tie as tie
@@ -24,12 +24,6 @@ look-up-requires c κs = search needs
 
 enum-known-entry : tie.Need-enum-known-entry
 enum-known-entry c = search needs
-
-write-noted-requires : tie.Need-write-noted-requires
-write-noted-requires c κs =
-    let x = c .before .before .before .before .before .before .before .before .before .before .before .before .before in
-    let a = x .args in
-    (placed-at (a .segments) (a .slots) (a .room) (a .block .0) (now (a .contents)) (a .budget) (now (a .image)) (now (a .places)) (x .pre .0) (omega (arith, c .before .before .before .before .before .before .before .before .if1 .left)) _ (c .before .before .before .before .before .look-up .ensures) _ _ (c .before .before .before .entry .given .1), x .pre .1)
 
 enum-told : tie.Need-enum-told
 enum-told c = search needs
@@ -54,6 +48,13 @@ returns-2 c =
     let a = c .before .before .before .before .before .before .before .before .before .before .before .before .before .before .before .before .before .before .args in
     let done = c .before .before .before .before .write-noted .ensures in
     continued-at (a .segments) (a .slots) (a .room) (a .block .0) (now (a .contents)) (a .budget) (now (a .image)) (now (a .places)) _ (c .before .before .before .before .before .before .before .before .before .before .look-up .ensures) _ _ (c .before .before .before .before .before .before .before .before .entry .given .1) (done .0) (done .1)
+
+-- after what it writes, which is the first to be refused if another slot is marked
+write-noted-requires : tie.Need-write-noted-requires
+write-noted-requires c κs =
+    let x = c .before .before .before .before .before .before .before .before .before .before .before .before .before in
+    let a = x .args in
+    (placed-at (a .segments) (a .slots) (a .room) (a .block .0) (now (a .contents)) (a .budget) (now (a .image)) (now (a .places)) (x .pre .0) (omega (arith, c .before .before .before .before .before .before .before .before .if1 .left)) _ (c .before .before .before .before .before .look-up .ensures) _ _ (c .before .before .before .entry .given .1), x .pre .1)
 
 same-length-4 : tie.Need-same-length-4
 same-length-4 c = search needs

@@ -1,10 +1,6 @@
 -- `mounted_put::write_noted` takes the last steps of a put and notes the slot's place. Assumes nothing.
-use Prim.Native.Nat.{ℕ}
-use mathlib.Core.Path.{ap, _∙_}
 use denote.Ref.{now}
-use Rattle.model.specs.Answers.{codeOf}
-use Rattle.places.specs.Places.{noted}
-use Rattle.mounted_put.proofs.Laws.Parts.{place-fits}
+use Rattle.mounted_put.proofs.Laws.Parts.{noted-at, place-fits}
 use borrow.Author.Needs.{needs}
 use Rattle.mounted_put.proofs.write_noted.Statement.{statement}
 use Rattle.mounted_put.proofs.write_noted.Tie as tie
@@ -30,8 +26,7 @@ same-length-2 c = search needs
 returns : tie.Need-returns
 returns c =
     let a = c .before .before .before .before .before .before .before .before .before .before .before .before .args in
-    let done = c .before .before .before .before .before .before .before .write-block in
-    (done .ensures, c .before .before .note .ensures ∙ ap (λ (y : ℕ). noted (now (a .places)) (a .block .0) y (codeOf (done .result .answer))) (c .before .before .before .before .free-place .ensures))
+    (c .before .before .before .before .before .before .before .write-block .ensures, noted-at (now (a .places)) _ (a .block .0) _ _ _ (c .before .before .note .ensures) (c .before .before .before .before .free-place .ensures))
 
 pub write-noted-spec : {M : Type 1} → statement M
 write-noted-spec =
