@@ -3,7 +3,7 @@ use Prim.Native.Nat.{ℕ, _+_, _*_, _%_, _≤_, _<_}
 use mathlib.Core.Path.{_≡_, refl, sym, ap, _∙_}
 use mathlib.Core.Bool.{true, cond}
 use mathlib.Core.List.{List}
-use native.Mathlib.Nat.{mod-eq-of-lt, mul-le-mul}
+use native.Mathlib.Nat.{mod-eq-of-lt}
 use native.Mathlib.Decide.{ℕ-discrete}
 use native.Mathlib.Omega.{arith}
 use lib.ListN.{length}
@@ -15,6 +15,7 @@ use Rattle.model.specs.Blank.{blankGroups}
 use Rattle.model.specs.Answers.{Request, codeOf, performed, Outcome, outcomeOf, located, ReadOutcome, readOutcome}
 use Rattle.model.specs.declared.Answer.{Answer}
 use Rattle.model.specs.Mounted.{Places, MountOutcome, mountedAs, mountedRefusal, MountedRead}
+use Rattle.request.proofs.Laws.{most-pages}
 use Rattle.mounted.proofs.Laws.Refusals.{passed}
 use Rattle.model.specs.declared.Performed.{Performed}
 use Rattle.model.specs.declared.Located.{Located}
@@ -70,9 +71,10 @@ unfolding mountedAs
 mounts a t r o e h = record { number = h ∙ ap (λ (x : MountOutcome). x .code) e; table = ap (λ (x : MountOutcome). x .places) e }
 
 right-largest : (N B : ℕ) (s : Image) → rightSize N B s ≡ true → length s ≤ largestImage
+unfolding imageLength
 right-largest N B s z =
     let f = size-facts N B s z in
-    let b : N * (B + 1) ≤ 255 * 256 = mul-le-mul (omega (arith, f .most)) (omega (arith, f .mostB)) in
+    let m = most-pages N B (f .most) (omega (arith, f .mostB)) in
     omega (arith, f .whole)
 
 -- a mounted read's place fits, whatever the table was
