@@ -10,3 +10,4 @@ pub mod Requests
 pub mod TimesDone
 pub mod Lengths
 pub mod Format
+pub mod Mounting

@@ -66,7 +66,7 @@ sound-clean N B s h = subst (λ y. SoundAs N B s (segmentsOf N B s) y) (sym h) t
 
 -- ---- what a read hands back
 
-read-code : (N B : ℕ) (s : Image) (b : ℕ) → readOutcome N B s b .code ≡ workOf N B s (read b) .code
+pub read-code : (N B : ℕ) (s : Image) (b : ℕ) → readOutcome N B s b .code ≡ workOf N B s (read b) .code
 unfolding readOutcome
 read-code N B s b = go (workOf N B s (read b) .code) (contentsAt N B (placeOf b (view N B s))) (length (contentsFound (lookup b (entriesIn (view N B s)))))
   where

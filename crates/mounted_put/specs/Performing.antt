@@ -16,7 +16,7 @@ use Rattle.request.specs.Request.{Finished}
 use Rattle.places.specs.declared.Entry.{Entry}
 use Rattle.places.specs.declared.Entry.the-variants as entries
 use Rattle.places.specs.Places.{entrySeen, noted}
-use Rattle.places.proofs.Laws.Kept.{Kept}
+use Rattle.bridge.specs.Mounting.{Kept}
 use Rattle.room.specs.declared.Plan.{Plan}
 use Rattle.room.specs.declared.Room.{Room}
 use Rattle.put.specs.Writing.{Accepted, Wrote}

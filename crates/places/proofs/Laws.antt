@@ -3,6 +3,5 @@ pub mod Seen
 pub mod Rows
 pub mod Entered
 pub mod Filled
-pub mod Kept
 pub mod Found
 pub mod Noted

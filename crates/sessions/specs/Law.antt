@@ -1,20 +1,32 @@
 -- Request #102, "answers, images and step counts equal those of the unmounted calls", over runs of mounted calls of any length; and demands 2 and 3 of sessions with mounts, mounted calls, unmounted requests and cuts.
-use Prim.Native.Nat.{ℕ, _≤_}
+use Prim.Native.Nat.{ℕ, _+_, _≤_}
 use mathlib.Core.Path.{_≡_}
 use mathlib.Core.Logic.{_⊎_, _≢_}
 use mathlib.Core.Bool.{Bool, true, false, not}
 use mathlib.Core.List.{List, [], _∷_}
-use lib.ListN.{length, take, drop}
+use lib.ListN.{length, getD, take, drop}
 use lib.Dec.{eqb}
 use Rattle.model.specs.Chip.{Image, Cut, rightSize}
-use Rattle.model.specs.State.{clean, state}
-use Rattle.model.specs.Answers.{Request, format, put, delete, read, readOr, recover, workOf, outcomeOf, ReadOutcome}
+use Rattle.model.specs.Slot.{numberOk}
+use Rattle.model.specs.Answers.{Request, format, put, delete, read, readOr, recover, workOf, outcomeOf, ReadOutcome, readOutcome}
 use Rattle.model.specs.Histories.{bytesRead, Seen, answered, lost, Proper, Does, wears, Event}
 use Rattle.model.specs.Sequences.{Call, Observed, observed, InSequence}
 use Rattle.model.specs.Mounted.{Places, leastPlaces, mountOutcome, InStep, MountedPut, MountedDelete, MountedRead}
 use Rattle.crash.specs.Machine.{Promise, unknown, PlainRuns}
 use Rattle.crash.specs.Demand2.{Keeps, board}
 use Rattle.wear.specs.Demand3.{Bounded}
+
+-- ---- the table
+
+-- entry k, and what a read of block k gives: the contents begin 8 bytes after the slot's place, and the entry of a block that is not stored is 0
+abbrev pub EntryReads : ℕ → ReadOutcome → Type 0
+EntryReads e o = ((o .code ≡ 0) × (o .offset ≡ e + 8)) ⊎ ((o .code ≡ 6) × (e ≡ 0))
+
+-- A mount that answers 0 fills the table with what reads tell. Entry 65,535, which is no block's, is 0; those past it stay.
+abbrev pub MountFills : Type 0
+MountFills = (N B : ℕ) (s : Image) (t : Places) → mountOutcome N B s t .code ≡ 0
+    → let u = mountOutcome N B s t .places in
+    (getD u 0 0 ≡ 1) × ((k : ℕ) → numberOk k ≡ true → EntryReads (getD u k 0) (readOutcome N B s k)) × (getD u 65535 0 ≡ 0) × (drop leastPlaces u ≡ drop leastPlaces t)
 
 -- ---- runs
 
@@ -66,9 +78,10 @@ abbrev pub MountedRuns : Type 0
 MountedRuns = (N B : ℕ) (s : Image) (t u : Places) (xs : List Call) (gs : List Given) → mountOutcome N B s t .code ≡ 0 → Runs N B s (mountOutcome N B s t .places) xs gs u
     → (gs ≡ givenAll N B s xs) × (NoneCut gs → InStep N B (lastImage s gs) u)
 
--- After a 9 a recovery leaves the image clean, by demand 2; and on a clean image a mount answers 0, whatever a table that is long enough held before.
-abbrev pub CleanMounts : Type 0
-CleanMounts = (N B : ℕ) (s : Image) (t : Places) → rightSize N B s ≡ true → state N B s ≡ clean → leastPlaces ≤ length t → mountOutcome N B s t .code ≡ 0
+-- After a 9, and after a loss of power, comes a recovery. Once one has answered 0, a mount answers 0, whatever a table that is long enough held before.
+abbrev pub RecoveredMounts : Type 0
+RecoveredMounts = (N B : ℕ) (s : Image) (t : Places) (allowance : ℕ) → outcomeOf N B s allowance recover .code ≡ 0 → leastPlaces ≤ length t
+    → mountOutcome N B (outcomeOf N B s allowance recover .image) t .code ≡ 0
 
 -- ---- sessions
 

@@ -1,93 +1,111 @@
 -- The proofs: a mounted call in step is the unmounted one, and runs and sessions go by it call by call.
-use Prim.Native.Nat.{ℕ, zero, suc, _+_, _≤_}
+use Prim.Native.Nat.{ℕ, zero, suc, _+_, _≤_, _<_}
 use mathlib.Core.Path.{_≡_, refl, sym, ap, ap₂, _∙_, subst}
-use mathlib.Core.Logic.{⊎-elim, _≢_}
+use mathlib.Core.Logic.{inl, inr, ⊎-elim, _≢_}
 use mathlib.Core.Bool.{Bool, true, false, cond, not, true≢false}
-use mathlib.Core.List.{List, [], _∷_, _++_}
+use mathlib.Core.List.{List, [], _∷_}
 use native.Mathlib.Decide.{ℕ-discrete}
 use native.Mathlib.Omega.{arith}
-use lib.ListN.{length, take, drop, length-append}
+use lib.ListN.{length, getD, take, drop}
 use lib.Dec.{ltb, eqb}
-use borrow.Author.Tests.{le-ltb, le-leb, eqb-true}
+use borrow.Author.Tests.{ltb-true, le-leb, eqb-true}
 use Rattle.model.specs.Chip.{Image, Step, rightSize, run}
-use Rattle.model.specs.State.{View, state, view}
-use Rattle.model.specs.Answers.{Request, format, put, delete, read, readOr, recover, _when_, firstOf, isDamaged, isUnfinished, workOf, codeUnder, Outcome, outcomeOf, ReadOutcome, readOutcome, pieceRead}
-use Rattle.model.specs.Histories.{Reply, bytesRead, replyOf, Seen, answered, lost, Does, Event, History}
+use Rattle.model.specs.Slot.{numberOk}
+use Rattle.model.specs.State.{View, entriesIn, holds, State, clean, unfinished, damaged, state, view}
+use Rattle.model.specs.Answers.{Request, format, put, delete, read, readOr, recover, workOf, codeUnder, Outcome, outcomeOf, ReadOutcome, contentsAt, readOutcome, pieceRead}
+use Rattle.model.specs.Histories.{Reply, bytesRead, replyOf, Seen, answered, lost, Does, Event, History, recovered}
 use Rattle.model.specs.Sequences.{Call, observe, observed, Uncut}
-use Rattle.model.specs.Mounted.{Places, leastPlaces, placesFrom, filledPlaces, MountOutcome, mountRefusals, mountOutcome, InStep, Writes}
-use Rattle.crash.specs.Requests.{read-idle}
+use Rattle.model.specs.Mounted.{Places, leastPlaces, placeEntry, filledPlaces, MountOutcome, mountOutcome, InStep, Writes}
+use Rattle.model.specs.Laws.Lists.{and-left, and-right}
+use Rattle.model.specs.Laws.Chip.{run-size}
+use Rattle.bridge.specs.Held.{held-of-clean}
+use Rattle.bridge.specs.Accepted.{refusal, code-of}
+use Rattle.bridge.specs.Refusals.{wrong-size-code, recover-damaged, read-absent, read-found}
+use Rattle.bridge.specs.Allowance.{ends}
+use Rattle.bridge.specs.Mounting.{filled-zero, filled-entry, filled-past, Mountable, mount-asks, mount-fills, mount-in-step, held-number}
+use Rattle.crash.specs.Requests.{read-idle, recovered-clean, read-code}
+use Rattle.crash.specs.States.{done}
+use Rattle.crash.specs.Recover.{recovery-mends}
 use Rattle.crash.specs.Theorem.{demand2}
 use Rattle.wear.specs.Sequence.{demand3}
-use Rattle.sessions.specs.Law.{CleanMounts, Given, givenBy, givenAll, Calls, Runs, lastImage, NoneCut, MountedRuns, Turn, plain, mount, call, CallDoes, stays, Session, eventsIn, MountedDemand2, Observes, Unbroken, MountedDemand3}
+use Rattle.sessions.specs.Law.{EntryReads, MountFills, RecoveredMounts, Given, givenBy, givenAll, Calls, Runs, lastImage, NoneCut, MountedRuns, Turn, plain, mount, call, CallDoes, stays, Session, eventsIn, MountedDemand2, Observes, Unbroken, MountedDemand3}
 
--- ---- a mount that answered 0
+-- ---- the table
 
-four : (a b c d : Bool) → firstOf ((1 when a) ∷ (10 when b) ∷ (4 when c) ∷ (5 when d) ∷ []) ≡ 0 → (a ≡ false) × (b ≡ false) × (c ≡ false) × (d ≡ false)
-unfolding firstOf
-four true b c d h = absurd (omega arith)
-four false true c d h = absurd (omega arith)
-four false false true d h = absurd (omega arith)
-four false false false true h = absurd (omega arith)
-four false false false false h = (refl, refl, refl, refl)
+-- a read that answers 0 tells the entry's place
+read-place : (N B : ℕ) (s : Image) (k : ℕ) → workOf N B s (read k) .code ≡ 0 → holds k (entriesIn (view N B s)) ≡ true → readOutcome N B s k .offset ≡ placeEntry N B (view N B s) k + 8
+unfolding readOutcome contentsAt placeEntry
+read-place N B s k c e = rw (c, e)
 
-places-length : (N B : ℕ) (v : View) (c k : ℕ) → length (placesFrom N B v k c) ≡ c
-unfolding placesFrom
-places-length N B v zero k = refl
-places-length N B v (suc c) k = ap suc (places-length N B v c (suc k))
+absent-entry : (N B : ℕ) (s : Image) (k : ℕ) → holds k (entriesIn (view N B s)) ≡ false → placeEntry N B (view N B s) k ≡ 0
+unfolding placeEntry
+absent-entry N B s k e = rw e
 
-drop-all : (c : ℕ) (x y : List ℕ) → length x ≡ c → drop c (x ++ y) ≡ y
-drop-all zero [] y h = refl
-drop-all zero (a ∷ x) y h = absurd (omega arith)
-drop-all (suc c) [] y h = absurd (omega arith)
-drop-all (suc c) (a ∷ x) y h = drop-all c x y (omega arith)
+filled-reads : (N B : ℕ) (s : Image) (t : Places) → Mountable N B s t → (k : ℕ) → numberOk k ≡ true → EntryReads (getD (filledPlaces N B (view N B s) t) k 0) (readOutcome N B s k)
+filled-reads N B s t m k n = go (holds k (entriesIn v)) refl
+  where
+    v : View
+    v = view N B s
 
-module _ (N B : ℕ) (v : View) (t : Places) where
-  filled-past : drop leastPlaces (filledPlaces N B v t) ≡ drop leastPlaces t
-  unfolding filledPlaces
-  filled-past = drop-all leastPlaces (1 ∷ placesFrom N B v 1 65535) (drop leastPlaces t) (ap suc (places-length N B v 65535 1))
+    range : (0 < k) × (k < leastPlaces)
+    range = unfold numberOk in (ltb-true 0 k (and-left (ltb 0 k) (ltb k 65535) n), omega (arith, ltb-true k 65535 (and-right (ltb 0 k) (ltb k 65535) n)))
 
-  filled-long : leastPlaces ≤ length (filledPlaces N B v t)
-  unfolding filledPlaces
-  filled-long = omega (arith, length-append (placesFrom N B v 1 65535) (drop leastPlaces t), places-length N B v 65535 1)
+    here : getD (filledPlaces N B v t) k 0 ≡ placeEntry N B v k
+    here = filled-entry N B v t k (range .0) (range .1)
 
-  filled-again : filledPlaces N B v (filledPlaces N B v t) ≡ filledPlaces N B v t
-  filled-again = go (filledPlaces N B v t) filled-past
-    where
-      go : (u : Places) → drop leastPlaces u ≡ drop leastPlaces t → filledPlaces N B v u ≡ filledPlaces N B v t
-      go u e = unfold filledPlaces in (rw e)
+    go : (x : Bool) → holds k (entriesIn v) ≡ x → EntryReads (getD (filledPlaces N B v t) k 0) (readOutcome N B s k)
+    go true e =
+        let code : workOf N B s (read k) .code ≡ 0 = code-of N B s (read k) ∙ read-found N B s (m .size) k n (m .fine) e in
+        inl (read-code N B s k ∙ code, read-place N B s k code e ∙ ap (λ (y : ℕ). y + 8) (sym here))
+    go false e =
+        let code : workOf N B s (read k) .code ≡ 6 = code-of N B s (read k) ∙ read-absent N B s (m .size) k n (m .fine) e in
+        inr (read-code N B s k ∙ code, here ∙ absent-entry N B s k e)
 
-module _ (N B : ℕ) (s : Image) where
-  -- nothing refuses a mount: the table is filled
-  accepted : (t : Places) → not (rightSize N B s) ≡ false → ltb (length t) leastPlaces ≡ false → isDamaged (state N B s) ≡ false → isUnfinished (state N B s) ≡ false
-      → mountOutcome N B s t ≡ record { code = 0; places = filledPlaces N B (view N B s) t }
-  unfolding mountOutcome mountRefusals firstOf
-  accepted t a b c d = rw (a, b, c, d)
+-- no block has this number
+last-none : (N B : ℕ) (s : Image) (t : Places) → Mountable N B s t → getD (filledPlaces N B (view N B s) t) 65535 0 ≡ 0
+last-none N B s t m = filled-entry N B v t 65535 (omega arith) (omega arith) ∙ go (holds 65535 (entriesIn v)) refl
+  where
+    v : View
+    v = view N B s
 
-  pub mount-in-step : (t : Places) → mountOutcome N B s t .code ≡ 0 → InStep N B s (mountOutcome N B s t .places)
-  unfolding mountOutcome mountRefusals
-  mount-in-step t h =
-      let f = four (not (rightSize N B s)) (ltb (length t) leastPlaces) (isDamaged (state N B s)) (isUnfinished (state N B s)) h in
-      let v = view N B s in
-      let again : mountOutcome N B s (filledPlaces N B v t) ≡ record { code = 0; places = filledPlaces N B v t } =
-      accepted (filledPlaces N B v t) (f .0) (le-ltb (length (filledPlaces N B v t)) leastPlaces (filled-long N B v t)) (f .2) (f .3) ∙ ap (λ (y : Places). record { code = 0; places = y }) (filled-again N B v t) in
-      subst (λ (o : MountOutcome). InStep N B s (o .places)) (sym (accepted t (f .0) (f .1) (f .2) (f .3))) again
+    go : (x : Bool) → holds 65535 (entriesIn v) ≡ x → placeEntry N B v 65535 ≡ 0
+    go true e = absurd (true≢false (sym (held-number N B 65535 s v (held-of-clean N B s (m .size) (m .fine)) e) ∙ (unfold numberOk in refl)))
+    go false e = absent-entry N B s 65535 e
 
-pub clean-mounts : CleanMounts
-unfolding isDamaged isUnfinished
-clean-mounts N B s t z c l = ap (λ (o : MountOutcome). o .code) (accepted N B s t (rw z) (le-ltb (length t) leastPlaces l) (rw c) (rw c))
+pub mount-fills-reads : MountFills
+mount-fills-reads N B s t e =
+    let m = mount-asks N B s t e in
+    let v = view N B s in
+    let f : mountOutcome N B s t .places ≡ filledPlaces N B v t = ap (λ (o : MountOutcome). o .places) (mount-fills N B s t m) in
+    rw f (filled-zero N B v t, filled-reads N B s t m, last-none N B s t m, filled-past N B v t)
+
+-- ---- a mount after a recovery
+
+-- a recovery that answers 0 leaves a clean image
+recovered-fine : (N B : ℕ) (s : Image) → workOf N B s recover .code ≡ 0 → (rightSize N B s ≡ true) × (state N B (recovered N B s) ≡ clean)
+recovered-fine N B s e = size (rightSize N B s) refl
+  where
+    none : refusal N B s recover ≡ 0
+    none = sym (code-of N B s recover) ∙ e
+
+    fine : rightSize N B s ≡ true → (x : State) → state N B s ≡ x → state N B (recovered N B s) ≡ clean
+    fine z clean h = rw (recovered-clean N B s h) h
+    fine z (unfinished x) h = done N B s x z h (recovery-mends N B s z x h)
+    fine z damaged h = absurd (omega (arith, none, recover-damaged N B s z h))
+
+    size : (t : Bool) → rightSize N B s ≡ t → (rightSize N B s ≡ true) × (state N B (recovered N B s) ≡ clean)
+    size true z = (z, fine z (state N B s) refl)
+    size false z = absurd (omega (arith, none, wrong-size-code N B s recover z))
+
+pub recovered-mounts : RecoveredMounts
+unfolding recovered
+recovered-mounts N B s t allowance e l =
+    let x = ends N B s allowance recover (λ q. omega (arith, e, q)) in
+    let f = recovered-fine N B s (sym (x .code) ∙ e) in
+    let z : rightSize N B (run B (workOf N B s recover .steps) s) ≡ true = run-size N B (workOf N B s recover .steps) s ∙ f .0 in
+    rw (x .image) (ap (λ (o : MountOutcome). o .code) (mount-fills N B (run B (workOf N B s recover .steps) s) t (record { size = z; fine = f .1; long = l })))
 
 -- ---- one call
-
-chosen : (code : ℕ) (o f : ReadOutcome) → o .code ≡ 0 → f .code ≡ code → (cond (eqb code 0) o f) .code ≡ code
-chosen code o f p q = go (eqb code 0) refl
-  where
-    go : (x : Bool) → eqb code 0 ≡ x → (cond {A = ReadOutcome} x o f) .code ≡ code
-    go true e = p ∙ sym (eqb-true code 0 e)
-    go false e = q
-
-read-code : (N B : ℕ) (s : Image) (b : ℕ) → readOutcome N B s b .code ≡ workOf N B s (read b) .code
-unfolding readOutcome
-read-code N B s b = chosen (workOf N B s (read b) .code) _ _ refl refl
 
 no-steps : (n : ℕ) → take {A = Step} n [] ≡ []
 no-steps zero = refl

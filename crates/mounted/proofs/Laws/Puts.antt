@@ -23,7 +23,7 @@ use Rattle.find.specs.declared.Found.{Found}
 use Rattle.find.specs.Search.{rowsAt, foundIn}
 use Rattle.places.specs.declared.Entry.the-variants.{At, Absent, Stale}
 use Rattle.places.specs.Places.{entrySeen}
-use Rattle.places.proofs.Laws.Kept.{Kept, in-step-kept, kept-in-step}
+use Rattle.bridge.specs.Mounting.{Kept, in-step-kept, kept-in-step}
 use Rattle.room.specs.declared.Plan.{Plan}
 use Rattle.room.specs.Room.{Plannable}
 use Rattle.put.specs.Writing.{Accepted}

@@ -23,7 +23,7 @@ use Rattle.bridge.specs.Refusals.{read-number, read-absent, read-found}
 use Rattle.places.specs.declared.Entry.{Entry}
 use Rattle.places.specs.declared.Entry.the-variants.{At, Absent, Stale}
 use Rattle.places.specs.Places.{entrySeen}
-use Rattle.places.proofs.Laws.Kept.{Kept, in-step-kept}
+use Rattle.bridge.specs.Mounting.{Kept, in-step-kept}
 use Rattle.places.proofs.Laws.Found.{foundEntry, kept-seen}
 use Rattle.places.proofs.Laws.Seen.{Believed, seen-believed}
 use Rattle.store.specs.Look.{There, Kept as Refuses}

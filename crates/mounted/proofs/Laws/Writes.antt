@@ -35,7 +35,7 @@ use Rattle.store.specs.Look.{There}
 use Rattle.store.proofs.Laws.Requests.{delete-done}
 use Rattle.places.specs.declared.Entry.the-variants.{At, Absent, Stale}
 use Rattle.places.specs.Places.{entrySeen, noted}
-use Rattle.places.proofs.Laws.Kept.{Kept, in-step-kept, kept-in-step}
+use Rattle.bridge.specs.Mounting.{Kept, in-step-kept, kept-in-step}
 use Rattle.places.proofs.Laws.Seen.{seen-believed}
 use Rattle.places.proofs.Laws.Noted.{noted-past, noted-unusable, noted-zero}
 use Rattle.mounted.proofs.Laws.Refusals.{Passed, passed, bound-not-cut, number-range}

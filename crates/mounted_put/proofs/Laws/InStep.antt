@@ -32,7 +32,7 @@ use Rattle.find.specs.Search.{rowsAt, foundIn}
 use Rattle.places.specs.declared.Entry.the-variants as entries
 use Rattle.places.specs.Places.{entrySeen, enteredFrom, noted}
 use Rattle.places.proofs.Laws.Entered.{entered-from-length, entered-entry, entered-zero}
-use Rattle.places.proofs.Laws.Kept.{Kept}
+use Rattle.bridge.specs.Mounting.{Kept}
 use Rattle.places.proofs.Laws.Found.{foundEntry, kept-seen, number-above}
 use Rattle.room.specs.declared.Plan.{Plan}
 use Rattle.room.specs.declared.Room.{Room}

@@ -122,11 +122,6 @@ fine-drop (suc j) [] f = f
 fine-drop (suc j) (r ∷ rows) f = fine-drop j rows (rows-fine r rows f)
 
 module _ (N B : ℕ) (s : Image) (v : View) (h : Held N B s v) where
-  -- a stored block's number is one
-  pub held-number : (k : ℕ) → holds k (entriesIn v) ≡ true → numberOk k ≡ true
-  unfolding entriesIn
-  held-number k e = rows-number N B s k (length (v .slots)) (v .first) (rw (held-rows-at N B s v h) e)
-
   module _ (j u : ℕ) (e : j + u ≡ length (v .slots)) where
     rows-left : rowsAt N B s u (v .first + j) ≡ drop j (v .slots)
     rows-left = rows-drop N B s j u (v .first) ∙ (rw e (ap (drop j) (held-rows-at N B s v h)))

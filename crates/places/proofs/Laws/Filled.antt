@@ -1,87 +1,22 @@
--- A filled table, entry by entry; and that what the code makes is one. The count of entries is a variable here: nothing computes a list of 65,536.
-use Prim.Native.Nat.{ℕ, zero, suc, _+_, _-_, _≤_, _<_}
+-- What the code makes is the filled table. The count of entries is a variable where it can be: nothing computes a list of 65,536.
+use Prim.Native.Nat.{ℕ, _+_, _≤_, _<_}
 use mathlib.Core.Path.{_≡_, refl, sym, ap, _∙_}
 use mathlib.Core.Bool.{Bool, true, false, cond}
-use mathlib.Core.List.{_∷_, _++_, flatten}
+use mathlib.Core.List.{_++_, flatten}
 use native.Mathlib.Omega.{arith}
-use native.Mathlib.Decide.{decLt}
 use lib.ListN.{length, getD, drop, set, replicate, length-append, length-drop, length-set, length-replicate, getD-replicate, List·getD-append}
-use lib.Seq.{ext-getD, getD-drop, getD-append-add, getD-set-same, getD-set-other, drop-set-lt, drop-at}
+use lib.Seq.{getD-set-same, getD-set-other, drop-set-lt, drop-at}
 use Rattle.model.specs.Chip.{Image, Bytes, numberLimit}
 use Rattle.model.specs.State.{View, entries, holds, view}
 use Rattle.model.specs.Steps.{topNumber}
-use Rattle.model.specs.Mounted.{Places, leastPlaces, placeEntry, placesFrom, filledPlaces}
+use Rattle.model.specs.Mounted.{Places, leastPlaces, placeEntry, filledPlaces}
 use Rattle.model.specs.Laws.Chip.{size-facts}
 use Rattle.bridge.specs.Held.{Held, held-of-clean, clean-view}
 use Rattle.bridge.specs.Requests.{held-below}
+use Rattle.bridge.specs.Mounting.{filled-is}
 use Rattle.bridge.specs.Views.Entries.{rowsEntry, view-entry}
 use Rattle.places.specs.Places.{enteredFrom, emptied, Fillable}
 use Rattle.places.proofs.Laws.Entered.{entered-from-length, entered-from-past, entered-entry, entered-zero}
-
--- ---- a filled table
-
-module _ (N B : ℕ) (v : View) where
-  from-length : (k c : ℕ) → length (placesFrom N B v k c) ≡ c
-  unfolding placesFrom
-  from-length k zero = refl
-  from-length k (suc c) = ap suc (from-length (suc k) c)
-
-  from-get : (k c i : ℕ) → i < c → getD (placesFrom N B v k c) i 0 ≡ placeEntry N B v (k + i)
-  unfolding placesFrom
-  from-get k zero i h = absurd (omega arith)
-  from-get k (suc c) zero h = let e : k + 0 ≡ k = omega arith in rw e
-  from-get k (suc c) (suc i) h = let e : k + suc i ≡ suc k + i = omega arith in rw e (from-get (suc k) c i (omega arith))
-
-  -- c entries after entry 0, and then those of t
-  abbrev filledTo : ℕ → Places → Places
-  filledTo c t = 1 ∷ (placesFrom N B v 1 c ++ drop (suc c) t)
-
-  to-length : (c : ℕ) (t : Places) → suc c ≤ length t → length (filledTo c t) ≡ length t
-  to-length c t h = omega (arith, length-append (placesFrom N B v 1 c) (drop (suc c) t), from-length 1 c, length-drop (suc c) t)
-
-  to-low : (c : ℕ) (t : Places) (k : ℕ) → k < c → getD (filledTo c t) (suc k) 0 ≡ placeEntry N B v (suc k)
-  to-low c t k h =
-      let e : 1 + k ≡ suc k = omega arith in
-      List·getD-append (placesFrom N B v 1 c) (drop (suc c) t) 0 k (omega (arith, from-length 1 c)) ∙ rw e at (from-get 1 c k h)
-
-  to-past : (c : ℕ) (t : Places) (i : ℕ) → getD (filledTo c t) (suc (c + i)) 0 ≡ getD t (suc c + i) 0
-  to-past c t i = rw (from-length 1 c) at (getD-append-add (placesFrom N B v 1 c) (drop (suc c) t) i 0) ∙ getD-drop (suc c) t i 0
-
-  to-is : (c : ℕ) (t u : Places) → suc c ≤ length t → length u ≡ length t → drop (suc c) u ≡ drop (suc c) t → getD u 0 0 ≡ 1
-      → ((k : ℕ) → 0 < k → k < suc c → getD u k 0 ≡ placeEntry N B v k) → u ≡ filledTo c t
-  to-is c t u h l d o f = ext-getD 0 u (filledTo c t) (l ∙ sym (to-length c t h)) (λ i b. each i)
-    where
-      past : (k : ℕ) → c ≤ k → getD u (suc k) 0 ≡ getD (filledTo c t) (suc k) 0
-      past k g =
-          let e : c + (k - c) ≡ k = omega arith in
-          let m : suc c + (k - c) ≡ suc k = omega arith in
-          let p : getD u (suc k) 0 ≡ getD t (suc k) 0 = rw m at (sym (getD-drop (suc c) u (k - c) 0) ∙ ap (λ (y : Places). getD y (k - c) 0) d ∙ getD-drop (suc c) t (k - c) 0) in
-          p ∙ sym (rw (e, m) at (to-past c t (k - c)))
-
-      each : (i : ℕ) → getD u i 0 ≡ getD (filledTo c t) i 0
-      each zero = o
-      each (suc k) = elim (decLt k c) [
-        | yes g ↦ f (suc k) (omega arith) (omega arith) ∙ sym (to-low c t k g)
-        | no g ↦ past k (omega arith)
-      ]
-
-  module _ (t : Places) where
-    pub filled-zero : getD (filledPlaces N B v t) 0 0 ≡ 1
-    unfolding filledPlaces
-    filled-zero = refl
-
-    pub filled-entry : (k : ℕ) → 0 < k → k < leastPlaces → getD (filledPlaces N B v t) k 0 ≡ placeEntry N B v k
-    unfolding filledPlaces
-    filled-entry zero a b = absurd (omega arith)
-    filled-entry (suc k) a b = to-low 65535 t k (omega arith)
-
-    -- a table that has its entries is the filled one
-    pub filled-is : (u : Places) → leastPlaces ≤ length t → length u ≡ length t → drop leastPlaces u ≡ drop leastPlaces t → getD u 0 0 ≡ 1
-        → ((k : ℕ) → 0 < k → k < leastPlaces → getD u k 0 ≡ placeEntry N B v k) → u ≡ filledPlaces N B v t
-    unfolding filledPlaces
-    filled-is u h l d o f = to-is 65535 t u h l d o f
-
--- ---- what the code makes
 
 -- n entries emptied
 module _ (n : ℕ) (t : Places) where

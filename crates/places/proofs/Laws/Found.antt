@@ -18,15 +18,14 @@ use Rattle.model.specs.Laws.Lists.{and-left}
 use Rattle.model.specs.Laws.Chip.{size-facts}
 use Rattle.model.specs.Laws.Segments.{partOf, page-byte}
 use Rattle.model.specs.Laws.SlotPage.{live-facts, number-below}
-use Rattle.model.specs.Laws.Effects.{slot-kind}
 use Rattle.model.specs.Laws.Tables.{lookup-append}
-use Rattle.bridge.specs.Held.{Held, held-row, held-lengths, held-of-clean}
+use Rattle.bridge.specs.Held.{Held, held-lengths, held-of-clean}
 use Rattle.bridge.specs.Views.Places.{FirstLive, first-live, earlier, later, fill-entries, InView, in-view}
 use Rattle.places.specs.declared.Entry.{Entry}
 use Rattle.places.specs.declared.Entry.the-variants.{At, Absent}
 use Rattle.places.specs.Places.{entrySeen}
 use Rattle.places.proofs.Laws.Seen.{Believed, seen-absent, believed-seen}
-use Rattle.places.proofs.Laws.Kept.{Kept}
+use Rattle.bridge.specs.Mounting.{Kept, live-page}
 
 -- ---- where a stored block's slot lies
 
@@ -57,10 +56,7 @@ module _ (N B b : ℕ) (s : Image) (v : View) (h : Held N B s v) (f : FirstLive 
   here = mod-lt n {m = N} (omega (arith, size-facts N B s (h .size) .two))
 
   page : slotOf (getD (partOf N B (n % N) s) (suc j) []) ≡ live b c
-  page =
-      let z = size-facts N B s (h .size) in
-      let r = held-row N B s v h (length (f .gap .rowsBefore)) (i .row) in
-      slot-kind N B (z .two) s (z .whole) n j (r .0) (r .1) n (getD (v .slots) (length (f .gap .rowsBefore)) []) (i .short) (r .2) ∙ i .kind
+  page = live-page N B b s v h f
 
   byte : getD s ((n % N * (B + 1) + suc j) * 256 + 1) 0 ≡ length c
   byte = sym (page-byte N B (n % N) (suc j) 1 s here (omega (arith, i .short)) (omega arith)) ∙ (ap (λ (p : Page). getD p 1 0) (live-facts (getD (partOf N B (n % N) s) (suc j) []) b c page .page) ∙ (unfold slotPage in refl))
