@@ -72,8 +72,9 @@ fn write_noted(
     let done = put::write_block(image, segments, slots, room, old, block, contents, budget);
     let place = put::free_place(segments, slots, room);
     let answer = done.answer;
+    let steps = done.steps;
     places::note(places, block, place.0, answer);
-    done
+    Performed { answer, steps }
 }
 
 // Writes the slot once room was made and the table mended. The block is looked up only now, as it may have moved. In step
