@@ -34,7 +34,7 @@ const CUT: u8 = 0x5F;
 
 // ---- one header
 
-// A segment counts as in use if its status was programmed.
+// The status in the header at an index. A segment counts as in use if it was programmed.
 fn status_at(image: &[u8], segments: usize, slots: usize, index: usize) -> u8
     requires { ⌜ Sized segments slots (length (now image)) × (index < segments) ⌝ }
     ensures { λ r. ⌜ r ≡ statusAt slots (now (image .entry)) index ⌝ }
@@ -73,7 +73,7 @@ fn last_following(image: &[u8], segments: usize, slots: usize, number: usize) ->
     low
 }
 
-// The last index that counts as in use; 0, if none does.
+// The last index that counts as in use; 0, if none does. In a whole ring with index 0 blank it is the first that is looked at.
 fn last_used(image: &[u8], segments: usize, slots: usize) -> usize
     requires { ⌜ Sized segments slots (length (now image)) ⌝ }
     ensures { λ r. ⌜ LastUsed segments slots (now (image .entry)) r ⌝ }
@@ -131,8 +131,8 @@ fn count_used(image: &[u8], segments: usize, slots: usize, top: usize) -> usize
     top + 1 + (segments - run_start(image, segments, slots, segments))
 }
 
-// The segments in use. Headers lie up to 64 KiB apart, so that a look at each is a cache miss for each segment; the search looks
-// at as many as there are halvings, and some more.
+// The segments in use. Headers lie up to 64 KiB apart, so that a look is a cache miss: on a clean image as many are looked at as
+// there are halvings, and some more. A single segment is no ring, and one less would count as none.
 pub fn see_ring(image: &[u8], segments: usize, slots: usize) -> Ring
     requires { ⌜ Sized segments slots (length (now image)) ⌝ }
     ensures { λ r. ⌜ SeenRing segments slots (now (image .entry)) r ⌝ }
