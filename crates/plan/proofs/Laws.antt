@@ -1,4 +1,4 @@
 pub mod Walks
-pub mod Edges
+pub mod Search
 pub mod Ring
 pub mod Kinds

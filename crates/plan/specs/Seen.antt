@@ -1,26 +1,46 @@
--- What is seen of the ring of segments in use.
-use Prim.Native.Nat.{ℕ, _+_, _*_, _%_, _≤_, _<_}
+-- What is seen of the ring of segments in use: by each part of the search on any image, and by the whole.
+use Prim.Native.Nat.{ℕ, _+_, _-_, _*_, _%_, _≤_, _<_}
 use mathlib.Core.Path.{_≡_}
-use mathlib.Core.Bool.{true, false}
+use mathlib.Core.Logic.{_≢_, _⊎_}
+use mathlib.Core.Bool.{true}
 use lib.ListN.{length}
-use Rattle.model.specs.Lists.{count}
 use Rattle.model.specs.Chip.{Image, eraseLimit, rightSize}
 use Rattle.model.specs.State.{clean, state, view}
-use Rattle.plan.specs.Statuses.{statusAt, statusesFrom, counts}
-use Rattle.plan.specs.declared.Edge.{Edge}
+use Rattle.plan.specs.Statuses.{statusAt, numberAt}
 use Rattle.plan.specs.declared.Ring.{Ring}
 use Rattle.plan.specs.declared.Ring.the-variants.{InUse, Broken}
 
--- the segment at index i counts as in use, and the next does not
-abbrev pub EdgeAt : ℕ → ℕ → Image → ℕ → Type 0
-EdgeAt N B s i = (counts (statusAt B s i) ≡ true) × (counts (statusAt B s ((i + 1) % N)) ≡ false)
+-- ---- the parts of the search
 
--- how many count as in use, and one of them whose next does not, if there is one
-pub record EdgeSeen (N B : ℕ) (s : Image) (r : Edge) : Type 0 where
-  pub counted : r .count ≡ count counts (statusesFrom B s N 0)
-  pub some : r .top < N → 1 ≤ r .count
-  pub edge : r .top < N → EdgeAt N B s (r .top)
-  pub none : N ≤ r .top → (i : ℕ) → i < N → EdgeAt N B s i → ⊥
+-- index i follows from number n at index 0, if its number is n + i: r does or is 0, and the next does not, or there is none
+pub record LastFollowing (N B : ℕ) (s : Image) (n r : ℕ) : Type 0 where
+  pub within : r < N
+  pub follows : 0 < r → numberAt B s r ≡ n + r
+  pub ends : r + 1 < N → numberAt B s (r + 1) ≢ n + (r + 1)
+
+-- r counts as in use or is 0, and none after it does
+pub record LastUsed (N B : ℕ) (s : Image) (r : ℕ) : Type 0 where
+  pub within : r < N
+  pub used : 0 < r → statusAt B s r ≢ 255
+  pub free : (i : ℕ) → r < i → i < N → statusAt B s i ≡ 255
+
+-- those from r up to the one below e count as in use, and the one below r does not, or there is none
+pub record RunFrom (B : ℕ) (s : Image) (e r : ℕ) : Type 0 where
+  pub within : r ≤ e
+  pub used : (i : ℕ) → r ≤ i → i < e → statusAt B s i ≢ 255
+  pub free : 0 < r → statusAt B s (r - 1) ≡ 255
+
+abbrev pub TopSeen : ℕ → ℕ → Image → ℕ → Type 0
+TopSeen N B s r = ((statusAt B s 0 ≢ 255) × LastFollowing N B s (numberAt B s 0) r) ⊎ ((statusAt B s 0 ≡ 255) × LastUsed N B s r)
+
+-- one less than all, if the second after the top counts as in use; or the run below the end, and those up to the top; or the run up to the top
+abbrev pub UsedSeen : ℕ → ℕ → Image → ℕ → ℕ → Type 0
+UsedSeen N B s top r =
+    ((statusAt B s ((top + 2) % N) ≢ 255) × (r ≡ N - 1))
+    ⊎ (((statusAt B s 0 ≢ 255) × ((e : ℕ) × RunFrom B s N e × (r ≡ top + 1 + (N - e))))
+    ⊎ ((statusAt B s 0 ≡ 255) × ((e : ℕ) × RunFrom B s top e × (r ≡ top + 1 - e))))
+
+-- ---- the whole
 
 -- numbers below the limit, and a segment left over
 abbrev pub Bounded : ℕ → Ring → Type 0

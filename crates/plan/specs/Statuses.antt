@@ -1,13 +1,14 @@
--- What status bytes say of an image, whatever its other bytes are.
+-- What status bytes, and the numbers in headers, say of an image, whatever its other bytes are.
 use Prim.Native.Nat.{ℕ, zero, suc, _+_, _-_, _*_, _≤_, _<_}
 use mathlib.Core.Path.{_≡_}
 use mathlib.Core.Logic.{_≢_}
 use mathlib.Core.Bool.{Bool, cond, _||_, not}
 use mathlib.Core.List.{List, [], _∷_}
-use lib.ListN.{getD}
+use lib.ListN.{getD, take, drop}
 use lib.Dec.{eqb}
 use Rattle.model.specs.Lists.{all}
 use Rattle.model.specs.Chip.{Image}
+use Rattle.model.specs.Header.{headerNumber}
 use Rattle.model.specs.Slot.{written}
 use Rattle.model.specs.Steps.{slotAt}
 
@@ -20,15 +21,11 @@ spaced s apart (suc c) at = getD s at 0 ∷ spaced s apart c (at + apart)
 
 -- the status of the header at index i
 unfoldable pub statusAt : ℕ → Image → ℕ → ℕ
-statusAt B s i = getD s (i * ((B + 1) * 256) + 5) 0
+statusAt B s i = getD s (i * (B + 1) * 256 + 5) 0
 
--- those of the indexes from i on, c of them
-abbrev pub statusesFrom : ℕ → Image → ℕ → ℕ → List ℕ
-statusesFrom B s c i = spaced s ((B + 1) * 256) c (i * ((B + 1) * 256) + 5)
-
--- a segment counts as in use
-unfoldable pub counts : ℕ → Bool
-counts x = not (eqb x 255)
+-- the number in the header at index i
+unfoldable pub numberAt : ℕ → Image → ℕ → ℕ
+numberAt B s i = headerNumber (take 256 (drop (i * (B + 1) * 256) s))
 
 -- ---- slots
 
