@@ -3,6 +3,7 @@
 // the image's stands in its contract.
 //
 // The form that document 01 names for it: a `&mut [u32]` kept equal to the scan's answers by put and delete.
+use find::Found;
 use model::Answer;
 use model::BlockNumber;
 use model::Located;
@@ -17,7 +18,7 @@ ghost use Prim.Native.Nat.{_<_, _≤_};
 ghost use lib.ListN.{length};
 ghost use Rattle.model.specs.Answers.{codeOf, performed, located};
 ghost use Rattle.model.specs.Mounted.{leastPlaces, mountedAs, mountOutcome, mountedRefusal, MountedPut, MountedDelete, MountedRead};
-ghost use Rattle.mounted.specs.Puts.{Puts};
+ghost use Rattle.mounted.specs.Puts.{noneFound, Puts};
 
 // Fills a table of places from a clean image.
 pub fn mount(image: &[u8], segments: usize, slots: usize, places: &mut [u32]) -> Answer
@@ -111,21 +112,31 @@ fn nowhere(answer: Answer) -> Located
     }
 }
 
-// Puts a block that has a slot or not, where nothing has refused it yet: decided from the image's status bytes, then performed.
+// Whether a block has no slot.
+fn is_absent(old: Found) -> bool
+    ensures { λ r. ⌜ r ≡ noneFound old ⌝ }
+{
+    let Found::Nothing = old else {
+        return false;
+    };
+    true
+}
+
+// Puts a block, where nothing has refused it yet: decided from the image's status bytes, then performed.
 fn put_block(
     image: &mut [u8],
     segments: usize,
     slots: usize,
     places: &mut [u32],
-    absent: bool,
+    old: Found,
     block: BlockNumber,
     contents: &[u8],
     budget: u64,
 ) -> Performed
-    requires { ⌜ Puts segments slots absent (block .0) (now contents) (now image) (now places) ⌝ }
+    requires { ⌜ Puts segments slots old (block .0) (now contents) (now image) (now places) ⌝ }
     ensures { λ r. ⌜ MountedPut segments slots (block .0) (now (contents .entry)) budget (performed r (now (image .exit))) (now (image .entry)) (now (places .entry)) (now (places .exit)) ⌝ }
 {
-    let decision = mounted_plan::decide(&image[..], segments, slots, absent);
+    let decision = mounted_plan::decide(&image[..], segments, slots, is_absent(old));
     match decision {
         Decision::Refused(answer) => request::refused(answer),
         Decision::Accepted { plan, total } => mounted_put::perform(
@@ -135,6 +146,7 @@ fn put_block(
             places,
             plan,
             total,
+            old,
             block,
             contents,
             budget,
@@ -162,25 +174,27 @@ pub fn put(
     };
     let entry = places::look_up(&image[..], slots, &places[..], block);
     match entry {
-        Entry::At(_, _) => {
+        Entry::At(place, length) => {
+            let old = Found::At(place, length);
             put_block(
                 image,
                 segments,
                 slots,
                 places,
-                false,
+                old,
                 block,
                 contents,
                 budget,
             )
         }
         Entry::Absent => {
+            let old = Found::Nothing;
             put_block(
                 image,
                 segments,
                 slots,
                 places,
-                true,
+                old,
                 block,
                 contents,
                 budget,

@@ -9,16 +9,16 @@ use room::Plan;
 use room::Room;
 ghost use mathlib.Core.Path.{_≡_};
 ghost use Prim.Native.Nat.{_+_, _-_, _*_, _≤_};
-ghost use lib.ListN.{length};
+ghost use lib.ListN.{length, getD};
 ghost use Rattle.model.specs.Steps.{slotAt};
 ghost use Rattle.model.specs.Answers.{codeOf};
 ghost use Rattle.model.specs.Mounted.{leastPlaces, unusable};
 ghost use Rattle.flash.specs.Pages.{Sized};
 ghost use Rattle.request.specs.Request.{Finished};
-ghost use Rattle.places.specs.Places.{enteredFrom, noted};
+ghost use Rattle.places.specs.Places.{entrySeen, enteredFrom, noted};
 ghost use Rattle.room.specs.Room.{Plannable};
 ghost use Rattle.put.specs.Writing.{Placed, Wrote};
-ghost use Rattle.mounted_put.specs.Performing.{RoomMade, Continued, Performs};
+ghost use Rattle.mounted_put.specs.Performing.{RoomMade, entryFor, Continued, Performs};
 
 // Steps were taken, and no more are: the table is not usable, and the answer is 9.
 fn stop(places: &mut [u32], budget: u64, left: u64) -> Performed
@@ -131,7 +131,8 @@ fn write_found(
 }
 
 // Makes room, mends the table where compaction has moved blocks, writes the slot, and only then marks the old one where the
-// table says it is now. The block's entry becomes the new slot; a cut makes the table unusable.
+// table says it is now. The block's entry becomes the new slot; a cut makes the table unusable. Where there is room nothing
+// moves, and what the table said before still holds.
 pub fn perform(
     image: &mut [u8],
     segments: usize,
@@ -139,13 +140,37 @@ pub fn perform(
     places: &mut [u32],
     plan: Plan,
     total: usize,
+    old: Found,
     block: BlockNumber,
     contents: &[u8],
     budget: u64,
 ) -> Performed
-    requires { ⌜ Plannable segments slots plan (length (now image)) × (leastPlaces ≤ length (now places)) × (length (now contents) ≤ 248) ⌝ }
+    requires { ⌜ Plannable segments slots plan (length (now image)) × (leastPlaces ≤ length (now places)) × (length (now contents) ≤ 248) × (entrySeen slots (now image) (getD (now places) (block .0) 0) ≡ entryFor old) ⌝ }
     ensures { λ r. ⌜ Performs segments slots plan total (block .0) (now (contents .entry)) budget r (now (image .entry)) (now (image .exit)) (now (places .entry)) (now (places .exit)) ⌝ }
 {
+    let first = plan.first;
+    let slot = plan.slot;
+    if slot < slots {
+        if budget > 0 {
+            let room = Room {
+                first,
+                used: plan.used,
+                slot,
+                left: budget,
+            };
+            return write_noted(
+                image,
+                segments,
+                slots,
+                places,
+                room,
+                old,
+                block,
+                contents,
+                budget,
+            );
+        }
+    }
     let room = room::make_room(image, segments, slots, plan, total, budget);
     if room.left == 0 {
         return stop(places, budget, 0);

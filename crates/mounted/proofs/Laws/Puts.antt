@@ -20,6 +20,7 @@ use Rattle.bridge.specs.Accepted.{refusal, read-passed}
 use Rattle.bridge.specs.Refusals.{put-number, put-length}
 use Rattle.request.specs.Request.{Refused}
 use Rattle.find.specs.declared.Found.{Found}
+use Rattle.find.specs.declared.Found.the-variants as finds
 use Rattle.find.specs.Search.{rowsAt, foundIn}
 use Rattle.places.specs.declared.Entry.the-variants.{At, Absent, Stale}
 use Rattle.places.specs.Places.{entrySeen}
@@ -31,8 +32,8 @@ use Rattle.mounted_plan.specs.declared.Decision.{Decision}
 use Rattle.mounted_plan.specs.declared.Decision.the-variants as decisions
 use Rattle.mounted_plan.specs.Decided.{Decides, Agreed}
 use Rattle.mounted_plan.proofs.Callers.{refused-listed, refused-exact, accepted-agreed}
-use Rattle.mounted_put.specs.Performing.{Performs}
-use Rattle.mounted.specs.Puts.{Puts}
+use Rattle.mounted_put.specs.Performing.{entryFor, Performs}
+use Rattle.mounted.specs.Puts.{noneFound, Puts}
 use Rattle.mounted.proofs.Laws.Refusals.{passed, bound-not-cut, none-refuses}
 use Rattle.mounted.proofs.Laws.Reads.{kept-refusal, seen-there, seen-none, seen-stale}
 use Rattle.mounted.proofs.Laws.Writes.{refused-writes}
@@ -80,20 +81,25 @@ module _ (N B : ℕ) (s : Image) (t : Places) (b : ℕ) (c : List ℕ) (budget :
         (λ k. absurd (seen-stale N B s t b k (passed N B s t b taken p .number) e))
 
     -- what the entry tells
-    pub puts-stored : (q : SlotPlace) (l : ℕ) → entrySeen B s (getD t b 0) ≡ At q l → Puts N B false b c s t
-    puts-stored q l e = record { passed = p; told = λ step. let k = in-step-kept N B s t step in rw (read-passed N B s b (seen-there N B s t b k (passed N B s t b taken p .number) q l e .code)) }
+    pub puts-stored : (q : SlotPlace) (l : ℕ) → entrySeen B s (getD t b 0) ≡ At q l → Puts N B (finds.At q l) b c s t
+    unfolding entryFor noneFound
+    puts-stored q l e = record { passed = p; seen = e; told = λ step. let k = in-step-kept N B s t step in rw (read-passed N B s b (seen-there N B s t b k (passed N B s t b taken p .number) q l e .code)) }
 
-    pub puts-new : entrySeen B s (getD t b 0) ≡ Absent → Puts N B true b c s t
-    puts-new e = record { passed = p; told = λ step. rw (seen-none N B s t b (in-step-kept N B s t step) (passed N B s t b taken p .number) e) }
+    pub puts-new : entrySeen B s (getD t b 0) ≡ Absent → Puts N B finds.Nothing b c s t
+    unfolding entryFor noneFound
+    puts-new e = record { passed = p; seen = e; told = λ step. rw (seen-none N B s t b (in-step-kept N B s t step) (passed N B s t b taken p .number) e) }
 
-  module _ (absent : Bool) (g : Puts N B absent b c s t) (d : Decision) (w : Decides N B absent s d) where
+  module _ (f : Found) (g : Puts N B f b c s t) (absent : Bool) (i : absent ≡ noneFound f) (d : Decision) (w : Decides N B absent s d) where
+    told : InStep N B s t → absent ≡ not (holds b (entriesIn (view N B s)))
+    told step = i ∙ g .told step
+
     -- a plan refuses
     pub put-refused : (a : Answer) → d ≡ decisions.Refused a → {q : Performed} → Refused a q → MountedPut N B b c budget (performed q s) s t t
     put-refused a e q =
         let i = passed N B s t b taken (g .passed) in
         let l = planned-listed a (refused-listed N B absent s d w a e) in
         refused-writes N B s t b taken _ (put b c) budget a q (l .1) (l .2) (λ n. absurd (n (g .passed))) (λ z. l .0)
-        (λ k. refused-exact N B absent s d w a e (k .fine) b (g .told (kept-in-step N B s t k)) c (i .number) (i .right) .0)
+        (λ k. refused-exact N B absent s d w a e (k .fine) b (told (kept-in-step N B s t k)) c (i .number) (i .right) .0)
 
     -- performed by a plan
     pub put-performed : (pl : Plan) (total : ℕ) → d ≡ decisions.Accepted pl total → Bytes s → {q : Performed} {u : Image} {x : Places} → Performs N B pl total b c budget q s u t x → MountedPut N B b c budget (performed q u) s t x
@@ -116,7 +122,7 @@ module _ (N B : ℕ) (s : Image) (t : Places) (b : ℕ) (c : List ℕ) (budget :
         agreed step =
             let i = passed N B s t b taken (g .passed) in
             let k = in-step-kept N B s t step in
-            let a = accepted-agreed N B absent s d w pl total e (k .fine) b (g .told step) in record {
+            let a = accepted-agreed N B absent s d w pl total e (k .fine) b (told step) in record {
               put = record { plan = a .plan; bytes = bytes; number = i .number; taken = i .right };
               second = a .second;
               found = λ h. refl;

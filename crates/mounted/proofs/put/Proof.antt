@@ -37,28 +37,28 @@ look-up-requires c κs =
     let a = y .before .before .before .before .before .before .before .args in
     slots-few (a .segments) (a .slots) (now (a .image)) (now (a .places)) (a .block .0) _ (put-unbound (a .segments) (a .slots) (now (a .image)) (now (a .places)) (a .block .0) (now (a .contents)) (a .budget) _ (y .before .before .before .length-ok .ensures) _ (y .refusal .ensures) (c .before .before .enum-told .given .1))
 
-enum-told-2 : tie.Need-enum-told-2
-enum-told-2 c = search needs
+enum-known-entry : tie.Need-enum-known-entry
+enum-known-entry c = search needs
 
 put-block-requires : tie.Need-put-block-requires
 put-block-requires c κs =
-    let l = c .before .before .before .before in
+    let l = c .before .before .before .before .before in
     let y = l .before .before .before .before .before in
     let a = y .before .before .before .before .before .before .before .args in
-    puts-stored (a .segments) (a .slots) (now (a .image)) (now (a .places)) (a .block .0) (now (a .contents)) (a .budget) (put-unbound (a .segments) (a .slots) (now (a .image)) (now (a .places)) (a .block .0) (now (a .contents)) (a .budget) _ (y .before .before .before .length-ok .ensures) _ (y .refusal .ensures) (l .before .before .before .enum-told .given .1)) _ _ (sym (l .look-up .ensures) ∙ c .before .before .enum-told2 .given .1)
+    puts-stored (a .segments) (a .slots) (now (a .image)) (now (a .places)) (a .block .0) (now (a .contents)) (a .budget) (put-unbound (a .segments) (a .slots) (now (a .image)) (now (a .places)) (a .block .0) (now (a .contents)) (a .budget) _ (y .before .before .before .length-ok .ensures) _ (y .refusal .ensures) (l .before .before .before .enum-told .given .1)) _ _ (sym (l .look-up .ensures) ∙ c .before .before .before .entry .given .1)
 
-enum-told-3 : tie.Need-enum-told-3
-enum-told-3 c = search needs
+enum-told-2 : tie.Need-enum-told-2
+enum-told-2 c = search needs
 
 put-block-requires-2 : tie.Need-put-block-requires-2
 put-block-requires-2 c κs =
     let l = c .before .before .before .before in
     let y = l .before .before .before .before .before in
     let a = y .before .before .before .before .before .before .before .args in
-    puts-new (a .segments) (a .slots) (now (a .image)) (now (a .places)) (a .block .0) (now (a .contents)) (a .budget) (put-unbound (a .segments) (a .slots) (now (a .image)) (now (a .places)) (a .block .0) (now (a .contents)) (a .budget) _ (y .before .before .before .length-ok .ensures) _ (y .refusal .ensures) (l .before .before .before .enum-told .given .1)) (sym (l .look-up .ensures) ∙ c .before .before .enum-told3 .given .1)
+    puts-new (a .segments) (a .slots) (now (a .image)) (now (a .places)) (a .block .0) (now (a .contents)) (a .budget) (put-unbound (a .segments) (a .slots) (now (a .image)) (now (a .places)) (a .block .0) (now (a .contents)) (a .budget) _ (y .before .before .before .length-ok .ensures) _ (y .refusal .ensures) (l .before .before .before .enum-told .given .1)) (sym (l .look-up .ensures) ∙ c .before .before .enum-told2 .given .1)
 
-enum-told-4 : tie.Need-enum-told-4
-enum-told-4 c = search needs
+enum-told-3 : tie.Need-enum-told-3
+enum-told-3 c = search needs
 
 refused-requires-2 : tie.Need-refused-requires-2
 refused-requires-2 c κs = search needs
@@ -92,7 +92,7 @@ returns-4 c =
     let l = c .before .before .before in
     let y = l .before .before .before .before .before in
     let a = y .before .before .before .before .before .before .before .args in
-    put-stale (a .segments) (a .slots) (now (a .image)) (now (a .places)) (a .block .0) (now (a .contents)) (a .budget) (put-unbound (a .segments) (a .slots) (now (a .image)) (now (a .places)) (a .block .0) (now (a .contents)) (a .budget) _ (y .before .before .before .length-ok .ensures) _ (y .refusal .ensures) (l .before .before .before .enum-told .given .1)) (sym (l .look-up .ensures) ∙ c .before .enum-told4 .given .1) (c .refused2 .ensures)
+    put-stale (a .segments) (a .slots) (now (a .image)) (now (a .places)) (a .block .0) (now (a .contents)) (a .budget) (put-unbound (a .segments) (a .slots) (now (a .image)) (now (a .places)) (a .block .0) (now (a .contents)) (a .budget) _ (y .before .before .before .length-ok .ensures) _ (y .refusal .ensures) (l .before .before .before .enum-told .given .1)) (sym (l .look-up .ensures) ∙ c .before .enum-told3 .given .1) (c .refused2 .ensures)
 
 pub put-spec : {M : Type 1} → statement M
 put-spec =
@@ -106,11 +106,11 @@ put-spec =
     same-length-2
     returns
     look-up-requires
-    enum-told-2
+    enum-known-entry
     put-block-requires
-    enum-told-3
+    enum-told-2
     put-block-requires-2
-    enum-told-4
+    enum-told-3
     refused-requires-2
     same-length-3
     same-length-4

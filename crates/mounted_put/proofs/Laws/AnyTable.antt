@@ -1,5 +1,5 @@
 -- A put performed, from its parts: what holds whatever image and table are, with what holds in step.
-use Prim.Native.Nat.{ℕ, _+_, _-_, _≤_, _<_}
+use Prim.Native.Nat.{ℕ, _+_, _-_, _*_, _≤_, _<_}
 use mathlib.Core.Path.{_≡_, sym, ap, _∙_, subst}
 use mathlib.Core.Logic.{_⊎_, inl, inr, ⊎-elim}
 use mathlib.Core.Bool.{Bool, true, false, cond}
@@ -9,20 +9,24 @@ use lib.ListN.{length, getD, drop, take}
 use lib.Seq.{drop-set-lt, getD-set-same}
 use lib.Dec.{ltb}
 use Rattle.model.specs.Chip.{Image, Bytes}
+use Rattle.model.specs.Steps.{slotAt}
 use Rattle.model.specs.Answers.{codeOf}
 use Rattle.model.specs.Mounted.{Places, leastPlaces, unusable}
 use Rattle.model.specs.declared.Performed.{Performed}
 use Rattle.model.specs.Laws.Bytes.{run-bytes}
 use Rattle.find.specs.declared.Found.{Found}
 use Rattle.request.specs.Request.{Finished}
-use Rattle.places.specs.Places.{enteredFrom}
+use Rattle.places.specs.Places.{entrySeen, enteredFrom, noted}
 use Rattle.places.proofs.Laws.Entered.{entered-from-length, entered-from-past}
 use Rattle.places.proofs.Laws.Noted.{noted-past, noted-unusable}
 use Rattle.room.specs.declared.Plan.{Plan}
 use Rattle.room.specs.declared.Room.{Room}
-use Rattle.room.specs.Room.{Worked}
+use Rattle.room.specs.Room.{Plannable, Worked}
+use Rattle.room.proofs.Laws.{worked-there}
+use Rattle.put.specs.Writing.{Placed, Wrote}
 use Rattle.put.proofs.Laws.Put.{accepted-writable, put-spent}
-use Rattle.mounted_put.specs.Performing.{Written, Stopped, Continued, Performs}
+use Rattle.mounted_put.specs.Performing.{RoomMade, entryFor, Written, Stopped, Continued, Performs}
+use Rattle.mounted_put.proofs.Laws.Parts.{placed, old-inside}
 use Rattle.mounted_put.proofs.Laws.InStep.{not-stopped, written-outcome, written-kept}
 
 -- ---- what comes back
@@ -95,3 +99,22 @@ module _ (N B : ℕ) (p : Plan) (total b : ℕ) (c : List ℕ) (budget : ℕ) (q
     pub continued-performs : (y : Places) → y ≡ enteredFrom N B x (r .first .0 + r .used - (p .first .0 + p .used)) (p .first .0 + p .used) t → Continued N B r b c budget q x u y w → Performs N B p total b c budget q s u t w
     continued-performs y e z =
         ⊎-elim (λ g. written-performs (g .0) (g .1)) stopped-performs (subst (λ (i : Places). Continued N B r b c budget q x u i w) e z)
+
+-- ---- there was room, and so nothing moved
+
+module _ (N B : ℕ) (p : Plan) (total b : ℕ) (c : List ℕ) (budget : ℕ) (r : Room) (s : Image) (t : Places) (a : Plannable N B p (length s)) (room : p .slot < B) (left : r .left ≡ budget) (first : r .first .0 ≡ p .first .0)
+    (used : r .used ≡ p .used) (slot : r .slot ≡ p .slot) (o : Found) (seen : entrySeen B s (getD t b 0) ≡ entryFor o) where
+  pub there-placed : length c ≤ 248 → Placed N B r o c budget (length s)
+  there-placed short =
+      let m : RoomMade N B r c budget (length s) = record { sized = a .sized; some = omega (arith, used, a .some); few = omega (arith, used, a .spare, a .sized .segments); short = short; left = omega (arith, left) } in
+      placed N B r b c budget s t m (omega (arith, slot)) o (old-inside N B r b c budget s t o seen)
+
+  none-entered : t ≡ enteredFrom N B s (r .first .0 + r .used - (p .first .0 + p .used)) (p .first .0 + p .used) t
+  unfolding enteredFrom
+  none-entered = let z : r .first .0 + r .used - (p .first .0 + p .used) ≡ 0 = omega (arith, first, used) in rw z
+
+  pub there-performs : 0 < budget → leastPlaces ≤ length t → Bytes s → Bytes c → b < leastPlaces → {q : Performed} {u : Image} {w : Places} → Wrote N B r o b c budget q s u
+      → w ≡ noted t b (slotAt N B (r .first .0 + r .used - 1) (r .slot) * 256) (codeOf (q .answer)) → Performs N B p total b c budget q s u t w
+  there-performs some long bytes contents below {q} {u} {w} wrote table =
+      continued-performs N B p total b c budget q r s s (worked-there N B p total s a budget r room left first used slot) t w long (λ z. omega (arith, left, z)) bytes contents below u t none-entered
+      (inl (o, record { seen = seen; wrote = wrote; table = table }))

@@ -39,11 +39,18 @@ place-fits N B r f b c budget s k at e = omega (arith, place-inside N B r f b c 
 module _ (N B : ℕ) (r : Room) (b : ℕ) (c : List ℕ) (budget : ℕ) (s : Image) (t : Places) where
   -- ---- a slot may be written
 
-  placed : RoomMade N B r c budget (length s) → r .slot < B → (f : Found) → OldInside f (length s) → Placed N B r f c budget (length s)
+  pub placed : RoomMade N B r c budget (length s) → r .slot < B → (f : Found) → OldInside f (length s) → Placed N B r f c budget (length s)
   placed m h f o = record { sized = m .sized; some = m .some; few = m .few; room = h; old = o; short = m .short; left = m .left }
 
+  -- what an entry says lies in the image
+  pub old-inside : (f : Found) → entrySeen B s (getD t b 0) ≡ entryFor f → OldInside f (length s)
+  unfolding entryFor
+  old-inside (At q n) e = let y = seen-believed B s (getD t b 0) q n e in omega (arith, y .place, y .inside)
+  old-inside Nothing e = tt
+
   pub placed-at : RoomMade N B r c budget (length s) → r .slot < B → (e : Entry) → e ≡ entrySeen B s (getD t b 0) → (q : SlotPlace) (n : ℕ) → e ≡ entries.At q n → Placed N B r (At q n) c budget (length s)
-  placed-at m h e seen q n i = let y = seen-believed B s (getD t b 0) q n (sym seen ∙ i) in placed m h (At q n) (omega (arith, y .place, y .inside))
+  unfolding entryFor
+  placed-at m h e seen q n i = placed m h (At q n) (old-inside (At q n) (sym seen ∙ i))
 
   -- ---- it was written, or nothing was
 
