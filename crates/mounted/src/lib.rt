@@ -176,29 +176,11 @@ pub fn put(
     match entry {
         Entry::At(place, length) => {
             let old = Found::At(place, length);
-            put_block(
-                image,
-                segments,
-                slots,
-                places,
-                old,
-                block,
-                contents,
-                budget,
-            )
+            put_block(image, segments, slots, places, old, block, contents, budget)
         }
         Entry::Absent => {
             let old = Found::Nothing;
-            put_block(
-                image,
-                segments,
-                slots,
-                places,
-                old,
-                block,
-                contents,
-                budget,
-            )
+            put_block(image, segments, slots, places, old, block, contents, budget)
         }
         Entry::Stale => request::refused(Answer::Damaged),
     }
