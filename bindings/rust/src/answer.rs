@@ -93,6 +93,7 @@ impl Answer {
     /// assert_eq!(Answer::from_number(11), Some(Answer::FormerVersion));
     /// assert_eq!(Answer::from_number(12), None);
     /// ```
+    #[inline]
     pub const fn from_number(number: u8) -> Option<Answer> {
         BY_NUMBER[number as usize]
     }

@@ -137,6 +137,7 @@ impl Mounted<'_> {
     /// # Ok(())
     /// # }
     /// ```
+    #[inline]
     pub fn put(&mut self, block: Block, contents: &[u8], budget: u64) -> Outcome {
         // SAFETY: pointers and lengths are those of three slices that are borrowed for the call; the
         // two that are written are borrowed alone.
@@ -172,6 +173,7 @@ impl Mounted<'_> {
     /// # Ok(())
     /// # }
     /// ```
+    #[inline]
     pub fn delete(&mut self, block: Block, budget: u64) -> Outcome {
         // SAFETY: pointers and lengths are those of two slices that are borrowed alone for the call.
         Outcome::unpack(unsafe {
@@ -204,6 +206,7 @@ impl Mounted<'_> {
     /// # Ok(())
     /// # }
     /// ```
+    #[inline]
     pub fn read(&self, block: Block) -> Read<'_> {
         // SAFETY: pointers and lengths are those of two slices that are borrowed for the call.
         let packed = unsafe {

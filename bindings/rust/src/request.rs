@@ -53,6 +53,7 @@ impl Outcome {
     }
 
     /// From `answer + 256 × steps`.
+    #[inline]
     pub(crate) fn unpack(packed: u64) -> Outcome {
         Outcome {
             answer: unpack_answer(packed),
@@ -76,6 +77,7 @@ pub struct Read<'a> {
 
 impl<'a> Read<'a> {
     /// From `answer + 256 × length + 65,536 × offset`, and the image that was read.
+    #[inline]
     pub(crate) fn unpack(packed: u64, image: &'a [u8]) -> Read<'a> {
         let length = (packed >> 8 & 0xFF) as usize;
         let offset = (packed >> 16) as usize;
@@ -96,6 +98,7 @@ impl<'a> Read<'a> {
 }
 
 /// The answer in the lowest byte of what the library returns.
+#[inline]
 pub(crate) fn unpack_answer(packed: u64) -> Answer {
     // The library is proved to answer these; another number means a library of another version.
     Answer::from_number((packed & 0xFF) as u8).expect("an answer from 0 to 11, or 14")
