@@ -19,6 +19,7 @@ ghost use lib.ListN.{length};
 ghost use Rattle.model.specs.Answers.{codeOf, performed, located};
 ghost use Rattle.model.specs.Mounted.{leastPlaces, mountedAs, mountOutcome, mountedRefusal, MountedPut, MountedDelete, MountedRead};
 ghost use Rattle.mounted.specs.Puts.{noneFound, Puts};
+ghost use Rattle.mounted.specs.Marks.{EntryInside, MarkedEntry};
 
 // Fills a table of places from a clean image.
 pub fn mount(image: &[u8], segments: usize, slots: usize, places: &mut [u32]) -> Answer
@@ -186,6 +187,18 @@ pub fn put(
     }
 }
 
+// Marks the slot that an entry tells of.
+fn mark_entry(image: &mut [u8], entry: Entry, budget: u64) -> Performed
+    requires { ⌜ EntryInside entry (length (now image)) ⌝ }
+    ensures { λ r. ⌜ MarkedEntry entry budget r (now (image .entry)) (now (image .exit)) ⌝ }
+{
+    match entry {
+        Entry::At(place, _) => mend::mark_slot(image, place, budget),
+        Entry::Absent => request::refused(Answer::Absent),
+        Entry::Stale => request::refused(Answer::Damaged),
+    }
+}
+
 // Deletes a block: its slot is marked dead where the table says it is, and its entry is 0.
 pub fn delete(
     image: &mut [u8],
@@ -202,14 +215,9 @@ pub fn delete(
         return request::refused(refused);
     };
     let entry = places::look_up(&image[..], slots, &places[..], block);
-    match entry {
-        Entry::At(place, _) => {
-            let done = mend::mark_slot(image, place, budget);
-            let answer = done.answer;
-            places::note(places, block, 0, answer);
-            done
-        }
-        Entry::Absent => request::refused(Answer::Absent),
-        Entry::Stale => request::refused(Answer::Damaged),
-    }
+    let done = mark_entry(image, entry, budget);
+    let answer = done.answer;
+    let steps = done.steps;
+    places::note(places, block, 0, answer);
+    Performed { answer, steps }
 }

@@ -53,6 +53,6 @@ pub record Fillable (N B : ℕ) (s : Image) (first used : ℕ) : Type 0 where
 
 -- ---- after a call
 
--- the entry of block b is a place, if the answer was 0; else the table is not usable
+-- answered 0, the entry of block b is a place; cut, the table is not usable; refused, it stays
 unfoldable pub noted : Places → ℕ → ℕ → ℕ → Places
-noted t b place code = cond (eqb code 0) (set t b place) (unusable t)
+noted t b place code = cond (eqb code 0) (set t b place) (cond (eqb code 9) (unusable t) t)

@@ -153,13 +153,16 @@ pub fn fill(
 
 // ---- noted
 
-// The table after steps were taken for a block: its entry is the slot's place, or 0; but a table is not usable once a call
-// was cut.
+// The table after a call for a block: done, its entry is the slot's place, or 0; cut, the table is not usable; refused, it
+// stays as it is.
 pub fn note(places: &mut [u32], block: BlockNumber, place: usize, answer: Answer)
     requires { ⌜ (leastPlaces ≤ length (now places)) × (place < 4294967296) ⌝ }
     ensures { λ _. ⌜ now (places .exit) ≡ noted (now (places .entry)) (block .0) place (codeOf answer) ⌝ }
 {
     let Answer::Done = answer else {
+        let Answer::Cut = answer else {
+            return;
+        };
         places[0] = 0;
         return;
     };

@@ -1,6 +1,6 @@
 -- A mounted put or delete that is refused, and a delete, by what the table's entry says.
 use Prim.Native.Nat.{ℕ, _-_, _*_, _/_, _%_, _≤_, _<_}
-use mathlib.Core.Path.{_≡_, refl, sym, ap, _∙_}
+use mathlib.Core.Path.{_≡_, refl, sym, ap, _∙_, subst}
 use mathlib.Core.Logic.{_≢_, _⊎_, inl, inr, ⊎-elim}
 use mathlib.Core.Bool.{Bool, true, false, cond}
 use mathlib.Core.List.{List, [], _∷_}
@@ -33,11 +33,13 @@ use Rattle.request.proofs.Answered.{refused-outcome}
 use Rattle.mend.specs.Marks.{PageAt, MarkedAt}
 use Rattle.store.specs.Look.{There}
 use Rattle.store.proofs.Laws.Requests.{delete-done}
+use Rattle.places.specs.declared.Entry.{Entry}
 use Rattle.places.specs.declared.Entry.the-variants.{At, Absent, Stale}
 use Rattle.places.specs.Places.{entrySeen, noted}
 use Rattle.bridge.specs.Mounting.{Kept, in-step-kept, kept-in-step}
 use Rattle.places.proofs.Laws.Seen.{seen-believed}
-use Rattle.places.proofs.Laws.Noted.{noted-past, noted-unusable, noted-zero}
+use Rattle.places.proofs.Laws.Noted.{noted-past, noted-unusable, noted-zero, noted-kept}
+use Rattle.mounted.specs.Marks.{EntryInside, MarkedEntry}
 use Rattle.mounted.proofs.Laws.Refusals.{Passed, passed, bound-not-cut, number-range}
 use Rattle.mounted.proofs.Laws.Reads.{refuses-absent, seen-there, seen-absent, seen-stale}
 
@@ -65,12 +67,12 @@ module _ (N B : ℕ) (s : Image) (t : Places) (b budget : ℕ) where
       (λ k. delete-code N B s b ∙ refuses-absent N B s t b k a e h .code)
 
   module _ (p : mountedRefusal N B s t b true ≡ 0) where
-    pub delete-absent : entrySeen B s (getD t b 0) ≡ Absent → {q : Performed} → Refused NotStored q → MountedDelete N B b budget (performed q s) s t t
+    delete-absent : entrySeen B s (getD t b 0) ≡ Absent → {q : Performed} → Refused NotStored q → MountedDelete N B b budget (performed q s) s t t
     unfolding codeOf among
     delete-absent e q = refused-writes N B s t b true _ (delete b) budget NotStored q (λ z. omega arith) (λ z. omega arith) (λ n. absurd (n p)) (λ z. refl)
         (λ k. delete-code N B s b ∙ seen-absent N B s t b k (passed N B s t b true p .number) e .code)
 
-    pub delete-stale : entrySeen B s (getD t b 0) ≡ Stale → {q : Performed} → Refused Damaged q → MountedDelete N B b budget (performed q s) s t t
+    delete-stale : entrySeen B s (getD t b 0) ≡ Stale → {q : Performed} → Refused Damaged q → MountedDelete N B b budget (performed q s) s t t
     unfolding codeOf among
     delete-stale e q = refused-writes N B s t b true _ (delete b) budget Damaged q (λ z. omega arith) (λ z. omega arith) (λ n. absurd (n p)) (λ z. refl)
         (λ k. absurd (seen-stale N B s t b k (passed N B s t b true p .number) e))
@@ -99,7 +101,7 @@ module _ (N B : ℕ) (s : Image) (t : Places) (b budget : ℕ) (p : mountedRefus
   number-inside = number-range b (a .number)
 
   module _ (q : SlotPlace) (l : ℕ) (e : entrySeen B s (getD t b 0) ≡ At q l) where
-    pub entry-page : PageAt (q .0) (length s)
+    entry-page : PageAt (q .0) (length s)
     entry-page = let i = seen-believed B s (getD t b 0) q l e in
         record { page = q .0 / 256; whole = omega (arith, div-add-mod (q .0) 256, i .place, i .even); inside = omega (arith, i .place, i .inside) }
 
@@ -132,15 +134,49 @@ module _ (N B : ℕ) (s : Image) (t : Places) (b budget : ℕ) (p : mountedRefus
             kept-after N B s u t b 0 k (ap (rightSize N B) image ∙ (run-size N B (workOf N B s (delete b) .steps) s ∙ k .size)) (ap (state N B) image ∙ c .0) (number-inside .0) (number-inside .1)
             (λ i. ap (λ y. placeEntry N B y i) (ap (view N B) image ∙ c .1) ∙ delete-entry N B b (view N B s) (clean-view N B s (k .size) (k .fine)) held i)
 
-      pub delete-writes : {w : Places} → w ≡ noted t b 0 (codeOf (d .answer)) → MountedDelete N B b budget (performed d u) s t w
+      delete-writes : {w : Places} → w ≡ noted t b 0 (codeOf (d .answer)) → MountedDelete N B b budget (performed d u) s t w
       unfolding performed among
       delete-writes {w} h = record {
         bound = λ n. absurd (n p);
         listed = λ z. ⊎-elim (λ y. rw y) (λ y. rw y) codes;
         refused = λ n n9. absurd (⊎-elim (λ y. n y) (λ y. n9 y) codes);
-        cut = λ y. ap (λ (x : Places). getD x 0 0) h ∙ noted-unusable t b 0 (codeOf (d .answer)) (a .long) (λ z. omega arith);
+        cut = λ y. ap (λ (x : Places). getD x 0 0) h ∙ noted-unusable t b 0 (codeOf (d .answer)) (a .long) y;
         past = ap (λ (x : Places). drop leastPlaces x) h ∙ noted-past t b 0 (codeOf (d .answer)) (number-inside .1);
         few = omega (arith, marked .finished .count);
         same = λ step. outcome (in-step-kept N B s t step);
         kept = λ step z. kept-in-step N B u w (rw (h ∙ noted-zero t b 0 (codeOf (d .answer)) z) (deleted (in-step-kept N B s t step) z));
       }
+
+-- ---- by the entry
+
+module _ {e : Entry} where
+  pub inside-at : {q : SlotPlace} {l bytes : ℕ} → e ≡ At q l → EntryInside e bytes → PageAt (q .0) bytes
+  inside-at {q} {l} {bytes} i h = subst (λ (y : Entry). EntryInside y bytes) i h
+
+  module _ (budget : ℕ) (d : Performed) (s u : Image) where
+    pub marked-at : {q : SlotPlace} {l : ℕ} → e ≡ At q l → MarkedAt (q .0) budget d s u → MarkedEntry e budget d s u
+    marked-at {q} {l} i m = subst (λ (y : Entry). MarkedEntry y budget d s u) (sym i) m
+
+    pub marked-absent : e ≡ Absent → Refused NotStored d → u ≡ s → MarkedEntry e budget d s u
+    marked-absent i r k = subst (λ (y : Entry). MarkedEntry y budget d s u) (sym i) (r, k)
+
+    pub marked-stale : e ≡ Stale → Refused Damaged d → u ≡ s → MarkedEntry e budget d s u
+    marked-stale i r k = subst (λ (y : Entry). MarkedEntry y budget d s u) (sym i) (r, k)
+
+module _ (N B : ℕ) (s : Image) (t : Places) (b budget : ℕ) (p : mountedRefusal N B s t b true ≡ 0) where
+  pub entry-inside : (e : Entry) → e ≡ entrySeen B s (getD t b 0) → EntryInside e (length s)
+  entry-inside (At q l) i = entry-page N B s t b budget p q l (sym i)
+  entry-inside Absent i = tt
+  entry-inside Stale i = tt
+
+  -- one that is refused leaves image and table
+  stays : (d : Performed) {u : Image} {w : Places} (a : Answer) → codeOf (d .answer) ≡ codeOf a → codeOf a ≢ 0 → codeOf a ≢ 9 → u ≡ s → w ≡ noted t b 0 (codeOf (d .answer)) → MountedDelete N B b budget (performed d s) s t t
+      → MountedDelete N B b budget (performed d u) s t w
+  stays d {u} {w} a c n m i j h =
+      let k : w ≡ t = j ∙ noted-kept t b 0 (codeOf (d .answer)) (λ z. n (sym c ∙ z)) (λ z. m (sym c ∙ z)) in rw (i, k) h
+
+  pub delete-entry-writes : (e : Entry) → e ≡ entrySeen B s (getD t b 0) → (d : Performed) (u : Image) {w : Places} → MarkedEntry e budget d s u → w ≡ noted t b 0 (codeOf (d .answer)) → MountedDelete N B b budget (performed d u) s t w
+  unfolding codeOf
+  delete-entry-writes (At q l) i d u m j = delete-writes N B s t b budget p q l (sym i) m j
+  delete-entry-writes Absent i d u m j = stays d NotStored (m .0 .code) (λ z. omega arith) (λ z. omega arith) (m .1) j (delete-absent N B s t b budget p (sym i) (m .0))
+  delete-entry-writes Stale i d u m j = stays d Damaged (m .0 .code) (λ z. omega arith) (λ z. omega arith) (m .1) j (delete-stale N B s t b budget p (sym i) (m .0))

@@ -79,7 +79,7 @@ module _ (N B : ℕ) (p : Plan) (total b : ℕ) (c : List ℕ) (budget : ℕ) (q
     written-performs : (o : Found) → Written N B r o b c budget q x u mended w → Performs N B p total b c budget q s u t w
     written-performs o z = record {
       codes = finished-codes (z .wrote .finished);
-      cut = λ h. ap (λ (y : Places). getD y 0 0) (z .table) ∙ noted-unusable mended b _ _ mended-long (λ g. omega (arith, g, h));
+      cut = λ h. ap (λ (y : Places). getD y 0 0) (z .table) ∙ noted-unusable mended b _ _ mended-long h;
       past = ap (drop leastPlaces) (z .table) ∙ (noted-past mended b _ _ below ∙ mended-past);
       few = finished-few (z .wrote .finished);
       exact = λ k f a.

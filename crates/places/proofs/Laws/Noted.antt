@@ -1,4 +1,4 @@
--- The table after steps were taken for a block: by the answer, and what stays.
+-- The table after a call for a block: by the answer, and what stays.
 use Prim.Native.Nat.{ℕ, _≤_, _<_}
 use mathlib.Core.Path.{_≡_, refl}
 use mathlib.Core.Logic.{_≢_, ⊎-elim}
@@ -7,7 +7,7 @@ use mathlib.Core.List.{[], _∷_}
 use native.Mathlib.Omega.{arith}
 use denote.Enum.Declared.{tagOf}
 use types.Run.{OneOf}
-use lib.ListN.{length, getD, drop, set, length-set}
+use lib.ListN.{length, getD, drop, set}
 use lib.Seq.{drop-set-lt, getD-set-same}
 use lib.Dec.{eqb}
 use borrow.Author.Tests.{ne-eqb}
@@ -43,39 +43,63 @@ other-code ShortTable h = refl
 other-code FormerVersion h = refl
 other-code ShortBuffer h = refl
 
+-- an answer other than 9
+abbrev Uncut : Answer → Type 0
+Uncut a = OneOf (0 ∷ 1 ∷ 2 ∷ 3 ∷ 4 ∷ 5 ∷ 6 ∷ 7 ∷ 8 ∷ 10 ∷ 11 ∷ 12 ∷ []) (tagOf the-type a)
+
+cut-not : Uncut Cut → ⊥
+cut-not h = ⊎-elim (λ q. omega arith) (⊎-elim (λ q. omega arith) (⊎-elim (λ q. omega arith) (⊎-elim (λ q. omega arith) (⊎-elim (λ q. omega arith) (⊎-elim (λ q. omega arith) (⊎-elim (λ q. omega arith) (⊎-elim (λ q. omega arith) (⊎-elim (λ q. omega arith) (⊎-elim (λ q. omega arith) (⊎-elim (λ q. omega arith) (λ q. omega arith))))))))))) h
+
+uncut-code : (a : Answer) → Uncut a → eqb (codeOf a) 9 ≡ false
+unfolding codeOf
+uncut-code Done h = refl
+uncut-code Size h = refl
+uncut-code Number h = refl
+uncut-code Length h = refl
+uncut-code Damaged h = refl
+uncut-code Unfinished h = refl
+uncut-code Absent h = refl
+uncut-code Full h = refl
+uncut-code Worn h = refl
+uncut-code Cut h = absurd (cut-not h)
+uncut-code ShortTable h = refl
+uncut-code FormerVersion h = refl
+uncut-code ShortBuffer h = refl
+
 module _ (t : Places) (b place : ℕ) (a : Answer) where
   pub noted-done : a ≡ Done → set t b place ≡ noted t b place (codeOf a)
   unfolding noted codeOf
   noted-done e = rw e
 
-  pub noted-other : OneOf (1 ∷ 2 ∷ 3 ∷ 4 ∷ 5 ∷ 6 ∷ 7 ∷ 8 ∷ 9 ∷ 10 ∷ 11 ∷ 12 ∷ []) (tagOf the-type a) → set t 0 0 ≡ noted t b place (codeOf a)
-  unfolding noted unusable
-  noted-other h = rw (other-code a h)
+  pub noted-cut : a ≡ Cut → set t 0 0 ≡ noted t b place (codeOf a)
+  unfolding noted unusable codeOf
+  noted-cut e = rw e
+
+  pub noted-refused : OneOf (1 ∷ 2 ∷ 3 ∷ 4 ∷ 5 ∷ 6 ∷ 7 ∷ 8 ∷ 9 ∷ 10 ∷ 11 ∷ 12 ∷ []) (tagOf the-type a) → OneOf (0 ∷ 1 ∷ 2 ∷ 3 ∷ 4 ∷ 5 ∷ 6 ∷ 7 ∷ 8 ∷ 10 ∷ 11 ∷ 12 ∷ []) (tagOf the-type a) → t ≡ noted t b place (codeOf a)
+  unfolding noted
+  noted-refused h k = rw (other-code a h, uncut-code a k)
 
 -- ---- what callers know
 
 module _ (t : Places) (b place code : ℕ) where
-  pub noted-length : length (noted t b place code) ≡ length t
-  unfolding noted unusable
-  noted-length = go (eqb code 0)
-    where
-      go : (x : Bool) → length (cond x (set t b place) (set t 0 0)) ≡ length t
-      go true = length-set t b place
-      go false = length-set t 0 0
-
   -- the entries past the block numbers stay
   pub noted-past : b < leastPlaces → drop leastPlaces (noted t b place code) ≡ drop leastPlaces t
   unfolding noted unusable
-  noted-past h = go (eqb code 0)
+  noted-past h = go (eqb code 0) (eqb code 9)
     where
-      go : (x : Bool) → drop leastPlaces (cond x (set t b place) (set t 0 0)) ≡ drop leastPlaces t
-      go true = drop-set-lt leastPlaces t b place h
-      go false = drop-set-lt leastPlaces t 0 0 (omega arith)
+      go : (x y : Bool) → drop leastPlaces (cond x (set t b place) (cond y (set t 0 0) t)) ≡ drop leastPlaces t
+      go true y = drop-set-lt leastPlaces t b place h
+      go false true = drop-set-lt leastPlaces t 0 0 (omega arith)
+      go false false = refl
 
-  pub noted-unusable : leastPlaces ≤ length t → code ≢ 0 → getD (noted t b place code) 0 0 ≡ 0
+  pub noted-unusable : leastPlaces ≤ length t → code ≡ 9 → getD (noted t b place code) 0 0 ≡ 0
   unfolding noted unusable
-  noted-unusable l n = rw (ne-eqb code 0 n) (getD-set-same t 0 0 0 (omega arith))
+  noted-unusable l e = rw e (getD-set-same t 0 0 0 (omega arith))
 
   pub noted-zero : code ≡ 0 → noted t b place code ≡ set t b place
   unfolding noted
   noted-zero e = rw e
+
+  pub noted-kept : code ≢ 0 → code ≢ 9 → noted t b place code ≡ t
+  unfolding noted
+  noted-kept n m = rw (ne-eqb code 0 n, ne-eqb code 9 m)
