@@ -8,12 +8,13 @@ use native.Mathlib.Decide.{decLt}
 use lib.ListN.{length, getD, drop, length-append, length-drop, List·getD-append}
 use lib.Seq.{ext-getD, getD-drop, getD-append-add, drop-at}
 use lib.Dec.{ltb}
-use borrow.Author.Tests.{ltb-false, le-ltb, not-false}
+use borrow.Author.Tests.{ltb-false, not-false}
 use Rattle.model.specs.Chip.{Image, rightSize}
 use Rattle.model.specs.Slot.{numberOk, live, slotOf}
 use Rattle.model.specs.State.{View, entriesIn, holds, State, clean, unfinished, damaged, state, view}
 use Rattle.model.specs.Answers.{_when_, firstOf, isDamaged, isUnfinished}
 use Rattle.model.specs.Mounted.{Places, leastPlaces, placeEntry, placesFrom, filledPlaces, MountOutcome, mountRefusals, mountOutcome, InStep}
+use Rattle.model.specs.Laws.Mounted.{mount-clean}
 use Rattle.model.specs.Laws.Chip.{size-facts}
 use Rattle.model.specs.Laws.Segments.{partOf}
 use Rattle.model.specs.Laws.SlotPage.{live-facts}
@@ -125,8 +126,7 @@ module _ (N B : ℕ) (s : Image) (t : Places) where
       record { size = not-false (rightSize N B s) (f .0); fine = neither (state N B s) (f .2) (f .3); long = ltb-false (length t) leastPlaces (f .1) }
 
   pub mount-fills : Mountable N B s t → mountOutcome N B s t ≡ record { code = 0; places = filledPlaces N B (view N B s) t }
-  unfolding mountOutcome mountRefusals firstOf isDamaged isUnfinished
-  mount-fills m = rw (m .size, m .fine, le-ltb (length t) leastPlaces (m .long))
+  mount-fills m = mount-clean N B s t (m .size) (m .long) (m .fine)
 
 -- ---- in step
 

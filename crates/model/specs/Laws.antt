@@ -26,6 +26,8 @@ pub mod Exclusive
 pub mod Counted
 -- the corners of the blank test
 pub mod Blank
+-- a mount, and what refuses a mounted call
+pub mod Mounted
 -- the bench table
 pub mod Begun
 pub mod Bench

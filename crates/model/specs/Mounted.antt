@@ -51,13 +51,12 @@ pub record MountOutcome : Type 0 where
 unfoldable pub mountedAs : Answer → Places → MountOutcome
 mountedAs a t = record { code = codeOf a; places = t }
 
+-- what is asked first, of a mount and of every mounted call: the image's size, and then the table's
+abbrev lent : ℕ → ℕ → Image → Places → List Refusal → List Refusal
+lent N B s t rest = (1 when not (rightSize N B s)) ∷ (10 when ltb (length t) leastPlaces) ∷ rest
+
 unfoldable pub mountRefusals : ℕ → ℕ → Image → Places → List Refusal
-mountRefusals N B s t = let st = state N B s in
-    (1 when not (rightSize N B s))
-    ∷ (10 when ltb (length t) leastPlaces)
-    ∷ (4 when isDamaged st)
-    ∷ (5 when isUnfinished st)
-    ∷ []
+mountRefusals N B s t = let st = state N B s in lent N B s t ((4 when isDamaged st) ∷ (5 when isUnfinished st) ∷ [])
 
 -- 1 and 10 don't touch the table, 4 and 5 mark it unusable
 unfoldable pub mountOutcome : ℕ → ℕ → Image → Places → MountOutcome
@@ -72,13 +71,7 @@ InStep N B s t = mountOutcome N B s t ≡ record { code = 0; places = t }
 
 -- the refusals that bind every mounted call, with their exact conditions; 5 here is for a table that is not usable
 unfoldable pub mountedRefusals : ℕ → ℕ → Image → Places → ℕ → Bool → List Refusal
-mountedRefusals N B s t b taken =
-    (1 when not (rightSize N B s))
-    ∷ (10 when ltb (length t) leastPlaces)
-    ∷ (2 when not (numberOk b))
-    ∷ (3 when not taken)
-    ∷ (5 when not (eqb (getD t 0 0) 1))
-    ∷ []
+mountedRefusals N B s t b taken = lent N B s t ((2 when not (numberOk b)) ∷ (3 when not taken) ∷ (5 when not (eqb (getD t 0 0) 1)) ∷ [])
 
 unfoldable pub mountedRefusal : ℕ → ℕ → Image → Places → ℕ → Bool → ℕ
 mountedRefusal N B s t b taken = firstOf (mountedRefusals N B s t b taken)

@@ -1,4 +1,4 @@
--- The refusals that bind every mounted call, one by one.
+-- What binds every mounted call: a call that nothing of it refuses, and what callers know of the answers.
 use Prim.Native.Nat.{ℕ, _≤_, _<_}
 use mathlib.Core.Path.{_≡_, refl, sym, ap, _∙_}
 use mathlib.Core.Logic.{_≢_}
@@ -17,35 +17,6 @@ use Rattle.model.specs.declared.Answer.the-variants.{Done, Size, Number, Length
 use Rattle.model.specs.declared.Answer.{Answer}
 use Rattle.put.proofs.Laws.Writing.{Refusing, refusing-not}
 use Rattle.model.specs.Mounted.{Places, leastPlaces, mountedRefusals, mountedRefusal}
-
-module _ (N B : ℕ) (s : Image) (t : Places) (b : ℕ) (taken : Bool) where
-  pub refuses-size : rightSize N B s ≡ false → codeOf Size ≡ mountedRefusal N B s t b taken
-  unfolding codeOf mountedRefusal mountedRefusals firstOf
-  refuses-size h = rw h
-
-  module _ (z : rightSize N B s ≡ true) where
-    pub refuses-short : length t < leastPlaces → codeOf ShortTable ≡ mountedRefusal N B s t b taken
-    unfolding codeOf mountedRefusal mountedRefusals firstOf
-    refuses-short h = rw (z, lt-ltb (length t) leastPlaces h)
-
-    module _ (l : leastPlaces ≤ length t) where
-      pub refuses-number : numberOk b ≡ false → codeOf Number ≡ mountedRefusal N B s t b taken
-      unfolding codeOf mountedRefusal mountedRefusals firstOf
-      refuses-number h = rw (z, le-ltb (length t) leastPlaces l, h)
-
-      module _ (n : numberOk b ≡ true) where
-        pub refuses-length : taken ≡ false → codeOf Length ≡ mountedRefusal N B s t b taken
-        unfolding codeOf mountedRefusal mountedRefusals firstOf
-        refuses-length h = rw (z, le-ltb (length t) leastPlaces l, n, h)
-
-        module _ (k : taken ≡ true) where
-          pub refuses-unusable : getD t 0 0 ≢ 1 → codeOf Unfinished ≡ mountedRefusal N B s t b taken
-          unfolding codeOf mountedRefusal mountedRefusals firstOf
-          refuses-unusable h = rw (z, le-ltb (length t) leastPlaces l, n, k, ne-eqb (getD t 0 0) 1 h)
-
-          pub refuses-none : getD t 0 0 ≡ 1 → codeOf Done ≡ mountedRefusal N B s t b taken
-          unfolding codeOf mountedRefusal mountedRefusals firstOf
-          refuses-none h = rw (z, le-ltb (length t) leastPlaces l, n, k, h)
 
 -- one that none of them refuses
 pub record Passed (N B : ℕ) (s : Image) (t : Places) (b : ℕ) (taken : Bool) : Type 0 where

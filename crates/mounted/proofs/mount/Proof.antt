@@ -8,7 +8,9 @@ use Rattle.bridge.specs.Refusals.{answerIn}
 use Rattle.request.proofs.Laws.{wrong-size, right-size}
 use Rattle.scan.proofs.Laws.Told.{survey-says}
 use Rattle.store.proofs.Laws.Survey.{survey-other, survey-plan}
-use Rattle.mounted.proofs.Laws.Mounts.{mount-size, mount-short, mount-clean, mount-unclean}
+use Rattle.model.specs.Answers.{codeOf}
+use Rattle.model.specs.Laws.Mounted.{mount-size, mount-short, mount-clean}
+use Rattle.mounted.proofs.Laws.Mounts.{mount-unclean}
 use borrow.Author.Needs.{needs}
 use Rattle.mounted.proofs.mount.Statement.{statement}
 use Rattle.mounted.proofs.mount.Tie as tie
@@ -17,14 +19,16 @@ right-size-requires : tie.Need-right-size-requires
 right-size-requires c κs = search needs
 
 returns : tie.Need-returns
+unfolding mountedAs codeOf
 returns c =
     let a = c .before .before .before .before .args in
-    mount-size (a .segments) (a .slots) (now (a .image)) (now (a .places)) (wrong-size (a .segments) (a .slots) (now (a .image)) _ (c .before .right-size .ensures) (c .if1 .taken))
+    sym (mount-size (a .segments) (a .slots) (now (a .image)) (now (a .places)) (wrong-size (a .segments) (a .slots) (now (a .image)) _ (c .before .right-size .ensures) (c .if1 .taken)))
 
 returns-2 : tie.Need-returns-2
+unfolding mountedAs codeOf
 returns-2 c =
     let a = c .before .before .before .before .before .args in
-    mount-short (a .segments) (a .slots) (now (a .image)) (now (a .places)) (right-size (a .segments) (a .slots) (now (a .image)) _ (c .before .before .right-size .ensures) (c .before .if1 .left)) (c .if2 .taken)
+    sym (mount-short (a .segments) (a .slots) (now (a .image)) (now (a .places)) (right-size (a .segments) (a .slots) (now (a .image)) _ (c .before .before .right-size .ensures) (c .before .if1 .left)) (c .if2 .taken))
 
 survey-requires : tie.Need-survey-requires
 survey-requires c κs =
@@ -64,12 +68,13 @@ same-length-2 : tie.Need-same-length-2
 same-length-2 c = search needs
 
 returns-4 : tie.Need-returns-4
+unfolding mountedAs codeOf
 returns-4 c =
     let y = c .before .before .before .before .before .before .before in
     let a = y .before .before .before .before .before .before .args in
     let z = right-size (a .segments) (a .slots) (now (a .image)) _ (y .before .before .before .right-size .ensures) (y .before .before .if1 .left) in
     let k = survey-plan (a .segments) (a .slots) (now (a .image)) (y .survey .result) (y .survey .ensures) _ _ _ _ _ (c .before .before .before .before .before .surveyed .given .1) z in
-    ap (mountedAs Done) (c .before .before .fill .ensures) ∙ mount-clean (a .segments) (a .slots) (now (a .image)) (now (a .places)) z (omega (arith, y .before .if2 .left)) (k .state)
+    ap (mountedAs Done) (c .before .before .fill .ensures) ∙ sym (mount-clean (a .segments) (a .slots) (now (a .image)) (now (a .places)) z (omega (arith, y .before .if2 .left)) (k .state))
 
 pub mount-spec : {M : Type 1} → statement M
 mount-spec =

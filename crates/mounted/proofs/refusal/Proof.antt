@@ -4,7 +4,8 @@ use native.Mathlib.Omega.{arith}
 use denote.Ref.{now}
 use borrow.Author.Tests.{not-true, not-false}
 use Rattle.request.proofs.Laws.{wrong-size, right-size}
-use Rattle.mounted.proofs.Laws.Refusals.{refuses-size, refuses-short, refuses-number, refuses-length, refuses-unusable, refuses-none}
+use Rattle.model.specs.Answers.{codeOf}
+use Rattle.model.specs.Laws.Mounted.{refuses-size, refuses-short, refuses-number, refuses-length, refuses-unusable, refuses-none}
 use borrow.Author.Needs.{needs}
 use Rattle.mounted.proofs.refusal.Statement.{statement}
 use Rattle.mounted.proofs.refusal.Tie as tie
@@ -13,48 +14,54 @@ right-size-requires : tie.Need-right-size-requires
 right-size-requires c κs = search needs
 
 returns : tie.Need-returns
+unfolding codeOf
 returns c =
     let a = c .before .before .before .before .args in
-    refuses-size (a .segments) (a .slots) (now (a .image)) (now (a .places)) (a .block .0) (a .taken) (wrong-size (a .segments) (a .slots) (now (a .image)) _ (c .before .right-size .ensures) (c .if1 .taken))
+    sym (refuses-size (a .segments) (a .slots) (now (a .image)) (now (a .places)) (a .block .0) (a .taken) (wrong-size (a .segments) (a .slots) (now (a .image)) _ (c .before .right-size .ensures) (c .if1 .taken)))
 
 returns-2 : tie.Need-returns-2
+unfolding codeOf
 returns-2 c =
     let a = c .before .before .before .before .before .args in
-    refuses-short (a .segments) (a .slots) (now (a .image)) (now (a .places)) (a .block .0) (a .taken) (right-size (a .segments) (a .slots) (now (a .image)) _ (c .before .before .right-size .ensures) (c .before .if1 .left)) (c .if2 .taken)
+    sym (refuses-short (a .segments) (a .slots) (now (a .image)) (now (a .places)) (a .block .0) (a .taken) (right-size (a .segments) (a .slots) (now (a .image)) _ (c .before .before .right-size .ensures) (c .before .if1 .left)) (c .if2 .taken))
 
 number-ok-requires : tie.Need-number-ok-requires
 number-ok-requires c κs = search needs
 
 returns-3 : tie.Need-returns-3
+unfolding codeOf
 returns-3 c =
     let y = c .before .before in
     let a = y .before .before .before .before .before .args in
-    refuses-number (a .segments) (a .slots) (now (a .image)) (now (a .places)) (a .block .0) (a .taken) (right-size (a .segments) (a .slots) (now (a .image)) _ (y .before .before .right-size .ensures) (y .before .if1 .left)) (omega (arith, y .if2 .left))
-    (sym (c .before .number-ok .ensures) ∙ not-true _ (c .if3 .taken))
+    sym (refuses-number (a .segments) (a .slots) (now (a .image)) (now (a .places)) (a .block .0) (a .taken) (right-size (a .segments) (a .slots) (now (a .image)) _ (y .before .before .right-size .ensures) (y .before .if1 .left)) (omega (arith, y .if2 .left))
+    (sym (c .before .number-ok .ensures) ∙ not-true _ (c .if3 .taken)))
 
 returns-4 : tie.Need-returns-4
+unfolding codeOf
 returns-4 c =
     let y = c .before .before .before in
     let a = y .before .before .before .before .before .args in
-    refuses-length (a .segments) (a .slots) (now (a .image)) (now (a .places)) (a .block .0) (a .taken) (right-size (a .segments) (a .slots) (now (a .image)) _ (y .before .before .right-size .ensures) (y .before .if1 .left)) (omega (arith, y .if2 .left))
-    (sym (c .before .before .number-ok .ensures) ∙ not-false _ (c .before .if3 .left)) (not-true _ (c .if4 .taken))
+    sym (refuses-length (a .segments) (a .slots) (now (a .image)) (now (a .places)) (a .block .0) (a .taken) (right-size (a .segments) (a .slots) (now (a .image)) _ (y .before .before .right-size .ensures) (y .before .if1 .left)) (omega (arith, y .if2 .left))
+    (sym (c .before .before .number-ok .ensures) ∙ not-false _ (c .before .if3 .left)) (not-true _ (c .if4 .taken)))
 
 shared-slice-read-if5 : tie.Need-shared-slice-read-if5
 shared-slice-read-if5 c = search needs
 
 returns-5 : tie.Need-returns-5
+unfolding codeOf
 returns-5 c =
     let y = c .before .before .before .before .before in
     let a = y .before .before .before .before .before .args in
-    refuses-unusable (a .segments) (a .slots) (now (a .image)) (now (a .places)) (a .block .0) (a .taken) (right-size (a .segments) (a .slots) (now (a .image)) _ (y .before .before .right-size .ensures) (y .before .if1 .left)) (omega (arith, y .if2 .left))
-    (sym (c .before .before .before .before .number-ok .ensures) ∙ not-false _ (c .before .before .before .if3 .left)) (not-false _ (c .before .before .if4 .left)) (c .if5 .taken)
+    sym (refuses-unusable (a .segments) (a .slots) (now (a .image)) (now (a .places)) (a .block .0) (a .taken) (right-size (a .segments) (a .slots) (now (a .image)) _ (y .before .before .right-size .ensures) (y .before .if1 .left)) (omega (arith, y .if2 .left))
+    (sym (c .before .before .before .before .number-ok .ensures) ∙ not-false _ (c .before .before .before .if3 .left)) (not-false _ (c .before .before .if4 .left)) (c .if5 .taken))
 
 returns-6 : tie.Need-returns-6
+unfolding codeOf
 returns-6 c =
     let y = c .before .before .before .before .before in
     let a = y .before .before .before .before .before .args in
-    refuses-none (a .segments) (a .slots) (now (a .image)) (now (a .places)) (a .block .0) (a .taken) (right-size (a .segments) (a .slots) (now (a .image)) _ (y .before .before .right-size .ensures) (y .before .if1 .left)) (omega (arith, y .if2 .left))
-    (sym (c .before .before .before .before .number-ok .ensures) ∙ not-false _ (c .before .before .before .if3 .left)) (not-false _ (c .before .before .if4 .left)) (c .if5 .left)
+    sym (refuses-none (a .segments) (a .slots) (now (a .image)) (now (a .places)) (a .block .0) (a .taken) (right-size (a .segments) (a .slots) (now (a .image)) _ (y .before .before .right-size .ensures) (y .before .if1 .left)) (omega (arith, y .if2 .left))
+    (sym (c .before .before .before .before .number-ok .ensures) ∙ not-false _ (c .before .before .before .if3 .left)) (not-false _ (c .before .before .if4 .left)) (c .if5 .left))
 
 pub refusal-spec : {M : Type 1} → statement M
 refusal-spec =
