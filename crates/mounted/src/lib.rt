@@ -174,17 +174,11 @@ pub fn put(
         return request::refused(refused);
     };
     let entry = places::look_up(&image[..], slots, &places[..], block);
-    match entry {
-        Entry::At(place, length) => {
-            let old = Found::At(place, length);
-            put_block(image, segments, slots, places, old, block, contents, budget)
-        }
-        Entry::Absent => {
-            let old = Found::Nothing;
-            put_block(image, segments, slots, places, old, block, contents, budget)
-        }
-        Entry::Stale => request::refused(Answer::Damaged),
-    }
+    let Entry::Stale = entry else {
+        let old = mounted_put::old_slot(entry);
+        return put_block(image, segments, slots, places, old, block, contents, budget);
+    };
+    request::refused(Answer::Damaged)
 }
 
 // Marks the slot that an entry tells of.

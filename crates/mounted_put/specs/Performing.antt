@@ -36,6 +36,12 @@ unfoldable pub entryFor : Found → Entry
 entryFor (At q n) = entries.At q n
 entryFor Nothing = entries.Absent
 
+-- and back; what cannot be tells of none
+unfoldable pub foundFor : Entry → Found
+foundFor (entries.At q n) = At q n
+foundFor entries.Absent = Nothing
+foundFor entries.Stale = Nothing
+
 -- the slot was written, the old one marked where the entry says it is, and the new place noted
 pub record Written (N B : ℕ) (r : Room) (f : Found) (b : ℕ) (c : List ℕ) (budget : ℕ) (q : Performed) (s u : Image) (t w : Places) : Type 0 where
   pub seen : entrySeen B s (getD t b 0) ≡ entryFor f

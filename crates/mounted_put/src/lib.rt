@@ -18,7 +18,7 @@ ghost use Rattle.request.specs.Request.{Finished};
 ghost use Rattle.places.specs.Places.{entrySeen, enteredFrom, noted};
 ghost use Rattle.room.specs.Room.{Plannable};
 ghost use Rattle.put.specs.Writing.{Placed, Wrote};
-ghost use Rattle.mounted_put.specs.Performing.{RoomMade, entryFor, Continued, Performs};
+ghost use Rattle.mounted_put.specs.Performing.{RoomMade, entryFor, foundFor, Continued, Performs};
 
 // Steps were taken, and no more are: the table is not usable, and the answer is 9.
 fn stop(places: &mut [u32], budget: u64, left: u64) -> Performed
@@ -77,6 +77,17 @@ fn write_noted(
     Performed { answer, steps }
 }
 
+// The slot that an entry tells of, if any.
+pub fn old_slot(entry: Entry) -> Found
+    ensures { λ r. ⌜ r ≡ foundFor entry ⌝ }
+{
+    match entry {
+        Entry::At(place, length) => Found::At(place, length),
+        Entry::Absent => Found::Nothing,
+        Entry::Stale => Found::Nothing,
+    }
+}
+
 // Writes the slot once room was made and the table mended. The block is looked up only now, as it may have moved. In step
 // there is a free slot and the table is believed; out of step steps were taken by now, so that nothing is left but to stop.
 fn write_found(
@@ -97,42 +108,57 @@ fn write_found(
         return stop(places, budget, left);
     }
     let entry = places::look_up(&image[..], slots, &places[..], block);
-    match entry {
-        Entry::At(place, length) => {
-            let old = Found::At(place, length);
-            write_noted(
-                image,
-                segments,
-                slots,
-                places,
-                room,
-                old,
-                block,
-                contents,
-                budget,
-            )
-        }
-        Entry::Absent => {
-            let old = Found::Nothing;
-            write_noted(
-                image,
-                segments,
-                slots,
-                places,
-                room,
-                old,
-                block,
-                contents,
-                budget,
-            )
-        }
-        Entry::Stale => stop(places, budget, left),
-    }
+    let Entry::Stale = entry else {
+        let old = old_slot(entry);
+        return write_noted(
+            image,
+            segments,
+            slots,
+            places,
+            room,
+            old,
+            block,
+            contents,
+            budget,
+        );
+    };
+    stop(places, budget, left)
 }
 
-// Makes room, mends the table where compaction has moved blocks, writes the slot, and only then marks the old one where the
-// table says it is now. The block's entry becomes the new slot; a cut makes the table unusable. Where there is room nothing
-// moves, and what the table said before still holds.
+// Makes room, mends the table where compaction has moved blocks, and writes the slot.
+fn perform_moving(
+    image: &mut [u8],
+    segments: usize,
+    slots: usize,
+    places: &mut [u32],
+    plan: Plan,
+    total: usize,
+    block: BlockNumber,
+    contents: &[u8],
+    budget: u64,
+) -> Performed
+    requires { ⌜ Plannable segments slots plan (length (now image)) × (leastPlaces ≤ length (now places)) × (length (now contents) ≤ 248) ⌝ }
+    ensures { λ r. ⌜ Performs segments slots plan total (block .0) (now (contents .entry)) budget r (now (image .entry)) (now (image .exit)) (now (places .entry)) (now (places .exit)) ⌝ }
+{
+    let room = room::make_room(image, segments, slots, plan, total, budget);
+    if room.left == 0 {
+        return stop(places, budget, 0);
+    }
+    enter_new(&image[..], segments, slots, places, plan, room);
+    write_found(
+        image,
+        segments,
+        slots,
+        places,
+        room,
+        block,
+        contents,
+        budget,
+    )
+}
+
+// Makes room, writes the slot, and only then marks the old one where it is now. The block's entry becomes the new slot; a cut
+// makes the table unusable. Where there is room nothing moves, and what the table said before still holds.
 pub fn perform(
     image: &mut [u8],
     segments: usize,
@@ -171,17 +197,13 @@ pub fn perform(
             );
         }
     }
-    let room = room::make_room(image, segments, slots, plan, total, budget);
-    if room.left == 0 {
-        return stop(places, budget, 0);
-    }
-    enter_new(&image[..], segments, slots, places, plan, room);
-    write_found(
+    perform_moving(
         image,
         segments,
         slots,
         places,
-        room,
+        plan,
+        total,
         block,
         contents,
         budget,

@@ -5,6 +5,8 @@ use mathlib.Core.Logic.{_≢_, ⊎-elim}
 use mathlib.Core.Bool.{Bool, true, false, cond, not, false≢true}
 use mathlib.Core.List.{List, [], _∷_}
 use native.Mathlib.Omega.{arith}
+use denote.Enum.Declared.{tagOf}
+use types.Run.{OneOf}
 use lib.ListN.{length, getD}
 use Rattle.model.specs.Chip.{Image, Bytes}
 use Rattle.model.specs.Slot.{mostContents, numberOk}
@@ -22,7 +24,9 @@ use Rattle.request.specs.Request.{Refused}
 use Rattle.find.specs.declared.Found.{Found}
 use Rattle.find.specs.declared.Found.the-variants as finds
 use Rattle.find.specs.Search.{rowsAt, foundIn}
+use Rattle.places.specs.declared.Entry.{Entry}
 use Rattle.places.specs.declared.Entry.the-variants.{At, Absent, Stale}
+use Rattle.places.proofs.Entry.{the-type}
 use Rattle.places.specs.Places.{entrySeen}
 use Rattle.bridge.specs.Mounting.{Kept, in-step-kept, kept-in-step}
 use Rattle.room.specs.declared.Plan.{Plan}
@@ -32,7 +36,7 @@ use Rattle.mounted_plan.specs.declared.Decision.{Decision}
 use Rattle.mounted_plan.specs.declared.Decision.the-variants as decisions
 use Rattle.mounted_plan.specs.Decided.{Decides, Agreed}
 use Rattle.mounted_plan.proofs.Callers.{refused-listed, refused-exact, accepted-agreed}
-use Rattle.mounted_put.specs.Performing.{entryFor, Performs}
+use Rattle.mounted_put.specs.Performing.{entryFor, foundFor, Performs}
 use Rattle.mounted.specs.Puts.{noneFound, Puts}
 use Rattle.mounted.proofs.Laws.Refusals.{passed, bound-not-cut, none-refuses}
 use Rattle.mounted.proofs.Laws.Reads.{kept-refusal, seen-there, seen-none, seen-stale}
@@ -81,13 +85,19 @@ module _ (N B : ℕ) (s : Image) (t : Places) (b : ℕ) (c : List ℕ) (budget :
         (λ k. absurd (seen-stale N B s t b k (passed N B s t b taken p .number) e))
 
     -- what the entry tells
-    pub puts-stored : (q : SlotPlace) (l : ℕ) → entrySeen B s (getD t b 0) ≡ At q l → Puts N B (finds.At q l) b c s t
+    puts-stored : (q : SlotPlace) (l : ℕ) → entrySeen B s (getD t b 0) ≡ At q l → Puts N B (finds.At q l) b c s t
     unfolding entryFor noneFound
     puts-stored q l e = record { passed = p; seen = e; told = λ step. let k = in-step-kept N B s t step in rw (read-passed N B s b (seen-there N B s t b k (passed N B s t b taken p .number) q l e .code)) }
 
-    pub puts-new : entrySeen B s (getD t b 0) ≡ Absent → Puts N B finds.Nothing b c s t
+    puts-new : entrySeen B s (getD t b 0) ≡ Absent → Puts N B finds.Nothing b c s t
     unfolding entryFor noneFound
     puts-new e = record { passed = p; seen = e; told = λ step. rw (seen-none N B s t b (in-step-kept N B s t step) (passed N B s t b taken p .number) e) }
+
+    pub puts-told : (e : Entry) → e ≡ entrySeen B s (getD t b 0) → OneOf (0 ∷ 1 ∷ []) (tagOf the-type e) → (f : Found) → f ≡ foundFor e → Puts N B f b c s t
+    unfolding foundFor
+    puts-told (At q l) i k f j = rw j (puts-stored q l (sym i))
+    puts-told Absent i k f j = rw j (puts-new (sym i))
+    puts-told Stale i k f j = absurd (⊎-elim (λ z. omega arith) (λ z. omega arith) k)
 
   module _ (f : Found) (g : Puts N B f b c s t) (absent : Bool) (i : absent ≡ noneFound f) (d : Decision) (w : Decides N B absent s d) where
     told : InStep N B s t → absent ≡ not (holds b (entriesIn (view N B s)))

@@ -2,7 +2,7 @@
 use mathlib.Core.Path.{sym, _∙_}
 use denote.Ref.{now}
 use Rattle.mounted.proofs.Laws.Refusals.{slots-few, refusing-code}
-use Rattle.mounted.proofs.Laws.Puts.{put-bound, put-unbound, put-stale, puts-stored, puts-new}
+use Rattle.mounted.proofs.Laws.Puts.{put-bound, put-unbound, put-stale, puts-told}
 use borrow.Author.Needs.{needs}
 use Rattle.mounted.proofs.put.Statement.{statement}
 use Rattle.mounted.proofs.put.Tie as tie
@@ -37,31 +37,18 @@ look-up-requires c κs =
     let a = y .before .before .before .before .before .before .before .args in
     slots-few (a .segments) (a .slots) (now (a .image)) (now (a .places)) (a .block .0) _ (put-unbound (a .segments) (a .slots) (now (a .image)) (now (a .places)) (a .block .0) (now (a .contents)) (a .budget) _ (y .before .before .before .length-ok .ensures) _ (y .refusal .ensures) (c .before .before .enum-told .given .1))
 
-enum-known-entry : tie.Need-enum-known-entry
-enum-known-entry c = search needs
-
-put-block-requires : tie.Need-put-block-requires
-put-block-requires c κs =
-    let l = c .before .before .before .before .before in
-    let y = l .before .before .before .before .before in
-    let a = y .before .before .before .before .before .before .before .args in
-    puts-stored (a .segments) (a .slots) (now (a .image)) (now (a .places)) (a .block .0) (now (a .contents)) (a .budget) (put-unbound (a .segments) (a .slots) (now (a .image)) (now (a .places)) (a .block .0) (now (a .contents)) (a .budget) _ (y .before .before .before .length-ok .ensures) _ (y .refusal .ensures) (l .before .before .before .enum-told .given .1)) _ _ (sym (l .look-up .ensures) ∙ c .before .before .before .entry .given .1)
-
 enum-told-2 : tie.Need-enum-told-2
 enum-told-2 c = search needs
 
-put-block-requires-2 : tie.Need-put-block-requires-2
-put-block-requires-2 c κs =
+old-slot-requires : tie.Need-old-slot-requires
+old-slot-requires c κs = search needs
+
+put-block-requires : tie.Need-put-block-requires
+put-block-requires c κs =
     let l = c .before .before .before .before in
     let y = l .before .before .before .before .before in
     let a = y .before .before .before .before .before .before .before .args in
-    puts-new (a .segments) (a .slots) (now (a .image)) (now (a .places)) (a .block .0) (now (a .contents)) (a .budget) (put-unbound (a .segments) (a .slots) (now (a .image)) (now (a .places)) (a .block .0) (now (a .contents)) (a .budget) _ (y .before .before .before .length-ok .ensures) _ (y .refusal .ensures) (l .before .before .before .enum-told .given .1)) (sym (l .look-up .ensures) ∙ c .before .before .enum-told2 .given .1)
-
-enum-told-3 : tie.Need-enum-told-3
-enum-told-3 c = search needs
-
-refused-requires-2 : tie.Need-refused-requires-2
-refused-requires-2 c κs = search needs
+    puts-told (a .segments) (a .slots) (now (a .image)) (now (a .places)) (a .block .0) (now (a .contents)) (a .budget) (put-unbound (a .segments) (a .slots) (now (a .image)) (now (a .places)) (a .block .0) (now (a .contents)) (a .budget) _ (y .before .before .before .length-ok .ensures) _ (y .refusal .ensures) (l .before .before .before .enum-told .given .1)) _ (l .look-up .ensures) (c .before .before .before .match2 .keys2) _ (c .before .before .old-slot .ensures)
 
 same-length-3 : tie.Need-same-length-3
 same-length-3 c = search needs
@@ -72,6 +59,9 @@ same-length-4 c = search needs
 returns-2 : tie.Need-returns-2
 returns-2 c = search needs
 
+refused-requires-2 : tie.Need-refused-requires-2
+refused-requires-2 c κs = search needs
+
 same-length-5 : tie.Need-same-length-5
 same-length-5 c = search needs
 
@@ -79,20 +69,11 @@ same-length-6 : tie.Need-same-length-6
 same-length-6 c = search needs
 
 returns-3 : tie.Need-returns-3
-returns-3 c = search needs
-
-same-length-7 : tie.Need-same-length-7
-same-length-7 c = search needs
-
-same-length-8 : tie.Need-same-length-8
-same-length-8 c = search needs
-
-returns-4 : tie.Need-returns-4
-returns-4 c =
+returns-3 c =
     let l = c .before .before .before in
     let y = l .before .before .before .before .before in
     let a = y .before .before .before .before .before .before .before .args in
-    put-stale (a .segments) (a .slots) (now (a .image)) (now (a .places)) (a .block .0) (now (a .contents)) (a .budget) (put-unbound (a .segments) (a .slots) (now (a .image)) (now (a .places)) (a .block .0) (now (a .contents)) (a .budget) _ (y .before .before .before .length-ok .ensures) _ (y .refusal .ensures) (l .before .before .before .enum-told .given .1)) (sym (l .look-up .ensures) ∙ c .before .enum-told3 .given .1) (c .refused2 .ensures)
+    put-stale (a .segments) (a .slots) (now (a .image)) (now (a .places)) (a .block .0) (now (a .contents)) (a .budget) (put-unbound (a .segments) (a .slots) (now (a .image)) (now (a .places)) (a .block .0) (now (a .contents)) (a .budget) _ (y .before .before .before .length-ok .ensures) _ (y .refusal .ensures) (l .before .before .before .enum-told .given .1)) (sym (l .look-up .ensures) ∙ c .before .enum-told2 .given .1) (c .refused2 .ensures)
 
 pub put-spec : {M : Type 1} → statement M
 put-spec =
@@ -106,18 +87,13 @@ put-spec =
     same-length-2
     returns
     look-up-requires
-    enum-known-entry
-    put-block-requires
     enum-told-2
-    put-block-requires-2
-    enum-told-3
-    refused-requires-2
+    old-slot-requires
+    put-block-requires
     same-length-3
     same-length-4
     returns-2
+    refused-requires-2
     same-length-5
     same-length-6
-    returns-3
-    same-length-7
-    same-length-8
-    returns-4)
+    returns-3)

@@ -26,7 +26,7 @@ use Rattle.room.proofs.Laws.{worked-there}
 use Rattle.put.specs.Writing.{Placed, Wrote}
 use Rattle.put.proofs.Laws.Put.{accepted-writable, put-spent}
 use Rattle.mounted_put.specs.Performing.{RoomMade, entryFor, Written, Stopped, Continued, Performs}
-use Rattle.mounted_put.proofs.Laws.Parts.{placed, old-inside}
+use Rattle.mounted_put.proofs.Laws.Parts.{found-placed}
 use Rattle.mounted_put.proofs.Laws.InStep.{not-stopped, written-outcome, written-kept}
 
 -- ---- what comes back
@@ -107,7 +107,7 @@ module _ (N B : ℕ) (p : Plan) (total b : ℕ) (c : List ℕ) (budget : ℕ) (r
   pub there-placed : length c ≤ 248 → Placed N B r o c budget (length s)
   there-placed short =
       let m : RoomMade N B r c budget (length s) = record { sized = a .sized; some = omega (arith, used, a .some); few = omega (arith, used, a .spare, a .sized .segments); short = short; left = omega (arith, left) } in
-      placed N B r b c budget s t m (omega (arith, slot)) o (old-inside N B r b c budget s t o seen)
+      found-placed N B r b c budget s t m (omega (arith, slot)) o seen
 
   none-entered : t ≡ enteredFrom N B s (r .first .0 + r .used - (p .first .0 + p .used)) (p .first .0 + p .used) t
   unfolding enteredFrom

@@ -3,7 +3,7 @@ use mathlib.Core.Path.{refl}
 use native.Mathlib.Omega.{arith}
 use denote.Ref.{now}
 use Rattle.model.specs.Laws.Bytes.{bytes-known}
-use Rattle.mounted_put.proofs.Laws.AnyTable.{spent-performs, continued-performs, there-placed, there-performs}
+use Rattle.mounted_put.proofs.Laws.AnyTable.{there-placed, there-performs}
 use borrow.Author.Needs.{needs}
 use Rattle.mounted_put.proofs.perform.Statement.{statement}
 use Rattle.mounted_put.proofs.perform.Tie as tie
@@ -29,11 +29,8 @@ returns c =
     (c .before .before .before .before .before .before .before .if2 .taken) (x .pre .1) (bytes-known (now (a .image)) (λ i. omega (arith, c .before .before .before .before .before .before .before .before .before .before .before .before .slice-known .given i))) (bytes-known (now (a .contents)) (λ i. omega (arith, c .before .before .before .before .before .before .before .before .before .before .shared-slice-known .given i)))
     (omega (arith, x .good)) (written .0) (written .1)
 
-make-room-requires : tie.Need-make-room-requires
-make-room-requires c κs = search needs
-
-stop-requires : tie.Need-stop-requires
-stop-requires c κs = search needs
+perform-moving-requires : tie.Need-perform-moving-requires
+perform-moving-requires c κs = search needs
 
 same-length-3 : tie.Need-same-length-3
 same-length-3 c = search needs
@@ -42,31 +39,7 @@ same-length-4 : tie.Need-same-length-4
 same-length-4 c = search needs
 
 returns-2 : tie.Need-returns-2
-returns-2 c =
-    let x = c .before .before .before .before .before .before .before .before .before .before .before .before .before .before .before in
-    let a = x .args in
-    let stopped = c .before .before .stop .ensures in
-    spent-performs (a .segments) (a .slots) (a .plan) (a .total) (a .block .0) (now (a .contents)) (a .budget) _ _ (now (a .image)) _ (c .before .before .before .before .before .before .before .before .make-room .ensures) (now (a .places)) _ (x .pre .1) (c .before .before .before .before .if3 .taken) (stopped .0) (stopped .1)
-
-enter-new-requires : tie.Need-enter-new-requires
-enter-new-requires c κs = search needs
-
-write-found-requires : tie.Need-write-found-requires
-write-found-requires c κs = search needs
-
-same-length-5 : tie.Need-same-length-5
-same-length-5 c = search needs
-
-same-length-6 : tie.Need-same-length-6
-same-length-6 c = search needs
-
-returns-3 : tie.Need-returns-3
-returns-3 c =
-    let x = c .before .before .before .before .before .before .before .before .before .before .before .before .before .before .before .before .before .before .before .before .before .before .before in
-    let a = x .args in
-    continued-performs (a .segments) (a .slots) (a .plan) (a .total) (a .block .0) (now (a .contents)) (a .budget) _ _ (now (a .image)) _ (c .before .before .before .before .before .before .before .before .before .before .before .before .before .before .before .before .make-room .ensures) (now (a .places)) _ (x .pre .1) (c .before .before .before .before .before .before .before .before .before .before .before .before .if3 .left)
-    (bytes-known (now (a .image)) (λ i. omega (arith, c .before .before .before .before .before .before .before .before .before .before .before .before .before .before .before .before .before .before .before .before .before .before .slice-known .given i))) (bytes-known (now (a .contents)) (λ i. omega (arith, c .before .before .before .before .before .before .before .before .before .before .before .before .before .before .before .before .before .before .before .before .shared-slice-known .given i)))
-    (omega (arith, x .good)) _ _ (c .before .before .before .before .before .before .before .before .before .enter-new .ensures) (c .before .before .before .before .write-found .ensures)
+returns-2 c = search needs
 
 pub perform-spec : {M : Type 1} → statement M
 perform-spec =
@@ -76,13 +49,7 @@ perform-spec =
     same-length
     same-length-2
     returns
-    make-room-requires
-    stop-requires
+    perform-moving-requires
     same-length-3
     same-length-4
-    returns-2
-    enter-new-requires
-    write-found-requires
-    same-length-5
-    same-length-6
-    returns-3)
+    returns-2)

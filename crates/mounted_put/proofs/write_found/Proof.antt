@@ -2,7 +2,7 @@
 use mathlib.Core.Path.{refl}
 use native.Mathlib.Omega.{arith}
 use denote.Ref.{now}
-use Rattle.mounted_put.proofs.Laws.Parts.{placed-at, continued-at, continued-new, continued-stale, continued-full}
+use Rattle.mounted_put.proofs.Laws.Parts.{found-told, found-placed, continued-written, continued-stale, continued-full}
 use borrow.Author.Needs.{needs}
 use Rattle.mounted_put.proofs.write_found.Statement.{statement}
 use Rattle.mounted_put.proofs.write_found.Tie as tie
@@ -22,20 +22,18 @@ returns c =
 look-up-requires : tie.Need-look-up-requires
 look-up-requires c κs = search needs
 
-enum-known-entry : tie.Need-enum-known-entry
-enum-known-entry c = search needs
-
 enum-told : tie.Need-enum-told
 enum-told c = search needs
 
-write-noted-requires-2 : tie.Need-write-noted-requires-2
-write-noted-requires-2 c κs = search needs
+old-slot-requires : tie.Need-old-slot-requires
+old-slot-requires c κs = search needs
 
-enum-told-2 : tie.Need-enum-told-2
-enum-told-2 c = search needs
-
-stop-requires-2 : tie.Need-stop-requires-2
-stop-requires-2 c κs = search needs
+write-noted-requires : tie.Need-write-noted-requires
+write-noted-requires c κs =
+    let x = c .before .before .before .before .before .before .before .before .before .before .before .before in
+    let a = x .args in
+    let o = c .before .before in
+    (found-placed (a .segments) (a .slots) (a .room) (a .block .0) (now (a .contents)) (a .budget) (now (a .image)) (now (a .places)) (x .pre .0) (omega (arith, c .before .before .before .before .before .before .before .if1 .left)) _ (found-told (a .segments) (a .slots) (a .room) (a .block .0) (now (a .contents)) (a .budget) (now (a .image)) (now (a .places)) _ (c .before .before .before .before .look-up .ensures) (c .before .before .before .match .keys2) _ (o .old-slot .ensures)), x .pre .1)
 
 same-length-2 : tie.Need-same-length-2
 same-length-2 c = search needs
@@ -45,16 +43,12 @@ same-length-3 c = search needs
 
 returns-2 : tie.Need-returns-2
 returns-2 c =
-    let a = c .before .before .before .before .before .before .before .before .before .before .before .before .before .before .before .before .before .before .args in
+    let a = c .before .before .before .before .before .before .before .before .before .before .before .before .before .before .before .before .before .args in
     let done = c .before .before .before .before .write-noted .ensures in
-    continued-at (a .segments) (a .slots) (a .room) (a .block .0) (now (a .contents)) (a .budget) (now (a .image)) (now (a .places)) _ (c .before .before .before .before .before .before .before .before .before .before .look-up .ensures) _ _ (c .before .before .before .before .before .before .before .before .entry .given .1) (done .0) (done .1)
+    continued-written (a .segments) (a .slots) (a .room) (a .block .0) (now (a .contents)) (a .budget) (now (a .image)) (now (a .places)) _ (c .before .before .before .before .before .before .before .before .before .look-up .ensures) (c .before .before .before .before .before .before .before .before .match .keys2) _ (c .before .before .before .before .before .before .before .old-slot .ensures) (done .0) (done .1)
 
--- after what it writes, which is the first to be refused if another slot is marked
-write-noted-requires : tie.Need-write-noted-requires
-write-noted-requires c κs =
-    let x = c .before .before .before .before .before .before .before .before .before .before .before .before .before in
-    let a = x .args in
-    (placed-at (a .segments) (a .slots) (a .room) (a .block .0) (now (a .contents)) (a .budget) (now (a .image)) (now (a .places)) (x .pre .0) (omega (arith, c .before .before .before .before .before .before .before .before .if1 .left)) _ (c .before .before .before .before .before .look-up .ensures) _ _ (c .before .before .before .entry .given .1), x .pre .1)
+stop-requires-2 : tie.Need-stop-requires-2
+stop-requires-2 c κs = search needs
 
 same-length-4 : tie.Need-same-length-4
 same-length-4 c = search needs
@@ -64,21 +58,9 @@ same-length-5 c = search needs
 
 returns-3 : tie.Need-returns-3
 returns-3 c =
-    let a = c .before .before .before .before .before .before .before .before .before .before .before .before .before .before .before .before .before .args in
-    let done = c .before .before .before .before .write-noted2 .ensures in
-    continued-new (a .segments) (a .slots) (a .room) (a .block .0) (now (a .contents)) (a .budget) (now (a .image)) (now (a .places)) _ (c .before .before .before .before .before .before .before .before .before .look-up .ensures) (c .before .before .before .before .before .before .before .enum-told .given .1) (done .0) (done .1)
-
-same-length-6 : tie.Need-same-length-6
-same-length-6 c = search needs
-
-same-length-7 : tie.Need-same-length-7
-same-length-7 c = search needs
-
-returns-4 : tie.Need-returns-4
-returns-4 c =
     let a = c .before .before .before .before .before .before .before .before .before .before .before .before .before .before .args in
     let stopped = c .before .before .stop2 .ensures in
-    continued-stale (a .segments) (a .slots) (a .room) (a .block .0) (now (a .contents)) (a .budget) (now (a .image)) (now (a .places)) _ (c .before .before .before .before .before .before .look-up .ensures) (c .before .before .before .before .enum-told2 .given .1) refl (stopped .0) (stopped .1)
+    continued-stale (a .segments) (a .slots) (a .room) (a .block .0) (now (a .contents)) (a .budget) (now (a .image)) (now (a .places)) _ (c .before .before .before .before .before .before .look-up .ensures) (c .before .before .before .before .enum-told .given .1) refl (stopped .0) (stopped .1)
 
 pub write-found-spec : {M : Type 1} → statement M
 write-found-spec =
@@ -88,18 +70,13 @@ write-found-spec =
     same-length
     returns
     look-up-requires
-    enum-known-entry
-    write-noted-requires
     enum-told
-    write-noted-requires-2
-    enum-told-2
-    stop-requires-2
+    old-slot-requires
+    write-noted-requires
     same-length-2
     same-length-3
     returns-2
+    stop-requires-2
     same-length-4
     same-length-5
-    returns-3
-    same-length-6
-    same-length-7
-    returns-4)
+    returns-3)
