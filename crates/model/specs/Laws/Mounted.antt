@@ -1,6 +1,6 @@
 -- Request #102, read back from its definitions: what a mount answers and leaves in each case, and the order of what refuses a mounted call.
 use Prim.Native.Nat.{ℕ, _≤_, _<_}
-use mathlib.Core.Path.{_≡_, refl}
+use mathlib.Core.Path.{_≡_}
 use mathlib.Core.Logic.{_≢_}
 use mathlib.Core.Bool.{Bool, true, false}
 use lib.ListN.{length, getD}
@@ -9,7 +9,7 @@ use Rattle.model.specs.Chip.{Image, rightSize}
 use Rattle.model.specs.Slot.{numberOk}
 use Rattle.model.specs.State.{Exception, clean, unfinished, damaged, state, view}
 use Rattle.model.specs.Answers.{firstOf, isDamaged, isUnfinished}
-use Rattle.model.specs.Mounted.{Places, leastPlaces, filledPlaces, unusable, MountOutcome, mountRefusals, mountOutcome, mountedRefusals, mountedRefusal}
+use Rattle.model.specs.Mounted.{Places, leastPlaces, filledPlaces, unusable, mountRefusals, mountOutcome, mountedRefusals, mountedRefusal}
 
 -- ---- a mount
 

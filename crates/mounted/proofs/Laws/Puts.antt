@@ -2,14 +2,14 @@
 use Prim.Native.Nat.{ℕ}
 use mathlib.Core.Path.{_≡_, refl, sym, _∙_}
 use mathlib.Core.Logic.{_≢_, ⊎-elim}
-use mathlib.Core.Bool.{Bool, true, false, cond, not, false≢true}
+use mathlib.Core.Bool.{Bool, true, false, not, false≢true}
 use mathlib.Core.List.{List, [], _∷_}
 use native.Mathlib.Omega.{arith}
 use denote.Enum.Declared.{tagOf}
 use types.Run.{OneOf}
 use lib.ListN.{length, getD}
 use Rattle.model.specs.Chip.{Image, Bytes}
-use Rattle.model.specs.Slot.{mostContents, numberOk}
+use Rattle.model.specs.Slot.{numberOk}
 use Rattle.model.specs.State.{entriesIn, holds, view}
 use Rattle.model.specs.Answers.{codeOf, lengthOk, put, performed}
 use Rattle.model.specs.Sequences.{among}
@@ -17,7 +17,7 @@ use Rattle.model.specs.declared.Answer.{Answer}
 use Rattle.model.specs.declared.Answer.the-variants.{Done, Size, Number, Length, Damaged, Unfinished, Absent as NotStored, Full, Worn, Cut, ShortTable, FormerVersion, ShortBuffer}
 use Rattle.model.specs.declared.Performed.{Performed}
 use Rattle.model.specs.declared.SlotPlace.{SlotPlace}
-use Rattle.model.specs.Mounted.{Places, leastPlaces, mountedRefusal, InStep, MountedPut}
+use Rattle.model.specs.Mounted.{Places, mountedRefusal, InStep, MountedPut}
 use Rattle.bridge.specs.Accepted.{refusal, read-passed}
 use Rattle.bridge.specs.Refusals.{put-number, put-length}
 use Rattle.request.specs.Request.{Refused}
@@ -30,11 +30,10 @@ use Rattle.places.proofs.Entry.{the-type}
 use Rattle.places.specs.Places.{entrySeen}
 use Rattle.bridge.specs.Mounting.{Kept, in-step-kept, kept-in-step}
 use Rattle.room.specs.declared.Plan.{Plan}
-use Rattle.room.specs.Room.{Plannable}
 use Rattle.put.specs.Writing.{Accepted}
 use Rattle.mounted_plan.specs.declared.Decision.{Decision}
 use Rattle.mounted_plan.specs.declared.Decision.the-variants as decisions
-use Rattle.mounted_plan.specs.Decided.{Decides, Agreed}
+use Rattle.mounted_plan.specs.Decided.{Decides}
 use Rattle.mounted_plan.proofs.Callers.{refused-listed, refused-exact, accepted-agreed}
 use Rattle.mounted_put.specs.Performing.{entryFor, foundFor, Performs}
 use Rattle.mounted.specs.Puts.{noneFound, Puts}

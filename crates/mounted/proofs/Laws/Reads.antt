@@ -6,21 +6,19 @@ use mathlib.Core.Bool.{Bool, true, false, cond, not}
 use mathlib.Core.List.{[], _∷_}
 use native.Mathlib.Omega.{arith}
 use lib.ListN.{length, getD}
-use lib.Dec.{eqb}
 use borrow.Author.Tests.{le-ltb}
 use Rattle.model.specs.Chip.{Image}
 use Rattle.model.specs.Slot.{mostContents, numberOk}
 use Rattle.model.specs.State.{holds, entriesIn, placeOf, view}
 use Rattle.model.specs.Steps.{slotAt}
 use Rattle.model.specs.Table.{lookup, contentsFound}
-use Rattle.model.specs.Answers.{codeOf, _when_, firstOf, ReadOutcome, readOutcome}
+use Rattle.model.specs.Answers.{codeOf, _when_, firstOf}
 use Rattle.model.specs.Sequences.{among}
 use Rattle.model.specs.declared.Answer.{Answer}
-use Rattle.model.specs.declared.Answer.the-variants.{Number, Damaged, Absent as NotStored}
+use Rattle.model.specs.declared.Answer.the-variants.{Damaged, Absent as NotStored}
 use Rattle.model.specs.declared.SlotPlace.{SlotPlace}
-use Rattle.model.specs.Mounted.{Places, leastPlaces, mountedRefusals, mountedRefusal, InStep, MountedRead}
+use Rattle.model.specs.Mounted.{Places, leastPlaces, mountedRefusals, mountedRefusal, MountedRead}
 use Rattle.bridge.specs.Refusals.{read-number, read-absent, read-found}
-use Rattle.places.specs.declared.Entry.{Entry}
 use Rattle.places.specs.declared.Entry.the-variants.{At, Absent, Stale}
 use Rattle.places.specs.Places.{entrySeen}
 use Rattle.bridge.specs.Mounting.{Kept, in-step-kept}
@@ -28,7 +26,7 @@ use Rattle.places.proofs.Laws.Found.{foundEntry, kept-seen}
 use Rattle.places.proofs.Laws.Seen.{Believed, seen-believed}
 use Rattle.store.specs.Look.{There, Kept as Refuses}
 use Rattle.store.proofs.Laws.Requests.{read-refused, read-there}
-use Rattle.mounted.proofs.Laws.Refusals.{Passed, passed}
+use Rattle.mounted.proofs.Laws.Refusals.{passed}
 
 -- ---- in step
 

@@ -12,7 +12,6 @@ use Rattle.model.specs.Steps.{slotAt}
 use Rattle.model.specs.Answers.{codeOf}
 use Rattle.model.specs.Mounted.{Places, unusable}
 use Rattle.model.specs.declared.Performed.{Performed}
-use Rattle.model.specs.declared.SlotPlace.{SlotPlace}
 use Rattle.find.specs.declared.Found.{Found}
 use Rattle.find.specs.declared.Found.the-variants.{At, Nothing}
 use Rattle.request.specs.Request.{Finished}

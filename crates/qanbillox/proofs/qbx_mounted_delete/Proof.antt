@@ -1,5 +1,4 @@
 -- `qanbillox::qbx_mounted_delete` gives a packed outcome that the contract allows. Assumes nothing.
-use Rattle.model.specs.Answers.{performed}
 use Rattle.qanbillox.proofs.Laws.{packs}
 use borrow.Author.Needs.{needs}
 use Rattle.qanbillox.proofs.qbx_mounted_delete.Statement.{statement}

@@ -1,6 +1,5 @@
 -- `qanbillox::qbx_mounted_read` gives a packed place that the contract allows. Assumes nothing.
 use denote.Ref.{now}
-use Rattle.model.specs.Answers.{located}
 use Rattle.qanbillox.proofs.Laws.{mounted-small, mounted-tells}
 use borrow.Author.Needs.{needs}
 use Rattle.qanbillox.proofs.qbx_mounted_read.Statement.{statement}
