@@ -64,7 +64,7 @@ pub fn see_segment(image: &[u8], segments: usize, slots: usize, index: usize) ->
     } = seen
     else {
         let end = at + (slots + 1) * 256;
-        let whole = flash::blank_test(&image[at..end]);
+        let whole = blank::blank_test(&image[at..end]);
         if whole.blank {
             return head(SegmentState::Blank, false, SegmentNumber(0));
         }

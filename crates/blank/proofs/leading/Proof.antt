@@ -1,4 +1,4 @@
--- `flash::leading` counts the whole groups before the first that differs. The invariant: those looked at are blank. Assumes nothing.
+-- `blank::leading` counts the whole groups before the first that differs. The invariant: those looked at are blank. Assumes nothing.
 use Prim.Native.Nat.{_-_, _*_, _/_, _≤_}
 use mathlib.Core.Path.{_≡_, sym, _∙_}
 use mathlib.Core.Bool.{true}
@@ -7,10 +7,10 @@ use denote.Ref.{now}
 use lib.ListN.{length, take}
 use borrow.Author.Tests.{not-true, not-false}
 use Rattle.model.specs.Header.{isBlank}
-use Rattle.flash.proofs.Blank.{leads, part-turn, part-differs, parts-whole, stops-among}
+use Rattle.blank.proofs.Blank.{leads, part-turn, part-differs, parts-whole, stops-among}
 use borrow.Author.Needs.{needs}
-use Rattle.flash.proofs.leading.Statement.{statement}
-use Rattle.flash.proofs.leading.Tie as tie
+use Rattle.blank.proofs.leading.Statement.{statement}
+use Rattle.blank.proofs.leading.Tie as tie
 
 abbrev Inv-loop : tie.InvT-loop
 Inv-loop bytes whole groups₀ groups = (groups ≤ length bytes / 8) × (isBlank (take (groups * 8) bytes) ≡ true)

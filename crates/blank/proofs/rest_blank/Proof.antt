@@ -1,4 +1,4 @@
--- `flash::rest_blank` is the test of the definition. The invariant: the bytes joined so far are 255 just if those before `i` are blank. Assumes nothing.
+-- `blank::rest_blank` is the test of the definition. The invariant: the bytes joined so far are 255 just if those before `i` are blank. Assumes nothing.
 use Prim.Native.Nat.{_-_, _≤_, _<_}
 use mathlib.Core.Path.{_≡_, refl, ap, _∙_}
 use native.Mathlib.Omega.{arith}
@@ -7,10 +7,10 @@ use lib.Dec.{eqb}
 use lib.ListN.{length, take}
 use lib.Seq.{take-all}
 use Rattle.model.specs.Header.{isBlank}
-use Rattle.flash.proofs.Blank.{joined-turn, joined-less}
+use Rattle.blank.proofs.Blank.{joined-turn, joined-less}
 use borrow.Author.Needs.{needs}
-use Rattle.flash.proofs.rest_blank.Statement.{statement}
-use Rattle.flash.proofs.rest_blank.Tie as tie
+use Rattle.blank.proofs.rest_blank.Statement.{statement}
+use Rattle.blank.proofs.rest_blank.Tie as tie
 
 abbrev Inv-loop : tie.InvT-loop
 Inv-loop rest joined₀ i₀ joined i = (i ≤ length rest) × (joined < 256) × (eqb joined 255 ≡ isBlank (take i rest))

@@ -1,4 +1,4 @@
--- `flash::leading_fours` counts the groups before the first that differs, four to a turn. The invariant: those looked at are blank. Assumes nothing.
+-- `blank::leading_fours` counts the groups before the first that differs, four to a turn. The invariant: those looked at are blank. Assumes nothing.
 use Prim.Native.Nat.{_-_, _*_, _/_, _≤_}
 use mathlib.Core.Path.{_≡_}
 use mathlib.Core.Bool.{true}
@@ -6,10 +6,10 @@ use native.Mathlib.Omega.{arith}
 use denote.Ref.{now}
 use lib.ListN.{length, take}
 use Rattle.model.specs.Header.{isBlank}
-use Rattle.flash.proofs.Blank.{no-part, parts-whole, four-turn, four-stops}
+use Rattle.blank.proofs.Blank.{no-part, parts-whole, four-turn, four-stops}
 use borrow.Author.Needs.{needs}
-use Rattle.flash.proofs.leading_fours.Statement.{statement}
-use Rattle.flash.proofs.leading_fours.Tie as tie
+use Rattle.blank.proofs.leading_fours.Statement.{statement}
+use Rattle.blank.proofs.leading_fours.Tie as tie
 
 abbrev Inv-loop : tie.InvT-loop
 Inv-loop bytes fours i₀ i = (i ≤ length bytes / 32) × (isBlank (take (i * 32) bytes) ≡ true)

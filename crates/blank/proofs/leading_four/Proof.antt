@@ -1,12 +1,12 @@
--- `flash::leading_four` counts the groups of four before the first that differs. Assumes nothing.
+-- `blank::leading_four` counts the groups of four before the first that differs. Assumes nothing.
 use mathlib.Core.Path.{refl, sym, _∙_}
 use native.Mathlib.Omega.{arith}
 use denote.Ref.{now}
 use borrow.Author.Tests.{not-true, not-false}
-use Rattle.flash.proofs.Blank.{no-part, part-turn, part-differs, parts-whole}
+use Rattle.blank.proofs.Blank.{no-part, part-turn, part-differs, parts-whole}
 use borrow.Author.Needs.{needs}
-use Rattle.flash.proofs.leading_four.Statement.{statement}
-use Rattle.flash.proofs.leading_four.Tie as tie
+use Rattle.blank.proofs.leading_four.Statement.{statement}
+use Rattle.blank.proofs.leading_four.Tie as tie
 
 sub-group-blank : tie.Need-sub-group-blank
 sub-group-blank c = search needs

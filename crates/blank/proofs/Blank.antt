@@ -16,7 +16,7 @@ use borrow.Author.Tests.{eq-eqb, ne-eqb}
 use Rattle.model.specs.Lists.{same, chunk}
 use Rattle.model.specs.Laws.Lists.{and-left, and-right}
 use Rattle.model.specs.Laws.Chunk.{chunk-length}
-use Rattle.flash.specs.Leading.{leadingBlank}
+use Rattle.blank.specs.Leading.{leadingBlank}
 use Rattle.model.specs.Chip.{erased}
 use Rattle.model.specs.Header.{isBlank}
 use Rattle.model.specs.Blank.{groupsOf, lookedAt, blankGroups}

@@ -1,10 +1,10 @@
--- `flash::group_blank` is the test of the definition, on eight bytes joined. Assumes nothing.
+-- `blank::group_blank` is the test of the definition, on eight bytes joined. Assumes nothing.
 use native.Mathlib.Omega.{arith}
 use denote.Ref.{now}
-use Rattle.flash.proofs.Blank.{group-joined}
+use Rattle.blank.proofs.Blank.{group-joined}
 use borrow.Author.Needs.{needs}
-use Rattle.flash.proofs.group_blank.Statement.{statement}
-use Rattle.flash.proofs.group_blank.Tie as tie
+use Rattle.blank.proofs.group_blank.Statement.{statement}
+use Rattle.blank.proofs.group_blank.Tie as tie
 
 shared-slice-read-result : tie.Need-shared-slice-read-result
 shared-slice-read-result c = search needs

@@ -1,11 +1,11 @@
--- `flash::blank_test` answers and counts as the definitions say. Assumes nothing.
+-- `blank::blank_test` answers and counts as the definitions say. Assumes nothing.
 use mathlib.Core.Path.{_∙_}
 use native.Mathlib.Omega.{arith}
 use denote.Ref.{now}
-use Rattle.flash.proofs.Blank.{before-within, tested}
+use Rattle.blank.proofs.Blank.{before-within, tested}
 use borrow.Author.Needs.{needs}
-use Rattle.flash.proofs.blank_test.Statement.{statement}
-use Rattle.flash.proofs.blank_test.Tie as tie
+use Rattle.blank.proofs.blank_test.Statement.{statement}
+use Rattle.blank.proofs.blank_test.Tie as tie
 
 add-all : tie.Need-add-all
 add-all c = search needs

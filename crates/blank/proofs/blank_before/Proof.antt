@@ -1,13 +1,13 @@
--- `flash::blank_before` counts the groups before the first that differs, with a shorter last one. Assumes nothing.
+-- `blank::blank_before` counts the groups before the first that differs, with a shorter last one. Assumes nothing.
 use Prim.Native.Nat.{_/_}
 use mathlib.Core.Path.{sym, _∙_}
 use native.Mathlib.Omega.{arith}
 use denote.Ref.{now}
 use lib.ListN.{length}
-use Rattle.flash.proofs.Blank.{leads, before-whole, before-one, before-none, before-stops, before-all, before-rest}
+use Rattle.blank.proofs.Blank.{leads, before-whole, before-one, before-none, before-stops, before-all, before-rest}
 use borrow.Author.Needs.{needs}
-use Rattle.flash.proofs.blank_before.Statement.{statement}
-use Rattle.flash.proofs.blank_before.Tie as tie
+use Rattle.blank.proofs.blank_before.Statement.{statement}
+use Rattle.blank.proofs.blank_before.Tie as tie
 
 leading-requires : tie.Need-leading-requires
 leading-requires c κs = search needs
