@@ -65,7 +65,7 @@ fn see_all(image: &[u8], segments: usize, slots: usize) -> [Shown; MOST_SEGMENTS
     let mut table = [none; MOST_SEGMENTS];
     let mut i: usize = 0;
     while i < segments {
-        let s = segments::see_segment(image, segments, slots, i);
+        let s = summary::see_segment(image, segments, slots, i);
         table[i] = begin(s);
         i += 1;
     }
@@ -123,7 +123,7 @@ fn largest(left: &[usize; MOST_SEGMENTS], segments: usize) -> usize
     let mut most: usize = 0;
     let mut i: usize = 0;
     while i < segments {
-        most = segments::larger(most, left[i]);
+        most = summary::larger(most, left[i]);
         i += 1;
     }
     most

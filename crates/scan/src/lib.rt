@@ -61,7 +61,7 @@ fn top_number(next: usize) -> SegmentNumber
     requires { ⌜ next ≤ 4294967296 ⌝ }
     ensures { λ r. ⌜ r .0 ≡ next - 1 ⌝ }
 {
-    SegmentNumber(segments::less(next, 1) as u32)
+    SegmentNumber(summary::less(next, 1) as u32)
 }
 
 // The place of a slot of the segment with a number.
@@ -146,8 +146,8 @@ fn survey_slots(image: &[u8], segments: usize, slots: usize, seen: Headers, exam
         return clean_survey(exam);
     }
     if sums::torn_within(sum, most) {
-        let number = segments::less(seen.next, 1);
-        let place = slot_place(segments, slots, number, segments::less(sum.written, 1));
+        let number = summary::less(seen.next, 1);
+        let place = slot_place(segments, slots, number, summary::less(sum.written, 1));
         return Surveyed::TornSlot { place };
     }
     if sums::twin_within(sum, most + 1) {

@@ -1,14 +1,14 @@
--- `segments::see_segment` shows the segment that the image has at an index. Assumes nothing.
+-- `summary::see_segment` shows the segment that the image has at an index. Assumes nothing.
 use mathlib.Core.Path.{sym, ap, _∙_}
 use mathlib.Core.Bool.{true, false}
 use native.Mathlib.Omega.{arith}
 use denote.Ref.{now}
 use Rattle.judge.specs.declared.SegmentState.{SegmentState}
 use Rattle.judge.specs.Heads.{bareOf}
-use Rattle.segments.proofs.Laws.Heads.{segment-inside, seen-in-use, seen-unused}
+use Rattle.summary.proofs.Laws.{segment-inside, seen-in-use, seen-unused}
 use borrow.Author.Needs.{needs}
-use Rattle.segments.proofs.see_segment.Statement.{statement}
-use Rattle.segments.proofs.see_segment.Tie as tie
+use Rattle.summary.proofs.see_segment.Statement.{statement}
+use Rattle.summary.proofs.see_segment.Tie as tie
 
 add-at : tie.Need-add-at
 add-at c = search needs

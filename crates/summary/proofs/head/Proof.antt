@@ -1,8 +1,8 @@
--- `segments::head` stands for the segment that it says. Assumes nothing.
+-- `summary::head` stands for the segment that it says. Assumes nothing.
 use Rattle.judge.specs.Heads.{bare}
 use mathlib.Core.Path.{refl}
-use Rattle.segments.proofs.head.Statement.{statement}
-use Rattle.segments.proofs.head.Tie as tie
+use Rattle.summary.proofs.head.Statement.{statement}
+use Rattle.summary.proofs.head.Tie as tie
 
 returns : tie.Need-returns
 unfolding bare

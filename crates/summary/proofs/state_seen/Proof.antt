@@ -1,8 +1,8 @@
--- `segments::state_seen` is the state of the definition. Assumes nothing.
+-- `summary::state_seen` is the state of the definition. Assumes nothing.
 use Rattle.judge.specs.Heads.{stateSeen}
 use borrow.Author.Tests.{eq-eqb, ne-eqb}
-use Rattle.segments.proofs.state_seen.Statement.{statement}
-use Rattle.segments.proofs.state_seen.Tie as tie
+use Rattle.summary.proofs.state_seen.Statement.{statement}
+use Rattle.summary.proofs.state_seen.Tie as tie
 
 returns : tie.Need-returns
 unfolding stateSeen

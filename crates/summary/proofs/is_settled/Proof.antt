@@ -1,8 +1,8 @@
--- `segments::is_settled` is the test of the definition. Assumes nothing.
+-- `summary::is_settled` is the test of the definition. Assumes nothing.
 use mathlib.Core.Path.{sym, _∙_}
 use borrow.Author.Needs.{needs}
-use Rattle.segments.proofs.is_settled.Statement.{statement}
-use Rattle.segments.proofs.is_settled.Tie as tie
+use Rattle.summary.proofs.is_settled.Statement.{statement}
+use Rattle.summary.proofs.is_settled.Tie as tie
 
 is-owing-requires : tie.Need-is-owing-requires
 is-owing-requires c κs = search needs

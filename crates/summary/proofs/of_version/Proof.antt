@@ -1,11 +1,11 @@
--- `segments::of_version` is the test of the definition. Assumes nothing.
+-- `summary::of_version` is the test of the definition. Assumes nothing.
 use mathlib.Core.Path.{sym, _∙_}
 use mathlib.Core.Bool.{true, false, cond}
 use Rattle.judge.specs.Heads.{bare}
-use Rattle.segments.proofs.Laws.Heads.{version-used, version-unused}
+use Rattle.summary.proofs.Laws.{version-used, version-unused}
 use borrow.Author.Needs.{needs}
-use Rattle.segments.proofs.of_version.Statement.{statement}
-use Rattle.segments.proofs.of_version.Tie as tie
+use Rattle.summary.proofs.of_version.Statement.{statement}
+use Rattle.summary.proofs.of_version.Tie as tie
 
 is-in-use-requires : tie.Need-is-in-use-requires
 is-in-use-requires c κs = search needs

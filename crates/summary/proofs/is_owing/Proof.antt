@@ -1,9 +1,9 @@
--- `segments::is_owing` is the test of the definition. Assumes nothing.
+-- `summary::is_owing` is the test of the definition. Assumes nothing.
 use Rattle.model.specs.State.{isOwing}
 use Rattle.judge.specs.Heads.{bare, bareOf}
 use borrow.Author.Needs.{needs}
-use Rattle.segments.proofs.is_owing.Statement.{statement}
-use Rattle.segments.proofs.is_owing.Tie as tie
+use Rattle.summary.proofs.is_owing.Statement.{statement}
+use Rattle.summary.proofs.is_owing.Tie as tie
 
 enum-told : tie.Need-enum-told
 enum-told c = search needs

@@ -1,4 +1,4 @@
--- `segments::number_after` is the number of the definition. Assumes nothing.
+-- `summary::number_after` is the number of the definition. Assumes nothing.
 use Rattle.model.specs.State.{numberAfter}
 use Rattle.judge.specs.Heads.{bare, bareOf}
 use native.Mathlib.Omega.{arith}
@@ -6,8 +6,8 @@ use Rattle.model.specs.State.{numberAfter}
 use Rattle.judge.specs.Heads.{bare, bareOf}
 use native.Mathlib.Omega.{arith}
 use borrow.Author.Needs.{needs}
-use Rattle.segments.proofs.number_after.Statement.{statement}
-use Rattle.segments.proofs.number_after.Tie as tie
+use Rattle.summary.proofs.number_after.Statement.{statement}
+use Rattle.summary.proofs.number_after.Tie as tie
 
 enum-told : tie.Need-enum-told
 enum-told c = search needs

@@ -1,8 +1,8 @@
--- `segments::shows_blank` is the test of the definition. Assumes nothing.
+-- `summary::shows_blank` is the test of the definition. Assumes nothing.
 use mathlib.Core.Path.{sym, _∙_}
 use borrow.Author.Needs.{needs}
-use Rattle.segments.proofs.shows_blank.Statement.{statement}
-use Rattle.segments.proofs.shows_blank.Tie as tie
+use Rattle.summary.proofs.shows_blank.Statement.{statement}
+use Rattle.summary.proofs.shows_blank.Tie as tie
 
 is-in-use-requires : tie.Need-is-in-use-requires
 is-in-use-requires c κs = search needs
