@@ -1,11 +1,9 @@
 // The state of an image and what requests need of it, decided in one pass.
-mod sums;
-
 use find::Found;
 use judge::Headers;
-use judge::Sum;
 use model::SegmentNumber;
 use model::SlotPlace;
+use sums::Exam;
 ghost use mathlib.Core.Path.{_≡_};
 ghost use mathlib.Core.Bool.{true, false};
 ghost use Prim.Native.Nat.{_+_, _-_, _*_, _<_, _≤_};
@@ -17,13 +15,6 @@ ghost use Rattle.flash.specs.Pages.{Sized};
 ghost use Rattle.find.specs.Search.{foundIn};
 ghost use Rattle.judge.specs.Tally.{mostWritten};
 ghost use Rattle.scan.specs.Surveys.{surveyOf, owingIn, tornIn, cleanIn, oldIn, Looked};
-
-// The segments in use that a table of summaries shows, and their rows added up.
-struct Exam {
-    first: usize,
-    used: usize,
-    sum: Sum,
-}
 
 // The state of an image, with what a request needs in that state.
 pub enum Surveyed {
