@@ -1,7 +1,5 @@
 // The segments of an image as an account shows them, and its live slots by block number, found in one walk over the
 // segments in use, from the top down.
-mod slots;
-
 use index::Counts;
 use index::Shown;
 use judge::SegmentState;
@@ -27,7 +25,7 @@ ghost use Rattle.listing.specs.Walk.{largest, hidden};
 fn no_counts() -> Counts
     ensures { λ r. ⌜ r ≡ noCounts ⌝ }
 {
-    slots::counts_of(0, 0, 0, 0)
+    linking::counts_of(0, 0, 0, 0)
 }
 
 // A segment before its slots are counted.
@@ -174,7 +172,7 @@ fn list_segments(
     let mut top = largest(&left, segments);
     while top > 0 {
         let index = (top - 1) % segments;
-        let counts = slots::list_row(image, index * (slots + 1), slots, firsts, nexts, lengths);
+        let counts = linking::list_row(image, index * (slots + 1), slots, firsts, nexts, lengths);
         let x = shown[index];
         shown[index] = count(x, counts);
         left[index] = 0;

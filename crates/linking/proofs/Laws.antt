@@ -17,7 +17,7 @@ use Rattle.rows.proofs.Laws.Rows.{kinds-next}
 use Rattle.account_text.specs.Account.{LiveSlot, liveAt, liveFrom}
 use Rattle.index.specs.declared.Counts.{Counts}
 use Rattle.index.specs.Shows.{noCounts, countsOf}
-use Rattle.listing.specs.Walk.{countKind, countRow, Few}
+use Rattle.linking.specs.Counts.{countKind, countRow, Few}
 use Rattle.index.specs.Lives.{short-byte}
 use Rattle.index.specs.Tables.{Tables, link, linkKind, Brief, linkRow, linked, pageOf}
 

@@ -7,7 +7,7 @@ ghost use Prim.Native.Nat.{_+_, _*_, _<_, _≤_};
 ghost use lib.ListN.{length};
 ghost use Rattle.model.specs.Chip.{mostSlots};
 ghost use Rattle.judge.specs.Rows.{kindsAt};
-ghost use Rattle.listing.specs.Walk.{countKind, countRow, Few};
+ghost use Rattle.linking.specs.Counts.{countKind, countRow, Few};
 ghost use Rattle.index.specs.Tables.{tables, mostPages, link, linkKind, linkRow, Brief};
 
 fn wide(x: u16) -> usize

@@ -1,4 +1,4 @@
--- `listing::slots::list_row`. The invariant: the slots behind those that are left were looked at. Assumes nothing.
+-- `linking::list_row`. The invariant: the slots behind those that are left were looked at. Assumes nothing.
 use Prim.Native.Nat.{ℕ, _+_, _-_, _*_, _≤_}
 use mathlib.Core.Path.{_≡_, sym, ap, _∙_, subst}
 use mathlib.Core.List.{List}
@@ -10,12 +10,12 @@ use Rattle.model.specs.declared.SlotKind.{SlotKind}
 use Rattle.judge.specs.Rows.{kindsAt}
 use Rattle.rows.proofs.Laws.Rows.{page-part}
 use Rattle.index.specs.Shows.{noCounts}
-use Rattle.listing.specs.Walk.{countKind, countRow, Few}
+use Rattle.linking.specs.Counts.{countKind, countRow, Few}
 use Rattle.index.specs.Tables.{tables, linkKind, Brief, linkRow}
-use Rattle.listing.proofs.Laws.Rows.{row-none, row-more, count-few, brief}
+use Rattle.linking.proofs.Laws.{row-none, row-more, count-few, brief}
 use borrow.Author.Needs.{needs}
-use Rattle.listing.proofs.slots.list_row.Statement.{statement}
-use Rattle.listing.proofs.slots.list_row.Tie as tie
+use Rattle.linking.proofs.list_row.Statement.{statement}
+use Rattle.linking.proofs.list_row.Tie as tie
 
 abbrev Inv-loop : tie.InvT-loop
 Inv-loop image header slots firsts₀ nexts₀ lengths₀ counts₀ left₀ firsts nexts lengths counts left =

@@ -1,8 +1,8 @@
--- `listing::slots::link`. Assumes nothing.
+-- `linking::link`. Assumes nothing.
 use Rattle.index.specs.Tables.{link}
 use borrow.Author.Needs.{needs}
-use Rattle.listing.proofs.slots.link.Statement.{statement}
-use Rattle.listing.proofs.slots.link.Tie as tie
+use Rattle.linking.proofs.link.Statement.{statement}
+use Rattle.linking.proofs.link.Tie as tie
 
 wide-requires : tie.Need-wide-requires
 wide-requires c κs = search needs

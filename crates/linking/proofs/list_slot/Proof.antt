@@ -1,10 +1,10 @@
--- `listing::slots::list_slot`, by the kind of the slot. Assumes nothing.
+-- `linking::list_slot`, by the kind of the slot. Assumes nothing.
 use mathlib.Core.Path.{refl, subst}
-use Rattle.listing.specs.Walk.{countKind}
+use Rattle.linking.specs.Counts.{countKind}
 use Rattle.index.specs.Tables.{linkKind, Brief}
 use borrow.Author.Needs.{needs}
-use Rattle.listing.proofs.slots.list_slot.Statement.{statement}
-use Rattle.listing.proofs.slots.list_slot.Tie as tie
+use Rattle.linking.proofs.list_slot.Statement.{statement}
+use Rattle.linking.proofs.list_slot.Tie as tie
 
 enum-told : tie.Need-enum-told
 enum-told c = search needs
