@@ -58,8 +58,8 @@ fn test_head(tests: HeadTests, s: Summary) -> HeadTests
     ensures { λ r. ⌜ (r ≡ testHead tests (bare s)) × (r .counts .used ≤ tests .counts .used + 1) × (r .counts .next ≤ 4294967296) ⌝ }
 {
     let counts = segments::count_one(tests.counts, s);
-    let none_owing = still(tests.none_owing, segments::is_owing(s));
-    let others_blank = still(tests.others_blank, segments::is_invalid(s));
+    let none_owing = still(tests.none_owing, summary::is_owing(s));
+    let others_blank = still(tests.others_blank, summary::is_invalid(s));
     HeadTests {
         counts,
         none_owing,
@@ -79,7 +79,7 @@ fn test_heads(image: &[u8], segments: usize, slots: usize) -> HeadTests
     };
     let mut i: usize = 0;
     while i < segments {
-        let s = segments::see_segment(image, segments, slots, i);
+        let s = summary::see_segment(image, segments, slots, i);
         tests = test_head(tests, s);
         i += 1;
     }
@@ -95,8 +95,8 @@ fn numbers_follow(image: &[u8], segments: usize, slots: usize, first: usize, use
     let mut k: usize = 0;
     while k < used {
         let number = first + k;
-        let s = segments::see_segment(image, segments, slots, number % segments);
-        if segments::number_after(s) != number + 1 {
+        let s = summary::see_segment(image, segments, slots, number % segments);
+        if summary::number_after(s) != number + 1 {
             return false;
         }
         k += 1;
@@ -148,7 +148,7 @@ fn see_heads(image: &[u8], segments: usize, slots: usize) -> HeadsTold
     let tests = test_heads(image, segments, slots);
     let counts = tests.counts;
     let used = counts.used;
-    let first = segments::less(counts.next, used);
+    let first = summary::less(counts.next, used);
     let follow = numbers_follow(image, segments, slots, first, used);
     let place = head_place(tests, follow, segments);
     HeadsTold { first, used, place }

@@ -157,13 +157,13 @@ fn tally_fits(page: &[u8]) -> bool
     ensures { λ r. ⌜ r ≡ tallyFits (now (page .entry)) ⌝ }
 {
     if is_former(page) {
-        let rest = flash::blank_test(&page[FIELDS..]);
+        let rest = blank::blank_test(&page[FIELDS..]);
         return rest.blank;
     }
     if header_total(page) >= ERASE_LIMIT {
         return false;
     }
-    let between = flash::blank_test(&page[TOTAL_END..BITS]);
+    let between = blank::blank_test(&page[TOTAL_END..BITS]);
     between.blank
 }
 

@@ -1,7 +1,5 @@
 // The segments of an image as an account shows them, and its live slots by block number, found in one walk over the
 // segments in use, from the top down.
-mod slots;
-
 use index::Counts;
 use index::Shown;
 use judge::SegmentState;
@@ -27,7 +25,7 @@ ghost use Rattle.listing.specs.Walk.{largest, hidden};
 fn no_counts() -> Counts
     ensures { λ r. ⌜ r ≡ noCounts ⌝ }
 {
-    slots::counts_of(0, 0, 0, 0)
+    linking::counts_of(0, 0, 0, 0)
 }
 
 // A segment before its slots are counted.
@@ -65,7 +63,7 @@ fn see_all(image: &[u8], segments: usize, slots: usize) -> [Shown; MOST_SEGMENTS
     let mut table = [none; MOST_SEGMENTS];
     let mut i: usize = 0;
     while i < segments {
-        let s = segments::see_segment(image, segments, slots, i);
+        let s = summary::see_segment(image, segments, slots, i);
         table[i] = begin(s);
         i += 1;
     }
@@ -123,7 +121,7 @@ fn largest(left: &[usize; MOST_SEGMENTS], segments: usize) -> usize
     let mut most: usize = 0;
     let mut i: usize = 0;
     while i < segments {
-        most = segments::larger(most, left[i]);
+        most = summary::larger(most, left[i]);
         i += 1;
     }
     most
@@ -174,7 +172,7 @@ fn list_segments(
     let mut top = largest(&left, segments);
     while top > 0 {
         let index = (top - 1) % segments;
-        let counts = slots::list_row(image, index * (slots + 1), slots, firsts, nexts, lengths);
+        let counts = linking::list_row(image, index * (slots + 1), slots, firsts, nexts, lengths);
         let x = shown[index];
         shown[index] = count(x, counts);
         left[index] = 0;

@@ -20,7 +20,7 @@ use Rattle.mounted.proofs.Laws.Refusals.{passed}
 use Rattle.model.specs.declared.Performed.{Performed}
 use Rattle.model.specs.declared.Located.{Located}
 use Rattle.bridge.specs.Lengths.{few-done, read-small}
-use Rattle.flash.proofs.Blank.{groups-most}
+use Rattle.blank.proofs.Blank.{groups-most}
 use Rattle.text.specs.declared.Printed.{Printed}
 use Rattle.text.specs.Buffer.{Print, printed}
 use Rattle.qanbillox.specs.Packed.{packed, Gives, packedRead, counts, Packs, Mounts, packedBlank, packedPrint, Prints}

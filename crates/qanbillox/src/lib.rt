@@ -1,6 +1,6 @@
 // The library's exports to C and Rust: the requests, with a table of places too, the blank test and the account, with what
 // comes back packed into one number.
-use flash::BlankTest;
+use blank::BlankTest;
 use model::BlockNumber;
 use model::Located;
 use model::Performed;
@@ -114,7 +114,7 @@ pub extern "C" fn qbx_read(image: &[u8], n: usize, b: usize, block: u16) -> u64
 pub extern "C" fn qbx_is_blank(bytes: &[u8]) -> u64
     ensures { λ r. ⌜ r ≡ packedBlank (now (bytes .entry)) ⌝ }
 {
-    packed_blank(flash::blank_test(bytes))
+    packed_blank(blank::blank_test(bytes))
 }
 
 #[no_mangle]

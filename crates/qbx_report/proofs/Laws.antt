@@ -34,10 +34,10 @@ use Rattle.judge.specs.Rows.{kindsAt, slotsAt}
 use Rattle.judge.specs.Parts.{headerOffset, slotsOffset, segmentSeen, segment-seen}
 use Rattle.rows.proofs.Laws.Rows.{kinds-next, page-part}
 use Rattle.account_text.specs.Account.{unseen, shownIn, shown}
-use Rattle.qbx_says.specs.declared.Condition.{Condition}
-use Rattle.qbx_says.specs.declared.Condition.the-variants.{Clean, UnfinishedA, UnfinishedB, UnfinishedC, UnfinishedD, Damaged}
-use Rattle.qbx_says.proofs.Condition.{the-type}
-use Rattle.qbx_says.specs.declared.TopSeen.the-variants.{Missing, Version1, Version2}
+use Rattle.qbx_state.specs.declared.Condition.{Condition}
+use Rattle.qbx_state.specs.declared.Condition.the-variants.{Clean, UnfinishedA, UnfinishedB, UnfinishedC, UnfinishedD, Damaged}
+use Rattle.qbx_state.proofs.Condition.{the-type}
+use Rattle.qbx_state.specs.declared.TopSeen.the-variants.{Missing, Version1, Version2}
 use Rattle.qbx_report.specs.declared.Census.{Census}
 use Rattle.qbx_report.specs.Census.{conditionOf, asideIn, setAside, total, counted, countKinds, oneMore, countSegment, countSegments, censusOf, versionTold, topTold}
 

@@ -10,11 +10,11 @@ use Rattle.model.specs.State.{Segment, blank, invalid, inUse, nextNumber, nextI
 use Rattle.model.specs.declared.SlotKind.{SlotKind}
 use Rattle.model.specs.declared.SlotKind.the-variants.{Empty, Torn, Live, Dead, Cut, Wrong}
 use Rattle.account_text.specs.Account.{unseen, shown}
-use Rattle.qbx_says.specs.declared.Condition.{Condition}
-use Rattle.qbx_says.specs.declared.Condition.the-variants.{Clean, UnfinishedA, UnfinishedB, UnfinishedC, UnfinishedD, Damaged}
-use Rattle.qbx_says.specs.declared.TopSeen.{TopSeen}
-use Rattle.qbx_says.specs.declared.TopSeen.the-variants.{Missing, Version1, Version2}
-use Rattle.qbx_says.specs.declared.Report.{Report}
+use Rattle.qbx_state.specs.declared.Condition.{Condition}
+use Rattle.qbx_state.specs.declared.Condition.the-variants.{Clean, UnfinishedA, UnfinishedB, UnfinishedC, UnfinishedD, Damaged}
+use Rattle.qbx_state.specs.declared.TopSeen.{TopSeen}
+use Rattle.qbx_state.specs.declared.TopSeen.the-variants.{Missing, Version1, Version2}
+use Rattle.qbx_state.specs.declared.Report.{Report}
 use Rattle.qbx_report.specs.declared.Census.{Census}
 
 unfoldable pub conditionOf : State → Condition

@@ -2,9 +2,9 @@
 use header::HeaderSeen;
 use model::SegmentNumber;
 use model::SlotKind;
-use qbx_says::Condition;
-use qbx_says::Report;
-use qbx_says::TopSeen;
+use qbx_state::Condition;
+use qbx_state::Report;
+use qbx_state::TopSeen;
 use scan::Surveyed;
 ghost use mathlib.Core.Path.{_≡_};
 ghost use mathlib.Core.Bool.{true};

@@ -1,21 +1,16 @@
--- What the program says: an answer with its steps, what is wrong with a command, the state of an image.
+-- What the program says: an answer with its steps, what is wrong with a command.
 use Prim.Native.Nat.{ℕ}
-use mathlib.Core.Bool.{Bool, cond}
+use mathlib.Core.Bool.{cond}
 use mathlib.Core.List.{List, [], _++_}
 use lib.Dec.{eqb}
 use Rattle.model.specs.declared.Answer.{Answer}
-use Rattle.model.specs.declared.Answer.the-variants.{Done, Size, Number, Length, Damaged as AnswerDamaged, Unfinished, Absent, Full, Worn, Cut, ShortTable, FormerVersion, ShortBuffer}
+use Rattle.model.specs.declared.Answer.the-variants.{Done, Size, Number, Length, Damaged, Unfinished, Absent, Full, Worn, Cut, ShortTable, FormerVersion, ShortBuffer}
 use Rattle.model.specs.Answers.{codeOf}
 use Rattle.model.specs.Chip.{inRange, imageLength}
 use Rattle.text.specs.Text.{text}
 use Rattle.text.specs.Decimal.{decimal}
 use Rattle.qbx_words.specs.declared.Complaint.{Complaint}
 use Rattle.qbx_words.specs.declared.Complaint.the-variants.{Segments, Slots, NoVerb, Block, NoOption, Budget}
-use Rattle.qbx_says.specs.declared.Condition.{Condition}
-use Rattle.qbx_says.specs.declared.Condition.the-variants.{Clean, UnfinishedA, UnfinishedB, UnfinishedC, UnfinishedD, Damaged}
-use Rattle.qbx_says.specs.declared.TopSeen.{TopSeen}
-use Rattle.qbx_says.specs.declared.TopSeen.the-variants.{Missing, Version1, Version2}
-use Rattle.qbx_says.specs.declared.Report.{Report}
 
 -- ---- answers
 
@@ -29,7 +24,7 @@ reason Done = []
 reason Size = text " size"
 reason Number = text " number"
 reason Length = text " length"
-reason AnswerDamaged = text " damaged"
+reason Damaged = text " damaged"
 reason Unfinished = text " unfinished"
 reason Absent = text " absent"
 reason Full = text " full"
@@ -74,30 +69,3 @@ complaintText Budget = text "qbx: STEPS is not a number\n"
 -- as "qbx: an image of 16711680 bytes needs a stack of 24576 KiB, and 8192 KiB are allowed: raise it with ulimit -s"
 unfoldable pub stackLine : ℕ → ℕ → ℕ → List ℕ
 stackLine bytes needed allowed = text "qbx: an image of " ++ decimal bytes ++ (text " bytes needs a stack of " ++ decimal needed) ++ (text " KiB, and " ++ decimal allowed) ++ text " KiB are allowed: raise it with ulimit -s\n"
-
--- ---- the state of an image
-
-unfoldable pub conditionText : Condition → List ℕ
-conditionText Clean = text "clean"
-conditionText UnfinishedA = text "unfinished (a)"
-conditionText UnfinishedB = text "unfinished (b)"
-conditionText UnfinishedC = text "unfinished (c)"
-conditionText UnfinishedD = text "unfinished (d)"
-conditionText Damaged = text "damaged"
-
-unfoldable pub slotsText : ℕ → ℕ → ℕ → ℕ → List ℕ
-slotsText live dead cut empty = (text ", slots live " ++ decimal live) ++ (text ", dead " ++ decimal dead) ++ (text ", cut " ++ decimal cut) ++ (text ", empty " ++ decimal empty)
-
--- version 2 with its tally, as ", version 2, tally 3"
-unfoldable pub tallyText : ℕ → Bool → List ℕ
-tallyText tally «no_bit_left» = (text ", version 2, tally " ++ decimal tally) ++ cond «no_bit_left» (text ", no bit left") []
-
-unfoldable pub topText : TopSeen → List ℕ
-topText Missing = []
-topText Version1 = text ", version 1"
-topText (Version2 tally «no_bit_left») = tallyText tally «no_bit_left»
-
--- as "clean: segments in use 2, slots live 5, dead 3, cut 0, empty 22, version 2, tally 0"
-unfoldable pub reportText : Report → List ℕ
-reportText r =
-    conditionText (r .condition) ++ (text ": segments in use " ++ decimal (r .segments)) ++ slotsText (r .live) (r .dead) (r .cut) (r .empty) ++ topText (r .top) ++ text "\n"

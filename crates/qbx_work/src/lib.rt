@@ -2,7 +2,7 @@
 // the answer said.
 use model::Answer;
 use model::Performed;
-use qbx_says::Line;
+use qbx_lines::Line;
 use qbx_words::Command;
 use qbx_words::Complaint;
 use qbx_words::Verb;
@@ -12,7 +12,7 @@ ghost use Prim.Native.Nat.{_<_, _≤_};
 ghost use lib.ListN.{length};
 ghost use Rattle.request.specs.Request.{sizeOf};
 ghost use Rattle.qbx_words.specs.Command.{prints};
-ghost use Rattle.qbx_says.specs.Lines.{mostLine};
+ghost use Rattle.qbx_lines.specs.Lines.{mostLine};
 
 // Says a line.
 fn print(fd: i32, line: Line)
@@ -165,7 +165,7 @@ fn check(image: &[u8], command: Command, there: u64, out: i32) {
     }
     print(
         out,
-        qbx_says::say_report(qbx_report::report_on(image, segments, slots)),
+        qbx_state::say_report(qbx_report::report_on(image, segments, slots)),
     );
 }
 

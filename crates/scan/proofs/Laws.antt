@@ -1,3 +1,2 @@
-pub mod Gather
 pub mod Surveys
 pub mod Told

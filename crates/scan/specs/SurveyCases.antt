@@ -12,7 +12,8 @@ use Rattle.model.specs.Steps.{slotAt, topRow, compactions}
 use Rattle.model.specs.Laws.Ring.{slots-length}
 use Rattle.model.specs.Laws.Segments.{segments-length}
 use Rattle.judge.specs.declared.Sum.{Sum}
-use Rattle.scan.specs.declared.Exam.{Exam}
+use Rattle.sums.specs.declared.Exam.{Exam}
+use Rattle.sums.specs.Exams.{examOf}
 use Rattle.scan.specs.declared.Surveyed.the-variants.{Clean, TornSegment, ErasePending, TornSlot, OldSlot, Damaged}
 use Rattle.judge.specs.Endings.{inOrder, endsTorn, endsTwin}
 use Rattle.judge.specs.Cases.{frame, mendedState, stateBy, state-by, frame-ring, view-top, view-block}
@@ -20,7 +21,7 @@ use Rattle.judge.specs.Heads.{frameOf}
 use Rattle.judge.specs.Tally.{badSum}
 use Rattle.judge.specs.Verdict.{orderly, tornWithin, twinWithin, verdict, Told}
 use Rattle.find.specs.Search.{foundIn}
-use Rattle.scan.specs.Surveys.{surveyIn, mendIn, surveyOf, examOf}
+use Rattle.scan.specs.Surveys.{surveyIn, mendIn, surveyOf}
 use Rattle.scan.specs.SurveyLaws.{Within, within-same, within-blanked, within-settled, exam-told, exam-sum, exam-orderly, exam-verdict}
 
 module _ (N B : ℕ) (s : Image) (some : 0 < N) where

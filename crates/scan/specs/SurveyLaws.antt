@@ -26,7 +26,7 @@ use Rattle.judge.specs.Heads.{frameOf}
 use Rattle.judge.specs.Tally.{noneMet, tallies, addRows, noSum, badSum}
 use Rattle.judge.specs.TallyLaws.{Narrow, NarrowRows}
 use Rattle.judge.specs.Verdict.{orderly, tornWithin, twinWithin, verdict, Told, told}
-use Rattle.scan.specs.Surveys.{sumOn, examOf}
+use Rattle.sums.specs.Exams.{sumOn, examOf}
 
 -- ---- block numbers on an image
 

@@ -5,21 +5,18 @@ use mathlib.Core.Bool.{cond, _||_, _&&_, not}
 use mathlib.Core.List.{List}
 use lib.ListN.{length, getD}
 use lib.Dec.{eqb}
-use Rattle.model.specs.Chip.{Image, mostSegments}
+use Rattle.model.specs.Chip.{Image}
 use Rattle.model.specs.State.{Segment, blank, segmentsOf, isInUse, isInvalid, nextNumber, nextIndex, viewOf, entriesIn, capacity, lastSlot, older, Exception, caseA, caseB, caseC, caseD, State, clean, unfinished, damaged, stateOf}
 use Rattle.model.specs.Steps.{slotAt, topRow, firstEmpty, compactions}
 use Rattle.flash.specs.Pages.{Sized}
-use Rattle.judge.specs.declared.Sum.{Sum}
-use Rattle.judge.specs.declared.Frame.{Frame}
 use Rattle.judge.specs.declared.Headers.{Headers}
-use Rattle.scan.specs.declared.Exam.{Exam}
+use Rattle.sums.specs.declared.Exam.{Exam}
+use Rattle.sums.specs.Exams.{examOf, Bounded}
 use Rattle.find.specs.declared.Found.{Found}
 use Rattle.find.specs.declared.Found.the-variants.{At, Nothing}
 use Rattle.scan.specs.declared.Surveyed.{Surveyed}
 use Rattle.scan.specs.declared.Surveyed.the-variants.{Clean, TornSegment, ErasePending, TornSlot, OldSlot, Damaged}
 use Rattle.judge.specs.Heads.{headersOf}
-use Rattle.judge.specs.Parts.{rowsOn}
-use Rattle.judge.specs.Tally.{noneMet, tallies, mostWritten, addRows, noSum, badSum}
 use Rattle.judge.specs.Verdict.{orderly}
 
 -- ---- a survey
@@ -60,13 +57,7 @@ survey-state N B l = go (stateOf N B l)
     go (unfinished caseD) = unfold surveyIn mendIn stateIn in refl
     go damaged = unfold surveyIn stateIn in refl
 
--- ---- the segments in use examined: their rows are looked at only if conditions 1 to 4 hold
-
-unfoldable pub sumOn : Image → ℕ → ℕ → ℕ → ℕ → Sum
-sumOn s N B u n = addRows (tallies (rowsOn s N B u n) noneMet) noSum
-
-unfoldable pub examOf : ℕ → ℕ → Image → Frame → Exam
-examOf N B s f = record { first = f .first; used = f .used; sum = cond (f .fine) (sumOn s N B (f .used) (f .first)) badSum }
+-- ---- by the segments in use, examined
 
 -- the survey where the top is owing, and where the segment after it is torn
 unfoldable pub owingIn : ℕ → ℕ → Headers → Exam → Surveyed
@@ -82,12 +73,6 @@ cleanIn e = Clean (record { 0 = e .first }) (e .used) (e .sum .live) (e .sum .wr
 unfoldable pub oldIn : Found → Surveyed
 oldIn (At p n) = OldSlot p
 oldIn Nothing = Damaged
-
--- the numbers of an exam fit
-pub record Bounded (e : Exam) : Type 0 where
-  pub whole : e .first + e .used ≤ 4294967296
-  pub used : e .used ≤ mostSegments
-  pub written : e .sum .written ≤ mostWritten
 
 -- the headers of an image of a right size, and the segments in use that they tell of, examined
 pub record Looked (N B : ℕ) (s : Image) (h : Headers) (e : Exam) : Type 0 where

@@ -1,11 +1,9 @@
 // The state of an image and what requests need of it, decided in one pass.
-mod sums;
-
 use find::Found;
 use judge::Headers;
-use judge::Sum;
 use model::SegmentNumber;
 use model::SlotPlace;
+use sums::Exam;
 ghost use mathlib.Core.Path.{_≡_};
 ghost use mathlib.Core.Bool.{true, false};
 ghost use Prim.Native.Nat.{_+_, _-_, _*_, _<_, _≤_};
@@ -17,13 +15,6 @@ ghost use Rattle.flash.specs.Pages.{Sized};
 ghost use Rattle.find.specs.Search.{foundIn};
 ghost use Rattle.judge.specs.Tally.{mostWritten};
 ghost use Rattle.scan.specs.Surveys.{surveyOf, owingIn, tornIn, cleanIn, oldIn, Looked};
-
-// The segments in use that a table of summaries shows, and their rows added up.
-struct Exam {
-    first: usize,
-    used: usize,
-    sum: Sum,
-}
 
 // The state of an image, with what a request needs in that state.
 pub enum Surveyed {
@@ -61,7 +52,7 @@ fn top_number(next: usize) -> SegmentNumber
     requires { ⌜ next ≤ 4294967296 ⌝ }
     ensures { λ r. ⌜ r .0 ≡ next - 1 ⌝ }
 {
-    SegmentNumber(segments::less(next, 1) as u32)
+    SegmentNumber(summary::less(next, 1) as u32)
 }
 
 // The place of a slot of the segment with a number.
@@ -146,8 +137,8 @@ fn survey_slots(image: &[u8], segments: usize, slots: usize, seen: Headers, exam
         return clean_survey(exam);
     }
     if sums::torn_within(sum, most) {
-        let number = segments::less(seen.next, 1);
-        let place = slot_place(segments, slots, number, segments::less(sum.written, 1));
+        let number = summary::less(seen.next, 1);
+        let place = slot_place(segments, slots, number, summary::less(sum.written, 1));
         return Surveyed::TornSlot { place };
     }
     if sums::twin_within(sum, most + 1) {

@@ -1,172 +1,20 @@
-// The segments by their headers, and the tests that need no more.
-use header::HeaderSeen;
-use judge::Ending;
+// All segments by their headers, and the tests that need no more.
 use judge::Frame;
 use judge::HeaderCounts;
 use judge::Headers;
-use judge::Row;
 use judge::SegmentState;
 use judge::Summary;
-use model::BlockNumber;
 use model::MOST_SEGMENTS;
 use model::SegmentNumber;
 ghost use mathlib.Core.Path.{_≡_};
-ghost use mathlib.Core.Bool.{cond, not, _&&_, _||_};
-ghost use Prim.Native.Nat.{_+_, _-_, _<_, _≤_, max};
-ghost use lib.ListN.{length, getD};
+ghost use mathlib.Core.Bool.{cond, _||_};
+ghost use Prim.Native.Nat.{_+_, _<_, _≤_};
+ghost use lib.ListN.{length};
 ghost use Rattle.model.specs.Chip.{mostSegments};
-ghost use Rattle.model.specs.State.{blank, isInUse, isInvalid, isOwing, numberAfter, ofVersion, segmentsOf, settled};
+ghost use Rattle.model.specs.State.{blank, isInvalid, isOwing, segmentsOf, settled};
 ghost use Rattle.flash.specs.Pages.{Sized};
-ghost use Rattle.judge.specs.Heads.{bareOf, bare, outline, heads, stateSeen, noCounts, countOne, mayBeFine, frameOf, headersBy, headersOf};
+ghost use Rattle.judge.specs.Heads.{bare, heads, noCounts, countOne, mayBeFine, frameOf, headersBy, headersOf};
 ghost use Rattle.judge.specs.Tally.{Ranged};
-
-// A segment before its slots are looked at.
-fn head(state: SegmentState, former: bool, number: SegmentNumber) -> Summary
-    ensures { λ r. ⌜ bare r ≡ bareOf state former (number .0) ⌝ }
-{
-    let row = Row {
-        live: 0,
-        dead: 0,
-        cut: 0,
-        ending: Ending::Full,
-        block: BlockNumber(0),
-    };
-    Summary {
-        number,
-        row,
-        state,
-        former,
-    }
-}
-
-fn state_seen(status: u8) -> SegmentState
-    ensures { λ r. ⌜ r ≡ stateSeen status ⌝ }
-{
-    if status == 0x9F {
-        SegmentState::Owing
-    } else {
-        SegmentState::InUse
-    }
-}
-
-// The segment at an index, by its header; one that is not in use is tested for blank as a whole.
-pub fn see_segment(image: &[u8], segments: usize, slots: usize, index: usize) -> Summary
-    requires { ⌜ Sized segments slots (length (now image)) × (index < segments) ⌝ }
-    ensures { λ r. ⌜ bare r ≡ outline (getD (segmentsOf segments slots (now (image .entry))) index blank) ⌝ }
-{
-    let at = index * (slots + 1) * 256;
-    let first = at + 256;
-    let seen = header::see_header(&image[at..first], segments, slots, index);
-    let HeaderSeen::InUse {
-        former,
-        status,
-        number,
-    } = seen
-    else {
-        let end = at + (slots + 1) * 256;
-        let whole = flash::blank_test(&image[at..end]);
-        if whole.blank {
-            return head(SegmentState::Blank, false, SegmentNumber(0));
-        }
-        return head(SegmentState::Invalid, false, SegmentNumber(0));
-    };
-    head(state_seen(status), former, number)
-}
-
-// One more than the number of a segment in use, or 0.
-pub fn number_after(s: Summary) -> usize
-    ensures { λ r. ⌜ (r ≡ numberAfter (bare s)) × (r ≤ 4294967296) ⌝ }
-{
-    let state = s.state;
-    let number = s.number;
-    match state {
-        SegmentState::Blank => 0,
-        SegmentState::Invalid => 0,
-        SegmentState::InUse => number.0 as usize + 1,
-        SegmentState::Owing => number.0 as usize + 1,
-    }
-}
-
-fn is_in_use(s: Summary) -> bool
-    ensures { λ r. ⌜ r ≡ isInUse (bare s) ⌝ }
-{
-    let state = s.state;
-    match state {
-        SegmentState::Blank => false,
-        SegmentState::Invalid => false,
-        SegmentState::InUse => true,
-        SegmentState::Owing => true,
-    }
-}
-
-pub fn is_invalid(s: Summary) -> bool
-    ensures { λ r. ⌜ r ≡ isInvalid (bare s) ⌝ }
-{
-    let state = s.state;
-    match state {
-        SegmentState::Blank => false,
-        SegmentState::Invalid => true,
-        SegmentState::InUse => false,
-        SegmentState::Owing => false,
-    }
-}
-
-pub fn is_owing(s: Summary) -> bool
-    ensures { λ r. ⌜ r ≡ isOwing (bare s) ⌝ }
-{
-    let state = s.state;
-    match state {
-        SegmentState::Blank => false,
-        SegmentState::Invalid => false,
-        SegmentState::InUse => false,
-        SegmentState::Owing => true,
-    }
-}
-
-// Whether a segment is not in use, or of this version: 1 if `former`, else 2.
-fn of_version(s: Summary, former: bool) -> bool
-    ensures { λ r. ⌜ r ≡ ofVersion (cond former 1 2) (bare s) ⌝ }
-{
-    if is_in_use(s) {
-        if former {
-            return s.former;
-        }
-        return !s.former;
-    }
-    true
-}
-
-// Whether a summary shows a blank segment.
-fn shows_blank(s: Summary) -> bool
-    ensures { λ r. ⌜ r ≡ not (isInUse (bare s) || isInvalid (bare s)) ⌝ }
-{
-    if is_in_use(s) {
-        return false;
-    }
-    !is_invalid(s)
-}
-
-// Whether a segment needs no mending: it is in use and not owing, or blank.
-fn is_settled(s: Summary) -> bool
-    ensures { λ r. ⌜ r ≡ (not (isOwing (bare s)) && not (isInvalid (bare s))) ⌝ }
-{
-    if is_owing(s) {
-        return false;
-    }
-    !is_invalid(s)
-}
-
-pub fn larger(a: usize, b: usize) -> usize
-    ensures { λ r. ⌜ r ≡ max a b ⌝ }
-{
-    if a < b { b } else { a }
-}
-
-pub fn less(a: usize, b: usize) -> usize
-    ensures { λ r. ⌜ r ≡ a - b ⌝ }
-{
-    if a < b { 0 } else { a - b }
-}
 
 // Before the first segment.
 pub fn none_counted() -> HeaderCounts
@@ -186,11 +34,11 @@ pub fn count_one(counts: HeaderCounts, s: Summary) -> HeaderCounts
     requires { ⌜ (counts .used < mostSegments) × (counts .next ≤ 4294967296) ⌝ }
     ensures { λ r. ⌜ (r ≡ countOne counts (bare s)) × (r .used ≤ counts .used + 1) × (r .next ≤ 4294967296) ⌝ }
 {
-    let next = larger(counts.next, number_after(s));
-    let settled = counts.settled && is_settled(s);
-    let all_version_1 = counts.all_version_1 && of_version(s, true);
-    let all_version_2 = counts.all_version_2 && of_version(s, false);
-    if is_in_use(s) {
+    let next = summary::larger(counts.next, summary::number_after(s));
+    let settled = counts.settled && summary::is_settled(s);
+    let all_version_1 = counts.all_version_1 && summary::of_version(s, true);
+    let all_version_2 = counts.all_version_2 && summary::of_version(s, false);
+    if summary::is_in_use(s) {
         return HeaderCounts {
             next,
             used: counts.used + 1,
@@ -239,7 +87,7 @@ fn see_frame(table: [Summary; MOST_SEGMENTS], segments: usize) -> Frame
         i += 1;
     }
     let used = counts.used;
-    let first = less(counts.next, used);
+    let first = summary::less(counts.next, used);
     if !may_be_fine(counts, segments) {
         return Frame {
             first,
@@ -251,7 +99,7 @@ fn see_frame(table: [Summary; MOST_SEGMENTS], segments: usize) -> Frame
     while k < used {
         let number = first + k;
         let index = number % segments;
-        if number_after(table[index]) != number + 1 {
+        if summary::number_after(table[index]) != number + 1 {
             return Frame {
                 first,
                 used,
@@ -273,11 +121,11 @@ fn see_frame(table: [Summary; MOST_SEGMENTS], segments: usize) -> Frame
 fn next_mended(s: Summary, top: Summary) -> Summary
     ensures { λ r. ⌜ bare r ≡ cond (isOwing (bare top) || isInvalid (bare s)) blank (bare s) ⌝ }
 {
-    if is_owing(top) {
-        return head(SegmentState::Blank, false, SegmentNumber(0));
+    if summary::is_owing(top) {
+        return summary::head(SegmentState::Blank, false, SegmentNumber(0));
     }
-    if is_invalid(s) {
-        return head(SegmentState::Blank, false, SegmentNumber(0));
+    if summary::is_invalid(s) {
+        return summary::head(SegmentState::Blank, false, SegmentNumber(0));
     }
     s
 }
@@ -287,8 +135,8 @@ fn settled(s: Summary) -> Summary
     ensures { λ r. ⌜ bare r ≡ settled (bare s) ⌝ }
 {
     let number = s.number;
-    if is_owing(s) {
-        return head(SegmentState::InUse, s.former, number);
+    if summary::is_owing(s) {
+        return summary::head(SegmentState::InUse, s.former, number);
     }
     s
 }
@@ -297,9 +145,9 @@ fn settled(s: Summary) -> Summary
 fn tell(next: usize, top: Summary, after: Summary, frame: Frame) -> Headers
     ensures { λ r. ⌜ r ≡ headersBy next (bare top) (bare after) frame ⌝ }
 {
-    let owing = is_owing(top);
-    let torn = is_invalid(after);
-    let blank = shows_blank(after);
+    let owing = summary::is_owing(top);
+    let torn = summary::is_invalid(after);
+    let blank = summary::shows_blank(after);
     Headers {
         next,
         owing,
@@ -314,18 +162,18 @@ pub fn see_headers(image: &[u8], segments: usize, slots: usize) -> Headers
     requires { ⌜ Sized segments slots (length (now image)) × (2 ≤ segments) ⌝ }
     ensures { λ r. ⌜ (r ≡ headersOf segments (segmentsOf segments slots (now (image .entry)))) × (r .next ≤ 4294967296) × Ranged (r .frame) ⌝ }
 {
-    let none = head(SegmentState::Blank, false, SegmentNumber(0));
+    let none = summary::head(SegmentState::Blank, false, SegmentNumber(0));
     let mut table = [none; MOST_SEGMENTS];
     let mut counts = none_counted();
     let mut i: usize = 0;
     while i < segments {
-        let s = see_segment(image, segments, slots, i);
+        let s = summary::see_segment(image, segments, slots, i);
         table[i] = s;
         counts = count_one(counts, s);
         i += 1;
     }
     let next = counts.next;
-    let top_index = less(next, 1) % segments;
+    let top_index = summary::less(next, 1) % segments;
     let after_index = next % segments;
     let top = table[top_index];
     let after = table[after_index];

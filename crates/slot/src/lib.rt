@@ -57,12 +57,12 @@ fn slot_fits(page: &[u8]) -> bool
     if block == 65535 {
         return false;
     }
-    let gap = flash::blank_test(&page[4..8]);
+    let gap = blank::blank_test(&page[4..8]);
     if !gap.blank {
         return false;
     }
     let end = 8 + length;
-    let rest = flash::blank_test(&page[end..]);
+    let rest = blank::blank_test(&page[end..]);
     rest.blank
 }
 
@@ -90,7 +90,7 @@ pub fn slot_kind(page: &[u8]) -> SlotKind
     if status == CUT {
         return SlotKind::Cut;
     }
-    let whole = flash::blank_test(page);
+    let whole = blank::blank_test(page);
     if whole.blank {
         SlotKind::Empty
     } else {

@@ -32,7 +32,7 @@ fn cleared_bits(bytes: &[u8]) -> usize
     requires { ⌜ length (now bytes) ≤ 256 ⌝ }
     ensures { λ r. ⌜ (r ≡ clearedBits (now (bytes .entry))) × (r ≤ 2048) ⌝ }
 {
-    let test = flash::blank_test(bytes);
+    let test = blank::blank_test(bytes);
     if test.blank {
         return 0;
     }

@@ -7,7 +7,7 @@ use borrow.Author.Needs.{needs}
 use denote.Ref.{now}
 use Rattle.model.specs.Chip.{mostSlots}
 use Rattle.judge.specs.Parts.{rowsOn}
-use Rattle.scan.proofs.Laws.Gather.{slots-inside}
+use Rattle.sums.proofs.Laws.{slots-inside}
 use Rattle.faults.specs.Tests.{look, noTests, testRows, rowsTested}
 use Rattle.faults.proofs.Laws.Slots.{next-live, rows-start, rows-turn, rows-end}
 use Rattle.faults.proofs.test_rows.Statement.{statement}

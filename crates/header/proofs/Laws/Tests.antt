@@ -15,7 +15,7 @@ use Rattle.model.specs.Lists.{same}
 use Rattle.model.specs.Chip.{Page, erased, eraseLimit, numberLimit}
 use Rattle.model.specs.Header.{numberBytes, inverted, value, opened, erasePending, compacted, statusInUse, Version, version1, version2, newVersion, isFormer, versionNumber, totalFits, tallyBytes, headerPage, headerStatus, headerNumber, headerVersion, oldIndex, headerInUse, isBlank}
 use Rattle.model.specs.Laws.Bytes.{same-refl}
-use Rattle.flash.proofs.Blank.{same-erased}
+use Rattle.blank.proofs.Blank.{same-erased}
 use Rattle.header.specs.Parts.{headerSeen, headerTotal, headerFields, tallyFits}
 use Rattle.header.specs.declared.HeaderSeen.the-variants.{InUse, NotInUse}
 

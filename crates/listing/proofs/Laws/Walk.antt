@@ -25,10 +25,11 @@ use Rattle.account_text.specs.Account.{LiveSlot, liveFrom, liveIn, liveSlots, s
 use Rattle.index.specs.declared.Counts.{Counts}
 use Rattle.index.specs.declared.Shown.{Shown}
 use Rattle.index.specs.Shows.{noCounts, countsOf, shownAs, shownOf, uncounted, counted, afterShown}
-use Rattle.listing.specs.Walk.{countRow, largest}
+use Rattle.listing.specs.Walk.{largest}
 use Rattle.index.specs.Tables.{Tables, mostPages, linkRow, linked, listOf}
 use Rattle.index.specs.Walks.{Held, some-next, held-shown, held-less, top-below, top-used, used-fewer, number-use}
-use Rattle.listing.proofs.Laws.Rows.{counts-of, row-linked, linked-append}
+use Rattle.linking.specs.Counts.{countRow}
+use Rattle.linking.proofs.Laws.{counts-of, row-linked, linked-append}
 use Rattle.listing.proofs.Laws.Shows.{largest-next, uncounted-all}
 
 kinds-of : (s : Image) (o c : ℕ) → kindsAt s o c ≡ map kindOf (slotsAt s o c)

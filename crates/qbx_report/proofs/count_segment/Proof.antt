@@ -2,7 +2,7 @@
 use mathlib.Core.Path.{_∙_}
 use native.Mathlib.Omega.{arith}
 use denote.Ref.{now}
-use Rattle.segments.proofs.Laws.Heads.{segment-inside}
+use Rattle.summary.proofs.Laws.{segment-inside}
 use Rattle.qbx_report.proofs.Laws.{segment-unused, segment-used}
 use borrow.Author.Needs.{needs}
 use Rattle.qbx_report.proofs.count_segment.Statement.{statement}

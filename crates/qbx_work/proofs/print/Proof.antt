@@ -3,7 +3,7 @@ use mathlib.Core.Path.{_≡_, sym}
 use native.Mathlib.Omega.{arith}
 use lib.ListN.{length}
 use lib.Seq.{length-take-le}
-use Rattle.qbx_says.specs.Lines.{mostLine}
+use Rattle.qbx_lines.specs.Lines.{mostLine}
 use borrow.Author.Needs.{needs}
 use Rattle.qbx_work.proofs.print.Statement.{statement}
 use Rattle.qbx_work.proofs.print.Tie as tie

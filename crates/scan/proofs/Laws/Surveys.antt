@@ -2,9 +2,9 @@
 use Prim.Native.Nat.{ℕ, _+_, _-_, _*_, _≤_, _<_}
 use mathlib.Core.Path.{_≡_, refl, sym, ap, ap₂, _∙_}
 use mathlib.Core.Bool.{Bool, true, false, cond, _||_, _&&_, not}
-use mathlib.Core.List.{List, map}
+use mathlib.Core.List.{List}
 use native.Mathlib.Omega.{arith}
-use lib.ListN.{length, getD, take}
+use lib.ListN.{length, getD}
 use lib.Dec.{eqb}
 use borrow.Author.Tests.{eq-eqb, ne-eqb, eqb-true, eqb-false}
 use Rattle.model.specs.Chip.{Image, rightSize}
@@ -14,20 +14,16 @@ use Rattle.model.specs.Laws.Chip.{size-facts}
 use Rattle.flash.specs.Pages.{Sized}
 use Rattle.flash.proofs.Pages.{sized}
 use Rattle.model.specs.declared.SlotPlace.{SlotPlace}
-use Rattle.judge.specs.declared.Row.{Row}
-use Rattle.judge.specs.declared.Summary.{Summary}
 use Rattle.judge.specs.declared.Sum.{Sum}
-use Rattle.judge.specs.declared.Frame.{Frame}
 use Rattle.judge.specs.declared.Headers.{Headers}
-use Rattle.scan.specs.declared.Exam.{Exam}
+use Rattle.sums.specs.declared.Exam.{Exam}
+use Rattle.sums.specs.Exams.{examOf, Bounded}
 use Rattle.scan.specs.declared.Surveyed.{Surveyed}
 use Rattle.scan.specs.declared.Surveyed.the-variants.{TornSegment, ErasePending, TornSlot, OldSlot, Damaged}
 use Rattle.judge.specs.Cases.{frame}
 use Rattle.judge.specs.Heads.{frameOf, headsMended, headersBy, headersOf}
-use Rattle.judge.specs.Parts.{rowsOn}
-use Rattle.judge.specs.Tally.{noneMet, tallies, summariesOf, rowOf, rows-kept, addRows, noSum, badSum}
 use Rattle.judge.specs.Verdict.{orderly, tornWithin, twinWithin}
-use Rattle.scan.specs.Surveys.{surveyOf, sumOn, examOf, owingIn, tornIn, cleanIn, oldIn, Bounded, Looked}
+use Rattle.scan.specs.Surveys.{surveyOf, owingIn, tornIn, cleanIn, oldIn, Looked}
 use Rattle.find.specs.Search.{foundIn}
 use Rattle.scan.specs.SurveyCases.{owing-few, owing-bad, owing-good, torn-bad, torn-good, framed-some, framed-orderly, framed-twin, framed-chain, exam-found, twin-held, slots-clean, slots-torn, slots-twin, slots-damaged}
 
@@ -39,21 +35,6 @@ tested t x e q = sym (q ∙ ap (λ (y : ℕ). t y x) e)
 old-found : (N B b : ℕ) (v : View) → holds b (entriesIn v) ≡ true → oldIn (foundIn N B (v .first) (v .slots) b) ≡ OldSlot (record { 0 = slotAt N B (placeOf b v .number) (placeOf b v .slot) * 256 })
 unfolding foundIn oldIn entriesIn placeOf
 old-found N B b v h = rw h
-
--- ---- the segments in use examined
-
-module _ (N B : ℕ) (s : Image) (f : Frame) where
-  pub exam-looked : (ring : List Summary) (r : Sum) → f .fine ≡ true → take (f .used) ring ≡ summariesOf (f .first) (tallies (rowsOn s N B (f .used) (f .first)) noneMet)
-      → r ≡ addRows (map rowOf (take (f .used) ring)) noSum → record { first = f .first; used = f .used; sum = r } ≡ examOf N B s f
-  unfolding examOf sumOn
-  exam-looked ring r t q a =
-      let z : r ≡ addRows (tallies (rowsOn s N B (f .used) (f .first)) noneMet) noSum =
-      a ∙ ap (λ (y : List Row). addRows y noSum) (ap (map rowOf) q ∙ rows-kept (f .first) (tallies (rowsOn s N B (f .used) (f .first)) noneMet)) in
-      rw (t, z)
-
-  pub exam-skipped : f .fine ≡ false → record { first = f .first; used = f .used; sum = badSum } ≡ examOf N B s f
-  unfolding examOf
-  exam-skipped t = rw t
 
 -- ---- by what the headers tell
 

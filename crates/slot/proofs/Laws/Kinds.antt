@@ -20,7 +20,7 @@ use Rattle.model.specs.declared.SlotKind.{SlotKind}
 use Rattle.model.specs.declared.SlotKind.the-variants.{Empty, Torn, Live, Dead, Cut, Wrong}
 use Rattle.model.proofs.SlotKind.{the-type}
 use Rattle.model.specs.Laws.Lists.{and-left}
-use Rattle.flash.proofs.Blank.{same-erased}
+use Rattle.blank.proofs.Blank.{same-erased}
 
 -- contents, then erased bytes to the end
 same-tail : (n : ℕ) (q : List ℕ) → n ≤ length q → same q (take n q ++ erased (length q - n)) ≡ isBlank (drop n q)
