@@ -1,25 +1,26 @@
 -- Laws of compaction: a page copied byte by byte; what a live slot, or any other, adds to the copying; the whole.
 use Prim.Native.Nat.{ℕ, zero, suc, _+_, _-_, _*_, _%_, _≤_, _<_}
 use mathlib.Core.Path.{_≡_, refl, sym, ap, ap₂, _∙_, subst}
+use mathlib.Core.Logic.{_≢_}
 use mathlib.Core.List.{List, [], _∷_, _++_, append-nil, map, flatMap}
 use native.Mathlib.Nat.{zero-add, mul-le-mul-right, suc-mul, mod-lt, mod-mod, mod-eq-of-lt}
 use native.Mathlib.Numerals.{add-one}
 use native.Mathlib.Omega.{arith}
 use lib.ListN.{length, getD, take, drop, set, replicate, drop-of-length-le}
-use lib.Seq.{paste, paste-suc, take-all, drop-cons, take-append-seam, getD-set-other}
+use lib.Seq.{paste, paste-suc, take-all, drop-cons, take-append-seam, getD-set-other, getD-take, getD-drop}
 use Rattle.model.specs.declared.BlockNumber.{BlockNumber}
 use Rattle.model.specs.declared.SlotKind.{SlotKind}
 use Rattle.model.specs.declared.SlotKind.the-variants.{Live}
 use Rattle.model.specs.Chip.{Image, Page, Step, program, erase, erased, run, pagesOf}
 use Rattle.model.specs.Header.{Version, newVersion}
-use Rattle.model.specs.Slot.{mostContents, slotPage, Slot, empty, torn, dead, cut, wrong, live, slotOf, kindOf, Entry, entryOf}
+use Rattle.model.specs.Slot.{written, mostContents, slotPage, Slot, empty, torn, dead, cut, wrong, live, slotOf, kindOf, Entry, entryOf}
 use Rattle.model.specs.State.{entries}
 use Rattle.model.specs.Steps.{onPage, headerAt, slotAt, writeSlot, copyEntries, settle}
 use Rattle.model.specs.Laws.Chunk.{chunk-part}
 use Rattle.model.specs.Laws.Pages.{InPage}
 use Rattle.model.specs.Laws.Segments.{parts, partOf, part-page, part-size, page-in, Only, only-run, InSegment, page-in-segment}
 use Rattle.model.specs.Laws.HeaderPage.{compactionHeader, compaction-in-page}
-use Rattle.model.specs.Laws.SlotPage.{live-facts, write-in-page}
+use Rattle.model.specs.Laws.SlotPage.{live-facts, live-status, write-in-page}
 use Rattle.flash.specs.Ran.{Ran, Programmed}
 use Rattle.flash.proofs.Laws.{_then_, ran-none, ran-length, ran-lent}
 use Rattle.flash.specs.Pages.{OnPageAt, Sized}
@@ -119,6 +120,16 @@ slot-read N B i j s at h k e =
 pub slots-inside : (N B i : ℕ) → i < N → firstSlot B i * 256 + B * 256 ≤ N * (B + 1) * 256
 slots-inside N B i h = omega (arith, mul-le-mul-right (B + 1) h, suc-mul i (B + 1))
 
+-- a slot that is not live holds nothing
+unwritten-none : (x : Slot) → ((b : ℕ) (c : List ℕ) → x ≡ live b c → ⊥) → entryOf x ≡ []
+unfolding entryOf
+unwritten-none empty h = refl
+unwritten-none torn h = refl
+unwritten-none dead h = refl
+unwritten-none cut h = refl
+unwritten-none wrong h = refl
+unwritten-none (live b c) h = absurd (h b c refl)
+
 -- ---- the loop that copies
 
 -- the loop's invariant, from segment i to segment t: whatever finishes the rest of the copying finishes the whole
@@ -162,10 +173,10 @@ module _ (N B i t budget : ℕ) (from s : Image) (left copied slot at : ℕ) (c 
       let e : page ≡ getD (partOf N B i from) (suc slot) [] = read ∙ slot-read N B i slot s at (c .source) more here ∙ ap (λ (y : List Page). getD y (suc slot) []) (c .pages) in
       entries-next N B i slot from (c .source) more ∙ ap (λ (y : Page). entryOf (slotOf y) ++ entriesFrom N B i from (slot + 1)) (sym e)
 
-  pub copying-skip : (k : SlotKind) → k ≡ kindOf (slotOf page) → Other k → Copying N B i t budget from s left copied (slot + 1)
-  copying-skip k e o =
+  copying-none : entryOf (slotOf page) ≡ [] → Copying N B i t budget from s left copied (slot + 1)
+  copying-none e =
       let a : entriesFrom N B i from slot ≡ entriesFrom N B i from (slot + 1) =
-      slot-adds ∙ ap (λ (y : List Entry). y ++ entriesFrom N B i from (slot + 1)) (other-holds (slotOf page) (subst Other e o)) in
+      slot-adds ∙ ap (λ (y : List Entry). y ++ entriesFrom N B i from (slot + 1)) e in
       record {
         finish = λ r u d. c .finish r u (rw (← a) at d);
         counted = omega (arith, ap length a, c .counted);
@@ -179,6 +190,16 @@ module _ (N B i t budget : ℕ) (from s : Image) (left copied slot at : ℕ) (c 
         reads = c .reads;
         writes = c .writes;
       }
+
+  pub copying-skip : (k : SlotKind) → k ≡ kindOf (slotOf page) → Other k → Copying N B i t budget from s left copied (slot + 1)
+  copying-skip k e o = copying-none (other-holds (slotOf page) (subst Other e o))
+
+  -- by its status alone
+  pub copying-unwritten : getD s at 0 ≢ written → Copying N B i t budget from s left copied (slot + 1)
+  copying-unwritten n =
+      let z : at + 0 ≡ at = omega arith in
+      let first : getD page 0 0 ≡ getD s at 0 = ap (λ (y : Page). getD y 0 0) read ∙ (getD-take (at + 256 - at) (drop at s) 0 0 (omega arith) ∙ rw z at (getD-drop at s 0 0)) in
+      copying-none (unwritten-none (slotOf page) (λ b d e. n (sym first ∙ live-status page b d e)))
 
   -- the image when the part with the target's slots comes back
   abbrev Back : ℕ → List ℕ → Image

@@ -68,6 +68,10 @@ fn copy_live(
         let at = from + slot * 256;
         let next = at + 256;
         slot += 1;
+        // Most slots that are not live are told by their status: their kind is not asked for.
+        if image[at] != slot::WRITTEN {
+            continue;
+        }
         let kind = slot::slot_kind(&image[at..next]);
         let SlotKind::Live { length, block: _ } = kind else {
             continue;

@@ -14,7 +14,7 @@ ghost use Rattle.slot.specs.Parts.{slotParts};
 // Status bytes, by the names of the model's definitions.
 const WRITE_BEGUN: u8 = 0x7F;
 
-const WRITTEN: u8 = 0x3F;
+pub const WRITTEN: u8 = 0x3F;
 
 const DEAD: u8 = 0x1F;
 

@@ -6,7 +6,7 @@ use native.Mathlib.Omega.{arith}
 use denote.Ref.{now}
 use Rattle.model.specs.Chip.{Page}
 use Rattle.model.specs.Slot.{slotOf, kindOf}
-use Rattle.compact.proofs.Laws.{Copying, copying-start, copying-skip, copying-turn, copying-end, live-page, slots-inside}
+use Rattle.compact.proofs.Laws.{Copying, copying-start, copying-skip, copying-unwritten, copying-turn, copying-end, live-page, slots-inside}
 use borrow.Author.Needs.{needs}
 use Rattle.compact.proofs.copy_live.Statement.{statement}
 use Rattle.compact.proofs.copy_live.Tie as tie
@@ -58,6 +58,20 @@ add-next c = search needs
 add-slot : tie.Need-add-slot Inv-loop μ-loop
 add-slot c = search needs
 
+slice-read-if1 : tie.Need-slice-read-if1 Inv-loop μ-loop
+slice-read-if1 c = search needs
+
+loop-less : tie.Need-loop-less Inv-loop μ-loop
+loop-less c = search needs
+
+loop-again : tie.Need-loop-again Inv-loop μ-loop
+loop-again c =
+    let test = c .before .before in
+    let k = test .before in
+    let from = k .before .before in
+    copying-unwritten _ _ _ _ _ _ _ _ _ _ (from .slots-place .result + k .loop .slot * 256) (k .loop .inv) (test .loop-test .taken)
+    _ (omega (arith, from .slots-place .ensures)) refl (c .if1 .taken)
+
 sub-slot-kind : tie.Need-sub-slot-kind Inv-loop μ-loop
 sub-slot-kind c = search needs
 
@@ -73,13 +87,13 @@ slot-kind-requires c κs = search needs
 enum-known-kind : tie.Need-enum-known-kind Inv-loop μ-loop
 enum-known-kind c = search needs
 
-loop-less : tie.Need-loop-less Inv-loop μ-loop
-loop-less c = search needs
+loop-less-2 : tie.Need-loop-less-2 Inv-loop μ-loop
+loop-less-2 c = search needs
 
-loop-again : tie.Need-loop-again Inv-loop μ-loop
-loop-again c =
+loop-again-2 : tie.Need-loop-again-2 Inv-loop μ-loop
+loop-again-2 c =
     let seen = c .before in
-    let test = seen .before .before .before in
+    let test = seen .before .before .before .before .before in
     let k = test .before in
     let from = k .before .before in
     copying-skip _ _ _ _ _ _ _ _ _ _ (from .slots-place .result + k .loop .slot * 256) (k .loop .inv) (test .loop-test .taken)
@@ -118,23 +132,23 @@ write-page-requires c κs =
     let v = live-page _ (told .kind .given .0 .0) (told .kind .given .0 .1 .0) (told .before .before .slot-kind .ensures) (told .kind .given .1) in
     (search needs, search needs, omega (arith, v .short))
 
-loop-less-2 : tie.Need-loop-less-2 Inv-loop μ-loop
-loop-less-2 c = search needs
+loop-less-3 : tie.Need-loop-less-3 Inv-loop μ-loop
+loop-less-3 c = search needs
 
-loop-again-2 : tie.Need-loop-again-2 Inv-loop μ-loop
-loop-again-2 c =
+loop-again-3 : tie.Need-loop-again-3 Inv-loop μ-loop
+loop-again-3 c =
     let wrote = c .before .before in
     let read = wrote .before .before .before in
     let told = read .before .before .before .before in
     let seen = told .before .before in
-    let test = seen .before .before .before in
+    let test = seen .before .before .before .before .before in
     let k = test .before in
     let from = k .before .before in
     copying-turn _ _ _ _ _ _ _ _ _ _ (from .slots-place .result + k .loop .slot * 256) (k .loop .inv) (test .loop-test .taken)
     (read .page-of .result) (omega (arith, from .slots-place .ensures)) (read .page-of .ensures) (seen .slot-kind .result) (told .kind .given .0 .0) (told .kind .given .0 .1 .0) _ _ _
     (seen .slot-kind .ensures ∙ ap (λ (p : Page). kindOf (slotOf p)) (sym (read .page-of .ensures))) (told .kind .given .1) (k .before .slots-place2 .ensures) (wrote .write-page .ensures)
 
--- after `loop-again-2`, so that code which counts otherwise is refused there first: for what it counts, not for how large that grows
+-- after `loop-again-3`, so that code which counts otherwise is refused there first: for what it counts, not for how large that grows
 add-copied : tie.Need-add-copied Inv-loop μ-loop
 add-copied c = search needs
 
@@ -166,13 +180,16 @@ copy-live-spec =
     add-at
     add-next
     add-slot
+    slice-read-if1
+    loop-less
+    loop-again
     sub-slot-kind
     part-slot-kind-start
     part-slot-kind-end
     slot-kind-requires
     enum-known-kind
-    loop-less
-    loop-again
+    loop-less-2
+    loop-again-2
     sub-page-of
     part-page-of-start
     part-page-of-end
@@ -184,7 +201,7 @@ copy-live-spec =
     slice-aggregate-write-page
     write-page-requires
     add-copied
-    loop-less-2
-    loop-again-2
+    loop-less-3
+    loop-again-3
     same-length
     returns)
