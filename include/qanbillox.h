@@ -33,8 +33,10 @@ enum qbx_answer {
     QBX_SIZE = 1,            /* n, b or the image's length is wrong */
     QBX_NUMBER = 2,          /* block number 0 or 65,535 */
     QBX_LENGTH = 3,          /* put of 0 bytes, or of over 248 */
-    QBX_DAMAGED = 4,         /* the image is neither clean nor unfinished; only format helps */
-    QBX_UNFINISHED = 5,      /* put, delete, read, mount: recover first; mounted put, delete, read: mount again */
+    QBX_DAMAGED = 4,         /* the image is neither clean nor unfinished; only format helps. From a mounted put, delete
+                                or read instead: the table is not that of the image; mount again */
+    QBX_UNFINISHED = 5,      /* put, delete, read, mount: recover first; mounted put, delete, read: the table is not
+                                usable; recover, and mount again */
     QBX_ABSENT = 6,          /* read or delete of a block that is not stored */
     QBX_FULL = 7,            /* put of a new block while (n-1)*b-1 are stored */
     QBX_WORN = 8,            /* put: the chip is worn, as said above */
@@ -89,11 +91,13 @@ static inline size_t qbx_offset_of(uint64_t result) { return (size_t)(result >> 
  * call left them: answers, steps and image are those of qbx_put, qbx_delete and qbx_read, and the table is kept right.
  * If anybody else writes to either meanwhile (a qbx_put, a qbx_recover that takes a step), mount again before the next
  * mounted call: one without it ends, stays inside image and table, and changes nothing if it is refused, but its answer
- * and what it writes are open. Image and table must not overlap.
+ * is open, and what it writes may damage the image so that only a format helps. The same goes for a table that outlived
+ * a loss of power: its entry 0 is still 1, and it is not usable. Image and table must not overlap.
  *
  * The table is unusable (entry 0 is 0, the rest means nothing) after a mount that answers QBX_DAMAGED or QBX_UNFINISHED
  * and after a mounted call that answers QBX_CUT, with a budget of 0 too. While entry 0 is not 1, a mounted call answers
- * QBX_UNFINISHED, if not 1, 10, 2 or 3: recover, and mount again. No other refusal touches the table. */
+ * QBX_UNFINISHED, if not 1, 10, 2 or 3. No other refusal touches the table. So, after QBX_CUT and after every start:
+ * qbx_recover, then qbx_mount. */
 
 /* Fill the table from a clean image. Answers QBX_DONE, QBX_SIZE, QBX_SHORT_TABLE, QBX_DAMAGED or QBX_UNFINISHED. */
 uint64_t qbx_mount(const uint8_t *image, size_t image_length, size_t n, size_t b,

@@ -71,7 +71,8 @@
 //! }
 //! ```
 //!
-//! A power cut takes a mounted store away: [`Mounted`] says what comes then.
+//! After a power cut a mounted store only answers that it is to be mounted again: [`Mounted`] says
+//! what comes then.
 //!
 //! # Versions
 //!

@@ -18,7 +18,9 @@ pub const PLACES: usize = 65_536;
 ///
 /// Once a request has answered [`Cut`](Answer::Cut), also with a budget of 0, the table is unusable.
 /// All further requests answer [`Unfinished`](Answer::Unfinished) (where no wrong number or length
-/// comes before it) and change nothing. Drop the store, recover, and mount again:
+/// comes before it) and change nothing. Drop the store, recover, and mount again. After a loss of
+/// power that took the program with it, begin with a recovery and a mount as well, whatever the
+/// table still holds:
 ///
 #[cfg_attr(qbx_lib, doc = "```")]
 #[cfg_attr(not(qbx_lib), doc = "```no_run")]
@@ -61,7 +63,8 @@ impl fmt::Debug for Mounted<'_> {
 
 /// Mounting.
 impl Geometry {
-    /// Fills the table of places from the image, in one pass, and gives the store that uses both.
+    /// Fills the table of places from the image and gives the store that uses both. It goes over the
+    /// image once to see its state, and once over the slots in use.
     ///
     /// `places` may hold anything before; entries past the first [`PLACES`] stay as they are. A
     /// table with fewer answers [`ShortTable`](Answer::ShortTable). The image has to be clean:

@@ -100,12 +100,13 @@ unfoldable pub stays : Seen → Bool
 stays (answered o) = not (eqb (o .code) 9)
 stays lost = false
 
--- A session: the table is usable and, with the image, as the mount or the last mounted call left it; or it is not (`ready`). A mounted call wants it so. A mount may be lent any table.
+-- A session: the table is usable and, with the image, as the mount or the last mounted call left it; or it is not (`ready`). A mounted call wants it so. A mount may be lent any table, and the session goes on with that one, or, where it was another, with the one before.
 abbrev pub Session : ℕ → ℕ → Bool → Image → Places → List Turn → Image → Type 0
 Session N B ready s t [] u = u ≡ s
 Session N B ready s t (plain e ∷ es) u =
     Proper (e .request) × (e .worn ≡ wears N B s) × ((m : Image) × Does N B (e .request) (e .seen) s m × (((m ≡ s) × Session N B ready s t es u) ⊎ Session N B false m t es u))
-Session N B ready s t (mount code ∷ es) u = (lent : Places) × (code ≡ mountOutcome N B s lent .code) × Session N B (eqb code 0) s (mountOutcome N B s lent .places) es u
+Session N B ready s t (mount code ∷ es) u =
+    (lent : Places) × (code ≡ mountOutcome N B s lent .code) × (Session N B (eqb code 0) s (mountOutcome N B s lent .places) es u ⊎ Session N B ready s t es u)
 Session N B true s t (call e ∷ es) u =
     Proper (e .request) × (e .worn ≡ wears N B s) × ((m : Image) × (w : Places) × CallDoes N B (e .request) (e .seen) s t m w × Session N B (stays (e .seen)) m w es u)
 Session N B false s t (call e ∷ es) u = ⊥

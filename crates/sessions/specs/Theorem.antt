@@ -188,7 +188,8 @@ session-history N B ready s t (plain e ∷ es) u p h =
       ),
     )
 session-history N B ready s t (mount code ∷ es) u p h =
-    session-history N B (eqb code 0) s (mountOutcome N B s (h .0) .places) es u (λ z. mount-in-step N B s (h .0) (sym (h .1) ∙ eqb-true code 0 z)) (h .2)
+    ⊎-elim (λ k. session-history N B (eqb code 0) s (mountOutcome N B s (h .0) .places) es u (λ z. mount-in-step N B s (h .0) (sym (h .1) ∙ eqb-true code 0 z)) k)
+    (λ k. session-history N B ready s t es u p k) (h .2)
 session-history N B true s t (call e ∷ es) u p h =
     let c = call-does N B s t (p refl) (e .request) (e .seen) (h .2 .0) (h .2 .1) (h .2 .2) in
     (h .0, h .1, (h .2 .0, c .0, session-history N B (stays (e .seen)) (h .2 .0) (h .2 .1) es u (c .1) (h .2 .3)))
