@@ -17,7 +17,7 @@ use Rattle.model.specs.declared.Answer.the-variants.{Worn}
 use Rattle.bridge.specs.Accepted.{refusal}
 use Rattle.tally.specs.declared.Tally.{Tally}
 use Rattle.tally.specs.Seen.{headerIn, tallySeen}
-use Rattle.plan.specs.Statuses.{statusRows, firstMarked, unwritten}
+use Rattle.plan.specs.Statuses.{statusRows, firstMarked, notLive}
 use Rattle.room.specs.declared.Plan.{Plan}
 use Rattle.room.specs.Room.{Plannable, Planned}
 use Rattle.put.specs.Writing.{wornBy}
@@ -28,7 +28,7 @@ use Rattle.mounted_plan.specs.declared.Decision.the-variants.{Refused, A
 
 -- a put of a block without a slot is refused as full: no more segments may be in use, the top has fewer than two empty slots, and at most one slot is not live
 unfoldable pub fullSeen : ℕ → ℕ → Bool → Plan → Image → Bool
-fullSeen N B absent p s = absent && (leb N (p .used + 1) && (leb B (p .slot + 1) && leb (count unwritten (flatten (statusRows N B s (p .used) (p .first .0)))) 1))
+fullSeen N B absent p s = absent && (leb N (p .used + 1) && (leb B (p .slot + 1) && leb (count notLive (flatten (statusRows N B s (p .used) (p .first .0)))) 1))
 
 -- the plan, with its compactions where no more segments may be in use
 unfoldable pub planSeen : ℕ → ℕ → Plan → Image → Plan

@@ -20,7 +20,7 @@ use Rattle.model.specs.Laws.Effects.{slot-kind, slot-page-size, slot-count}
 use Rattle.bridge.specs.Predicted.{CleanView}
 use Rattle.bridge.specs.Views.Slots.{full, rows-length, top-row, find-top, only-top-empty}
 use Rattle.bridge.specs.Held.{Held, held-of-clean, held-row, clean-view}
-use Rattle.plan.specs.Statuses.{slotStatus, statusRow, statusRows, noneMarked, firstMarked, unwritten, FreeFrom}
+use Rattle.plan.specs.Statuses.{slotStatus, statusRow, statusRows, noneMarked, firstMarked, notLive, FreeFrom}
 use Rattle.plan.specs.Seen.{SeenRing}
 use Rattle.plan.specs.declared.Ring.{Ring}
 use Rattle.plan.specs.declared.Ring.the-variants.{InUse}
@@ -80,9 +80,6 @@ module _ (N B : ℕ) (s : Image) (z : rightSize N B s ≡ true) (c : state N B s
   fine : CleanView N B v
   fine = clean-view N B s z c
 
-  pub clean-ring-seen : {r : Ring} → SeenRing N B s r → r ≡ InUse (record { 0 = v .first }) (length (v .slots))
-  clean-ring-seen w = w .exact z c
-
   row-long : (k : ℕ) → k < length (v .slots) → length (getD (v .slots) k []) ≡ B
   row-long k h =
       let size = size-facts N B s z in
@@ -120,11 +117,11 @@ module _ (N B : ℕ) (s : Image) (z : rightSize N B s ≡ true) (c : state N B s
   clean-compactions n u a b e = (rw (a, b) at e) ∙ sym (first-dead (v .slots) (statusRows N B s (length (v .slots)) (v .first)) rows-told)
 
   -- where N - 1 are in use: at most one slot is not live exactly if as many blocks are live as there may be
-  pub clean-crowded : {t : Bool} (n u : ℕ) → n ≡ v .first → u ≡ length (v .slots) → length (v .slots) ≡ N - 1 → t ≡ leb (count unwritten (flatten (statusRows N B s u n))) 1
+  pub clean-crowded : {t : Bool} (n u : ℕ) → n ≡ v .first → u ≡ length (v .slots) → length (v .slots) ≡ N - 1 → t ≡ leb (count notLive (flatten (statusRows N B s u n))) 1
       → t ≡ leb (capacity N B) (length (entriesIn v))
   unfolding capacity entriesIn
   clean-crowded n u a b w e =
-      let others = count unwritten (flatten (statusRows N B s (length (v .slots)) (v .first))) in
+      let others = count notLive (flatten (statusRows N B s (length (v .slots)) (v .first))) in
       let live = length (entriesIn v) in
       let all : length (flatten (v .slots)) ≡ (N - 1) * B = rows-length B (v .slots) (fine .rows) ∙ ap (λ (y : ℕ). y * B) w in
       let sum : others + live ≡ (N - 1) * B = rows-live (v .slots) (statusRows N B s (length (v .slots)) (v .first)) rows-told ∙ all in

@@ -53,8 +53,8 @@ firstMarked [] = 0
 firstMarked (xs ∷ r) = cond (noneMarked xs) (suc (firstMarked r)) 1
 
 -- not the status of a live slot
-unfoldable pub unwritten : ℕ → Bool
-unwritten x = not (eqb x written)
+unfoldable pub notLive : ℕ → Bool
+notLive x = not (eqb x written)
 
 -- slot r of the segment with number n is free, or r is the count of slots; and the slot before r is not free
 pub record FreeFrom (N B n : ℕ) (s : Image) (r : ℕ) : Type 0 where

@@ -10,7 +10,7 @@ ghost use lib.Dec.{leb};
 ghost use Rattle.model.specs.Lists.{count};
 ghost use Rattle.model.specs.Steps.{slotAt};
 ghost use Rattle.flash.specs.Pages.{Sized};
-ghost use Rattle.plan.specs.Statuses.{statusAt, numberAt, statusRow, statusRows, isMarked, noneMarked, firstMarked, unwritten, FreeFrom};
+ghost use Rattle.plan.specs.Statuses.{statusAt, numberAt, statusRow, statusRows, isMarked, noneMarked, firstMarked, notLive, FreeFrom};
 ghost use Rattle.plan.specs.Seen.{LastFollowing, LastUsed, RunFrom, TopSeen, UsedSeen, SeenRing};
 
 // The segments in use as their headers tell them: the smallest number and their count; or they are no ring.
@@ -131,8 +131,8 @@ fn count_used(image: &[u8], segments: usize, slots: usize, top: usize) -> usize
     top + 1 + (segments - run_start(image, segments, slots, segments))
 }
 
-// The segments in use. Headers lie up to 64 KiB apart, so that a look is a cache miss: on a clean image as many are looked at as
-// there are halvings, and some more. A single segment is no ring, and one less would count as none.
+// The segments in use. Headers lie up to 64 KiB apart, so that a look is a cache miss: of an image that grew from a format as
+// many are looked at as there are halvings, and some more. A single segment is no ring, and one less would count as none.
 pub fn see_ring(image: &[u8], segments: usize, slots: usize) -> Ring
     requires { ⌜ Sized segments slots (length (now image)) ⌝ }
     ensures { λ r. ⌜ SeenRing segments slots (now (image .entry)) r ⌝ }
@@ -166,7 +166,7 @@ fn first_slot(segments: usize, slots: usize, number: SegmentNumber) -> usize
     requires { ⌜ (0 < segments) × (segments ≤ 255) × (slots ≤ 255) ⌝ }
     ensures { λ r. ⌜ r ≡ slotAt segments slots (number .0) 0 * 256 ⌝ }
 {
-    header::header_place(segments, slots, number) + 256
+    find::first_slot(segments, slots, number).0
 }
 
 // The first slot of the segment with a number whose status is erased, by halving; the count of slots, if none is.
@@ -215,7 +215,7 @@ fn none_marked(image: &[u8], segments: usize, slots: usize, number: SegmentNumbe
 
 // How many slots of the segment with a number are not live by their status, counted on from those of earlier segments, and
 // no further than to 2.
-fn count_unwritten(
+fn count_not_live(
     image: &[u8],
     segments: usize,
     slots: usize,
@@ -223,7 +223,7 @@ fn count_unwritten(
     earlier: usize,
 ) -> usize
     requires { ⌜ Sized segments slots (length (now image)) × (earlier ≤ 1) ⌝ }
-    ensures { λ r. ⌜ r ≡ min 2 (earlier + count unwritten (statusRow segments slots (now (image .entry)) (number .0))) ⌝ }
+    ensures { λ r. ⌜ r ≡ min 2 (earlier + count notLive (statusRow segments slots (now (image .entry)) (number .0))) ⌝ }
 {
     let from = first_slot(segments, slots, number);
     let mut found = earlier;
@@ -276,13 +276,13 @@ pub fn is_crowded(
     used: usize,
 ) -> bool
     requires { ⌜ Sized segments slots (length (now image)) × (first .0 + used ≤ 4294967296) ⌝ }
-    ensures { λ r. ⌜ r ≡ leb (count unwritten (flatten (statusRows segments slots (now (image .entry)) used (first .0)))) 1 ⌝ }
+    ensures { λ r. ⌜ r ≡ leb (count notLive (flatten (statusRows segments slots (now (image .entry)) used (first .0)))) 1 ⌝ }
 {
     let mut found = 0;
     let mut turn = 0;
     while turn < used {
         let number = SegmentNumber(first.0 + turn as u32);
-        found = count_unwritten(image, segments, slots, number, found);
+        found = count_not_live(image, segments, slots, number, found);
         if found > 1 {
             return false;
         }

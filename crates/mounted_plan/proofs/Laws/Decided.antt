@@ -23,7 +23,7 @@ use Rattle.bridge.specs.Refusals.{put-former, put-full, put-worn}
 use Rattle.flash.proofs.Pages.{sized}
 use Rattle.tally.specs.declared.Tally.{Tally}
 use Rattle.tally.specs.Seen.{headerIn, tallySeen}
-use Rattle.plan.specs.Statuses.{statusRows, firstMarked, unwritten, FreeFrom}
+use Rattle.plan.specs.Statuses.{statusRows, firstMarked, notLive, FreeFrom}
 use Rattle.plan.specs.Seen.{Bounded, SeenRing}
 use Rattle.plan.specs.declared.Ring.{Ring}
 use Rattle.plan.specs.declared.Ring.the-variants.{InUse, Broken}
@@ -123,7 +123,7 @@ module _ (N B : ℕ) (s : Image) (z : rightSize N B s ≡ true) (f : SegmentNumb
     -- ---- full
 
     abbrev crowded : Bool
-    crowded = leb (count unwritten (flatten (statusRows N B s u (f .0)))) 1
+    crowded = leb (count notLive (flatten (statusRows N B s u (f .0)))) 1
 
     live-same : state N B s ≡ clean → (leb N (u + 1) && (leb B (slot + 1) && crowded)) ≡ leb (capacity N B) (length (entriesIn v))
     live-same c = go (leb N (u + 1)) (leb B (slot + 1)) refl refl

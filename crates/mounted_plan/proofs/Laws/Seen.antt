@@ -14,7 +14,7 @@ use Rattle.model.specs.Steps.{headerAt}
 use Rattle.model.specs.declared.Answer.the-variants.{Worn}
 use Rattle.tally.specs.declared.Tally.{Tally}
 use Rattle.tally.specs.Seen.{headerIn, tallySeen}
-use Rattle.plan.specs.Statuses.{statusRows, firstMarked, unwritten}
+use Rattle.plan.specs.Statuses.{statusRows, firstMarked, notLive}
 use Rattle.plan.proofs.Callers.{compactions-within}
 use Rattle.room.specs.declared.Plan.{Plan}
 use Rattle.room.specs.Room.{Plannable}
@@ -44,7 +44,7 @@ module _ (N B : ℕ) (absent : Bool) (p : Plan) (s : Image) where
     unfolding fullSeen
     full-two u h = rw (not-false absent a, le-leb N (p .used + 1) u, lt-leb B (p .slot + 1) h)
 
-    pub full-walked : (t : Bool) → N ≤ p .used + 1 → B ≤ p .slot + 1 → t ≡ leb (count unwritten (flatten (statusRows N B s (p .used) (p .first .0)))) 1 → t ≡ fullSeen N B absent p s
+    pub full-walked : (t : Bool) → N ≤ p .used + 1 → B ≤ p .slot + 1 → t ≡ leb (count notLive (flatten (statusRows N B s (p .used) (p .first .0)))) 1 → t ≡ fullSeen N B absent p s
     unfolding fullSeen
     full-walked t u h e = rw (not-false absent a, le-leb N (p .used + 1) u, le-leb B (p .slot + 1) h) e
 

@@ -15,17 +15,17 @@ use Rattle.model.specs.Laws.Lists.{all-get, count-append}
 use Rattle.model.specs.Laws.Bytes.{erased-get}
 use Rattle.model.specs.Laws.SlotPage.{KindFacts, kind-facts, slot-status}
 use Rattle.bridge.specs.Views.Slots.{noneDead, entries-append}
-use Rattle.plan.specs.Statuses.{spaced, isMarked, noneMarked, firstMarked, unwritten}
+use Rattle.plan.specs.Statuses.{spaced, isMarked, noneMarked, firstMarked, notLive}
 
 -- ---- one slot
 
 pub record Tells (k : Slot) (x : ℕ) : Type 0 where
   pub free : isEmpty k ≡ eqb x 255
   pub marked : isDead k ≡ isMarked x
-  pub live : length (entryOf k) ≡ cond (unwritten x) 0 1
+  pub live : length (entryOf k) ≡ cond (notLive x) 0 1
 
 status-tells : (p : Page) (k : Slot) → length p ≡ 256 → KindFacts p k → not (isWrong k || isTorn k) ≡ true → Tells k (getD p 0 0)
-unfolding isWrong isTorn isEmpty isDead isMarked unwritten entryOf
+unfolding isWrong isTorn isEmpty isDead isMarked notLive entryOf
 status-tells p empty z f h =
     let e : getD p 0 0 ≡ 255 = ap (λ (y : Page). getD y 0 0) f ∙ erased-get (length p) 0 (omega arith) in
     record { free = rw e; marked = rw e; live = rw e }
@@ -80,25 +80,25 @@ first-dead (k ∷ ks) (x ∷ xs) t = rw (none-dead k x (t .0), first-dead ks xs 
 
 -- ---- live slots, and the others
 
-row-live : (ks : List Slot) (xs : List ℕ) → RowTells ks xs → count unwritten xs + length (entries ks) ≡ length ks
+row-live : (ks : List Slot) (xs : List ℕ) → RowTells ks xs → count notLive xs + length (entries ks) ≡ length ks
 unfolding count entries flatMap
 row-live [] [] t = refl
 row-live [] (x ∷ xs) t = absurd t
 row-live (k ∷ ks) [] t = absurd t
-row-live (k ∷ ks) (x ∷ xs) t = go (unwritten x) (t .0 .live) (row-live ks xs (t .1))
+row-live (k ∷ ks) (x ∷ xs) t = go (notLive x) (t .0 .live) (row-live ks xs (t .1))
   where
-    go : (b : Bool) → length (entryOf k) ≡ cond b 0 1 → count unwritten xs + length (entries ks) ≡ length ks
-        → cond b (suc (count unwritten xs)) (count unwritten xs) + length (entryOf k ++ flatMap entryOf ks) ≡ suc (length ks)
+    go : (b : Bool) → length (entryOf k) ≡ cond b 0 1 → count notLive xs + length (entries ks) ≡ length ks
+        → cond b (suc (count notLive xs)) (count notLive xs) + length (entryOf k ++ flatMap entryOf ks) ≡ suc (length ks)
     go true e ih = unfold entries in omega (arith, ih, length-append (entryOf k) (flatMap entryOf ks))
     go false e ih = unfold entries in omega (arith, ih, length-append (entryOf k) (flatMap entryOf ks))
 
-pub rows-live : (rows : List (List Slot)) (xs : List (List ℕ)) → RowsTell rows xs → count unwritten (flatten xs) + length (entries (flatten rows)) ≡ length (flatten rows)
+pub rows-live : (rows : List (List Slot)) (xs : List (List ℕ)) → RowsTell rows xs → count notLive (flatten xs) + length (entries (flatten rows)) ≡ length (flatten rows)
 unfolding flatten
 rows-live [] [] t = row-live [] [] tt
 rows-live [] (x ∷ xs) t = absurd t
 rows-live (k ∷ ks) [] t = absurd t
 rows-live (k ∷ ks) (x ∷ xs) t =
-    rw (count-append unwritten x (flatten xs), entries-append k (flatten ks), length-append (entries k) (entries (flatten ks)), length-append k (flatten ks))
+    rw (count-append notLive x (flatten xs), entries-append k (flatten ks), length-append (entries k) (entries (flatten ks)), length-append k (flatten ks))
     (omega (arith, row-live k x (t .0), rows-live ks xs (t .1)))
 
 -- ---- empty slots

@@ -12,17 +12,12 @@ use borrow.Author.Tests.{eq-eqb, ne-eqb}
 use Rattle.model.specs.Lists.{all, count}
 use Rattle.model.specs.Chip.{Image}
 use Rattle.model.specs.Slot.{written}
-use Rattle.model.specs.Steps.{headerAt, slotAt}
+use Rattle.model.specs.Steps.{slotAt}
 use Rattle.model.specs.Laws.Lists.{count-append}
 use Rattle.flash.specs.Pages.{Sized}
-use Rattle.flash.proofs.Pages.{header-small}
-use Rattle.plan.specs.Statuses.{spaced, slotStatus, statusRow, statusRows, isMarked, noneMarked, firstMarked, unwritten, FreeFrom}
+use Rattle.plan.specs.Statuses.{spaced, slotStatus, statusRow, statusRows, isMarked, noneMarked, firstMarked, notLive, FreeFrom}
 
 -- ---- the slots of one segment
-
-pub first-place : (N B n : ℕ) → slotAt N B n 0 * 256 ≡ headerAt N B n * 256 + 256
-unfolding slotAt headerAt
-first-place N B n = omega arith
 
 pub row-inside : (N B n bytes from : ℕ) → Sized N B bytes → from ≡ slotAt N B n 0 * 256 → from + B * 256 ≤ bytes
 unfolding slotAt
@@ -69,20 +64,20 @@ module _ (s : Image) (B from : ℕ) where
 
   -- ---- those that are not live
 
-  pub unwritten-start : count unwritten (left s B from 0) ≡ count unwritten (spaced s 256 B from)
-  unwritten-start = ap (count unwritten) (left-all s B from)
+  pub not-live-start : count notLive (left s B from 0) ≡ count notLive (spaced s 256 B from)
+  not-live-start = ap (count notLive) (left-all s B from)
 
-  pub unwritten-more : (j : ℕ) → j < B → getD s (from + j * 256) 0 ≢ written → count unwritten (left s B from j) ≡ suc (count unwritten (left s B from (j + 1)))
-  unfolding count unwritten
-  unwritten-more j h e = rw (left-next s B from j h, ne-eqb (getD s (from + j * 256) 0) written e)
+  pub not-live-more : (j : ℕ) → j < B → getD s (from + j * 256) 0 ≢ written → count notLive (left s B from j) ≡ suc (count notLive (left s B from (j + 1)))
+  unfolding count notLive
+  not-live-more j h e = rw (left-next s B from j h, ne-eqb (getD s (from + j * 256) 0) written e)
 
-  pub unwritten-same : (j : ℕ) → j < B → getD s (from + j * 256) 0 ≡ written → count unwritten (left s B from j) ≡ count unwritten (left s B from (j + 1))
-  unfolding count unwritten
-  unwritten-same j h e = rw (left-next s B from j h, eq-eqb (getD s (from + j * 256) 0) written e)
+  pub not-live-same : (j : ℕ) → j < B → getD s (from + j * 256) 0 ≡ written → count notLive (left s B from j) ≡ count notLive (left s B from (j + 1))
+  unfolding count notLive
+  not-live-same j h e = rw (left-next s B from j h, eq-eqb (getD s (from + j * 256) 0) written e)
 
-  pub unwritten-end : (j : ℕ) → B ≤ j → count unwritten (left s B from j) ≡ 0
+  pub not-live-end : (j : ℕ) → B ≤ j → count notLive (left s B from j) ≡ 0
   unfolding count
-  unwritten-end j h = rw (left-end s B from j h)
+  not-live-end j h = rw (left-end s B from j h)
 
 -- the row of a number
 pub row-read : (N B n from : ℕ) (s : Image) → from ≡ slotAt N B n 0 * 256 → spaced s 256 B from ≡ statusRow N B s n
@@ -169,17 +164,17 @@ module _ (N B : ℕ) (s : Image) (first used : ℕ) where
 
   -- how many slots are not live, from a turn on
   abbrev pub others : ℕ → ℕ
-  others turn = count unwritten (flatten (rowsLeft turn))
+  others turn = count notLive (flatten (rowsLeft turn))
 
   abbrev pub total : ℕ
-  total = count unwritten (flatten (statusRows N B s used first))
+  total = count notLive (flatten (statusRows N B s used first))
 
   pub others-start : others 0 ≡ total
-  others-start = ap (λ (r : List (List ℕ)). count unwritten (flatten r)) rows-all
+  others-start = ap (λ (r : List (List ℕ)). count notLive (flatten r)) rows-all
 
-  pub others-next : (turn : ℕ) → turn < used → others turn ≡ count unwritten (statusRow N B s (first + turn)) + others (turn + 1)
+  pub others-next : (turn : ℕ) → turn < used → others turn ≡ count notLive (statusRow N B s (first + turn)) + others (turn + 1)
   unfolding flatten
-  others-next turn h = rw (rows-next turn h) (count-append unwritten (statusRow N B s (first + turn)) (flatten (rowsLeft (turn + 1))))
+  others-next turn h = rw (rows-next turn h) (count-append notLive (statusRow N B s (first + turn)) (flatten (rowsLeft (turn + 1))))
 
   pub others-end : (turn : ℕ) → used ≤ turn → others turn ≡ 0
   unfolding flatten count
@@ -194,9 +189,3 @@ marked-dead x e = rw e
 pub marked-cut : (x : ℕ) → x ≢ 0x1F → eqb x 0x5F ≡ isMarked x
 unfolding isMarked
 marked-cut x e = rw (ne-eqb x 0x1F e)
-
--- ---- a header's place is small
-
-pub place-small : (n N B : ℕ) → 0 < N → N ≤ 255 → B ≤ 255 → headerAt N B n ≤ 65280
-unfolding headerAt
-place-small n N B z h k = header-small n N B z h k

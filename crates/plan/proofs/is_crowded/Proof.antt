@@ -24,15 +24,15 @@ cast-t10 c = search needs
 add-t11 : tie.Need-add-t11 Inv-loop μ-loop
 add-t11 c = search needs
 
-count-unwritten-requires : tie.Need-count-unwritten-requires Inv-loop μ-loop
-count-unwritten-requires c κs = search needs
+count-not-live-requires : tie.Need-count-not-live-requires Inv-loop μ-loop
+count-not-live-requires c κs = search needs
 
 returns : tie.Need-returns Inv-loop μ-loop
 returns c =
     let test = c .before .before .before in
     let k = test .before in
     let a = k .before .before .args in
-    sym (lt-leb (total (a .segments) (a .slots) (now (a .image)) (a .first .0) (a .used)) 1 (omega (arith, c .if1 .taken, c .before .count-unwritten .ensures, k .loop .inv .2, others-next (a .segments) (a .slots) (now (a .image)) (a .first .0) (a .used) (k .loop .turn) (test .loop-test .taken))))
+    sym (lt-leb (total (a .segments) (a .slots) (now (a .image)) (a .first .0) (a .used)) 1 (omega (arith, c .if1 .taken, c .before .count-not-live .ensures, k .loop .inv .2, others-next (a .segments) (a .slots) (now (a .image)) (a .first .0) (a .used) (k .loop .turn) (test .loop-test .taken))))
 
 add-turn : tie.Need-add-turn Inv-loop μ-loop
 add-turn c = search needs
@@ -45,7 +45,7 @@ loop-again c =
     let test = c .before .before .before in
     let k = test .before in
     let a = k .before .before .args in
-    (omega arith, omega (arith, c .if1 .left), omega (arith, c .if1 .left, c .before .count-unwritten .ensures, k .loop .inv .2, others-next (a .segments) (a .slots) (now (a .image)) (a .first .0) (a .used) (k .loop .turn) (test .loop-test .taken)))
+    (omega arith, omega (arith, c .if1 .left), omega (arith, c .if1 .left, c .before .count-not-live .ensures, k .loop .inv .2, others-next (a .segments) (a .slots) (now (a .image)) (a .first .0) (a .used) (k .loop .turn) (test .loop-test .taken)))
 
 returns-2 : tie.Need-returns-2 Inv-loop μ-loop
 returns-2 c =
@@ -62,7 +62,7 @@ is-crowded-spec =
     loop-holds
     cast-t10
     add-t11
-    count-unwritten-requires
+    count-not-live-requires
     returns
     add-turn
     loop-less
