@@ -21,9 +21,6 @@ use Rattle.bridge.specs.Predicted.{CleanView}
 use Rattle.bridge.specs.Views.Slots.{full, rows-length, top-row, find-top, only-top-empty}
 use Rattle.bridge.specs.Held.{Held, held-of-clean, held-row, clean-view}
 use Rattle.plan.specs.Statuses.{slotStatus, statusRow, statusRows, noneMarked, firstMarked, notLive, FreeFrom}
-use Rattle.plan.specs.Seen.{SeenRing}
-use Rattle.plan.specs.declared.Ring.{Ring}
-use Rattle.plan.specs.declared.Ring.the-variants.{InUse}
 use Rattle.plan.proofs.Laws.Kinds.{Tells, page-tells, RowTells, RowsTell, row-tells, first-dead, rows-live, first-empty-at}
 use Rattle.plan.proofs.Laws.Walks.{status-read}
 
