@@ -141,9 +141,13 @@ pub record Outcome : Type 0 where
 unfoldable pub performed : Performed → Image → Outcome
 performed p s = record { code = codeOf (p .answer); count = p .steps; image = s }
 
-unfoldable pub outcomeOf : ℕ → ℕ → Image → ℕ → Request → Outcome
-outcomeOf N B s allowance r = let w = workOf N B s r in let done = take allowance (w .steps) in
+-- work on an image under an allowance
+abbrev pub worked : ℕ → Work → Image → ℕ → Outcome
+worked B w s allowance = let done = take allowance (w .steps) in
     record { code = codeUnder allowance w; count = length done; image = run B done s }
+
+unfoldable pub outcomeOf : ℕ → ℕ → Image → ℕ → Request → Outcome
+outcomeOf N B s allowance r = let w = workOf N B s r in worked B w s allowance
 
 -- ---- reading
 

@@ -1,0 +1,3 @@
+-- The definitions, and their laws.
+pub mod Moves
+pub mod Placed
