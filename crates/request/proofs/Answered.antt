@@ -9,7 +9,7 @@ use lib.Dec.{leb, ltb, eqb}
 use borrow.Author.Tests.{le-leb, lt-ltb, le-ltb, leb-true, leb-false}
 use Rattle.model.specs.Chip.{Image, Step, run}
 use Rattle.model.specs.State.{segmentsOf}
-use Rattle.model.specs.Answers.{codeOf, Request, stepsFor, workOn, workOf, codeUnder, performed, Outcome, outcomeOf}
+use Rattle.model.specs.Answers.{codeOf, Request, stepsFor, workOn, workOf, codeUnder, performed, Outcome, worked, outcomeOf}
 use Rattle.model.specs.declared.Answer.{Answer}
 use Rattle.model.specs.declared.Performed.{Performed}
 use Rattle.bridge.specs.Accepted.{refusal}
@@ -38,10 +38,25 @@ pub carried : (xs ys : List Step) {B budget left m f : ℕ} {p : Performed} {s t
     → Carried xs ys B budget p s t
 carried xs ys {left = left} d em ef r = record { left = left; ran = d; finished = record { code = rw (em, ef) at (r .code); count = r .count } }
 
+-- the same of any work
+module _ (B : ℕ) (s : Image) (budget : ℕ) where
+  pub refused-worked : (a : Answer) (p : Performed) → Refused a p → performed p s ≡ worked B (record { code = codeOf a; steps = [] }) s budget
+  unfolding performed codeUnder
+  refused-worked a p r = rw (r .code, r .none) (nothing B (codeOf a) budget s)
+
+  pub carried-worked : (xs ys : List Step) {p : Performed} {t : Image} → 0 < length ys → Carried xs ys B budget p s t → performed p t ≡ worked B (record { code = 0; steps = xs ++ ys }) s budget
+  unfolding performed codeUnder
+  carried-worked xs ys {p} {t} some c =
+      let l = length-append xs ys in
+      let code : codeOf (p .answer) ≡ cond (leb (length (xs ++ ys)) budget) 0 9 = c .finished .code ∙ rw l (cut-short (length xs) (length ys) budget some) in
+      let count : p .steps ≡ length (take budget (xs ++ ys)) = omega (arith, c .finished .count, c .ran .rest, length-take budget (xs ++ ys)) in
+      rw (code, count, c .ran .image)
+
+-- a request's
 module _ (N B : ℕ) (s : Image) (budget : ℕ) where
   pub refused-outcome : (q : Request) (a : Answer) (p : Performed) → refusal N B s q ≡ codeOf a → eqb (codeOf a) 0 ≡ false → Refused a p → performed p s ≡ outcomeOf N B s budget q
-  unfolding performed outcomeOf workOf workOn codeUnder
-  refused-outcome q a p e n r = rw (e, n, r .code, r .none) (nothing B (codeOf a) budget s)
+  unfolding outcomeOf workOf workOn
+  refused-outcome q a p e n r = rw (e, n) (refused-worked B s budget a p r)
 
   -- an accepted request without steps
   pub idle-outcome : (q : Request) (a : Answer) (p : Performed) → refusal N B s q ≡ 0 → stepsFor N B (segmentsOf N B s) q ≡ [] → codeOf a ≡ 0 → Refused a p → performed p s ≡ outcomeOf N B s budget q
@@ -50,9 +65,5 @@ module _ (N B : ℕ) (s : Image) (budget : ℕ) where
 
   pub carried-outcome : (q : Request) (xs ys : List Step) {p : Performed} {t : Image} → refusal N B s q ≡ 0 → stepsFor N B (segmentsOf N B s) q ≡ xs ++ ys → 0 < length ys → Carried xs ys B budget p s t
       → performed p t ≡ outcomeOf N B s budget q
-  unfolding performed outcomeOf workOf workOn codeUnder
-  carried-outcome q xs ys {p} {t} e n some c =
-      let l = length-append xs ys in
-      let code : codeOf (p .answer) ≡ cond (leb (length (xs ++ ys)) budget) 0 9 = c .finished .code ∙ rw l (cut-short (length xs) (length ys) budget some) in
-      let count : p .steps ≡ length (take budget (xs ++ ys)) = omega (arith, c .finished .count, c .ran .rest, length-take budget (xs ++ ys)) in
-      rw (e, n, code, count, c .ran .image)
+  unfolding outcomeOf workOf workOn
+  carried-outcome q xs ys {p} {t} e n some c = rw (e, n) (carried-worked B s budget xs ys some c)
