@@ -1,3 +1,4 @@
 -- The definitions, and their laws.
 pub mod Moves
 pub mod Placed
+pub mod Filling
