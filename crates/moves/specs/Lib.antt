@@ -1,4 +1,5 @@
 -- The definitions, and their laws.
 pub mod Moves
+pub mod Sorted
 pub mod Placed
 pub mod Filling
