@@ -16,7 +16,7 @@ use Rattle.model.specs.State.{Segment, blank, inUse, isInUse, isInvalid, isOwin
 use Rattle.model.specs.Steps.{openSegment, eraseFirst, formatSteps}
 use Rattle.model.specs.Laws.Lists.{all-set, all-replicate}
 use Rattle.model.specs.Laws.Chip.{run-append, run-length, size-facts, run-size}
-use Rattle.model.specs.Laws.Bytes.{bytes-append, run-bytes, erased-bytes}
+use Rattle.model.specs.Laws.Bytes.{run-bytes, erased-bytes, erased-length, erased-add}
 use Rattle.model.specs.Laws.Segments.{segments-length}
 use Rattle.model.specs.Laws.Effects.{erase-effect, open-effect}
 use Rattle.model.specs.Laws.Ring.{used-more, next-raised}
@@ -30,12 +30,12 @@ use Rattle.bridge.specs.Held.{Held, clean-of-held}
 -- ---- bytes
 
 -- the first k segments erased, of any image
-first-bytes : (B k : ℕ) (s : Image) → k * ((B + 1) * 256) ≤ length s → Bytes (take (k * ((B + 1) * 256)) (run B (eraseFirst k) s))
-unfolding eraseFirst run step withSegment erased
-first-bytes B zero s h = let e : 0 * ((B + 1) * 256) ≡ 0 = omega arith in rw e tt
-first-bytes B (suc k) s h = rw (run-append B (eraseFirst k) (erase k ∷ []) s, le-leb ((k * (B + 1) + (B + 1)) * 256) (length u) (omega (arith, run-length B (eraseFirst k) s)), total)
-    (rw (take-append-add (take before u) (replicate size 255 ++ rest) size, take-at (replicate size 255) rest size (length-replicate size 255))
-    (bytes-append (take before u) (replicate size 255) (rw same (first-bytes B k s (omega arith))) (erased-bytes size)))
+first-erased : (B k : ℕ) (s : Image) → k * ((B + 1) * 256) ≤ length s → take (k * ((B + 1) * 256)) (run B (eraseFirst k) s) ≡ erased (k * ((B + 1) * 256))
+unfolding eraseFirst run step withSegment
+first-erased B zero s h = let e : 0 * ((B + 1) * 256) ≡ 0 = omega arith in rw e (unfold erased in refl)
+first-erased B (suc k) s h = rw (run-append B (eraseFirst k) (erase k ∷ []) s, le-leb ((k * (B + 1) + (B + 1)) * 256) (length u) (omega (arith, run-length B (eraseFirst k) s)), total)
+    (take-append-add (take before u) (erased size ++ rest) size
+    ∙ (ap₂ (λ (x y : List ℕ). x ++ y) (ap (λ (n : ℕ). take n u) same ∙ first-erased B k s (omega arith)) (take-at (erased size) rest size (erased-length size)) ∙ erased-add (k * size) size ∙ ap erased count))
   where
     u : Image
     u = run B (eraseFirst k) s
@@ -49,19 +49,32 @@ first-bytes B (suc k) s h = rw (run-append B (eraseFirst k) (erase k ∷ []) s, 
     rest : List ℕ
     rest = drop ((k * (B + 1) + (B + 1)) * 256) u
 
-    same : before ≡ k * ((B + 1) * 256)
+    same : before ≡ k * size
     same = omega arith
 
     total : suc k * ((B + 1) * 256) ≡ length (take before u) + size
     total = omega (arith, length-take before u, run-length B (eraseFirst k) s)
 
-pub format-bytes : (N B : ℕ) (s : Image) → rightSize N B s ≡ true → Bytes (run B (formatSteps N B) s)
-unfolding formatSteps imageLength
-format-bytes N B s z =
+    count : k * size + size ≡ length (take before u) + size
+    count = omega (arith, length-take before u, run-length B (eraseFirst k) s)
+
+all-wiped : (N B : ℕ) (s : Image) → rightSize N B s ≡ true → run B (eraseFirst N) s ≡ erased (N * ((B + 1) * 256))
+unfolding imageLength
+all-wiped N B s z =
     let u = run B (eraseFirst N) s in
     let size : length s ≡ N * (B + 1) * 256 = size-facts N B s z .whole in
-    let whole : take (N * ((B + 1) * 256)) u ≡ u = take-all (N * ((B + 1) * 256)) u (omega (arith, run-length B (eraseFirst N) s)) in
-    rw (run-append B (eraseFirst N) (openSegment N B (newVersion 0) 0) s) (run-bytes B (openSegment N B (newVersion 0) 0) u (rw whole at (first-bytes B N s (omega arith))))
+    sym (take-all (N * ((B + 1) * 256)) u (omega (arith, run-length B (eraseFirst N) s))) ∙ first-erased B N s (omega arith)
+
+-- whatever there was before
+pub format-same : (N B : ℕ) (s t : Image) → rightSize N B s ≡ true → rightSize N B t ≡ true → run B (formatSteps N B) s ≡ run B (formatSteps N B) t
+unfolding formatSteps
+format-same N B s t y z =
+    rw (run-append B (eraseFirst N) (openSegment N B (newVersion 0) 0) s, run-append B (eraseFirst N) (openSegment N B (newVersion 0) 0) t, all-wiped N B s y, all-wiped N B t z)
+
+pub format-bytes : (N B : ℕ) (s : Image) → rightSize N B s ≡ true → Bytes (run B (formatSteps N B) s)
+unfolding formatSteps erased
+format-bytes N B s z =
+    rw (run-append B (eraseFirst N) (openSegment N B (newVersion 0) 0) s, all-wiped N B s z) (run-bytes B (openSegment N B (newVersion 0) 0) (erased (N * ((B + 1) * 256))) (erased-bytes (N * ((B + 1) * 256))))
 
 -- ---- segments
 
