@@ -3,3 +3,4 @@ pub mod Moves
 pub mod Sorted
 pub mod Placed
 pub mod Filling
+pub mod Fresh
