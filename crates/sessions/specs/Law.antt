@@ -10,7 +10,7 @@ use Rattle.model.specs.Chip.{Image, Cut, rightSize}
 use Rattle.model.specs.Slot.{numberOk}
 use Rattle.model.specs.Answers.{Request, format, put, delete, read, readOr, recover, workOf, outcomeOf, ReadOutcome, readOutcome}
 use Rattle.model.specs.Histories.{bytesRead, Seen, answered, lost, Proper, Does, wears, Event}
-use Rattle.model.specs.Sequences.{Call, Observed, observed, InSequence}
+use Rattle.model.specs.Sequences.{Call, Observed, observed, InSequence, start}
 use Rattle.model.specs.Mounted.{Places, leastPlaces, mountOutcome, InStep, MountedPut, MountedDelete, MountedRead}
 use Rattle.crash.specs.Machine.{Promise, unknown, PlainRuns}
 use Rattle.crash.specs.Demand2.{Keeps, board}
@@ -138,4 +138,4 @@ Unbroken (e ∷ es) = InSequence (e .request) × ((reply : _) × (e .seen ≡ an
 abbrev pub MountedDemand3 : Type 0
 MountedDemand3 = (N B : ℕ) (s u : Image) (allowance : ℕ) (t : Places) (es : List Turn) → outcomeOf N B s allowance format .code ≡ 0
     → Session N B false (outcomeOf N B s allowance format .image) t es u → Unbroken (eventsIn es)
-    → (xs : List Call) × Observes (eventsIn es) (observed N B (outcomeOf N B s allowance format .image) xs) × Bounded N B (observed N B (outcomeOf N B s allowance format .image) xs)
+    → (xs : List Call) × Observes (eventsIn es) (observed N B (outcomeOf N B s allowance format .image) xs) × Bounded N B start (observed N B (outcomeOf N B s allowance format .image) xs)

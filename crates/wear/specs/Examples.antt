@@ -50,7 +50,7 @@ pub example-5 : ledger (observed 2 2 (fresh 2 2) (puts (7 ∷ 7 ∷ 7 ∷ []))) 
 unfolding evaluate
 example-5 = rw seen-5
 
-pub bounded-5 : Bounded 2 2 (observed 2 2 (fresh 2 2) (puts (7 ∷ 7 ∷ 7 ∷ [])))
+pub bounded-5 : Bounded 2 2 start (observed 2 2 (fresh 2 2) (puts (7 ∷ 7 ∷ 7 ∷ [])))
 bounded-5 = demand3 2 2 (replicate (imageLength 2 2) 0) 1000 (puts (7 ∷ 7 ∷ 7 ∷ [])) formats-5 uncut-5
 
 -- ---- example 9: blocks 1, 2, 3, then 3 twice more, of which the last tidies twice
@@ -71,5 +71,5 @@ pub example-9 : ledger (observed 3 2 (fresh 3 2) (puts (1 ∷ 2 ∷ 3 ∷ 3 ∷ 
 unfolding evaluate
 example-9 = rw seen-9
 
-pub bounded-9 : Bounded 3 2 (observed 3 2 (fresh 3 2) (puts (1 ∷ 2 ∷ 3 ∷ 3 ∷ 3 ∷ [])))
+pub bounded-9 : Bounded 3 2 start (observed 3 2 (fresh 3 2) (puts (1 ∷ 2 ∷ 3 ∷ 3 ∷ 3 ∷ [])))
 bounded-9 = demand3 3 2 (replicate (imageLength 3 2) 0) 1000 (puts (1 ∷ 2 ∷ 3 ∷ 3 ∷ 3 ∷ [])) formats-9 uncut-9

@@ -8,8 +8,9 @@ use native.Mathlib.Nat.{mul-le-mul-right, div-le-of-le-mul}
 use lib.ListN.{length, replicate}
 use lib.Dec.{eqb}
 use Rattle.model.specs.Slot.{empty, dead, live, isDead}
-use Rattle.model.specs.State.{View, entriesIn, holds, blocksDistinct, Place, placeOf}
+use Rattle.model.specs.State.{View, entriesIn, holds, distinct, blocksDistinct, Place, placeOf}
 use Rattle.model.specs.Steps.{topRow, topNumber, firstEmpty, roomFor, putSteps, writeAtTop, markOld, deleteSteps}
+use Rattle.model.specs.Table.{Table, Agree}
 use Rattle.model.specs.Answers.{put, delete}
 use Rattle.model.specs.Sequences.{Observed, erasesIn, among, removed, inserted, storedAfter, replaces, Ledger, start, noted, eraseCount, erasesOf}
 use Rattle.model.specs.Laws.Lists.{one}
@@ -19,11 +20,11 @@ use Rattle.bridge.specs.Views.Slots.{copied-none}
 use Rattle.bridge.specs.Views.Room.{room-made}
 use Rattle.bridge.specs.Views.Requests.{put-stores, delete-removes}
 use Rattle.bridge.specs.Format.{fresh-table}
-use Rattle.wear.specs.Demand3.{ErasesPaid, Balanced}
-use Rattle.wear.specs.Counting.{deads-behind, drop-behind, set-slot, copied-dead}
+use Rattle.wear.specs.Demand3.{blocks, stocked, ErasesPaid, Balanced}
+use Rattle.wear.specs.Counting.{deads, deads-behind, drop-behind, set-slot, copied-dead}
 use Rattle.wear.specs.Erases.{erases-append, written-none, delete-none, turns, turns-length, balanced}
 use Rattle.wear.specs.Room.{Paid, paid-after, Moved, room-moved}
-use Rattle.wear.specs.Stored.{Stored, stored-none, stored-length, stored-put, stored-delete}
+use Rattle.wear.specs.Stored.{Stored, blocks-length, stored-blocks, stored-length, stored-put, stored-delete}
 
 -- the count belongs to the view
 pub record Tracks (N B : ℕ) (v : View) (t : Ledger) : Type 0 where
@@ -49,14 +50,19 @@ tracks-balanced N B v t h = λ i j hi hj. rw (h .inTurn) (omega (arith, balanced
 -- ---- one request
 
 module _ (N B : ℕ) where
-  pub tracks-start : 2 ≤ N → Tracks N B (fresh B) start
-  unfolding start fresh turns
-  tracks-start h = record {
-    inTurn = refl;
-    stored = rw (fresh-table B) stored-none;
-    most = omega arith;
-    paid = record { k = 0; p = 0; boundary = omega arith; part = omega arith; paid = omega (arith, drop-behind 0 [] (replicate B empty) (rw (copied-none B) (copied-dead B [])), deads-behind []) };
+  -- no segment was erased yet, and no slot is dead
+  pub tracks-stocked : 2 ≤ N → (v : View) (t : Table) → v .first ≡ 0 → distinct t ≡ true → Agree (entriesIn v) t → deads (v .slots) ≡ 0 → Tracks N B v (stocked t)
+  unfolding stocked turns
+  tracks-stocked h v t f d a n = record {
+    inTurn = rw f refl;
+    stored = stored-blocks t (entriesIn v) d a;
+    most = omega (arith, blocks-length t);
+    paid = record { k = 0; p = 0; boundary = rw f (omega arith); part = omega arith; paid = omega (arith, n) };
   }
+
+  pub tracks-start : 2 ≤ N → Tracks N B (fresh B) start
+  unfolding start stocked blocks fresh distinct
+  tracks-start h = tracks-stocked h (fresh B) [] refl refl (λ b. rw (fresh-table B)) (omega (arith, drop-behind 0 [] (replicate B empty) (rw (copied-none B) (copied-dead B [])), deads-behind []))
 
   -- the blocks stored, m replaced more, these erases
   counted : List ℕ → ℕ → List ℕ → Ledger → Ledger

@@ -21,7 +21,7 @@ use Rattle.bridge.specs.Accepted.{refused-none, accepted, quiet-none, recover-n
 use Rattle.bridge.specs.Allowance.{Ends, ends}
 use Rattle.bridge.specs.Requests.{put-done, delete-done}
 use Rattle.bridge.specs.Format.{format-bytes, format-done}
-use Rattle.wear.specs.Demand3.{FewErases, Demand3}
+use Rattle.wear.specs.Demand3.{FewErases, Bounded, Demand3}
 use Rattle.wear.specs.Erases.{delete-none}
 use Rattle.wear.specs.Requests.{Tracks, tracks-paid, tracks-balanced, tracks-start, tracks-still, put-few, tracks-put, tracks-delete}
 
@@ -180,9 +180,13 @@ pub recover-idle : (N B : ℕ) (s : Image) (allowance : ℕ) (xs : List Call) �
     → (k : ℕ) → workOf N B (play N B (outcomeOf N B s allowance format .image) (take k xs)) recover .steps ≡ []
 recover-idle N B s allowance xs e u k = recover-none N B (play N B (outcomeOf N B s allowance format .image) (take k xs)) (stays-clean N B s allowance xs e u k)
 
-pub demand3 : Demand3
-demand3 = λ N B s allowance xs e u.
-    let os = observed N B (outcomeOf N B s allowance format .image) xs in
-    let a = all-kept N B s allowance xs e u in
+-- what demand 3 says, from any clean image to whose view the count belongs
+pub bounded-from : (N B : ℕ) (s : Image) (t : Ledger) (xs : List Call) → Sequenced N B s t → Uncut (observed N B s xs) → Bounded N B t (observed N B s xs)
+bounded-from N B s t xs g u =
+    let os = observed N B s xs in
+    let a = sequence N B s t xs g u in
     let whole = rw (take-length os) at (a .1 (length os) .tracks) in
-    (tracks-paid N B _ (ledger os start) whole, a .0, λ k. tracks-balanced N B _ (ledger (take k os) start) (a .1 k .tracks))
+    (tracks-paid N B _ (ledger os t) whole, a .0, λ k. tracks-balanced N B _ (ledger (take k os) t) (a .1 k .tracks))
+
+pub demand3 : Demand3
+demand3 = λ N B s allowance xs e u. bounded-from N B (outcomeOf N B s allowance format .image) start xs (formatted N B s allowance e) u

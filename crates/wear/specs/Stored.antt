@@ -11,6 +11,7 @@ use Rattle.model.specs.State.{holds, distinct}
 use Rattle.model.specs.Table.{Table, without, store, Agree}
 use Rattle.model.specs.Sequences.{among, removed, inserted}
 use Rattle.model.specs.Laws.Tables.{agree-holds}
+use Rattle.wear.specs.Demand3.{blocks}
 
 -- ---- lists of block numbers
 
@@ -77,11 +78,7 @@ no-more (x ∷ xs) ys d h =
 
 -- ---- the blocks of a table
 
-blocks : Table → List ℕ
-blocks [] = []
-blocks (e ∷ t) = e .block ∷ blocks t
-
-blocks-length : (t : Table) → length (blocks t) ≡ length t
+pub blocks-length : (t : Table) → length (blocks t) ≡ length t
 unfolding blocks
 blocks-length [] = refl
 blocks-length (e ∷ t) = ap suc (blocks-length t)
@@ -113,9 +110,8 @@ pub record Stored (xs : List ℕ) (t : Table) : Type 0 where
   pub same : (b : ℕ) → among b xs ≡ holds b t
   pub once : Distinct xs
 
-pub stored-none : Stored [] []
-unfolding among holds
-stored-none = record { same = λ b. refl; once = tt }
+pub stored-blocks : (t u : Table) → distinct t ≡ true → Agree u t → Stored (blocks t) u
+stored-blocks t u d h = record { same = λ b. sym (agree-holds u t h b ∙ holds-blocks b t); once = blocks-distinct t d }
 
 pub stored-length : (xs : List ℕ) (t : Table) → Stored xs t → distinct t ≡ true → length xs ≡ length t
 stored-length xs t s d =
