@@ -106,7 +106,8 @@ none-applies false false true d e = absurd (omega arith)
 none-applies false false false true e = absurd (omega arith)
 none-applies false false false false e = (refl, refl, refl, refl)
 
-neither : (x : State) → isDamaged x ≡ false → isUnfinished x ≡ false → x ≡ clean
+-- an image that is refused by neither 4 nor 5 is clean
+pub neither : (x : State) → isDamaged x ≡ false → isUnfinished x ≡ false → x ≡ clean
 unfolding isDamaged isUnfinished
 neither clean a b = refl
 neither (unfinished x) a b = absurd (true≢false b)

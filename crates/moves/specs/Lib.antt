@@ -4,3 +4,4 @@ pub mod Sorted
 pub mod Placed
 pub mod Filling
 pub mod Fresh
+pub mod Facts

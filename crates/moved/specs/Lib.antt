@@ -1,0 +1,3 @@
+-- The statements, and their proofs.
+pub mod Law
+pub mod Theorem

@@ -1,0 +1,98 @@
+-- The proofs: a finished move is a fresh image built from a table that fits.
+use Prim.Native.Nat.{ℕ, zero, suc, _+_, _-_, _*_, _/_, _≤_, _<_}
+use mathlib.Core.Path.{_≡_, refl, sym, ap, _∙_, subst}
+use mathlib.Core.Logic.{⊎-elim}
+use mathlib.Core.Bool.{Bool, true, false, cond, _&&_}
+use mathlib.Core.List.{List, [], _∷_, _++_, flatten}
+use native.Mathlib.Omega.{arith}
+use lib.ListN.{length, take, length-take}
+use lib.Dec.{leb}
+use Rattle.model.specs.Chip.{Image, Bytes, Cut, rightSize, run}
+use Rattle.model.specs.Header.{newVersion}
+use Rattle.model.specs.Slot.{isDead, Slot}
+use Rattle.model.specs.State.{View, state, clean, view, distinct, entriesIn, entries}
+use Rattle.model.specs.Steps.{copied}
+use Rattle.model.specs.Table.{Table, Agree, tableOf}
+use Rattle.model.specs.Answers.{codeUnder}
+use Rattle.model.specs.Histories.{Event, History}
+use Rattle.model.specs.Sequences.{Call, observed}
+use Rattle.model.specs.Laws.Chip.{run-size, cut-size}
+use Rattle.model.specs.Laws.Tables.{agree-of, agree-trans}
+use Rattle.bridge.specs.Views.Shape.{rowAdded}
+use Rattle.crash.specs.Machine.{Promise, settled, PlainRuns}
+use Rattle.crash.specs.Demand2.{Keeps, board}
+use Rattle.crash.specs.Theorem.{from-clean}
+use Rattle.wear.specs.Demand3.{stocked, Bounded}
+use Rattle.wear.specs.Sequence.{bounded-from}
+use Rattle.moves.specs.Moves.{byNumber, freshSteps, moveRefusals, moveWork, moveOutcome}
+use Rattle.moves.specs.Sorted.{sorted-agree, sorted-equal}
+use Rattle.moves.specs.Filling.{filling, Built}
+use Rattle.moves.specs.Fresh.{Fits, fresh-built, fresh-bytes, fresh-same, built-clean, built-table, built-second}
+use Rattle.moves.specs.Facts.{table-distinct, table-valid, Movable, movable-fits, Done, done, undone}
+use Rattle.moved.specs.Law.{targetAfter, Finished, RefusedUnchanged, SameTable, EqualTargets, MovedDemand2}
+
+pub refused-unchanged : RefusedUnchanged
+refused-unchanged = λ N B s M D t allowance n m. undone N B s M D t allowance n m
+
+-- ---- a finished move
+
+module _ (N B : ℕ) (s : Image) (M D : ℕ) (t : Image) (allowance : ℕ) (f : Finished N B s M D t allowance) where
+  abbrev table : Table
+  table = tableOf N B s
+
+  abbrev target : Image
+  target = targetAfter N B s M D t allowance
+
+  d : Done N B s M D t allowance
+  d = done N B s M D t allowance (f .1)
+
+  m : Movable N B s M D t
+  m = d .movable
+
+  fits : Fits M D (byNumber table)
+  fits = movable-fits N B s M D t (f .0) m
+
+  once : distinct table ≡ true
+  once = table-distinct N B s (m .source) (m .fine)
+
+  built : Built M D target (byNumber table)
+  built = rw (d .image) (fresh-built M D (byNumber table) t (m .target) fits)
+
+  size : rightSize M D target ≡ true
+  size = rw (d .image) (run-size M D (freshSteps M D (byNumber table) t) t ∙ m .target)
+
+  bytes : Bytes target
+  bytes = rw (d .image) (fresh-bytes M D (byNumber table) t (m .target) fits)
+
+  is-clean : state M D target ≡ clean
+  is-clean = built-clean M D target (byNumber table) fits built
+
+  -- in the order of their numbers
+  in-order : tableOf M D target ≡ byNumber table
+  in-order = built-table M D target (byNumber table) fits built
+
+  version : view M D target .version ≡ newVersion 0
+  unfolding rowAdded
+  version = ap (λ (y : View). y .version) (built .held .view)
+
+  same-blocks : Agree (tableOf M D target) table
+  same-blocks = agree-trans (tableOf M D target) (byNumber table) table (agree-of (tableOf M D target) (byNumber table) in-order) (sorted-agree table once)
+
+pub same-table : SameTable
+same-table = λ N B s M D t a f. (is-clean N B s M D t a f, version N B s M D t a f, same-blocks N B s M D t a f)
+
+pub equal-targets : EqualTargets
+equal-targets = λ N B s P Q r M D t u a b f g h.
+    let x = d N B s M D t a f in
+    let y = d P Q r M D u b g in
+    let e : byNumber (tableOf N B s) ≡ byNumber (tableOf P Q r) =
+    sorted-equal (tableOf N B s) (tableOf P Q r) (table-valid N B s (x .movable .source) (x .movable .fine) (f .0)) (table-valid P Q r (y .movable .source) (y .movable .fine) (g .0))
+    (once N B s M D t a f) (once P Q r M D u b g) h in
+    x .image ∙ (fresh-same M D (byNumber (tableOf N B s)) t u (x .movable .target) (y .movable .target) (fits N B s M D t a f)
+    ∙ (ap (λ (z : Table). run D (freshSteps M D z u) u) e ∙ sym (y .image)))
+
+pub moved-demand2 : MovedDemand2
+moved-demand2 = λ N B s M D t u a es f h.
+    let w = targetAfter N B s M D t a in
+    let r = from-clean M D w u es (size N B s M D t a f) (bytes N B s M D t a f) (is-clean N B s M D t a f) (built-second M D w (byNumber (tableOf N B s)) (fits N B s M D t a f) (built N B s M D t a f)) h in
+    rw (in-order N B s M D t a f) at r
