@@ -222,7 +222,7 @@ put-length N B b c v r h =
     last true p = omega (arith, place-length N B p)
     last false p = omega arith
 
-erase-length : (k : ℕ) → length (eraseFirst k) ≡ k
+pub erase-length : (k : ℕ) → length (eraseFirst k) ≡ k
 unfolding eraseFirst
 erase-length zero = refl
 erase-length (suc k) = length-append (eraseFirst k) (erase k ∷ []) ∙ omega (arith, erase-length k)

@@ -1,10 +1,10 @@
 -- A fresh image built from a table: its list as it is written, and what it leaves, whatever the chip held before.
-use Prim.Native.Nat.{ℕ, _-_, _≤_, _<_}
+use Prim.Native.Nat.{ℕ, _+_, _-_, _*_, _/_, _≤_}
 use mathlib.Core.Path.{_≡_, refl, sym, ap, _∙_, subst}
 use mathlib.Core.Bool.{true, false}
 use mathlib.Core.List.{List, [], _∷_, _++_, flatten}
 use native.Mathlib.Omega.{arith}
-use lib.ListN.{length}
+use lib.ListN.{length, length-append}
 use Rattle.model.specs.Lists.{all}
 use Rattle.model.specs.Chip.{Image, Bytes, rightSize, run}
 use Rattle.model.specs.Header.{newVersion, isFormer}
@@ -22,6 +22,7 @@ use Rattle.bridge.specs.Held.{Held, held-table, clean-of-held}
 use Rattle.bridge.specs.Format.{format-held, format-same, format-bytes}
 use Rattle.moves.specs.Moves.{putEach, freshSteps}
 use Rattle.moves.specs.Placed.{placed}
+use Rattle.moves.specs.Counted.{slotSteps, placed-length, format-length}
 use Rattle.moves.specs.Filling.{filling, Filled, filled-clean, Built, builds}
 
 -- a table that can be written to an image of N segments with B slots
@@ -77,3 +78,9 @@ module _ (N B : ℕ) (s : Image) (t : Table) (f : Fits N B t) (b : Built N B s t
 pub fresh-same : (N B : ℕ) (t : Table) (s u : Image) → rightSize N B s ≡ true → rightSize N B u ≡ true → Fits N B t → run B (freshSteps N B t s) s ≡ run B (freshSteps N B t u) u
 fresh-same N B t s u y z f =
     rw (fresh-list N B t s y f, fresh-list N B t u z f, run-append B (formatSteps N B) (placed N B 0 0 t) s, run-append B (formatSteps N B) (placed N B 0 0 t) u, format-same N B s u y z)
+
+pub fresh-length : (N B : ℕ) (t : Table) (s : Image) → rightSize N B s ≡ true → Fits N B t → length (freshSteps N B t s) ≡ N + 21 * (1 + (length t - 1) / B) + slotSteps t
+fresh-length N B t s z f =
+    let z0 : 0 + length t - 1 ≡ length t - 1 = omega arith in
+    rw (fresh-list N B t s z f)
+    (omega (arith, length-append (formatSteps N B) (placed N B 0 0 t), format-length N B, rw z0 at (placed-length N B 0 0 t (omega (arith, size-facts N B s z .slots)) (omega arith))))

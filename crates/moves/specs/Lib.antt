@@ -2,6 +2,7 @@
 pub mod Moves
 pub mod Sorted
 pub mod Placed
+pub mod Counted
 pub mod Filling
 pub mod Fresh
 pub mod Facts
