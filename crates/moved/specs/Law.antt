@@ -16,6 +16,7 @@ use Rattle.crash.specs.Machine.{Promise, settled, PlainRuns}
 use Rattle.crash.specs.Demand2.{Keeps, board}
 use Rattle.wear.specs.Demand3.{stocked, Bounded}
 use Rattle.moves.specs.Moves.{byNumber, moveWork, moveOutcome}
+use Rattle.moves.specs.Counted.{slotSteps}
 
 -- the target as a move leaves it
 abbrev pub targetAfter : ℕ → ℕ → Image → ℕ → ℕ → Image → ℕ → Image
@@ -40,11 +41,7 @@ abbrev pub EqualTargets : Type 0
 EqualTargets = (N B : ℕ) (s : Image) (P Q : ℕ) (r : Image) (M D : ℕ) (t u : Image) (a b : ℕ) → Finished N B s M D t a → Finished P Q r M D u b → Agree (tableOf N B s) (tableOf P Q r)
     → targetAfter N B s M D t a ≡ targetAfter P Q r M D u b
 
--- the steps of a finished move of these blocks: the erases, the openings, one for the first segment and one whenever a segment is full and a block is left, and the slots
-unfoldable pub slotSteps : Table → ℕ
-slotSteps [] = 0
-slotSteps (e ∷ t) = 5 + length (e .contents) + slotSteps t
-
+-- The steps: M erases, 21 for the opening of the first segment and of each further one, which is opened when a block needs it, and 5 and its length for each block.
 abbrev pub StepCount : Type 0
 StepCount = (N B : ℕ) (s : Image) (M D : ℕ) (t : Image) (allowance : ℕ) → Finished N B s M D t allowance
     → let blocks = tableOf N B s in moveOutcome N B s M D t allowance .count ≡ M + 21 * (1 + (length blocks - 1) / D) + slotSteps blocks

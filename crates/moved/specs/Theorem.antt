@@ -13,23 +13,28 @@ use Rattle.model.specs.Slot.{isDead, Slot}
 use Rattle.model.specs.State.{View, state, clean, view, distinct, entriesIn, entries}
 use Rattle.model.specs.Steps.{copied}
 use Rattle.model.specs.Table.{Table, Agree, tableOf}
-use Rattle.model.specs.Answers.{codeUnder}
+use Rattle.model.specs.Answers.{Work, codeUnder}
 use Rattle.model.specs.Histories.{Event, History}
 use Rattle.model.specs.Sequences.{Call, observed}
-use Rattle.model.specs.Laws.Chip.{run-size, cut-size}
+use Rattle.model.specs.Laws.Lists.{count-append, flatten-last}
+use Rattle.model.specs.Laws.Chip.{run-size, cut-size, size-facts}
 use Rattle.model.specs.Laws.Tables.{agree-of, agree-trans}
+use Rattle.bridge.specs.Views.Slots.{rows-length, slots-counted}
 use Rattle.bridge.specs.Views.Shape.{rowAdded}
 use Rattle.crash.specs.Machine.{Promise, settled, PlainRuns}
 use Rattle.crash.specs.Demand2.{Keeps, board}
 use Rattle.crash.specs.Theorem.{from-clean}
 use Rattle.wear.specs.Demand3.{stocked, Bounded}
+use Rattle.wear.specs.Counting.{deads, copied-dead}
+use Rattle.wear.specs.Requests.{tracks-stocked}
 use Rattle.wear.specs.Sequence.{bounded-from}
 use Rattle.moves.specs.Moves.{byNumber, freshSteps, moveRefusals, moveWork, moveOutcome}
-use Rattle.moves.specs.Sorted.{sorted-agree, sorted-equal}
-use Rattle.moves.specs.Filling.{filling, Built}
-use Rattle.moves.specs.Fresh.{Fits, fresh-built, fresh-bytes, fresh-same, built-clean, built-table, built-second}
-use Rattle.moves.specs.Facts.{table-distinct, table-valid, Movable, movable-fits, Done, done, undone}
-use Rattle.moved.specs.Law.{targetAfter, Finished, RefusedUnchanged, SameTable, EqualTargets, MovedDemand2}
+use Rattle.moves.specs.Sorted.{sorted-length, sorted-agree, sorted-equal}
+use Rattle.moves.specs.Counted.{sorted-steps}
+use Rattle.moves.specs.Filling.{filling, Filled, Built}
+use Rattle.moves.specs.Fresh.{Fits, fresh-built, fresh-bytes, fresh-same, fresh-length, built-clean, built-table, built-second}
+use Rattle.moves.specs.Facts.{table-distinct, table-valid, Movable, movable-fits, Done, done, undone, work-same}
+use Rattle.moved.specs.Law.{targetAfter, Finished, RefusedUnchanged, SameTable, EqualTargets, StepCount, Tried, BegunAgain, MovedDemand2, MovedDemand3}
 
 pub refused-unchanged : RefusedUnchanged
 refused-unchanged = λ N B s M D t allowance n m. undone N B s M D t allowance n m
@@ -75,6 +80,10 @@ module _ (N B : ℕ) (s : Image) (M D : ℕ) (t : Image) (allowance : ℕ) (f : 
   unfolding rowAdded
   version = ap (λ (y : View). y .version) (built .held .view)
 
+  first-zero : view M D target .first ≡ 0
+  unfolding rowAdded
+  first-zero = ap (λ (y : View). y .first) (built .held .view)
+
   same-blocks : Agree (tableOf M D target) table
   same-blocks = agree-trans (tableOf M D target) (byNumber table) table (agree-of (tableOf M D target) (byNumber table) in-order) (sorted-agree table once)
 
@@ -91,8 +100,52 @@ equal-targets = λ N B s P Q r M D t u a b f g h.
     x .image ∙ (fresh-same M D (byNumber (tableOf N B s)) t u (x .movable .target) (y .movable .target) (fits N B s M D t a f)
     ∙ (ap (λ (z : Table). run D (freshSteps M D z u) u) e ∙ sym (y .image)))
 
+pub step-count : StepCount
+step-count = λ N B s M D t a f.
+    let x = d N B s M D t a f in
+    let table = tableOf N B s in
+    x .count ∙ (fresh-length M D (byNumber table) t (x .movable .target) (fits N B s M D t a f) ∙ rw (sorted-length table, sorted-steps table))
+
+-- ---- begun again
+
+tried-size : (N B : ℕ) (s : Image) (M D k : ℕ) (t u : Image) → Tried N B s M D k t u → rightSize M D u ≡ rightSize M D t
+unfolding moveOutcome
+tried-size N B s M D zero t u e = ap (rightSize M D) e
+tried-size N B s M D (suc k) t u (m, c, r) =
+    tried-size N B s M D k m u r
+    ∙ ⊎-elim (λ x. cut-size M D (moveWork N B s M D t .steps) t m x) (λ x. ap (rightSize M D) (x .1) ∙ run-size M D (take (x .0) (moveWork N B s M D t .steps)) t) c
+
+pub begun-again : BegunAgain
+unfolding moveOutcome
+begun-again = λ N B s M D k t u a b h.
+    let z = tried-size N B s M D k t u h in
+    let w = work-same N B s M D t u b z in
+    (ap (codeUnder a) w, ap (λ (x : Work). length (take a (x .steps))) w, λ e. equal-targets N B s N B s M D u t a a (b, ap (codeUnder a) w ∙ e) (b, e) (λ q. refl))
+
+-- ---- demands 2 and 3
+
 pub moved-demand2 : MovedDemand2
 moved-demand2 = λ N B s M D t u a es f h.
     let w = targetAfter N B s M D t a in
     let r = from-clean M D w u es (size N B s M D t a f) (bytes N B s M D t a f) (is-clean N B s M D t a f) (built-second M D w (byNumber (tableOf N B s)) (fits N B s M D t a f) (built N B s M D t a f)) h in
     rw (in-order N B s M D t a f) at r
+
+-- no slot of a fresh image is dead
+none-dead : (M D : ℕ) (rows : List (List Slot)) (top : Table) → Filled M D rows top → deads (filling D rows top .slots) ≡ 0
+unfolding rowAdded
+none-dead M D rows top f =
+    rw (flatten-last rows (copied D top), count-append isDead (flatten rows) (copied D top))
+    (omega (arith, copied-dead D top, slots-counted (flatten rows) (f .sound), f .live, rows-length D rows (f .sizes)))
+
+pub moved-demand3 : MovedDemand3
+moved-demand3 = λ N B s M D t a xs f u.
+    let w = targetAfter N B s M D t a in
+    let b = built N B s M D t a f in
+    let two = size-facts M D w (size N B s M D t a f) .two in
+    bounded-from M D w (stocked (tableOf N B s)) xs (record {
+      size = size N B s M D t a f;
+      bytes = bytes N B s M D t a f;
+      clean = is-clean N B s M D t a f;
+      tracks = tracks-stocked M D two (view M D w) (tableOf N B s) (first-zero N B s M D t a f) (once N B s M D t a f) (unfold tableOf in same-blocks N B s M D t a f)
+          (rw (b .held .view) (none-dead M D (b .rows) (b .top) (b .filled)));
+    }) u

@@ -13,7 +13,7 @@ use Rattle.model.specs.Chip.{Image, Step, Bytes, rightSize, run}
 use Rattle.model.specs.Slot.{Slot, Entry}
 use Rattle.model.specs.State.{entries, distinct, capacity, State, clean, unfinished, damaged, state, view, entriesIn}
 use Rattle.model.specs.Table.{Table, tableOf}
-use Rattle.model.specs.Answers.{_when_, firstOf, isDamaged, isUnfinished, codeUnder}
+use Rattle.model.specs.Answers.{_when_, firstOf, isDamaged, isUnfinished, Work, codeUnder}
 use Rattle.model.specs.Laws.Lists.{and-left, and-right}
 use Rattle.model.specs.Laws.CopyOut.{Valids}
 use Rattle.bridge.specs.Views.Slots.{entries-append}
@@ -22,7 +22,7 @@ use Rattle.bridge.specs.Mounting.{neither}
 use Rattle.bridge.specs.Held.{Held, held-of-clean, clean-view, row-valid}
 use Rattle.moves.specs.Moves.{byNumber, freshSteps, moveRefusals, moveWork, moveOutcome}
 use Rattle.moves.specs.Sorted.{sorted-length, sorted-distinct, sorted-valids}
-use Rattle.moves.specs.Fresh.{Fits}
+use Rattle.moves.specs.Fresh.{Fits, fresh-list}
 
 -- ---- the table of a clean image can be written
 
@@ -139,3 +139,25 @@ module _ (N B : ℕ) (s : Image) (M D : ℕ) (t : Image) where
           ⊎-elim (λ a. absurd (n (ended allowance true f ∙ a .code)))
           (λ r. let none : take allowance (moveWork N B s M D t .steps) ≡ [] = ap (λ (xs : List Step). take allowance xs) (r .steps) ∙ take-nil allowance in (ap (λ (xs : List Step). length xs) none, ap (λ xs. run D xs t) none))
           decided
+
+-- ---- another target of the same size
+
+-- the source decides, and the list is the same whatever the target held
+pub work-same : (N B : ℕ) (s : Image) (M D : ℕ) (t u : Image) → Bytes s → rightSize M D u ≡ rightSize M D t → moveWork N B s M D u ≡ moveWork N B s M D t
+unfolding moveWork
+work-same N B s M D t u b z = rw same (go (eqb (refusal N B s M D t) 0) refl)
+  where
+    table : Table
+    table = byNumber (tableOf N B s)
+
+    same : refusal N B s M D u ≡ refusal N B s M D t
+    same = unfold moveRefusals in rw z
+
+    go : (x : Bool) → eqb (refusal N B s M D t) 0 ≡ x
+        → cond {A = Work} x (record { code = 0; steps = freshSteps M D table u }) (record { code = refusal N B s M D t; steps = [] })
+        ≡ cond x (record { code = 0; steps = freshSteps M D table t }) (record { code = refusal N B s M D t; steps = [] })
+    go false e = refl
+    go true e =
+        let m = asks N B s M D t (eqb-true (refusal N B s M D t) 0 e) in
+        let f = movable-fits N B s M D t b m in
+        ap (λ (xs : List Step). record { code = 0; steps = xs }) (fresh-list M D table u (z ∙ m .target) f ∙ sym (fresh-list M D table t (m .target) f))
