@@ -29,7 +29,7 @@ unclean-code (unfinished x) h = refl
 unclean-code damaged h = refl
 
 -- the rows for the state of the image
-unclean : (x : State) → (x ≡ clean → ⊥) → (r : List Refusal) → firstOf ((4 when isDamaged x) ∷ (5 when isUnfinished x) ∷ r) ≡ codeOf (answerIn x)
+pub unclean : (x : State) → (x ≡ clean → ⊥) → (r : List Refusal) → firstOf ((4 when isDamaged x) ∷ (5 when isUnfinished x) ∷ r) ≡ codeOf (answerIn x)
 unfolding firstOf isDamaged isUnfinished codeOf answerIn
 unclean clean h r = absurd (h refl)
 unclean (unfinished x) h r = refl
