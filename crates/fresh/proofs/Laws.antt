@@ -1,0 +1,316 @@
+-- Laws of a fresh image: a segment opened, the page of a live slot written, the image formatted, and the loop over block numbers.
+use Prim.Native.Nat.{ℕ, zero, suc, _+_, _-_, _*_, _%_, _≤_, _<_}
+use mathlib.Core.Path.{_≡_, refl, sym, ap, ap₂, _∙_, subst}
+use mathlib.Core.Logic.{_≢_}
+use mathlib.Core.Bool.{true, cond}
+use mathlib.Core.List.{List, [], _∷_, _++_, append-nil, append-assoc}
+use native.Mathlib.Nat.{sub-zero, suc-mul, mul-le-mul-right, mod-lt}
+use native.Mathlib.Numerals.{add-one}
+use native.Mathlib.Omega.{arith}
+use lib.ListN.{length, getD, take, drop, replicate, length-append, length-take, length-replicate}
+use lib.Dec.{ltb, eqb}
+use borrow.Author.Tests.{lt-ltb, le-ltb, eq-eqb, ne-eqb}
+use Rattle.model.specs.Chip.{Image, Page, Step, erase, erased, rightSize}
+use Rattle.model.specs.Header.{newVersion}
+use Rattle.model.specs.Slot.{mostContents, slotPage, live, slotOf, Entry, entryOf}
+use Rattle.model.specs.Steps.{onPage, slotAt, writeSlot, openSegment, eraseFirst, formatSteps}
+use Rattle.model.specs.Table.{Table}
+use Rattle.model.specs.Answers.{Work, format, stepsFor, workOn, workOf, performed, Outcome, worked, outcomeOf}
+use Rattle.model.specs.Mounted.{Places, leastPlaces}
+use Rattle.model.specs.Laws.Chip.{size-facts}
+use Rattle.model.specs.Laws.SlotPage.{live-facts}
+use Rattle.model.specs.declared.Performed.{Performed}
+use Rattle.bridge.specs.Refusals.{format-code}
+use Rattle.bridge.specs.Lengths.{page-length, write-length, open-length}
+use Rattle.moves.specs.Placed.{placed}
+use Rattle.flash.specs.Ran.{Ran, Programmed}
+use Rattle.flash.specs.Pages.{OnPageAt, Sized}
+use Rattle.flash.proofs.Laws.{_then_, ran-none, ran-length}
+use Rattle.flash.proofs.Pages.{sized, in-page}
+use Rattle.slot.specs.Parts.{slotParts}
+use Rattle.slot.proofs.Laws.Writes.{slot-parts}
+use Rattle.request.specs.Request.{Finished}
+use Rattle.request.proofs.Answered.{carried, carried-worked}
+use Rattle.fresh.specs.declared.Progress.{Progress}
+use Rattle.fresh.specs.Fresh.{pageAt, listed, LivePage, Pointing, onward, Going, Came, Opened, Added}
+
+-- ---- entries placed
+
+placed-none : (N B n j : ℕ) → placed N B n j [] ≡ []
+unfolding placed
+placed-none N B n j = refl
+
+module _ (N B n j : ℕ) (e : Entry) (es : Table) where
+  placed-here : j < B → placed N B n j (e ∷ es) ≡ onPage (slotAt N B n j) (writeSlot (e .block) (e .contents)) ++ placed N B n (suc j) es
+  unfolding placed
+  placed-here h = rw (lt-ltb j B h)
+
+  placed-next : B ≤ j → 0 < B → placed N B n j (e ∷ es) ≡ openSegment N B (newVersion 0) (suc n) ++ placed N B (suc n) 0 (e ∷ es)
+  unfolding placed
+  placed-next h k = rw (le-ltb j B h, lt-ltb 0 B k)
+
+-- ---- a top with an empty slot
+
+module _ (N B : ℕ) (p : Progress) (s : Image) (g : Going N B p (length s)) where
+  pub still-free : 0 < p .free → Opened N B p p s s
+  still-free h = record {
+    steps = [];
+    came = record { ran = ran-none B (p .left) s; counted = omega arith; free = g .free; number = omega arith };
+    some = h;
+    few = omega arith;
+    next = λ e es. refl;
+  }
+
+  pub next-opened : {left : ℕ} {t : Image} → p .free ≤ 0 → Programmed (openSegment N B (newVersion 0) (p .top .0 + 1)) (p .left) left s t
+      → Opened N B p (record { top = record { 0 = p .top .0 + 1 }; free = B; left = left; steps = p .steps + 21 }) s t
+  next-opened h d = record {
+    steps = openSegment N B (newVersion 0) (p .top .0 + 1);
+    came = record { ran = d B; counted = omega (arith, open-length N B 0 (p .top .0 + 1)); free = omega arith; number = omega arith };
+    some = g .some;
+    few = omega (arith, open-length N B 0 (p .top .0 + 1));
+    next = λ e es. next e es;
+  }
+    where
+      next : (e : Entry) (es : Table) → placed N B (p .top .0) (B - p .free) (e ∷ es) ≡ openSegment N B (newVersion 0) (p .top .0 + 1) ++ placed N B (p .top .0 + 1) (B - B) (e ∷ es)
+      next e es =
+          let z : B - B ≡ 0 = omega arith in
+          rw (z, add-one) (placed-next N B (p .top .0) (B - p .free) e es (omega arith) (g .some))
+
+-- ---- the page of a live slot
+
+-- what its page says of it
+record Says (p : Page) (b : ℕ) (c : List ℕ) : Type 0 where
+  whole : length p ≡ 256
+  size : getD p 1 0 ≡ length c
+  short : length c ≤ 248
+  writes : slotParts p (getD p 1 0) ≡ writeSlot b c
+
+says : (p : Page) (b : ℕ) (c : List ℕ) → slotOf p ≡ live b c → Says p b c
+unfolding mostContents slotPage erased
+says p b c h =
+    let f = live-facts p b c h in
+    let k : length c ≤ 248 = f .short in
+    let size : getD p 1 0 ≡ length c = ap (λ (y : Page). getD y 1 0) (f .page) in
+    record {
+      whole = omega (arith, ap length (f .page), length-append c (replicate (248 - length c) 255), length-replicate {A = ℕ} (248 - length c) 255);
+      size = size;
+      short = k;
+      writes = ap₂ slotParts (f .page) size ∙ slot-parts b c;
+    }
+
+one-entry : (p : Page) (b : ℕ) (c : List ℕ) → slotOf p ≡ live b c → entryOf (slotOf p) ≡ record { block = b; contents = c } ∷ []
+unfolding entryOf
+one-entry p b c h = ap entryOf h
+
+-- it is a whole page, with a length that fits a slot
+pub page-fits : (p : Page) → LivePage p → (length p ≡ 256) × (getD p 1 0 ≤ 248)
+page-fits p (b, c, h) = let f = says p b c h in (f .whole, omega (arith, f .size, f .short))
+
+-- a slot lies inside the image
+pub slot-inside : (N B n j bytes : ℕ) → Sized N B bytes → j < B → slotAt N B n j * 256 + 256 ≤ bytes
+unfolding slotAt
+slot-inside N B n j bytes z h = omega (arith, z .whole, suc-mul (n % N) (B + 1), mul-le-mul-right (B + 1) (mod-lt n {m = N} (z .some)))
+
+-- its place, from that of the first slot
+pub slot-place : (N B n j first : ℕ) → first ≡ slotAt N B n 0 * 256 → first + j * 256 ≡ slotAt N B n j * 256
+unfolding slotAt
+slot-place N B n j first e = omega (arith, e)
+
+-- the writing can go on where an empty slot was found
+pub opened-length : (N B : ℕ) (p q : Progress) (s t : Image) → Opened N B p q s t → length t ≡ length s
+opened-length N B p q s t o = ran-length (o .came .ran)
+
+module _ (N B : ℕ) (p q : Progress) (s t : Image) (o : Opened N B p q s t) (page : Page) (lives : LivePage page) where
+  pub page-added : (l at : ℕ) {left : ℕ} {u : Image} → l ≡ getD page 1 0 → at ≡ slotAt N B (q .top .0) (B - q .free) * 256 → OnPageAt at (slotParts page l) (q .left) left t u
+      → Added N B (entryOf (slotOf page)) p (record { top = q .top; free = q .free - 1; left = left; steps = q .steps + 5 + l }) s u
+  page-added l at {left} {u} el ea d = go lives
+    where
+      go : LivePage page → Added N B (entryOf (slotOf page)) p (record { top = q .top; free = q .free - 1; left = left; steps = q .steps + 5 + l }) s u
+      go (b, c, h) =
+          let f = says page b c h in
+          let place = slotAt N B (q .top .0) (B - q .free) in
+          let xs = onPage place (writeSlot b c) in
+          let w : Programmed xs (q .left) left t u = in-page at place (writeSlot b c) ea (rw (el, f .writes) at d) in
+          let size : length xs ≡ 5 + length c = page-length place (writeSlot b c) ∙ write-length b c in
+          let both : length (o .steps ++ xs) ≡ length (o .steps) + length xs = length-append (o .steps) xs in
+          record {
+            steps = o .steps ++ xs;
+            came = record {
+              ran = _then_ (o .came .ran) (w B);
+              counted = omega (arith, o .came .counted, f .size);
+              free = omega (arith, o .came .free);
+              number = o .came .number;
+            };
+            few = omega (arith, o .few, f .short);
+            next = λ es. next b c h es;
+          }
+        where
+          next : (b : ℕ) (c : List ℕ) → slotOf page ≡ live b c → (es : Table)
+              → placed N B (p .top .0) (B - p .free) (entryOf (slotOf page) ++ es) ≡ (o .steps ++ onPage (slotAt N B (q .top .0) (B - q .free)) (writeSlot b c)) ++ placed N B (q .top .0) (B - (q .free - 1)) es
+          next b c h es =
+              let e : Entry = record { block = b; contents = c } in
+              let one : entryOf (slotOf page) ≡ e ∷ [] = one-entry page b c h in
+              let m : suc (B - q .free) ≡ B - (q .free - 1) = omega (arith, o .some, o .came .free) in
+              rw (one, append-assoc, ← m) (o .next e es ∙ ap (λ (y : List Step). o .steps ++ y) (placed-here N B (q .top .0) (B - q .free) e es (omega (arith, o .some, o .came .free))))
+
+-- ---- the page that is lent of an image
+
+abbrev lent : Image → ℕ → Page
+lent s at = take (at + 256 - at) (drop at s)
+
+lent-page : (s : Image) (at : ℕ) → lent s at ≡ pageAt s at
+lent-page s at = let e : at + 256 - at ≡ 256 = omega arith in rw e
+
+pub page-lives : (s : Image) (at : ℕ) → LivePage (pageAt s at) → LivePage (take (at + 256 - at) (drop at s))
+page-lives s at h = rw (lent-page s at) h
+
+pub page-adds : (N B : ℕ) (s : Image) (at : ℕ) (p q : Progress) (u v : Image) → Added N B (entryOf (slotOf (take (at + 256 - at) (drop at s)))) p q u v → Added N B (entryOf (slotOf (pageAt s at))) p q u v
+page-adds N B s at p q u v d = rw (lent-page s at) at d
+
+-- ---- formatted
+
+erase-length : (k : ℕ) → length (eraseFirst k) ≡ k
+unfolding eraseFirst
+erase-length zero = refl
+erase-length (suc k) = length-append (eraseFirst k) (erase k ∷ []) ∙ omega (arith, erase-length k)
+
+format-length : (N B : ℕ) → length (formatSteps N B) ≡ N + 21
+unfolding formatSteps
+format-length N B = length-append (eraseFirst N) (openSegment N B (newVersion 0) 0) ∙ omega (arith, erase-length N, open-length N B 0 0)
+
+format-work : (N B : ℕ) (s : Image) → rightSize N B s ≡ true → workOf N B s format ≡ record { code = 0; steps = formatSteps N B }
+unfolding workOf workOn stepsFor
+format-work N B s z = rw (format-code N B s z)
+
+module _ (N B : ℕ) (s t : Image) (budget : ℕ) (p : Performed) (z : rightSize N B s ≡ true) (d : performed p t ≡ outcomeOf N B s budget format) where
+  format-count : p .steps ≡ length (take budget (formatSteps N B))
+  unfolding performed outcomeOf
+  format-count = ap (λ (o : Outcome). o .count) d ∙ ap (λ (w : Work). length (take budget (w .steps))) (format-work N B s z)
+
+  format-image : t ≡ worked B (record { code = 0; steps = formatSteps N B }) s budget .image
+  unfolding performed outcomeOf
+  format-image = ap (λ (o : Outcome). o .image) d ∙ ap (λ (w : Work). worked B w s budget .image) (format-work N B s z)
+
+  pub format-paid : p .steps ≤ budget
+  format-paid = omega (arith, format-count, length-take budget (formatSteps N B))
+
+  formatted : Ran (formatSteps N B) B budget (budget - p .steps) s t
+  formatted = record { image = format-image; rest = omega (arith, format-count, length-take budget (formatSteps N B)) }
+
+  pub format-sized : Sized N B (length t) × (0 < B)
+  format-sized = (rw (ran-length formatted) (sized N B s z), omega (arith, size-facts N B s z .slots))
+
+-- ---- the entries of a table, one after the other
+
+-- what the entry of one block number tells
+abbrev tells : Image → Places → ℕ → Table
+tells s t k = cond (eqb (getD t k 0) 0) [] (entryOf (slotOf (pageAt s (getD t k 0))))
+
+-- those from a number on. The count of all numbers is a variable in the laws: nothing computes so long a list
+abbrev tableFrom : ℕ → Image → Places → ℕ → Table
+tableFrom all s t k = listed s t k (all - k)
+
+listed-next : (all : ℕ) (s : Image) (t : Places) (k : ℕ) → k < all → tableFrom all s t k ≡ tells s t k ++ tableFrom all s t (k + 1)
+unfolding listed
+listed-next all s t k h = let e : all - k ≡ suc (all - suc k) = omega arith in rw (e, add-one)
+
+listed-end : (all : ℕ) (s : Image) (t : Places) (k : ℕ) → all ≤ k → tableFrom all s t k ≡ []
+unfolding listed
+listed-end all s t k h = let e : all - k ≡ 0 = omega arith in rw e
+
+-- ---- the loop
+
+-- the loop's invariant: the steps since it began, and then what the numbers from `block` on tell, are what it has to do
+pub record Building (all N B : ℕ) (s : Image) (t : Places) (begun : Progress) (from : Image) (block : ℕ) (p : Progress) (u : Image) : Type 0 where
+  pub done : List Step
+  pub ran : Ran done B (begun .left) (p .left) from u
+  pub counted : p .steps ≡ begun .steps + length done
+  pub whole : done ++ onward N B p (tableFrom all s t block) ≡ onward N B begun (tableFrom all s t 1)
+  pub few : p .steps ≤ begun .steps + 274 * block
+  pub number : p .top .0 < block
+  pub free : p .free ≤ B
+  pub low : 0 < block
+  pub high : block ≤ all
+
+module _ (all N B : ℕ) (s : Image) (t : Places) (begun : Progress) (from : Image) where
+  pub building-start : 1 ≤ all → begun .top .0 ≡ 0 → begun .free ≤ B → Building all N B s t begun from 1 begun from
+  building-start h n f = record {
+    done = [];
+    ran = ran-none B (begun .left) from;
+    counted = omega arith;
+    whole = refl;
+    few = omega arith;
+    number = omega arith;
+    free = f;
+    low = omega arith;
+    high = h;
+  }
+
+  module _ (block : ℕ) (p : Progress) (u : Image) (c : Building all N B s t begun from block p u) where
+    pub building-length : length u ≡ length from
+    building-length = ran-length (c .ran)
+
+    pub building-going : Sized N B (length from) → 0 < B → begun .steps ≤ 276 → block < 65536 → Going N B p (length u)
+    building-going z o l h = record {
+      sized = rw building-length z;
+      some = o;
+      free = c .free;
+      number = omega (arith, c .number);
+      few = omega (arith, c .few);
+    }
+
+    module _ (more : block < all) where
+      -- an entry of 0
+      pub building-none : getD t block 0 ≡ 0 → Building all N B s t begun from (block + 1) p u
+      building-none e =
+          let a : tableFrom all s t block ≡ tableFrom all s t (block + 1) = listed-next all s t block more ∙ rw (eq-eqb (getD t block 0) 0 e) refl in
+          record {
+            done = c .done;
+            ran = c .ran;
+            counted = c .counted;
+            whole = ap (λ (l : Table). c .done ++ onward N B p l) (sym a) ∙ c .whole;
+            few = omega (arith, c .few);
+            number = omega (arith, c .number);
+            free = c .free;
+            low = omega arith;
+            high = omega arith;
+          }
+
+      -- a place
+      pub building-turn : (q : Progress) (v : Image) → getD t block 0 ≢ 0 → Added N B (entryOf (slotOf (pageAt s (getD t block 0)))) p q u v → Building all N B s t begun from (block + 1) q v
+      building-turn q v n d =
+          let a : tableFrom all s t block ≡ entryOf (slotOf (pageAt s (getD t block 0))) ++ tableFrom all s t (block + 1) = listed-next all s t block more ∙ rw (ne-eqb (getD t block 0) 0 n) refl in
+          let l : length (c .done ++ d .steps) ≡ length (c .done) + length (d .steps) = length-append (c .done) (d .steps) in
+          record {
+            done = c .done ++ d .steps;
+            ran = _then_ (c .ran) (d .came .ran);
+            counted = omega (arith, c .counted, d .came .counted);
+            whole = append-assoc (c .done) (d .steps) (onward N B q (tableFrom all s t (block + 1)))
+                ∙ ap (λ (y : List Step). c .done ++ y) (sym (ap (onward N B p) a ∙ d .next (tableFrom all s t (block + 1))))
+                ∙ c .whole;
+            few = omega (arith, c .few, d .came .counted, d .few);
+            number = omega (arith, c .number, d .came .number);
+            free = d .came .free;
+            low = omega arith;
+            high = omega arith;
+          }
+
+    building-whole : all ≤ block → c .done ≡ onward N B begun (tableFrom all s t 1)
+    building-whole h =
+        let end : onward N B p (tableFrom all s t block) ≡ [] = ap (onward N B p) (listed-end all s t block h) ∙ placed-none N B (p .top .0) (B - p .free) in
+        sym (append-nil (c .done)) ∙ ap (λ (y : List Step). c .done ++ y) (sym end) ∙ c .whole
+
+-- where the loop begins: the first segment is open
+abbrev pub Begun : ℕ → ℕ → ℕ → Performed → Progress
+Begun N B budget f = record { top = record { 0 = 0 }; free = B; left = budget - f .steps; steps = N + 21 }
+
+module _ (N B : ℕ) (first from : Image) (budget : ℕ) (f : Performed) (z : rightSize N B first ≡ true) (d : performed f from ≡ outcomeOf N B first budget format) where
+  pub building-end : (all : ℕ) (s : Image) (t : Places) (block : ℕ) (p : Progress) (u : Image) {r : Performed} → Building all N B s t (Begun N B budget f) from block p u → all ≤ block → Finished budget (p .left) budget (p .steps) r
+      → performed r u ≡ worked B (record { code = 0; steps = formatSteps N B ++ placed N B 0 0 (listed s t 1 (all - 1)) }) first budget
+  building-end all s t block p u c h e =
+      let xs = formatSteps N B ++ c .done in
+      let l : length xs ≡ p .steps = length-append (formatSteps N B) (c .done) ∙ omega (arith, format-length N B, c .counted) in
+      let a : B - B ≡ 0 = omega arith in
+      let whole : c .done ≡ placed N B 0 0 (tableFrom all s t 1) = building-whole all N B s t (Begun N B budget f) from block p u c h ∙ rw a refl in
+      rw (← whole)
+      (carried-worked B first budget [] xs (omega (arith, l, c .counted)) (carried [] xs (_then_ (formatted N B first from budget f z d) (c .ran)) (sym (sub-zero budget)) (sym l) e))
