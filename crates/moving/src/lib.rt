@@ -22,8 +22,8 @@ fn carry(
     target_slots: usize,
     budget: u64,
 ) -> Performed
-    requires { ⌜ Carriable segments slots (now source) (first .0) used target_segments target_slots (now target) ⌝ }
-    ensures { λ r. ⌜ performed r (now (target .exit)) ≡ moveOutcome segments slots (now (source .entry)) target_segments target_slots (now (target .entry)) budget ⌝ }
+    requires { ⌜ Carriable segments slots (now source) (first .0) used «target_segments» «target_slots» (now target) ⌝ }
+    ensures { λ r. ⌜ performed r (now (target .exit)) ≡ moveOutcome segments slots (now (source .entry)) «target_segments» «target_slots» (now (target .entry)) budget ⌝ }
 {
     let mut places = [0u32; 65536];
     places::fill(source, segments, slots, first, used, &mut places);
@@ -48,7 +48,7 @@ pub fn move_to(
     target_slots: usize,
     budget: u64,
 ) -> Performed
-    ensures { λ r. ⌜ performed r (now (target .exit)) ≡ moveOutcome segments slots (now (source .entry)) target_segments target_slots (now (target .entry)) budget ⌝ }
+    ensures { λ r. ⌜ performed r (now (target .exit)) ≡ moveOutcome segments slots (now (source .entry)) «target_segments» «target_slots» (now (target .entry)) budget ⌝ }
 {
     if !request::right_size(source.len(), segments, slots) {
         return request::refused(Answer::Size);

@@ -1,11 +1,12 @@
 -- A table filled from a clean image lists what the image holds, by rising number.
 use Prim.Native.Nat.{ℕ, zero, suc, _+_, _*_, _%_, _≤_, _<_}
 use mathlib.Core.Path.{_≡_, refl, sym, ap, _∙_}
+use mathlib.Core.Logic.{_≢_}
 use mathlib.Core.Bool.{Bool, true, false, cond}
 use mathlib.Core.List.{List, [], _∷_, _++_}
 use native.Mathlib.Omega.{arith}
 use native.Mathlib.Nat.{mod-lt}
-use lib.ListN.{length, getD, take, drop}
+use lib.ListN.{length, getD, replicate, length-replicate}
 use lib.Dec.{eqb}
 use borrow.Author.Tests.{eq-eqb, ne-eqb}
 use Rattle.model.specs.Chip.{Image, Bytes, rightSize, pagesOf, imageLength}
@@ -24,7 +25,11 @@ use Rattle.bridge.specs.Mounting.{filled-entry, filled-length, live-page}
 use Rattle.moves.specs.Sorted.{foundAt, rising, sorted-rising}
 use Rattle.moves.specs.Moves.{byNumber}
 use Rattle.moves.specs.Facts.{table-distinct, table-valid}
-use Rattle.fresh.specs.Fresh.{pageAt, listed, Pointing}
+use Rattle.fresh.specs.Fresh.{pageAt, listed, LivePage, Pointing}
+
+-- an array of so many
+pub as-many : (n v : ℕ) → n ≤ length (replicate n v)
+as-many n v = omega (arith, length-replicate n v)
 
 module _ (N B : ℕ) (s : Image) (z : rightSize N B s ≡ true) (c : state N B s ≡ clean) where
   abbrev v : View
@@ -80,6 +85,11 @@ module _ (N B : ℕ) (s : Image) (z : rightSize N B s ≡ true) (c : state N B s
         let g = found .gap in
         rw (found .split, fill-entries g (live k (found .contents)), lookup-append k (entries (earlier g)) (entryOf (live k (found .contents)) ++ entries (later g)), found .first, eq-eqb k k refl)
 
+  -- one that is not
+  none : (k : ℕ) → holds k (entriesIn v) ≡ false → placeEntry N B v k ≡ 0
+  unfolding placeEntry
+  none k h = rw h
+
   -- ---- a filled table
 
   module _ (t : Places) (l : leastPlaces ≤ length t) where
@@ -88,13 +98,28 @@ module _ (N B : ℕ) (s : Image) (z : rightSize N B s ≡ true) (c : state N B s
 
     -- what an entry tells is what the table of blocks has
     entry-tells : (k : ℕ) → 0 < k → k < leastPlaces → cond (eqb (getD filled k 0) 0) [] (entryOf (slotOf (pageAt s (getD filled k 0)))) ≡ foundAt k (lookup k (tableOf N B s))
+    unfolding tableOf foundAt
     entry-tells k a b = rw (filled-entry N B v t k a b) (go (holds k (entriesIn v)) refl)
       where
         go : (u : Bool) → holds k (entriesIn v) ≡ u → cond (eqb (placeEntry N B v k) 0) [] (entryOf (slotOf (pageAt s (placeEntry N B v k)))) ≡ foundAt k (lookup k (tableOf N B s))
-        go = _
+        go true h = rw (is-entry k h, ne-eqb (place k h) 0 (λ q. omega (arith, some k h)), page k h, contents k h) (unfold entryOf in refl)
+        go false h = rw (none k h, lookup-absent k (entriesIn v) h)
 
     pub points : Pointing s filled
-    points = _
+    points = record {
+      long = omega (arith, filled-length N B v t l);
+      points = λ k a b n. go k a b n (holds k (entriesIn v)) refl;
+    }
+      where
+        go : (k : ℕ) → 0 < k → k < leastPlaces → getD filled k 0 ≢ 0 → (u : Bool) → holds k (entriesIn v) ≡ u → (getD filled k 0 + 256 ≤ length s) × LivePage (pageAt s (getD filled k 0))
+        go k a b n true h = rw (filled-entry N B v t k a b, is-entry k h) (inside k h, (k, found k h .contents, page k h))
+        go k a b n false h = absurd (n (filled-entry N B v t k a b ∙ none k h))
 
-  pub listed-table : Bytes s → (t : Places) → leastPlaces ≤ length t → listed s (filledPlaces N B (view N B s) t) 1 65535 ≡ byNumber (tableOf N B s)
-  listed-table = _
+    -- number by number
+    listed-rising : (k n : ℕ) → 0 < k → k + n ≤ leastPlaces → listed s filled k n ≡ rising k n (tableOf N B s)
+    unfolding listed rising
+    listed-rising k zero a b = refl
+    listed-rising k (suc n) a b = rw (entry-tells k a (omega arith), listed-rising (suc k) n (omega arith) (omega arith))
+
+    pub listed-table : Bytes s → listed s (filledPlaces N B (view N B s) t) 1 65535 ≡ byNumber (tableOf N B s)
+    listed-table b = listed-rising 1 65535 (omega arith) (omega arith) ∙ sym (sorted-rising (tableOf N B s) (table-valid N B s z c b) (table-distinct N B s z c))
