@@ -8,6 +8,10 @@ pub mod reference;
 pub mod account;
 
 #[allow(dead_code)]
+#[path = "../../bindings/rust/tests/store/flash_plain.rs"]
+mod flash_plain;
+
+#[allow(dead_code)]
 #[path = "../../bindings/rust/tests/store/mounted_plain.rs"]
 pub mod mounted_plain;
 

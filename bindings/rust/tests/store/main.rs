@@ -12,6 +12,7 @@ mod cuts;
 mod damage;
 mod empty_records;
 mod examples;
+mod flash_plain;
 mod former_board;
 mod geometries;
 mod harness;
