@@ -99,9 +99,21 @@ impl Erases {
 
 /// A sequence from a format; returns the erases.
 fn sequence(store: &Store, rng: &mut Rng, g: Geometry, habit: Habit, requests: usize) -> usize {
-    let mut image = formatted(g);
-    let mut stored = Table::new();
+    let start = (formatted(g), Table::new());
+    sequence_from(store, rng, g, start, habit, requests)
+}
+
+/// One from a fresh image on, with the blocks that it has at the start.
+pub fn sequence_from(
+    store: &Store,
+    rng: &mut Rng,
+    g: Geometry,
+    (mut image, mut stored): (Vec<u8>, Table),
+    habit: Habit,
+    requests: usize,
+) -> usize {
     let mut erases = Erases::new(g);
+    erases.most_stored = stored.len();
     for i in 0..requests {
         let request = choose(rng, habit, g, i, &stored);
         let (_, list) = steps_of(&image, g, &request);
