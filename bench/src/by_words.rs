@@ -15,6 +15,9 @@ mod flash_plain;
 #[path = "../../bindings/rust/tests/store/mounted_plain.rs"]
 pub mod mounted_plain;
 
+#[path = "../../bindings/rust/tests/store/moving_plain.rs"]
+pub mod moving_plain;
+
 pub fn all_255(bytes: &[u8]) -> bool {
     let (words, rest) = bytes.as_chunks();
     words
