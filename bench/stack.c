@@ -3,14 +3,14 @@
  *
  *     rt staticlib qanbillox                                        (at the root of the repository)
  *     cc -O2 -Wall -Wextra -Werror -Iinclude bench/stack.c target/staticlib/libqanbillox.a -o target/stack
- *     target/stack [BYTES ACCOUNT]
+ *     target/stack [BYTES ACCOUNT MOVE]
  *
- * It prints the most bytes that each request took on any of the chips below; with BYTES and ACCOUNT it ends with 1 if
- * one took more than BYTES, or the account, which has large tables of its own, more than ACCOUNT. The table of mounted
- * requests is lent, and not on the stack. Counted is all that the call of a request puts there, down to the deepest
- * byte written: the arguments that find no register, its frames, and those of memcpy and memset. Not counted is what an
- * empty call puts there too, the return address. The images are made by the library's own requests, with budgets for
- * cuts. */
+ * It prints the most bytes that each request took on any of the chips below; with the three numbers it ends with 1 if
+ * one took more than BYTES, or the account and the move, which have large tables of their own, more than ACCOUNT and
+ * MOVE. The table of mounted requests is lent, and not on the stack. Counted is all that the call of a request puts
+ * there, down to the deepest byte written: the arguments that find no register, its frames, and those of memcpy and
+ * memset. Not counted is what an empty call puts there too, the return address. The images are made by the library's
+ * own requests, with budgets for cuts. */
 #define _XOPEN_SOURCE 700
 #include "qanbillox.h"
 
@@ -31,8 +31,8 @@ static const struct {
 static size_t n, b, length;
 static uint8_t image[LONGEST], base[LONGEST], cut[LONGEST];
 
-/* What an account is written to, and the table that is lent to mounted calls. */
-static uint8_t text[LONGEST_TEXT];
+/* What an account and a move are written to, and the table that is lent to mounted calls. */
+static uint8_t text[LONGEST_TEXT], target[LONGEST];
 static uint32_t places[QBX_PLACES];
 
 /* The block that the requests are about, and what is put: once there is room, that takes SLOT steps for a block that
@@ -49,9 +49,9 @@ static struct {
             {"recover (c)", 0},              {"recover (d)", 0},              {"blank test", 0},
             {"mount", 0},                    {"mounted put, with room", 0},   {"mounted put, opening", 0},
             {"mounted put, compacting", 0},  {"mounted read", 0},             {"mounted delete", 0},
-            {"account", 0}};
-/* The account is the last row, and has its own limit. */
-enum { ROWS = sizeof rows / sizeof rows[0], REQUESTS = ROWS - 1 };
+            {"account", 0},                  {"move", 0}};
+/* The account and the move are the last rows, and each has its own limit. */
+enum { ROWS = sizeof rows / sizeof rows[0], REQUESTS = ROWS - 2, ACCOUNT_ROW = REQUESTS, MOVE_ROW };
 
 static void stop(const char *what)
 {
@@ -70,6 +70,7 @@ enum request {
     RECOVER,
     BLANK,
     ACCOUNT,
+    MOVE,
     MOUNT,
     MOUNTED_PUT,
     MOUNTED_READ,
@@ -95,6 +96,7 @@ static void make_request(void)
     /* the last segment but for three bytes, so that the last group is a shorter one */
     case BLANK: result = qbx_is_blank(image + length - length / n, length / n - 3); break;
     case ACCOUNT: result = qbx_account(image, length, n, b, text, sizeof text); break;
+    case MOVE: result = qbx_move(image, length, n, b, target, length, n, b, UINT64_MAX); break;
     case MOUNT: result = qbx_mount(image, length, n, b, places, QBX_PLACES); break;
     case MOUNTED_PUT:
         result = qbx_mounted_put(image, length, n, b, places, QBX_PLACES, BLOCK, contents, sizeof contents, UINT64_MAX);
@@ -184,6 +186,17 @@ static void write_slots(size_t slots)
     memcpy(base, image, length);
 }
 
+/* The base image: a fresh chip with so many blocks. */
+static void write_blocks(uint16_t blocks)
+{
+    if (qbx_answer_of(qbx_format(image, length, n, b, UINT64_MAX)) != QBX_DONE)
+        stop("format");
+    for (uint16_t block = 1; block <= blocks; block++)
+        if (qbx_answer_of(put(block, UINT64_MAX)) != QBX_DONE)
+            stop("put");
+    memcpy(base, image, length);
+}
+
 /* The accounts of the base image as it is, and damaged. Those of unfinished ones are in measure_recovery. */
 static void measure_accounts(void)
 {
@@ -209,7 +222,11 @@ static void measure_chip(int full_ring)
     measure("mounted read", MOUNTED_READ, base);
     measure("mounted delete", MOUNTED_DELETE, base);
     measure_accounts();
+    measure("move", MOVE, base);
     if (n > 2) {
+        /* so many that the target needs a second segment */
+        write_blocks(b + 1);
+        measure("move", MOVE, base);
         write_slots(b);
         measure("put, opening a segment", PUT, base);
         measure("mounted put, opening", MOUNTED_PUT, base);
@@ -223,6 +240,7 @@ static void measure_chip(int full_ring)
         measure_recovery("recover (a)", SLOT + 3, 2);
         measure_recovery("recover (b)", SLOT + 2, 3);
         measure_accounts();
+        measure("move", MOVE, base);
     }
 }
 
@@ -243,13 +261,19 @@ static size_t print_rows(size_t row, size_t count, unsigned long long limit)
 
 int main(int count, char **words)
 {
-    char *rest = "", *account_rest = "";
-    unsigned long long limit = count == 3 ? strtoull(words[1], &rest, 10) : UINT64_MAX;
-    unsigned long long account_limit = count == 3 ? strtoull(words[2], &account_rest, 10) : UINT64_MAX;
-    size_t most, account;
+    /* of the requests, of the account and of the move */
+    unsigned long long limits[3] = {UINT64_MAX, UINT64_MAX, UINT64_MAX};
+    size_t most, account, move;
+    int usage = count != 1 && count != 4;
 
-    if ((count != 1 && count != 3) || *rest != '\0' || *account_rest != '\0') {
-        fprintf(stderr, "usage: stack [BYTES ACCOUNT]\n");
+    for (int i = 1; i < count && !usage; i++) {
+        char *rest;
+
+        limits[i - 1] = strtoull(words[i], &rest, 10);
+        usage = *rest != '\0';
+    }
+    if (usage) {
+        fprintf(stderr, "usage: stack [BYTES ACCOUNT MOVE]\n");
         return 2;
     }
     for (size_t i = 0; i < sizeof chips / sizeof chips[0]; i++) {
@@ -258,8 +282,9 @@ int main(int count, char **words)
         length = qbx_image_length(n, b);
         measure_chip(chips[i].full_ring);
     }
-    most = print_rows(0, REQUESTS, limit);
+    most = print_rows(0, REQUESTS, limits[0]);
     printf("%-24s%8zu bytes of stack\n", "the most of these", most);
-    account = print_rows(REQUESTS, 1, account_limit);
-    return most > limit || account > account_limit;
+    account = print_rows(ACCOUNT_ROW, 1, limits[1]);
+    move = print_rows(MOVE_ROW, 1, limits[2]);
+    return most > limits[0] || account > limits[1] || move > limits[2];
 }

@@ -1,13 +1,16 @@
 /* Qanbillox: a proved record store on NOR flash.
  *
- * Every request takes the whole image, the number of segments n (2 to 255) and of slots in each b (2 to 255).
+ * Every request takes the whole image, the number of segments n (2 to 255) and of slots in each b (2 to 255); a move
+ * takes these of two images.
  * Any arguments get an answer from the table below; a refused request (1 to 8, 10, 11, 14) changes no byte, but for a
  * mount that marks its table unusable.
  * budget is the most flash steps to take: when it is spent the request stops as if the power had gone, and
- * answers QBX_CUT. Recover before the next request then, as after any loss of power.
+ * answers QBX_CUT. Recover before the next request then, as after any loss of power; but a format or a move that was
+ * cut is begun again.
  *
  * No function allocates, keeps a pointer or has state of its own. A request takes at most 15,408 bytes of stack on
- * x86-64, the account 353,744 bytes, measured up to n = 255 and b = 255 (bench/stack.c). Link with libqanbillox.a. */
+ * x86-64, the account 353,744 bytes, a move XXX, measured up to n = 255 and b = 255 (bench/stack.c). Link with
+ * libqanbillox.a. */
 #ifndef QANBILLOX_H
 #define QANBILLOX_H
 
@@ -25,20 +28,21 @@ extern "C" {
  * largest that it would give a segment, plus the tally of erases that recoveries have set about since the format,
  * reaches 100,000; or the newest segment's header has none of its 1,792 bits left to count one more.
  *
- * An image of version 1 can be read, deleted from and recovered, not put to. To go on writing, read its records out, by
- * a qbx_read of each block that qbx_account lists, format, and put them again; a format alone loses them. Only a record
- * of 0 bytes cannot be put again. */
+ * An image of version 1 can be read, deleted from and recovered, not put to. To go on writing, move it (qbx_move) to a
+ * second buffer, of the same n and b or of others: that one is of version 2 and has all its records. A format loses
+ * them. */
 enum qbx_answer {
     QBX_DONE = 0,            /* none below */
-    QBX_SIZE = 1,            /* n, b or the image's length is wrong */
+    QBX_SIZE = 1,            /* n, b or the image's length is wrong; move: those of either image */
     QBX_NUMBER = 2,          /* block number 0 or 65,535 */
     QBX_LENGTH = 3,          /* put of 0 bytes, or of over 248 */
     QBX_DAMAGED = 4,         /* the image is neither clean nor unfinished; only format helps. From a mounted put, delete
                                 or read instead: the table is not that of the image; mount again */
-    QBX_UNFINISHED = 5,      /* put, delete, read, mount: recover first; mounted put, delete, read: the table is not
-                                usable; recover, and mount again */
+    QBX_UNFINISHED = 5,      /* put, delete, read, mount, move (its source): recover first; mounted put, delete, read:
+                                the table is not usable; recover, and mount again */
     QBX_ABSENT = 6,          /* read or delete of a block that is not stored */
-    QBX_FULL = 7,            /* put of a new block while (n-1)*b-1 are stored */
+    QBX_FULL = 7,            /* put of a new block while (n-1)*b-1 are stored; move of more blocks than the target
+                                holds */
     QBX_WORN = 8,            /* put: the chip is worn, as said above */
     QBX_CUT = 9,             /* the budget ended before the steps did */
     QBX_SHORT_TABLE = 10,    /* mounted form: the table has under 65,536 entries; it is untouched */
@@ -74,7 +78,7 @@ uint64_t qbx_recover(uint8_t *image, size_t image_length, size_t n, size_t b, ui
 /* Find a block's contents in the image. Only a record from a store that still took 0 bytes has length 0. */
 uint64_t qbx_read(const uint8_t *image, size_t image_length, size_t n, size_t b, uint16_t block);
 
-/* What format, put, delete and recover give, mounted or not: the answer, and the flash steps done. */
+/* What format, put, delete, recover and move give, mounted or not: the answer, and the flash steps done. */
 static inline enum qbx_answer qbx_answer_of(uint64_t result) { return (enum qbx_answer)(result & 0xFF); }
 static inline uint64_t qbx_steps_of(uint64_t result) { return result >> 8; }
 
@@ -115,6 +119,20 @@ uint64_t qbx_mounted_delete(uint8_t *image, size_t image_length, size_t n, size_
 /* Find a block's contents, as qbx_read does. */
 uint64_t qbx_mounted_read(const uint8_t *image, size_t image_length, size_t n, size_t b,
                           const uint32_t *table, size_t table_length, uint16_t block);
+
+/* Move to another chip: build in target a fresh image of version 2, with target_n segments of target_b slots, that
+ * holds the records of source, an image with n and b, which may be of version 1 too. The target is formatted, whatever
+ * it held, and then each record is stored in it by rising block number, one of 0 bytes too, all under one budget; its
+ * tally is 0. So sources with the same records give the same target. target_n and target_b may be n and b.
+ *
+ * Answers QBX_DONE, QBX_SIZE, QBX_DAMAGED or QBX_UNFINISHED (both of the source), QBX_FULL if the source has more
+ * records than qbx_capacity(target_n, target_b), or QBX_CUT. After QBX_CUT nothing is promised of the target, and a
+ * recovery does not help: begin the move again. The source is only read. Source and target must not overlap.
+ *
+ * The steps are target_n + 21, 5 + length for each record, and 21 for each further segment that the records need. It
+ * takes XXX bytes of stack: the table that puts the records in order is there. */
+uint64_t qbx_move(const uint8_t *source, size_t source_length, size_t n, size_t b,
+                  uint8_t *target, size_t target_length, size_t target_n, size_t target_b, uint64_t budget);
 
 /* The account of an image, as text at the front of a lent buffer. Each line ends with the byte 0A:
  *

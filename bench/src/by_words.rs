@@ -8,8 +8,15 @@ pub mod reference;
 pub mod account;
 
 #[allow(dead_code)]
+#[path = "../../bindings/rust/tests/store/flash_plain.rs"]
+mod flash_plain;
+
+#[allow(dead_code)]
 #[path = "../../bindings/rust/tests/store/mounted_plain.rs"]
 pub mod mounted_plain;
+
+#[path = "../../bindings/rust/tests/store/moving_plain.rs"]
+pub mod moving_plain;
 
 pub fn all_255(bytes: &[u8]) -> bool {
     let (words, rest) = bytes.as_chunks();

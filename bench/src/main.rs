@@ -3,17 +3,18 @@
 //! and with its blank test by words of eight bytes.
 //!
 //!     rt staticlib qanbillox                  # at the root of the repository
-//!     cargo run --release --offline           # here; with the word mounted, those tables alone
+//!     cargo run --release --offline           # here; with the word mounted or move, those tables alone
 //!
 //! One process; the three sides get the same images in turn, and their answers, steps and images
-//! are compared, and the texts of their accounts. The mounted form has two sides of its own
-//! (`mounted.rs`). The buffer is filled from a prepared image before each request, outside the time
+//! are compared, and the texts of their accounts. The mounted form and the move have two sides of
+//! their own (`mounted.rs`, `moving.rs`). The buffer is filled from a prepared image before each request, outside the time
 //! taken, so each finds it in the cache as far as it fits. The figures are medians.
 
 mod accounts;
 mod by_bytes;
 mod by_words;
 mod mounted;
+mod moving;
 #[path = "../../bindings/rust/tests/store/pages.rs"]
 mod pages;
 // The tests use the rest of it.
@@ -32,12 +33,20 @@ use std::time::{Duration, Instant};
 const CONTENTS: [u8; 100] = [0x41; 100];
 
 fn main() {
-    if !std::env::args().any(|word| word == "mounted") {
+    let words: Vec<String> = std::env::args().skip(1).collect();
+    let wanted = |part| words.is_empty() || words.iter().any(|word| word == part);
+    if words.is_empty() {
         unmounted_tables();
     }
-    mounted::rows(21);
-    println!();
-    mounted::beside_unmounted(&[16, 64, 255], 31);
+    if wanted("mounted") {
+        mounted::rows(21);
+        println!();
+        mounted::beside_unmounted(&[16, 64, 255], 31);
+        println!();
+    }
+    if wanted("move") {
+        moving::rows(201);
+    }
 }
 
 fn unmounted_tables() {

@@ -1,4 +1,5 @@
-/* The store from C: a rewrite loses its power half way, and the acknowledged contents stand. Then the same mounted.
+/* The store from C: a rewrite loses its power half way, and the acknowledged contents stand. Then a move to another
+ * chip, and the same mounted.
  *
  *     rt staticlib qanbillox                                        (at the root of the repository)
  *     cc -Wall -Wextra -Werror -Iinclude bindings/c/example.c target/staticlib/libqanbillox.a -o target/example
@@ -31,14 +32,19 @@ static uint64_t put(const char *contents, uint64_t budget)
 
 static uint64_t block_read(void) { return qbx_read(image, sizeof image, SEGMENTS, SLOTS, BLOCK); }
 
-/* Says what a read shows; returns 0 if those are the contents. */
-static int shows(const char *request, uint64_t result, const char *contents)
+/* Says what a read of this chip shows; returns 0 if those are the contents. */
+static int chip_shows(const char *request, const uint8_t *chip, uint64_t result, const char *contents)
 {
-    const uint8_t *found = image + qbx_offset_of(result);
+    const uint8_t *found = chip + qbx_offset_of(result);
     size_t length = qbx_length_of(result);
 
     printf("%-28s answer %d, '%.*s'\n", request, (int)qbx_answer_of(result), (int)length, (const char *)found);
     return qbx_answer_of(result) != QBX_DONE || length != strlen(contents) || memcmp(found, contents, length) != 0;
+}
+
+static int shows(const char *request, uint64_t result, const char *contents)
+{
+    return chip_shows(request, image, result, contents);
 }
 
 /* Prints the account of the image; returns 0 if this is its last line. */
@@ -69,6 +75,43 @@ static void make_version_1(void)
 
     header[3] = 1;
     memset(header + 17, 255, QBX_PAGE - 17);
+}
+
+/* The new board's chip: three segments of three slots, which hold five blocks. */
+enum { NEW_SEGMENTS = 3, NEW_SLOTS = 3, NEW_BLOCK = 8 };
+
+static uint8_t target[NEW_SEGMENTS * (NEW_SLOTS + 1) * QBX_PAGE];
+
+static uint64_t move_there(uint64_t budget)
+{
+    return qbx_move(image, sizeof image, SEGMENTS, SLOTS, target, sizeof target, NEW_SEGMENTS, NEW_SLOTS, budget);
+}
+
+static uint64_t move_back(void)
+{
+    return qbx_move(target, sizeof target, NEW_SEGMENTS, NEW_SLOTS, image, sizeof image, SEGMENTS, SLOTS, unlimited);
+}
+
+static uint64_t new_put(const char *contents)
+{
+    return qbx_put(target, sizeof target, NEW_SEGMENTS, NEW_SLOTS, NEW_BLOCK, (const uint8_t *)contents,
+                   strlen(contents), unlimited);
+}
+
+static uint64_t new_read(void) { return qbx_read(target, sizeof target, NEW_SEGMENTS, NEW_SLOTS, BLOCK); }
+
+/* The store of version 1 is moved to the new chip, and goes on there; a move that was cut is begun again. With a second
+ * block it is too much for the old chip. Returns 0 if all is as expected. */
+static int moved(void)
+{
+    int wrong = 0;
+
+    wrong += told("move, cut after 25 steps", move_there(25), QBX_CUT, 25);
+    wrong += told("move", move_there(unlimited), QBX_DONE, 30);
+    wrong += chip_shows("read on the new chip", target, new_read(), "C");
+    wrong += told("put there", new_put("E"), QBX_DONE, 6);
+    wrong += told("move back", move_back(), QBX_FULL, 0);
+    return wrong;
 }
 
 /* The table of places, which is lent to the mounted form. */
@@ -127,6 +170,7 @@ int main(void)
     wrong += told("put on version 1", put("D", unlimited), QBX_FORMER_VERSION, 0);
     wrong += shows("read", block_read(), "C");
     wrong += told("an image that is too short", qbx_format(image, sizeof image - 1, SEGMENTS, SLOTS, unlimited), QBX_SIZE, 0);
+    wrong += moved();
     wrong += mounted();
     return wrong != 0;
 }

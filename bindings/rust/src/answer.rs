@@ -9,7 +9,8 @@ use core::fmt;
 pub enum Answer {
     /// 0: the request is done.
     Done = 0,
-    /// 1: the number of segments, the number of slots or the length of the image is out of range.
+    /// 1: the number of segments, the number of slots or the length of the image is out of range; of
+    /// either image in a [move](crate::Geometry::move_to).
     Size = 1,
     /// 2: the block number is 0 or 65,535.
     Number = 2,
@@ -23,7 +24,7 @@ pub enum Answer {
     /// 6: the block to be read or deleted is not stored.
     Absent = 6,
     /// 7: a put of a block that is not stored while [`Geometry::capacity`](crate::Geometry::capacity)
-    /// blocks are.
+    /// blocks are, or a [move](crate::Geometry::move_to) of more blocks than the target's capacity.
     Full = 7,
     /// 8: the put needs a new segment, and the chip is worn, in one of two cases: the largest
     /// number that the put would give a segment, divided by the number of segments (the whole
@@ -32,15 +33,15 @@ pub enum Answer {
     /// A put that finds room in the newest segment is never refused so.
     Worn = 8,
     /// 9: the step budget ended before the request did. The image is as after a power cut: some
-    /// first steps of the request are done, and [`recover`](crate::Geometry::recover) comes next.
+    /// first steps of the request are done, and [`recover`](crate::Geometry::recover) comes next; but
+    /// a format or a [move](crate::Geometry::move_to) is begun again.
     Cut = 9,
     /// 10: the table lent to a [`mount`](crate::Geometry::mount) has fewer than
     /// [`PLACES`](crate::PLACES) entries. It is untouched.
     ShortTable = 10,
     /// 11: a put on an image of version 1. It can be read, deleted from and recovered, but not put
-    /// to. To go on writing, read its records out, by a [`read`](crate::Geometry::read) of each
-    /// block that its [account](crate::Geometry::account_into) lists, format, which makes version 2,
-    /// and put them again; a format alone loses them. Only a record of 0 bytes cannot be put again.
+    /// to. To go on writing, [move](crate::Geometry::move_to) it to a second buffer, of the same
+    /// geometry or another: that one is of version 2 and has all its records. A format loses them.
     FormerVersion = 11,
     /// 14: the buffer is too short for the text of an account. It is untouched, and the length is 0.
     ShortBuffer = 14,

@@ -15,6 +15,7 @@
 //!   [`recover`](Geometry::recover), [`read`](Geometry::read) and [`read_or`](Geometry::read_or).
 //! - [`Geometry::mount`] makes a [`Mounted`] store, of an image and a table of places that is lent
 //!   too: its requests do the same, but do not go over the whole image each time.
+//! - [`Geometry::move_to`] builds an image for another chip, with the blocks of the old one.
 //! - [`Geometry::account_into`] says what an image holds, for paper, as text in a buffer that is
 //!   lent; `Geometry::account` gives the same as a string.
 //! - [`Answer`] is what comes back, with the numbers of document 01.
@@ -78,7 +79,7 @@
 //!
 //! A format makes an image of version 2, which counts the erases that recoveries make. Images of
 //! version 1, from stores that did not, can be read, deleted from and recovered; a put on one answers
-//! [`FormerVersion`](Answer::FormerVersion).
+//! [`FormerVersion`](Answer::FormerVersion). A [move](Geometry::move_to) makes version 2 of it.
 //!
 //! # The static library
 //!
@@ -96,6 +97,7 @@ mod answer;
 mod blank;
 mod geometry;
 mod mounted;
+mod moving;
 mod request;
 mod sys;
 

@@ -101,6 +101,19 @@ extern "C" {
         block: u16,
     ) -> u64;
 
+    /// Answer + 256 × steps done.
+    pub fn qbx_move(
+        source: *const u8,
+        source_len: usize,
+        segments: usize,
+        slots: usize,
+        target: *mut u8,
+        target_len: usize,
+        target_segments: usize,
+        target_slots: usize,
+        budget: u64,
+    ) -> u64;
+
     /// Answer + 256 × length of the text.
     pub fn qbx_account(
         image: *const u8,

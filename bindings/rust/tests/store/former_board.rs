@@ -9,9 +9,9 @@ use crate::reference::*;
 use crate::sequences::{table_of, Table};
 use crate::step_lists::every_allowance;
 
-const G: Geometry = Geometry { n: 4, b: 15 };
+pub const G: Geometry = Geometry { n: 4, b: 15 };
 
-static BOARD: &[u8] = include_bytes!("../data/version1.img");
+pub static BOARD: &[u8] = include_bytes!("../data/version1.img");
 
 /// The requests that made the board, with their allowances: five tenants write their records twelve
 /// times, a rewrite loses its power four steps after a compaction and is recovered, a new block is
@@ -34,7 +34,7 @@ fn history() -> Vec<(Request, u64)> {
 }
 
 /// What the board holds.
-fn records() -> Table {
+pub fn records() -> Table {
     let mut records = Table::new();
     for tenant in [1, 7, 31, 40] {
         records.insert(tenant, format!("tenant {tenant}, turn 12").into_bytes());

@@ -104,7 +104,7 @@ pub fn clean(rng: &mut Rng, g: Geometry, shape: Shape) -> Vec<u8> {
 }
 
 /// The rest of a dead slot is free: an old block, a torn one, or anything.
-fn dead_page(rng: &mut Rng, page: &mut [u8], block: u16) {
+pub fn dead_page(rng: &mut Rng, page: &mut [u8], block: u16) {
     match rng.below(4) {
         0 => {
             let noise = rng.bytes(PAGE);

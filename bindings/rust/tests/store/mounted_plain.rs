@@ -5,6 +5,7 @@
 //! checks as far as it must, so that an image or a table that somebody else wrote is met without a
 //! panic. The tests and the bench both include this file.
 
+use super::flash_plain::{Flash, Spent};
 use super::reference::*;
 
 /// One entry for each block number; entry 0 is 1 while the table is usable.
@@ -52,7 +53,7 @@ pub fn put(
     };
     let mut flash = Flash::new(g, image, allowance);
     let end = put_steps(&mut flash, table, plan, block, contents);
-    flash.reply(table, end)
+    reply(&flash, table, end)
 }
 
 pub fn delete(
@@ -69,7 +70,7 @@ pub fn delete(
     let mut flash = Flash::new(g, image, allowance);
     let end = flash.program(at, &[CLEAR_BIT_5]);
     table[usize::from(block)] = 0;
-    flash.reply(table, end)
+    reply(&flash, table, end)
 }
 
 pub fn read(image: &[u8], g: Geometry, table: &[u32], block: u16) -> ReadReply {
@@ -87,6 +88,14 @@ pub fn read(image: &[u8], g: Geometry, table: &[u32], block: u16) -> ReadReply {
         offset,
         length,
     }
+}
+
+/// A cut makes the table unusable.
+fn reply(flash: &Flash, table: &mut [u32], end: Result<(), Spent>) -> Reply {
+    if end.is_err() {
+        table[0] = 0;
+    }
+    flash.reply(end)
 }
 
 // ---------------------------------------------------------------------------------------------
@@ -262,126 +271,42 @@ fn plan_put(
 // The steps
 // ---------------------------------------------------------------------------------------------
 
-/// The allowance is spent.
-struct Spent;
-
-/// The chip, and how many steps are allowed still.
-struct Flash<'a> {
-    g: Geometry,
-    image: &'a mut [u8],
-    allowance: u64,
-    left: u64,
-}
-
-impl<'a> Flash<'a> {
-    fn new(g: Geometry, image: &'a mut [u8], allowance: u64) -> Flash<'a> {
-        Flash {
-            g,
-            image,
-            allowance,
-            left: allowance,
+/// Copies the live slots of the segment after this one to it, and erases that. Gives how many.
+fn compact(
+    flash: &mut Flash,
+    table: &mut [u32],
+    to: usize,
+    number: u32,
+    total: u32,
+) -> Result<usize, Spent> {
+    let g = flash.g;
+    let from = (to + 1) % g.n;
+    let header = g.page(to, 0);
+    flash.program(header + 5, &[TIDYING])?;
+    flash.write_mark(header)?;
+    flash.program(header + 16, &[from as u8])?;
+    let mut copied = 0;
+    for slot in 1..=g.b {
+        let old = g.page(from, slot);
+        if flash.image[old] != LIVE {
+            continue;
+        }
+        let mut page = [0; PAGE];
+        page.copy_from_slice(&flash.image[old..old + PAGE]);
+        let length = usize::from(page[1]).min(MAX_LENGTH);
+        let block = u16::from_le_bytes([page[2], page[3]]);
+        copied += 1;
+        let new = g.page(to, copied);
+        flash.write_slot(new, block, &page[8..8 + length])?;
+        if block != 0 {
+            table[usize::from(block)] = new as u32;
         }
     }
-
-    /// The reply, once the steps are done or the allowance is spent. A cut makes the table unusable.
-    fn reply(&self, table: &mut [u32], end: Result<(), Spent>) -> Reply {
-        if end.is_err() {
-            table[0] = 0;
-        }
-        Reply {
-            code: if end.is_ok() { DONE } else { CUT },
-            steps: self.allowance - self.left,
-        }
-    }
-
-    /// A step for each byte.
-    fn program(&mut self, at: usize, bytes: &[u8]) -> Result<(), Spent> {
-        let allowed = self.left.min(bytes.len() as u64) as usize;
-        for (old, new) in self.image[at..].iter_mut().zip(&bytes[..allowed]) {
-            *old &= new;
-        }
-        self.left -= allowed as u64;
-        if allowed < bytes.len() {
-            return Err(Spent);
-        }
-        Ok(())
-    }
-
-    fn erase(&mut self, index: usize) -> Result<(), Spent> {
-        if self.left == 0 {
-            return Err(Spent);
-        }
-        self.left -= 1;
-        self.image[self.g.page(index, 0)..][..self.g.segment_len()].fill(0xFF);
-        Ok(())
-    }
-
-    fn write_slot(&mut self, at: usize, block: u16, contents: &[u8]) -> Result<(), Spent> {
-        let [low, high] = block.to_le_bytes();
-        self.program(at, &[WRITING])?;
-        self.program(at + 1, &[contents.len() as u8, low, high])?;
-        self.program(at + 8, contents)?;
-        self.program(at, &[LIVE])
-    }
-
-    /// The first bytes of a header.
-    fn write_mark(&mut self, header: usize) -> Result<(), Spent> {
-        self.program(header, b"SLT\x02\x00")?;
-        self.program(header + 6, &[self.g.b as u8, self.g.n as u8])
-    }
-
-    /// The last ones.
-    fn write_number(&mut self, header: usize, number: u32, total: u32) -> Result<(), Spent> {
-        self.program(header + TOTAL.start, &total.to_le_bytes())?;
-        self.program(header + 8, &number.to_le_bytes())?;
-        self.program(header + 12, &(!number).to_le_bytes())
-    }
-
-    fn open(&mut self, index: usize, number: u32, total: u32) -> Result<(), Spent> {
-        let header = self.g.page(index, 0);
-        self.program(header + 5, &[OPENING])?;
-        self.write_mark(header)?;
-        self.write_number(header, number, total)?;
-        self.program(header + 5, &[OPENED])
-    }
-
-    /// Copies the live slots of the segment after this one to it, and erases that. Gives how many.
-    fn compact(
-        &mut self,
-        table: &mut [u32],
-        to: usize,
-        number: u32,
-        total: u32,
-    ) -> Result<usize, Spent> {
-        let g = self.g;
-        let from = (to + 1) % g.n;
-        let header = g.page(to, 0);
-        self.program(header + 5, &[TIDYING])?;
-        self.write_mark(header)?;
-        self.program(header + 16, &[from as u8])?;
-        let mut copied = 0;
-        for slot in 1..=g.b {
-            let old = g.page(from, slot);
-            if self.image[old] != LIVE {
-                continue;
-            }
-            let mut page = [0; PAGE];
-            page.copy_from_slice(&self.image[old..old + PAGE]);
-            let length = usize::from(page[1]).min(MAX_LENGTH);
-            let block = u16::from_le_bytes([page[2], page[3]]);
-            copied += 1;
-            let new = g.page(to, copied);
-            self.write_slot(new, block, &page[8..8 + length])?;
-            if block != 0 {
-                table[usize::from(block)] = new as u32;
-            }
-        }
-        self.write_number(header, number, total)?;
-        self.program(header + 5, &[OWING])?;
-        self.erase(from)?;
-        self.program(header + 5, &[SETTLED])?;
-        Ok(copied)
-    }
+    flash.write_number(header, number, total)?;
+    flash.program(header + 5, &[OWING])?;
+    flash.erase(from)?;
+    flash.program(header + 5, &[SETTLED])?;
+    Ok(copied)
 }
 
 fn put_steps(
@@ -405,7 +330,7 @@ fn put_steps(
         }
         for number in next..next + plan.compactions as u32 {
             top = (top + 1) % g.n;
-            filled = flash.compact(table, top, number, total)?;
+            filled = compact(flash, table, top, number, total)?;
         }
     }
     // Compaction may have moved it.

@@ -97,11 +97,52 @@ impl Erases {
     }
 }
 
+/// What a plain table answers to a request, which it carries out.
+fn plain(request: &Request, g: Geometry, stored: &mut Table, erases: &mut Erases) -> u8 {
+    match request {
+        Request::Put {
+            block: 0 | 0xFFFF, ..
+        }
+        | Request::Delete { block: 0 | 0xFFFF } => NUMBER,
+        Request::Put { contents, .. } if !(1..=MAX_LENGTH).contains(&contents.len()) => LENGTH,
+        Request::Put { block, contents } => {
+            let is_stored = stored.contains_key(block);
+            if !is_stored && stored.len() == g.capacity() {
+                FULL
+            } else {
+                stored.insert(*block, contents.clone());
+                erases.rewrites += usize::from(is_stored);
+                DONE
+            }
+        }
+        Request::Delete { block } => match stored.remove(block) {
+            Some(_) => {
+                erases.rewrites += 1;
+                DONE
+            }
+            None => ABSENT,
+        },
+        Request::Recover | Request::Format => DONE,
+    }
+}
+
 /// A sequence from a format; returns the erases.
 fn sequence(store: &Store, rng: &mut Rng, g: Geometry, habit: Habit, requests: usize) -> usize {
-    let mut image = formatted(g);
-    let mut stored = Table::new();
+    let start = (formatted(g), Table::new());
+    sequence_from(store, rng, g, start, habit, requests)
+}
+
+/// One from a fresh image on, with the blocks that it has at the start.
+pub fn sequence_from(
+    store: &Store,
+    rng: &mut Rng,
+    g: Geometry,
+    (mut image, mut stored): (Vec<u8>, Table),
+    habit: Habit,
+    requests: usize,
+) -> usize {
     let mut erases = Erases::new(g);
+    erases.most_stored = stored.len();
     for i in 0..requests {
         let request = choose(rng, habit, g, i, &stored);
         let (_, list) = steps_of(&image, g, &request);
@@ -109,31 +150,7 @@ fn sequence(store: &Store, rng: &mut Rng, g: Geometry, habit: Habit, requests: u
         assert_eq!(reply.steps, list.len() as u64);
         erases.count(&list);
 
-        let expected = match &request {
-            Request::Put {
-                block: 0 | 0xFFFF, ..
-            }
-            | Request::Delete { block: 0 | 0xFFFF } => NUMBER,
-            Request::Put { contents, .. } if !(1..=MAX_LENGTH).contains(&contents.len()) => LENGTH,
-            Request::Put { block, contents } => {
-                let is_stored = stored.contains_key(block);
-                if !is_stored && stored.len() == g.capacity() {
-                    FULL
-                } else {
-                    stored.insert(*block, contents.clone());
-                    erases.rewrites += usize::from(is_stored);
-                    DONE
-                }
-            }
-            Request::Delete { block } => match stored.remove(block) {
-                Some(_) => {
-                    erases.rewrites += 1;
-                    DONE
-                }
-                None => ABSENT,
-            },
-            Request::Recover | Request::Format => DONE,
-        };
+        let expected = plain(&request, g, &mut stored, &mut erases);
         assert_eq!(reply.code, expected, "{request:?}");
         erases.most_stored = erases.most_stored.max(stored.len());
         erases.check();

@@ -20,7 +20,7 @@ fn at_page(page: usize, bytes: &[(usize, u8)]) -> Vec<Step> {
 }
 
 /// "Slot written: status 7F, length, two number bytes, the contents, status 3F."
-fn slot_list(page: usize, block: u16, contents: &[u8]) -> Vec<Step> {
+pub fn slot_list(page: usize, block: u16, contents: &[u8]) -> Vec<Step> {
     let mut bytes = vec![
         (0, 0x7F),
         (1, contents.len() as u8),
@@ -33,7 +33,7 @@ fn slot_list(page: usize, block: u16, contents: &[u8]) -> Vec<Step> {
 }
 
 /// A list of version 1, or of version 2 with this total.
-type Total = Option<u32>;
+pub type Total = Option<u32>;
 
 /// Bytes 0-4, 6 and 7.
 fn mark(g: Geometry, total: Total) -> Vec<(usize, u8)> {
@@ -70,7 +70,7 @@ fn number(value: u16, total: Total) -> Vec<(usize, u8)> {
     bytes
 }
 
-fn opening_list(g: Geometry, value: u16, total: Total) -> Vec<Step> {
+pub fn opening_list(g: Geometry, value: u16, total: Total) -> Vec<Step> {
     let bytes = [
         vec![(5, 0x7F)],
         mark(g, total),
