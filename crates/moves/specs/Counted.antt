@@ -10,9 +10,10 @@ use lib.Dec.{leb, ltb}
 use borrow.Author.Tests.{ltb-true, ltb-false}
 use Rattle.model.specs.Chip.{Step}
 use Rattle.model.specs.Header.{newVersion}
-use Rattle.model.specs.Slot.{Entry}
+use Rattle.model.specs.Slot.{mostContents, Entry}
 use Rattle.model.specs.Steps.{onPage, slotAt, writeSlot, openSegment, eraseFirst, formatSteps}
 use Rattle.model.specs.Table.{Table}
+use Rattle.model.specs.Laws.CopyOut.{Valids}
 use Rattle.bridge.specs.Lengths.{page-length, write-length, open-length, erase-length}
 use Rattle.moves.specs.Moves.{insert, byNumber}
 use Rattle.moves.specs.Placed.{placed}
@@ -68,3 +69,9 @@ pub sorted-steps : (t : Table) → slotSteps (byNumber t) ≡ slotSteps t
 unfolding byNumber slotSteps
 sorted-steps [] = refl
 sorted-steps (e ∷ t) = omega (arith, insert-steps e (byNumber t), sorted-steps t)
+
+-- 248 bytes of contents at most
+pub slots-few : (t : Table) → Valids t → slotSteps t ≤ 253 * length t
+unfolding slotSteps mostContents
+slots-few [] v = omega arith
+slots-few (e ∷ t) v = omega (arith, v .0 .short, slots-few t (v .1))

@@ -5,11 +5,11 @@ use mathlib.Core.Logic.{_≢_, _⊎_, inl, inr, ⊎-elim}
 use mathlib.Core.Bool.{Bool, true, false, cond, _&&_, not, true≢false}
 use mathlib.Core.List.{List, [], _∷_, _++_, flatten}
 use native.Mathlib.Omega.{arith}
-use lib.ListN.{length, getD, take}
+use lib.ListN.{length, getD, take, length-take}
 use lib.Seq.{take-all, take-nil}
 use lib.Dec.{ltb, leb, eqb}
 use borrow.Author.Tests.{ltb-false, leb-true, eqb-true, eqb-false, not-false, le-leb, le-ltb}
-use Rattle.model.specs.Chip.{Image, Step, Bytes, rightSize, run}
+use Rattle.model.specs.Chip.{Image, Step, Bytes, largestImage, rightSize, run}
 use Rattle.model.specs.Slot.{Slot, Entry}
 use Rattle.model.specs.State.{entries, distinct, capacity, State, clean, unfinished, damaged, state, view, entriesIn}
 use Rattle.model.specs.Table.{Table, tableOf}
@@ -22,7 +22,7 @@ use Rattle.bridge.specs.Mounting.{neither}
 use Rattle.bridge.specs.Held.{Held, held-of-clean, clean-view, row-valid}
 use Rattle.moves.specs.Moves.{byNumber, freshSteps, moveRefusals, moveWork, moveOutcome}
 use Rattle.moves.specs.Sorted.{sorted-length, sorted-distinct, sorted-valids}
-use Rattle.moves.specs.Fresh.{Fits, fresh-list}
+use Rattle.moves.specs.Fresh.{Fits, fresh-list, fresh-few}
 
 -- ---- the table of a clean image can be written
 
@@ -139,6 +139,16 @@ module _ (N B : ℕ) (s : Image) (M D : ℕ) (t : Image) where
           ⊎-elim (λ a. absurd (n (ended allowance true f ∙ a .code)))
           (λ r. let none : take allowance (moveWork N B s M D t .steps) ≡ [] = ap (λ (xs : List Step). take allowance xs) (r .steps) ∙ take-nil allowance in (ap (λ (xs : List Step). length xs) none, ap (λ xs. run D xs t) none))
           decided
+
+-- ---- few steps
+
+pub moved-few : (N B : ℕ) (s : Image) (M D : ℕ) (t : Image) (allowance : ℕ) → Bytes s → moveOutcome N B s M D t allowance .count ≤ largestImage
+unfolding moveOutcome
+moved-few N B s M D t allowance b =
+    ⊎-elim
+    (λ a. omega (arith, length-take allowance (moveWork N B s M D t .steps), ap (λ (xs : List Step). length xs) (a .steps), fresh-few M D (byNumber (tableOf N B s)) t (a .movable .target) (movable-fits N B s M D t b (a .movable))))
+    (λ r. omega (arith, length-take allowance (moveWork N B s M D t .steps), ap (λ (xs : List Step). length xs) (r .steps)))
+    (decided N B s M D t)
 
 -- ---- another target of the same size
 

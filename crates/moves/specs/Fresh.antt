@@ -1,12 +1,13 @@
 -- A fresh image built from a table: its list as it is written, and what it leaves, whatever the chip held before.
-use Prim.Native.Nat.{ℕ, _+_, _-_, _*_, _/_, _≤_}
+use Prim.Native.Nat.{ℕ, _+_, _-_, _*_, _/_, _≤_, _<_}
 use mathlib.Core.Path.{_≡_, refl, sym, ap, _∙_, subst}
 use mathlib.Core.Bool.{true, false}
 use mathlib.Core.List.{List, [], _∷_, _++_, flatten}
 use native.Mathlib.Omega.{arith}
+use native.Mathlib.Nat.{mul-le-mul-right, div-lt-iff-lt-mul}
 use lib.ListN.{length, length-append}
 use Rattle.model.specs.Lists.{all}
-use Rattle.model.specs.Chip.{Image, Bytes, rightSize, run}
+use Rattle.model.specs.Chip.{Image, Bytes, largestImage, rightSize, run}
 use Rattle.model.specs.Header.{newVersion, isFormer}
 use Rattle.model.specs.Slot.{Slot}
 use Rattle.model.specs.State.{View, view, entries, entriesIn, distinct, capacity, state, clean}
@@ -22,7 +23,7 @@ use Rattle.bridge.specs.Held.{Held, held-table, clean-of-held}
 use Rattle.bridge.specs.Format.{format-held, format-same, format-bytes}
 use Rattle.moves.specs.Moves.{putEach, freshSteps}
 use Rattle.moves.specs.Placed.{placed}
-use Rattle.moves.specs.Counted.{slotSteps, placed-length, format-length}
+use Rattle.moves.specs.Counted.{slotSteps, placed-length, format-length, slots-few}
 use Rattle.moves.specs.Filling.{filling, Filled, filled-clean, Built, builds}
 
 -- a table that can be written to an image of N segments with B slots
@@ -84,3 +85,14 @@ fresh-length N B t s z f =
     let z0 : 0 + length t - 1 ≡ length t - 1 = omega arith in
     rw (fresh-list N B t s z f)
     (omega (arith, length-append (formatSteps N B) (placed N B 0 0 t), format-length N B, rw z0 at (placed-length N B 0 0 t (omega (arith, size-facts N B s z .slots)) (omega arith))))
+
+-- it fits the number that an export gives back
+pub fresh-few : (N B : ℕ) (t : Table) (s : Image) → rightSize N B s ≡ true → Fits N B t → length (freshSteps N B t s) ≤ largestImage
+unfolding capacity
+fresh-few N B t s z f =
+    let size = size-facts N B s z in
+    let some : 0 < B = omega (arith, size .slots) in
+    let most : (N - 1) * B ≤ 254 * B = mul-le-mul-right B (omega (arith, size .most)) in
+    let least : 1 * B ≤ (N - 1) * B = mul-le-mul-right B (omega (arith, size .two)) in
+    let opened : (length t - 1) / B < N - 1 = div-lt-iff-lt-mul some .1 (omega (arith, f .few)) in
+    omega (arith, fresh-length N B t s z f, slots-few t (f .valid), f .few, size .most, size .mostB)

@@ -7,7 +7,7 @@ use native.Mathlib.Nat.{mod-eq-of-lt}
 use native.Mathlib.Decide.{ℕ-discrete}
 use native.Mathlib.Omega.{arith}
 use lib.ListN.{length}
-use Rattle.model.specs.Chip.{Image, imageLength, largestImage, rightSize}
+use Rattle.model.specs.Chip.{Image, Bytes, imageLength, largestImage, rightSize}
 use Rattle.model.specs.Laws.Chip.{size-facts}
 use Rattle.model.specs.Slot.{mostContents}
 use Rattle.model.specs.Header.{isBlank}
@@ -20,6 +20,8 @@ use Rattle.mounted.proofs.Laws.Refusals.{passed}
 use Rattle.model.specs.declared.Performed.{Performed}
 use Rattle.model.specs.declared.Located.{Located}
 use Rattle.bridge.specs.Lengths.{few-done, read-small}
+use Rattle.moves.specs.Moves.{moveOutcome}
+use Rattle.moves.specs.Facts.{moved-few}
 use Rattle.blank.proofs.Blank.{groups-most}
 use Rattle.text.specs.declared.Printed.{Printed}
 use Rattle.text.specs.Buffer.{Print, printed}
@@ -29,10 +31,13 @@ pub few : (N B : ℕ) (t : Image) (budget : ℕ) (q : Request) (p : Performed) (
 unfolding performed
 few N B t budget q p s e = omega (arith, few-done N B t budget q, ap (λ (o : Outcome). o .count) e)
 
-pub gives : (N B : ℕ) (t : Image) (budget : ℕ) (q : Request) (p : Performed) (s : Image) (r : ℕ) → performed p s ≡ outcomeOf N B t budget q
-    → r ≡ codeOf (p .answer) + 256 * p .steps → Gives (outcomeOf N B t budget q) r s
+pub gives : (o : Outcome) (p : Performed) (s : Image) (r : ℕ) → performed p s ≡ o → r ≡ codeOf (p .answer) + 256 * p .steps → Gives o r s
 unfolding performed packed
-gives N B t budget q p s r e h = record { number = h ∙ ap (λ (o : Outcome). o .code + 256 * o .count) e; image = ap (λ (o : Outcome). o .image) e }
+gives o p s r e h = record { number = h ∙ ap (λ (x : Outcome). x .code + 256 * x .count) e; image = ap (λ (x : Outcome). x .image) e }
+
+pub few-moved : (N B : ℕ) (s : Image) (M D : ℕ) (t : Image) (budget : ℕ) (p : Performed) (u : Image) → Bytes s → performed p u ≡ moveOutcome N B s M D t budget → p .steps ≤ largestImage
+unfolding performed
+few-moved N B s M D t budget p u b e = omega (arith, moved-few N B s M D t budget b, ap (λ (o : Outcome). o .count) e)
 
 pub small : (N B : ℕ) (t : Image) (b : ℕ) (p : Located) → located p ≡ readOutcome N B t b → (p .offset ≤ largestImage) × (p .length ≤ 248)
 unfolding located

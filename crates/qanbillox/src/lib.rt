@@ -1,5 +1,5 @@
-// The library's exports to C and Rust: the requests, with a table of places too, the blank test and the account, with what
-// comes back packed into one number.
+// The library's exports to C and Rust: the requests, with a table of places too, the blank test, the account and the move to
+// another chip, with what comes back packed into one number.
 use blank::BlankTest;
 use model::BlockNumber;
 use model::Located;
@@ -11,6 +11,7 @@ ghost use Prim.Native.Nat.{_+_, _*_, _%_, _≤_};
 ghost use Rattle.model.specs.Chip.{largestImage};
 ghost use Rattle.model.specs.Answers.{codeOf, outcomeOf, readOutcome, format, put, delete, recover};
 ghost use Rattle.model.specs.Mounted.{mountOutcome, MountedPut, MountedDelete, MountedRead};
+ghost use Rattle.moves.specs.Moves.{moveOutcome};
 ghost use Rattle.text.specs.Buffer.{printIn, mostText};
 ghost use Rattle.account_text.specs.Account.{accountText};
 ghost use Rattle.qanbillox.specs.Packed.{Gives, packedRead, counts, Allows, AllowsRead, Mounts, packedBlank, Prints};
@@ -171,4 +172,19 @@ pub extern "C" fn qbx_mounted_read(
     ensures { λ r. ⌜ AllowsRead (λ o. MountedRead n b block o (now (image .entry)) (now (table .entry))) r ⌝ }
 {
     packed_read(mounted::read(image, n, b, table, BlockNumber(block)))
+}
+
+#[no_mangle]
+pub extern "C" fn qbx_move(
+    source: &[u8],
+    n: usize,
+    b: usize,
+    target: &mut [u8],
+    target_n: usize,
+    target_b: usize,
+    budget: u64,
+) -> u64
+    ensures { λ r. ⌜ Gives (moveOutcome n b (now (source .entry)) «target_n» «target_b» (now (target .entry)) budget) r (now (target .exit)) ⌝ }
+{
+    packed(moving::move_to(source, n, b, target, target_n, target_b, budget))
 }

@@ -18,9 +18,7 @@ same-length : tie.Need-same-length
 same-length c = search needs
 
 returns : tie.Need-returns
-returns c =
-    let a = c .before .before .before .before .before .before in
-    gives (a .args .n) (a .args .b) (now (a .args .image)) (a .args .budget) (delete (a .args .block)) _ _ _ (c .before .before .before .delete .ensures) (c .packed .ensures)
+returns c = gives _ _ _ _ (c .before .before .before .delete .ensures) (c .packed .ensures)
 
 pub qbx-delete-spec : {M : Type 1} → statement M
 qbx-delete-spec = tie.close (tie.spec delete-requires packed-requires same-length returns)

@@ -18,9 +18,7 @@ same-length : tie.Need-same-length
 same-length c = search needs
 
 returns : tie.Need-returns
-returns c =
-    let a = c .before .before .before .before .before .before in
-    gives (a .args .n) (a .args .b) (now (a .args .image)) (a .args .budget) (format) _ _ _ (c .before .before .before .format .ensures) (c .packed .ensures)
+returns c = gives _ _ _ _ (c .before .before .before .format .ensures) (c .packed .ensures)
 
 pub qbx-format-spec : {M : Type 1} → statement M
 qbx-format-spec = tie.close (tie.spec format-requires packed-requires same-length returns)

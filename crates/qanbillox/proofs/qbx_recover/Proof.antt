@@ -18,9 +18,7 @@ same-length : tie.Need-same-length
 same-length c = search needs
 
 returns : tie.Need-returns
-returns c =
-    let a = c .before .before .before .before .before .before in
-    gives (a .args .n) (a .args .b) (now (a .args .image)) (a .args .budget) (recover) _ _ _ (c .before .before .before .recover .ensures) (c .packed .ensures)
+returns c = gives _ _ _ _ (c .before .before .before .recover .ensures) (c .packed .ensures)
 
 pub qbx-recover-spec : {M : Type 1} → statement M
 qbx-recover-spec = tie.close (tie.spec recover-requires packed-requires same-length returns)
