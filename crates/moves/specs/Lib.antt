@@ -5,4 +5,5 @@ pub mod Placed
 pub mod Counted
 pub mod Filling
 pub mod Fresh
+pub mod Instances
 pub mod Facts
