@@ -1,6 +1,6 @@
 -- Laws of a fresh image: a segment opened, the page of a live slot written, the image formatted, and the loop over block numbers.
 use Prim.Native.Nat.{ℕ, zero, suc, _+_, _-_, _*_, _%_, _≤_, _<_}
-use mathlib.Core.Path.{_≡_, refl, sym, ap, ap₂, _∙_, subst}
+use mathlib.Core.Path.{_≡_, refl, sym, ap, ap₂, _∙_}
 use mathlib.Core.Logic.{_≢_}
 use mathlib.Core.Bool.{true, cond}
 use mathlib.Core.List.{List, [], _∷_, _++_, append-nil, append-assoc}
@@ -8,7 +8,7 @@ use native.Mathlib.Nat.{sub-zero, suc-mul, mul-le-mul-right, mod-lt}
 use native.Mathlib.Numerals.{add-one}
 use native.Mathlib.Omega.{arith}
 use lib.ListN.{length, getD, take, drop, replicate, length-append, length-take, length-replicate}
-use lib.Dec.{ltb, eqb}
+use lib.Dec.{eqb}
 use borrow.Author.Tests.{lt-ltb, le-ltb, eq-eqb, ne-eqb}
 use Rattle.model.specs.Chip.{Image, Page, Step, erase, erased, rightSize}
 use Rattle.model.specs.Header.{newVersion}
@@ -16,7 +16,7 @@ use Rattle.model.specs.Slot.{mostContents, slotPage, live, slotOf, Entry, entry
 use Rattle.model.specs.Steps.{onPage, slotAt, writeSlot, openSegment, eraseFirst, formatSteps}
 use Rattle.model.specs.Table.{Table}
 use Rattle.model.specs.Answers.{Work, format, stepsFor, workOn, workOf, performed, Outcome, worked, outcomeOf}
-use Rattle.model.specs.Mounted.{Places, leastPlaces}
+use Rattle.model.specs.Mounted.{Places}
 use Rattle.model.specs.Laws.Chip.{size-facts}
 use Rattle.model.specs.Laws.SlotPage.{live-facts}
 use Rattle.model.specs.declared.Performed.{Performed}
@@ -32,7 +32,7 @@ use Rattle.slot.proofs.Laws.Writes.{slot-parts}
 use Rattle.request.specs.Request.{Finished}
 use Rattle.request.proofs.Answered.{carried, carried-worked}
 use Rattle.fresh.specs.declared.Progress.{Progress}
-use Rattle.fresh.specs.Fresh.{pageAt, listed, LivePage, Pointing, onward, Going, Came, Opened, Added}
+use Rattle.fresh.specs.Fresh.{pageAt, listed, LivePage, onward, Going, Opened, Added}
 
 -- ---- entries placed
 
@@ -116,7 +116,7 @@ pub slot-place : (N B n j first : ℕ) → first ≡ slotAt N B n 0 * 256 → fi
 unfolding slotAt
 slot-place N B n j first e = omega (arith, e)
 
--- the writing can go on where an empty slot was found
+-- the image keeps its length
 pub opened-length : (N B : ℕ) (p q : Progress) (s t : Image) → Opened N B p q s t → length t ≡ length s
 opened-length N B p q s t o = ran-length (o .came .ran)
 
@@ -230,11 +230,10 @@ pub record Building (all N B : ℕ) (s : Image) (t : Places) (begun : Progress) 
   pub number : p .top .0 < block
   pub free : p .free ≤ B
   pub low : 0 < block
-  pub high : block ≤ all
 
 module _ (all N B : ℕ) (s : Image) (t : Places) (begun : Progress) (from : Image) where
-  pub building-start : 1 ≤ all → begun .top .0 ≡ 0 → begun .free ≤ B → Building all N B s t begun from 1 begun from
-  building-start h n f = record {
+  pub building-start : begun .top .0 ≡ 0 → begun .free ≤ B → Building all N B s t begun from 1 begun from
+  building-start n f = record {
     done = [];
     ran = ran-none B (begun .left) from;
     counted = omega arith;
@@ -243,11 +242,10 @@ module _ (all N B : ℕ) (s : Image) (t : Places) (begun : Progress) (from : Ima
     number = omega arith;
     free = f;
     low = omega arith;
-    high = h;
   }
 
   module _ (block : ℕ) (p : Progress) (u : Image) (c : Building all N B s t begun from block p u) where
-    pub building-length : length u ≡ length from
+    building-length : length u ≡ length from
     building-length = ran-length (c .ran)
 
     pub building-going : Sized N B (length from) → 0 < B → begun .steps ≤ 276 → block < 65536 → Going N B p (length u)
@@ -273,7 +271,6 @@ module _ (all N B : ℕ) (s : Image) (t : Places) (begun : Progress) (from : Ima
             number = omega (arith, c .number);
             free = c .free;
             low = omega arith;
-            high = omega arith;
           }
 
       -- a place
@@ -292,7 +289,6 @@ module _ (all N B : ℕ) (s : Image) (t : Places) (begun : Progress) (from : Ima
             number = omega (arith, c .number, d .came .number);
             free = d .came .free;
             low = omega arith;
-            high = omega arith;
           }
 
     building-whole : all ≤ block → c .done ≡ onward N B begun (tableFrom all s t 1)

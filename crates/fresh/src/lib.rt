@@ -5,12 +5,12 @@ use model::SlotPlace;
 ghost use mathlib.Core.Path.{_≡_};
 ghost use mathlib.Core.Bool.{true};
 ghost use mathlib.Core.List.{_++_};
+ghost use lib.ListN.{length};
 ghost use Rattle.model.specs.Chip.{rightSize};
 ghost use Rattle.model.specs.Slot.{slotOf, entryOf};
 ghost use Rattle.model.specs.Steps.{formatSteps};
 ghost use Rattle.model.specs.Answers.{performed, worked};
 ghost use Rattle.moves.specs.Placed.{placed};
-ghost use lib.ListN.{length};
 ghost use Rattle.fresh.specs.Fresh.{listed, Pointing, Going, LivePage, Opened, Added};
 
 // The entries that a table has at least; `leastPlaces` in specs/.
@@ -23,11 +23,11 @@ const SLOT_STEPS: u64 = 5;
 
 // How far the writing has come: the top, how many of its slots are still empty, what is left of the budget, and how many steps
 // the list has so far. Those are counted though the budget covers none of them: only so is it known at the end that it was cut.
-pub struct Progress {
-    pub top: SegmentNumber,
-    pub free: usize,
-    pub left: u64,
-    pub steps: u64,
+struct Progress {
+    top: SegmentNumber,
+    free: usize,
+    left: u64,
+    steps: u64,
 }
 
 fn wide(x: u8) -> usize
@@ -55,7 +55,9 @@ fn next_slot(target: &mut [u8], segments: usize, slots: usize, at: Progress) -> 
     }
 }
 
-// Writes the page of a live slot to the next slot. Its bytes are those that its block and contents would be made up of again.
+// Writes the page of a live slot to the next slot. It is programmed as it lies in the source: a live slot's bytes are those
+// that its block and contents would make up again. Whether all fit is asked before; were there too many, segments would be
+// taken in turn again, and the place lies inside the image all the same.
 fn add(target: &mut [u8], segments: usize, slots: usize, page: &[u8], from: Progress) -> Progress
     requires { ⌜ Going segments slots from (length (now target)) × LivePage (now page) ⌝ }
     ensures { λ r. ⌜ Added segments slots (entryOf (slotOf (now (page .entry)))) from r (now (target .entry)) (now (target .exit)) ⌝ }

@@ -70,6 +70,7 @@ returns c =
     page-added (a .args .segments) (a .args .slots) (a .args .from) q _ _ (call .next-slot .ensures) (now (a .args .page)) (a .pre .1) (reads .wide .result) _ (reads .wide .ensures)
     (slot-place (a .args .segments) (a .args .slots) (q .top .0) (a .args .slots - q .free) _ (first .first-slot .ensures)) (write .write-page .ensures)
 
+-- the ranges stand after `returns`: an edit is refused for what is counted
 sub-t14-2 : tie.Need-sub-t14-2
 sub-t14-2 c = search needs
 

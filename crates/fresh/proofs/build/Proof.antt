@@ -32,7 +32,7 @@ add-t17 : tie.Need-add-t17 Inv-loop μ-loop
 add-t17 c = let a = c .before .before .before .before .before .before .before .before in omega (arith, sized (a .args .segments) (a .args .slots) (now (a .args .target)) (a .pre .0) .segments)
 
 loop-holds : tie.Need-loop-holds Inv-loop μ-loop
-loop-holds c = building-start _ _ _ _ _ _ _ (omega arith) refl (omega arith)
+loop-holds c = building-start _ _ _ _ _ _ _ refl (omega arith)
 
 mul-place : tie.Need-mul-place Inv-loop μ-loop
 mul-place c = search needs

@@ -6,10 +6,11 @@ use borrow.Author.Needs.{needs}
 use Rattle.fresh.proofs.next_slot.Statement.{statement}
 use Rattle.fresh.proofs.next_slot.Tie as tie
 
+-- an edit of the test is refused where it opens a segment, and not here for its words
 returns : tie.Need-returns
 returns c =
     let a = c .before .before .before in
-    still-free (a .args .segments) (a .args .slots) (a .args .at) (now (a .args .target)) (a .pre) (c .if1 .taken)
+    still-free (a .args .segments) (a .args .slots) (a .args .at) (now (a .args .target)) (a .pre) (omega (arith, c .if1 .taken))
 
 add-t8 : tie.Need-add-t8
 add-t8 c = search needs
@@ -24,7 +25,7 @@ returns-2 c =
     let a = test .before .before .before in
     next-opened (a .args .segments) (a .args .slots) (a .args .at) (now (a .args .target)) (a .pre) (omega (arith, test .if1 .left)) (call .open-header .ensures)
 
--- after `returns-2`, so that code which counts or opens otherwise is refused there first
+-- the ranges stand after `returns-2`: an edit is refused for what is counted
 add-t11 : tie.Need-add-t11
 add-t11 c = search needs
 
