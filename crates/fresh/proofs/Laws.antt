@@ -23,6 +23,7 @@ use Rattle.model.specs.declared.Performed.{Performed}
 use Rattle.bridge.specs.Refusals.{format-code}
 use Rattle.bridge.specs.Lengths.{page-length, write-length, open-length}
 use Rattle.moves.specs.Placed.{placed}
+use Rattle.moves.specs.Counted.{format-length}
 use Rattle.flash.specs.Ran.{Ran, Programmed}
 use Rattle.flash.specs.Pages.{OnPageAt, Sized}
 use Rattle.flash.proofs.Laws.{_then_, ran-none, ran-length}
@@ -168,15 +169,6 @@ pub page-adds : (N B : ℕ) (s : Image) (at : ℕ) (p q : Progress) (u v : Image
 page-adds N B s at p q u v d = rw (lent-page s at) at d
 
 -- ---- formatted
-
-erase-length : (k : ℕ) → length (eraseFirst k) ≡ k
-unfolding eraseFirst
-erase-length zero = refl
-erase-length (suc k) = length-append (eraseFirst k) (erase k ∷ []) ∙ omega (arith, erase-length k)
-
-format-length : (N B : ℕ) → length (formatSteps N B) ≡ N + 21
-unfolding formatSteps
-format-length N B = length-append (eraseFirst N) (openSegment N B (newVersion 0) 0) ∙ omega (arith, erase-length N, open-length N B 0 0)
 
 format-work : (N B : ℕ) (s : Image) → rightSize N B s ≡ true → workOf N B s format ≡ record { code = 0; steps = formatSteps N B }
 unfolding workOf workOn stepsFor
