@@ -1,7 +1,7 @@
 -- The proofs: a finished move is a fresh image built from a table that fits.
 use Prim.Native.Nat.{ℕ, zero, suc, _+_, _-_, _*_, _/_, _≤_, _<_}
 use mathlib.Core.Path.{_≡_, refl, sym, ap, _∙_, subst}
-use mathlib.Core.Logic.{⊎-elim}
+use mathlib.Core.Logic.{⊎-elim, _≢_}
 use mathlib.Core.Bool.{Bool, true, false, cond, _&&_}
 use mathlib.Core.List.{List, [], _∷_, _++_, flatten}
 use native.Mathlib.Omega.{arith}
@@ -9,12 +9,12 @@ use lib.ListN.{length, take, length-take}
 use lib.Dec.{leb}
 use Rattle.model.specs.Chip.{Image, Bytes, Cut, rightSize, run}
 use Rattle.model.specs.Header.{newVersion}
-use Rattle.model.specs.Slot.{isDead, Slot}
+use Rattle.model.specs.Slot.{numberOk, isDead, Slot}
 use Rattle.model.specs.State.{View, state, clean, view, distinct, entriesIn, entries}
 use Rattle.model.specs.Steps.{copied}
-use Rattle.model.specs.Table.{Table, Agree, tableOf}
+use Rattle.model.specs.Table.{Table, Agree, lookup, tableOf}
 use Rattle.model.specs.Answers.{Work, codeUnder}
-use Rattle.model.specs.Histories.{Event, History}
+use Rattle.model.specs.Histories.{answered, Event, History}
 use Rattle.model.specs.Sequences.{Call, observed}
 use Rattle.model.specs.Laws.Lists.{count-append, flatten-last}
 use Rattle.model.specs.Laws.Chip.{run-size, cut-size, size-facts}
@@ -23,6 +23,9 @@ use Rattle.bridge.specs.Views.Slots.{rows-length, slots-counted}
 use Rattle.bridge.specs.Views.Shape.{rowAdded}
 use Rattle.crash.specs.Machine.{Promise, settled, PlainRuns}
 use Rattle.crash.specs.Demand2.{Keeps, board}
+use Rattle.crash.specs.Reading.{codeSeen}
+use Rattle.crash.specs.ReadingRuns.{Reads, factoryOf, AllSpare, replied}
+use Rattle.crash.specs.Sentences.{store-stored-stays}
 use Rattle.crash.specs.Theorem.{from-clean}
 use Rattle.wear.specs.Demand3.{stocked, Bounded}
 use Rattle.wear.specs.Counting.{deads, copied-dead}
@@ -149,3 +152,12 @@ moved-demand3 = λ N B s M D t a xs f u.
       tracks = tracks-stocked M D two (view M D w) (tableOf N B s) (first-zero N B s M D t a f) (once N B s M D t a f) (unfold tableOf in same-blocks N B s M D t a f)
           (rw (b .held .view) (none-dead M D (b .rows) (b .top) (b .filled)));
     }) u
+
+-- Read back: what the source held of a block, contents of 0 bytes too, is what every read of that block on the finished target shows until the block is put or deleted there, through every put of others, every power cut and recovery.
+pub carried-stays : (N B : ℕ) (s : Image) (M D : ℕ) (t u : Image) (allowance : ℕ) (es : List Event) (e : Event) (b : ℕ) → Finished N B s M D t allowance
+    → History M D (targetAfter N B s M D t allowance) (es ++ (e ∷ [])) u → AllSpare b es → Reads b (e .request) → numberOk b ≡ true
+    → codeSeen (e .seen) ≢ 9 → codeSeen (e .seen) ≢ 5 → e .seen ≡ answered (replied (factoryOf (e .request)) (lookup b (tableOf N B s)))
+carried-stays N B s M D t u a es e b f h spare q n cut asks =
+    let w = targetAfter N B s M D t a in
+    store-stored-stays M D w u es e b (lookup b (tableOf N B s)) (size N B s M D t a f) (bytes N B s M D t a f) (is-clean N B s M D t a f)
+    (built-second M D w (byNumber (tableOf N B s)) (fits N B s M D t a f) (built N B s M D t a f)) (same-blocks N B s M D t a f b) h spare q n cut asks

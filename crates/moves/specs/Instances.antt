@@ -48,7 +48,7 @@ unfolding evaluate first second rightSize pagesOf withSegment step run segmentsO
 computes = 0
 
 -- three blocks fill C = 3, in one segment: 2 erases, 21 and 18 steps; empty records are carried
-just-fits : resultOf 2 4 (moves 3 2 first 2 4 1000) ≡ record { code = 0; count = 41; table = blocks }
+pub just-fits : resultOf 2 4 (moves 3 2 first 2 4 1000) ≡ record { code = 0; count = 41; table = blocks }
 unfolding computes
 just-fits = refl
 

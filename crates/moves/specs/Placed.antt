@@ -7,6 +7,8 @@ use Rattle.model.specs.Chip.{Step}
 use Rattle.model.specs.Header.{newVersion}
 use Rattle.model.specs.Steps.{onPage, slotAt, writeSlot, openSegment}
 use Rattle.model.specs.Table.{Table}
+-- so that a wrong definition is refused by what it computes before it is by a law
+use Rattle.moves.specs.Instances.{just-fits}
 
 -- the entries written to a fresh image, the first to slot j of the segment with number n if it has so many slots, and else to the next segment, which is opened
 unfoldable pub placed : ℕ → ℕ → ℕ → ℕ → Table → List Step

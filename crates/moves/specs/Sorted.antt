@@ -16,6 +16,8 @@ use Rattle.model.specs.Laws.SlotPage.{number-below}
 use Rattle.model.specs.Laws.CopyOut.{Valids}
 use Rattle.model.specs.Laws.Tables.{copies-cons, copies-distinct, distinct-copies, lookup-absent, agree-holds}
 use Rattle.moves.specs.Moves.{insert, byNumber}
+-- so that a wrong definition is refused by what it computes before it is by a law
+use Rattle.moves.specs.Instances.{just-fits}
 
 -- ---- the same table
 
