@@ -8,8 +8,8 @@
  * answers QBX_CUT. Recover before the next request then, as after any loss of power; but a format or a move that was
  * cut is begun again.
  *
- * No function allocates, keeps a pointer or has state of its own. A request takes at most 15,408 bytes of stack on
- * x86-64, the account 353,744 bytes, a move XXX, measured up to n = 255 and b = 255 (bench/stack.c). Link with
+ * No function allocates, keeps a pointer or has state of its own. A request takes at most 14,992 bytes of stack on
+ * x86-64, the account 353,744 bytes, a move 276,976, measured up to n = 255 and b = 255 (bench/stack.c). Link with
  * libqanbillox.a. */
 #ifndef QANBILLOX_H
 #define QANBILLOX_H
@@ -130,7 +130,7 @@ uint64_t qbx_mounted_read(const uint8_t *image, size_t image_length, size_t n, s
  * recovery does not help: begin the move again. The source is only read. Source and target must not overlap.
  *
  * The steps are target_n + 21, 5 + length for each record, and 21 for each further segment that the records need. It
- * takes XXX bytes of stack: the table that puts the records in order is there. */
+ * takes 276,976 bytes of stack: the table that puts the records in order is there. */
 uint64_t qbx_move(const uint8_t *source, size_t source_length, size_t n, size_t b,
                   uint8_t *target, size_t target_length, size_t target_n, size_t target_b, uint64_t budget);
 
