@@ -2,6 +2,7 @@
 use model::Performed;
 use model::SegmentNumber;
 use model::SlotPlace;
+use places::LEAST_PLACES;
 ghost use mathlib.Core.Path.{_≡_};
 ghost use mathlib.Core.Bool.{true};
 ghost use mathlib.Core.List.{_++_};
@@ -12,9 +13,6 @@ ghost use Rattle.model.specs.Steps.{formatSteps};
 ghost use Rattle.model.specs.Answers.{performed, worked};
 ghost use Rattle.moves.specs.Placed.{placed};
 ghost use Rattle.fresh.specs.Fresh.{listed, Pointing, Going, LivePage, Opened, Added};
-
-// The entries that a table has at least; `leastPlaces` in specs/.
-const LEAST_PLACES: usize = 65536;
 
 // How many steps open a segment, and how many write a slot besides one for each byte of contents.
 const OPENING: u64 = 21;

@@ -3,6 +3,7 @@
 use model::Answer;
 use model::Performed;
 use model::SegmentNumber;
+use places::LEAST_PLACES;
 use scan::Surveyed;
 ghost use mathlib.Core.Path.{_≡_};
 ghost use Rattle.model.specs.Answers.{performed};
@@ -25,7 +26,7 @@ fn carry(
     requires { ⌜ Carriable segments slots (now source) (first .0) used «target_segments» «target_slots» (now target) ⌝ }
     ensures { λ r. ⌜ performed r (now (target .exit)) ≡ moveOutcome segments slots (now (source .entry)) «target_segments» «target_slots» (now (target .entry)) budget ⌝ }
 {
-    let mut places = [0u32; 65536];
+    let mut places = [0u32; LEAST_PLACES];
     places::fill(source, segments, slots, first, used, &mut places);
     fresh::build(
         source,

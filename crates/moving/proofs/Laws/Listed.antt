@@ -1,6 +1,6 @@
 -- A table filled from a clean image lists what the image holds, by rising number.
 use Prim.Native.Nat.{ℕ, zero, suc, _+_, _*_, _%_, _≤_, _<_}
-use mathlib.Core.Path.{_≡_, refl, sym, ap, _∙_}
+use mathlib.Core.Path.{_≡_, refl, sym, ap, _∙_, subst}
 use mathlib.Core.Logic.{_≢_}
 use mathlib.Core.Bool.{Bool, true, false, cond}
 use mathlib.Core.List.{List, [], _∷_, _++_}
@@ -105,8 +105,8 @@ module _ (N B : ℕ) (s : Image) (z : rightSize N B s ≡ true) (c : state N B s
         go true h = rw (is-entry k h, ne-eqb (place k h) 0 (λ q. omega (arith, some k h)), page k h, contents k h) (unfold entryOf in refl)
         go false h = rw (none k h, lookup-absent k (entriesIn v) h)
 
-    pub points : Pointing s filled
-    points = record {
+    filled-points : Pointing s filled
+    filled-points = record {
       long = omega (arith, filled-length N B v t l);
       points = λ k a b n. go k a b n (holds k (entriesIn v)) refl;
     }
@@ -114,6 +114,10 @@ module _ (N B : ℕ) (s : Image) (z : rightSize N B s ≡ true) (c : state N B s
         go : (k : ℕ) → 0 < k → k < leastPlaces → getD filled k 0 ≢ 0 → (u : Bool) → holds k (entriesIn v) ≡ u → (getD filled k 0 + 256 ≤ length s) × LivePage (pageAt s (getD filled k 0))
         go k a b n true h = rw (filled-entry N B v t k a b, is-entry k h) (inside k h, (k, found k h .contents, page k h))
         go k a b n false h = absurd (n (filled-entry N B v t k a b ∙ none k h))
+
+    -- x is the table that was filled
+    pub points : (x : Places) → x ≡ filledPlaces N B (view N B s) t → Pointing s x
+    points x e = subst (λ (y : Places). Pointing s y) (sym e) filled-points
 
     -- number by number
     listed-rising : (k n : ℕ) → 0 < k → k + n ≤ leastPlaces → listed s filled k n ≡ rising k n (tableOf N B s)

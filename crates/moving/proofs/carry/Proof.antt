@@ -1,10 +1,8 @@
 -- `moving::carry` gives the outcome of the definition. Assumes nothing.
-use mathlib.Core.Path.{sym, subst}
 use native.Mathlib.Omega.{arith}
 use lib.ListN.{replicate}
 use denote.Ref.{now}
 use Rattle.model.specs.Laws.Bytes.{bytes-known}
-use Rattle.fresh.specs.Fresh.{Pointing}
 use Rattle.moving.proofs.Laws.Listed.{as-many, points}
 use Rattle.moving.proofs.Laws.Moves.{carried-move}
 use borrow.Author.Needs.{needs}
@@ -24,7 +22,7 @@ build-requires : tie.Need-build-requires
 build-requires c κs =
     let a = c .before .before .before .before .before .before .before in
     let m = a .pre .movable in
-    (m .target, subst (Pointing (now (a .args .source))) (sym (c .before .before .before .fill .ensures)) (points (a .args .segments) (a .args .slots) (now (a .args .source)) (m .source) (m .fine) (replicate 65536 0) (as-many 65536 0)))
+    (m .target, points (a .args .segments) (a .args .slots) (now (a .args .source)) (m .source) (m .fine) (replicate 65536 0) (as-many 65536 0) _ (c .before .before .before .fill .ensures))
 
 same-length : tie.Need-same-length
 same-length c = search needs
