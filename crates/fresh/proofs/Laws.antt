@@ -1,5 +1,5 @@
 -- Laws of a fresh image: a segment opened, the page of a live slot written, the image formatted, and the loop over block numbers.
-use Prim.Native.Nat.{ℕ, zero, suc, _+_, _-_, _*_, _%_, _≤_, _<_}
+use Prim.Native.Nat.{ℕ, suc, _+_, _-_, _*_, _%_, _≤_, _<_}
 use mathlib.Core.Path.{_≡_, refl, sym, ap, ap₂, _∙_}
 use mathlib.Core.Logic.{_≢_}
 use mathlib.Core.Bool.{true, cond}
@@ -10,10 +10,10 @@ use native.Mathlib.Omega.{arith}
 use lib.ListN.{length, getD, take, drop, replicate, length-append, length-take, length-replicate}
 use lib.Dec.{eqb}
 use borrow.Author.Tests.{lt-ltb, le-ltb, eq-eqb, ne-eqb}
-use Rattle.model.specs.Chip.{Image, Page, Step, erase, erased, rightSize}
+use Rattle.model.specs.Chip.{Image, Page, Step, erased, rightSize}
 use Rattle.model.specs.Header.{newVersion}
 use Rattle.model.specs.Slot.{mostContents, slotPage, live, slotOf, Entry, entryOf}
-use Rattle.model.specs.Steps.{onPage, slotAt, writeSlot, openSegment, eraseFirst, formatSteps}
+use Rattle.model.specs.Steps.{onPage, slotAt, writeSlot, openSegment, formatSteps}
 use Rattle.model.specs.Table.{Table}
 use Rattle.model.specs.Answers.{Work, format, stepsFor, workOn, workOf, performed, Outcome, worked, outcomeOf}
 use Rattle.model.specs.Mounted.{Places}

@@ -4,12 +4,12 @@ use Prim.Native.Nat.{ℕ, zero, suc, _+_, _-_, _*_, _/_}
 use mathlib.Core.Path.{_≡_}
 use mathlib.Core.Logic.{_⊎_, _≢_}
 use mathlib.Core.Bool.{false}
-use mathlib.Core.List.{List, [], _∷_}
+use mathlib.Core.List.{List}
 use lib.ListN.{length}
 use Rattle.model.specs.Chip.{Image, Bytes, Cut}
 use Rattle.model.specs.Header.{newVersion}
 use Rattle.model.specs.State.{state, clean, view}
-use Rattle.model.specs.Table.{Table, Agree, tableOf}
+use Rattle.model.specs.Table.{Agree, tableOf}
 use Rattle.model.specs.Histories.{Event, History}
 use Rattle.model.specs.Sequences.{Call, observed, Uncut}
 use Rattle.crash.specs.Machine.{Promise, settled, PlainRuns}

@@ -1,37 +1,33 @@
 -- The proofs: a finished move is a fresh image built from a table that fits.
-use Prim.Native.Nat.{ℕ, zero, suc, _+_, _-_, _*_, _/_, _≤_, _<_}
-use mathlib.Core.Path.{_≡_, refl, sym, ap, _∙_, subst}
+use Prim.Native.Nat.{ℕ, zero, suc, _+_, _-_}
+use mathlib.Core.Path.{_≡_, refl, sym, ap, _∙_}
 use mathlib.Core.Logic.{⊎-elim, _≢_}
-use mathlib.Core.Bool.{Bool, true, false, cond, _&&_}
+use mathlib.Core.Bool.{true}
 use mathlib.Core.List.{List, [], _∷_, _++_, flatten}
 use native.Mathlib.Omega.{arith}
-use lib.ListN.{length, take, length-take}
-use lib.Dec.{leb}
-use Rattle.model.specs.Chip.{Image, Bytes, Cut, rightSize, run}
+use lib.ListN.{length, take}
+use Rattle.model.specs.Chip.{Image, Bytes, rightSize, run}
 use Rattle.model.specs.Header.{newVersion}
 use Rattle.model.specs.Slot.{numberOk, isDead, Slot}
-use Rattle.model.specs.State.{View, state, clean, view, distinct, entriesIn, entries}
+use Rattle.model.specs.State.{View, state, clean, view, distinct}
 use Rattle.model.specs.Steps.{copied}
 use Rattle.model.specs.Table.{Table, Agree, lookup, tableOf}
 use Rattle.model.specs.Answers.{Work, codeUnder}
 use Rattle.model.specs.Histories.{answered, Event, History}
-use Rattle.model.specs.Sequences.{Call, observed}
 use Rattle.model.specs.Laws.Lists.{count-append, flatten-last}
 use Rattle.model.specs.Laws.Chip.{run-size, cut-size, size-facts}
 use Rattle.model.specs.Laws.Tables.{agree-of, agree-trans}
 use Rattle.bridge.specs.Views.Slots.{rows-length, slots-counted}
 use Rattle.bridge.specs.Views.Shape.{rowAdded}
-use Rattle.crash.specs.Machine.{Promise, settled, PlainRuns}
-use Rattle.crash.specs.Demand2.{Keeps, board}
 use Rattle.crash.specs.Reading.{codeSeen}
 use Rattle.crash.specs.ReadingRuns.{Reads, factoryOf, AllSpare, replied}
 use Rattle.crash.specs.Sentences.{store-stored-stays}
 use Rattle.crash.specs.Theorem.{from-clean}
-use Rattle.wear.specs.Demand3.{stocked, Bounded}
+use Rattle.wear.specs.Demand3.{stocked}
 use Rattle.wear.specs.Counting.{deads, copied-dead}
 use Rattle.wear.specs.Requests.{tracks-stocked}
 use Rattle.wear.specs.Sequence.{bounded-from}
-use Rattle.moves.specs.Moves.{byNumber, freshSteps, moveRefusals, moveWork, moveOutcome}
+use Rattle.moves.specs.Moves.{byNumber, freshSteps, moveWork, moveOutcome}
 use Rattle.moves.specs.Sorted.{sorted-length, sorted-agree, sorted-equal}
 use Rattle.moves.specs.Counted.{sorted-steps}
 use Rattle.moves.specs.Filling.{filling, Filled, Built}

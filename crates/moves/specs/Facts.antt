@@ -1,17 +1,17 @@
 -- A move by its work: refused, or a fresh image built from a table that fits.
-use Prim.Native.Nat.{ℕ, zero, suc, _≤_, _<_}
+use Prim.Native.Nat.{ℕ, suc, _≤_, _<_}
 use mathlib.Core.Path.{_≡_, refl, sym, ap, _∙_}
 use mathlib.Core.Logic.{_≢_, _⊎_, inl, inr, ⊎-elim}
-use mathlib.Core.Bool.{Bool, true, false, cond, _&&_, not, true≢false}
+use mathlib.Core.Bool.{Bool, true, false, cond, _&&_, not}
 use mathlib.Core.List.{List, [], _∷_, _++_, flatten}
 use native.Mathlib.Omega.{arith}
 use lib.ListN.{length, getD, take, length-take}
 use lib.Seq.{take-all, take-nil}
 use lib.Dec.{ltb, leb, eqb}
-use borrow.Author.Tests.{ltb-false, leb-true, eqb-true, eqb-false, not-false, le-leb, le-ltb}
+use borrow.Author.Tests.{ltb-false, leb-true, eqb-true, eqb-false, not-false}
 use Rattle.model.specs.Chip.{Image, Step, Bytes, largestImage, rightSize, run}
-use Rattle.model.specs.Slot.{Slot, Entry}
-use Rattle.model.specs.State.{entries, distinct, capacity, State, clean, unfinished, damaged, state, view, entriesIn}
+use Rattle.model.specs.Slot.{Slot}
+use Rattle.model.specs.State.{entries, distinct, capacity, clean, state, view, entriesIn}
 use Rattle.model.specs.Table.{Table, tableOf}
 use Rattle.model.specs.Answers.{_when_, firstOf, isDamaged, isUnfinished, Work, codeUnder}
 use Rattle.model.specs.Laws.Lists.{and-left, and-right}
@@ -19,7 +19,7 @@ use Rattle.model.specs.Laws.CopyOut.{Valids}
 use Rattle.bridge.specs.Views.Slots.{entries-append}
 use Rattle.bridge.specs.Views.Shape.{clean-distinct}
 use Rattle.bridge.specs.Mounting.{neither}
-use Rattle.bridge.specs.Held.{Held, held-of-clean, clean-view, row-valid}
+use Rattle.bridge.specs.Held.{held-of-clean, clean-view, row-valid}
 use Rattle.moves.specs.Moves.{byNumber, freshSteps, moveRefusals, moveWork, moveOutcome}
 use Rattle.moves.specs.Sorted.{sorted-length, sorted-distinct, sorted-valids}
 use Rattle.moves.specs.Fresh.{Fits, fresh-list, fresh-few}

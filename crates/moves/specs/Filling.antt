@@ -1,6 +1,6 @@
 -- A fresh image filled entry by entry: the step lists of the puts are the slots written one after the other, and the view holds the entries in their order.
-use Prim.Native.Nat.{ℕ, zero, suc, _+_, _-_, _*_, _≤_, _<_}
-use mathlib.Core.Path.{_≡_, refl, sym, ap, ap₂, _∙_, subst}
+use Prim.Native.Nat.{ℕ, suc, _+_, _-_, _*_, _≤_, _<_}
+use mathlib.Core.Path.{_≡_, refl, sym, ap, _∙_, subst}
 use mathlib.Core.Bool.{Bool, true, false, cond}
 use mathlib.Core.List.{List, [], _∷_, _++_, map, flatten, append-nil, append-assoc}
 use native.Mathlib.Omega.{arith}
@@ -15,10 +15,10 @@ use Rattle.model.specs.Chip.{Image, Step, numberLimit, eraseLimit, erased, run}
 use Rattle.model.specs.Header.{newVersion, isFormer, tallyOf, bitValues, clearedIn, clearedBits}
 use Rattle.model.specs.Slot.{Slot, empty, live, holding, isEmpty, Entry}
 use Rattle.model.specs.State.{View, view, entries, entriesIn, holds, distinct, capacity}
-use Rattle.model.specs.Steps.{onPage, slotAt, writeSlot, openSegment, topRow, topNumber, hasRoom, firstEmpty, copied, Room, nextVersion, openNext, compactUntilRoom, roomFor, markOld, writeAtTop, putSteps}
+use Rattle.model.specs.Steps.{onPage, slotAt, writeSlot, openSegment, topRow, topNumber, hasRoom, firstEmpty, copied, nextVersion, openNext, roomFor, markOld, writeAtTop, putSteps}
 use Rattle.model.specs.Table.{Table}
-use Rattle.model.specs.Laws.Lists.{all-append, all-join, flatten-last, map-length}
-use Rattle.model.specs.Laws.Chip.{run-append, size-facts}
+use Rattle.model.specs.Laws.Lists.{all-join, flatten-last, map-length}
+use Rattle.model.specs.Laws.Chip.{run-append}
 use Rattle.model.specs.Laws.SlotPage.{Valid}
 use Rattle.model.specs.Laws.CopyOut.{Valids}
 use Rattle.model.specs.Laws.View.{slotChanged}

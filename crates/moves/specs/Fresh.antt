@@ -1,6 +1,6 @@
 -- A fresh image built from a table: its list as it is written, and what it leaves, whatever the chip held before.
 use Prim.Native.Nat.{ℕ, _+_, _-_, _*_, _/_, _≤_, _<_}
-use mathlib.Core.Path.{_≡_, refl, sym, ap, _∙_, subst}
+use mathlib.Core.Path.{_≡_, refl, ap, _∙_, subst}
 use mathlib.Core.Bool.{true, false}
 use mathlib.Core.List.{List, [], _∷_, _++_, flatten}
 use native.Mathlib.Omega.{arith}
@@ -10,10 +10,10 @@ use Rattle.model.specs.Lists.{all}
 use Rattle.model.specs.Chip.{Image, Bytes, largestImage, rightSize, run}
 use Rattle.model.specs.Header.{newVersion, isFormer}
 use Rattle.model.specs.Slot.{Slot}
-use Rattle.model.specs.State.{View, view, entries, entriesIn, distinct, capacity, state, clean}
+use Rattle.model.specs.State.{View, view, entries, distinct, capacity, state, clean}
 use Rattle.model.specs.Steps.{formatSteps}
 use Rattle.model.specs.Table.{Table, tableOf}
-use Rattle.model.specs.Laws.Chip.{run-append, run-size, size-facts}
+use Rattle.model.specs.Laws.Chip.{run-append, size-facts}
 use Rattle.model.specs.Laws.Bytes.{run-bytes}
 use Rattle.model.specs.Laws.CopyOut.{Valids}
 use Rattle.bridge.specs.Predicted.{fresh, CleanView}

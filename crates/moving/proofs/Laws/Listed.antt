@@ -3,7 +3,7 @@ use Prim.Native.Nat.{ℕ, zero, suc, _+_, _*_, _%_, _≤_, _<_}
 use mathlib.Core.Path.{_≡_, refl, sym, ap, _∙_, subst}
 use mathlib.Core.Logic.{_≢_}
 use mathlib.Core.Bool.{Bool, true, false, cond}
-use mathlib.Core.List.{List, [], _∷_, _++_}
+use mathlib.Core.List.{[], _++_}
 use native.Mathlib.Omega.{arith}
 use native.Mathlib.Nat.{mod-lt}
 use lib.ListN.{length, getD, replicate, length-replicate}
@@ -11,13 +11,13 @@ use lib.Dec.{eqb}
 use borrow.Author.Tests.{eq-eqb, ne-eqb}
 use Rattle.model.specs.Chip.{Image, Bytes, rightSize, pagesOf, imageLength}
 use Rattle.model.specs.Slot.{live, slotOf, entryOf}
-use Rattle.model.specs.State.{View, entries, entriesIn, holds, Place, placeOf, clean, state, view}
+use Rattle.model.specs.State.{View, entries, entriesIn, holds, placeOf, clean, state, view}
 use Rattle.model.specs.Steps.{slotAt}
-use Rattle.model.specs.Table.{Table, present, lookup, tableOf}
+use Rattle.model.specs.Table.{present, lookup, tableOf}
 use Rattle.model.specs.Mounted.{Places, leastPlaces, placeEntry, filledPlaces}
 use Rattle.model.specs.Laws.Chip.{size-facts}
 use Rattle.model.specs.Laws.Chunk.{chunk-part}
-use Rattle.model.specs.Laws.Segments.{partOf, part-page, page-in}
+use Rattle.model.specs.Laws.Segments.{part-page, page-in}
 use Rattle.model.specs.Laws.Tables.{lookup-append, lookup-absent}
 use Rattle.bridge.specs.Views.Places.{FirstLive, first-live, fill-entries, earlier, later, in-view}
 use Rattle.bridge.specs.Held.{Held, held-of-clean, held-lengths}

@@ -1,9 +1,8 @@
 -- The outcome of a move, from what its parts did.
 use Prim.Native.Nat.{ℕ, _≤_, _<_}
 use mathlib.Core.Path.{_≡_, refl, sym, ap, _∙_}
-use mathlib.Core.Bool.{true, false, cond, _&&_, not}
-use mathlib.Core.List.{List, [], _∷_, _++_}
-use native.Mathlib.Omega.{arith}
+use mathlib.Core.Bool.{true, false, cond, _&&_}
+use mathlib.Core.List.{[], _∷_, _++_}
 use lib.ListN.{length}
 use lib.Dec.{ltb, eqb}
 use borrow.Author.Tests.{lt-ltb, le-ltb}
@@ -11,7 +10,7 @@ use Rattle.model.specs.Chip.{Image, Bytes, rightSize}
 use Rattle.model.specs.State.{capacity, clean, state, view}
 use Rattle.model.specs.Steps.{formatSteps}
 use Rattle.model.specs.Table.{tableOf}
-use Rattle.model.specs.Answers.{codeOf, _when_, firstOf, isDamaged, isUnfinished, Work, performed, worked}
+use Rattle.model.specs.Answers.{codeOf, _when_, firstOf, isDamaged, isUnfinished, performed, worked}
 use Rattle.model.specs.Mounted.{Places, leastPlaces, filledPlaces}
 use Rattle.model.specs.declared.Answer.{Answer}
 use Rattle.model.specs.declared.Answer.the-variants.{Size, Full}
@@ -19,7 +18,7 @@ use Rattle.model.specs.declared.Performed.{Performed}
 use Rattle.bridge.specs.Refusals.{answerIn, unclean, unclean-code}
 use Rattle.request.specs.Request.{Refused}
 use Rattle.request.proofs.Answered.{refused-worked}
-use Rattle.moves.specs.Moves.{byNumber, freshSteps, moveRefusals, moveWork, moveOutcome}
+use Rattle.moves.specs.Moves.{byNumber, moveRefusals, moveWork, moveOutcome}
 use Rattle.moves.specs.Placed.{placed}
 use Rattle.moves.specs.Fresh.{fresh-list}
 use Rattle.moves.specs.Facts.{Movable, movable-fits}
