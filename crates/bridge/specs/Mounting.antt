@@ -1,24 +1,23 @@
 -- A table of places, entry by entry (request #102): what a mount that answered 0 fills it with, and image and table in step, fact by fact. The count of entries is a variable where it can be: nothing computes a list of 65,536.
 use Prim.Native.Nat.{ℕ, zero, suc, _+_, _-_, _%_, _≤_, _<_}
 use mathlib.Core.Path.{_≡_, refl, sym, ap, _∙_}
-use mathlib.Core.Bool.{Bool, true, false, not, true≢false}
+use mathlib.Core.Bool.{true}
 use mathlib.Core.List.{[], _∷_, _++_}
 use native.Mathlib.Omega.{arith}
 use native.Mathlib.Decide.{decLt}
 use lib.ListN.{length, getD, drop, length-append, length-drop, List·getD-append}
 use lib.Seq.{ext-getD, getD-drop, getD-append-add, drop-at}
-use lib.Dec.{ltb}
 use borrow.Author.Tests.{ltb-false, not-false}
 use Rattle.model.specs.Chip.{Image, rightSize}
 use Rattle.model.specs.Slot.{numberOk, live, slotOf}
-use Rattle.model.specs.State.{View, entriesIn, holds, State, clean, unfinished, damaged, state, view}
-use Rattle.model.specs.Answers.{_when_, firstOf, isDamaged, isUnfinished}
+use Rattle.model.specs.State.{View, entriesIn, holds, clean, state, view}
 use Rattle.model.specs.Mounted.{Places, leastPlaces, placeEntry, placesFrom, filledPlaces, MountOutcome, mountRefusals, mountOutcome, InStep}
 use Rattle.model.specs.Laws.Mounted.{mount-clean}
 use Rattle.model.specs.Laws.Chip.{size-facts}
 use Rattle.model.specs.Laws.Segments.{partOf}
 use Rattle.model.specs.Laws.SlotPage.{live-facts}
 use Rattle.model.specs.Laws.Effects.{slot-kind}
+use Rattle.bridge.specs.Refusals.{none-applies, neither}
 use Rattle.bridge.specs.Held.{Held, held-row, held-lengths}
 use Rattle.bridge.specs.Views.Places.{FirstLive, first-live, in-view}
 
@@ -98,21 +97,6 @@ module _ (N B : ℕ) (v : View) where
 
 -- ---- a mount that answered 0
 
-none-applies : (a b c d : Bool) → firstOf ((1 when a) ∷ (10 when b) ∷ (4 when c) ∷ (5 when d) ∷ []) ≡ 0 → (a ≡ false) × (b ≡ false) × (c ≡ false) × (d ≡ false)
-unfolding firstOf
-none-applies true b c d e = absurd (omega arith)
-none-applies false true c d e = absurd (omega arith)
-none-applies false false true d e = absurd (omega arith)
-none-applies false false false true e = absurd (omega arith)
-none-applies false false false false e = (refl, refl, refl, refl)
-
--- an image that is refused by neither 4 nor 5 is clean
-pub neither : (x : State) → isDamaged x ≡ false → isUnfinished x ≡ false → x ≡ clean
-unfolding isDamaged isUnfinished
-neither clean a b = refl
-neither (unfinished x) a b = absurd (true≢false b)
-neither damaged a b = absurd (true≢false a)
-
 -- what it asks for
 pub record Mountable (N B : ℕ) (s : Image) (t : Places) : Type 0 where
   pub size : rightSize N B s ≡ true
@@ -123,8 +107,11 @@ module _ (N B : ℕ) (s : Image) (t : Places) where
   pub mount-asks : mountOutcome N B s t .code ≡ 0 → Mountable N B s t
   unfolding mountOutcome mountRefusals
   mount-asks e =
-      let f = none-applies (not (rightSize N B s)) (ltb (length t) leastPlaces) (isDamaged (state N B s)) (isUnfinished (state N B s)) e in
-      record { size = not-false (rightSize N B s) (f .0); fine = neither (state N B s) (f .2) (f .3); long = ltb-false (length t) leastPlaces (f .1) }
+      let a = none-applies 0 _ _ e in
+      let b = none-applies 9 _ _ (a .1) in
+      let c = none-applies 3 _ _ (b .1) in
+      let d = none-applies 4 _ _ (c .1) in
+      record { size = not-false (rightSize N B s) (a .0); fine = neither (state N B s) (c .0) (d .0); long = ltb-false (length t) leastPlaces (b .0) }
 
   pub mount-fills : Mountable N B s t → mountOutcome N B s t ≡ record { code = 0; places = filledPlaces N B (view N B s) t }
   mount-fills m = mount-clean N B s t (m .size) (m .long) (m .fine)

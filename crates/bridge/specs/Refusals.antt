@@ -1,8 +1,9 @@
 -- The code of each request's refusal, from the tests that lead to it; and the answer by the state of an image.
-use Prim.Native.Nat.{ℕ}
+use Prim.Native.Nat.{ℕ, suc}
 use mathlib.Core.Path.{_≡_, refl}
-use mathlib.Core.Bool.{true, false, not}
+use mathlib.Core.Bool.{Bool, true, false, not, true≢false}
 use mathlib.Core.List.{List, [], _∷_}
+use native.Mathlib.Omega.{arith}
 use lib.ListN.{length}
 use lib.Dec.{eqb}
 use Rattle.model.specs.Chip.{Image, rightSize}
@@ -27,6 +28,19 @@ unfolding codeOf answerIn
 unclean-code clean h = absurd (h refl)
 unclean-code (unfinished x) h = refl
 unclean-code damaged h = refl
+
+-- no row applies: neither the first nor one of the rest
+pub none-applies : (n : ℕ) (t : Bool) (r : List Refusal) → firstOf ((suc n when t) ∷ r) ≡ 0 → (t ≡ false) × (firstOf r ≡ 0)
+unfolding firstOf
+none-applies n true r e = absurd (omega arith)
+none-applies n false r e = (refl, e)
+
+-- an image that is refused by neither 4 nor 5 is clean
+pub neither : (x : State) → isDamaged x ≡ false → isUnfinished x ≡ false → x ≡ clean
+unfolding isDamaged isUnfinished
+neither clean a b = refl
+neither (unfinished x) a b = absurd (true≢false b)
+neither damaged a b = absurd (true≢false a)
 
 -- the rows for the state of the image
 pub unclean : (x : State) → (x ≡ clean → ⊥) → (r : List Refusal) → firstOf ((4 when isDamaged x) ∷ (5 when isUnfinished x) ∷ r) ≡ codeOf (answerIn x)

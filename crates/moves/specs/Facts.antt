@@ -7,18 +7,18 @@ use mathlib.Core.List.{List, [], _∷_, _++_, flatten}
 use native.Mathlib.Omega.{arith}
 use lib.ListN.{length, getD, take, length-take}
 use lib.Seq.{take-all, take-nil}
-use lib.Dec.{ltb, leb, eqb}
+use lib.Dec.{leb, eqb}
 use borrow.Author.Tests.{ltb-false, leb-true, eqb-true, eqb-false, not-false}
 use Rattle.model.specs.Chip.{Image, Step, Bytes, largestImage, rightSize, run}
 use Rattle.model.specs.Slot.{Slot}
 use Rattle.model.specs.State.{entries, distinct, capacity, clean, state, view, entriesIn}
 use Rattle.model.specs.Table.{Table, tableOf}
-use Rattle.model.specs.Answers.{_when_, firstOf, isDamaged, isUnfinished, Work, codeUnder}
+use Rattle.model.specs.Answers.{firstOf, Work, codeUnder}
 use Rattle.model.specs.Laws.Lists.{and-left, and-right}
 use Rattle.model.specs.Laws.CopyOut.{Valids}
 use Rattle.bridge.specs.Views.Slots.{entries-append}
 use Rattle.bridge.specs.Views.Shape.{clean-distinct}
-use Rattle.bridge.specs.Mounting.{neither}
+use Rattle.bridge.specs.Refusals.{none-applies, neither}
 use Rattle.bridge.specs.Held.{held-of-clean, clean-view, row-valid}
 use Rattle.moves.specs.Moves.{byNumber, freshSteps, moveRefusals, moveWork, moveOutcome}
 use Rattle.moves.specs.Sorted.{sorted-length, sorted-distinct, sorted-valids}
@@ -60,14 +60,6 @@ movable-fits N B s M D t b m = record {
   valid = sorted-valids (tableOf N B s) (table-valid N B s (m .source) (m .fine) b);
 }
 
-none-applies : (a b c d : Bool) → firstOf ((1 when a) ∷ (4 when b) ∷ (5 when c) ∷ (7 when d) ∷ []) ≡ 0 → (a ≡ false) × (b ≡ false) × (c ≡ false) × (d ≡ false)
-unfolding firstOf
-none-applies true b c d e = absurd (omega arith)
-none-applies false true c d e = absurd (omega arith)
-none-applies false false true d e = absurd (omega arith)
-none-applies false false false true e = absurd (omega arith)
-none-applies false false false false e = (refl, refl, refl, refl)
-
 module _ (N B : ℕ) (s : Image) (M D : ℕ) (t : Image) where
   abbrev refusal : ℕ
   refusal = firstOf (moveRefusals N B s M D t)
@@ -75,9 +67,17 @@ module _ (N B : ℕ) (s : Image) (M D : ℕ) (t : Image) where
   asks : refusal ≡ 0 → Movable N B s M D t
   unfolding moveRefusals
   asks e =
-      let f = none-applies (not (rightSize N B s && rightSize M D t)) (isDamaged (state N B s)) (isUnfinished (state N B s)) (ltb (capacity M D) (length (tableOf N B s))) e in
-      let z = not-false (rightSize N B s && rightSize M D t) (f .0) in
-      record { source = and-left (rightSize N B s) (rightSize M D t) z; target = and-right (rightSize N B s) (rightSize M D t) z; fine = neither (state N B s) (f .1) (f .2); few = ltb-false (capacity M D) (length (tableOf N B s)) (f .3) }
+      let a = none-applies 0 _ _ e in
+      let b = none-applies 3 _ _ (a .1) in
+      let c = none-applies 4 _ _ (b .1) in
+      let d = none-applies 6 _ _ (c .1) in
+      let z = not-false (rightSize N B s && rightSize M D t) (a .0) in
+      record {
+        source = and-left (rightSize N B s) (rightSize M D t) z;
+        target = and-right (rightSize N B s) (rightSize M D t) z;
+        fine = neither (state N B s) (b .0) (c .0);
+        few = ltb-false (capacity M D) (length (tableOf N B s)) (d .0);
+      }
 
   -- refused without a step, or the list of a fresh image
   pub record Accepted : Type 0 where
