@@ -23,10 +23,10 @@ use Rattle.bridge.specs.Refusals.{put-former, put-full, put-worn}
 use Rattle.flash.proofs.Pages.{sized}
 use Rattle.tally.specs.declared.Tally.{Tally}
 use Rattle.tally.specs.Seen.{headerIn, tallySeen}
+use Rattle.ring.specs.Seen.{Bounded, SeenRing}
+use Rattle.ring.specs.declared.Ring.{Ring}
+use Rattle.ring.specs.declared.Ring.the-variants.{InUse, Broken}
 use Rattle.plan.specs.Statuses.{statusRows, firstMarked, notLive, FreeFrom}
-use Rattle.plan.specs.Seen.{Bounded, SeenRing}
-use Rattle.plan.specs.declared.Ring.{Ring}
-use Rattle.plan.specs.declared.Ring.the-variants.{InUse, Broken}
 use Rattle.plan.proofs.Callers.{clean-first-free, clean-compactions, clean-crowded}
 use Rattle.room.specs.declared.Plan.{Plan}
 use Rattle.room.specs.Room.{Plannable, Full, Planned}

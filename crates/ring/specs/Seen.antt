@@ -3,12 +3,22 @@ use Prim.Native.Nat.{ℕ, _+_, _-_, _*_, _%_, _≤_, _<_}
 use mathlib.Core.Path.{_≡_}
 use mathlib.Core.Logic.{_≢_, _⊎_}
 use mathlib.Core.Bool.{true}
-use lib.ListN.{length}
+use lib.ListN.{length, getD, take, drop}
 use Rattle.model.specs.Chip.{Image, eraseLimit, rightSize}
+use Rattle.model.specs.Header.{headerNumber}
 use Rattle.model.specs.State.{clean, state, view}
-use Rattle.plan.specs.Statuses.{statusAt, numberAt}
-use Rattle.plan.specs.declared.Ring.{Ring}
-use Rattle.plan.specs.declared.Ring.the-variants.{InUse, Broken}
+use Rattle.ring.specs.declared.Ring.{Ring}
+use Rattle.ring.specs.declared.Ring.the-variants.{InUse, Broken}
+
+-- ---- headers, whatever other bytes the image has
+
+-- the status of the header at index i
+unfoldable pub statusAt : ℕ → Image → ℕ → ℕ
+statusAt B s i = getD s (i * (B + 1) * 256 + 5) 0
+
+-- the number in the header at index i
+unfoldable pub numberAt : ℕ → Image → ℕ → ℕ
+numberAt B s i = headerNumber (take 256 (drop (i * (B + 1) * 256) s))
 
 -- ---- the parts of the search
 

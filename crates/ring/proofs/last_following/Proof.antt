@@ -1,11 +1,11 @@
--- `plan::last_following` halves. The invariant: `low` follows or is 0, and `high` does not or is the count. Assumes nothing.
+-- `ring::last_following` halves. The invariant: `low` follows or is 0, and `high` does not or is the count. Assumes nothing.
 use Prim.Native.Nat.{_-_}
 use mathlib.Core.Path.{sym, _∙_}
 use native.Mathlib.Omega.{arith}
-use Rattle.plan.proofs.Laws.Search.{Following, following-start, following-low, following-high, following-end}
+use Rattle.ring.proofs.Laws.Search.{Following, following-start, following-low, following-high, following-end}
 use borrow.Author.Needs.{needs}
-use Rattle.plan.proofs.last_following.Statement.{statement}
-use Rattle.plan.proofs.last_following.Tie as tie
+use Rattle.ring.proofs.last_following.Statement.{statement}
+use Rattle.ring.proofs.last_following.Tie as tie
 
 abbrev Inv-loop : tie.InvT-loop
 Inv-loop image segments slots number low₀ high₀ low high = Following segments slots image number low high

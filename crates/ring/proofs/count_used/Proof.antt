@@ -1,10 +1,10 @@
--- `plan::count_used` goes by the second after the top, then by index 0. Assumes nothing.
+-- `ring::count_used` goes by the second after the top, then by index 0. Assumes nothing.
 use mathlib.Core.Path.{refl, sym, _∙_}
 use mathlib.Core.Logic.{inl, inr}
 use native.Mathlib.Nat.{mod-lt}
 use borrow.Author.Needs.{needs}
-use Rattle.plan.proofs.count_used.Statement.{statement}
-use Rattle.plan.proofs.count_used.Tie as tie
+use Rattle.ring.proofs.count_used.Statement.{statement}
+use Rattle.ring.proofs.count_used.Tie as tie
 
 add-status-at : tie.Need-add-status-at
 add-status-at c = search needs

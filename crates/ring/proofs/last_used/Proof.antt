@@ -1,11 +1,11 @@
--- `plan::last_used` walks down. The invariant: none after `index` counts as in use. Assumes nothing.
+-- `ring::last_used` walks down. The invariant: none after `index` counts as in use. Assumes nothing.
 use Prim.Native.Nat.{_<_}
 use mathlib.Core.Path.{sym, _∙_}
 use native.Mathlib.Omega.{arith}
-use Rattle.plan.proofs.Laws.Search.{FreeAfter, free-more}
+use Rattle.ring.proofs.Laws.Search.{FreeAfter, free-more}
 use borrow.Author.Needs.{needs}
-use Rattle.plan.proofs.last_used.Statement.{statement}
-use Rattle.plan.proofs.last_used.Tie as tie
+use Rattle.ring.proofs.last_used.Statement.{statement}
+use Rattle.ring.proofs.last_used.Tie as tie
 
 abbrev Inv-loop : tie.InvT-loop
 Inv-loop image segments slots index₀ index = (index < segments) × FreeAfter segments slots image index

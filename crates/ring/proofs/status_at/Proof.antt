@@ -1,10 +1,10 @@
--- `plan::status_at` reads the status of a header. Assumes nothing.
+-- `ring::status_at` reads the status of a header. Assumes nothing.
 use native.Mathlib.Omega.{arith}
 use denote.Ref.{now}
-use Rattle.plan.proofs.Laws.Search.{header-inside, header-status}
+use Rattle.ring.proofs.Laws.Search.{header-inside, header-status}
 use borrow.Author.Needs.{needs}
-use Rattle.plan.proofs.status_at.Statement.{statement}
-use Rattle.plan.proofs.status_at.Tie as tie
+use Rattle.ring.proofs.status_at.Statement.{statement}
+use Rattle.ring.proofs.status_at.Tie as tie
 
 add-result : tie.Need-add-result
 add-result c = search needs

@@ -1,9 +1,9 @@
--- `plan::see_ring` shows a ring in bounds, and that of the view on a clean image. Assumes nothing.
+-- `ring::see_ring` shows a ring in bounds, and that of the view on a clean image. Assumes nothing.
 use mathlib.Core.Path.{refl}
-use Rattle.plan.proofs.Laws.Ring.{top-within, ring-short, ring-all, ring-limit, ring-index, ring-few, ring-seen}
+use Rattle.ring.proofs.Laws.Ring.{top-within, ring-short, ring-all, ring-limit, ring-index, ring-few, ring-seen}
 use borrow.Author.Needs.{needs}
-use Rattle.plan.proofs.see_ring.Statement.{statement}
-use Rattle.plan.proofs.see_ring.Tie as tie
+use Rattle.ring.proofs.see_ring.Statement.{statement}
+use Rattle.ring.proofs.see_ring.Tie as tie
 
 returns : tie.Need-returns
 returns c = ring-short _ _ _ (c .if1 .taken)

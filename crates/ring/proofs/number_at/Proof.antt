@@ -1,11 +1,11 @@
--- `plan::number_at` reads the number in a header. Assumes nothing.
+-- `ring::number_at` reads the number in a header. Assumes nothing.
 use mathlib.Core.Path.{refl}
 use native.Mathlib.Omega.{arith}
 use denote.Ref.{now}
-use Rattle.plan.proofs.Laws.Search.{header-inside, header-number}
+use Rattle.ring.proofs.Laws.Search.{header-inside, header-number}
 use borrow.Author.Needs.{needs}
-use Rattle.plan.proofs.number_at.Statement.{statement}
-use Rattle.plan.proofs.number_at.Tie as tie
+use Rattle.ring.proofs.number_at.Statement.{statement}
+use Rattle.ring.proofs.number_at.Tie as tie
 
 add-at : tie.Need-add-at
 add-at c = search needs

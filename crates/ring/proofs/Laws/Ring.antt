@@ -22,9 +22,8 @@ use Rattle.model.specs.Laws.Effects.{in-use-parts, numbered-at, blank-page}
 use Rattle.model.specs.Laws.Ring.{Apart, only-numbered}
 use Rattle.model.specs.Laws.Clean.{RingFacts, used-next, numbered, in-use-numbered}
 use Rattle.bridge.specs.Held.{Held, held-of-clean, held-count, held-next}
-use Rattle.plan.specs.Statuses.{statusAt, numberAt}
-use Rattle.plan.specs.Seen.{LastFollowing, LastUsed, RunFrom, TopSeen, UsedSeen, SeenRing}
-use Rattle.plan.specs.declared.Ring.the-variants.{InUse, Broken}
+use Rattle.ring.specs.Seen.{statusAt, numberAt, LastFollowing, LastUsed, RunFrom, TopSeen, UsedSeen, SeenRing}
+use Rattle.ring.specs.declared.Ring.the-variants.{InUse, Broken}
 
 -- ---- what a header shows
 

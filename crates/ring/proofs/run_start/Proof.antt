@@ -1,11 +1,11 @@
--- `plan::run_start` walks down. The invariant: those from `start` up to the end count as in use. Assumes nothing.
+-- `ring::run_start` walks down. The invariant: those from `start` up to the end count as in use. Assumes nothing.
 use Prim.Native.Nat.{_≤_}
 use mathlib.Core.Path.{sym, _∙_}
 use native.Mathlib.Omega.{arith}
-use Rattle.plan.proofs.Laws.Search.{UsedFrom, used-more}
+use Rattle.ring.proofs.Laws.Search.{UsedFrom, used-more}
 use borrow.Author.Needs.{needs}
-use Rattle.plan.proofs.run_start.Statement.{statement}
-use Rattle.plan.proofs.run_start.Tie as tie
+use Rattle.ring.proofs.run_start.Statement.{statement}
+use Rattle.ring.proofs.run_start.Tie as tie
 
 abbrev Inv-loop : tie.InvT-loop
 Inv-loop image segments slots end start₀ start = (start ≤ end) × UsedFrom slots image start end

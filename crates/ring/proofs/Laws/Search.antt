@@ -9,8 +9,7 @@ use lib.ListN.{getD, take, drop}
 use Rattle.model.specs.Chip.{Image}
 use Rattle.model.specs.Header.{headerNumber}
 use Rattle.flash.specs.Pages.{Sized}
-use Rattle.plan.specs.Statuses.{statusAt, numberAt}
-use Rattle.plan.specs.Seen.{LastFollowing}
+use Rattle.ring.specs.Seen.{statusAt, numberAt, LastFollowing}
 
 -- ---- one header
 

@@ -1,11 +1,11 @@
--- `plan::find_top` goes by index 0. Assumes nothing.
+-- `ring::find_top` goes by index 0. Assumes nothing.
 use mathlib.Core.Path.{sym, _∙_, subst}
 use mathlib.Core.Logic.{inl, inr}
 use denote.Ref.{now}
-use Rattle.plan.specs.Seen.{LastFollowing}
+use Rattle.ring.specs.Seen.{LastFollowing}
 use borrow.Author.Needs.{needs}
-use Rattle.plan.proofs.find_top.Statement.{statement}
-use Rattle.plan.proofs.find_top.Tie as tie
+use Rattle.ring.proofs.find_top.Statement.{statement}
+use Rattle.ring.proofs.find_top.Tie as tie
 
 status-at-requires : tie.Need-status-at-requires
 status-at-requires c κs = search needs
