@@ -87,7 +87,7 @@ fn decide_header(image: &[u8], segments: usize, slots: usize, plan: Plan) -> Dec
     let counted = count_compactions(image, segments, slots, plan);
     let top = top_number(plan.first, plan.used);
     let tally = tally::tally_in(image, segments, slots, top);
-    if put::is_worn(segments, slots, counted, tally) {
+    if put_answers::is_worn(segments, slots, counted, tally) {
         return Decision::Refused(Answer::Worn);
     }
     Decision::Accepted {

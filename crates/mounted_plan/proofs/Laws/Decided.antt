@@ -30,8 +30,8 @@ use Rattle.plan.specs.Statuses.{statusRows, firstMarked, notLive, FreeFrom}
 use Rattle.plan.proofs.Callers.{clean-first-free, clean-compactions, clean-crowded}
 use Rattle.room.specs.declared.Plan.{Plan}
 use Rattle.room.specs.Room.{Plannable, Full, Planned}
-use Rattle.put.specs.Writing.{wornBy}
-use Rattle.put.proofs.Laws.Writing.{worn-room, worn-same, top-seen, former-same}
+use Rattle.put_answers.specs.Answering.{wornBy}
+use Rattle.put_answers.proofs.Laws.{worn-room, worn-same, top-seen, former-same}
 use Rattle.mounted_plan.specs.declared.Decision.{Decision}
 use Rattle.mounted_plan.specs.declared.Decision.the-variants.{Refused, Accepted}
 use Rattle.mounted_plan.specs.Decided.{fullSeen, planSeen, topTally, headerDecision, Decides}

@@ -1,11 +1,11 @@
--- `put::is_worn` is the test of the definition, from a plan and the top's tally. Assumes nothing.
+-- `put_answers::is_worn` is the test of the definition, from a plan and the top's tally. Assumes nothing.
 use Prim.Native.Nat.{_+_}
 use native.Mathlib.Nat.{div-le-self}
 use native.Mathlib.Omega.{arith}
-use Rattle.put.proofs.Laws.Writing.{worn-room, worn-bits, worn-number}
+use Rattle.put_answers.proofs.Laws.{worn-room, worn-bits, worn-number}
 use borrow.Author.Needs.{needs}
-use Rattle.put.proofs.is_worn.Statement.{statement}
-use Rattle.put.proofs.is_worn.Tie as tie
+use Rattle.put_answers.proofs.is_worn.Statement.{statement}
+use Rattle.put_answers.proofs.is_worn.Tie as tie
 
 returns : tie.Need-returns
 returns c = let a = c .before .before .args in worn-room (a .segments) (a .slots) (a .plan) (a .tally) (c .if1 .taken)

@@ -1,9 +1,9 @@
--- `put::new_numbers` is the count of the definition, from a plan. Assumes nothing.
+-- `put_answers::new_numbers` is the count of the definition, from a plan. Assumes nothing.
 use native.Mathlib.Omega.{arith}
-use Rattle.put.proofs.Laws.Writing.{few-numbers, all-numbers}
+use Rattle.put_answers.proofs.Laws.{few-numbers, all-numbers}
 use borrow.Author.Needs.{needs}
-use Rattle.put.proofs.new_numbers.Statement.{statement}
-use Rattle.put.proofs.new_numbers.Tie as tie
+use Rattle.put_answers.proofs.new_numbers.Statement.{statement}
+use Rattle.put_answers.proofs.new_numbers.Tie as tie
 
 add-if1 : tie.Need-add-if1
 add-if1 c = search needs

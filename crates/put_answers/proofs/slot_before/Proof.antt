@@ -1,12 +1,12 @@
--- `put::slot_before` is the search of the definition, left out where it can be. Assumes nothing.
+-- `put_answers::slot_before` is the search of the definition, left out where it can be. Assumes nothing.
 use native.Mathlib.Omega.{arith}
 use mathlib.Core.Logic.{⊎-elim}
 use borrow.Author.Tests.{lt-ltb, le-ltb, le-leb, lt-leb}
 use Rattle.model.specs.State.{capacity}
-use Rattle.put.specs.Writing.{foundBefore}
+use Rattle.put_answers.specs.Answering.{foundBefore}
 use borrow.Author.Needs.{needs}
-use Rattle.put.proofs.slot_before.Statement.{statement}
-use Rattle.put.proofs.slot_before.Tie as tie
+use Rattle.put_answers.proofs.slot_before.Statement.{statement}
+use Rattle.put_answers.proofs.slot_before.Tie as tie
 
 capacity-requires : tie.Need-capacity-requires
 capacity-requires c κs = search needs

@@ -1,8 +1,8 @@
--- `put::is_full` is the test of the definition, from a plan and a search. Assumes nothing.
-use Rattle.put.specs.Writing.{fullBy}
+-- `put_answers::is_full` is the test of the definition, from a plan and a search. Assumes nothing.
+use Rattle.put_answers.specs.Answering.{fullBy}
 use borrow.Author.Needs.{needs}
-use Rattle.put.proofs.is_full.Statement.{statement}
-use Rattle.put.proofs.is_full.Tie as tie
+use Rattle.put_answers.proofs.is_full.Statement.{statement}
+use Rattle.put_answers.proofs.is_full.Tie as tie
 
 enum-told : tie.Need-enum-told
 enum-told c = search needs

@@ -1,9 +1,9 @@
--- `put::put_answer` is the answer of the definition, from a plan and a search. Assumes nothing.
+-- `put_answers::put_answer` is the answer of the definition, from a plan and a search. Assumes nothing.
 use mathlib.Core.Path.{sym, _∙_}
-use Rattle.put.specs.Writing.{answerFor}
+use Rattle.put_answers.specs.Answering.{answerFor}
 use borrow.Author.Needs.{needs}
-use Rattle.put.proofs.put_answer.Statement.{statement}
-use Rattle.put.proofs.put_answer.Tie as tie
+use Rattle.put_answers.proofs.put_answer.Statement.{statement}
+use Rattle.put_answers.proofs.put_answer.Tie as tie
 
 is-full-requires : tie.Need-is-full-requires
 is-full-requires c κs = search needs
