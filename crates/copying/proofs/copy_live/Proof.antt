@@ -1,4 +1,4 @@
--- `compact::copy_live` writes the live slots of the old segment to the new one. The invariant: whatever finishes the rest of the copying finishes the whole, and
+-- `copying::copy_live` writes the live slots of the old segment to the new one. The invariant: whatever finishes the rest of the copying finishes the whole, and
 -- the old segment's pages are as they were. Assumes nothing.
 use Prim.Native.Nat.{_+_, _-_, _*_}
 use mathlib.Core.Path.{refl, sym, ap, _∙_}
@@ -6,10 +6,10 @@ use native.Mathlib.Omega.{arith}
 use denote.Ref.{now}
 use Rattle.model.specs.Chip.{Page}
 use Rattle.model.specs.Slot.{slotOf, kindOf}
-use Rattle.compact.proofs.Laws.{Copying, copying-start, copying-skip, copying-unwritten, copying-turn, copying-end, live-page, slots-inside}
+use Rattle.copying.proofs.Laws.{Copying, copying-start, copying-skip, copying-unwritten, copying-turn, copying-end, live-page, slots-inside}
 use borrow.Author.Needs.{needs}
-use Rattle.compact.proofs.copy_live.Statement.{statement}
-use Rattle.compact.proofs.copy_live.Tie as tie
+use Rattle.copying.proofs.copy_live.Statement.{statement}
+use Rattle.copying.proofs.copy_live.Tie as tie
 
 abbrev Inv-loop : tie.InvT-loop
 Inv-loop image₀ segments slots budget source target from start end left₀ copied₀ slot₀ image left copied slot = Copying segments slots source target budget image₀ image left copied slot
