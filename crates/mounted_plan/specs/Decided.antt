@@ -20,7 +20,7 @@ use Rattle.tally.specs.Seen.{headerIn, tallySeen}
 use Rattle.plan.specs.Statuses.{statusRows, firstMarked, notLive}
 use Rattle.room.specs.declared.Plan.{Plan}
 use Rattle.room.specs.Room.{Plannable, Planned}
-use Rattle.put.specs.Writing.{wornBy}
+use Rattle.put_answers.specs.Answering.{wornBy}
 use Rattle.mounted_plan.specs.declared.Decision.{Decision}
 use Rattle.mounted_plan.specs.declared.Decision.the-variants.{Refused, Accepted}
 

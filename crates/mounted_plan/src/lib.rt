@@ -2,7 +2,7 @@
 // is refused, and otherwise how room is made.
 use model::Answer;
 use model::SegmentNumber;
-use plan::Ring;
+use ring::Ring;
 use room::Plan;
 ghost use mathlib.Core.Path.{_≡_};
 ghost use mathlib.Core.Bool.{true};
@@ -87,7 +87,7 @@ fn decide_header(image: &[u8], segments: usize, slots: usize, plan: Plan) -> Dec
     let counted = count_compactions(image, segments, slots, plan);
     let top = top_number(plan.first, plan.used);
     let tally = tally::tally_in(image, segments, slots, top);
-    if put::is_worn(segments, slots, counted, tally) {
+    if put_answers::is_worn(segments, slots, counted, tally) {
         return Decision::Refused(Answer::Worn);
     }
     Decision::Accepted {
@@ -103,7 +103,7 @@ pub fn decide(image: &[u8], segments: usize, slots: usize, absent: bool) -> Deci
     requires { ⌜ rightSize segments slots (now image) ≡ true ⌝ }
     ensures { λ r. ⌜ Decides segments slots absent (now (image .entry)) r ⌝ }
 {
-    let ring = plan::see_ring(image, segments, slots);
+    let ring = ring::see_ring(image, segments, slots);
     let Ring::InUse { first, used } = ring else {
         return Decision::Refused(Answer::Damaged);
     };

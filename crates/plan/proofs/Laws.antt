@@ -1,4 +1,2 @@
 pub mod Walks
-pub mod Search
-pub mod Ring
 pub mod Kinds

@@ -1,2 +1,1 @@
 pub mod Statuses
-pub mod Seen

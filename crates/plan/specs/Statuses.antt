@@ -1,14 +1,13 @@
--- What status bytes, and the numbers in headers, say of an image, whatever its other bytes are.
+-- What the status bytes of slots say of an image, whatever its other bytes are.
 use Prim.Native.Nat.{ℕ, zero, suc, _+_, _-_, _*_, _≤_, _<_}
 use mathlib.Core.Path.{_≡_}
 use mathlib.Core.Logic.{_≢_}
 use mathlib.Core.Bool.{Bool, cond, _||_, not}
 use mathlib.Core.List.{List, [], _∷_}
-use lib.ListN.{getD, take, drop}
+use lib.ListN.{getD}
 use lib.Dec.{eqb}
 use Rattle.model.specs.Lists.{all}
 use Rattle.model.specs.Chip.{Image}
-use Rattle.model.specs.Header.{headerNumber}
 use Rattle.model.specs.Slot.{written}
 use Rattle.model.specs.Steps.{slotAt}
 
@@ -16,18 +15,6 @@ use Rattle.model.specs.Steps.{slotAt}
 unfoldable pub spaced : Image → ℕ → ℕ → ℕ → List ℕ
 spaced s apart zero at = []
 spaced s apart (suc c) at = getD s at 0 ∷ spaced s apart c (at + apart)
-
--- ---- headers
-
--- the status of the header at index i
-unfoldable pub statusAt : ℕ → Image → ℕ → ℕ
-statusAt B s i = getD s (i * (B + 1) * 256 + 5) 0
-
--- the number in the header at index i
-unfoldable pub numberAt : ℕ → Image → ℕ → ℕ
-numberAt B s i = headerNumber (take 256 (drop (i * (B + 1) * 256) s))
-
--- ---- slots
 
 -- the status of slot j of the segment with number n; those of all its slots; and those of the u numbers from n on
 unfoldable pub slotStatus : ℕ → ℕ → Image → ℕ → ℕ → ℕ

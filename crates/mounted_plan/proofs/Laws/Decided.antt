@@ -23,15 +23,15 @@ use Rattle.bridge.specs.Refusals.{put-former, put-full, put-worn}
 use Rattle.flash.proofs.Pages.{sized}
 use Rattle.tally.specs.declared.Tally.{Tally}
 use Rattle.tally.specs.Seen.{headerIn, tallySeen}
+use Rattle.ring.specs.Seen.{Bounded, SeenRing}
+use Rattle.ring.specs.declared.Ring.{Ring}
+use Rattle.ring.specs.declared.Ring.the-variants.{InUse, Broken}
 use Rattle.plan.specs.Statuses.{statusRows, firstMarked, notLive, FreeFrom}
-use Rattle.plan.specs.Seen.{Bounded, SeenRing}
-use Rattle.plan.specs.declared.Ring.{Ring}
-use Rattle.plan.specs.declared.Ring.the-variants.{InUse, Broken}
 use Rattle.plan.proofs.Callers.{clean-first-free, clean-compactions, clean-crowded}
 use Rattle.room.specs.declared.Plan.{Plan}
 use Rattle.room.specs.Room.{Plannable, Full, Planned}
-use Rattle.put.specs.Writing.{wornBy}
-use Rattle.put.proofs.Laws.Writing.{worn-room, worn-same, top-seen, former-same}
+use Rattle.put_answers.specs.Answering.{wornBy}
+use Rattle.put_answers.proofs.Laws.{worn-room, worn-same, top-seen, former-same}
 use Rattle.mounted_plan.specs.declared.Decision.{Decision}
 use Rattle.mounted_plan.specs.declared.Decision.the-variants.{Refused, Accepted}
 use Rattle.mounted_plan.specs.Decided.{fullSeen, planSeen, topTally, headerDecision, Decides}

@@ -18,7 +18,7 @@ use Rattle.plan.specs.Statuses.{statusRows, firstMarked, notLive}
 use Rattle.plan.proofs.Callers.{compactions-within}
 use Rattle.room.specs.declared.Plan.{Plan}
 use Rattle.room.specs.Room.{Plannable}
-use Rattle.put.specs.Writing.{wornBy}
+use Rattle.put_answers.specs.Answering.{wornBy}
 use Rattle.mounted_plan.specs.declared.Decision.the-variants.{Refused, Accepted}
 use Rattle.mounted_plan.specs.Decided.{fullSeen, planSeen, topTally, headerDecision}
 

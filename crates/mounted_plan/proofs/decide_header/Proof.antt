@@ -5,7 +5,7 @@ use lib.ListN.{length}
 use denote.Ref.{now}
 use Rattle.room.specs.declared.Plan.{Plan}
 use Rattle.room.specs.Room.{Plannable}
-use Rattle.put.proofs.Laws.Writing.{ranged}
+use Rattle.put_answers.proofs.Laws.{ranged}
 use Rattle.mounted_plan.proofs.Laws.Seen.{seen-fits, header-worn, header-fresh}
 use borrow.Author.Needs.{needs}
 use Rattle.mounted_plan.proofs.decide_header.Statement.{statement}

@@ -3,7 +3,8 @@ use denote.Ref.{now}
 use Rattle.model.specs.Answers.{put}
 use Rattle.request.proofs.Answered.{refused-outcome}
 use Rattle.room.proofs.Laws.{find-fits, plannable}
-use Rattle.put.proofs.Laws.Writing.{ranged, top-seen, former-refuses, answer-refuses, answer-accepts}
+use Rattle.put_answers.proofs.Laws.{ranged, top-seen}
+use Rattle.put.proofs.Laws.Writing.{former-refuses, answer-refuses, answer-accepts}
 use borrow.Author.Needs.{needs}
 use Rattle.put.proofs.put_clean.Statement.{statement}
 use Rattle.put.proofs.put_clean.Tie as tie
