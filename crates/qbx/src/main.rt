@@ -96,7 +96,7 @@ fn read_words(path: &[u8]) {
     );
     match reading {
         Reading::Right(command) => obey(path, command),
-        Reading::Wrong(complaint) => qbx_work::complain(complaint, STDERR_FILENO),
+        Reading::Wrong(complaint) => qbx_out::complain(complaint, STDERR_FILENO),
     }
 }
 

@@ -44,7 +44,7 @@ fn obey(line: &[u8], contents: &[u8]) {
                 STDOUT_FILENO,
             );
         }
-        Reading::Wrong(complaint) => qbx_work::complain(complaint, STDOUT_FILENO),
+        Reading::Wrong(complaint) => qbx_out::complain(complaint, STDOUT_FILENO),
     }
 }
 
