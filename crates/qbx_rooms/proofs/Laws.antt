@@ -1,5 +1,5 @@
 -- A buffer of so many bytes, and what the buffers hold.
-use Prim.Native.Nat.{ℕ, zero, suc, _<_, _≤_}
+use Prim.Native.Nat.{ℕ, zero, suc, _<_, _≤_, max}
 use mathlib.Core.Path.{_≡_, refl, sym, ap, subst}
 use mathlib.Core.Bool.{Bool, true, false, cond}
 use native.Mathlib.Omega.{arith}
@@ -9,7 +9,7 @@ use borrow.Author.Tests.{leb-true, le-leb, lt-leb, ltb-true, ltb-false}
 use Rattle.model.specs.Chip.{largestImage, inRange, imageLength}
 use Rattle.request.specs.Request.{sizeOf}
 use Rattle.request.proofs.Laws.{in-bounds, most-pages}
-use Rattle.qbx_rooms.specs.Rooms.{forBuffer, roomOf, needOf, lackOf}
+use Rattle.qbx_rooms.specs.Rooms.{forBuffer, roomOf, needOf, moveNeedOf, lackOf}
 
 -- so many bytes alike; over any count, so that none is counted out
 pub as-many : (n v : ℕ) → n ≡ length (replicate n v)
@@ -61,11 +61,23 @@ module _ (k s : ℕ) {size room : ℕ} (is : size ≡ s) (holds : room ≡ roomO
       let p = ap (λ (t : Bool). needOf t k) e in
       (omega arith, omega (arith, lacks-none (needOf prints k) allowed n a))
 
+-- the same of a move, by the larger of its images
+pub taken-both : (k a b : ℕ) {size room : ℕ} → size ≡ max a b → room ≡ roomOf k → (m : ℕ) {lacking allowed : ℕ} → size ≤ room → lacking ≡ lackOf (moveNeedOf k) allowed → lacking ≤ 0 → roomOf k ≡ roomOf m → moveNeedOf k ≡ moveNeedOf m → (a ≤ roomOf m) × (b ≤ roomOf m) × (moveNeedOf m ≤ allowed)
+taken-both k a b is holds m {allowed = allowed} h n l f g = (omega arith, omega arith, omega (arith, lacks-none (moveNeedOf k) allowed n l))
+
 -- the last buffer holds every image
-pub any-held : (N B : ℕ) → leb (sizeOf N B) (roomOf 2) ≡ true
-unfolding sizeOf roomOf forBuffer
-any-held N B = le-leb (sizeOf N B) largestImage (go (inRange N B) refl)
+any-size : (N B : ℕ) → sizeOf N B ≤ largestImage
+unfolding sizeOf
+any-size N B = go (inRange N B) refl
   where
     go : (t : Bool) → inRange N B ≡ t → cond t (imageLength N B) 0 ≤ largestImage
     go true e = unfold imageLength in (let b = in-bounds N B e in omega (arith, most-pages N B (b .0) (b .1)))
     go false e = omega arith
+
+pub any-held : (N B : ℕ) → leb (sizeOf N B) (roomOf 2) ≡ true
+unfolding roomOf forBuffer
+any-held N B = le-leb (sizeOf N B) largestImage (any-size N B)
+
+pub both-held : (N B M C : ℕ) → leb (max (sizeOf N B) (sizeOf M C)) (roomOf 2) ≡ true
+unfolding roomOf forBuffer
+both-held N B M C = le-leb (max (sizeOf N B) (sizeOf M C)) largestImage (omega (arith, any-size N B, any-size M C))
