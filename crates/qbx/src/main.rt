@@ -1,7 +1,9 @@
-// qbx IMAGE N B VERB [BLOCK] [--budget STEPS]: one request on a record store whose image is a file.
+// qbx IMAGE N B VERB [BLOCK] [--budget STEPS]: one request on a record store whose image is a file. With the verb move TARGET and
+// its N and B follow: the records are carried to another image.
 use libc::STDERR_FILENO;
 use libc::STDIN_FILENO;
 use libc::STDOUT_FILENO;
+use qbx_move_words::MoveReading;
 use qbx_words::Command;
 use qbx_words::Reading;
 use qbx_words::Verb;
@@ -96,8 +98,60 @@ fn read_words(path: &[u8]) {
     );
     match reading {
         Reading::Right(command) => obey(path, command),
-        Reading::Wrong(complaint) => qbx_work::complain(complaint, STDERR_FILENO),
+        Reading::Wrong(complaint) => qbx_out::complain(complaint, STDERR_FILENO),
     }
+}
+
+// The words of a move. Its target is a path, of any length that a path may have.
+fn read_move(path: &[u8]) {
+    let mut segments = [0u8; 64];
+    let a = word(2, &mut segments);
+    let mut slots = [0u8; 64];
+    let b = word(3, &mut slots);
+    let mut target = io::buffer();
+    let c = os::arg(5, &mut target);
+    let mut target_segments = [0u8; 64];
+    let d = word(6, &mut target_segments);
+    let mut target_slots = [0u8; 64];
+    let e = word(7, &mut target_slots);
+    let mut option = [0u8; 64];
+    let f = word(8, &mut option);
+    let mut steps = [0u8; 64];
+    let g = word(9, &mut steps);
+    let reading = qbx_move_words::move_of(
+        &segments[..a],
+        &slots[..b],
+        &target[..c],
+        &target_segments[..d],
+        &target_slots[..e],
+        &option[..f],
+        &steps[..g],
+    );
+    match reading {
+        MoveReading::Right(command) => {
+            qbx_move_buffers::obey(path, &target[..c], command, STDOUT_FILENO, STDERR_FILENO);
+        }
+        MoveReading::Wrong(complaint) => qbx_out::complain(complaint, STDERR_FILENO),
+    }
+}
+
+// A command by its verb: a move has more words than any other.
+fn read(path: &[u8], words: usize) {
+    let mut verb = [0u8; 64];
+    let n = word(4, &mut verb);
+    if qbx_move_words::is_move(&verb[..n]) {
+        if words > 10 {
+            usage(STDERR_FILENO);
+            return;
+        }
+        read_move(path);
+        return;
+    }
+    if words > 8 {
+        usage(STDERR_FILENO);
+        return;
+    }
+    read_words(path);
 }
 
 fn main() {
@@ -115,9 +169,5 @@ fn main() {
         usage(STDERR_FILENO);
         return;
     }
-    if os::arg_count() > 8 {
-        usage(STDERR_FILENO);
-        return;
-    }
-    read_words(&path[..n]);
+    read(&path[..n], os::arg_count());
 }

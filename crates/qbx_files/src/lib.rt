@@ -77,7 +77,7 @@ pub fn length_of(fd: i32, read: usize) -> u64
 }
 
 // The name beside a path, for the file that is to take its place. None if it is too long.
-fn beside(path: &[u8], name: &mut [u8]) -> usize
+pub fn beside(path: &[u8], name: &mut [u8]) -> usize
     ensures { λ r. ⌜ Counts r (now (name .exit)) ⌝ }
     ensures { λ r. ⌜ take r (now (name .exit)) ≡ besideOf (length (now (name .entry))) (now (path .entry)) ⌝ }
 {

@@ -1,9 +1,9 @@
--- A part of an image, an image filled, and a text with its bound.
+-- A part of an image, and a text with its bound.
 use Prim.Native.Nat.{ℕ, _+_, _-_, _<_, _≤_}
-use mathlib.Core.Path.{_≡_, sym, _∙_, ap}
-use mathlib.Core.List.{List, [], _++_, append-nil}
+use mathlib.Core.Path.{_≡_, sym, _∙_}
+use mathlib.Core.List.{List, []}
 use native.Mathlib.Omega.{arith}
-use lib.ListN.{length, take, drop, replicate, length-drop, drop-of-length-le}
+use lib.ListN.{length, take, drop, length-drop, drop-of-length-le}
 use lib.Seq.{take-all, take-nil}
 use Rattle.text.specs.Buffer.{printed, printIn}
 use Rattle.text.specs.declared.Printed.{Printed}
@@ -19,10 +19,6 @@ piece-rest s at count h =
 
 pub piece-whole : (s : List ℕ) (at count : ℕ) → take (at + count - at) (drop at s) ≡ take count (drop at s)
 piece-whole s at count = let e : at + count - at ≡ count = omega arith in rw e
-
--- filled up to the end
-pub filled : (s : List ℕ) (i : ℕ) → i ≡ length s → replicate i 255 ++ drop i s ≡ replicate (length s) 255
-filled s i e = let l : length s ≤ i = omega arith in rw (drop-of-length-le s l, append-nil) (ap (λ (k : ℕ). replicate k 255) e)
 
 pub both : (t start buffer : List ℕ) (p : Printed) → printed p buffer ≡ printIn t start → (printed p buffer ≡ printIn t start) × (p .length ≤ length buffer)
 both t start buffer p e = (e, print-within t start buffer p e)

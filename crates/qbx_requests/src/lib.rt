@@ -6,21 +6,10 @@ use qbx_words::Verb;
 use text::Printed;
 ghost use mathlib.Core.Path.{_≡_};
 ghost use Prim.Native.Nat.{_≤_};
-ghost use lib.ListN.{length, take, drop, replicate};
+ghost use lib.ListN.{length, take, drop};
 ghost use Rattle.model.specs.Answers.{codeOf, performed};
 ghost use Rattle.text.specs.Buffer.{printed, printIn};
 ghost use Rattle.qbx_requests.specs.Requests.{performedBy, textOf};
-
-// A chip from the factory.
-pub fn blank(image: &mut [u8])
-    ensures { λ _. ⌜ now (image .exit) ≡ replicate (length (now (image .entry))) 255 ⌝ }
-{
-    let mut i = 0;
-    while i < image.len() {
-        image[i] = 255;
-        i += 1;
-    }
-}
 
 // A part of an image, as far as the image goes.
 pub fn piece(image: &[u8], at: usize, count: usize) -> &[u8]

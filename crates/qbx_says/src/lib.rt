@@ -69,7 +69,7 @@ fn add_steps_word(line: Line, steps: u64) -> Line
 }
 
 // An answer and the steps done, with no line end.
-fn say_steps(answer: Answer, steps: u64) -> Line
+pub fn say_steps(answer: Answer, steps: u64) -> Line
     ensures { λ r. ⌜ (said r ≡ performedText answer steps) × (r .count ≤ 72) ⌝ }
 {
     let answered = add(say_answer(answer), b", ");
@@ -86,7 +86,7 @@ pub fn say_performed(performed: Performed) -> Line
 }
 
 // What N and B ask for.
-fn add_asked(line: Line, segments: usize, slots: usize) -> Line
+pub fn add_asked(line: Line, segments: usize, slots: usize) -> Line
     requires { ⌜ line .count ≤ 100 ⌝ }
     ensures { λ r. ⌜ Added line (askedText segments slots) r × (r .count ≤ line .count + 44) ⌝ }
 {
@@ -118,9 +118,15 @@ pub fn say_complaint(complaint: Complaint) -> Line
         Complaint::Slots => add(line, b"qbx: B is not a number\n"),
         Complaint::NoVerb => add(
             line,
-            b"qbx: the verb is none of format, put, get, delete, recover, check, account, map\n",
+            b"qbx: the verb is none of format, put, get, delete, recover, check, account, map, move\n",
         ),
         Complaint::Block => add(line, b"qbx: BLOCK is not a number up to 65535\n"),
+        Complaint::NoTarget => add(
+            line,
+            b"qbx: TARGET is missing, or longer than a path may be\n",
+        ),
+        Complaint::TargetSegments => add(line, b"qbx: TARGET's N is not a number\n"),
+        Complaint::TargetSlots => add(line, b"qbx: TARGET's B is not a number\n"),
         Complaint::NoOption => add(
             line,
             b"qbx: only --budget STEPS may follow, and only a verb that writes\n",

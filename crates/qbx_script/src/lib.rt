@@ -1,7 +1,9 @@
-// Plays a script of commands, one to a line, each as qbx would obey it: IMAGE N B VERB [BLOCK] [--budget STEPS] [< contents].
+// Plays a script of commands, one to a line, each as qbx would obey it: IMAGE N B VERB [BLOCK] [--budget STEPS] [< contents], or
+// IMAGE N B move TARGET N B [--budget STEPS].
 // All that is said goes to standard output, so that a whole story is one output to compare.
 use libc::STDIN_FILENO;
 use libc::STDOUT_FILENO;
+use qbx_move_words::MoveReading;
 use qbx_words::Reading;
 ghost use mathlib.Core.Path.{_≡_};
 ghost use Rattle.qbx_script.specs.Script.{wordAt};
@@ -24,8 +26,32 @@ fn word(line: &[u8], k: usize) -> &[u8]
     &line[at..end]
 }
 
+// The words of a move.
+fn carry(line: &[u8]) {
+    let target = word(line, 4);
+    let reading = qbx_move_words::move_of(
+        word(line, 1),
+        word(line, 2),
+        target,
+        word(line, 5),
+        word(line, 6),
+        word(line, 7),
+        word(line, 8),
+    );
+    match reading {
+        MoveReading::Right(command) => {
+            qbx_move_buffers::obey(word(line, 0), target, command, STDOUT_FILENO, STDOUT_FILENO);
+        }
+        MoveReading::Wrong(complaint) => qbx_out::complain(complaint, STDOUT_FILENO),
+    }
+}
+
 // The words of a command, and what stands behind '<'.
 fn obey(line: &[u8], contents: &[u8]) {
+    if qbx_move_words::is_move(word(line, 3)) {
+        carry(line);
+        return;
+    }
     let reading = qbx_words::command_of(
         word(line, 1),
         word(line, 2),
@@ -44,7 +70,7 @@ fn obey(line: &[u8], contents: &[u8]) {
                 STDOUT_FILENO,
             );
         }
-        Reading::Wrong(complaint) => qbx_work::complain(complaint, STDOUT_FILENO),
+        Reading::Wrong(complaint) => qbx_out::complain(complaint, STDOUT_FILENO),
     }
 }
 

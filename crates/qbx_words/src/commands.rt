@@ -17,7 +17,8 @@ pub fn is(word: &[u8], name: &[u8]) -> bool
     check::same(word, name)
 }
 
-fn is_missing(word: &[u8]) -> bool
+// Whether a word is missing: it is empty then.
+pub fn is_missing(word: &[u8]) -> bool
     ensures { λ r. ⌜ r ≡ isMissing (now (word .entry)) ⌝ }
 {
     word.len() == 0

@@ -4,7 +4,9 @@ mod numbers;
 
 pub use commands::command_of;
 pub use commands::is;
+pub use commands::is_missing;
 use model::BlockNumber;
+pub use numbers::number;
 ghost use mathlib.Core.Path.{_≡_};
 ghost use Rattle.qbx_words.specs.Command.{prints};
 
@@ -58,6 +60,9 @@ pub enum Complaint {
     Slots,
     NoVerb,
     Block,
+    NoTarget,
+    TargetSegments,
+    TargetSlots,
     NoOption,
     Budget,
 }

@@ -2,9 +2,10 @@
 // the answer said.
 use model::Answer;
 use model::Performed;
-use qbx_lines::Line;
+use qbx_images::ImageFile;
+use qbx_out::fail;
+use qbx_out::print;
 use qbx_words::Command;
-use qbx_words::Complaint;
 use qbx_words::Verb;
 ghost use mathlib.Core.Path.{_≡_};
 ghost use mathlib.Core.Bool.{false};
@@ -12,89 +13,18 @@ ghost use Prim.Native.Nat.{_<_, _≤_};
 ghost use lib.ListN.{length};
 ghost use Rattle.request.specs.Request.{sizeOf};
 ghost use Rattle.qbx_words.specs.Command.{prints};
-ghost use Rattle.qbx_lines.specs.Lines.{mostLine};
-
-// Says a line.
-fn print(fd: i32, line: Line)
-    requires { ⌜ line .count ≤ mostLine ⌝ }
-{
-    let bytes = line.bytes;
-    let n = line.count;
-    io::write_all(fd, &bytes[..n]);
-}
-
-// Says what could not be done with a file, on standard error with the system's reason.
-fn fail(fd: i32, what: &[u8], path: &[u8]) {
-    io::write_all(fd, b"qbx: cannot ");
-    io::write_all(fd, what);
-    if fd == libc::STDERR_FILENO {
-        os::fail(path);
-        return;
-    }
-    io::write_all(fd, path);
-    io::write_all(fd, b"\n");
-}
-
-// The image's file, in the first bytes of the buffer: how many, whether they could be had, and how many the file has.
-struct ImageFile {
-    count: usize,
-    whole: bool,
-    there: u64,
-}
-
-// A file that could not be had; the system's reason stays to be told.
-fn unread() -> ImageFile
-    ensures { λ r. ⌜ r .count ≡ 0 ⌝ }
-{
-    ImageFile {
-        count: 0,
-        whole: false,
-        there: 0,
-    }
-}
 
 // Has the image's file in the buffer: the file's own bytes, or a chip from the factory where format finds none.
 fn present(image: &mut [u8], path: &[u8], command: Command) -> ImageFile
     requires { ⌜ sizeOf (command .segments) (command .slots) < length (now image) ⌝ }
     ensures { λ r. ⌜ r .count ≤ length (now (image .exit)) ⌝ }
 {
-    let fd = os::open_read(path);
-    if fd < 0 {
-        return absent(image, command, os::errno());
-    }
-    let filled = qbx_files::fill(fd, image);
-    if !filled.whole {
-        libc::close(fd);
-        return unread();
-    }
-    let there = qbx_files::length_of(fd, filled.count);
-    libc::close(fd);
-    ImageFile {
-        count: filled.count,
-        whole: true,
-        there,
-    }
-}
-
-// The file could not be opened.
-fn absent(image: &mut [u8], command: Command, error: i32) -> ImageFile
-    requires { ⌜ sizeOf (command .segments) (command .slots) < length (now image) ⌝ }
-    ensures { λ r. ⌜ r .count ≤ length (now (image .exit)) ⌝ }
-{
+    let size = request::size_of(command.segments as usize, command.slots as usize);
     let verb = command.verb;
-    let Verb::Format = verb else {
-        return unread();
-    };
-    let count = request::size_of(command.segments as usize, command.slots as usize);
-    if error != libc::ENOENT {
-        return unread();
+    if let Verb::Format = verb {
+        return qbx_images::present(image, path, size, true);
     }
-    qbx_requests::blank(&mut image[..count]);
-    ImageFile {
-        count,
-        whole: true,
-        there: 0,
-    }
+    qbx_images::present(image, path, size, false)
 }
 
 // Says an answer and the steps done; beside a wrong size what N and B ask for, and the bytes that are there.
@@ -236,17 +166,4 @@ pub fn show(image: &mut [u8], text: &mut [u8], path: &[u8], command: Command, ou
     if !io::write_all(out, &text[..length]) {
         fail(err, b"write ", b"standard output");
     }
-}
-
-// Says that a command's image needs more KiB of stack than are allowed.
-pub fn lack_stack(command: Command, needed: u64, allowed: u64, err: i32)
-    requires { ⌜ allowed < needed ⌝ }
-{
-    let size = request::size_of(command.segments as usize, command.slots as usize);
-    print(err, qbx_says::say_stack(size as u64, needed, allowed));
-}
-
-// What is wrong with a command's words.
-pub fn complain(complaint: Complaint, err: i32) {
-    print(err, qbx_says::say_complaint(complaint));
 }

@@ -7,21 +7,21 @@ use lib.Dec.{leb}
 use borrow.Fn.Kinds.{In}
 use borrow.Fn.PlainCycle.{Measures, is, falls, and}
 use Rattle.request.specs.Request.{sizeOf}
-use Rattle.qbx_buffers.specs.Buffers.{forBuffer, roomOf, needOf}
-use Rattle.qbx_buffers.proofs.Laws.{grows, last-one, held, not-held, taken}
+use Rattle.qbx_rooms.specs.Rooms.{forBuffer, roomOf, needOf}
+use Rattle.qbx_rooms.proofs.Laws.{grows, last-one, held, not-held, lacks, taken}
 use Rattle.qbx_buffers.proofs.within.Reads as within
 use Rattle.qbx_buffers.proofs.within.Kinds as within-kinds
 use Rattle.qbx_buffers.proofs.+within.Lts-within as within-lts
-use Rattle.qbx_buffers.proofs.large.Reads as large-reads
-use Rattle.qbx_buffers.proofs.large_text.Reads as large-text-reads
-use Rattle.qbx_buffers.proofs.middle.Reads as middle-reads
-use Rattle.qbx_buffers.proofs.middle_text.Reads as middle-text-reads
-use Rattle.qbx_buffers.proofs.need_of.Reads as need-of-reads
-use Rattle.qbx_buffers.proofs.room_of.Reads as room-of-reads
-use Rattle.qbx_buffers.proofs.small.Reads as small-reads
-use Rattle.qbx_buffers.proofs.small_text.Reads as small-text-reads
+use Rattle.qbx_frames.proofs.large.Reads as large-reads
+use Rattle.qbx_frames.proofs.large_text.Reads as large-text-reads
+use Rattle.qbx_frames.proofs.middle.Reads as middle-reads
+use Rattle.qbx_frames.proofs.middle_text.Reads as middle-text-reads
+use Rattle.qbx_rooms.proofs.lacking.Reads as lacking-reads
+use Rattle.qbx_rooms.proofs.room_of.Reads as room-of-reads
+use Rattle.qbx_frames.proofs.small.Reads as small-reads
+use Rattle.qbx_frames.proofs.small_text.Reads as small-text-reads
 use Rattle.qbx_words.proofs.prints.Reads as prints-reads
-use Rattle.qbx_work.proofs.lack_stack.Reads as lack-stack-reads
+use Rattle.qbx_out.proofs.lack_stack.Reads as lack-stack-reads
 use Rattle.request.proofs.size_of.Reads as size-of-reads
 use Rattle.qbx_buffers.proofs.+within.{statement}
 use Rattle.qbx_buffers.proofs.+within.Tie.{close}
@@ -42,8 +42,8 @@ claims t = (
   room-of-reads.Learnt,
   prints-reads.Asked,
   prints-reads.Learnt,
-  need-of-reads.Asked,
-  need-of-reads.Learnt,
+  lacking-reads.Asked,
+  lacking-reads.Learnt,
   lack-stack-reads.Asked,
   lack-stack-reads.Learnt,
   small-text-reads.Asked,
@@ -64,40 +64,40 @@ claims t = (
 large-text-requires : (t : ℕ) → within-lts.Need-large-text-requires (claims t) (at t) within.Post
 unfolding roomOf needOf forBuffer
 large-text-requires t c κs =
-    let k = c .before .before .before .before .before in
-    taken (k .before .before .before .before .before .before .before .before .args .last) _ (k .before .before .before .before .size-of .ensures .0) (k .before .before .before .room-of .ensures) 2 _ true (omega (arith, k .before .before .if3 .left)) (k .need-of .ensures) (omega (arith, c .before .before .before .if4 .left)) (c .before .before .if5 .taken) (last-one _ _ _ (k .before .before .before .before .before .before .before .before .args .last) (c .before .if6 .left) (c .if7 .left)) (last-one _ _ _ (k .before .before .before .before .before .before .before .before .args .last) (c .before .if6 .left) (c .if7 .left))
+    let k = c .before .before .before .before in
+    taken (k .before .before .before .before .before .before .before .before .args .last) _ (k .before .before .before .before .size-of .ensures .0) (k .before .before .before .room-of .ensures) 2 _ true (omega (arith, k .before .before .if3 .left)) (k .lacking .ensures) (omega (arith, c .before .before .before .if4 .left)) (c .before .before .if5 .taken) (last-one _ _ _ (k .before .before .before .before .before .before .before .before .args .last) (c .before .if6 .left) (c .if7 .left)) (last-one _ _ _ (k .before .before .before .before .before .before .before .before .args .last) (c .before .if6 .left) (c .if7 .left))
 
 middle-text-requires : (t : ℕ) → within-lts.Need-middle-text-requires (claims t) (at t) within.Post
 middle-text-requires t c κs =
-    let k = c .before .before .before .before .before in
-    taken (k .before .before .before .before .before .before .before .before .args .last) _ (k .before .before .before .before .size-of .ensures .0) (k .before .before .before .room-of .ensures) 1 _ true (omega (arith, k .before .before .if3 .left)) (k .need-of .ensures) (omega (arith, c .before .before .before .if4 .left)) (c .before .before .if5 .taken) (ap roomOf (c .if7 .taken)) (ap (needOf true) (c .if7 .taken))
+    let k = c .before .before .before .before in
+    taken (k .before .before .before .before .before .before .before .before .args .last) _ (k .before .before .before .before .size-of .ensures .0) (k .before .before .before .room-of .ensures) 1 _ true (omega (arith, k .before .before .if3 .left)) (k .lacking .ensures) (omega (arith, c .before .before .before .if4 .left)) (c .before .before .if5 .taken) (ap roomOf (c .if7 .taken)) (ap (needOf true) (c .if7 .taken))
 
 small-text-requires : (t : ℕ) → within-lts.Need-small-text-requires (claims t) (at t) within.Post
 small-text-requires t c κs =
-    let k = c .before .before .before .before in
-    taken (k .before .before .before .before .before .before .before .before .args .last) _ (k .before .before .before .before .size-of .ensures .0) (k .before .before .before .room-of .ensures) 0 _ true (omega (arith, k .before .before .if3 .left)) (k .need-of .ensures) (omega (arith, c .before .before .if4 .left)) (c .before .if5 .taken) (ap roomOf (c .if6 .taken)) (ap (needOf true) (c .if6 .taken))
+    let k = c .before .before .before in
+    taken (k .before .before .before .before .before .before .before .before .args .last) _ (k .before .before .before .before .size-of .ensures .0) (k .before .before .before .room-of .ensures) 0 _ true (omega (arith, k .before .before .if3 .left)) (k .lacking .ensures) (omega (arith, c .before .before .if4 .left)) (c .before .if5 .taken) (ap roomOf (c .if6 .taken)) (ap (needOf true) (c .if6 .taken))
 
 large-requires : (t : ℕ) → within-lts.Need-large-requires (claims t) (at t) within.Post
 unfolding roomOf needOf forBuffer
 large-requires t c κs =
-    let k = c .before .before .before .before .before in
-    let h = taken (k .before .before .before .before .before .before .before .before .args .last) _ (k .before .before .before .before .size-of .ensures .0) (k .before .before .before .room-of .ensures) 2 _ false {allowed = k .before .before .before .before .before .before .before .before .args .process .allowed} (omega (arith, k .before .before .if3 .left)) (k .need-of .ensures) (omega (arith, c .before .before .before .if4 .left)) (c .before .before .if5 .left) (last-one _ _ _ (k .before .before .before .before .before .before .before .before .args .last) (c .before .if8 .left) (c .if9 .left)) (last-one _ _ _ (k .before .before .before .before .before .before .before .before .args .last) (c .before .if8 .left) (c .if9 .left)) in
+    let k = c .before .before .before .before in
+    let h = taken (k .before .before .before .before .before .before .before .before .args .last) _ (k .before .before .before .before .size-of .ensures .0) (k .before .before .before .room-of .ensures) 2 _ false {allowed = k .before .before .before .before .before .before .before .before .args .process .allowed} (omega (arith, k .before .before .if3 .left)) (k .lacking .ensures) (omega (arith, c .before .before .before .if4 .left)) (c .before .before .if5 .left) (last-one _ _ _ (k .before .before .before .before .before .before .before .before .args .last) (c .before .if8 .left) (c .if9 .left)) (last-one _ _ _ (k .before .before .before .before .before .before .before .before .args .last) (c .before .if8 .left) (c .if9 .left)) in
     (h .0, h .1, sym (k .before .prints .ensures) ∙ c .before .before .if5 .left)
 
 middle-requires : (t : ℕ) → within-lts.Need-middle-requires (claims t) (at t) within.Post
 middle-requires t c κs =
-    let k = c .before .before .before .before .before in
-    let h = taken (k .before .before .before .before .before .before .before .before .args .last) _ (k .before .before .before .before .size-of .ensures .0) (k .before .before .before .room-of .ensures) 1 _ false {allowed = k .before .before .before .before .before .before .before .before .args .process .allowed} (omega (arith, k .before .before .if3 .left)) (k .need-of .ensures) (omega (arith, c .before .before .before .if4 .left)) (c .before .before .if5 .left) (ap roomOf (c .if9 .taken)) (ap (needOf false) (c .if9 .taken)) in
+    let k = c .before .before .before .before in
+    let h = taken (k .before .before .before .before .before .before .before .before .args .last) _ (k .before .before .before .before .size-of .ensures .0) (k .before .before .before .room-of .ensures) 1 _ false {allowed = k .before .before .before .before .before .before .before .before .args .process .allowed} (omega (arith, k .before .before .if3 .left)) (k .lacking .ensures) (omega (arith, c .before .before .before .if4 .left)) (c .before .before .if5 .left) (ap roomOf (c .if9 .taken)) (ap (needOf false) (c .if9 .taken)) in
     (h .0, h .1, sym (k .before .prints .ensures) ∙ c .before .before .if5 .left)
 
 small-requires : (t : ℕ) → within-lts.Need-small-requires (claims t) (at t) within.Post
 small-requires t c κs =
-    let k = c .before .before .before .before in
-    let h = taken (k .before .before .before .before .before .before .before .before .args .last) _ (k .before .before .before .before .size-of .ensures .0) (k .before .before .before .room-of .ensures) 0 _ false {allowed = k .before .before .before .before .before .before .before .before .args .process .allowed} (omega (arith, k .before .before .if3 .left)) (k .need-of .ensures) (omega (arith, c .before .before .if4 .left)) (c .before .if5 .left) (ap roomOf (c .if8 .taken)) (ap (needOf false) (c .if8 .taken)) in
+    let k = c .before .before .before in
+    let h = taken (k .before .before .before .before .before .before .before .before .args .last) _ (k .before .before .before .before .size-of .ensures .0) (k .before .before .before .room-of .ensures) 0 _ false {allowed = k .before .before .before .before .before .before .before .before .args .process .allowed} (omega (arith, k .before .before .if3 .left)) (k .lacking .ensures) (omega (arith, c .before .before .if4 .left)) (c .before .if5 .left) (ap roomOf (c .if8 .taken)) (ap (needOf false) (c .if8 .taken)) in
     (h .0, h .1, sym (k .before .prints .ensures) ∙ c .before .if5 .left)
 
 lack-stack-requires : (t : ℕ) → within-lts.Need-lack-stack-requires (claims t) (at t) within.Post
-lack-stack-requires t c κs = omega (arith, c .before .if4 .taken)
+lack-stack-requires t c κs = lacks _ _ (c .before .before .lacking .ensures) (omega (arith, c .before .if4 .taken))
 
 sub-within : (t : ℕ) → within-lts.Need-sub-within (claims t) (at t) within.Post
 sub-within t c = omega arith
@@ -121,45 +121,45 @@ room-of-requires t c κs = tt
 prints-requires : (t : ℕ) → within-lts.Need-prints-requires (claims t) (at t) within.Post
 prints-requires t c κs = tt
 
-need-of-requires : (t : ℕ) → within-lts.Need-need-of-requires (claims t) (at t) within.Post
-need-of-requires t c κs = tt
+lacking-requires : (t : ℕ) → within-lts.Need-lacking-requires (claims t) (at t) within.Post
+lacking-requires t c κs = tt
 
 returns-2 : (t : ℕ) → within-lts.Need-returns-2 (claims t) (at t) within.Post
 returns-2 t c = not-held (c .before .before .before .before .before .before .args .last) _ (c .before .before .size-of .ensures .0) (c .before .room-of .ensures) (c .if3 .taken)
 
 returns-3 : (t : ℕ) → within-lts.Need-returns-3 (claims t) (at t) within.Post
 returns-3 t c =
-    let k = c .before .before .before .before in
+    let k = c .before .before .before in
     held (k .before .before .before .before .before .before .before .before .args .last) _ (k .before .before .before .before .size-of .ensures .0) (k .before .before .before .room-of .ensures) (omega (arith, k .before .before .if3 .left))
 
 returns-4 : (t : ℕ) → within-lts.Need-returns-4 (claims t) (at t) within.Post
 returns-4 t c =
-    let k = c .before .before .before .before .before in
+    let k = c .before .before .before .before in
     c .small-text .ensures ∙ held (k .before .before .before .before .before .before .before .before .args .last) _ (k .before .before .before .before .size-of .ensures .0) (k .before .before .before .room-of .ensures) (omega (arith, k .before .before .if3 .left))
 
 returns-5 : (t : ℕ) → within-lts.Need-returns-5 (claims t) (at t) within.Post
 returns-5 t c =
-    let k = c .before .before .before .before .before .before in
+    let k = c .before .before .before .before .before in
     c .middle-text .ensures ∙ held (k .before .before .before .before .before .before .before .before .args .last) _ (k .before .before .before .before .size-of .ensures .0) (k .before .before .before .room-of .ensures) (omega (arith, k .before .before .if3 .left))
 
 returns-6 : (t : ℕ) → within-lts.Need-returns-6 (claims t) (at t) within.Post
 returns-6 t c =
-    let k = c .before .before .before .before .before .before in
+    let k = c .before .before .before .before .before in
     c .large-text .ensures ∙ held (k .before .before .before .before .before .before .before .before .args .last) _ (k .before .before .before .before .size-of .ensures .0) (k .before .before .before .room-of .ensures) (omega (arith, k .before .before .if3 .left))
 
 returns-7 : (t : ℕ) → within-lts.Need-returns-7 (claims t) (at t) within.Post
 returns-7 t c =
-    let k = c .before .before .before .before .before in
+    let k = c .before .before .before .before in
     c .small .ensures ∙ held (k .before .before .before .before .before .before .before .before .args .last) _ (k .before .before .before .before .size-of .ensures .0) (k .before .before .before .room-of .ensures) (omega (arith, k .before .before .if3 .left))
 
 returns-8 : (t : ℕ) → within-lts.Need-returns-8 (claims t) (at t) within.Post
 returns-8 t c =
-    let k = c .before .before .before .before .before .before in
+    let k = c .before .before .before .before .before in
     c .middle .ensures ∙ held (k .before .before .before .before .before .before .before .before .args .last) _ (k .before .before .before .before .size-of .ensures .0) (k .before .before .before .room-of .ensures) (omega (arith, k .before .before .if3 .left))
 
 returns-9 : (t : ℕ) → within-lts.Need-returns-9 (claims t) (at t) within.Post
 returns-9 t c =
-    let k = c .before .before .before .before .before .before in
+    let k = c .before .before .before .before .before in
     c .large .ensures ∙ held (k .before .before .before .before .before .before .before .before .args .last) _ (k .before .before .before .before .size-of .ensures .0) (k .before .before .before .room-of .ensures) (omega (arith, k .before .before .if3 .left))
 
 pub +within-spec : {M : Type 1} → statement M
@@ -171,7 +171,7 @@ pub +within-spec : {M : Type 1} → statement M
     (room-of-requires t)
     (returns-2 t)
     (prints-requires t)
-    (need-of-requires t)
+    (lacking-requires t)
     (lack-stack-requires t)
     (returns-3 t)
     (small-text-requires t)

@@ -1,6 +1,6 @@
 -- `qbx_buffers::obey`: the last buffer holds every image. Assumes nothing.
 use mathlib.Core.Path.{_∙_}
-use Rattle.qbx_buffers.proofs.Laws.{any-held}
+use Rattle.qbx_rooms.proofs.Laws.{any-held}
 use borrow.Author.Needs.{needs}
 use Rattle.qbx_buffers.proofs.obey.Statement.{statement}
 use Rattle.qbx_buffers.proofs.obey.Tie as tie

@@ -64,6 +64,33 @@ slice-aggregate-add-6 c = search needs
 add-requires-6 : tie.Need-add-requires-6
 add-requires-6 c κs = search needs
 
+enum-told-7 : tie.Need-enum-told-7
+enum-told-7 c = search needs
+
+slice-aggregate-add-7 : tie.Need-slice-aggregate-add-7
+slice-aggregate-add-7 c = search needs
+
+add-requires-7 : tie.Need-add-requires-7
+add-requires-7 c κs = search needs
+
+enum-told-8 : tie.Need-enum-told-8
+enum-told-8 c = search needs
+
+slice-aggregate-add-8 : tie.Need-slice-aggregate-add-8
+slice-aggregate-add-8 c = search needs
+
+add-requires-8 : tie.Need-add-requires-8
+add-requires-8 c κs = search needs
+
+enum-told-9 : tie.Need-enum-told-9
+enum-told-9 c = search needs
+
+slice-aggregate-add-9 : tie.Need-slice-aggregate-add-9
+slice-aggregate-add-9 c = search needs
+
+add-requires-9 : tie.Need-add-requires-9
+add-requires-9 c κs = search needs
+
 returns : tie.Need-returns
 unfolding text complaintText
 returns c = rw (c .before .before .enum-told .given .1) (more (c .add .ensures) (c .before .before .before .before .empty .ensures .0), omega arith)
@@ -88,6 +115,18 @@ returns-6 : tie.Need-returns-6
 unfolding text complaintText
 returns-6 c = rw (c .before .before .enum-told6 .given .1) (more (c .add6 .ensures) (c .before .before .before .before .empty .ensures .0), omega arith)
 
+returns-7 : tie.Need-returns-7
+unfolding text complaintText
+returns-7 c = rw (c .before .before .enum-told7 .given .1) (more (c .add7 .ensures) (c .before .before .before .before .empty .ensures .0), omega arith)
+
+returns-8 : tie.Need-returns-8
+unfolding text complaintText
+returns-8 c = rw (c .before .before .enum-told8 .given .1) (more (c .add8 .ensures) (c .before .before .before .before .empty .ensures .0), omega arith)
+
+returns-9 : tie.Need-returns-9
+unfolding text complaintText
+returns-9 c = rw (c .before .before .enum-told9 .given .1) (more (c .add9 .ensures) (c .before .before .before .before .empty .ensures .0), omega arith)
+
 pub say-complaint-spec : {M : Type 1} → statement M
 say-complaint-spec =
     tie.close
@@ -111,9 +150,21 @@ say-complaint-spec =
     enum-told-6
     slice-aggregate-add-6
     add-requires-6
+    enum-told-7
+    slice-aggregate-add-7
+    add-requires-7
+    enum-told-8
+    slice-aggregate-add-8
+    add-requires-8
+    enum-told-9
+    slice-aggregate-add-9
+    add-requires-9
     returns
     returns-2
     returns-3
     returns-4
     returns-5
-    returns-6)
+    returns-6
+    returns-7
+    returns-8
+    returns-9)

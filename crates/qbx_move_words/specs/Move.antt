@@ -1,0 +1,51 @@
+-- The words of a move, read: N B move TARGET N B [--budget STEPS]. A word that is missing is empty.
+use Prim.Native.Nat.{ℕ}
+use mathlib.Core.Bool.{Bool, cond}
+use mathlib.Core.List.{List}
+use Rattle.model.specs.Lists.{same}
+use Rattle.text.specs.Text.{text}
+use Rattle.qbx_words.specs.Number.{numberOf}
+use Rattle.qbx_words.specs.Command.{isMissing}
+use Rattle.qbx_words.specs.declared.Parsed.{Parsed}
+use Rattle.qbx_words.specs.declared.Parsed.the-variants.{Number, NoNumber}
+use Rattle.qbx_words.specs.declared.Complaint.{Complaint}
+use Rattle.qbx_words.specs.declared.Complaint.the-variants.{Segments, Slots, NoTarget, TargetSegments, TargetSlots, NoOption, Budget}
+use Rattle.qbx_move_words.specs.declared.Geometry.{Geometry}
+use Rattle.qbx_move_words.specs.declared.Move.{Move}
+use Rattle.qbx_move_words.specs.declared.MoveReading.{MoveReading}
+use Rattle.qbx_move_words.specs.declared.MoveReading.the-variants.{Right, Wrong}
+
+unfoldable pub isMove : List ℕ → Bool
+isMove w = same w (text "move")
+
+-- a word that is to be a number
+unfoldable pub asNumber : Parsed → Complaint → (ℕ → MoveReading) → MoveReading
+asNumber (Number n) x go = go n
+asNumber NoNumber x go = Wrong x
+
+abbrev pub budgeted : Move → ℕ → Move
+budgeted k n = record { source = k .source; target = k .target; budget = n }
+
+unfoldable pub withBudget : Move → List ℕ → List ℕ → MoveReading
+withBudget k option steps =
+    cond (isMissing option) (Right k)
+    (cond (same option (text "--budget")) (asNumber (numberOf steps) Budget (λ n. Right (budgeted k n)))
+    (Wrong NoOption))
+
+-- with as many steps as 64 bits can count
+abbrev pub plain : Geometry → Geometry → Move
+plain g h = record { source = g; target = h; budget = 18446744073709551615 }
+
+abbrev pub geometry : ℕ → ℕ → Geometry
+geometry N B = record { segments = N; slots = B }
+
+-- the words after the target's name
+unfoldable pub onto : Geometry → List ℕ → List ℕ → List ℕ → List ℕ → MoveReading
+onto g n b option steps =
+    asNumber (numberOf n) TargetSegments (λ N. asNumber (numberOf b) TargetSlots (λ B. withBudget (plain g (geometry N B)) option steps))
+
+-- the words after the image's name, but for the verb; the second N and B are the target's
+unfoldable pub moveOf : List ℕ → List ℕ → List ℕ → List ℕ → List ℕ → List ℕ → List ℕ → MoveReading
+moveOf n b target m c option steps =
+    asNumber (numberOf n) Segments (λ N. asNumber (numberOf b) Slots (λ B.
+    cond (isMissing target) (Wrong NoTarget) (onto (geometry N B) m c option steps)))

@@ -1,0 +1,105 @@
+// The words of a move, read: IMAGE N B move TARGET N B [--budget STEPS].
+use qbx_words::Complaint;
+use qbx_words::Parsed;
+use qbx_words::is;
+use qbx_words::is_missing;
+use qbx_words::number;
+ghost use mathlib.Core.Path.{_≡_};
+ghost use Rattle.qbx_move_words.specs.Move.{isMove, withBudget, onto, moveOf};
+
+// N and B of an image.
+pub struct Geometry {
+    pub segments: u64,
+    pub slots: u64,
+}
+
+// A move whose words were right.
+pub struct Move {
+    pub source: Geometry,
+    pub target: Geometry,
+    pub budget: u64,
+}
+
+pub enum MoveReading {
+    Right(Move),
+    Wrong(Complaint),
+}
+
+// Whether a verb is that of a move. It is no command's: another image follows it.
+pub fn is_move(verb: &[u8]) -> bool
+    ensures { λ r. ⌜ r ≡ isMove (now (verb .entry)) ⌝ }
+{
+    is(verb, b"move")
+}
+
+// The option at the end.
+fn with_budget(command: Move, option: &[u8], steps: &[u8]) -> MoveReading
+    ensures { λ r. ⌜ r ≡ withBudget command (now (option .entry)) (now (steps .entry)) ⌝ }
+{
+    if is_missing(option) {
+        return MoveReading::Right(command);
+    }
+    if is(option, b"--budget") {
+        let Parsed::Number(budget) = number(steps) else {
+            return MoveReading::Wrong(Complaint::Budget);
+        };
+        let source = command.source;
+        let target = command.target;
+        return MoveReading::Right(Move {
+            source,
+            target,
+            budget,
+        });
+    }
+    MoveReading::Wrong(Complaint::NoOption)
+}
+
+// The words after the target's name.
+fn onto(source: Geometry, segments: &[u8], slots: &[u8], option: &[u8], steps: &[u8]) -> MoveReading
+    ensures { λ r. ⌜ r ≡ onto source (now (segments .entry)) (now (slots .entry)) (now (option .entry)) (now (steps .entry)) ⌝ }
+{
+    let Parsed::Number(n) = number(segments) else {
+        return MoveReading::Wrong(Complaint::TargetSegments);
+    };
+    let Parsed::Number(b) = number(slots) else {
+        return MoveReading::Wrong(Complaint::TargetSlots);
+    };
+    let target = Geometry {
+        segments: n,
+        slots: b,
+    };
+    let whole = Move {
+        source,
+        target,
+        budget: u64::MAX,
+    };
+    with_budget(whole, option, steps)
+}
+
+// The words after the image's name but for the verb; those that are missing are empty.
+pub fn move_of(
+    segments: &[u8],
+    slots: &[u8],
+    target: &[u8],
+    target_segments: &[u8],
+    target_slots: &[u8],
+    option: &[u8],
+    steps: &[u8],
+) -> MoveReading
+    ensures { λ r. ⌜ r ≡ moveOf (now (segments .entry)) (now (slots .entry)) (now (target .entry)) (now («target_segments» .entry)) (now («target_slots» .entry)) (now (option .entry)) (now (steps .entry)) ⌝ }
+{
+    let Parsed::Number(n) = number(segments) else {
+        return MoveReading::Wrong(Complaint::Segments);
+    };
+    let Parsed::Number(b) = number(slots) else {
+        return MoveReading::Wrong(Complaint::Slots);
+    };
+    if is_missing(target) {
+        return MoveReading::Wrong(Complaint::NoTarget);
+    }
+    let source = Geometry {
+        segments: n,
+        slots: b,
+    };
+    onto(source, target_segments, target_slots, option, steps)
+}
