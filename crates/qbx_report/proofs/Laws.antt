@@ -20,9 +20,9 @@ use Rattle.model.specs.Laws.Segments.{segments-length}
 use Rattle.model.specs.declared.SegmentNumber.{SegmentNumber}
 use Rattle.model.specs.declared.SlotKind.{SlotKind}
 use Rattle.model.specs.declared.SlotKind.the-variants.{Empty, Torn, Live, Dead, Cut, Wrong}
-use Rattle.header.specs.declared.HeaderSeen.{HeaderSeen}
-use Rattle.header.specs.declared.HeaderSeen.the-variants.{InUse, NotInUse}
-use Rattle.header.specs.Parts.{headerSeen}
+use Rattle.header_seen.specs.declared.HeaderSeen.{HeaderSeen}
+use Rattle.header_seen.specs.declared.HeaderSeen.the-variants.{InUse, NotInUse}
+use Rattle.header_seen.specs.Seen.{headerSeen}
 use Rattle.tally.specs.declared.Tally.{Tally}
 use Rattle.tally.specs.Seen.{headerIn, tallySeen}
 use Rattle.tally.proofs.Laws.{top-version}

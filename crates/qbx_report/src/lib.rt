@@ -1,5 +1,5 @@
 // What `qbx check` tells of an image: its state, what is in it, counted, and the top's version and tally.
-use header::HeaderSeen;
+use header_seen::HeaderSeen;
 use model::SegmentNumber;
 use model::SlotKind;
 use qbx_state::Condition;
@@ -125,7 +125,7 @@ fn count_segment(
 {
     let at = index * (slots + 1) * 256;
     let first = at + 256;
-    let seen = header::see_header(&image[at..first], segments, slots, index);
+    let seen = header_seen::see_header(&image[at..first], segments, slots, index);
     let HeaderSeen::InUse {
         former: _,
         status: _,

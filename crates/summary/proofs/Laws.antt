@@ -12,9 +12,9 @@ use Rattle.model.specs.Header.{erasePending, compacted, versionNumber, isFormer
 use Rattle.model.specs.Slot.{Slot}
 use Rattle.model.specs.State.{blank, invalid, inUse, segmentsOf, isInUse, ofVersion}
 use Rattle.model.specs.declared.SegmentNumber.{SegmentNumber}
-use Rattle.header.specs.declared.HeaderSeen.{HeaderSeen}
-use Rattle.header.specs.declared.HeaderSeen.the-variants.{InUse, NotInUse}
-use Rattle.header.specs.Parts.{headerSeen}
+use Rattle.header_seen.specs.declared.HeaderSeen.{HeaderSeen}
+use Rattle.header_seen.specs.declared.HeaderSeen.the-variants.{InUse, NotInUse}
+use Rattle.header_seen.specs.Seen.{headerSeen}
 use Rattle.judge.specs.declared.SegmentState.{SegmentState}
 use Rattle.judge.specs.declared.SegmentState.the-variants.{Blank, Invalid, Owing}
 use Rattle.judge.specs.Parts.{headerOffset, slotsOffset, segmentSeen, segment-seen}

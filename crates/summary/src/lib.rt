@@ -1,5 +1,5 @@
 // One segment by its header: its summary, before its slots are looked at, and what that tells.
-use header::HeaderSeen;
+use header_seen::HeaderSeen;
 use judge::Ending;
 use judge::Row;
 use judge::SegmentState;
@@ -50,7 +50,7 @@ pub fn see_segment(image: &[u8], segments: usize, slots: usize, index: usize) ->
 {
     let at = index * (slots + 1) * 256;
     let first = at + 256;
-    let seen = header::see_header(&image[at..first], segments, slots, index);
+    let seen = header_seen::see_header(&image[at..first], segments, slots, index);
     let HeaderSeen::InUse {
         former,
         status,

@@ -1,9 +1,9 @@
--- `header::see_header` shows what the definition shows. Assumes nothing.
+-- `header_seen::see_header` shows what the definition shows. Assumes nothing.
 use mathlib.Core.Path.{sym, _∙_}
-use Rattle.header.proofs.Laws.Tests.{seen-used, seen-unused}
+use Rattle.header_seen.proofs.Laws.{seen-used, seen-unused}
 use borrow.Author.Needs.{needs}
-use Rattle.header.proofs.see_header.Statement.{statement}
-use Rattle.header.proofs.see_header.Tie as tie
+use Rattle.header_seen.proofs.see_header.Statement.{statement}
+use Rattle.header_seen.proofs.see_header.Tie as tie
 
 header-in-use-requires : tie.Need-header-in-use-requires
 header-in-use-requires c κs = search needs

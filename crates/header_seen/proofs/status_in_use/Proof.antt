@@ -1,8 +1,8 @@
--- `header::status_in_use` is the test of the definition. Assumes nothing.
+-- `header_seen::status_in_use` is the test of the definition. Assumes nothing.
 use mathlib.Core.Path.{sym}
-use Rattle.header.proofs.Laws.Tests.{use-opened, use-pending, use-compacted}
-use Rattle.header.proofs.status_in_use.Statement.{statement}
-use Rattle.header.proofs.status_in_use.Tie as tie
+use Rattle.header_seen.proofs.Laws.{use-opened, use-pending, use-compacted}
+use Rattle.header_seen.proofs.status_in_use.Statement.{statement}
+use Rattle.header_seen.proofs.status_in_use.Tie as tie
 
 returns : tie.Need-returns
 returns c = sym (use-opened _ (c .if1 .taken))

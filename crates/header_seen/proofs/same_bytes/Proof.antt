@@ -1,13 +1,13 @@
--- `header::same_bytes` is the test of the definition. The invariant: the bytes from `i` on give the answer. Assumes nothing.
+-- `header_seen::same_bytes` is the test of the definition. The invariant: the bytes from `i` on give the answer. Assumes nothing.
 use Prim.Native.Nat.{_-_, _≤_}
 use mathlib.Core.Path.{_≡_, sym, refl, _∙_}
 use native.Mathlib.Omega.{arith}
 use lib.ListN.{length, drop}
 use Rattle.model.specs.Lists.{same}
-use Rattle.header.proofs.Laws.Tests.{same-stop, same-next, same-end}
+use Rattle.header_seen.proofs.Laws.{same-stop, same-next, same-end}
 use borrow.Author.Needs.{needs}
-use Rattle.header.proofs.same_bytes.Statement.{statement}
-use Rattle.header.proofs.same_bytes.Tie as tie
+use Rattle.header_seen.proofs.same_bytes.Statement.{statement}
+use Rattle.header_seen.proofs.same_bytes.Tie as tie
 
 abbrev Inv-loop : tie.InvT-loop
 Inv-loop a b i₀ i = (i ≤ length a) × (same (drop i a) (drop i b) ≡ same a b)

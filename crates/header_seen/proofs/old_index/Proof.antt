@@ -1,12 +1,12 @@
--- `header::old_index` is byte 16 of the definition. Assumes nothing.
+-- `header_seen::old_index` is byte 16 of the definition. Assumes nothing.
 use Prim.Native.Nat.{_+_}
 use mathlib.Core.Path.{sym}
 use native.Mathlib.Omega.{arith}
 use native.Mathlib.Nat.{mod-lt}
-use Rattle.header.proofs.Laws.Tests.{old-opened, old-next}
+use Rattle.header_seen.proofs.Laws.{old-opened, old-next}
 use borrow.Author.Needs.{needs}
-use Rattle.header.proofs.old_index.Statement.{statement}
-use Rattle.header.proofs.old_index.Tie as tie
+use Rattle.header_seen.proofs.old_index.Statement.{statement}
+use Rattle.header_seen.proofs.old_index.Tie as tie
 
 returns : tie.Need-returns
 returns c = sym (old-opened _ _ _ (c .if1 .taken))

@@ -1,10 +1,10 @@
--- `header::tally_fits` is that part of the test of the definition that is about the tally. Assumes nothing.
+-- `header_seen::tally_fits` is that part of the test of the definition that is about the tally. Assumes nothing.
 use mathlib.Core.Path.{sym, _∙_}
 use native.Mathlib.Omega.{arith}
-use Rattle.header.proofs.Laws.Tests.{fits-former, total-over, fits-second}
+use Rattle.header_seen.proofs.Laws.{fits-former, total-over, fits-second}
 use borrow.Author.Needs.{needs}
-use Rattle.header.proofs.tally_fits.Statement.{statement}
-use Rattle.header.proofs.tally_fits.Tie as tie
+use Rattle.header_seen.proofs.tally_fits.Statement.{statement}
+use Rattle.header_seen.proofs.tally_fits.Tie as tie
 
 is-former-requires : tie.Need-is-former-requires
 is-former-requires c κs = search needs

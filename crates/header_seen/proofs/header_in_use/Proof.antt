@@ -1,13 +1,13 @@
--- `header::header_in_use` is the test of the definition. Assumes nothing.
+-- `header_seen::header_in_use` is the test of the definition. Assumes nothing.
 use mathlib.Core.Path.{sym, _∙_}
 use mathlib.Core.Bool.{true, false}
 use native.Mathlib.Omega.{arith}
 use native.Mathlib.Nat.{mod-lt}
 use borrow.Author.Tests.{not-true, not-false}
-use Rattle.header.proofs.Laws.Tests.{unused-status, unused-number, unused-index, used-page}
+use Rattle.header_seen.proofs.Laws.{unused-status, unused-number, unused-index, used-page}
 use borrow.Author.Needs.{needs}
-use Rattle.header.proofs.header_in_use.Statement.{statement}
-use Rattle.header.proofs.header_in_use.Tie as tie
+use Rattle.header_seen.proofs.header_in_use.Statement.{statement}
+use Rattle.header_seen.proofs.header_in_use.Tie as tie
 
 shared-slice-read-status : tie.Need-shared-slice-read-status
 shared-slice-read-status c = search needs
