@@ -14,7 +14,9 @@ use Rattle.model.specs.Histories.{Event, History}
 use Rattle.model.specs.Sequences.{Call, observed, Uncut}
 use Rattle.crash.specs.Machine.{Promise, settled, PlainRuns}
 use Rattle.crash.specs.Demand2.{Keeps, board}
+use Rattle.model.specs.Mounted.{Places}
 use Rattle.wear.specs.Demand3.{stocked, Bounded}
+use Rattle.sessions.specs.Law.{Turn, Session, eventsIn, Observes, Unbroken}
 use Rattle.moves.specs.Moves.{byNumber, moveWork, moveOutcome}
 use Rattle.moves.specs.Counted.{slotSteps}
 
@@ -48,7 +50,7 @@ StepCount = (N B : ℕ) (s : Image) (M D : ℕ) (t : Image) (allowance : ℕ) �
 
 -- ---- "after a 9 it is begun again"
 
--- what moves of the source to t that were cut leave, one after the other: the power lost between steps or inside one, or the allowance at its end
+-- what so many moves of the source leave, one after the other from t on: each with the power lost between steps or inside one, or under some allowance
 abbrev pub Tried : ℕ → ℕ → Image → ℕ → ℕ → ℕ → Image → Image → Type 0
 Tried N B s M D zero t u = u ≡ t
 Tried N B s M D (suc k) t u = (m : Image) × (Cut D (moveWork N B s M D t .steps) t m ⊎ ((allowance : ℕ) × (m ≡ targetAfter N B s M D t allowance))) × Tried N B s M D k m u
@@ -69,3 +71,12 @@ MovedDemand2 = (N B : ℕ) (s : Image) (M D : ℕ) (t u : Image) (allowance : �
 abbrev pub MovedDemand3 : Type 0
 MovedDemand3 = (N B : ℕ) (s : Image) (M D : ℕ) (t : Image) (allowance : ℕ) (xs : List Call) → Finished N B s M D t allowance → Uncut (observed M D (targetAfter N B s M D t allowance) xs)
     → Bounded M D (stocked (tableOf N B s)) (observed M D (targetAfter N B s M D t allowance) xs)
+
+-- The same of sessions with mounts and mounted calls (request #102) on the finished target.
+abbrev pub MovedSessions2 : Type 0
+MovedSessions2 = (N B : ℕ) (s : Image) (M D : ℕ) (t u : Image) (allowance : ℕ) (p : Places) (es : List Turn) → Finished N B s M D t allowance → Session M D false (targetAfter N B s M D t allowance) p es u
+    → (x : Promise) × PlainRuns (board M D false) (settled (byNumber (tableOf N B s))) (eventsIn es) x × Keeps M D u x
+
+abbrev pub MovedSessions3 : Type 0
+MovedSessions3 = (N B : ℕ) (s : Image) (M D : ℕ) (t u : Image) (allowance : ℕ) (p : Places) (es : List Turn) → Finished N B s M D t allowance → Session M D false (targetAfter N B s M D t allowance) p es u → Unbroken (eventsIn es)
+    → (xs : List Call) × Observes (eventsIn es) (observed M D (targetAfter N B s M D t allowance) xs) × Bounded M D (stocked (tableOf N B s)) (observed M D (targetAfter N B s M D t allowance) xs)

@@ -27,13 +27,15 @@ use Rattle.wear.specs.Demand3.{stocked}
 use Rattle.wear.specs.Counting.{deads, copied-dead}
 use Rattle.wear.specs.Requests.{tracks-stocked}
 use Rattle.wear.specs.Sequence.{bounded-from}
+use Rattle.sessions.specs.Law.{eventsIn}
+use Rattle.sessions.specs.Theorem.{unmounted-history, history-calls}
 use Rattle.moves.specs.Moves.{byNumber, freshSteps, moveWork, moveOutcome}
 use Rattle.moves.specs.Sorted.{sorted-length, sorted-agree, sorted-equal}
 use Rattle.moves.specs.Counted.{sorted-steps}
 use Rattle.moves.specs.Filling.{filling, Filled, Built}
 use Rattle.moves.specs.Fresh.{Fits, fresh-built, fresh-bytes, fresh-same, fresh-length, built-clean, built-table, built-second}
 use Rattle.moves.specs.Facts.{table-distinct, table-valid, Movable, movable-fits, Done, done, undone, work-same}
-use Rattle.moved.specs.Law.{targetAfter, Finished, RefusedUnchanged, SameTable, EqualTargets, StepCount, Tried, BegunAgain, MovedDemand2, MovedDemand3}
+use Rattle.moved.specs.Law.{targetAfter, Finished, RefusedUnchanged, SameTable, EqualTargets, StepCount, Tried, BegunAgain, MovedDemand2, MovedDemand3, MovedSessions2, MovedSessions3}
 
 pub refused-unchanged : RefusedUnchanged
 refused-unchanged = λ N B s M D t allowance n m. undone N B s M D t allowance n m
@@ -148,6 +150,15 @@ moved-demand3 = λ N B s M D t a xs f u.
       tracks = tracks-stocked M D two (view M D w) (tableOf N B s) (first-zero N B s M D t a f) (once N B s M D t a f) (unfold tableOf in same-blocks N B s M D t a f)
           (rw (b .held .view) (none-dead M D (b .rows) (b .top) (b .filled)));
     }) u
+
+pub moved-sessions2 : MovedSessions2
+moved-sessions2 = λ N B s M D t u a p es f h. moved-demand2 N B s M D t u a (eventsIn es) f (unmounted-history M D (targetAfter N B s M D t a) p es u h)
+
+pub moved-sessions3 : MovedSessions3
+moved-sessions3 = λ N B s M D t u a p es f h q.
+    let w = targetAfter N B s M D t a in
+    let c = history-calls M D w (eventsIn es) u (unmounted-history M D w p es u h) q in
+    (c .0, c .1, moved-demand3 N B s M D t a (c .0) f (c .2))
 
 -- Read back: what the source held of a block, contents of 0 bytes too, is what every read of that block on the finished target shows until the block is put or deleted there, through every put of others, every power cut and recovery.
 pub carried-stays : (N B : ℕ) (s : Image) (M D : ℕ) (t u : Image) (allowance : ℕ) (es : List Event) (e : Event) (b : ℕ) → Finished N B s M D t allowance

@@ -7,7 +7,7 @@ use lib.ListN.{replicate}
 use Rattle.model.specs.Lists.{same}
 use Rattle.model.specs.Chip.{Image, Step, program, rightSize, pagesOf, imageLength, withSegment, step, run}
 use Rattle.model.specs.Header.{version1, newVersion}
-use Rattle.model.specs.State.{segmentsOf, state, view}
+use Rattle.model.specs.State.{segmentsOf, State, clean, state, view}
 use Rattle.model.specs.Steps.{onPage, slotAt, writeSlot, markDead, openSegment, eraseFirst}
 use Rattle.model.specs.Table.{Table, tableOf}
 use Rattle.model.specs.Answers.{Outcome}
@@ -34,10 +34,11 @@ moves N B s M D allowance = moveOutcome N B s M D (replicate (imageLength M D) 0
 pub record Result : Type 0 where
   pub code : ℕ
   pub count : ℕ
+  pub state : State
   pub table : Table
 
 abbrev resultOf : ℕ → ℕ → Outcome → Result
-resultOf M D o = record { code = o .code; count = o .count; table = tableOf M D (o .image) }
+resultOf M D o = record { code = o .code; count = o .count; state = state M D (o .image); table = tableOf M D (o .image) }
 
 abbrev blocks : Table
 blocks = record { block = 4; contents = [] } ∷ record { block = 9; contents = 65 ∷ [] } ∷ record { block = 300; contents = 66 ∷ 67 ∷ [] } ∷ []
@@ -48,12 +49,12 @@ unfolding evaluate first second rightSize pagesOf withSegment step run segmentsO
 computes = 0
 
 -- three blocks fill C = 3, in one segment: 2 erases, 21 and 18 steps; empty records are carried
-pub just-fits : resultOf 2 4 (moves 3 2 first 2 4 1000) ≡ record { code = 0; count = 41; table = blocks }
+pub just-fits : resultOf 2 4 (moves 3 2 first 2 4 1000) ≡ record { code = 0; count = 41; state = clean; table = blocks }
 unfolding computes
 just-fits = refl
 
 -- with two slots to a segment the third block opens another, and an allowance of one step less is a cut
-two-segments : resultOf 3 2 (moves 3 2 first 3 2 63) ≡ record { code = 0; count = 63; table = blocks }
+two-segments : resultOf 3 2 (moves 3 2 first 3 2 63) ≡ record { code = 0; count = 63; state = clean; table = blocks }
 unfolding computes
 two-segments = refl
 

@@ -195,12 +195,16 @@ session-history N B true s t (call e ∷ es) u p h =
     (h .0, h .1, (h .2 .0, c .0, session-history N B (stays (e .seen)) (h .2 .0) (h .2 .1) es u (c .1) (h .2 .3)))
 session-history N B false s t (call e ∷ es) u p h = absurd h
 
+-- one that begins without a table
+pub unmounted-history : (N B : ℕ) (s : Image) (t : Places) (es : List Turn) (u : Image) → Session N B false s t es u → History N B s (eventsIn es) u
+unmounted-history N B s t es u h = session-history N B false s t es u (λ y. absurd (true≢false (sym y))) h
+
 pub mounted-demand2 : MountedDemand2
-mounted-demand2 N B s u t es z h = demand2 N B s u (eventsIn es) z (session-history N B false s t es u (λ y. absurd (true≢false (sym y))) h)
+mounted-demand2 N B s u t es z h = demand2 N B s u (eventsIn es) z (unmounted-history N B s t es u h)
 
 -- ---- without a cut: the calls of a history
 
-history-calls : (N B : ℕ) (s : Image) (es : List Event) (u : Image) → History N B s es u → Unbroken es → (xs : List Call) × Observes es (observed N B s xs) × Uncut (observed N B s xs)
+pub history-calls : (N B : ℕ) (s : Image) (es : List Event) (u : Image) → History N B s es u → Unbroken es → (xs : List Call) × Observes es (observed N B s xs) × Uncut (observed N B s xs)
 unfolding observed observe replyOf
 history-calls N B s [] u h q = ([], tt, tt)
 history-calls N B s (e ∷ es) u h q =
@@ -213,5 +217,5 @@ history-calls N B s (e ∷ es) u h q =
 pub mounted-demand3 : MountedDemand3
 mounted-demand3 N B s u allowance t es z h q =
     let i = outcomeOf N B s allowance format .image in
-    let c = history-calls N B i (eventsIn es) u (session-history N B false i t es u (λ y. absurd (true≢false (sym y))) h) q in
+    let c = history-calls N B i (eventsIn es) u (unmounted-history N B i t es u h) q in
     (c .0, c .1, demand3 N B s allowance (c .0) z (c .2))

@@ -2,14 +2,18 @@
 use Prim.Native.Nat.{ℕ, _-_, _*_, _/_, _≤_, _<_}
 use mathlib.Core.Path.{_≡_, refl}
 use mathlib.Core.Logic.{_≢_}
-use mathlib.Core.List.{List, [], _∷_}
+use mathlib.Core.List.{List, [], _∷_, _++_}
 use native.Mathlib.Omega.{arith}
 use lib.ListN.{length, replicate, take}
-use Rattle.model.specs.Chip.{Image, rightSize, pagesOf, withSegment, step, run}
-use Rattle.model.specs.State.{segmentsOf}
+use Rattle.model.specs.Chip.{Image, Step, rightSize, pagesOf, withSegment, step, run}
+use Rattle.model.specs.Header.{newVersion}
+use Rattle.model.specs.State.{segmentsOf, view}
+use Rattle.model.specs.Steps.{onPage, slotAt, writeSlot, openSegment, formatSteps}
+use Rattle.model.specs.Table.{tableOf}
 use Rattle.model.specs.Answers.{format, put, delete, workOf, outcomeOf}
 use Rattle.model.specs.Sequences.{Call, Observed, observe, observed, Uncut, start, ledger, eraseCount, erasesOf}
 use Rattle.model.specs.Laws.Bench.{evaluate}
+use Rattle.wear.specs.Demand3.{blocks, stocked, ErasesPaid}
 
 abbrev pub made : Image
 made = outcomeOf 2 2 (replicate 1536 0) 1000 format .image
@@ -65,3 +69,26 @@ balance-needs-one h = let f = rw computed at h in omega arith
 pub request-needs-all : (eraseCount (ledger (take 2 seen) start) ≡ 0) × (eraseCount (ledger (take 3 seen) start) ≡ 2 - 1)
 unfolding evaluate
 request-needs-all = rw computed (refl, refl)
+
+-- ---- a sequence that starts with a table stored
+
+abbrev slot : ℕ → ℕ → ℕ → List Step
+slot n j b = onPage (slotAt 3 2 n j) (writeSlot b (65 ∷ []))
+
+-- three blocks on a chip of 3 segments with 2 slots: 4, 9, and 300 in the second segment
+unfoldable pub stock : Image
+stock = run 2 (formatSteps 3 2 ++ (slot 0 0 4 ++ (slot 0 1 9 ++ (openSegment 3 2 (newVersion 0) 1 ++ slot 1 0 300)))) (replicate 2304 0)
+
+-- 9 rewritten twice, then 300
+abbrev rewrites : List Call
+rewrites = record { request = put 9 (1 ∷ []); allowance = 1000 } ∷ record { request = put 9 (2 ∷ []); allowance = 1000 } ∷ record { request = put 300 (3 ∷ []); allowance = 1000 } ∷ []
+
+-- E = 2, R = 3 and L = 3, which counts the blocks that were there
+pub stocked-count : ledger (observed 3 2 stock rewrites) (stocked (tableOf 3 2 stock)) ≡ record { stored = 300 ∷ 9 ∷ 4 ∷ []; largest = 3; replaced = 3; erased = 0 ∷ 1 ∷ [] }
+unfolding evaluate stock stocked blocks tableOf view observed observe outcomeOf workOf rightSize segmentsOf pagesOf run step withSegment
+stocked-count = refl
+
+-- counted as from an empty store the bound fails: E = 2, R = 1 and L = 2
+pub bound-needs-stock : ErasesPaid 3 2 (ledger (observed 3 2 stock rewrites) start) → ⊥
+unfolding evaluate stock observed observe outcomeOf workOf rightSize segmentsOf pagesOf run step withSegment
+bound-needs-stock h = omega arith
