@@ -25,8 +25,8 @@ extern "C" {
  * account answers 0 or 14, no other request 14.
  *
  * A put is worn only if it needs a new segment, and then in two cases: the whole part of number / n, number being the
- * largest that it would give a segment, plus the tally of erases that recoveries have set about since the format,
- * reaches 100,000; or the newest segment's header has none of its 1,792 bits left to count one more.
+ * largest that it would give a segment, plus the tally of erases that recoveries have set about since the format or
+ * the move, reaches 100,000; or the newest segment's header has none of its 1,792 bits left to count one more.
  *
  * An image of version 1 can be read, deleted from and recovered, not put to. To go on writing, move it (qbx_move) to a
  * second buffer, of the same n and b or of others: that one is of version 2 and has all its records. A format loses
@@ -78,7 +78,7 @@ uint64_t qbx_recover(uint8_t *image, size_t image_length, size_t n, size_t b, ui
 /* Find a block's contents in the image. Only a record from a store that still took 0 bytes has length 0. */
 uint64_t qbx_read(const uint8_t *image, size_t image_length, size_t n, size_t b, uint16_t block);
 
-/* What format, put, delete, recover and move give, mounted or not: the answer, and the flash steps done. */
+/* What format, put, delete and recover, mounted or not, and a move give: the answer, and the flash steps done. */
 static inline enum qbx_answer qbx_answer_of(uint64_t result) { return (enum qbx_answer)(result & 0xFF); }
 static inline uint64_t qbx_steps_of(uint64_t result) { return result >> 8; }
 

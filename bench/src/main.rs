@@ -7,8 +7,9 @@
 //!
 //! One process; the three sides get the same images in turn, and their answers, steps and images
 //! are compared, and the texts of their accounts. The mounted form and the move have two sides of
-//! their own (`mounted.rs`, `moving.rs`). The buffer is filled from a prepared image before each request, outside the time
-//! taken, so each finds it in the cache as far as it fits. The figures are medians.
+//! their own (`mounted.rs`, `moving.rs`). The buffer is filled from a prepared image before each
+//! request, outside the time taken, so each finds it in the cache as far as it fits. The figures are
+//! medians.
 
 mod accounts;
 mod by_bytes;
@@ -34,6 +35,10 @@ const CONTENTS: [u8; 100] = [0x41; 100];
 
 fn main() {
     let words: Vec<String> = std::env::args().skip(1).collect();
+    if let Some(word) = words.iter().find(|word| !["mounted", "move"].contains(&word.as_str())) {
+        eprintln!("{word} is none of the tables: mounted, move");
+        std::process::exit(2);
+    }
     let wanted = |part| words.is_empty() || words.iter().any(|word| word == part);
     if words.is_empty() {
         unmounted_tables();
