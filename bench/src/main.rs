@@ -35,7 +35,10 @@ const CONTENTS: [u8; 100] = [0x41; 100];
 
 fn main() {
     let words: Vec<String> = std::env::args().skip(1).collect();
-    if let Some(word) = words.iter().find(|word| !["mounted", "move"].contains(&word.as_str())) {
+    if let Some(word) = words
+        .iter()
+        .find(|word| !["mounted", "move"].contains(&word.as_str()))
+    {
         eprintln!("{word} is none of the tables: mounted, move");
         std::process::exit(2);
     }
