@@ -1,5 +1,5 @@
 -- Laws of a fresh image: a segment opened, the page of a live slot written, the image formatted, and the loop over block numbers.
-use Prim.Native.Nat.{ℕ, suc, _+_, _-_, _*_, _%_, _≤_, _<_}
+use Prim.Native.Nat.{ℕ, zero, suc, _+_, _-_, _*_, _%_, _≤_, _<_}
 use mathlib.Core.Path.{_≡_, refl, sym, ap, ap₂, _∙_}
 use mathlib.Core.Logic.{_≢_}
 use mathlib.Core.Bool.{true, cond}
@@ -7,16 +7,19 @@ use mathlib.Core.List.{List, [], _∷_, _++_, append-nil, append-assoc}
 use native.Mathlib.Nat.{sub-zero, suc-mul, mul-le-mul-right, mod-lt}
 use native.Mathlib.Numerals.{add-one}
 use native.Mathlib.Omega.{arith}
-use lib.ListN.{length, getD, take, drop, replicate, length-append, length-take, length-replicate}
+use native.Mathlib.Decide.{decLt}
+use lib.ListN.{length, getD, take, drop, replicate, length-append, length-take, length-drop, length-replicate}
+use lib.Seq.{getD-take, getD-drop}
+use lib.Bits.{bitOr, and-le-l, and-le-r, or-add-and}
 use lib.Dec.{eqb}
-use borrow.Author.Tests.{lt-ltb, le-ltb, eq-eqb, ne-eqb}
+use borrow.Author.Tests.{lt-ltb, le-ltb, eqb-true, eq-eqb, ne-eqb}
 use Rattle.model.specs.Chip.{Image, Page, Step, erased, rightSize}
 use Rattle.model.specs.Header.{newVersion}
 use Rattle.model.specs.Slot.{mostContents, slotPage, live, slotOf, Entry, entryOf}
 use Rattle.model.specs.Steps.{onPage, slotAt, writeSlot, openSegment, formatSteps}
 use Rattle.model.specs.Table.{Table}
 use Rattle.model.specs.Answers.{Work, format, stepsFor, workOn, workOf, performed, Outcome, worked, outcomeOf}
-use Rattle.model.specs.Mounted.{Places}
+use Rattle.model.specs.Mounted.{Places, leastPlaces}
 use Rattle.model.specs.Laws.Chip.{size-facts}
 use Rattle.model.specs.Laws.SlotPage.{live-facts}
 use Rattle.model.specs.declared.Performed.{Performed}
@@ -33,7 +36,7 @@ use Rattle.slot.proofs.Laws.Writes.{slot-parts}
 use Rattle.request.specs.Request.{Finished}
 use Rattle.request.proofs.Answered.{carried, carried-worked}
 use Rattle.fresh.specs.declared.Progress.{Progress}
-use Rattle.fresh.specs.Fresh.{pageAt, listed, LivePage, onward, Going, Opened, Added}
+use Rattle.fresh.specs.Fresh.{pageAt, listed, LivePage, AllNone, Passed, onward, Going, Opened, Added}
 
 -- ---- entries placed
 
@@ -302,3 +305,64 @@ module _ (N B : ℕ) (first from : Image) (budget : ℕ) (f : Performed) (z : ri
       let whole : c .done ≡ placed N B 0 0 (tableFrom all s t 1) = building-whole all N B s t (Begun N B budget f) from block p u c h ∙ rw a refl in
       rw (← whole)
       (carried-worked B first budget [] xs (omega (arith, l, c .counted)) (carried [] xs (_then_ (formatted N B first from budget f z d) (c .ran)) (sym (sub-zero budget)) (sym l) e))
+
+-- ---- entries passed over
+
+module _ (all N B : ℕ) (s : Image) (t : Places) (begun : Progress) (from : Image) (p : Progress) (u : Image) where
+  building-many : (g block : ℕ) → Building all N B s t begun from block p u → block + g ≤ all → ((k : ℕ) → block ≤ k → k < block + g → getD t k 0 ≡ 0) → Building all N B s t begun from (block + g) p u
+  building-many zero block c h n = let e : block + 0 ≡ block = omega arith in rw e c
+  building-many (suc g) block c h n =
+      let e : block + suc g ≡ block + 1 + g = omega arith in
+      rw e (building-many g (block + 1) (building-none all N B s t begun from block p u c (omega arith) (n block (omega arith) (omega arith))) (omega arith) (λ k a b. n k (omega arith) (omega arith)))
+
+  -- from one entry to another, none of which tells a place
+  pub building-passed : (block to : ℕ) → Building all N B s t begun from block p u → Passed t block to → to ≤ all → Building all N B s t begun from to p u
+  building-passed block to c h m =
+      let e : block + (to - block) ≡ to = omega (arith, h .up) in
+      rw e at (building-many (to - block) block c (omega (arith, h .up)) (λ k a b. h .none k a (omega (arith, h .up))))
+
+or-none : (a b : ℕ) → bitOr a b ≡ 0 → (a ≡ 0) × (b ≡ 0)
+or-none a b e = (omega (arith, or-add-and a b, and-le-r a b), omega (arith, or-add-and a b, and-le-l a b))
+
+eight : (f : ℕ → ℕ) → f 0 ≡ 0 → f 1 ≡ 0 → f 2 ≡ 0 → f 3 ≡ 0 → f 4 ≡ 0 → f 5 ≡ 0 → f 6 ≡ 0 → f 7 ≡ 0 → (k : ℕ) → k < 8 → f k ≡ 0
+eight f a b c d e g h i zero l = a
+eight f a b c d e g h i (suc zero) l = b
+eight f a b c d e g h i (suc (suc zero)) l = c
+eight f a b c d e g h i (suc (suc (suc zero))) l = d
+eight f a b c d e g h i (suc (suc (suc (suc zero)))) l = e
+eight f a b c d e g h i (suc (suc (suc (suc (suc zero))))) l = g
+eight f a b c d e g h i (suc (suc (suc (suc (suc (suc zero)))))) l = h
+eight f a b c d e g h i (suc (suc (suc (suc (suc (suc (suc zero))))))) l = i
+eight f a b c d e g h i (suc (suc (suc (suc (suc (suc (suc (suc k)))))))) l = absurd (omega arith)
+
+-- eight entries joined
+pub none-joined : (t : Places) → length t ≡ 8
+    → (eqb (bitOr (bitOr (bitOr (bitOr (bitOr (bitOr (bitOr (getD t 0 0) (getD t 1 0)) (getD t 2 0)) (getD t 3 0)) (getD t 4 0)) (getD t 5 0)) (getD t 6 0)) (getD t 7 0)) 0 ≡ true) → AllNone t
+none-joined t l e =
+    let h = or-none _ (getD t 7 0) (eqb-true _ 0 e) in
+    let g = or-none _ (getD t 6 0) (h .0) in
+    let f = or-none _ (getD t 5 0) (g .0) in
+    let d = or-none _ (getD t 4 0) (f .0) in
+    let c = or-none _ (getD t 3 0) (d .0) in
+    let b = or-none _ (getD t 2 0) (c .0) in
+    let a = or-none (getD t 0 0) (getD t 1 0) (b .0) in
+    λ k q. eight (λ n. getD t n 0) (a .0) (a .1) (b .1) (c .1) (d .1) (f .1) (g .1) (h .1) k (omega (arith, l, q))
+
+pub passed-none : (t : Places) (from : ℕ) → from ≤ leastPlaces → Passed t from from
+passed-none t from h = record { up = omega arith; most = h; none = λ k a b. absurd (omega arith) }
+
+-- eight more
+pub passed-eight : (t : Places) (from block : ℕ) → leastPlaces ≤ length t → Passed t from block → block < leastPlaces - 7 → AllNone (take (block + 8 - block) (drop block t)) → Passed t from (block + 8)
+passed-eight t from block l p h n = record { up = omega (arith, p .up); most = omega arith; none = none }
+  where
+    part : take (block + 8 - block) (drop block t) ≡ take 8 (drop block t)
+    part = let e : block + 8 - block ≡ 8 = omega arith in rw e
+
+    none : (k : ℕ) → from ≤ k → k < block + 8 → getD t k 0 ≡ 0
+    none k a b = elim (decLt k block) [
+      | yes c ↦ p .none k a c
+      | no c ↦
+          let e : block + (k - block) ≡ k = omega arith in
+          let z = rw part at (n (k - block)) in
+          rw (getD-take 8 (drop block t) (k - block) 0 (omega arith), getD-drop block t (k - block) 0, e) at (z (omega (arith, length-take 8 (drop block t), length-drop block t)))
+    ]

@@ -8,7 +8,7 @@ use lib.ListN.{getD}
 use Rattle.model.specs.Mounted.{leastPlaces}
 use Rattle.flash.proofs.Laws.{ran-left, ran-length}
 use Rattle.flash.proofs.Pages.{sized}
-use Rattle.fresh.proofs.Laws.{page-lives, page-adds, format-paid, format-sized, Building, building-start, building-going, building-none, building-turn, building-end}
+use Rattle.fresh.proofs.Laws.{page-lives, page-adds, format-paid, format-sized, Building, building-start, building-going, building-none, building-turn, building-end, building-passed}
 use borrow.Author.Needs.{needs}
 use Rattle.fresh.proofs.build.Statement.{statement}
 use Rattle.fresh.proofs.build.Tie as tie
@@ -46,13 +46,19 @@ cast-place c = omega (arith, c .shared-slice-known3 .given (c .before .before .l
 add-block : tie.Need-add-block Inv-loop μ-loop
 add-block c = search needs
 
+pass-empty-requires : tie.Need-pass-empty-requires Inv-loop μ-loop
+pass-empty-requires c κs =
+    let test = c .before .before in
+    let a = test .before .before .before .before .before .before .before .before .before .before in
+    (a .pre .1 .long, omega (arith, test .loop-test .taken))
+
 loop-less : tie.Need-loop-less Inv-loop μ-loop
-loop-less c = search needs
+loop-less c = omega (arith, c .pass-empty .ensures .up, c .before .before .before .loop-test .taken)
 
 loop-again : tie.Need-loop-again Inv-loop μ-loop
 loop-again c =
-    let test = c .before .before in
-    building-none _ _ _ _ _ _ _ _ _ _ (test .before .loop .inv) (test .loop-test .taken) (c .if1 .taken)
+    let test = c .before .before .before in
+    building-passed _ _ _ _ _ _ _ _ _ _ _ (building-none _ _ _ _ _ _ _ _ _ _ (test .before .loop .inv) (test .loop-test .taken) (c .before .if1 .taken)) (c .pass-empty .ensures) (c .pass-empty .ensures .most)
 
 add-end : tie.Need-add-end Inv-loop μ-loop
 add-end c =
@@ -127,6 +133,7 @@ build-spec =
     shared-slice-read-place
     cast-place
     add-block
+    pass-empty-requires
     loop-less
     loop-again
     add-end
