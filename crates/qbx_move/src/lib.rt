@@ -1,8 +1,6 @@
 // The work of a move, with its words handed in: both images' files are read, the target is built anew from what the source
 // stores, its file is replaced and the answer said. The source's file is only read.
 use model::Answer;
-use model::Performed;
-use qbx_move_words::Geometry;
 use qbx_move_words::Move;
 use qbx_out::fail;
 use qbx_out::print;
@@ -16,27 +14,6 @@ ghost use Rattle.request.specs.Request.{sizeOf};
 struct There {
     source: u64,
     target: u64,
-}
-
-fn size_of(geometry: Geometry) -> usize
-    ensures { λ r. ⌜ r ≡ sizeOf (geometry .segments) (geometry .slots) ⌝ }
-{
-    request::size_of(geometry.segments as usize, geometry.slots as usize)
-}
-
-// The library's part.
-fn perform(source: &[u8], target: &mut [u8], command: Move) -> Performed {
-    let from = command.source;
-    let to = command.target;
-    moving::move_to(
-        source,
-        from.segments as usize,
-        from.slots as usize,
-        target,
-        to.segments as usize,
-        to.slots as usize,
-        command.budget,
-    )
 }
 
 // Says that an image has a wrong size: the source, or else the target.
@@ -68,7 +45,7 @@ fn work(
     out: i32,
     err: i32,
 ) {
-    let performed = perform(source, target, command);
+    let performed = qbx_move_request::perform(source, target, command);
     if performed.steps > 0 {
         if !qbx_files::replace(path, target) {
             fail(err, b"write ", path);
@@ -96,13 +73,13 @@ fn carry(
     requires { ⌜ (sizeOf (command .source .segments) (command .source .slots) < length (now source)) × (sizeOf (command .target .segments) (command .target .slots) < length (now target)) ⌝ }
 {
     let from = command.source;
-    let file = qbx_images::present(source, path, size_of(from), false);
+    let file = qbx_images::present(source, path, qbx_move_words::size_of(from), false);
     if !file.whole {
         fail(err, b"read ", path);
         return;
     }
     let to = command.target;
-    let other = qbx_images::present(target, target_path, size_of(to), true);
+    let other = qbx_images::present(target, target_path, qbx_move_words::size_of(to), true);
     if !other.whole {
         fail(err, b"read ", target_path);
         return;

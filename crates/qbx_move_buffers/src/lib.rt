@@ -1,39 +1,23 @@
 // A move in the smallest of three pairs of buffers that hold its images, each with its own limit of the stack.
-use qbx_move_words::Geometry;
 use qbx_move_words::Move;
 use qbx_rooms::Process;
 ghost use mathlib.Core.Path.{_≡_};
 ghost use mathlib.Core.Bool.{true};
-ghost use Prim.Native.Nat.{max};
 ghost use lib.Dec.{leb};
-ghost use Rattle.request.specs.Request.{sizeOf};
+ghost use Rattle.qbx_move_words.specs.Move.{largerSize};
 ghost use Rattle.qbx_rooms.specs.Rooms.{roomOf};
-
-// The bytes of the larger of two images.
-fn larger_size(source: Geometry, target: Geometry) -> usize
-    ensures { λ r. ⌜ r ≡ max (sizeOf (source .segments) (source .slots)) (sizeOf (target .segments) (target .slots)) ⌝ }
-{
-    let a = request::size_of(source.segments as usize, source.slots as usize);
-    let b = request::size_of(target.segments as usize, target.slots as usize);
-    if a < b {
-        return b;
-    }
-    a
-}
 
 // Makes a move in the first buffers that hold its images, up to the given ones, or tells that the stack is too small for them;
 // whether there are such. It calls itself for the compiler's sake: see `qbx_buffers`.
 fn within(last: u8, process: Process, path: &[u8], target: &[u8], command: Move) -> bool
-    ensures { λ r. ⌜ r ≡ leb (max (sizeOf (command .source .segments) (command .source .slots)) (sizeOf (command .target .segments) (command .target .slots))) (roomOf last) ⌝ }
+    ensures { λ r. ⌜ r ≡ leb (largerSize command) (roomOf last) ⌝ }
 {
     if last > 0 {
         if within(last - 1, process, path, target, command) {
             return true;
         }
     }
-    let from = command.source;
-    let onto = command.target;
-    let size = larger_size(from, onto);
+    let size = qbx_move_words::larger_size(command);
     if size > qbx_rooms::room_of(last) {
         return false;
     }

@@ -1,8 +1,9 @@
 -- The words of a move, read: N B move TARGET N B [--budget STEPS]. A word that is missing is empty.
-use Prim.Native.Nat.{ℕ}
+use Prim.Native.Nat.{ℕ, max}
 use mathlib.Core.Bool.{Bool, cond}
 use mathlib.Core.List.{List}
 use Rattle.model.specs.Lists.{same}
+use Rattle.request.specs.Request.{sizeOf}
 use Rattle.text.specs.Text.{text}
 use Rattle.qbx_words.specs.Number.{numberOf}
 use Rattle.qbx_words.specs.Command.{isMissing}
@@ -49,3 +50,7 @@ unfoldable pub moveOf : List ℕ → List ℕ → List ℕ → List ℕ → List
 moveOf n b target m c option steps =
     asNumber (numberOf n) Segments (λ N. asNumber (numberOf b) Slots (λ B.
     cond (isMissing target) (Wrong NoTarget) (onto (geometry N B) m c option steps)))
+
+-- the bytes of the larger image
+unfoldable pub largerSize : Move → ℕ
+largerSize k = max (sizeOf (k .source .segments) (k .source .slots)) (sizeOf (k .target .segments) (k .target .slots))

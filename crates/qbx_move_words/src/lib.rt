@@ -1,11 +1,12 @@
-// The words of a move, read: IMAGE N B move TARGET N B [--budget STEPS].
+// The words of a move, read: IMAGE N B move TARGET N B [--budget STEPS]; and how large its images are.
 use qbx_words::Complaint;
 use qbx_words::Parsed;
 use qbx_words::is;
 use qbx_words::is_missing;
 use qbx_words::number;
 ghost use mathlib.Core.Path.{_≡_};
-ghost use Rattle.qbx_move_words.specs.Move.{isMove, withBudget, onto, moveOf};
+ghost use Rattle.request.specs.Request.{sizeOf};
+ghost use Rattle.qbx_move_words.specs.Move.{isMove, withBudget, onto, moveOf, largerSize};
 
 // N and B of an image.
 pub struct Geometry {
@@ -102,4 +103,25 @@ pub fn move_of(
         slots: b,
     };
     onto(source, target_segments, target_slots, option, steps)
+}
+
+// The bytes of an image of so many segments and slots, or 0 if there is none.
+pub fn size_of(geometry: Geometry) -> usize
+    ensures { λ r. ⌜ r ≡ sizeOf (geometry .segments) (geometry .slots) ⌝ }
+{
+    request::size_of(geometry.segments as usize, geometry.slots as usize)
+}
+
+// The bytes of the larger of a move's images.
+pub fn larger_size(command: Move) -> usize
+    ensures { λ r. ⌜ r ≡ largerSize command ⌝ }
+{
+    let source = command.source;
+    let target = command.target;
+    let a = size_of(source);
+    let b = size_of(target);
+    if a < b {
+        return b;
+    }
+    a
 }

@@ -1,18 +1,18 @@
 -- `qbx_move_buffers::within`. It calls itself at last - 1, so its measure is last. Assumes nothing.
-use Prim.Native.Nat.{ℕ, suc, max, _-_, _<_}
+use Prim.Native.Nat.{ℕ, suc, _-_, _<_}
 use mathlib.Core.Path.{_≡_, sym, ap, _∙_, subst}
 use mathlib.Core.Bool.{true}
 use native.Mathlib.Omega.{arith}
 use lib.Dec.{leb}
 use borrow.Fn.Kinds.{In}
 use borrow.Fn.PlainCycle.{Measures, is, falls, and}
-use Rattle.request.specs.Request.{sizeOf}
+use Rattle.qbx_move_words.specs.Move.{largerSize}
 use Rattle.qbx_rooms.specs.Rooms.{forBuffer, roomOf, moveNeedOf}
 use Rattle.qbx_rooms.proofs.Laws.{grows, last-one, held, not-held, lacks, taken-both}
 use Rattle.qbx_move_buffers.proofs.within.Reads as within
 use Rattle.qbx_move_buffers.proofs.within.Kinds as within-kinds
 use Rattle.qbx_move_buffers.proofs.+within.Lts-within as within-lts
-use Rattle.qbx_move_buffers.proofs.larger_size.Reads as larger-size-reads
+use Rattle.qbx_move_words.proofs.larger_size.Reads as larger-size-reads
 use Rattle.qbx_move_frames.proofs.large.Reads as large-reads
 use Rattle.qbx_move_frames.proofs.middle.Reads as middle-reads
 use Rattle.qbx_move_frames.proofs.small.Reads as small-reads
@@ -50,20 +50,22 @@ claims t = (
 
 -- what is asked of the buffers and of what is told stands first: an edit is refused for that
 large-requires : (t : ℕ) → within-lts.Need-large-requires (claims t) (at t) within.Post
-unfolding roomOf moveNeedOf forBuffer
+unfolding largerSize roomOf moveNeedOf forBuffer
 large-requires t c κs =
     let k = c .before .before .before in
-    taken-both (k .before .before .before .before .before .before .before .before .before .args .last) _ _ (k .before .before .before .larger-size .ensures) (k .before .before .room-of .ensures) 2 (omega (arith, k .before .if3 .left)) (k .lacking-for-move .ensures) (omega (arith, c .before .before .if4 .left)) (last-one _ _ _ (k .before .before .before .before .before .before .before .before .before .args .last) (c .before .if5 .left) (c .if6 .left)) (last-one _ _ _ (k .before .before .before .before .before .before .before .before .before .args .last) (c .before .if5 .left) (c .if6 .left))
+    taken-both (k .before .before .before .before .before .before .before .args .last) _ _ (k .before .before .before .larger-size .ensures) (k .before .before .room-of .ensures) 2 (omega (arith, k .before .if3 .left)) (k .lacking-for-move .ensures) (omega (arith, c .before .before .if4 .left)) (last-one _ _ _ (k .before .before .before .before .before .before .before .args .last) (c .before .if5 .left) (c .if6 .left)) (last-one _ _ _ (k .before .before .before .before .before .before .before .args .last) (c .before .if5 .left) (c .if6 .left))
 
 middle-requires : (t : ℕ) → within-lts.Need-middle-requires (claims t) (at t) within.Post
+unfolding largerSize
 middle-requires t c κs =
     let k = c .before .before .before in
-    taken-both (k .before .before .before .before .before .before .before .before .before .args .last) _ _ (k .before .before .before .larger-size .ensures) (k .before .before .room-of .ensures) 1 (omega (arith, k .before .if3 .left)) (k .lacking-for-move .ensures) (omega (arith, c .before .before .if4 .left)) (ap roomOf (c .if6 .taken)) (ap moveNeedOf (c .if6 .taken))
+    taken-both (k .before .before .before .before .before .before .before .args .last) _ _ (k .before .before .before .larger-size .ensures) (k .before .before .room-of .ensures) 1 (omega (arith, k .before .if3 .left)) (k .lacking-for-move .ensures) (omega (arith, c .before .before .if4 .left)) (ap roomOf (c .if6 .taken)) (ap moveNeedOf (c .if6 .taken))
 
 small-requires : (t : ℕ) → within-lts.Need-small-requires (claims t) (at t) within.Post
+unfolding largerSize
 small-requires t c κs =
     let k = c .before .before in
-    taken-both (k .before .before .before .before .before .before .before .before .before .args .last) _ _ (k .before .before .before .larger-size .ensures) (k .before .before .room-of .ensures) 0 (omega (arith, k .before .if3 .left)) (k .lacking-for-move .ensures) (omega (arith, c .before .if4 .left)) (ap roomOf (c .if5 .taken)) (ap moveNeedOf (c .if5 .taken))
+    taken-both (k .before .before .before .before .before .before .before .args .last) _ _ (k .before .before .before .larger-size .ensures) (k .before .before .room-of .ensures) 0 (omega (arith, k .before .if3 .left)) (k .lacking-for-move .ensures) (omega (arith, c .before .if4 .left)) (ap roomOf (c .if5 .taken)) (ap moveNeedOf (c .if5 .taken))
 
 lack-stack-requires : (t : ℕ) → within-lts.Need-lack-stack-requires (claims t) (at t) within.Post
 lack-stack-requires t c κs = lacks _ _ (c .before .before .lacking-for-move .ensures) (omega (arith, c .before .if4 .taken))
@@ -79,8 +81,7 @@ returns t c =
     let k = c .before .before in
     let a = k .before .before .before .args in
     let n : suc (a .last - 1) ≡ a .last = omega (arith, k .if1 .taken) in
-    let s = max (sizeOf (a .command .source .segments) (a .command .source .slots)) (sizeOf (a .command .target .segments) (a .command .target .slots)) in
-    subst (λ (y : ℕ). true ≡ leb s (roomOf y)) n (grows (a .last - 1) _ (sym (c .before .within .ensures) ∙ c .if2 .taken))
+    subst (λ (y : ℕ). true ≡ leb (largerSize (a .command)) (roomOf y)) n (grows (a .last - 1) _ (sym (c .before .within .ensures) ∙ c .if2 .taken))
 
 larger-size-requires : (t : ℕ) → within-lts.Need-larger-size-requires (claims t) (at t) within.Post
 larger-size-requires t c κs = tt
@@ -92,27 +93,27 @@ lacking-for-move-requires : (t : ℕ) → within-lts.Need-lacking-for-move-requi
 lacking-for-move-requires t c κs = tt
 
 returns-2 : (t : ℕ) → within-lts.Need-returns-2 (claims t) (at t) within.Post
-returns-2 t c = not-held (c .before .before .before .before .before .before .before .before .args .last) _ (c .before .before .larger-size .ensures) (c .before .room-of .ensures) (c .if3 .taken)
+returns-2 t c = not-held (c .before .before .before .before .before .before .args .last) _ (c .before .before .larger-size .ensures) (c .before .room-of .ensures) (c .if3 .taken)
 
 returns-3 : (t : ℕ) → within-lts.Need-returns-3 (claims t) (at t) within.Post
 returns-3 t c =
     let k = c .before .before .before in
-    held (k .before .before .before .before .before .before .before .before .before .args .last) _ (k .before .before .before .larger-size .ensures) (k .before .before .room-of .ensures) (omega (arith, k .before .if3 .left))
+    held (k .before .before .before .before .before .before .before .args .last) _ (k .before .before .before .larger-size .ensures) (k .before .before .room-of .ensures) (omega (arith, k .before .if3 .left))
 
 returns-4 : (t : ℕ) → within-lts.Need-returns-4 (claims t) (at t) within.Post
 returns-4 t c =
     let k = c .before .before .before in
-    c .small .ensures ∙ held (k .before .before .before .before .before .before .before .before .before .args .last) _ (k .before .before .before .larger-size .ensures) (k .before .before .room-of .ensures) (omega (arith, k .before .if3 .left))
+    c .small .ensures ∙ held (k .before .before .before .before .before .before .before .args .last) _ (k .before .before .before .larger-size .ensures) (k .before .before .room-of .ensures) (omega (arith, k .before .if3 .left))
 
 returns-5 : (t : ℕ) → within-lts.Need-returns-5 (claims t) (at t) within.Post
 returns-5 t c =
     let k = c .before .before .before .before in
-    c .middle .ensures ∙ held (k .before .before .before .before .before .before .before .before .before .args .last) _ (k .before .before .before .larger-size .ensures) (k .before .before .room-of .ensures) (omega (arith, k .before .if3 .left))
+    c .middle .ensures ∙ held (k .before .before .before .before .before .before .before .args .last) _ (k .before .before .before .larger-size .ensures) (k .before .before .room-of .ensures) (omega (arith, k .before .if3 .left))
 
 returns-6 : (t : ℕ) → within-lts.Need-returns-6 (claims t) (at t) within.Post
 returns-6 t c =
     let k = c .before .before .before .before in
-    c .large .ensures ∙ held (k .before .before .before .before .before .before .before .before .before .args .last) _ (k .before .before .before .larger-size .ensures) (k .before .before .room-of .ensures) (omega (arith, k .before .if3 .left))
+    c .large .ensures ∙ held (k .before .before .before .before .before .before .before .args .last) _ (k .before .before .before .larger-size .ensures) (k .before .before .room-of .ensures) (omega (arith, k .before .if3 .left))
 
 pub +within-spec : {M : Type 1} → statement M
 +within-spec = close μ-within (λ t. within-lts.spec (claims t) (at t) within.Post

@@ -1,5 +1,6 @@
 -- `qbx_move_buffers::obey`: the last buffers hold any two images. Assumes nothing.
 use mathlib.Core.Path.{_∙_}
+use Rattle.qbx_move_words.specs.Move.{largerSize}
 use Rattle.qbx_rooms.proofs.Laws.{both-held}
 use borrow.Author.Needs.{needs}
 use Rattle.qbx_move_buffers.proofs.obey.Statement.{statement}
@@ -12,6 +13,7 @@ within-requires : tie.Need-within-requires
 within-requires c κs = search needs
 
 returns : tie.Need-returns
+unfolding largerSize
 returns c = c .within .ensures ∙ both-held _ _ _ _
 
 pub obey-spec : {M : Type 1} → statement M
