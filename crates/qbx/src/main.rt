@@ -12,11 +12,11 @@ ghost use Rattle.io.specs.Counts.{Counts};
 fn usage(fd: i32) {
     io::write_all(
         fd,
-        b"qbx: a record store on NOR flash, whose image is a file\n\n  qbx IMAGE N B VERB [BLOCK] [--budget STEPS]\n\n",
+        b"qbx: a record store on NOR flash, whose image is a file\n\n  qbx IMAGE N B VERB [BLOCK] [--budget STEPS]\n  qbx IMAGE N B move TARGET N B [--budget STEPS]\n\n",
     );
     io::write_all(
         fd,
-        b"IMAGE is the file, of N segments (2 to 255) with B slots each (2 to 255).\nOne above 4 MiB needs a stack of 24576 KiB, for account and map 26624: ./qbx raises the limit where it may.\n\n",
+        b"IMAGE is the file, of N segments (2 to 255) with B slots each (2 to 255).\nOne above 4 MiB needs a stack of 24576 KiB, for account and map 26624, for move 39936: ./qbx raises the limit where it may.\n\n",
     );
     io::write_all(
         fd,
@@ -28,15 +28,19 @@ fn usage(fd: i32) {
     );
     io::write_all(
         fd,
-        b"  account        lists the segments and the blocks, and what recover would do or the condition that fails\n  map            draws the segments, one character for each slot\n\n",
+        b"  account        lists the segments and the blocks, and what recover would do or the condition that fails\n  map            draws the segments, one character for each slot\n",
     );
     io::write_all(
         fd,
-        b"--budget STEPS stops a verb that writes after so many flash steps, as a power cut would.\nThe answer is said with its number and the steps done; account and map write their text alone.\nThe file is replaced whole or not at all.\n",
+        b"  move TARGET    carries all blocks to a fresh image of its own N and B, in the file TARGET; makes it if there is none\n\n",
     );
     io::write_all(
         fd,
-        b"The version is the newest header's; the tally, in version 2, how many erases recoveries set about.\nWith no bit left none more is counted, and a put that needs a new header answers 8.\nOn version 1 put answers 11; get, delete and recover do their work, and format makes version 2, empty.\n",
+        b"--budget STEPS stops a verb that writes after so many flash steps, as a power cut would.\nThe answer is said with its number and the steps done; account and map write their text alone.\nThe file is replaced whole or not at all.\nA move only reads IMAGE; one that was cut is begun again, whatever its target looks like.\n",
+    );
+    io::write_all(
+        fd,
+        b"The version is the newest header's; the tally, in version 2, how many erases recoveries set about.\nWith no bit left none more is counted, and a put that needs a new header answers 8.\nOn version 1 put answers 11, and the other verbs do their work; format and move write version 2.\n",
     );
 }
 
@@ -102,40 +106,38 @@ fn read_words(path: &[u8]) {
     }
 }
 
-// The words of a move. Its target is a path, of any length that a path may have.
-fn read_move(path: &[u8]) {
+// The words of a move.
+fn read_move(path: &[u8], target: &[u8]) {
     let mut segments = [0u8; 64];
     let a = word(2, &mut segments);
     let mut slots = [0u8; 64];
     let b = word(3, &mut slots);
-    let mut target = io::buffer();
-    let c = os::arg(5, &mut target);
     let mut target_segments = [0u8; 64];
-    let d = word(6, &mut target_segments);
+    let c = word(6, &mut target_segments);
     let mut target_slots = [0u8; 64];
-    let e = word(7, &mut target_slots);
+    let d = word(7, &mut target_slots);
     let mut option = [0u8; 64];
-    let f = word(8, &mut option);
+    let e = word(8, &mut option);
     let mut steps = [0u8; 64];
-    let g = word(9, &mut steps);
+    let f = word(9, &mut steps);
     let reading = qbx_move_words::move_of(
         &segments[..a],
         &slots[..b],
-        &target[..c],
-        &target_segments[..d],
-        &target_slots[..e],
-        &option[..f],
-        &steps[..g],
+        target,
+        &target_segments[..c],
+        &target_slots[..d],
+        &option[..e],
+        &steps[..f],
     );
     match reading {
         MoveReading::Right(command) => {
-            qbx_move_buffers::obey(path, &target[..c], command, STDOUT_FILENO, STDERR_FILENO);
+            qbx_move_buffers::obey(path, target, command, STDOUT_FILENO, STDERR_FILENO);
         }
         MoveReading::Wrong(complaint) => qbx_out::complain(complaint, STDERR_FILENO),
     }
 }
 
-// A command by its verb: a move has more words than any other.
+// A command by its verb: a move has more words than any other, and one of them is a path.
 fn read(path: &[u8], words: usize) {
     let mut verb = [0u8; 64];
     let n = word(4, &mut verb);
@@ -144,7 +146,9 @@ fn read(path: &[u8], words: usize) {
             usage(STDERR_FILENO);
             return;
         }
-        read_move(path);
+        let mut target = io::buffer();
+        let m = os::arg(5, &mut target);
+        read_move(path, &target[..m]);
         return;
     }
     if words > 8 {
