@@ -5,7 +5,6 @@ use qbx_move_words::Move;
 use qbx_out::fail;
 use qbx_out::print;
 use qbx_same::Clash;
-ghost use mathlib.Core.Path.{_≡_};
 ghost use Prim.Native.Nat.{_<_};
 ghost use lib.ListN.{length};
 ghost use Rattle.request.specs.Request.{sizeOf};

@@ -1,5 +1,4 @@
 -- When a target can be written without a change to the source.
-use Prim.Native.Nat.{ℕ}
 use mathlib.Core.Bool.{Bool, cond, _&&_}
 use lib.Dec.{eqb}
 use Rattle.qbx_same.specs.declared.Identity.{Identity}
