@@ -14,7 +14,7 @@ forBuffer a b c (suc (suc _)) = c
 unfoldable pub roomOf : ℕ → ℕ
 roomOf k = forBuffer 1048576 4194304 largestImage k
 
--- the KiB of stack that it asks for, with or without a buffer for a text beside it: Linux lets the arguments and the environment have a quarter of them, and the rest holds the buffers and the frames below them
+-- the KiB of stack that it asks for, with or without a buffer for a text beside it: Linux lets the arguments and the environment have a quarter of them, at most 6 MiB, and the rest holds the buffers and the frames below them
 unfoldable pub needOf : Bool → ℕ → ℕ
 needOf prints k = cond prints (forBuffer 2560 7168 26624 k) (forBuffer 1536 6144 24576 k)
 

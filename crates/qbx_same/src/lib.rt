@@ -145,13 +145,18 @@ fn judge(source: Identity, target: Found, beside: Found) -> Clash
 
 // ---- the names
 
+// The name beside the target's is looked at only if its own could be, or the system would tell its reason of the other one.
 fn against(source: Identity, target: &[u8]) -> Clash {
     if source.kind == 0 {
         return Clash::NoSource;
     }
+    let own = look(target);
+    if let Found::Untold = own {
+        return Clash::NoTarget;
+    }
     let mut name = io::buffer();
     let n = qbx_files::beside(target, &mut name);
-    judge(source, look(target), look(&name[..n]))
+    judge(source, own, look(&name[..n]))
 }
 
 // Whether the target can be written without a change to the source. The source stays open until that is known: the system may
