@@ -1,7 +1,7 @@
-// An image's file, read into a buffer.
+// An image's file read into a buffer, and a part of an image.
 ghost use mathlib.Core.Path.{_≡_};
 ghost use Prim.Native.Nat.{_≤_};
-ghost use lib.ListN.{length, replicate};
+ghost use lib.ListN.{length, take, drop, replicate};
 ghost use Rattle.qbx_images.specs.Images.{made, factory};
 
 // The file in the first bytes of the buffer: how many, whether they could be had, and how many the file has.
@@ -69,4 +69,18 @@ fn blank(image: &mut [u8])
         image[i] = 255;
         i += 1;
     }
+}
+
+// A part of an image, as far as the image goes.
+pub fn piece(image: &[u8], at: usize, count: usize) -> &[u8]
+    ensures { λ r. ⌜ now r ≡ take count (drop at (now (image .entry))) ⌝ }
+{
+    if image.len() < at {
+        return &image[0..0];
+    }
+    if image.len() - at < count {
+        return &image[at..];
+    }
+    let end = at + count;
+    &image[at..end]
 }

@@ -6,24 +6,10 @@ use qbx_words::Verb;
 use text::Printed;
 ghost use mathlib.Core.Path.{_≡_};
 ghost use Prim.Native.Nat.{_≤_};
-ghost use lib.ListN.{length, take, drop};
+ghost use lib.ListN.{length};
 ghost use Rattle.model.specs.Answers.{codeOf, performed};
 ghost use Rattle.text.specs.Buffer.{printed, printIn};
 ghost use Rattle.qbx_requests.specs.Requests.{performedBy, textOf};
-
-// A part of an image, as far as the image goes.
-pub fn piece(image: &[u8], at: usize, count: usize) -> &[u8]
-    ensures { λ r. ⌜ now r ≡ take count (drop at (now (image .entry))) ⌝ }
-{
-    if image.len() < at {
-        return &image[0..0];
-    }
-    if image.len() - at < count {
-        return &image[at..];
-    }
-    let end = at + count;
-    &image[at..end]
-}
 
 // Nothing done.
 fn idle() -> Performed

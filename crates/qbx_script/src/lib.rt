@@ -4,27 +4,8 @@
 use libc::STDIN_FILENO;
 use libc::STDOUT_FILENO;
 use qbx_move_words::MoveReading;
+use qbx_script_words::word;
 use qbx_words::Reading;
-ghost use mathlib.Core.Path.{_≡_};
-ghost use Rattle.qbx_script.specs.Script.{wordAt};
-
-// The word behind so many spaces; empty if there are not so many.
-fn word(line: &[u8], k: usize) -> &[u8]
-    ensures { λ r. ⌜ now r ≡ wordAt k (now (line .entry)) ⌝ }
-{
-    let mut at = 0;
-    let mut i = 0;
-    while i < k {
-        let end = bytes::scan::find(line, at, line.len(), b' ');
-        if end == line.len() {
-            return &line[end..end];
-        }
-        at = end + 1;
-        i += 1;
-    }
-    let end = bytes::scan::find(line, at, line.len(), b' ');
-    &line[at..end]
-}
 
 // The words of a move.
 fn carry(line: &[u8]) {

@@ -72,7 +72,7 @@ fn get(image: &[u8], command: Command, there: u64, out: i32, err: i32) {
     let answer = found.answer;
     let at = found.offset;
     let count = found.length;
-    if !io::write_all(out, qbx_requests::piece(image, at, count)) {
+    if !io::write_all(out, qbx_images::piece(image, at, count)) {
         fail(err, b"write ", b"standard output");
         return;
     }

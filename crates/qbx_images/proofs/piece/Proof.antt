@@ -1,9 +1,9 @@
--- `qbx_requests::piece`: as far as the image goes. Assumes nothing.
-use Rattle.qbx_requests.proofs.Laws.{piece-none, piece-rest, piece-whole}
+-- `qbx_images::piece`: as far as the image goes. Assumes nothing.
+use Rattle.qbx_images.proofs.Laws.{piece-none, piece-rest, piece-whole}
 use denote.Ref.{now}
 use borrow.Author.Needs.{needs}
-use Rattle.qbx_requests.proofs.piece.Statement.{statement}
-use Rattle.qbx_requests.proofs.piece.Tie as tie
+use Rattle.qbx_images.proofs.piece.Statement.{statement}
+use Rattle.qbx_images.proofs.piece.Tie as tie
 
 sub-result : tie.Need-sub-result
 sub-result c = search needs

@@ -6,7 +6,7 @@ use native.Mathlib.Omega.{arith}
 use lib.ListN.{length, take, drop, drop-of-length-le}
 use lib.Seq.{take-length, take-nil, drop-nil, drop-drop}
 use Rattle.bytes.specs.Bytes.{indexOf, slice}
-use Rattle.qbx_script.specs.Script.{wordAt}
+use Rattle.qbx_script_words.specs.Script.{wordAt}
 
 -- a part with nothing in it
 pub take-none : (at : ℕ) (l : List ℕ) → take (at - at) (drop at l) ≡ []

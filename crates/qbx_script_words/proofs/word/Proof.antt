@@ -1,14 +1,14 @@
--- `qbx_script::word`. The invariant: the word is as far behind in what is left as there are spaces still to pass. Assumes nothing.
+-- `qbx_script_words::word`. The invariant: the word is as far behind in what is left as there are spaces still to pass. Assumes nothing.
 use Prim.Native.Nat.{_-_, _≤_}
 use mathlib.Core.Path.{_≡_, sym, _∙_}
 use native.Mathlib.Omega.{arith}
 use denote.Ref.{now}
 use lib.ListN.{length, drop}
 use borrow.Author.Needs.{needs}
-use Rattle.qbx_script.specs.Script.{wordAt}
-use Rattle.qbx_script.proofs.Laws.Words.{take-none, word-first, word-next, word-over, word-here}
-use Rattle.qbx_script.proofs.word.Statement.{statement}
-use Rattle.qbx_script.proofs.word.Tie as tie
+use Rattle.qbx_script_words.specs.Script.{wordAt}
+use Rattle.qbx_script_words.proofs.Laws.Words.{take-none, word-first, word-next, word-over, word-here}
+use Rattle.qbx_script_words.proofs.word.Statement.{statement}
+use Rattle.qbx_script_words.proofs.word.Tie as tie
 
 abbrev Inv-loop : tie.InvT-loop
 Inv-loop line k at₀ i₀ at i = (at ≤ length line) × (i ≤ k) × (wordAt (k - i) (drop at line) ≡ wordAt k line)
