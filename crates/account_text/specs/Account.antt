@@ -54,15 +54,15 @@ segmentLines i (x ∷ l) = segmentLine i x ++ segmentLines (suc i) l
 
 -- ---- one line for each live slot by rising block number
 
--- a live slot: its block, the length of its contents, its segment's index and its place there, from 1
+-- a live slot: its block and contents, its segment's index and its place there, from 1
 pub record LiveSlot : Type 0 where
   pub block : ℕ
-  pub length : ℕ
+  pub contents : List ℕ
   pub segment : ℕ
   pub slot : ℕ
 
 unfoldable pub liveAt : ℕ → ℕ → Entry → LiveSlot
-liveAt i j e = record { block = e .block; length = length (e .contents); segment = i; slot = j }
+liveAt i j e = record { block = e .block; contents = e .contents; segment = i; slot = j }
 
 -- the live slots of segment i, from place j on
 unfoldable pub liveFrom : ℕ → ℕ → List Slot → List LiveSlot
@@ -87,8 +87,11 @@ byBlock [] = []
 byBlock (e ∷ r) = insert e (byBlock r)
 
 -- as "block 7 len 2 seg 0 slot 1"
+unfoldable pub blockText : ℕ → ℕ → ℕ → ℕ → List ℕ
+blockText b n i j = labelled "block " b ++ (labelled " len " n ++ (labelled " seg " i ++ labelled " slot " j))
+
 unfoldable pub blockLine : LiveSlot → List ℕ
-blockLine e = labelled "block " (e .block) ++ (labelled " len " (e .length) ++ (labelled " seg " (e .segment) ++ (labelled " slot " (e .slot) ++ text "\n")))
+blockLine e = blockText (e .block) (length (e .contents)) (e .segment) (e .slot) ++ text "\n"
 
 unfoldable pub blockLines : List LiveSlot → List ℕ
 blockLines r = flatMap blockLine r

@@ -18,20 +18,20 @@ pub record Board : Type 0 where
 -- ---- pages
 
 -- the header of a segment in use
-abbrev used : ℕ → ℕ → Version → ℕ → ℕ → Page
+abbrev pub used : ℕ → ℕ → Version → ℕ → ℕ → Page
 used N B ver st n = headerPage N B ver st n (oldIndex N (n % N) st)
 
-abbrev status : ℕ → Page
+abbrev pub status : ℕ → Page
 status st = st ∷ erased 255
 
-abbrev deads : ℕ → List Page
+abbrev pub deads : ℕ → List Page
 deads k = replicate k (status 0x1F)
 
-abbrev blanks : ℕ → List Page
+abbrev pub blanks : ℕ → List Page
 blanks k = replicate k (erased 256)
 
 -- a block with contents of so many bytes
-abbrev block : ℕ → ℕ → Page
+abbrev pub block : ℕ → ℕ → Page
 block b n = slotPage b (replicate n 1)
 
 -- ---- four segments of fifteen slots
@@ -40,7 +40,7 @@ abbrev board : List Page → List String → List String → Board
 board pages account picture = record { segments = 4; slots = 15; pages = pages; account = account; picture = picture }
 
 -- segments 0, 1 and 3 of the sample, of version 1, with these slots in segment 2
-abbrev sample : List Page → List Page
+abbrev pub sample : List Page → List Page
 sample third =
     (used 4 15 version1 opened 4 ∷ slotPage 7 (0x41 ∷ 0x30 ∷ []) ∷ slotPage 9 (0x6E ∷ []) ∷ deads 13)
     ++ ((used 4 15 version1 opened 5 ∷ slotPage 7 (0x41 ∷ 0x31 ∷ []) ∷ deads 14)
@@ -52,7 +52,7 @@ sample third =
 abbrev small : List Page → List String → List String → Board
 small pages account picture = record { segments = 3; slots = 2; pages = pages; account = account; picture = picture }
 
-abbrev v2 : Version
+abbrev pub v2 : Version
 v2 = newVersion 0
 
 -- the one bit that is left, and none
@@ -63,11 +63,11 @@ abbrev noBits : Version
 noBits = version2 0 (replicate 224 0)
 
 -- opened, with this number
-abbrev first : Version → ℕ → Page
+abbrev pub first : Version → ℕ → Page
 first ver n = used 3 2 ver opened n
 
 -- a header of which only the mark that opening begun is there
-abbrev begun : Page
+abbrev pub begun : Page
 begun = erased 5 ++ (openingBegun ∷ erased 250)
 
 -- before the erase of (b): the old segment, and the others

@@ -20,7 +20,7 @@ use Rattle.model.specs.Laws.Bench.{evaluate}
 use Rattle.text.specs.Text.{text}
 use Rattle.text.specs.Decimal.{decimalOf, decimal}
 use Rattle.text.specs.Buffer.{labelled}
-use Rattle.account_text.specs.Account.{unseen, shownIn, shown, useWord, slotCounts, segmentLine, segmentLines, liveAt, liveFrom, liveIn, liveSlots, insert, byBlock, blockLine, blockLines, firstFailing, lastLine, accountOn, accountText, wrongSize}
+use Rattle.account_text.specs.Account.{unseen, shownIn, shown, useWord, slotCounts, segmentLine, segmentLines, liveAt, liveFrom, liveIn, liveSlots, insert, byBlock, blockText, blockLine, blockLines, firstFailing, lastLine, accountOn, accountText, wrongSize}
 use Rattle.account_text.specs.Map.{mark, legend, margin, rowBreak, marksFrom, padded, rowStart, stateWord, mapRow, mapRows, allRows, mapOn, mapText}
 use Rattle.account_text.specs.Boards.{Board, boards}
 
@@ -54,7 +54,7 @@ failing i [] = []
 failing i (b ∷ r) = cond (onPages b) (failing (suc i) r) (i ∷ failing (suc i) r)
 
 computed : failing 0 boards ≡ []
-unfolding evaluate isReplaced isCut text decimalOf decimal labelled unseen shownIn shown useWord slotCounts segmentLine segmentLines liveAt liveFrom liveIn liveSlots insert byBlock blockLine blockLines firstFailing lastLine accountOn mark legend margin rowBreak marksFrom padded rowStart stateWord mapRow mapRows allRows mapOn joined wellMade onPages failing boards
+unfolding evaluate isReplaced isCut text decimalOf decimal labelled unseen shownIn shown useWord slotCounts segmentLine segmentLines liveAt liveFrom liveIn liveSlots insert byBlock blockText blockLine blockLines firstFailing lastLine accountOn mark legend margin rowBreak marksFrom padded rowStart stateWord mapRow mapRows allRows mapOn joined wellMade onPages failing boards
 computed = refl
 
 -- ---- pages joined and cut again
@@ -76,11 +76,11 @@ flat-pages (p ∷ ps) h =
     let a = eqb-true (length p) 256 (and-left (eqb (length p) 256) (all (λ q. eqb (length q) 256) ps) h) in
     rw (take-at p (flatten ps) 256 a, drop-at p (flatten ps) 256 a) (ap {B = List Page} (λ y. p ∷ y) (flat-pages ps (and-right (eqb (length p) 256) (all (λ q. eqb (length q) 256) ps) h)))
 
-size-of : (N B : ℕ) (ps : List Page) → inRange N B ≡ true → length ps ≡ N * (B + 1) → all (λ p. eqb (length p) 256) ps ≡ true → rightSize N B (flatten ps) ≡ true
+pub size-of : (N B : ℕ) (ps : List Page) → inRange N B ≡ true → length ps ≡ N * (B + 1) → all (λ p. eqb (length p) 256) ps ≡ true → rightSize N B (flatten ps) ≡ true
 unfolding rightSize imageLength
 size-of N B ps r c w = and-both (inRange N B) (eqb (length (flatten ps)) (N * (B + 1) * 256)) r (eq-eqb (length (flatten ps)) (N * (B + 1) * 256) (flat-length ps w ∙ ap (λ (k : ℕ). k * 256) c))
 
-cut-of : (N B : ℕ) (ps : List Page) → length ps ≡ N * (B + 1) → all (λ p. eqb (length p) 256) ps ≡ true → segmentsOf N B (flatten ps) ≡ segmentsOn N B ps
+pub cut-of : (N B : ℕ) (ps : List Page) → length ps ≡ N * (B + 1) → all (λ p. eqb (length p) 256) ps ≡ true → segmentsOf N B (flatten ps) ≡ segmentsOn N B ps
 unfolding segmentsOf pagesOf
 cut-of N B ps c w = ap (segmentsOn N B) (ap (λ (k : ℕ). chunk k 256 (flatten ps)) (sym c) ∙ flat-pages ps w)
 

@@ -53,18 +53,18 @@ module _ (B : ℕ) (t : Tables) (e : LiveSlot) (r : List LiveSlot) where
   nexts = set (t .nexts) (pageOf B e) (getD (t .firsts) (e .block) 0)
 
   abbrev lengths : List ℕ
-  lengths = set (t .lengths) (pageOf B e) (e .length)
+  lengths = set (t .lengths) (pageOf B e) (length (e .contents))
 
   abbrev firsts : List ℕ
   firsts = set (t .firsts) (e .block) (pageOf B e)
 
   listed-more : e .block < length (t .firsts) → pageOf B e < length (t .nexts) → pageOf B e < length (t .lengths) → 0 < pageOf B e → Free B (pageOf B e) r → Listed B t r
-      → Listed B (link (pageOf B e) (e .block) (e .length) t) (e ∷ r)
+      → Listed B (link (pageOf B e) (e .block) (length (e .contents)) t) (e ∷ r)
   unfolding link ofBlock
   listed-more hb hp hl h0 f l b = go (eqb b (e .block)) refl
     where
       kept : Chain B nexts lengths (getD (t .firsts) b 0) (ofBlock b r)
-      kept = chain-set B (t .nexts) (t .lengths) (pageOf B e) (getD (t .firsts) (e .block) 0) (e .length) (getD (t .firsts) b 0) (ofBlock b r) (free-block B (pageOf B e) b r f) (l b)
+      kept = chain-set B (t .nexts) (t .lengths) (pageOf B e) (getD (t .firsts) (e .block) 0) (length (e .contents)) (getD (t .firsts) b 0) (ofBlock b r) (free-block B (pageOf B e) b r f) (l b)
 
       go : (z : Bool) → eqb b (e .block) ≡ z → Chain B nexts lengths (getD firsts b 0) (cond z (e ∷ ofBlock b r) (ofBlock b r))
       go true q =
@@ -75,7 +75,7 @@ module _ (B : ℕ) (t : Tables) (e : LiveSlot) (r : List LiveSlot) where
             x,
             subst (λ (k : ℕ). 0 < k) (sym x) h0,
             subst (λ (k : ℕ). Chain B nexts lengths k (ofBlock b r)) (sym y) kept,
-            ap (λ (k : ℕ). getD lengths k 0) x ∙ getD-set-same (t .lengths) (pageOf B e) (e .length) 0 hl,
+            ap (λ (k : ℕ). getD lengths k 0) x ∙ getD-set-same (t .lengths) (pageOf B e) (length (e .contents)) 0 hl,
           )
       go false q =
           let w : b ≢ e .block = eqb-false b (e .block) q in
@@ -103,7 +103,7 @@ linked-whole B [] t h = h
 linked-whole B (e ∷ r) t h = let w = linked-whole B r t h in let u = linked B r t in (
   length-set (u .firsts) (e .block) (pageOf B e) ∙ w .0,
   length-set (u .nexts) (pageOf B e) (getD (u .firsts) (e .block) 0) ∙ w .1,
-  length-set (u .lengths) (pageOf B e) (e .length) ∙ w .2,
+  length-set (u .lengths) (pageOf B e) (length (e .contents)) ∙ w .2,
 )
 
 -- tables whose firsts are none
@@ -124,5 +124,5 @@ linked-listed N B n k (e ∷ r) t a p w z =
     let v = linked-whole B r t w in
     let q = a .0 .block in
     let ih : Listed B (linked B r t) r = linked-listed N B n k r t (a .1) (p .1) w z in
-    let m : Listed B (link (pageOf B e) (e .block) (e .length) (linked B r t)) (e ∷ r) = listed-more B (linked B r t) e r (rw (v .0) q) (rw (v .1) (y .1)) (rw (v .2) (y .1)) (y .0) (p .0) ih in
+    let m : Listed B (link (pageOf B e) (e .block) (length (e .contents)) (linked B r t)) (e ∷ r) = listed-more B (linked B r t) e r (rw (v .0) q) (rw (v .1) (y .1)) (rw (v .2) (y .1)) (y .0) (p .0) ih in
     m

@@ -89,7 +89,7 @@ short-byte n h = omega arith
 
 -- a live slot of a page of the image
 live-stands : (N B i j : ℕ) (s : Image) (b : ℕ) (c : List ℕ) → i < N → 1 ≤ j → j ≤ B → slotOf (take 256 (drop ((i * (B + 1) + j) * 256) s)) ≡ live b c
-    → Stands N B (record { block = b; length = length c; segment = i; slot = j })
+    → Stands N B (record { block = b; contents = c; segment = i; slot = j })
 unfolding pageOf
 live-stands N B i j s b c h l m e =
     let o = (i * (B + 1) + j) * 256 in

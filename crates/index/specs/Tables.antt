@@ -58,7 +58,7 @@ pageOf B e = e .segment * (B + 1) + e .slot
 -- live slots, the last one first
 unfoldable pub linked : ℕ → List LiveSlot → Tables → Tables
 linked B [] t = t
-linked B (e ∷ r) t = link (pageOf B e) (e .block) (e .length) (linked B r t)
+linked B (e ∷ r) t = link (pageOf B e) (e .block) (length (e .contents)) (linked B r t)
 
 -- ---- what they say
 
@@ -70,7 +70,7 @@ ofBlock b (e ∷ r) = cond (eqb b (e .block)) (e ∷ ofBlock b r) (ofBlock b r)
 -- from page p on, by the next of each
 abbrev pub Chain : ℕ → List ℕ → List ℕ → ℕ → List LiveSlot → Type 0
 Chain B nexts lengths p [] = p ≡ 0
-Chain B nexts lengths p (e ∷ r) = (p ≡ pageOf B e) × (0 < p) × Chain B nexts lengths (getD nexts p 0) r × (getD lengths p 0 ≡ e .length)
+Chain B nexts lengths p (e ∷ r) = (p ≡ pageOf B e) × (0 < p) × Chain B nexts lengths (getD nexts p 0) r × (getD lengths p 0 ≡ length (e .contents))
 
 abbrev pub Listed : ℕ → Tables → List LiveSlot → Type 0
 Listed B t r = (b : ℕ) → Chain B (t .nexts) (t .lengths) (getD (t .firsts) b 0) (ofBlock b r)
@@ -81,7 +81,7 @@ pub record Stands (N B : ℕ) (e : LiveSlot) : Type 0 where
   pub segment : e .segment < N
   pub first : 1 ≤ e .slot
   pub slot : e .slot ≤ B
-  pub length : e .length < 256
+  pub length : length (e .contents) < 256
 
 abbrev pub AllStand : ℕ → ℕ → List LiveSlot → Type 0
 AllStand N B [] = Unit {0}

@@ -79,7 +79,7 @@ row-linked B i j (live b c ∷ ks) t = let e : suc (i * (B + 1) + j) ≡ i * (B 
 pub linked-append : (B : ℕ) (x y : List LiveSlot) (t : Tables) → linked B (x ++ y) t ≡ linked B x (linked B y t)
 unfolding linked
 linked-append B [] y t = refl
-linked-append B (e ∷ x) y t = ap (link (pageOf B e) (e .block) (e .length)) (linked-append B x y t)
+linked-append B (e ∷ x) y t = ap (link (pageOf B e) (e .block) (length (e .contents))) (linked-append B x y t)
 
 -- a page's slot has contents of at most 248 bytes
 pub brief : (p : List ℕ) → Brief (kindOf (slotOf p))

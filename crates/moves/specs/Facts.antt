@@ -1,4 +1,4 @@
--- A move by its work: refused, or a fresh image built from a table that fits.
+-- What a move that is not refused asks for; the table of its source fits the target then.
 use Prim.Native.Nat.{ℕ, suc, _≤_, _<_}
 use mathlib.Core.Path.{_≡_, refl, sym, ap, _∙_}
 use mathlib.Core.Logic.{_≢_, _⊎_, inl, inr, ⊎-elim}
@@ -20,9 +20,10 @@ use Rattle.bridge.specs.Views.Slots.{entries-append}
 use Rattle.bridge.specs.Views.Shape.{clean-distinct}
 use Rattle.bridge.specs.Refusals.{none-applies, neither}
 use Rattle.bridge.specs.Held.{held-of-clean, clean-view, row-valid}
-use Rattle.moves.specs.Moves.{byNumber, freshSteps, moveRefusals, moveWork, moveOutcome}
+use Rattle.moves.specs.Moves.{byNumber, freshWork, moveRefusals, moveWork, moveOutcome}
 use Rattle.moves.specs.Sorted.{sorted-length, sorted-distinct, sorted-valids}
-use Rattle.moves.specs.Fresh.{Fits, fresh-list, fresh-few}
+use Rattle.moves.specs.Fresh.{Fits}
+use Rattle.moves.specs.Works.{Sees, few-steps, same-work}
 
 -- ---- the table of a clean image can be written
 
@@ -61,10 +62,7 @@ movable-fits N B s M D t b m = record {
 }
 
 module _ (N B : ℕ) (s : Image) (M D : ℕ) (t : Image) where
-  abbrev refusal : ℕ
-  refusal = firstOf (moveRefusals N B s M D t)
-
-  asks : refusal ≡ 0 → Movable N B s M D t
+  pub asks : firstOf (moveRefusals N B s M D t) ≡ 0 → Movable N B s M D t
   unfolding moveRefusals
   asks e =
       let a = none-applies 0 _ _ e in
@@ -79,95 +77,17 @@ module _ (N B : ℕ) (s : Image) (M D : ℕ) (t : Image) where
         few = ltb-false (capacity M D) (length (tableOf N B s)) (d .0);
       }
 
-  -- refused without a step, or the list of a fresh image
-  pub record Accepted : Type 0 where
-    pub movable : Movable N B s M D t
-    pub code : moveWork N B s M D t .code ≡ 0
-    pub steps : moveWork N B s M D t .steps ≡ freshSteps M D (byNumber (tableOf N B s)) t
+  pub move-sees : Bytes s → Sees (moveRefusals N B s M D t) M D (tableOf N B s) t
+  move-sees b e = let m = asks e in (m .target, movable-fits N B s M D t b m)
 
-  pub record Rejected : Type 0 where
-    pub code : moveWork N B s M D t .code ≢ 0
-    pub steps : moveWork N B s M D t .steps ≡ []
+  pub moved-few : (allowance : ℕ) → Bytes s → moveOutcome N B s M D t allowance .count ≤ largestImage
+  unfolding moveOutcome moveWork
+  moved-few allowance b = few-steps (moveRefusals N B s M D t) M D (tableOf N B s) t allowance (move-sees b)
 
-  pub decided : Accepted ⊎ Rejected
+  -- the source decides, and the list is the same whatever the target held
+  pub work-same : (u : Image) → Bytes s → rightSize M D u ≡ rightSize M D t → moveWork N B s M D u ≡ moveWork N B s M D t
   unfolding moveWork
-  decided = go (eqb refusal 0) refl
+  work-same u b z = ap (λ rows. freshWork rows M D (tableOf N B s) u) same ∙ same-work (moveRefusals N B s M D t) M D (tableOf N B s) t u (move-sees b) z
     where
-      steps : List Step
-      steps = freshSteps M D (byNumber (tableOf N B s)) t
-
-      go : (u : Bool) → eqb refusal 0 ≡ u → Accepted ⊎ Rejected
-      go true e = inl (record { movable = asks (eqb-true refusal 0 e); code = rw e; steps = rw e })
-      go false e = inr (record { code = λ q. eqb-false refusal 0 e (sym (rw e) ∙ q); steps = rw e })
-
-  -- a move that answers 0 did the whole list
-  pub record Done (allowance : ℕ) : Type 0 where
-    pub movable : Movable N B s M D t
-    pub image : moveOutcome N B s M D t allowance .image ≡ run D (freshSteps M D (byNumber (tableOf N B s)) t) t
-    pub count : moveOutcome N B s M D t allowance .count ≡ length (freshSteps M D (byNumber (tableOf N B s)) t)
-
-  -- under an allowance that covers the list, or not
-  ended : (allowance : ℕ) → (u : Bool) → leb (length (moveWork N B s M D t .steps)) allowance ≡ u → moveOutcome N B s M D t allowance .code ≡ cond u (moveWork N B s M D t .code) 9
-  unfolding moveOutcome codeUnder
-  ended allowance u e = rw e
-
-  pub done : (allowance : ℕ) → moveOutcome N B s M D t allowance .code ≡ 0 → Done allowance
-  unfolding moveOutcome
-  done allowance e = go (leb (length (moveWork N B s M D t .steps)) allowance) refl
-    where
-      go : (u : Bool) → leb (length (moveWork N B s M D t .steps)) allowance ≡ u → Done allowance
-      go false f = absurd (omega (arith, e, ended allowance false f))
-      go true f =
-          ⊎-elim
-          (λ a. let all = take-all allowance (moveWork N B s M D t .steps) (leb-true (length (moveWork N B s M D t .steps)) allowance f) ∙ a .steps in record {
-            movable = a .movable;
-            image = ap (λ xs. run D xs t) all;
-            count = ap (λ (xs : List Step). length xs) all;
-          })
-          (λ r. absurd (r .code (sym (ended allowance true f) ∙ e)))
-          decided
-
-  -- one that answers neither 0 nor 9 did none
-  pub undone : (allowance : ℕ) → moveOutcome N B s M D t allowance .code ≢ 0 → moveOutcome N B s M D t allowance .code ≢ 9
-      → (moveOutcome N B s M D t allowance .count ≡ 0) × (moveOutcome N B s M D t allowance .image ≡ t)
-  unfolding moveOutcome run
-  undone allowance n m = go (leb (length (moveWork N B s M D t .steps)) allowance) refl
-    where
-      go : (u : Bool) → leb (length (moveWork N B s M D t .steps)) allowance ≡ u → (length (take allowance (moveWork N B s M D t .steps)) ≡ 0) × (run D (take allowance (moveWork N B s M D t .steps)) t ≡ t)
-      go false f = absurd (m (ended allowance false f))
-      go true f =
-          ⊎-elim (λ a. absurd (n (ended allowance true f ∙ a .code)))
-          (λ r. let none : take allowance (moveWork N B s M D t .steps) ≡ [] = ap (λ (xs : List Step). take allowance xs) (r .steps) ∙ take-nil allowance in (ap (λ (xs : List Step). length xs) none, ap (λ xs. run D xs t) none))
-          decided
-
--- ---- few steps
-
-pub moved-few : (N B : ℕ) (s : Image) (M D : ℕ) (t : Image) (allowance : ℕ) → Bytes s → moveOutcome N B s M D t allowance .count ≤ largestImage
-unfolding moveOutcome
-moved-few N B s M D t allowance b =
-    ⊎-elim
-    (λ a. omega (arith, length-take allowance (moveWork N B s M D t .steps), ap (λ (xs : List Step). length xs) (a .steps), fresh-few M D (byNumber (tableOf N B s)) t (a .movable .target) (movable-fits N B s M D t b (a .movable))))
-    (λ r. omega (arith, length-take allowance (moveWork N B s M D t .steps), ap (λ (xs : List Step). length xs) (r .steps)))
-    (decided N B s M D t)
-
--- ---- another target of the same size
-
--- the source decides, and the list is the same whatever the target held
-pub work-same : (N B : ℕ) (s : Image) (M D : ℕ) (t u : Image) → Bytes s → rightSize M D u ≡ rightSize M D t → moveWork N B s M D u ≡ moveWork N B s M D t
-unfolding moveWork
-work-same N B s M D t u b z = rw same (go (eqb (refusal N B s M D t) 0) refl)
-  where
-    table : Table
-    table = byNumber (tableOf N B s)
-
-    same : refusal N B s M D u ≡ refusal N B s M D t
-    same = unfold moveRefusals in rw z
-
-    go : (x : Bool) → eqb (refusal N B s M D t) 0 ≡ x
-        → cond {A = Work} x (record { code = 0; steps = freshSteps M D table u }) (record { code = refusal N B s M D t; steps = [] })
-        ≡ cond x (record { code = 0; steps = freshSteps M D table t }) (record { code = refusal N B s M D t; steps = [] })
-    go false e = refl
-    go true e =
-        let m = asks N B s M D t (eqb-true (refusal N B s M D t) 0 e) in
-        let f = movable-fits N B s M D t b m in
-        ap (λ (xs : List Step). record { code = 0; steps = xs }) (fresh-list M D table u (z ∙ m .target) f ∙ sym (fresh-list M D table t (m .target) f))
+      same : moveRefusals N B s M D u ≡ moveRefusals N B s M D t
+      same = unfold moveRefusals in rw z

@@ -12,7 +12,7 @@ use Rattle.model.specs.Steps.{onPage, slotAt, writeSlot, markDead, openSegment,
 use Rattle.model.specs.Table.{Table, tableOf}
 use Rattle.model.specs.Answers.{Outcome}
 use Rattle.model.specs.Laws.Bench.{evaluate}
-use Rattle.moves.specs.Moves.{insert, byNumber, putEach, freshSteps, moveRefusals, moveWork, moveOutcome}
+use Rattle.moves.specs.Moves.{insert, byNumber, putEach, freshSteps, freshWork, moveRefusals, moveWork, moveOutcome}
 
 -- ---- sources
 
@@ -45,7 +45,7 @@ blocks = record { block = 4; contents = [] } ∷ record { block = 9; contents = 
 
 -- every definition unfolds where this name does
 unfoldable computes : ℕ
-unfolding evaluate first second rightSize pagesOf withSegment step run segmentsOf state view tableOf insert byNumber putEach freshSteps moveRefusals moveWork moveOutcome
+unfolding evaluate first second rightSize pagesOf withSegment step run segmentsOf state view tableOf insert byNumber putEach freshSteps freshWork moveRefusals moveWork moveOutcome
 computes = 0
 
 -- three blocks fill C = 3, in one segment: 2 erases, 21 and 18 steps; empty records are carried

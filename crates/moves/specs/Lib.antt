@@ -6,4 +6,5 @@ pub mod Placed
 pub mod Counted
 pub mod Filling
 pub mod Fresh
+pub mod Works
 pub mod Facts

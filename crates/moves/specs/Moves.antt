@@ -32,6 +32,13 @@ putEach N B (e ∷ t) s = let xs = putSteps N B (e .block) (e .contents) (view N
 unfoldable pub freshSteps : ℕ → ℕ → Table → Image → List Step
 freshSteps N B t s = formatSteps N B ++ putEach N B t (run B (formatSteps N B) s)
 
+-- what a request does that builds a fresh image from a table, by rising number, if no row of refusals applies; codes but 0 take no step
+unfoldable pub freshWork : List Refusal → ℕ → ℕ → Table → Image → Work
+freshWork rows N B table s =
+    let code = firstOf rows in
+    let steps = freshSteps N B (byNumber table) s in
+    cond (eqb code 0) (record { code = 0; steps = steps }) (record { code = code; steps = [] })
+
 -- ---- the move of source s, of N segments with B slots, to target t, of M segments with D slots
 
 unfoldable pub moveRefusals : ℕ → ℕ → Image → ℕ → ℕ → Image → List Refusal
@@ -42,12 +49,8 @@ moveRefusals N B s M D t = let st = state N B s in
     ∷ (7 when ltb (capacity M D) (length (tableOf N B s)))
     ∷ []
 
--- codes but 0 take no step
 unfoldable pub moveWork : ℕ → ℕ → Image → ℕ → ℕ → Image → Work
-moveWork N B s M D t =
-    let code = firstOf (moveRefusals N B s M D t) in
-    let steps = freshSteps M D (byNumber (tableOf N B s)) t in
-    cond (eqb code 0) (record { code = 0; steps = steps }) (record { code = code; steps = [] })
+moveWork N B s M D t = freshWork (moveRefusals N B s M D t) M D (tableOf N B s) t
 
 -- the answer, the count of steps done, and the target after them
 unfoldable pub moveOutcome : ℕ → ℕ → Image → ℕ → ℕ → Image → ℕ → Outcome

@@ -12,10 +12,10 @@ use lib.Dec.{eqb}
 use borrow.Author.Tests.{eq-eqb, ne-eqb}
 use Rattle.flash.specs.Pages.{Sized}
 use Rattle.judge.specs.declared.SegmentState.the-variants.{Blank, Invalid, InUse, Owing}
-use Rattle.text.specs.Text.{text}
+use Rattle.text.specs.Text.{text, text as ascii}
 use Rattle.text.specs.Buffer.{labelled, Wrote}
 use Rattle.text.proofs.Laws.{_then_, wrote-none, wrote-as}
-use Rattle.account_text.specs.Account.{LiveSlot, blockLine, blockLines, byBlock}
+use Rattle.account_text.specs.Account.{LiveSlot, blockText, blockLine, blockLines, byBlock}
 use Rattle.index.specs.declared.Counts.{Counts}
 use Rattle.index.specs.declared.Shown.{Shown}
 use Rattle.index.specs.Shows.{countsLine, lineBy, shownLine, shownLines}
@@ -99,12 +99,9 @@ chain-low : (N B : ℕ) (s nexts lengths : List ℕ) (p : ℕ) (r : List LiveSlo
 chain-low N B s nexts lengths p [] z c t = omega arith
 chain-low N B s nexts lengths p (e ∷ r) z c t = let q = page-few N B e (z .segments) (z .slots) (t .0) in let f = c .0 in omega arith
 
-live-same : (e : LiveSlot) (b n i j : ℕ) → b ≡ e .block → n ≡ e .length → i ≡ e .segment → j ≡ e .slot → record { block = b; length = n; segment = i; slot = j } ≡ e
-live-same e b n i j p q r t =
-    ap (λ (z : ℕ). record { block = z; length = n; segment = i; slot = j }) p
-    ∙ (ap (λ (z : ℕ). record { block = e .block; length = z; segment = i; slot = j }) q
-    ∙ (ap (λ (z : ℕ). record { block = e .block; length = e .length; segment = z; slot = j }) r
-    ∙ ap (λ (z : ℕ). record { block = e .block; length = e .length; segment = e .segment; slot = z }) t))
+line-same : (e : LiveSlot) (b n i j : ℕ) → b ≡ e .block → n ≡ length (e .contents) → i ≡ e .segment → j ≡ e .slot → blockText b n i j ++ ascii "\n" ≡ blockLine e
+unfolding blockLine
+line-same e b n i j p q r t = rw (p, q, r, t)
 
 lines-cons : (e : LiveSlot) (r : List LiveSlot) → blockLines (e ∷ r) ≡ blockLine e ++ blockLines r
 unfolding blockLines flatMap
@@ -134,7 +131,7 @@ pub record Next (N B : ℕ) (s nexts lengths : List ℕ) (block : ℕ) (rest : L
   pub split : rest ≡ slot ∷ others
   pub here : page ≡ pageOf B slot
   pub chain : Chain B nexts lengths (getD nexts page 0) others
-  pub length-is : getD lengths page 0 ≡ slot .length
+  pub length-is : getD lengths page 0 ≡ length (slot .contents)
   pub stand : Stands N B slot
   pub stands : AllStand N B others
   pub block-is : slot .block ≡ block
@@ -179,7 +176,7 @@ module _ {N B : ℕ} {s nexts lengths : List ℕ} {block : ℕ} {whole : List Li
 
   -- its line written
   pub walk-step : {text after : List ℕ} {page end then-end : ℕ} → Walk N B s nexts lengths block whole start at text page end → (page ≡ 0 → ⊥)
-      → Wrote (blockLine (record { block = block; length = getD lengths page 0; segment = page / (B + 1); slot = page % (B + 1) })) text end after then-end → then-end ≤ end + 80
+      → Wrote (blockText block (getD lengths page 0) (page / (B + 1)) (page % (B + 1)) ++ ascii "\n") text end after then-end → then-end ≤ end + 80
       → Walk N B s nexts lengths block whole start at after (getD nexts page 0) then-end
   walk-step {text} {after} {page} {end} {then-end} w h wrote near =
       let n = walk-next w h in
@@ -187,8 +184,8 @@ module _ {N B : ℕ} {s nexts lengths : List ℕ} {block : ℕ} {whole : List Li
       let f = w .few in
       let l : length (w .rest) ≡ suc (length (n .others)) = ap length (n .split) in
       let place = page-segment N B e (n .stand) in
-      let is : record { block = block; length = getD lengths page 0; segment = page / (B + 1); slot = page % (B + 1) } ≡ e =
-      live-same e block (getD lengths page 0) (page / (B + 1)) (page % (B + 1)) (sym (n .block-is))
+      let is : blockText block (getD lengths page 0) (page / (B + 1)) (page % (B + 1)) ++ ascii "\n" ≡ blockLine e =
+      line-same e block (getD lengths page 0) (page / (B + 1)) (page % (B + 1)) (sym (n .block-is))
       (n .length-is) (ap (λ (p : ℕ). p / (B + 1)) (n .here) ∙ place .0) (ap (λ (p : ℕ). p % (B + 1)) (n .here) ∙ place .1) in
       record {
         rest = n .others;
@@ -197,7 +194,7 @@ module _ {N B : ℕ} {s nexts lengths : List ℕ} {block : ℕ} {whole : List Li
         stands = n .stands;
         same = n .same;
         few = omega arith;
-        wrote = w .wrote then wrote-as (blockLine e) (ap blockLine is) wrote;
+        wrote = w .wrote then wrote-as (blockLine e) is wrote;
         joined = append-assoc (w .lines) (blockLine e) (blockLines (n .others))
             ∙ (ap (λ (z : List ℕ). w .lines ++ z) (sym (lines-cons e (n .others)) ∙ ap blockLines (sym (n .split))) ∙ w .joined);
         near = let q = w .near in omega arith;

@@ -11,7 +11,7 @@ ghost use Rattle.flash.specs.Pages.{Sized};
 ghost use Rattle.text.specs.Text.{text as ascii};
 ghost use Rattle.text.specs.Decimal.{decimal};
 ghost use Rattle.text.specs.Buffer.{labelled, Wrote, mostText};
-ghost use Rattle.account_text.specs.Account.{blockLine, blockLines, byBlock};
+ghost use Rattle.account_text.specs.Account.{blockText, blockLines, byBlock};
 ghost use Rattle.index.specs.Shows.{countsLine, shownLine, shownLines};
 ghost use Rattle.index.specs.Tables.{tables, Chain, AllStand, ofBlock, listOf, Indexed};
 
@@ -82,15 +82,24 @@ pub fn segment_lines(
 
 // ---- blocks
 
-// One line, of a live slot.
-fn block_line(text: &mut [u8], at: usize, block: u32, length: u32, segment: u32, slot: u32) -> usize
+// Of a live slot, its line but for the end.
+pub fn block_text(text: &mut [u8], at: usize, block: u32, length: u32, segment: u32, slot: u32) -> usize
     requires { ⌜ at + 80 ≤ mostText ⌝ }
-    ensures { λ r. ⌜ Wrote (blockLine (record { block = block; length = length; segment = segment; slot = slot })) (now (text .entry)) at (now (text .exit)) r × (r ≤ at + 80) ⌝ }
+    ensures { λ r. ⌜ Wrote (blockText block length segment slot) (now (text .entry)) at (now (text .exit)) r × (r ≤ at + 62) ⌝ }
 {
     let blocks = text::add_labelled(text, at, b"block ", block);
     let lengths = text::add_labelled(text, blocks, b" len ", length);
     let segments = text::add_labelled(text, lengths, b" seg ", segment);
-    add_ended(text, segments, b" slot ", slot)
+    text::add_labelled(text, segments, b" slot ", slot)
+}
+
+// The line.
+fn block_line(text: &mut [u8], at: usize, block: u32, length: u32, segment: u32, slot: u32) -> usize
+    requires { ⌜ at + 80 ≤ mostText ⌝ }
+    ensures { λ r. ⌜ Wrote (blockText block length segment slot ++ ascii "\n") (now (text .entry)) at (now (text .exit)) r × (r ≤ at + 80) ⌝ }
+{
+    let end = block_text(text, at, block, length, segment, slot);
+    text::add(text, end, b"\n")
 }
 
 // One for each live slot of a block, from the first page on. The image is named by the contract alone: what is written

@@ -1,0 +1,3 @@
+-- The definitions, and boards salvaged.
+pub mod Salvage
+pub mod Boards
