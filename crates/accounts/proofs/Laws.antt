@@ -18,8 +18,8 @@ use Rattle.prognosis.specs.declared.Prognosis.{Prognosis}
 use Rattle.prognosis.specs.declared.Prognosis.the-variants.{Recovers, Fails}
 use Rattle.prognosis.specs.Foretold.{prognosisOf}
 use Rattle.prognosis.proofs.Laws.{line-recovers, line-fails}
-use Rattle.listing.specs.Walk.{largest}
-use Rattle.listing.proofs.Laws.Shows.{largest-next, uncounted-all}
+use Rattle.descent.specs.Descent.{largest, largest-next}
+use Rattle.listing.proofs.Laws.Shows.{uncounted-all}
 use Rattle.accounts.specs.Foretells.{foretold}
 
 -- ---- sizes

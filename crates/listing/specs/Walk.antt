@@ -1,18 +1,13 @@
--- What the walk goes by: the largest of some numbers, and the segment that is not looked at.
-use Prim.Native.Nat.{ℕ, _+_, _%_, max}
+-- The segment that is not looked at.
+use Prim.Native.Nat.{ℕ, _+_, _%_}
 use mathlib.Core.Bool.{cond}
-use mathlib.Core.List.{List, [], _∷_}
+use mathlib.Core.List.{List}
 use lib.ListN.{set}
 use Rattle.judge.specs.declared.SegmentState.the-variants.{Invalid}
 use Rattle.scan.specs.declared.Surveyed.{Surveyed}
 use Rattle.scan.specs.declared.Surveyed.the-variants.{Clean, TornSegment, ErasePending, TornSlot, OldSlot, Damaged}
 use Rattle.index.specs.declared.Shown.{Shown}
 use Rattle.index.specs.Shows.{noCounts, shownAs}
-
--- 0 if there are none
-unfoldable pub largest : List ℕ → ℕ
-largest [] = 0
-largest (x ∷ l) = max x (largest l)
 
 -- of N segments, by a survey: in (b) the one after the top, unless it is blank
 unfoldable pub hidden : Surveyed → ℕ → List Shown → List Shown

@@ -18,9 +18,10 @@ ghost use Rattle.flash.specs.Pages.{Sized};
 ghost use Rattle.judge.specs.Heads.{bare};
 ghost use Rattle.scan.specs.Surveys.{surveyOf};
 ghost use Rattle.account_text.specs.Account.{shown};
+ghost use Rattle.descent.specs.Descent.{largest};
 ghost use Rattle.index.specs.Shows.{noCounts, shownAs, shownOf, uncounted, counted, afterShown};
 ghost use Rattle.index.specs.Tables.{tables, linked, listOf, Indexed};
-ghost use Rattle.listing.specs.Walk.{largest, hidden};
+ghost use Rattle.listing.specs.Walk.{hidden};
 
 fn no_counts() -> Counts
     ensures { λ r. ⌜ r ≡ noCounts ⌝ }
@@ -114,19 +115,6 @@ fn number_after(x: Shown) -> usize
     }
 }
 
-fn largest(left: &[usize; MOST_SEGMENTS], segments: usize) -> usize
-    requires { ⌜ (segments ≤ mostSegments) × (length (now left) ≡ mostSegments) ⌝ }
-    ensures { λ r. ⌜ r ≡ largest (take segments (now (left .entry))) ⌝ }
-{
-    let mut most: usize = 0;
-    let mut i: usize = 0;
-    while i < segments {
-        most = summary::larger(most, left[i]);
-        i += 1;
-    }
-    most
-}
-
 // The numbers of the segments in use, one more each; 0 for the others.
 fn numbers(table: [Shown; MOST_SEGMENTS], segments: usize) -> [usize; MOST_SEGMENTS]
     requires { ⌜ segments ≤ mostSegments ⌝ }
@@ -169,14 +157,14 @@ fn list_segments(
 {
     let mut shown = table;
     let mut left = numbers(table, segments);
-    let mut top = largest(&left, segments);
+    let mut top = descent::largest(&left, segments);
     while top > 0 {
         let index = (top - 1) % segments;
         let counts = linking::list_row(image, index * (slots + 1), slots, firsts, nexts, lengths);
         let x = shown[index];
         shown[index] = count(x, counts);
         left[index] = 0;
-        top = largest(&left, segments);
+        top = descent::largest(&left, segments);
     }
     shown
 }
@@ -195,7 +183,7 @@ pub fn next_number(table: [Shown; MOST_SEGMENTS], segments: usize) -> usize
     ensures { λ r. ⌜ r ≡ largest (map afterShown (take segments table)) ⌝ }
 {
     let left = numbers(table, segments);
-    largest(&left, segments)
+    descent::largest(&left, segments)
 }
 
 // The segments as they are shown, and the live slots put into tables that hold none yet.

@@ -20,25 +20,7 @@ use Rattle.scan.specs.Surveys.{mendIn, surveyIn, surveyOf}
 use Rattle.account_text.specs.Account.{unseen, shownIn, shown}
 use Rattle.index.specs.declared.Shown.{Shown}
 use Rattle.index.specs.Shows.{noCounts, shownAs, uncounted, afterBy, afterShown}
-use Rattle.listing.specs.Walk.{largest, hidden}
-
--- ---- the largest
-
-pub largest-start : (n : ℕ) (left : List ℕ) → max 0 (largest (take (n - 0) (drop 0 left))) ≡ largest (take n left)
-largest-start n left = rw (sub-zero n) (omega arith)
-
-pub largest-more : (n i most : ℕ) (left : List ℕ) → i < n → i < length left → max (max most (getD left i 0)) (largest (take (n - (i + 1)) (drop (i + 1) left))) ≡ max most (largest (take (n - i) (drop i left)))
-largest-more n i most left h k =
-    let d : n - i ≡ suc (n - (i + 1)) = omega arith in
-    rw (d, drop-cons left i 0 k, add-one i) (unfold largest in (omega arith))
-
-pub largest-end : (n i most : ℕ) (left : List ℕ) → n ≤ i → max most (largest (take (n - i) (drop i left))) ≡ most
-largest-end n i most left h = let d : n - i ≡ 0 = omega arith in rw d (unfold largest in (omega arith))
-
-pub largest-next : (m : List Segment) → largest (map numberAfter m) ≡ nextNumber m
-unfolding largest nextNumber map
-largest-next [] = refl
-largest-next (x ∷ m) = ap (max (numberAfter x)) (largest-next m)
+use Rattle.listing.specs.Walk.{hidden}
 
 -- ---- a table filled by index
 

@@ -25,12 +25,13 @@ use Rattle.account_text.specs.Account.{LiveSlot, liveFrom, liveIn, liveSlots, s
 use Rattle.index.specs.declared.Counts.{Counts}
 use Rattle.index.specs.declared.Shown.{Shown}
 use Rattle.index.specs.Shows.{noCounts, countsOf, shownAs, shownOf, uncounted, counted, afterShown}
-use Rattle.listing.specs.Walk.{largest}
 use Rattle.index.specs.Tables.{Tables, mostPages, linkRow, linked, listOf}
-use Rattle.index.specs.Walks.{Held, some-next, held-shown, held-less, top-below, top-used, used-fewer, number-use}
+use Rattle.index.specs.Walks.{held-shown}
+use Rattle.descent.specs.Descent.{largest, Descent}
+use Rattle.descent.specs.Turns.{descent-start, turn-below, turn-used, turn-row, turn-gone, turn-live, turn, end-unused, end-live}
 use Rattle.linking.specs.Counts.{countRow}
 use Rattle.linking.proofs.Laws.{counts-of, row-linked, linked-append}
-use Rattle.listing.proofs.Laws.Shows.{largest-next, uncounted-all}
+use Rattle.listing.proofs.Laws.Shows.{uncounted-all}
 
 kinds-of : (s : Image) (o c : ℕ) → kindsAt s o c ≡ map kindOf (slotsAt s o c)
 unfolding kindsAt
@@ -46,14 +47,11 @@ module _ (N B : ℕ) (s : Image) where
 
   -- m is left to walk over: numbers has its numbers, next is the one after its top's, and t has what was left out
   pub record Walking (before : Tables) (m : List Segment) (table : List Shown) (left : List ℕ) (next : ℕ) (t : Tables) : Type 0 where
-    pub held : Held N B s m
-    pub numbers : take N left ≡ map numberAfter m
-    pub top : next ≡ nextNumber m
+    pub descent : Descent N B s m left next
     pub tables : linked B (liveIn N (usedCount m) m) t ≡ linked B (listOf N B s) before
     pub kept : (i : ℕ) → i < N → isInUse (getD m i blank) ≡ true → getD m i blank ≡ getD whole i blank
     pub shows : (i : ℕ) → i < N → getD table i none ≡ cond (isInUse (getD m i blank)) (uncounted (getD whole i blank)) (shownOf (getD whole i blank))
     pub rows : length table ≡ mostSegments
-    pub places : length left ≡ mostSegments
 
 module _ (N B : ℕ) (s : Image) (some : 0 < N) (least : N ≤ mostSegments) where
   -- ---- the start
@@ -70,14 +68,11 @@ module _ (N B : ℕ) (s : Image) (some : 0 < N) (least : N ≤ mostSegments) whe
       let h = held-shown N B s some in
       let n : take N left ≡ map numberAfter (whole N B s) = f ∙ (ap (map afterShown) e ∙ uncounted-all (whole N B s)) in
       record {
-        held = h;
-        numbers = n;
-        top = g ∙ (ap largest n ∙ largest-next (whole N B s));
+        descent = descent-start N B s some (whole N B s) left next h b n g;
         tables = unfold listOf liveSlots in refl;
         kept = λ i p u. refl;
         shows = λ i p. sym (getD-take N table i none p) ∙ (ap (λ (z : List Shown). getD z i none) e ∙ (map-get uncounted (whole N B s) i blank none (rw (h .count) p) ∙ go (getD (whole N B s) i blank)));
         rows = a;
-        places = b;
       }
     where
       go : (x : Segment) → uncounted x ≡ cond (isInUse x) (uncounted x) (shownOf x)
@@ -96,35 +91,20 @@ module _ (N B : ℕ) (s : Image) (some : 0 < N) (least : N ≤ mostSegments) whe
   counted-shown (inUse ver st n ks) h = refl
 
   module _ (before : Tables) (m : List Segment) (table : List Shown) (left : List ℕ) (next : ℕ) (t : Tables) (w : Walking N B s before m table left next t) (more : 0 < next) where
-    number : nextNumber m ≡ suc (nextNumber m - 1)
-    number = let e = w .top in omega arith
-
-    used : 0 < usedCount m
-    used = elim (decLt 0 (usedCount m)) [ yes h ↦ h | no h ↦ absurd (false≢true (sym (count-none isInUse m (place .0) blank (unfold usedCount in (omega (arith, h))) (place .1)) ∙ number-use (getD m (place .0) blank) (nextNumber m - 1) (place .2 ∙ number))) ]
-      where
-        place : (j : ℕ) × (j < length m) × (numberAfter (getD m j blank) ≡ nextNumber m)
-        place = next-at m (let e = w .top in omega arith)
+    abbrev d : Descent N B s m left next
+    d = w .descent
 
     below : topIndex N m < N
-    below = top-below N m some
-
-    here : isInUse (getD m (topIndex N m) blank) ≡ true
-    here = top-used N B s m some (w .held) used
+    below = turn-below N B s some m left next d more
 
     row : slotsIn (getD m (topIndex N m) blank) ≡ slotsAt s (slotsOffset B (topIndex N m)) B
-    row = w .held .slots (topIndex N m) below here
+    row = turn-row N B s some m left next d more
 
-    pub turn-index : (next - 1) % N ≡ topIndex N m
-    turn-index = unfold topIndex in (ap (λ (k : ℕ). (k - 1) % N) (w .top))
-
-    fewer : usedCount m ≡ suc (usedCount (set m (topIndex N m) blank))
-    fewer = sym (used-fewer N B s m some (w .held) used)
+    here : isInUse (getD m (topIndex N m) blank) ≡ true
+    here = turn-used N B s some m left next d more
 
     gone : isInUse (getD (set m (topIndex N m) blank) (topIndex N m) blank) ≡ false
-    gone = ap isInUse (getD-set-same m (topIndex N m) blank blank (rw (w .held .count) below)) ∙ (unfold isInUse in refl)
-
-    in-more : (k : ℕ) → liveIn N (suc k) m ≡ liveIn N k (set m (topIndex N m) blank) ++ liveFrom (topIndex N m) 1 (topSlots N m)
-    in-more k = unfold liveIn in refl
+    gone = turn-gone N B s some m left next d more
 
     -- what the tables hold now, and what is left for them
     linked-turn : (u : Tables) → u ≡ linkRow (topIndex N m * (B + 1) + 1) (kindsAt s (slotsOffset B (topIndex N m)) B) t
@@ -132,13 +112,9 @@ module _ (N B : ℕ) (s : Image) (some : 0 < N) (least : N ≤ mostSegments) whe
     linked-turn u e =
         let v = set m (topIndex N m) blank in
         let x = liveIn N (usedCount v) v in
-        let y = liveFrom (topIndex N m) 1 (topSlots N m) in
-        let tops : slotsIn (getD m (topIndex N m) blank) ≡ topSlots N m = unfold topSlots in refl in
-        let q : u ≡ linked B y t = e ∙ (ap (λ (ks : List SlotKind). linkRow (topIndex N m * (B + 1) + 1) ks t) (kinds-of s (slotsOffset B (topIndex N m)) B)
-        ∙ (ap (λ (ks : List Slot). linkRow (topIndex N m * (B + 1) + 1) (map kindOf ks) t) (sym row)
-        ∙ (row-linked B (topIndex N m) 1 (slotsIn (getD m (topIndex N m) blank)) t ∙ ap (λ (ks : List Slot). linked B (liveFrom (topIndex N m) 1 ks) t) tops))) in
-        let z : liveIn N (usedCount m) m ≡ x ++ y = ap (λ (k : ℕ). liveIn N k m) fewer ∙ in-more (usedCount v) in
-        ap (linked B x) q ∙ (sym (linked-append B x y t) ∙ (ap (λ (r : List LiveSlot). linked B r t) (sym z) ∙ w .tables))
+        let y = liveFrom (topIndex N m) 1 (slotsAt s (slotsOffset B (topIndex N m)) B) in
+        let q : u ≡ linked B y t = e ∙ (ap (λ (ks : List SlotKind). linkRow (topIndex N m * (B + 1) + 1) ks t) (kinds-of s (slotsOffset B (topIndex N m)) B) ∙ row-linked B (topIndex N m) 1 (slotsAt s (slotsOffset B (topIndex N m)) B) t) in
+        ap (linked B x) q ∙ (sym (linked-append B x y t) ∙ (ap (λ (r : List LiveSlot). linked B r t) (sym (turn-live N B s some m left next d more)) ∙ w .tables))
 
     shows-turn : (c : Counts) → c ≡ countRow (kindsAt s (slotsOffset B (topIndex N m)) B) → (x : Shown) → x ≡ counted c (getD table (topIndex N m) none) → (j : ℕ) → j < N
         → getD (set table (topIndex N m) x) j none ≡ cond (isInUse (getD (set m (topIndex N m) blank) j blank)) (uncounted (getD (whole N B s) j blank)) (shownOf (getD (whole N B s) j blank))
@@ -166,37 +142,16 @@ module _ (N B : ℕ) (s : Image) (some : 0 < N) (least : N ≤ mostSegments) whe
       | no d ↦ getD-set-other m (topIndex N m) j blank blank d ∙ w .kept j p (sym (ap isInUse (getD-set-other m (topIndex N m) j blank blank d)) ∙ u)
     ]
 
-    numbers-turn : take N (set left (topIndex N m) 0) ≡ map numberAfter (set m (topIndex N m) blank)
-    numbers-turn = take-set-lt N left (topIndex N m) 0 below ∙ (ap (λ (z : List ℕ). set z (topIndex N m) 0) (w .numbers) ∙ (sym (map-set numberAfter m (topIndex N m) blank ∙ ap (set (map numberAfter m) (topIndex N m)) (unfold numberAfter in refl))))
-
     pub walk-turn : (c : Counts) (x : Shown) (u : Tables) (later : ℕ) → c ≡ countRow (kindsAt s (slotsOffset B (topIndex N m)) B) → x ≡ counted c (getD table (topIndex N m) none)
         → u ≡ linkRow (topIndex N m * (B + 1) + 1) (kindsAt s (slotsOffset B (topIndex N m)) B) t → later ≡ largest (take N (set left (topIndex N m) 0))
         → Walking N B s before (set m (topIndex N m) blank) (set table (topIndex N m) x) (set left (topIndex N m) 0) later u
-    walk-turn c x u later a b d e = record {
-      held = held-less N B s m some (w .held);
-      numbers = numbers-turn;
-      top = e ∙ (ap largest numbers-turn ∙ largest-next (set m (topIndex N m) blank));
-      tables = linked-turn u d;
+    walk-turn c x u later a b e f = record {
+      descent = turn N B s some m left next d more (topIndex N m) later refl f;
+      tables = linked-turn u e;
       kept = kept-turn;
       shows = shows-turn c a x b;
       rows = length-set table (topIndex N m) x ∙ w .rows;
-      places = length-set left (topIndex N m) 0 ∙ w .places;
     }
-
-    -- one fewer is left
-    pub turn-less : usedCount (set m (topIndex N m) blank) < usedCount m
-    turn-less = let e = fewer in omega arith
-
-  -- how many are left, by their numbers
-  pub left-count : (m : List Segment) → count (λ n. ltb 0 n) (map numberAfter m) ≡ usedCount m
-  unfolding usedCount count map
-  left-count [] = refl
-  left-count (x ∷ m) = ap₂ (λ (a : Bool) (b : ℕ). cond a (suc b) b) (one x) (left-count m)
-    where
-      one : (x : Segment) → ltb 0 (numberAfter x) ≡ isInUse x
-      one blank = unfold numberAfter isInUse in refl
-      one invalid = unfold numberAfter isInUse in refl
-      one (inUse ver st n ks) = unfold numberAfter isInUse in (lt-ltb 0 (suc n) (omega arith))
 
   -- ---- the end
 
@@ -205,29 +160,17 @@ module _ (N B : ℕ) (s : Image) (some : 0 < N) (least : N ≤ mostSegments) whe
   walk-end before m table left next t w z =
       let l = held-shown N B s some .count in
       let a : length (take N table) ≡ N = length-take-le N table (omega (arith, w .rows)) in
-      let b : usedCount m ≡ 0 = unused (usedCount m) refl in (
+      (
         ext-getD none (take N table) (map shownOf (whole N B s)) (a ∙ (sym l ∙ sym (map-length shownOf (whole N B s)))) (λ j p. one j (subst (λ (k : ℕ). j < k) a p)),
-        sym nothing ∙ (ap (λ (k : ℕ). linked B (liveIn N k m) t) (sym b) ∙ w .tables),
+        sym nothing ∙ (ap (λ (r : List LiveSlot). linked B r t) (sym (end-live N B s some m left next (w .descent) z)) ∙ w .tables),
       )
     where
-      nothing : linked B (liveIn N 0 m) t ≡ t
-      nothing = unfold liveIn linked in refl
-
-      none-used : (j : ℕ) → isInUse (getD m j blank) ≡ false
-      none-used j = go (getD m j blank) (next-ge m j)
-        where
-          go : (x : Segment) → numberAfter x ≤ nextNumber m → isInUse x ≡ false
-          go blank h = unfold isInUse in refl
-          go invalid h = unfold isInUse in refl
-          go (inUse ver st n ks) h = let q : suc n ≤ nextNumber m = (unfold numberAfter in h) in let e = w .top in absurd (omega arith)
+      nothing : linked B [] t ≡ t
+      nothing = unfold linked in refl
 
       one : (j : ℕ) → j < N → getD (take N table) j none ≡ getD (map shownOf (whole N B s)) j none
-      one j p = getD-take N table j none p ∙ (w .shows j p ∙ (ap (λ (b : Bool). cond b (uncounted (getD (whole N B s) j blank)) (shownOf (getD (whole N B s) j blank))) (none-used j)
+      one j p = getD-take N table j none p ∙ (w .shows j p ∙ (ap (λ (b : Bool). cond b (uncounted (getD (whole N B s) j blank)) (shownOf (getD (whole N B s) j blank))) (end-unused N B s some m left next (w .descent) z j)
           ∙ sym (map-get shownOf (whole N B s) j blank none (rw (held-shown N B s some .count) p))))
-
-      unused : (k : ℕ) → usedCount m ≡ k → usedCount m ≡ 0
-      unused zero e = e
-      unused (suc k) e = let q = some-next m (omega arith) in let r = w .top in absurd (omega arith)
 
   -- ---- a turn as the code has it
 
@@ -238,21 +181,3 @@ module _ (N B : ℕ) (s : Image) (some : 0 < N) (least : N ≤ mostSegments) whe
       subst (λ (k : ℕ). c ≡ countRow (kindsAt s ((k * (B + 1) + 1) * 256) B) → x ≡ counted c (getD table k none) → u ≡ linkRow (k * (B + 1) + 1) (kindsAt s ((k * (B + 1) + 1) * 256) B) t
       → later ≡ largest (take N (set left k 0)) → Walking N B s before (set m (topIndex N m) blank) (set table k x) (set left k 0) later u) (sym e)
       (walk-turn before m table left next t w more c x u later)
-
-  pub less : (before : Tables) (m : List Segment) (table : List Shown) (left : List ℕ) (next : ℕ) (t : Tables) → Walking N B s before m table left next t → 0 < next
-      → count (λ n. ltb 0 n) (take N (set left ((next - 1) % N) 0)) < count (λ n. ltb 0 n) (take N left)
-  less before m table left next t w more =
-      let e = turn-index before m table left next t w more in
-      let q : count (λ n. ltb 0 n) (take N left) ≡ usedCount m = ap (count (λ n. ltb 0 n)) (w .numbers) ∙ left-count m in
-      let v = set m (topIndex N m) blank in
-      let z : count (λ n. ltb 0 n) (take N (set left ((next - 1) % N) 0)) ≡ usedCount v = ap (λ (k : ℕ). count (λ n. ltb 0 n) (take N (set left k 0))) e ∙ (ap (count (λ n. ltb 0 n)) (numbers-turn before m table left next t w more) ∙ left-count v) in
-      let d = turn-less before m table left next t w more in
-      omega arith
-
--- a segment's pages are in the image
-pub page-inside : (N B i : ℕ) → i < N → N ≤ mostSegments → B ≤ mostSlots → (i * (B + 1) < 18446744073709551616) × (i * (B + 1) + B < mostPages) × (i * (B + 1) + B + 1 ≤ N * (B + 1))
-page-inside N B i h n b =
-    let p = mul-le-mul-right (B + 1) h in
-    let q = suc-mul i (B + 1) in
-    let m = mul-le-mul-right (B + 1) n in
-    (omega arith, omega arith, omega arith)

@@ -12,7 +12,8 @@ use Rattle.model.specs.Lists.{count}
 use Rattle.model.specs.State.{Segment, blank, topIndex}
 use Rattle.index.specs.Shows.{noCounts, shownAs}
 use Rattle.index.specs.Tables.{tables}
-use Rattle.listing.proofs.Laws.Walk.{whole, Walking, walk-start, turn-index, again, less, page-inside, walk-end}
+use Rattle.descent.specs.Turns.{turn-index, turn-less, page-inside}
+use Rattle.listing.proofs.Laws.Walk.{whole, Walking, walk-start, again, walk-end}
 use Rattle.listing.proofs.list_segments.Statement.{statement}
 use Rattle.listing.proofs.list_segments.Tie as tie
 
@@ -97,14 +98,14 @@ array-write-left c =
     omega (arith, s .pre .0 .segments)
 
 largest-requires-2 : tie.Need-largest-requires-2 Inv-loop μ-loop
-largest-requires-2 c κs = (c .before .before .before .before .before .before .before .before .before .before .before .before .before .pre .0 .segments, simp length-set (c .before .before .before .before .before .before .before .before .loop .inv .1 .places))
+largest-requires-2 c κs = (c .before .before .before .before .before .before .before .before .before .before .before .before .before .pre .0 .segments, simp length-set (c .before .before .before .before .before .before .before .before .loop .inv .1 .descent .places))
 
 loop-less : tie.Need-loop-less Inv-loop μ-loop
 loop-less c =
     let s = c .before .before .before .before .before .before .before .before .before .before .before .before .before .before in
     let a = s .args in
     let l = c .before .before .before .before .before .before .before .before .before .loop in
-    less (a .segments) (a .slots) (now (a .image)) (s .pre .0 .some) (s .pre .0 .segments) (tables (now (a .firsts)) (now (a .nexts)) (now (a .lengths))) (l .inv .0) (l .shown) (l .left) (l .top) (tables (l .firsts) (l .nexts) (l .lengths)) (l .inv .1) (c .before .before .before .before .before .before .before .before .loop-test .taken)
+    turn-less (a .segments) (a .slots) (now (a .image)) (s .pre .0 .some) (l .inv .0) (l .left) (l .top) (l .inv .1 .descent) (c .before .before .before .before .before .before .before .before .loop-test .taken)
 
 loop-again : tie.Need-loop-again Inv-loop μ-loop
 unfolding shownAs noCounts
@@ -114,7 +115,7 @@ loop-again c =
     let l = c .before .before .before .before .before .before .before .before .before .loop in
     let more = c .before .before .before .before .before .before .before .before .loop-test .taken in
     let w = l .inv .1 in
-    let e : (l .top - 1) % a .segments ≡ topIndex (a .segments) (l .inv .0) = turn-index (a .segments) (a .slots) (now (a .image)) (s .pre .0 .some) (s .pre .0 .segments) (tables (now (a .firsts)) (now (a .nexts)) (now (a .lengths))) (l .inv .0) (l .shown) (l .left) (l .top) (tables (l .firsts) (l .nexts) (l .lengths)) w more in (
+    let e : (l .top - 1) % a .segments ≡ topIndex (a .segments) (l .inv .0) = turn-index (a .segments) (a .slots) (now (a .image)) (s .pre .0 .some) (l .inv .0) (l .left) (l .top) (w .descent) more in (
       set (l .inv .0) (topIndex (a .segments) (l .inv .0)) blank,
       again (a .segments) (a .slots) (now (a .image)) (s .pre .0 .some) (s .pre .0 .segments) (tables (now (a .firsts)) (now (a .nexts)) (now (a .lengths))) (l .inv .0) (l .shown) (l .left) (l .top) (tables (l .firsts) (l .nexts) (l .lengths)) w more
           ((l .top - 1) % a .segments) e (c .before .before .before .before .list-row .result) (c .before .before .count .result) _ (c .largest2 .result) (c .before .before .before .before .list-row .ensures .0) (c .before .before .count .ensures) (c .before .before .before .before .list-row .ensures .1) (c .largest2 .ensures),

@@ -1,6 +1,6 @@
 -- `listing::next_number`. Assumes nothing.
 use mathlib.Core.Path.{ap, _∙_}
-use Rattle.listing.specs.Walk.{largest}
+use Rattle.descent.specs.Descent.{largest}
 use borrow.Author.Needs.{needs}
 use Rattle.listing.proofs.next_number.Statement.{statement}
 use Rattle.listing.proofs.next_number.Tie as tie

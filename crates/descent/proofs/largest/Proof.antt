@@ -1,14 +1,14 @@
--- `listing::largest`. The invariant: the largest so far, and of what is left, is the largest. Assumes nothing.
+-- `descent::largest`. The invariant: the largest so far, and of what is left, is the largest. Assumes nothing.
 use Prim.Native.Nat.{ℕ, _+_, _-_, _≤_, _<_, max}
 use mathlib.Core.Path.{_≡_, sym, ap, _∙_}
 use native.Mathlib.Omega.{arith}
 use denote.Ref.{now}
 use lib.ListN.{length, take, drop}
-use Rattle.listing.specs.Walk.{largest}
-use Rattle.listing.proofs.Laws.Shows.{largest-start, largest-more, largest-end}
+use Rattle.descent.specs.Descent.{largest}
+use Rattle.descent.proofs.Laws.{largest-start, largest-more, largest-end}
 use borrow.Author.Needs.{needs}
-use Rattle.listing.proofs.largest.Statement.{statement}
-use Rattle.listing.proofs.largest.Tie as tie
+use Rattle.descent.proofs.largest.Statement.{statement}
+use Rattle.descent.proofs.largest.Tie as tie
 
 abbrev Inv-loop : tie.InvT-loop
 Inv-loop left segments most₀ i₀ most i = (max most (largest (take (segments - i) (drop i left))) ≡ largest (take segments left)) × (i ≤ segments)
