@@ -22,17 +22,6 @@ use Rattle.index.specs.declared.Shown.{Shown}
 use Rattle.index.specs.Shows.{noCounts, shownAs, uncounted, afterBy, afterShown}
 use Rattle.listing.specs.Walk.{hidden}
 
--- ---- a table filled by index
-
-map-snoc : {A C : Type 0} (f : A → C) (x : List A) (a : A) → map f (x ++ (a ∷ [])) ≡ map f x ++ (f a ∷ [])
-map-snoc f [] a = refl
-map-snoc {A} {C} f (b ∷ x) a = ap {B = List C} (λ y. f b ∷ y) (map-snoc f x a)
-
-pub fill-more : {A C : Type 0} (f : A → C) (xs : List A) (d : A) (table : List C) (i : ℕ) (v : C) → i < length xs → i < length table → v ≡ f (getD xs i d) → take i table ≡ map f (take i xs)
-    → take (i + 1) (set table i v) ≡ map f (take (i + 1) xs)
-fill-more f xs d table i v h k q e =
-    rw (add-one i, take-suc-set table i v k, take-suc xs i d h, e, q) (sym (map-snoc f (take i xs) (getD xs i d)))
-
 -- ---- uncounted
 
 pub outline-uncounted : (x : Segment) → uncounted (outline x) ≡ uncounted x

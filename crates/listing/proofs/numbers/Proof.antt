@@ -6,7 +6,7 @@ use native.Mathlib.Omega.{arith}
 use lib.ListN.{length, take, length-set}
 use Rattle.model.specs.Chip.{mostSegments}
 use Rattle.index.specs.Shows.{afterShown}
-use Rattle.listing.proofs.Laws.Shows.{fill-more}
+use Rattle.descent.specs.Filled.{fill-more}
 use borrow.Author.Needs.{needs}
 use Rattle.listing.proofs.numbers.Statement.{statement}
 use Rattle.listing.proofs.numbers.Tie as tie

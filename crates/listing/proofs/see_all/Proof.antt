@@ -11,7 +11,8 @@ use Rattle.model.specs.Chip.{mostSegments}
 use Rattle.model.specs.State.{blank, segmentsOf}
 use Rattle.model.specs.Laws.Segments.{segments-length}
 use Rattle.index.specs.Shows.{uncounted}
-use Rattle.listing.proofs.Laws.Shows.{fill-more, outline-uncounted}
+use Rattle.descent.specs.Filled.{fill-more}
+use Rattle.listing.proofs.Laws.Shows.{outline-uncounted}
 use Rattle.listing.proofs.see_all.Statement.{statement}
 use Rattle.listing.proofs.see_all.Tie as tie
 
