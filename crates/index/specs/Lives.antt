@@ -8,11 +8,11 @@ use lib.ListN.{length, take, drop}
 use lib.Seq.{drop-drop}
 use Rattle.model.specs.Lists.{chunk}
 use Rattle.model.specs.Chip.{Image}
-use Rattle.model.specs.Slot.{Slot, empty, torn, dead, cut, wrong, live, mostContents, slotOf, entryOf}
+use Rattle.model.specs.Slot.{Slot, empty, torn, dead, cut, wrong, live, mostContents, slotOf, kindOf, entryOf}
 use Rattle.model.specs.Laws.SlotPage.{live-facts, number-below}
 use Rattle.judge.specs.Rows.{slotsAt}
 use Rattle.account_text.specs.Account.{LiveSlot, liveAt, liveFrom}
-use Rattle.index.specs.Tables.{pageOf, Stands, AllStand}
+use Rattle.index.specs.Tables.{pageOf, Brief, Stands, AllStand}
 use Rattle.index.specs.Chains.{Free, AllApart}
 
 -- ---- lists of live slots
@@ -86,6 +86,18 @@ from-few i j (live b c ∷ ks) = let h = from-few i (suc j) ks in omega arith
 pub short-byte : (n : ℕ) → n ≤ mostContents → n < 256
 unfolding mostContents
 short-byte n h = omega arith
+
+-- a page's slot has contents of at most 248 bytes
+pub brief : (p : List ℕ) → Brief (kindOf (slotOf p))
+brief p = go (slotOf p) refl
+  where
+    go : (k : Slot) → slotOf p ≡ k → Brief (kindOf k)
+    go empty e = unfold kindOf in tt
+    go torn e = unfold kindOf in tt
+    go dead e = unfold kindOf in tt
+    go cut e = unfold kindOf in tt
+    go wrong e = unfold kindOf in tt
+    go (live b c) e = unfold kindOf in (short-byte (length c) (live-facts p b c e .short))
 
 -- a live slot of a page of the image
 live-stands : (N B i j : ℕ) (s : Image) (b : ℕ) (c : List ℕ) → i < N → 1 ≤ j → j ≤ B → slotOf (take 256 (drop ((i * (B + 1) + j) * 256) s)) ≡ live b c

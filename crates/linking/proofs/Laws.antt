@@ -18,8 +18,7 @@ use Rattle.account_text.specs.Account.{LiveSlot, liveAt, liveFrom}
 use Rattle.index.specs.declared.Counts.{Counts}
 use Rattle.index.specs.Shows.{noCounts, countsOf}
 use Rattle.linking.specs.Counts.{countKind, countRow, Few}
-use Rattle.index.specs.Lives.{short-byte}
-use Rattle.index.specs.Tables.{Tables, link, linkKind, Brief, linkRow, linked, pageOf}
+use Rattle.index.specs.Tables.{Tables, link, linkKind, linkRow, linked, pageOf}
 
 -- ---- counts
 
@@ -80,15 +79,3 @@ pub linked-append : (B : ℕ) (x y : List LiveSlot) (t : Tables) → linked B (x
 unfolding linked
 linked-append B [] y t = refl
 linked-append B (e ∷ x) y t = ap (link (pageOf B e) (e .block) (length (e .contents))) (linked-append B x y t)
-
--- a page's slot has contents of at most 248 bytes
-pub brief : (p : List ℕ) → Brief (kindOf (slotOf p))
-brief p = go (slotOf p) refl
-  where
-    go : (k : Slot) → slotOf p ≡ k → Brief (kindOf k)
-    go empty e = unfold kindOf in tt
-    go torn e = unfold kindOf in tt
-    go dead e = unfold kindOf in tt
-    go cut e = unfold kindOf in tt
-    go wrong e = unfold kindOf in tt
-    go (live b c) e = unfold kindOf in (short-byte (length c) (live-facts p b c e .short))

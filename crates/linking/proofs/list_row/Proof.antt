@@ -12,7 +12,8 @@ use Rattle.rows.proofs.Laws.Rows.{page-part}
 use Rattle.index.specs.Shows.{noCounts}
 use Rattle.linking.specs.Counts.{countKind, countRow, Few}
 use Rattle.index.specs.Tables.{tables, linkKind, Brief, linkRow}
-use Rattle.linking.proofs.Laws.{row-none, row-more, count-few, brief}
+use Rattle.index.specs.Lives.{brief}
+use Rattle.linking.proofs.Laws.{row-none, row-more, count-few}
 use borrow.Author.Needs.{needs}
 use Rattle.linking.proofs.list_row.Statement.{statement}
 use Rattle.linking.proofs.list_row.Tie as tie
