@@ -35,16 +35,6 @@ pub record Pointing (s : Image) (t : Places) : Type 0 where
   pub long : leastPlaces ≤ length t
   pub points : (k : ℕ) → 0 < k → k < leastPlaces → getD t k 0 ≢ 0 → (getD t k 0 + 256 ≤ length s) × LivePage (pageAt s (getD t k 0))
 
--- entries that tell no place
-abbrev pub AllNone : Places → Type 0
-AllNone t = (k : ℕ) → k < length t → getD t k 0 ≡ 0
-
--- from one block number to another there is none
-pub record Passed (t : Places) (from to : ℕ) : Type 0 where
-  pub up : from ≤ to
-  pub most : to ≤ leastPlaces
-  pub none : (k : ℕ) → from ≤ k → k < to → getD t k 0 ≡ 0
-
 -- ---- how far a fresh image has come
 
 -- entries as they are written from there on

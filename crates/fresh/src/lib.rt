@@ -6,18 +6,13 @@ use places::LEAST_PLACES;
 ghost use mathlib.Core.Path.{_≡_};
 ghost use mathlib.Core.Bool.{true};
 ghost use mathlib.Core.List.{_++_};
-ghost use Prim.Native.Nat.{_≤_};
 ghost use lib.ListN.{length};
-ghost use Rattle.model.specs.Mounted.{leastPlaces};
 ghost use Rattle.model.specs.Chip.{rightSize};
 ghost use Rattle.model.specs.Slot.{slotOf, entryOf};
 ghost use Rattle.model.specs.Steps.{formatSteps};
 ghost use Rattle.model.specs.Answers.{performed, worked};
 ghost use Rattle.moves.specs.Placed.{placed};
-ghost use Rattle.fresh.specs.Fresh.{listed, Pointing, AllNone, Passed, Going, LivePage, Opened, Added};
-
-// From here on fewer than eight entries are left.
-const LAST_EIGHT: usize = LEAST_PLACES - 7;
+ghost use Rattle.fresh.specs.Fresh.{listed, Pointing, Going, LivePage, Opened, Added};
 
 // How many steps open a segment, and how many write a slot besides one for each byte of contents.
 const OPENING: u64 = 21;
@@ -79,30 +74,6 @@ fn add(target: &mut [u8], segments: usize, slots: usize, page: &[u8], from: Prog
     }
 }
 
-// Whether eight entries tell no place. They are joined, so that they are compared once.
-fn none_of(group: &[u32]) -> bool
-    requires { ⌜ length (now group) ≡ 8 ⌝ }
-    ensures { λ r. ⌜ (r ≡ true → AllNone (now (group .entry))) ⌝ }
-{
-    (group[0] | group[1] | group[2] | group[3] | group[4] | group[5] | group[6] | group[7]) == 0
-}
-
-// Passes over entries of 0, eight at a time as far as it can: most block numbers are not stored.
-fn pass_empty(places: &[u32], from: usize) -> usize
-    requires { ⌜ (leastPlaces ≤ length (now places)) × (from ≤ leastPlaces) ⌝ }
-    ensures { λ r. ⌜ Passed (now (places .entry)) from r ⌝ }
-{
-    let mut block = from;
-    while block < LAST_EIGHT {
-        let end = block + 8;
-        if !none_of(&places[block..end]) {
-            return block;
-        }
-        block = end;
-    }
-    block
-}
-
 // Builds a fresh image from the live slots of another that a table of places tells: formatted, then each written by rising
 // block number. Once the budget is used up the rest does nothing.
 pub fn build(
@@ -128,7 +99,7 @@ pub fn build(
         let place = places[block] as usize;
         block += 1;
         if place == 0 {
-            block = pass_empty(places, block);
+            block = skipping::pass_empty(places, block);
             continue;
         }
         let end = place + 256;

@@ -100,7 +100,7 @@ brief p = go (slotOf p) refl
     go (live b c) e = unfold kindOf in (short-byte (length c) (live-facts p b c e .short))
 
 -- a live slot of a page of the image
-live-stands : (N B i j : ℕ) (s : Image) (b : ℕ) (c : List ℕ) → i < N → 1 ≤ j → j ≤ B → slotOf (take 256 (drop ((i * (B + 1) + j) * 256) s)) ≡ live b c
+pub live-stands : (N B i j : ℕ) (s : Image) (b : ℕ) (c : List ℕ) → i < N → 1 ≤ j → j ≤ B → slotOf (take 256 (drop ((i * (B + 1) + j) * 256) s)) ≡ live b c
     → Stands N B (record { block = b; contents = c; segment = i; slot = j })
 unfolding pageOf
 live-stands N B i j s b c h l m e =
@@ -114,20 +114,25 @@ pub slots-next : (s : Image) (o c : ℕ) → slotsAt s o (suc c) ≡ slotOf (tak
 unfolding slotsAt chunk
 slots-next s o c = rw (drop-drop 256 o s)
 
-pub row-stands : (N B i : ℕ) (s : Image) → i < N → (c j : ℕ) → 1 ≤ j → j + c ≤ B + 1 → Each (λ e. Stands N B e) (liveFrom i j (slotsAt s ((i * (B + 1) + j) * 256) c))
-row-stands N B i s h zero j l m = unfold slotsAt chunk map liveFrom in tt
-row-stands N B i s h (suc c) j l m =
+-- what holds of every live slot that a page of segment i is, holds of those of the segment
+pub row-each : (P : LiveSlot → Type 0) (B i : ℕ) (s : Image) → ((j b : ℕ) (c : List ℕ) → 1 ≤ j → j ≤ B → slotOf (take 256 (drop ((i * (B + 1) + j) * 256) s)) ≡ live b c → P (record { block = b; contents = c; segment = i; slot = j }))
+    → (c j : ℕ) → 1 ≤ j → j + c ≤ B + 1 → Each P (liveFrom i j (slotsAt s ((i * (B + 1) + j) * 256) c))
+row-each P B i s f zero j l m = unfold slotsAt chunk map liveFrom in tt
+row-each P B i s f (suc c) j l m =
     let o = (i * (B + 1) + j) * 256 in
     let e : o + 256 ≡ (i * (B + 1) + suc j) * 256 = omega arith in
-    let ih : Each (λ x. Stands N B x) (liveFrom i (suc j) (slotsAt s (o + 256) c)) =
-    subst (λ (k : ℕ). Each (λ x. Stands N B x) (liveFrom i (suc j) (slotsAt s k c))) (sym e) (row-stands N B i s h c (suc j) (omega arith) (omega arith)) in
-    subst (λ (ks : List Slot). Each (λ x. Stands N B x) (liveFrom i j ks)) (sym (slots-next s o c)) (go (slotOf (take 256 (drop o s))) refl ih)
+    let ih : Each P (liveFrom i (suc j) (slotsAt s (o + 256) c)) =
+    subst (λ (k : ℕ). Each P (liveFrom i (suc j) (slotsAt s k c))) (sym e) (row-each P B i s f c (suc j) (omega arith) (omega arith)) in
+    subst (λ (ks : List Slot). Each P (liveFrom i j ks)) (sym (slots-next s o c)) (go (slotOf (take 256 (drop o s))) refl ih)
   where
-    go : (k : Slot) → slotOf (take 256 (drop ((i * (B + 1) + j) * 256) s)) ≡ k → Each (λ x. Stands N B x) (liveFrom i (suc j) (slotsAt s ((i * (B + 1) + j) * 256 + 256) c))
-        → Each (λ x. Stands N B x) (liveFrom i j (k ∷ slotsAt s ((i * (B + 1) + j) * 256 + 256) c))
+    go : (k : Slot) → slotOf (take 256 (drop ((i * (B + 1) + j) * 256) s)) ≡ k → Each P (liveFrom i (suc j) (slotsAt s ((i * (B + 1) + j) * 256 + 256) c))
+        → Each P (liveFrom i j (k ∷ slotsAt s ((i * (B + 1) + j) * 256 + 256) c))
     go empty q k = unfold liveFrom liveAt entryOf map in k
     go torn q k = unfold liveFrom liveAt entryOf map in k
     go dead q k = unfold liveFrom liveAt entryOf map in k
     go cut q k = unfold liveFrom liveAt entryOf map in k
     go wrong q k = unfold liveFrom liveAt entryOf map in k
-    go (live b d) q k = unfold liveFrom liveAt entryOf map in (live-stands N B i j s b d h l (omega arith) q, k)
+    go (live b d) q k = unfold liveFrom liveAt entryOf map in (f j b d l (omega arith) q, k)
+
+pub row-stands : (N B i : ℕ) (s : Image) → i < N → (c j : ℕ) → 1 ≤ j → j + c ≤ B + 1 → Each (λ e. Stands N B e) (liveFrom i j (slotsAt s ((i * (B + 1) + j) * 256) c))
+row-stands N B i s h = row-each (λ e. Stands N B e) B i s (λ j b c l m e. live-stands N B i j s b c h l m e)

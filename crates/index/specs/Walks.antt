@@ -140,13 +140,16 @@ top-row N B s l p h P a b = go (getD l (topIndex N l) blank) refl
         let u : isInUse (getD l (topIndex N l) blank) ≡ true = ap isInUse e ∙ (unfold isInUse in refl) in
         subst P (sym (h .slots (topIndex N l) (top-below N l p) u) ∙ ap slotsIn e) b
 
-pub in-stands : (N B : ℕ) (s : Image) → 0 < N → (u : ℕ) (l : List Segment) → Held N B s l → Each (λ e. Stands N B e) (liveIn N u l)
+-- what holds of the live slots of every segment, holds of all
+pub in-each : (P : LiveSlot → Type 0) (N B : ℕ) (s : Image) → 0 < N → ((i : ℕ) → i < N → Each P (liveFrom i 1 (slotsAt s (slotsOffset B i) B))) → (u : ℕ) (l : List Segment) → Held N B s l → Each P (liveIn N u l)
 unfolding liveIn
-in-stands N B s p zero l h = tt
-in-stands N B s p (suc u) l h =
-    each-join (λ e. Stands N B e) (liveIn N u (set l (topIndex N l) blank)) (liveFrom (topIndex N l) 1 (topSlots N l)) (in-stands N B s p u (set l (topIndex N l) blank) (held-less N B s l p h))
-    (top-row N B s l p h (λ (ks : List Slot). Each (λ e. Stands N B e) (liveFrom (topIndex N l) 1 ks)) (unfold liveFrom in tt)
-    (row-stands N B (topIndex N l) s (top-below N l p) B 1 (omega arith) (omega arith)))
+in-each P N B s p f zero l h = tt
+in-each P N B s p f (suc u) l h =
+    each-join P (liveIn N u (set l (topIndex N l) blank)) (liveFrom (topIndex N l) 1 (topSlots N l)) (in-each P N B s p f u (set l (topIndex N l) blank) (held-less N B s l p h))
+    (top-row N B s l p h (λ (ks : List Slot). Each P (liveFrom (topIndex N l) 1 ks)) (unfold liveFrom in tt) (f (topIndex N l) (top-below N l p)))
+
+pub in-stands : (N B : ℕ) (s : Image) → 0 < N → (u : ℕ) (l : List Segment) → Held N B s l → Each (λ e. Stands N B e) (liveIn N u l)
+in-stands N B s p = in-each (λ e. Stands N B e) N B s p (λ i h. row-stands N B i s h B 1 (omega arith) (omega arith))
 
 -- each is in a segment in use
 in-use : (N B : ℕ) (s : Image) → 0 < N → (u : ℕ) (l : List Segment) → Held N B s l → Each (λ e. isInUse (getD l (e .segment) blank) ≡ true) (liveIn N u l)

@@ -1,9 +1,9 @@
--- `fresh::none_of` says of eight entries that they are 0 if joined they are. Assumes nothing.
+-- `skipping::none_of` says of eight entries that they are 0 if joined they are. Assumes nothing.
 use denote.Ref.{now}
-use Rattle.fresh.proofs.Laws.{none-joined}
+use Rattle.skipping.proofs.Laws.{none-joined}
 use borrow.Author.Needs.{needs}
-use Rattle.fresh.proofs.none_of.Statement.{statement}
-use Rattle.fresh.proofs.none_of.Tie as tie
+use Rattle.skipping.proofs.none_of.Statement.{statement}
+use Rattle.skipping.proofs.none_of.Tie as tie
 
 shared-slice-read-result : tie.Need-shared-slice-read-result
 shared-slice-read-result c = search needs

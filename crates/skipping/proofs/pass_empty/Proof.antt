@@ -1,13 +1,13 @@
--- `fresh::pass_empty` passes over entries of 0. The invariant: those from `from` to `block` are 0. Assumes nothing.
+-- `skipping::pass_empty` passes over entries of 0. The invariant: those from `from` to `block` are 0. Assumes nothing.
 use Prim.Native.Nat.{_-_}
 use native.Mathlib.Omega.{arith}
 use borrow.Author.Tests.{not-false}
 use Rattle.model.specs.Mounted.{leastPlaces}
-use Rattle.fresh.proofs.Laws.{passed-none, passed-eight}
-use Rattle.fresh.specs.Fresh.{Passed}
+use Rattle.skipping.proofs.Laws.{passed-none, passed-eight}
+use Rattle.skipping.specs.Passed.{Passed}
 use borrow.Author.Needs.{needs}
-use Rattle.fresh.proofs.pass_empty.Statement.{statement}
-use Rattle.fresh.proofs.pass_empty.Tie as tie
+use Rattle.skipping.proofs.pass_empty.Statement.{statement}
+use Rattle.skipping.proofs.pass_empty.Tie as tie
 
 abbrev Inv-loop : tie.InvT-loop
 Inv-loop places from block₀ block = Passed places from block

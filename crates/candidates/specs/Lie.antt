@@ -1,0 +1,45 @@
+-- Every candidate stands in the image.
+use Prim.Native.Nat.{ℕ, suc, _+_, _*_, _%_, _≤_, _<_}
+use mathlib.Core.Path.{_≡_, refl}
+use mathlib.Core.Bool.{Bool, true, false, cond}
+use mathlib.Core.List.{List, [], _∷_}
+use native.Mathlib.Omega.{arith}
+use native.Mathlib.Nat.{suc-mul, mul-le-mul-right, mod-lt}
+use lib.ListN.{length, getD, take, drop}
+use Rattle.model.specs.Chip.{Image}
+use Rattle.model.specs.Slot.{live, slotOf}
+use Rattle.model.specs.State.{Segment, blank, isInUse, isOwing, segmentsOf, nextIndex, nextNumber, topIndex, nextBlanked, usedCount}
+use Rattle.account_text.specs.Account.{LiveSlot, liveIn, liveSlots}
+use Rattle.index.specs.Tables.{pageOf, Stands}
+use Rattle.index.specs.Lives.{Each, row-each, live-stands}
+use Rattle.index.specs.Walks.{Held, held-all, held-without, in-each}
+use Rattle.salvage.specs.Salvage.{regarded, candidates}
+use Rattle.candidates.specs.Gathered.{Lies}
+use Rattle.candidates.specs.Told.{AllLie}
+
+-- what is looked at are segments of the image
+pub held-regarded : (N B : ℕ) (s : Image) → 0 < N → Held N B s (regarded N (segmentsOf N B s))
+unfolding regarded nextBlanked nextIndex
+held-regarded N B s p = go (isOwing (getD (segmentsOf N B s) (topIndex N (segmentsOf N B s)) blank))
+  where
+    unused : isInUse blank ≡ false
+    unused = unfold isInUse in refl
+
+    go : (t : Bool) → Held N B s (cond t (nextBlanked N (segmentsOf N B s)) (segmentsOf N B s))
+    go true = held-without N B s (segmentsOf N B s) (nextNumber (segmentsOf N B s) % N) blank unused (mod-lt (nextNumber (segmentsOf N B s)) p) (held-all N B s)
+    go false = held-all N B s
+
+module _ (N B : ℕ) (s : Image) (p : 0 < N) (whole : N * (B + 1) * 256 ≤ length s) where
+  slot-lies : (i : ℕ) → i < N → (j b : ℕ) (c : List ℕ) → 1 ≤ j → j ≤ B → slotOf (take 256 (drop ((i * (B + 1) + j) * 256) s)) ≡ live b c → Lies N B s (record { block = b; contents = c; segment = i; slot = j })
+  unfolding pageOf
+  slot-lies i h j b c l m e = record { stands = live-stands N B i j s b c h l m e; inside = omega (arith, whole, suc-mul i (B + 1), mul-le-mul-right (B + 1) h); page = e }
+
+  all-lie : (r : List LiveSlot) → Each (λ e. Lies N B s e) r → AllLie N B s r
+  all-lie [] h = h
+  all-lie (e ∷ r) h = (h .0, all-lie r (h .1))
+
+  pub candidates-lie : AllLie N B s (candidates N (segmentsOf N B s))
+  unfolding candidates liveSlots
+  candidates-lie =
+      let l = regarded N (segmentsOf N B s) in
+      all-lie (liveIn N (usedCount l) l) (in-each (λ e. Lies N B s e) N B s p (λ i h. row-each (λ e. Lies N B s e) B i s (slot-lies i h) B 1 (omega arith) (omega arith)) (usedCount l) l (held-regarded N B s p))
