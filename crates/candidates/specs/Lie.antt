@@ -6,13 +6,13 @@ use mathlib.Core.List.{List, [], _∷_}
 use native.Mathlib.Omega.{arith}
 use native.Mathlib.Nat.{suc-mul, mul-le-mul-right, mod-lt}
 use lib.ListN.{length, getD, take, drop}
-use Rattle.model.specs.Chip.{Image}
+use Rattle.model.specs.Chip.{Image, mostSegments, mostSlots}
 use Rattle.model.specs.Slot.{live, slotOf}
 use Rattle.model.specs.State.{Segment, blank, isInUse, isOwing, segmentsOf, nextIndex, nextNumber, topIndex, nextBlanked, usedCount}
 use Rattle.account_text.specs.Account.{LiveSlot, liveIn, liveSlots}
-use Rattle.index.specs.Tables.{pageOf, Stands}
+use Rattle.index.specs.Tables.{mostPages, pageOf, Stands}
 use Rattle.index.specs.Lives.{Each, row-each, live-stands}
-use Rattle.index.specs.Walks.{Held, held-all, held-without, in-each}
+use Rattle.index.specs.Walks.{Held, held-all, held-without, used-most, in-each, in-few}
 use Rattle.salvage.specs.Salvage.{regarded, candidates}
 use Rattle.candidates.specs.Gathered.{Lies}
 use Rattle.candidates.specs.Told.{AllLie}
@@ -28,6 +28,16 @@ held-regarded N B s p = go (isOwing (getD (segmentsOf N B s) (topIndex N (segmen
     go : (t : Bool) → Held N B s (cond t (nextBlanked N (segmentsOf N B s)) (segmentsOf N B s))
     go true = held-without N B s (segmentsOf N B s) (nextNumber (segmentsOf N B s) % N) blank unused (mod-lt (nextNumber (segmentsOf N B s)) p) (held-all N B s)
     go false = held-all N B s
+
+-- and there are fewer than block numbers
+pub candidates-few : (N B : ℕ) (s : Image) → 0 < N → N ≤ mostSegments → B ≤ mostSlots → length (candidates N (segmentsOf N B s)) < mostPages
+unfolding candidates liveSlots
+candidates-few N B s p n b =
+    let l = regarded N (segmentsOf N B s) in
+    let h = held-regarded N B s p in
+    let u : usedCount l * B ≤ N * B = mul-le-mul-right B (omega (arith, used-most l, h .count)) in
+    let m : N * B ≤ mostSegments * B = mul-le-mul-right B n in
+    omega (arith, in-few N B s p (usedCount l) l h, u, m)
 
 module _ (N B : ℕ) (s : Image) (p : 0 < N) (whole : N * (B + 1) * 256 ≤ length s) where
   slot-lies : (i : ℕ) → i < N → (j b : ℕ) (c : List ℕ) → 1 ≤ j → j ≤ B → slotOf (take 256 (drop ((i * (B + 1) + j) * 256) s)) ≡ live b c → Lies N B s (record { block = b; contents = c; segment = i; slot = j })

@@ -224,7 +224,7 @@ in-few N B s p (suc u) l h =
 
 -- ---- the tables that they are put into
 
-used-most : (l : List Segment) → usedCount l ≤ length l
+pub used-most : (l : List Segment) → usedCount l ≤ length l
 unfolding usedCount count
 used-most [] = omega arith
 used-most (x ∷ l) = go (isInUse x) (used-most l)

@@ -21,7 +21,7 @@ use Rattle.index.specs.declared.Shown.{Shown}
 use Rattle.index.specs.Shows.{countsLine, lineBy, shownLine, shownLines}
 use Rattle.index.specs.Chains.{page-few}
 use Rattle.index.specs.Tables.{mostPages, pageOf, ofBlock, Chain, Stands, AllStand, blocksBelow}
-use Rattle.index.specs.Sorted.{AllOf, below-few, sorted, stand-below}
+use Rattle.index.specs.Sorted.{AllBelow, AllOf, below-few, sorted}
 
 -- ---- segments
 
@@ -91,7 +91,8 @@ page-segment N B e t =
     let b : e .segment * (B + 1) + p % (B + 1) ≡ p = rw d at a in
     (d, omega arith)
 
-chain-none : (B : ℕ) (nexts lengths : List ℕ) (p : ℕ) (r : List LiveSlot) → Chain B nexts lengths p r → p ≡ 0 → r ≡ []
+-- a chain from page 0 has no live slot
+pub chain-none : (B : ℕ) (nexts lengths : List ℕ) (p : ℕ) (r : List LiveSlot) → Chain B nexts lengths p r → p ≡ 0 → r ≡ []
 chain-none B nexts lengths p [] c h = refl
 chain-none B nexts lengths p (e ∷ r) c h = absurd (let z = c .1 in omega arith)
 
@@ -106,11 +107,6 @@ line-same e b n i j p q r t = rw (p, q, r, t)
 lines-cons : (e : LiveSlot) (r : List LiveSlot) → blockLines (e ∷ r) ≡ blockLine e ++ blockLines r
 unfolding blockLines flatMap
 lines-cons e r = refl
-
-lines-append : (a b : List LiveSlot) → blockLines (a ++ b) ≡ blockLines a ++ blockLines b
-unfolding blockLines flatMap
-lines-append [] b = refl
-lines-append (e ∷ a) b = ap (λ (z : List ℕ). blockLine e ++ z) (lines-append a b) ∙ sym (append-assoc (blockLine e) (blockLines a) (blockLines b))
 
 -- how far the lines of a block's chain are written: those of the pages from here on are left
 pub record Walk (N B : ℕ) (s nexts lengths : List ℕ) (block : ℕ) (whole : List LiveSlot) (start : List ℕ) (at : ℕ) (text : List ℕ) (page end : ℕ) : Type 0 where
@@ -208,52 +204,55 @@ module _ {N B : ℕ} {s nexts lengths : List ℕ} {block : ℕ} {whole : List Li
       let q = w .near in
       (wrote-as (blockLines whole) (sym (append-nil (w .lines)) ∙ all) (w .wrote), omega arith)
 
--- ---- all blocks in turn
+-- ---- all blocks in turn, each of their live slots with a line
+
+flat-append : (f : LiveSlot → List ℕ) (a b : List LiveSlot) → flatMap f (a ++ b) ≡ flatMap f a ++ flatMap f b
+unfolding flatMap
+flat-append f [] b = refl
+flat-append f (e ∷ a) b = ap (λ (z : List ℕ). f e ++ z) (flat-append f a b) ∙ sym (append-assoc (f e) (flatMap f a) (flatMap f b))
 
 -- how far they are written: those of the block numbers below one
-pub record Blocks (r : List LiveSlot) (start : List ℕ) (at : ℕ) (text : List ℕ) (block end : ℕ) : Type 0 where
-  pub wrote : Wrote (blockLines (blocksBelow block r)) start at text end
+pub record Blocks (f : LiveSlot → List ℕ) (r : List LiveSlot) (start : List ℕ) (at : ℕ) (text : List ℕ) (block end : ℕ) : Type 0 where
+  pub wrote : Wrote (flatMap f (blocksBelow block r)) start at text end
   pub near : end ≤ at + 80 * length (blocksBelow block r)
   pub upto : block ≤ mostPages
 
-pub blocks-start : (r : List LiveSlot) (start : List ℕ) (at : ℕ) → Blocks r start at start 0 at
-unfolding blocksBelow blockLines flatMap
-blocks-start r start at = record { wrote = wrote-none start at; near = omega arith; upto = omega arith }
+pub blocks-start : (f : LiveSlot → List ℕ) (r : List LiveSlot) (start : List ℕ) (at : ℕ) → Blocks f r start at start 0 at
+unfolding blocksBelow flatMap
+blocks-start f r start at = record { wrote = wrote-none start at; near = omega arith; upto = omega arith }
 
-pub blocks-more : {r : List LiveSlot} {start : List ℕ} {at : ℕ} {text after : List ℕ} {block end then-end : ℕ} → Blocks r start at text block end → block < mostPages
-    → Wrote (blockLines (ofBlock block r)) text end after then-end → then-end ≤ end + 80 * length (ofBlock block r) → Blocks r start at after (block + 1) then-end
-unfolding blocksBelow
-blocks-more {r} {start} {at} {text} {after} {block} {end} {then-end} b h w n =
-    let l = length-append (blocksBelow block r) (ofBlock block r) in
-    let q = b .near in
-    rw (add-one block) record {
-      wrote = wrote-as (blockLines (blocksBelow block r ++ ofBlock block r)) (sym (lines-append (blocksBelow block r) (ofBlock block r))) (b .wrote then w);
-      near = omega arith;
-      upto = omega arith;
-    }
+module _ {f : LiveSlot → List ℕ} {r : List LiveSlot} {start : List ℕ} {at : ℕ} where
+  pub blocks-more : {text after : List ℕ} {block end then-end : ℕ} → Blocks f r start at text block end → block < mostPages
+      → Wrote (flatMap f (ofBlock block r)) text end after then-end → then-end ≤ end + 80 * length (ofBlock block r) → Blocks f r start at after (block + 1) then-end
+  unfolding blocksBelow
+  blocks-more {text} {after} {block} {end} {then-end} b h w n =
+      let l = length-append (blocksBelow block r) (ofBlock block r) in
+      let q = b .near in
+      rw (add-one block) record {
+        wrote = wrote-as (flatMap f (blocksBelow block r ++ ofBlock block r)) (sym (flat-append f (blocksBelow block r) (ofBlock block r))) (b .wrote then w);
+        near = omega arith;
+        upto = omega arith;
+      }
 
--- a block without a first page has no lines
-pub blocks-none : {r : List LiveSlot} {start : List ℕ} {at : ℕ} {text : List ℕ} {block end : ℕ} (B page : ℕ) (nexts lengths : List ℕ) → Chain B nexts lengths page (ofBlock block r) → page ≡ 0 → Blocks r start at text block end
-    → block < mostPages → Blocks r start at text (block + 1) end
-unfolding blockLines flatMap
-blocks-none {r} {start} {at} {text} {block} {end} B page nexts lengths c e b h =
-    let none : [] ≡ ofBlock block r = sym (chain-none B nexts lengths page (ofBlock block r) c e) in
-    blocks-more b h (wrote-as (blockLines (ofBlock block r)) (ap blockLines none) (wrote-none text end)) (omega arith)
+  -- a block without a live slot has no line
+  pub blocks-none : {text : List ℕ} {block end : ℕ} → ofBlock block r ≡ [] → Blocks f r start at text block end → block < mostPages → Blocks f r start at text (block + 1) end
+  unfolding flatMap
+  blocks-none {text} {block} {end} none b h = blocks-more b h (wrote-as (flatMap f (ofBlock block r)) (ap (flatMap f) (sym none)) (wrote-none text end)) (omega arith)
 
--- the same text and offset by other names
-pub blocks-as : {r : List LiveSlot} {start : List ℕ} {at : ℕ} {text other : List ℕ} {block end behind : ℕ} → text ≡ other → end ≡ behind → Blocks r start at other block behind → Blocks r start at text block end
-blocks-as {r} {start} {at} {text} {other} {block} {end} {behind} e f b =
-    subst (λ (k : ℕ). Blocks r start at text block k) (sym f) (subst (λ (z : List ℕ). Blocks r start at z block behind) (sym e) b)
+  -- the same text and offset by other names
+  pub blocks-as : {text other : List ℕ} {block end behind : ℕ} → text ≡ other → end ≡ behind → Blocks f r start at other block behind → Blocks f r start at text block end
+  blocks-as {text} {other} {block} {end} {behind} e g b =
+      subst (λ (k : ℕ). Blocks f r start at text block k) (sym g) (subst (λ (z : List ℕ). Blocks f r start at z block behind) (sym e) b)
 
--- and there is room for the next
-pub blocks-room : {r : List LiveSlot} {start : List ℕ} {at : ℕ} {text : List ℕ} {block end : ℕ} → Blocks r start at text block end → end ≤ at + 80 * length r
-blocks-room {r} {start} {at} {text} {block} {end} b = let q = b .near in let f = below-few block r in omega arith
+  -- and there is room for the next
+  pub blocks-room : {text : List ℕ} {block end : ℕ} → Blocks f r start at text block end → end ≤ at + 80 * length r
+  blocks-room {text} {block} {end} b = let q = b .near in let g = below-few block r in omega arith
 
-pub blocks-end : (N B : ℕ) (s : List ℕ) {r : List LiveSlot} {start : List ℕ} {at : ℕ} {text : List ℕ} {block end : ℕ} → AllStand N B r → length r < mostPages → Blocks r start at text block end → mostPages ≤ block
-    → Wrote (blockLines (byBlock r)) start at text end × (end ≤ at + 80 * 65536)
-blocks-end N B s {r} {start} {at} {text} {block} {end} t f b h =
-    let u = b .upto in
-    let e : block ≡ mostPages = omega arith in
-    let q = blocks-room b in
-    let g : blocksBelow block r ≡ byBlock r = ap (λ (k : ℕ). blocksBelow k r) e ∙ sym (sorted mostPages r (stand-below N B r t)) in
-    (wrote-as (blockLines (byBlock r)) (ap blockLines g) (b .wrote), omega arith)
+  pub blocks-end : {text : List ℕ} {block end : ℕ} → AllBelow mostPages r → length r < mostPages → Blocks f r start at text block end → mostPages ≤ block
+      → Wrote (flatMap f (byBlock r)) start at text end × (end ≤ at + 80 * 65536)
+  blocks-end {text} {block} {end} t g b h =
+      let u = b .upto in
+      let e : block ≡ mostPages = omega arith in
+      let q = blocks-room b in
+      let k : blocksBelow block r ≡ byBlock r = ap (λ (z : ℕ). blocksBelow z r) e ∙ sym (sorted mostPages r t) in
+      (wrote-as (flatMap f (byBlock r)) (ap (flatMap f) k) (b .wrote), omega arith)

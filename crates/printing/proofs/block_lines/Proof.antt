@@ -5,20 +5,21 @@ use native.Mathlib.Omega.{arith}
 use borrow.Author.Needs.{needs}
 use denote.Ref.{now}
 use lib.ListN.{getD}
+use Rattle.account_text.specs.Account.{blockLine, blockLines}
 use Rattle.index.specs.Tables.{mostPages, listOf}
-use Rattle.index.specs.Sorted.{of-few, stand-of}
-use Rattle.printing.proofs.Laws.{Blocks, blocks-start, blocks-more, blocks-none, blocks-as, blocks-room, blocks-end}
+use Rattle.index.specs.Sorted.{of-few, stand-of, stand-below}
+use Rattle.printing.proofs.Laws.{chain-none, Blocks, blocks-start, blocks-more, blocks-none, blocks-as, blocks-room, blocks-end}
 use Rattle.printing.proofs.block_lines.Statement.{statement}
 use Rattle.printing.proofs.block_lines.Tie as tie
 
 abbrev Inv-loop : tie.InvT-loop
-Inv-loop image segments slots firsts nexts lengths text₀ at end₀ block₀ text end block = Blocks (listOf segments slots image) text₀ at text block end
+Inv-loop image segments slots firsts nexts lengths text₀ at end₀ block₀ text end block = Blocks blockLine (listOf segments slots image) text₀ at text block end
 
 abbrev μ-loop : tie.MeasureT-loop
 μ-loop image segments slots firsts nexts lengths text₀ at end₀ block₀ text end block = mostPages - block
 
 loop-holds : tie.Need-loop-holds Inv-loop μ-loop
-loop-holds c = blocks-start _ _ _
+loop-holds c = blocks-start _ _ _ _
 
 mul-first : tie.Need-mul-first Inv-loop μ-loop
 mul-first c = search needs
@@ -49,6 +50,7 @@ loop-less : tie.Need-loop-less Inv-loop μ-loop
 loop-less c = search needs
 
 loop-again : tie.Need-loop-again Inv-loop μ-loop
+unfolding blockLines
 loop-again c =
     let s = c .before .before .before .before .before .before in
     let a = s .args in
@@ -57,18 +59,19 @@ loop-again c =
     let t = c .before .before .loop-test .taken in
     ⊎-elim
     (λ w. blocks-as (w .5) (w .6) (blocks-more (l .inv) t (w .2 .ensures .0) (w .2 .ensures .1)))
-    (λ w. blocks-as (w .1) (w .2) (blocks-none (a .slots) (getD (now (a .firsts)) (l .block) 0) (now (a .nexts)) (now (a .lengths)) (i .listed (l .block)) (omega (arith, w .0 .left)) (l .inv) t))
+    (λ w. blocks-as (w .1) (w .2) (blocks-none (chain-none (a .slots) (now (a .nexts)) (now (a .lengths)) (getD (now (a .firsts)) (l .block) 0) _ (i .listed (l .block)) (omega (arith, w .0 .left))) (l .inv) t))
     (c .if1 .came)
 
 same-length : tie.Need-same-length Inv-loop μ-loop
 same-length c = search needs
 
 returns : tie.Need-returns Inv-loop μ-loop
+unfolding blockLines
 returns c =
     let s = c .before .before .before .before in
     let a = s .args in
     let i = s .pre .1 in
-    blocks-end (a .segments) (a .slots) (now (a .image)) (i .stands) (i .few) (c .before .loop .inv) (c .loop-test .left)
+    blocks-end (stand-below (a .segments) (a .slots) (listOf (a .segments) (a .slots) (now (a .image))) (i .stands)) (i .few) (c .before .loop .inv) (c .loop-test .left)
 
 pub block-lines-spec : {M : Type 1} → statement M
 block-lines-spec =
