@@ -1,3 +1,5 @@
--- The definitions, and boards salvaged.
+-- The definitions, boards salvaged, and laws.
 pub mod Salvage
 pub mod Boards
+pub mod Given
+pub mod Ring
