@@ -1,0 +1,4 @@
+-- The statements, and their proofs.
+pub mod Law
+pub mod Kept
+pub mod Shown
