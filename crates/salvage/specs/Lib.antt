@@ -3,3 +3,4 @@ pub mod Salvage
 pub mod Boards
 pub mod Given
 pub mod Ring
+pub mod Facts
