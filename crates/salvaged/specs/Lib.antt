@@ -2,3 +2,6 @@
 pub mod Law
 pub mod Kept
 pub mod Shown
+pub mod Lines
+pub mod Histories
+pub mod Rebuilt

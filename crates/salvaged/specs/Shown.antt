@@ -199,3 +199,6 @@ salvaged-table = λ N B s z n. go N B s z n (state N B s) refl
         let l = segmentsOf N B s in
         salvaged-lasts N B s ∙ (case-given N B l x (segments-length N B s) (size-facts N B s z .two) (case-of N B l x (unfold state in e)) ∙ sym (mended-shown N B s x z e (recovery-mends N B s z x e)))
     go N B s z n damaged e = absurd (n e)
+
+pub clean-fine : (x : State) → x ≡ clean → x ≢ damaged
+clean-fine x e f = let y : _≡_ {A = ℕ} 0 1 = cc in omega arith
