@@ -26,7 +26,7 @@ use Rattle.moves.specs.Moves.{byNumber, freshWork}
 use Rattle.moves.specs.Sorted.{sorted-length, sorted-distinct, sorted-valids}
 use Rattle.moves.specs.Fresh.{Fits}
 use Rattle.moves.specs.Works.{Sees, few-steps, same-work}
-use Rattle.salvage.specs.Salvage.{regarded, candidates, heldIn, given, salvaged, rebuildRefusals, rebuildWork, rebuildOutcome}
+use Rattle.salvage.specs.Salvage.{regarded, candidates, heldIn, salvaged, rebuildRefusals, rebuildWork, rebuildOutcome}
 use Rattle.salvage.specs.Given.{given-lasts, given-distinct, valid-lasts}
 use Rattle.salvage.specs.Ring.{held-append, held-from}
 -- so that a wrong definition is refused by what it computes before it is by a law

@@ -1,17 +1,15 @@
 -- Of each block number the last: as entries, it is a table with each number once, of the numbers that the candidates have; and where each number is there once, it is all of them.
-use Prim.Native.Nat.{ℕ, suc}
+use Prim.Native.Nat.{ℕ}
 use mathlib.Core.Path.{_≡_, refl, sym, ap, _∙_}
-use mathlib.Core.Bool.{Bool, true, false, cond, _||_, _&&_, not, true≢false, and-eq-true-iff}
-use mathlib.Core.List.{List, [], _∷_, _++_, map}
+use mathlib.Core.Bool.{Bool, true, false, cond, _||_, not, and-eq-true-iff}
+use mathlib.Core.List.{List, [], _∷_, map}
 use native.Mathlib.Omega.{arith}
-use native.Mathlib.Decide.{ℕ-discrete}
 use lib.Dec.{eqb}
-use borrow.Author.Tests.{eqb-true, eqb-false, eq-eqb, not-true}
-use Rattle.model.specs.Slot.{Entry}
+use borrow.Author.Tests.{eqb-true, eqb-false, not-true}
 use Rattle.model.specs.State.{holds, distinct, copies}
 use Rattle.model.specs.Table.{Table}
 use Rattle.model.specs.Laws.CopyOut.{Valids}
-use Rattle.model.specs.Laws.Tables.{copies-none, copies-cons-same, copies-cons-other, absent-copies, held-copies, copies-absent, distinct-copies, copies-distinct, withoutFirst}
+use Rattle.model.specs.Laws.Tables.{copies-none, copies-cons-same, copies-cons-other, absent-copies, withoutFirst}
 use Rattle.account_text.specs.Account.{LiveSlot}
 use Rattle.salvage.specs.Salvage.{heldIn, given}
 -- so that a wrong definition is refused by what it computes before it is by a law

@@ -1,20 +1,19 @@
 -- Where the segments in use have consecutive numbers, the live slots by rising number are the entries of the view.
 use Prim.Native.Nat.{ℕ, zero, suc, _+_, _-_, _%_, _≤_, _<_}
-use mathlib.Core.Path.{_≡_, refl, sym, ap, ap₂, _∙_, subst}
-use mathlib.Core.Logic.{_≢_}
-use mathlib.Core.Bool.{true, false, false≢true}
-use mathlib.Core.List.{List, [], _∷_, _++_, map, flatten, flatMap, append-nil}
+use mathlib.Core.Path.{_≡_, refl, sym, ap, _∙_}
+use mathlib.Core.Bool.{true, false≢true}
+use mathlib.Core.List.{List, [], _∷_, _++_, map, flatten, flatMap}
 use native.Mathlib.Omega.{arith}
 use native.Mathlib.Decide.{decLt}
 use native.Mathlib.Nat.{mod-lt}
 use lib.ListN.{length, getD, set, length-set}
 use lib.Dec.{eqb}
-use Rattle.model.specs.Slot.{Slot, empty, torn, dead, cut, wrong, live, Entry, entryOf}
+use Rattle.model.specs.Slot.{Slot, empty, torn, dead, cut, wrong, live, entryOf}
 use Rattle.model.specs.State.{Segment, blank, isInUse, numberAfter, slotsIn, nextNumber, topIndex, topSlots, usedCount, firstNumber, slotsFrom, viewOf, entries, entriesIn, numbersFrom, isClean}
 use Rattle.model.specs.Table.{Table}
 use Rattle.model.specs.Laws.Lists.{and-left, and-right, and-both, flatten-last}
 use Rattle.model.specs.Laws.Ring.{next-ge, next-at, used-less, Apart, apart-before, slots-apart, numbers-apart, slots-snoc, numbers-get, number-in-use, only-numbered}
-use Rattle.model.specs.Laws.Clean.{RingFacts, clean-ring, used-next}
+use Rattle.model.specs.Laws.Clean.{RingFacts, clean-ring}
 use Rattle.bridge.specs.Views.Slots.{entries-append}
 use Rattle.account_text.specs.Account.{LiveSlot, liveAt, liveFrom, liveIn, liveSlots}
 use Rattle.salvage.specs.Salvage.{heldIn}

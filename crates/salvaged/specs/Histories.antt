@@ -1,22 +1,22 @@
 -- Whatever is promised of an image, what is salvaged from it keeps that; so after every history, and after a cut anywhere.
 use Prim.Native.Nat.{ℕ}
 use mathlib.Core.Path.{_≡_, refl, sym, ap, _∙_, subst}
-use mathlib.Core.Logic.{_⊎_, inl, inr, ⊎-elim}
+use mathlib.Core.Logic.{inl, inr, ⊎-elim}
 use mathlib.Core.Bool.{true, false}
 use mathlib.Core.List.{List, [], _∷_, _++_}
 use lib.ListN.{take}
 use Rattle.model.specs.Chip.{Image, rightSize}
 use Rattle.model.specs.State.{state}
-use Rattle.model.specs.Table.{Table, Agree, tableOf}
+use Rattle.model.specs.Table.{Table, tableOf}
 use Rattle.model.specs.Answers.{Request, workOf, outcomeOf}
 use Rattle.model.specs.Histories.{Seen, answered, lost, Does, Event, History, shown}
 use Rattle.model.specs.Laws.Chip.{run-size, cut-size}
 use Rattle.model.specs.Laws.Tables.{agree-of, agree-trans}
-use Rattle.crash.specs.Machine.{Promise, settled, interrupted, unknown, next, OnTable, IsCut, Holds, Moves, PlainRuns, NoFormat}
+use Rattle.crash.specs.Machine.{Promise, settled, interrupted, unknown, OnTable, Holds, PlainRuns, NoFormat}
 use Rattle.crash.specs.Demand2.{Keeps, board}
 use Rattle.crash.specs.Requests.{shown-clean}
 use Rattle.crash.specs.Reading.{cut-code, format-starts, cut-old-or-new}
-use Rattle.crash.specs.ReadingRuns.{Known, FinishedFormat, runs-known, runs-append, none-front}
+use Rattle.crash.specs.ReadingRuns.{Known, runs-known, runs-append, none-front}
 use Rattle.crash.specs.Theorem.{demand2, from-clean, from-former, from-former-left}
 use Rattle.sessions.specs.Law.{eventsIn}
 use Rattle.sessions.specs.Theorem.{unmounted-history}
@@ -78,7 +78,11 @@ cut-anywhere = λ N B s u past es f e z h done none cut.
     let (x, since, (end, moving, nothing)) = runs-append C es (e ∷ []) fresh y rest in
     let known : Known x = runs-known C es fresh x since (none-front es (e ∷ []) none) (subst Known (sym begun) tt) in
     let (t, holding) = known-table x known in
-    let kept : Salvages N B u y = keeps-salvages N B u y (history-size N B s all u h ∙ z) keeps in
-    (x, t, subst (λ (p : Promise). PlainRuns C p es x) begun since, holding,
-    ⊎-elim (λ q. inl (subst (λ (p : Promise). Salvages N B u p) (nothing ∙ q) kept)) (λ q. inr (subst (λ (p : Promise). Salvages N B u p) (nothing ∙ q) kept))
-    (cut-old-or-new moving t holding (last-on-table es e none) (cut-code (e .seen) cut)))
+    let kept : Salvages N B u y = keeps-salvages N B u y (history-size N B s all u h ∙ z) keeps in (
+      x,
+      t,
+      subst (λ (p : Promise). PlainRuns C p es x) begun since,
+      holding,
+      ⊎-elim (λ q. inl (subst (λ (p : Promise). Salvages N B u p) (nothing ∙ q) kept)) (λ q. inr (subst (λ (p : Promise). Salvages N B u p) (nothing ∙ q) kept))
+          (cut-old-or-new moving t holding (last-on-table es e none) (cut-code (e .seen) cut)),
+    )

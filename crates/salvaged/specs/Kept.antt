@@ -1,16 +1,16 @@
 -- A segment replaced by one that counts alike: the same number, in use as it was. What mends an unfinished image is such a replacement, but for the segment after an owing top.
-use Prim.Native.Nat.{ℕ, zero, suc, _-_, _%_, _≤_, _<_}
+use Prim.Native.Nat.{ℕ, zero, suc, _%_, _<_}
 use mathlib.Core.Path.{_≡_, refl, sym, ap, ap₂, _∙_}
 use mathlib.Core.Bool.{Bool, true, false, not}
-use mathlib.Core.List.{List, [], _∷_, _++_, map, flatten, flatMap}
+use mathlib.Core.List.{List, [], _∷_, _++_, map, flatten}
 use native.Mathlib.Omega.{arith}
 use lib.ListN.{length, getD, set, length-set}
 use Rattle.model.specs.Slot.{Slot, empty, Entry, entryOf}
-use Rattle.model.specs.State.{Segment, blank, invalid, inUse, isInUse, isInvalid, isOwing, numberAfter, slotsIn, ofVersion, nextNumber, usedCount, firstNumber, slotsFrom, numbersFrom, viewOf, entries, entriesIn, noneOwing, othersBlank, isClean, withSlot, blocksDistinct}
+use Rattle.model.specs.State.{Segment, blank, invalid, inUse, isInUse, isInvalid, isOwing, numberAfter, slotsIn, ofVersion, usedCount, firstNumber, slotsFrom, viewOf, entries, entriesIn, noneOwing, othersBlank, isClean, withSlot, blocksDistinct}
 use Rattle.model.specs.Laws.Lists.{all-same}
 use Rattle.model.specs.Laws.Ring.{next-kept, used-kept, get-kept, numbers-kept}
 use Rattle.model.specs.Laws.Clean.{RingFacts, clean-ring, clean-slots}
-use Rattle.model.specs.Laws.View.{withSlot-number, withSlot-use, withSlot-owing, withSlot-invalid, withSlot-of, one-kept}
+use Rattle.model.specs.Laws.View.{one-kept}
 use Rattle.model.specs.Laws.Exclusive.{no-owing}
 use Rattle.bridge.specs.Views.Slots.{entries-append, entries-cons}
 use Rattle.account_text.specs.Account.{liveSlots}

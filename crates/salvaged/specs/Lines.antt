@@ -1,14 +1,13 @@
 -- The report on a clean image: every live slot has its line, and each says `same`.
 use Prim.Native.Nat.{ℕ}
-use mathlib.Core.Path.{_≡_, refl, sym, ap, ap₂, _∙_}
+use mathlib.Core.Path.{_≡_, refl, sym, ap, _∙_}
 use mathlib.Core.Bool.{Bool, true, false, cond, _||_, _&&_, not, true≢false, or-true, and-eq-true-iff}
 use mathlib.Core.List.{List, [], _∷_, _++_, flatMap, map}
-use lib.ListN.{length}
 use lib.Dec.{leb, eqb}
 use borrow.Author.Tests.{eqb-false, ne-eqb, not-true}
 use Rattle.model.specs.Lists.{same, all}
 use Rattle.model.specs.Chip.{Image, rightSize}
-use Rattle.model.specs.State.{Segment, segmentsOf, viewOf, entriesIn, holds, distinct, blocksDistinct, isClean, clean, state}
+use Rattle.model.specs.State.{Segment, segmentsOf, holds, distinct, blocksDistinct, isClean, clean, state}
 use Rattle.model.specs.Laws.Lists.{and-left, and-right, and-both}
 use Rattle.model.specs.Laws.Bytes.{same-refl}
 use Rattle.model.specs.Laws.Chip.{size-facts}
@@ -16,8 +15,8 @@ use Rattle.model.specs.Laws.Segments.{segments-length}
 use Rattle.model.specs.Laws.Clean.{clean-slots, state-clean}
 use Rattle.crash.specs.Requests.{shown-clean}
 use Rattle.text.specs.Text.{text}
-use Rattle.account_text.specs.Account.{LiveSlot, liveSlots, insert, byBlock, blockText}
-use Rattle.salvage.specs.Salvage.{regarded, candidates, heldIn, given, agreed, givenLine, salvageOn, salvageText}
+use Rattle.account_text.specs.Account.{LiveSlot, liveSlots, insert, byBlock}
+use Rattle.salvage.specs.Salvage.{candidates, heldIn, agreed, givenLine, salvageOn, salvageText}
 use Rattle.salvage.specs.Given.{given-all}
 use Rattle.salvage.specs.Ring.{clean-lives}
 use Rattle.salvaged.specs.Law.{sameLine, CleanTable}

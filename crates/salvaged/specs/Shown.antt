@@ -2,8 +2,8 @@
 use Prim.Native.Nat.{ℕ, suc, _+_, _-_, _%_, _≤_, _<_}
 use mathlib.Core.Path.{_≡_, refl, sym, ap, _∙_}
 use mathlib.Core.Logic.{_≢_}
-use mathlib.Core.Bool.{Bool, true, false, cond, _&&_, false≢true}
-use mathlib.Core.List.{List, [], _∷_, _++_, map}
+use mathlib.Core.Bool.{Bool, true, false, _&&_, false≢true}
+use mathlib.Core.List.{List, map}
 use native.Mathlib.Omega.{arith}
 use native.Mathlib.Nat.{mod-lt}
 use lib.ListN.{length, getD, set, length-set}
@@ -12,8 +12,8 @@ use lib.Dec.{ltb, eqb}
 use borrow.Author.Tests.{eqb-true, lt-ltb}
 use Rattle.model.specs.Chip.{Image, rightSize}
 use Rattle.model.specs.Slot.{Slot, empty, torn, dead, cut, wrong, live, isTorn, entryOf}
-use Rattle.model.specs.State.{Segment, blank, invalid, inUse, isInUse, isInvalid, isOwing, numberAfter, slotsIn, segmentsOf, nextNumber, topIndex, nextIndex, topSlots, usedCount, firstNumber, viewOf, entries, entriesIn, holds, distinct, blocksDistinct, isClean, nextBlanked, isA, settled, topSettled, isB, withSlot, lastSlot, lastKind, tornMarked, isC, Place, placeOf, lastBlock, copies, older, olderMarked, isD, Exception, caseA, caseB, caseC, caseD, State, clean, unfinished, damaged, stateOf, state}
-use Rattle.model.specs.Table.{Table, tableOf}
+use Rattle.model.specs.State.{Segment, blank, invalid, inUse, isInUse, isInvalid, isOwing, numberAfter, slotsIn, segmentsOf, nextNumber, topIndex, nextIndex, topSlots, usedCount, firstNumber, viewOf, entries, entriesIn, holds, distinct, blocksDistinct, isClean, nextBlanked, isA, settled, topSettled, isB, withSlot, lastSlot, lastKind, tornMarked, isC, Place, placeOf, lastBlock, copies, older, olderMarked, isD, Exception, caseA, caseB, caseC, caseD, State, clean, unfinished, damaged, state}
+use Rattle.model.specs.Table.{Table}
 use Rattle.model.specs.Histories.{shown}
 use Rattle.model.specs.Laws.Lists.{and-left, and-right}
 use Rattle.model.specs.Laws.Chip.{size-facts}
@@ -21,16 +21,16 @@ use Rattle.model.specs.Laws.Segments.{segments-length}
 use Rattle.model.specs.Laws.Tables.{holds-copies, withoutFirst}
 use Rattle.model.specs.Laws.Ring.{owing-number, next-ge, slots-length}
 use Rattle.model.specs.Laws.Clean.{RingFacts, clean-ring, clean-slots, state-clean, used-next}
-use Rattle.model.specs.Laws.View.{withSlot-number, withSlot-use, withSlot-owing, withSlot-invalid, withSlot-of, slotChanged, slot-view}
+use Rattle.model.specs.Laws.View.{withSlot-number, withSlot-use, withSlot-owing, withSlot-invalid, withSlot-of, slot-view}
 use Rattle.model.specs.Laws.Exclusive.{invalid-paid, no-owing}
 use Rattle.bridge.specs.Predicted.{marked}
-use Rattle.bridge.specs.Views.Places.{FirstLive, first-live, fill-length, marked-entries}
+use Rattle.bridge.specs.Views.Places.{first-live, fill-length, marked-entries}
 use Rattle.crash.specs.Alike.{index-apart}
 use Rattle.crash.specs.Requests.{shown-clean}
-use Rattle.crash.specs.States.{isCase, mended, mended-clean, case-of, mended-shown, table-in}
+use Rattle.crash.specs.States.{isCase, mended, case-of, mended-shown, table-in}
 use Rattle.crash.specs.Recover.{recovery-mends}
 use Rattle.account_text.specs.Account.{liveSlots}
-use Rattle.salvage.specs.Salvage.{regarded, candidates, heldIn, given, salvaged}
+use Rattle.salvage.specs.Salvage.{regarded, candidates, heldIn, salvaged}
 use Rattle.salvage.specs.Given.{lasts, lasts-distinct, lasts-twice, given-lasts}
 use Rattle.salvage.specs.Ring.{chained-view, ring-chained, clean-lives}
 use Rattle.salvaged.specs.Law.{SalvagedTable}
