@@ -3,6 +3,7 @@ use Prim.Native.Nat.{ℕ}
 use mathlib.Core.Path.{_≡_, refl, sym, ap, _∙_}
 use mathlib.Core.Bool.{Bool, true, false, cond, _||_, _&&_, not, true≢false, or-true, and-eq-true-iff}
 use mathlib.Core.List.{List, [], _∷_, _++_, flatMap, map}
+use lib.ListN.{length}
 use lib.Dec.{leb, eqb}
 use borrow.Author.Tests.{eqb-false, ne-eqb, not-true}
 use Rattle.model.specs.Lists.{same, all}
@@ -15,7 +16,7 @@ use Rattle.model.specs.Laws.Segments.{segments-length}
 use Rattle.model.specs.Laws.Clean.{clean-slots, state-clean}
 use Rattle.crash.specs.Requests.{shown-clean}
 use Rattle.text.specs.Text.{text}
-use Rattle.account_text.specs.Account.{LiveSlot, liveSlots, insert, byBlock}
+use Rattle.account_text.specs.Account.{LiveSlot, liveSlots, insert, byBlock, blockText}
 use Rattle.salvage.specs.Salvage.{candidates, heldIn, agreed, givenLine, salvageOn, salvageText}
 use Rattle.salvage.specs.Given.{given-all}
 use Rattle.salvage.specs.Ring.{clean-lives}
@@ -79,10 +80,14 @@ unfolding byBlock all
 all-sorted f [] h = refl
 all-sorted f (e ∷ r) h = all-inserted f e (byBlock r) (and-left (f e) (all f r) h) (all-sorted f r (and-right (f e) (all f r) h))
 
+same-line : (r : List LiveSlot) (e : LiveSlot) → agreed r e ≡ true → givenLine r e ≡ sameLine e
+unfolding givenLine sameLine
+same-line r e h = ap (λ (u : Bool). blockText (e .block) (length (e .contents)) (e .segment) (e .slot) ++ cond u (text " same\n") (text " differs\n")) h
+
 same-lines : (r q : List LiveSlot) → all (agreed r) q ≡ true → flatMap (givenLine r) q ≡ flatMap sameLine q
-unfolding givenLine sameLine all flatMap
+unfolding all flatMap
 same-lines r [] h = refl
-same-lines r (e ∷ q) h = rw (and-left (agreed r e) (all (agreed r) q) h, same-lines r q (and-right (agreed r e) (all (agreed r) q) h))
+same-lines r (e ∷ q) h = rw (same-line r e (and-left (agreed r e) (all (agreed r) q) h), same-lines r q (and-right (agreed r e) (all (agreed r) q) h))
 
 report-same : (r : List LiveSlot) → distinct (map heldIn r) ≡ true → salvageOn r ≡ text "salvage promises nothing\n" ++ flatMap sameLine (byBlock r)
 unfolding salvageOn
