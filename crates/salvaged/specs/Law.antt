@@ -1,14 +1,15 @@
 -- Request #113: what salvage gives, on every image and after every history; and what a rebuilt image is.
 -- The source s has N segments with B slots; in the second part the target t has M with D.
-use Prim.Native.Nat.{ℕ, zero, suc, _+_, _-_, _*_, _/_}
+use Prim.Native.Nat.{ℕ, zero, suc, _+_, _-_, _*_, _/_, _≤_, _<_}
 use mathlib.Core.Path.{_≡_}
 use mathlib.Core.Logic.{_⊎_, _≢_}
 use mathlib.Core.Bool.{true, false}
-use mathlib.Core.List.{List, [], _∷_, _++_, flatMap}
-use lib.ListN.{length}
+use mathlib.Core.List.{List, [], _∷_, _++_, flatMap, map}
+use lib.ListN.{length, getD}
 use Rattle.model.specs.Chip.{Image, Bytes, Cut, rightSize}
 use Rattle.model.specs.Header.{newVersion, isFormer}
-use Rattle.model.specs.State.{segmentsOf, clean, damaged, state, view}
+use Rattle.model.specs.Slot.{empty, live}
+use Rattle.model.specs.State.{Segment, blank, numberAfter, slotsIn, segmentsOf, distinct, clean, damaged, state, view}
 use Rattle.model.specs.Table.{Table, Agree, tableOf}
 use Rattle.model.specs.Histories.{Event, History, shown}
 use Rattle.model.specs.Sequences.{Call, observed, Uncut}
@@ -23,7 +24,39 @@ use Rattle.text.specs.Text.{text}
 use Rattle.account_text.specs.Account.{LiveSlot, liveSlots, byBlock, blockText}
 use Rattle.moves.specs.Moves.{byNumber}
 use Rattle.moves.specs.Counted.{slotSteps}
-use Rattle.salvage.specs.Salvage.{salvageText, salvaged, rebuildWork, rebuildOutcome}
+use Rattle.salvage.specs.Salvage.{regarded, candidates, heldIn, given, agreed, salvageText, salvaged, rebuildWork, rebuildOutcome}
+
+-- ---- on any image of a right size, damaged ones too
+
+abbrev pub Among : LiveSlot → List LiveSlot → Type 0
+Among e [] = ⊥
+Among e (x ∷ r) = (e ≡ x) ⊎ Among e r
+
+-- the slot that it names has live form, with its block number and contents; a segment that is not in use has no slots
+abbrev pub Stands : List Segment → LiveSlot → Type 0
+Stands l e = (j : ℕ) × (e .slot ≡ suc j) × (getD (slotsIn (getD l (e .segment) blank)) j empty ≡ live (e .block) (e .contents))
+
+-- "Every slot of live form in a segment whose header is in use is a candidate", and nothing else; what is left aside is blank among the regarded
+abbrev pub EveryCandidate : Type 0
+EveryCandidate = (N B : ℕ) (s : Image) (e : LiveSlot) → rightSize N B s ≡ true → let l = segmentsOf N B s in
+    (Among e (candidates N l) → Stands (regarded N l) e) × (Stands (regarded N l) e → Among e (candidates N l))
+
+-- of a lower segment number; or in the same segment, before it or the same
+abbrev pub NotAfter : List Segment → LiveSlot → LiveSlot → Type 0
+NotAfter l x g = (numberAfter (getD l (x .segment) blank) < numberAfter (getD l (g .segment) blank)) ⊎ ((x .segment ≡ g .segment) × (x .slot ≤ g .slot))
+
+-- "For each block number give the candidate in the highest segment number, within a segment the last": one for each block number that a candidate has, and no candidate of that number comes after it
+abbrev pub HighestGiven : Type 0
+HighestGiven = (N B : ℕ) (s : Image) → rightSize N B s ≡ true → let l = segmentsOf N B s in let r = candidates N l in
+    (distinct (map heldIn (given r)) ≡ true)
+    × ((g : LiveSlot) → Among g (given r) → Among g r)
+    × ((x : LiveSlot) → Among x r → (g : LiveSlot) × Among g (given r) × (g .block ≡ x .block) × NotAfter (regarded N l) x g)
+
+-- "say whether others disagreed with it in contents": it says same if each candidate of its number has its contents, and differs if one has others
+abbrev pub Disagreement : Type 0
+Disagreement = (r : List LiveSlot) (g : LiveSlot) →
+    (agreed r g ≡ true → (x : LiveSlot) → Among x r → x .block ≡ g .block → x .contents ≡ g .contents)
+    × (agreed r g ≡ false → (x : LiveSlot) × Among x r × (x .block ≡ g .block) × (x .contents ≢ g .contents))
 
 -- ---- on an image that is not damaged
 

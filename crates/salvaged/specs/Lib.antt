@@ -1,5 +1,6 @@
 -- The statements, and their proofs.
 pub mod Law
+pub mod Candidates
 pub mod Kept
 pub mod Shown
 pub mod Lines
