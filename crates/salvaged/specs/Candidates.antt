@@ -1,5 +1,5 @@
 -- The candidates of any image: every slot of live form in the segments regarded, by rising segment number, then place.
-use Prim.Native.Nat.{ℕ, zero, suc, _+_, _-_, _%_, _≤_, _<_}
+use Prim.Native.Nat.{ℕ, zero, suc, _+_, _-_, _%_, _<_}
 use mathlib.Core.Path.{_≡_, refl, sym, ap, ap₂, _∙_, subst}
 use mathlib.Core.Logic.{_≢_, _⊎_, inl, inr, ⊎-elim}
 use mathlib.Core.Bool.{Bool, true, false, cond, false≢true}
@@ -8,7 +8,7 @@ use native.Mathlib.Omega.{arith}
 use native.Mathlib.Decide.{ℕ-discrete, decLt}
 use native.Mathlib.Nat.{mod-lt}
 use lib.ListN.{length, getD, set, length-set, List·getD-eq-default}
-use lib.Seq.{getD-set-same, getD-set-other}
+use lib.Seq.{getD-set-other}
 use Rattle.model.specs.Chip.{Image, rightSize}
 use Rattle.model.specs.Slot.{Slot, empty, torn, dead, cut, wrong, live, entryOf}
 use Rattle.model.specs.State.{Segment, blank, invalid, inUse, isInUse, isOwing, numberAfter, slotsIn, segmentsOf, nextNumber, topIndex, nextIndex, topSlots, usedCount, nextBlanked}
@@ -19,7 +19,7 @@ use Rattle.model.specs.Laws.Effects.{numbered-at}
 use Rattle.model.specs.Laws.Ring.{next-ge, next-at, used-less, number-in-use}
 use Rattle.account_text.specs.Account.{LiveSlot, liveAt, liveFrom, liveIn, liveSlots}
 use Rattle.salvage.specs.Salvage.{regarded, candidates}
-use Rattle.salvaged.specs.Law.{Among, Stands, NotAfter, EveryCandidate}
+use Rattle.salvaged.specs.Law.{Among, Stands, EveryCandidate}
 
 -- ---- members
 
@@ -43,13 +43,13 @@ never : (b : ℕ) (c : List ℕ) → empty ≡ live b c → ⊥
 never b c q = let y : _≡_ {A = ℕ} 0 1 = cc in omega arith
 
 -- its live slots, from place j on
-abbrev InRow : ℕ → ℕ → List Slot → LiveSlot → Type 0
+abbrev pub InRow : ℕ → ℕ → List Slot → LiveSlot → Type 0
 InRow i j ks e = (e .segment ≡ i) × ((k : ℕ) × (e .slot ≡ j + k) × (getD ks k empty ≡ live (e .block) (e .contents)))
 
 row-later : (i j : ℕ) (k : Slot) (ks : List Slot) (e : LiveSlot) → InRow i (suc j) ks e → InRow i j (k ∷ ks) e
 row-later i j k ks e h = (h .0, (suc (h .1 .0), h .1 .1 ∙ omega arith, h .1 .2))
 
-from-row : (i j : ℕ) (ks : List Slot) (e : LiveSlot) → Among e (liveFrom i j ks) → InRow i j ks e
+pub from-row : (i j : ℕ) (ks : List Slot) (e : LiveSlot) → Among e (liveFrom i j ks) → InRow i j ks e
 unfolding liveFrom liveAt entryOf map
 from-row i j [] e h = absurd h
 from-row i j (empty ∷ ks) e h = row-later i j empty ks e (from-row i (suc j) ks e h)
@@ -88,7 +88,7 @@ blank-none : (n : ℕ) → numberAfter blank ≡ suc n → ⊥
 unfolding numberAfter
 blank-none n h = omega arith
 
-seen-less : (N : ℕ) (l : List Segment) (i : ℕ) → Seen N l → Seen N (set l i blank)
+pub seen-less : (N : ℕ) (l : List Segment) (i : ℕ) → Seen N l → Seen N (set l i blank)
 seen-less N l i s = record {
   size = length-set l i blank ∙ s .size;
   some = s .some;
@@ -98,7 +98,7 @@ seen-less N l i s = record {
   ];
 }
 
-seen-all : (N B : ℕ) (s : Image) → rightSize N B s ≡ true → Seen N (segmentsOf N B s)
+pub seen-all : (N B : ℕ) (s : Image) → rightSize N B s ≡ true → Seen N (segmentsOf N B s)
 seen-all N B s z = record {
   size = segments-length N B s;
   some = omega (arith, size-facts N B s z .two);
@@ -108,7 +108,7 @@ seen-all N B s z = record {
   ];
 }
 
-seen-regarded : (N : ℕ) (l : List Segment) → Seen N l → Seen N (regarded N l)
+pub seen-regarded : (N : ℕ) (l : List Segment) → Seen N l → Seen N (regarded N l)
 unfolding regarded nextBlanked
 seen-regarded N l s = go (isOwing (getD l (topIndex N l) blank))
   where
@@ -117,7 +117,7 @@ seen-regarded N l s = go (isOwing (getD l (topIndex N l) blank))
     go false = s
 
 -- the segment of a live slot has a number
-stands-number : (l : List Segment) (e : LiveSlot) → Stands l e → (n : ℕ) × (numberAfter (getD l (e .segment) blank) ≡ suc n)
+pub stands-number : (l : List Segment) (e : LiveSlot) → Stands l e → (n : ℕ) × (numberAfter (getD l (e .segment) blank) ≡ suc n)
 stands-number l e h = go (getD l (e .segment) blank) (h .2)
   where
     go : (x : Segment) → getD (slotsIn x) (h .0) empty ≡ live (e .block) (e .contents) → (n : ℕ) × (numberAfter x ≡ suc n)
@@ -126,18 +126,18 @@ stands-number l e h = go (getD l (e .segment) blank) (h .2)
     go (inUse ver st n ks) q = (n, (unfold numberAfter in refl))
 
 -- one that stands where a segment was left out stands elsewhere
-stands-other : (l : List Segment) (i : ℕ) (e : LiveSlot) → Stands (set l i blank) e → e .segment ≢ i
+pub stands-other : (l : List Segment) (i : ℕ) (e : LiveSlot) → Stands (set l i blank) e → e .segment ≢ i
 stands-other l i e h q = blank-none (n .0) (sym (ap numberAfter (ap (λ (k : ℕ). getD (set l i blank) k blank) q ∙ blank-here l i)) ∙ n .1)
   where
     n : (k : ℕ) × (numberAfter (getD (set l i blank) (e .segment) blank) ≡ suc k)
     n = stands-number (set l i blank) e h
 
-stands-more : (l : List Segment) (i : ℕ) (e : LiveSlot) → Stands (set l i blank) e → Stands l e
+pub stands-more : (l : List Segment) (i : ℕ) (e : LiveSlot) → Stands (set l i blank) e → Stands l e
 stands-more l i e h = (h .0, h .1, ap (λ (x : Segment). getD (slotsIn x) (h .0) empty) (sym (getD-set-other l i (e .segment) blank blank (stands-other l i e h))) ∙ h .2)
 
 -- ---- every one, and no other
 
-lives-stand : (N u : ℕ) (l : List Segment) (e : LiveSlot) → Among e (liveIn N u l) → Stands l e
+pub lives-stand : (N u : ℕ) (l : List Segment) (e : LiveSlot) → Among e (liveIn N u l) → Stands l e
 unfolding liveIn topSlots
 lives-stand N zero l e h = absurd h
 lives-stand N (suc u) l e h =
