@@ -1,3 +1,4 @@
--- The statements, and their proofs.
+-- The statements, what holds of any fresh image that is built from a table, and the proofs.
 pub mod Law
+pub mod Built
 pub mod Theorem

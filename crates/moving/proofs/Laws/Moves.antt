@@ -18,7 +18,7 @@ use Rattle.model.specs.declared.Performed.{Performed}
 use Rattle.bridge.specs.Refusals.{answerIn, unclean, unclean-code}
 use Rattle.request.specs.Request.{Refused}
 use Rattle.request.proofs.Answered.{refused-worked}
-use Rattle.moves.specs.Moves.{byNumber, moveRefusals, moveWork, moveOutcome}
+use Rattle.moves.specs.Moves.{byNumber, freshWork, moveRefusals, moveWork, moveOutcome}
 use Rattle.moves.specs.Placed.{placed}
 use Rattle.moves.specs.Fresh.{fresh-list}
 use Rattle.moves.specs.Facts.{Movable, movable-fits}
@@ -32,7 +32,7 @@ module _ (N B : ℕ) (s : Image) (M D : ℕ) (t : Image) (budget : ℕ) where
   -- ---- refused
 
   refused-move : (a : Answer) {p : Performed} → refusal ≡ codeOf a → eqb (codeOf a) 0 ≡ false → Refused a p → performed p t ≡ moveOutcome N B s M D t budget
-  unfolding moveOutcome moveWork
+  unfolding moveOutcome moveWork freshWork
   refused-move a {p} e n r = rw (e, n) (refused-worked D t budget a p r)
 
   -- whichever image it is
@@ -69,7 +69,7 @@ module _ (N B : ℕ) (s : Image) (M D : ℕ) (t : Image) (budget : ℕ) where
   pub carried-move : (m : Movable N B s M D t) → Bytes s → (w x : Places) → leastPlaces ≤ length w → x ≡ filledPlaces N B (view N B s) w → (p : Performed) (u : Image)
       → performed p u ≡ worked D (record { code = 0; steps = formatSteps M D ++ placed M D 0 0 (listed s x 1 65535) }) t budget
       → performed p u ≡ moveOutcome N B s M D t budget
-  unfolding moveOutcome moveWork
+  unfolding moveOutcome moveWork freshWork
   carried-move m b w x l made p u e =
       let f = movable-fits N B s M D t b m in
       let none : refusal ≡ 0 = clean-row (m .source) (m .target) (m .fine) ∙ rw (le-ltb (capacity M D) (length (tableOf N B s)) (m .few)) in

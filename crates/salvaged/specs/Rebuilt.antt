@@ -1,0 +1,104 @@
+-- The second part: a finished rebuild is a fresh image built from a table that fits.
+use Prim.Native.Nat.{ℕ, zero, suc}
+use mathlib.Core.Path.{_≡_, refl, sym, ap, _∙_}
+use mathlib.Core.Logic.{⊎-elim}
+use mathlib.Core.Bool.{true}
+use lib.ListN.{length, take}
+use Rattle.model.specs.Chip.{Image, Bytes, rightSize, run}
+use Rattle.model.specs.Table.{Table, tableOf}
+use Rattle.model.specs.Answers.{Work, codeUnder}
+use Rattle.model.specs.Histories.{shown}
+use Rattle.model.specs.Laws.Chip.{run-size, cut-size}
+use Rattle.model.specs.Laws.Tables.{agree-of, agree-trans}
+use Rattle.moves.specs.Moves.{byNumber, freshSteps}
+use Rattle.moves.specs.Sorted.{sorted-length, sorted-equal}
+use Rattle.moves.specs.Counted.{sorted-steps}
+use Rattle.moves.specs.Fresh.{Fits, fresh-same, fresh-length}
+use Rattle.moves.specs.Works.{Done, done, undone}
+use Rattle.moved.specs.Built.{builtOn, is-clean, built-version, same-blocks, built-demand2, built-demand3, built-sessions2, built-sessions3}
+use Rattle.salvage.specs.Salvage.{salvaged, rebuildRefusals, rebuildWork, rebuildOutcome}
+use Rattle.salvage.specs.Facts.{salvaged-distinct, salvaged-valid, rebuild-asks, rebuild-fits, rebuild-same}
+use Rattle.salvaged.specs.Law.{targetAfter, Rebuilds, RebuiltTable, RebuiltShown, RebuiltRefused, RebuiltEqual, RebuiltSteps, Tried, RebuiltAgain, RebuiltDemand2, RebuiltDemand3, RebuiltSessions2, RebuiltSessions3}
+use Rattle.salvaged.specs.Shown.{salvaged-table}
+
+pub rebuilt-refused : RebuiltRefused
+unfolding rebuildOutcome rebuildWork
+rebuilt-refused = λ N B s M D t allowance n m. undone (rebuildRefusals N B s M D t) M D (salvaged N B s) t allowance n m
+
+-- ---- a finished one
+
+module _ (N B : ℕ) (s : Image) (M D : ℕ) (t : Image) (allowance : ℕ) (b : Bytes s) (f : Rebuilds N B s M D t allowance) where
+  d : Done (rebuildRefusals N B s M D t) M D (salvaged N B s) t allowance
+  unfolding rebuildOutcome rebuildWork
+  d = done (rebuildRefusals N B s M D t) M D (salvaged N B s) t allowance f
+
+  target : rightSize M D t ≡ true
+  target = rebuild-asks N B s M D t (d .free) .target
+
+  fits : Fits M D (byNumber (salvaged N B s))
+  fits = rebuild-fits N B s M D t b (rebuild-asks N B s M D t (d .free))
+
+  made : targetAfter N B s M D t allowance ≡ builtOn M D (salvaged N B s) t
+  unfolding rebuildOutcome rebuildWork
+  made = d .image
+
+pub rebuilt-table : RebuiltTable
+rebuilt-table = λ N B s M D t a b f.
+    let blocks = salvaged N B s in
+    let u = targetAfter N B s M D t a in
+    let z = target N B s M D t a b f in
+    let o = salvaged-distinct N B s in
+    let g = fits N B s M D t a b f in
+    let e = made N B s M D t a b f in
+    (is-clean M D blocks t u z o g e, built-version M D blocks t u z o g e, same-blocks M D blocks t u z o g e)
+
+pub rebuilt-shown : RebuiltShown
+rebuilt-shown = λ N B s M D t a b f n.
+    agree-trans (tableOf M D (targetAfter N B s M D t a)) (salvaged N B s) (shown N B s) (rebuilt-table N B s M D t a b f .2)
+    (agree-of (salvaged N B s) (shown N B s) (salvaged-table N B s (rebuild-asks N B s M D t (d N B s M D t a b f .free) .source) n))
+
+pub rebuilt-equal : RebuiltEqual
+rebuilt-equal = λ N B s P Q r M D t u a c b y f g h.
+    let e : byNumber (salvaged N B s) ≡ byNumber (salvaged P Q r) =
+    sorted-equal (salvaged N B s) (salvaged P Q r) (salvaged-valid N B s b) (salvaged-valid P Q r y) (salvaged-distinct N B s) (salvaged-distinct P Q r) h in
+    made N B s M D t a b f ∙ (fresh-same M D (byNumber (salvaged N B s)) t u (target N B s M D t a b f) (target P Q r M D u c y g) (fits N B s M D t a b f)
+    ∙ (ap (λ (z : Table). run D (freshSteps M D z u) u) e ∙ sym (made P Q r M D u c y g)))
+
+pub rebuilt-steps : RebuiltSteps
+unfolding rebuildOutcome rebuildWork
+rebuilt-steps = λ N B s M D t a b f.
+    let blocks = salvaged N B s in
+    d N B s M D t a b f .count ∙ (fresh-length M D (byNumber blocks) t (target N B s M D t a b f) (fits N B s M D t a b f) ∙ rw (sorted-length blocks, sorted-steps blocks))
+
+-- ---- begun again
+
+tried-size : (N B : ℕ) (s : Image) (M D k : ℕ) (t u : Image) → Tried N B s M D k t u → rightSize M D u ≡ rightSize M D t
+unfolding rebuildOutcome
+tried-size N B s M D zero t u e = ap (rightSize M D) e
+tried-size N B s M D (suc k) t u (m, c, r) =
+    tried-size N B s M D k m u r
+    ∙ ⊎-elim (λ x. cut-size M D (rebuildWork N B s M D t .steps) t m x) (λ x. ap (rightSize M D) (x .1) ∙ run-size M D (take (x .0) (rebuildWork N B s M D t .steps)) t) c
+
+pub rebuilt-again : RebuiltAgain
+unfolding rebuildOutcome
+rebuilt-again = λ N B s M D k t u a b h.
+    let w = rebuild-same N B s M D t u b (tried-size N B s M D k t u h) in
+    (ap (codeUnder a) w, ap (λ (x : Work). length (take a (x .steps))) w, λ e. rebuilt-equal N B s N B s M D u t a a b b (ap (codeUnder a) w ∙ e) e (λ q. refl))
+
+-- ---- demands 2 and 3
+
+pub rebuilt-demand2 : RebuiltDemand2
+rebuilt-demand2 = λ N B s M D t u a es b f h.
+    built-demand2 M D (salvaged N B s) t (targetAfter N B s M D t a) (target N B s M D t a b f) (salvaged-distinct N B s) (fits N B s M D t a b f) (made N B s M D t a b f) u es h
+
+pub rebuilt-demand3 : RebuiltDemand3
+rebuilt-demand3 = λ N B s M D t a xs b f q.
+    built-demand3 M D (salvaged N B s) t (targetAfter N B s M D t a) (target N B s M D t a b f) (salvaged-distinct N B s) (fits N B s M D t a b f) (made N B s M D t a b f) xs q
+
+pub rebuilt-sessions2 : RebuiltSessions2
+rebuilt-sessions2 = λ N B s M D t u a p es b f h.
+    built-sessions2 M D (salvaged N B s) t (targetAfter N B s M D t a) (target N B s M D t a b f) (salvaged-distinct N B s) (fits N B s M D t a b f) (made N B s M D t a b f) u p es h
+
+pub rebuilt-sessions3 : RebuiltSessions3
+rebuilt-sessions3 = λ N B s M D t u a p es b f h q.
+    built-sessions3 M D (salvaged N B s) t (targetAfter N B s M D t a) (target N B s M D t a b f) (salvaged-distinct N B s) (fits N B s M D t a b f) (made N B s M D t a b f) u p es h q
