@@ -30,10 +30,12 @@ fn each_kind() -> [Vec<u8>; 3] {
     let mut unfinished = clean.clone();
     assert_eq!(put(&mut unfinished, g, 9, b"y", 24).code, CUT);
     let mut damaged = clean.clone();
-    damaged[g.page(2, 1)] = 0;
+    assert_eq!(damaged[g.page(0, 1)], DEAD);
+    damaged[g.page(0, 1)] = 0x0F;
     let letters = [&clean, &unfinished, &damaged].map(|image| by_the_reference(image, g));
     assert_eq!(letters[0], '-');
     assert!("abcd".contains(letters[1]));
+    assert_eq!(letters[2], '!');
     [clean, unfinished, damaged]
 }
 

@@ -98,6 +98,12 @@ fn nothing_found() {
     tells(&store, &foreign, "");
     image[..PAGE].fill(0xFF);
     tells(&store, &image, "");
+    // Two geometries whose images have one length: with the other's N and B there is nothing.
+    let (tall, wide) = (Geometry { n: 4, b: 5 }, Geometry { n: 6, b: 3 });
+    let mut image = formatted(tall);
+    put(&mut image, tall, 7, b"A1", UNLIMITED);
+    assert_eq!(told(&store, &image, wide), FIRST);
+    assert_eq!(told(&store, &image, tall).lines().count(), 2);
 }
 
 /// A board of these segments in use, by number, status and version, each with its records.
