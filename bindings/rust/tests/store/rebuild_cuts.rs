@@ -77,7 +77,7 @@ fn larger_chips() {
     for (n, b) in [(4, 15), (16, 16), (2, 255), (64, 3), (255, 2)] {
         let to = Geometry { n, b };
         let mut crowd = any_crowd(&mut rng, to);
-        crowd.blocks = to.capacity();
+        (crowd.blocks, crowd.live) = (to.capacity(), 8);
         let source = crowded(&mut rng, to, crowd);
         let target = any_target(&mut rng, to);
         let this = Move {
@@ -87,9 +87,6 @@ fn larger_chips() {
             to,
         };
         let given = entries(&source, to);
-        if given.len() > to.capacity() {
-            continue;
-        }
         let whole = rebuilt(&store, this);
         let steps = length(to, &given);
         let format = n as u64 + 21;
