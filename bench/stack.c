@@ -3,14 +3,14 @@
  *
  *     rt staticlib qanbillox                                        (at the root of the repository)
  *     cc -O2 -Wall -Wextra -Werror -Iinclude bench/stack.c target/staticlib/libqanbillox.a -o target/stack
- *     target/stack [BYTES ACCOUNT MOVE]
+ *     target/stack [BYTES ACCOUNT MOVE SALVAGE REBUILD]
  *
- * It prints the most bytes that each request took on any of the chips below; with the three numbers it ends with 1 if
- * one took more than BYTES, or the account and the move, which have large tables of their own, more than ACCOUNT and
- * MOVE. The table of mounted requests is lent, and not on the stack. Counted is all that the call of a request puts
- * there, down to the deepest byte written: the arguments that find no register, its frames, and those of memcpy and
- * memset. Not counted is what an empty call puts there too, the return address. The images are made by the library's
- * own requests, with budgets for cuts. */
+ * It prints the most bytes that each request took on any of the chips below; with the five numbers it ends with 1 if
+ * one took more than BYTES, or the account, the move, the salvage and the rebuild, which have large tables of their
+ * own, more than ACCOUNT, MOVE, SALVAGE and REBUILD. The table of mounted requests is lent, and not on the stack.
+ * Counted is all that the call of a request puts there, down to the deepest byte written: the arguments that find no
+ * register, its frames, and those of memcpy and memset. Not counted is what an empty call puts there too, the return
+ * address. The images are made by the library's own requests, with budgets for cuts. */
 #define _XOPEN_SOURCE 700
 #include "qanbillox.h"
 
@@ -19,7 +19,7 @@
 #include <string.h>
 #include <ucontext.h>
 
-enum { STACK = 1024 * 1024, PAINT = 0xA5, LONGEST = 255 * 256 * 256, LONGEST_TEXT = 255 * (55 + 37 * 255) + 18 };
+enum { STACK = 1024 * 1024, PAINT = 0xA5, LONGEST = 255 * 256 * 256, LONGEST_TEXT = 25 + 42 * 255 * 255 };
 
 /* Every slot of a full ring is written first. On the largest chip that takes half a minute, and changes no figure. */
 static const struct {
@@ -31,7 +31,7 @@ static const struct {
 static size_t n, b, length;
 static uint8_t image[LONGEST], base[LONGEST], cut[LONGEST];
 
-/* What an account and a move are written to, and the table that is lent to mounted calls. */
+/* What an account, a salvage, a move and a rebuild are written to, and the table that is lent to mounted calls. */
 static uint8_t text[LONGEST_TEXT], target[LONGEST];
 static uint32_t places[QBX_PLACES];
 
@@ -49,9 +49,10 @@ static struct {
             {"recover (c)", 0},              {"recover (d)", 0},              {"blank test", 0},
             {"mount", 0},                    {"mounted put, with room", 0},   {"mounted put, opening", 0},
             {"mounted put, compacting", 0},  {"mounted read", 0},             {"mounted delete", 0},
-            {"account", 0},                  {"move", 0}};
-/* The account and the move are the last rows, and each has its own limit. */
-enum { ROWS = sizeof rows / sizeof rows[0], REQUESTS = ROWS - 2, ACCOUNT_ROW = REQUESTS, MOVE_ROW };
+            {"account", 0},                  {"move", 0},                     {"salvage", 0},
+            {"rebuild", 0}};
+/* Those with large tables are the last rows, and each has its own limit. */
+enum { ROWS = sizeof rows / sizeof rows[0], LARGE = 4, REQUESTS = ROWS - LARGE };
 
 static void stop(const char *what)
 {
@@ -71,6 +72,8 @@ enum request {
     BLANK,
     ACCOUNT,
     MOVE,
+    SALVAGE,
+    REBUILD,
     MOUNT,
     MOUNTED_PUT,
     MOUNTED_READ,
@@ -97,6 +100,8 @@ static void make_request(void)
     case BLANK: result = qbx_is_blank(image + length - length / n, length / n - 3); break;
     case ACCOUNT: result = qbx_account(image, length, n, b, text, sizeof text); break;
     case MOVE: result = qbx_move(image, length, n, b, target, length, n, b, UINT64_MAX); break;
+    case SALVAGE: result = qbx_salvage(image, length, n, b, text, sizeof text); break;
+    case REBUILD: result = qbx_rebuild(image, length, n, b, target, length, n, b, UINT64_MAX); break;
     case MOUNT: result = qbx_mount(image, length, n, b, places, QBX_PLACES); break;
     case MOUNTED_PUT:
         result = qbx_mounted_put(image, length, n, b, places, QBX_PLACES, BLOCK, contents, sizeof contents, UINT64_MAX);
@@ -167,6 +172,8 @@ static void measure_recovery(const char *name, uint64_t left, uint64_t steps)
     put(BLOCK, whole - left);
     memcpy(cut, image, length);
     measure("account", ACCOUNT, cut);
+    measure("salvage", SALVAGE, cut);
+    measure("rebuild", REBUILD, cut);
     measure(name, RECOVER, cut);
     if (qbx_steps_of(result) != steps)
         stop(name);
@@ -197,13 +204,25 @@ static void write_blocks(uint16_t blocks)
     memcpy(base, image, length);
 }
 
-/* The accounts of the base image as it is, and damaged. Those of unfinished ones are in measure_recovery. */
-static void measure_accounts(void)
+/* What takes an image in any state: the base image as it is, damaged, and with its first slot once more in the last,
+ * with other contents, so that a salvage compares. Those of unfinished ones are in measure_recovery. */
+static void measure_any_state(void)
 {
-    measure("account", ACCOUNT, base);
-    memcpy(cut, base, length);
-    cut[length - 1] ^= 1;
-    measure("account", ACCOUNT, cut);
+    for (int fault = 0; fault < 3; fault++) {
+        memcpy(cut, base, length);
+        if (fault == 1)
+            cut[length - 1] ^= 1;
+        if (fault == 2) {
+            memcpy(cut + length / n - QBX_PAGE, cut + QBX_PAGE, QBX_PAGE);
+            cut[length / n - QBX_PAGE + 8] ^= 1;
+            /* live, also where it was replaced */
+            cut[QBX_PAGE] |= 0x20;
+            cut[length / n - QBX_PAGE] |= 0x20;
+        }
+        measure("account", ACCOUNT, cut);
+        measure("salvage", SALVAGE, cut);
+        measure("rebuild", REBUILD, cut);
+    }
 }
 
 static void measure_chip(int full_ring)
@@ -221,12 +240,13 @@ static void measure_chip(int full_ring)
     measure("mounted put, with room", MOUNTED_PUT, base);
     measure("mounted read", MOUNTED_READ, base);
     measure("mounted delete", MOUNTED_DELETE, base);
-    measure_accounts();
+    measure_any_state();
     measure("move", MOVE, base);
     if (n > 2) {
         /* so many that the target needs a second segment */
         write_blocks(b + 1);
         measure("move", MOVE, base);
+        measure("rebuild", REBUILD, base);
         write_slots(b);
         measure("put, opening a segment", PUT, base);
         measure("mounted put, opening", MOUNTED_PUT, base);
@@ -239,7 +259,7 @@ static void measure_chip(int full_ring)
         measure("mounted put, compacting", MOUNTED_PUT, base);
         measure_recovery("recover (a)", SLOT + 3, 2);
         measure_recovery("recover (b)", SLOT + 2, 3);
-        measure_accounts();
+        measure_any_state();
         measure("move", MOVE, base);
     }
 }
@@ -261,10 +281,10 @@ static size_t print_rows(size_t row, size_t count, unsigned long long limit)
 
 int main(int count, char **words)
 {
-    /* of the requests, of the account and of the move */
-    unsigned long long limits[3] = {UINT64_MAX, UINT64_MAX, UINT64_MAX};
-    size_t most, account, move;
-    int usage = count != 1 && count != 4;
+    /* of the requests, and of each of those with large tables */
+    unsigned long long limits[1 + LARGE] = {UINT64_MAX, UINT64_MAX, UINT64_MAX, UINT64_MAX, UINT64_MAX};
+    size_t most;
+    int usage = count != 1 && count != 2 + LARGE, over;
 
     for (int i = 1; i < count && !usage; i++) {
         char *rest;
@@ -273,7 +293,7 @@ int main(int count, char **words)
         usage = *rest != '\0';
     }
     if (usage) {
-        fprintf(stderr, "usage: stack [BYTES ACCOUNT MOVE]\n");
+        fprintf(stderr, "usage: stack [BYTES ACCOUNT MOVE SALVAGE REBUILD]\n");
         return 2;
     }
     for (size_t i = 0; i < sizeof chips / sizeof chips[0]; i++) {
@@ -284,7 +304,8 @@ int main(int count, char **words)
     }
     most = print_rows(0, REQUESTS, limits[0]);
     printf("%-24s%8zu bytes of stack\n", "the most of these", most);
-    account = print_rows(ACCOUNT_ROW, 1, limits[1]);
-    move = print_rows(MOVE_ROW, 1, limits[2]);
-    return most > limits[0] || account > limits[1] || move > limits[2];
+    over = most > limits[0];
+    for (size_t i = 0; i < LARGE; i++)
+        over |= print_rows(REQUESTS + i, 1, limits[1 + i]) > limits[1 + i];
+    return over;
 }

@@ -1,16 +1,16 @@
 /* Qanbillox: a proved record store on NOR flash.
  *
  * Every request takes the whole image, the number of segments n (2 to 255) and of slots in each b (2 to 255); a move
- * takes these of two images.
+ * and a rebuild take these of two images.
  * Any arguments get an answer from the table below; a refused request (1 to 8, 10, 11, 14) changes no byte, but for a
  * mount that marks its table unusable.
  * budget is the most flash steps to take: when it is spent the request stops as if the power had gone, and
- * answers QBX_CUT. Recover before the next request then, as after any loss of power; but a format or a move that was
- * cut is begun again.
+ * answers QBX_CUT. Recover before the next request then, as after any loss of power; but a format, a move or a rebuild
+ * that was cut is begun again.
  *
  * No function allocates, keeps a pointer or has state of its own. A request takes at most 14,992 bytes of stack on
- * x86-64, the account 353,744 bytes, a move 276,976, measured up to n = 255 and b = 255 (bench/stack.c). Link with
- * libqanbillox.a. */
+ * x86-64, the account 353,744 bytes, a move 276,976, a salvage and a rebuild about 400 KiB each, measured up to n = 255
+ * and b = 255 (bench/stack.c). Link with libqanbillox.a. */
 #ifndef QANBILLOX_H
 #define QANBILLOX_H
 
@@ -22,32 +22,35 @@ extern "C" {
 #endif
 
 /* The first that applies is given, in the order 1, 10, 2 to 5, 11, 6 to 9. Only the mounted form answers 10. The
- * account answers 0 or 14, no other request 14.
+ * account answers 0 or 14, a salvage 0, 1 or 14, no other request 14.
  *
  * A put is worn only if it needs a new segment, and then in two cases: the whole part of number / n, number being the
- * largest that it would give a segment, plus the tally of erases that recoveries have set about since the format or
- * the move, reaches 100,000; or the newest segment's header has none of its 1,792 bits left to count one more.
+ * largest that it would give a segment, plus the tally of erases that recoveries have set about since the format, the
+ * move or the rebuild, reaches 100,000; or the newest segment's header has none of its 1,792 bits left to count one
+ * more.
  *
  * An image of version 1 can be read, deleted from and recovered, not put to. To go on writing, move it (qbx_move) to a
  * second buffer, of the same n and b or of others: that one is of version 2 and has all its records. A format loses
  * them. */
 enum qbx_answer {
     QBX_DONE = 0,            /* none below */
-    QBX_SIZE = 1,            /* n, b or the image's length is wrong; move: those of either image */
+    QBX_SIZE = 1,            /* n, b or the image's length is wrong; move, rebuild: those of either image */
     QBX_NUMBER = 2,          /* block number 0 or 65,535 */
     QBX_LENGTH = 3,          /* put of 0 bytes, or of over 248 */
-    QBX_DAMAGED = 4,         /* the image is neither clean nor unfinished; only format helps. From a mounted put, delete
-                                or read instead: the table is not that of the image; mount again */
+    QBX_DAMAGED = 4,         /* the image is neither clean nor unfinished; only format makes a store of it again, and
+                                qbx_salvage and qbx_rebuild get out what can be found, without a promise. From a mounted
+                                put, delete or read instead: the table is not that of the image; mount again */
     QBX_UNFINISHED = 5,      /* put, delete, read, mount, move (its source): recover first; mounted put, delete, read:
                                 the table is not usable; recover, and mount again */
     QBX_ABSENT = 6,          /* read or delete of a block that is not stored */
-    QBX_FULL = 7,            /* put of a new block while (n-1)*b-1 are stored; move of more blocks than the target
-                                holds */
+    QBX_FULL = 7,            /* put of a new block while (n-1)*b-1 are stored; move, rebuild of more blocks than the
+                                target holds */
     QBX_WORN = 8,            /* put: the chip is worn, as said above */
     QBX_CUT = 9,             /* the budget ended before the steps did */
     QBX_SHORT_TABLE = 10,    /* mounted form: the table has under 65,536 entries; it is untouched */
     QBX_FORMER_VERSION = 11, /* put on an image of version 1; what to do is said above */
-    QBX_SHORT_BUFFER = 14    /* account: the buffer is too short for the text; it is untouched, and the length is 0 */
+    QBX_SHORT_BUFFER = 14    /* account, salvage: the buffer is too short for the text; it is untouched, and the length
+                                is 0 */
 };
 
 #define QBX_PAGE 256u          /* bytes in a page */
@@ -78,7 +81,8 @@ uint64_t qbx_recover(uint8_t *image, size_t image_length, size_t n, size_t b, ui
 /* Find a block's contents in the image. Only a record from a store that still took 0 bytes has length 0. */
 uint64_t qbx_read(const uint8_t *image, size_t image_length, size_t n, size_t b, uint16_t block);
 
-/* What format, put, delete and recover, mounted or not, and a move give: the answer, and the flash steps done. */
+/* What format, put, delete and recover, mounted or not, a move and a rebuild give: the answer, and the flash steps
+ * done. */
 static inline enum qbx_answer qbx_answer_of(uint64_t result) { return (enum qbx_answer)(result & 0xFF); }
 static inline uint64_t qbx_steps_of(uint64_t result) { return result >> 8; }
 
@@ -159,7 +163,7 @@ uint64_t qbx_move(const uint8_t *source, size_t source_length, size_t n, size_t 
  * stack: the tables that put the blocks in order are there. */
 uint64_t qbx_account(const uint8_t *image, size_t image_length, size_t n, size_t b, uint8_t *text, size_t text_length);
 
-/* What it gives beside the answer: the text's length, 0 if the buffer is too short. */
+/* What it and qbx_salvage give beside the answer: the text's length, 0 if there is none. */
 static inline size_t qbx_text_length_of(uint64_t result) { return (size_t)(result >> 8); }
 
 /* A length that no account of this geometry exceeds: as many lines as there may be, each as long as they get. */
@@ -168,6 +172,51 @@ static inline size_t qbx_account_length(size_t n, size_t b) {
     const size_t slot = sizeof "block 65534 len 248 seg 254 slot 255\n" - 1;
     return n * (segment + b * slot) + sizeof "recover 0 steps 3\n" - 1;
 }
+
+/* Salvage: what can still be found in a damaged image, as text at the front of a lent buffer. Which of it was ever
+ * acknowledged cannot be told, and the first line says so. Each line ends with the byte 0A:
+ *
+ *     salvage promises nothing
+ *     block 7 len 2 seg 0 slot 1 same            One for each block number that is found, by rising number: where, by
+ *     block 9 len 1 seg 3 slot 2 differs         the segment's index and the slot from 1 to b.
+ *
+ * Looked at is every slot of live form in a segment whose header is in use, of either version, whatever else is wrong
+ * with the image; but where the segment with the largest number of all in use still owes an erase, the one at the index
+ * after it is left aside. Of several slots with one block number the one in the segment with the largest number is
+ * given (num in the account, not the index), within a segment the last; differs says that another of them, not left
+ * aside, has other contents, in length or bytes, and same that none has.
+ *
+ * It takes any image of a right size: of a clean one it gives the records that are stored, all same, and of an
+ * unfinished one those that qbx_recover would leave.
+ *
+ * Answers QBX_DONE, the bytes after the text untouched; QBX_SIZE; or QBX_SHORT_BUFFER, exactly if the text is longer
+ * than the buffer. Refused, all of the buffer is untouched. The image is only read, and must not overlap the buffer.
+ * The longest text has 2,329 bytes with n = 4 and b = 15, 659,683 with 64 and 255, 2,665,505 with 255 and 255. It takes
+ * about 400 KiB of stack: the tables that put the blocks in order are there. */
+uint64_t qbx_salvage(const uint8_t *image, size_t image_length, size_t n, size_t b, uint8_t *text, size_t text_length);
+
+/* A length that no salvage of this geometry exceeds: as many lines as there are slots, each as long as they get. (One
+ * that differs is longer, but stands for two slots at least.) */
+static inline size_t qbx_salvage_length(size_t n, size_t b) {
+    const size_t slot = sizeof "block 65534 len 248 seg 254 slot 255 same\n" - 1;
+    return sizeof "salvage promises nothing\n" - 1 + n * b * slot;
+}
+
+/* Rebuild from what a salvage gives: build in target a fresh image of version 2, with target_n segments of target_b
+ * slots, that holds for each block number the contents that qbx_salvage gives of source, an image with n and b in any
+ * state. It is built as qbx_move builds one, by rising block number, records of 0 bytes too, all under one budget; if
+ * nothing is found, it is as after a format. What it holds is promised no more than the salvage is: see which blocks
+ * differ before it is taken for the store.
+ *
+ * Answers QBX_DONE, QBX_SIZE of either image, QBX_FULL if there are more block numbers than
+ * qbx_capacity(target_n, target_b), or QBX_CUT; never QBX_DAMAGED or QBX_UNFINISHED. After QBX_CUT nothing is promised
+ * of the target, and a recovery does not help: begin the rebuild again. The source is only read. Source and target must
+ * not overlap.
+ *
+ * The steps are target_n + 21, 5 + length for each record, and 21 for each further segment that the records need. It
+ * takes about 400 KiB of stack. */
+uint64_t qbx_rebuild(const uint8_t *source, size_t source_length, size_t n, size_t b,
+                     uint8_t *target, size_t target_length, size_t target_n, size_t target_b, uint64_t budget);
 
 /* Whether every byte is 255, as an erase leaves it: the store's own test. It looks at groups of eight bytes, from the
  * first byte on, and stops after the first that differs; the last may be shorter. Any bytes, any length, none too. */

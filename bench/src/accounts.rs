@@ -16,7 +16,7 @@ pub fn rows(chips: &[(usize, usize, usize)]) {
 }
 
 /// A clean image at its capacity, each slot with another number than its place.
-fn shuffled(g: Geometry) -> Vec<u8> {
+pub fn shuffled(g: Geometry) -> Vec<u8> {
     let blocks = g.capacity();
     let mut image = written(g, blocks, blocks, 0);
     let mut numbers: Vec<u16> = (1..=blocks as u16).collect();

@@ -18,6 +18,9 @@ pub mod mounted_plain;
 #[path = "../../bindings/rust/tests/store/moving_plain.rs"]
 pub mod moving_plain;
 
+#[path = "../../bindings/rust/tests/store/salvage_plain.rs"]
+pub mod salvage_plain;
+
 pub fn all_255(bytes: &[u8]) -> bool {
     let (words, rest) = bytes.as_chunks();
     words

@@ -14,29 +14,29 @@ use std::hint::black_box;
 use std::time::Duration;
 
 /// The old board's chip, and those that its blocks are moved to.
-const SOURCE: Geometry = Geometry { n: 16, b: 255 };
-const TARGETS: [Geometry; 2] = [SOURCE, Geometry { n: 32, b: 127 }];
+pub const SOURCE: Geometry = Geometry { n: 16, b: 255 };
+pub const TARGETS: [Geometry; 2] = [SOURCE, Geometry { n: 32, b: 127 }];
 
 /// A row for each length of the records, order of the blocks and target.
 pub fn rows(runs: usize) {
-    println!(
-        "  {:<36}{:>8}{:>14}{:>14}{:>10}{:>16}",
-        "move of a full chip, N=16, B=255",
-        "steps",
-        "plain Rust",
-        "library",
-        "ratio",
-        "half the runs"
-    );
+    print_heads("move of a full chip, N=16, B=255", "steps");
     for length in [100, 248] {
         for (order, blocks) in [("in turn", in_turn()), ("anywhere", anywhere())] {
             let source = full(&blocks, &vec![0x41; length]);
             for to in TARGETS {
                 let name = format!("{length} bytes, {order}, to N={}, B={}", to.n, to.b);
-                row(&name, &source, to, runs);
+                row(&name, [plain::move_to, library], &source, to, runs);
             }
         }
     }
+}
+
+/// The heads of a table of two sides.
+pub fn print_heads(first: &str, second: &str) {
+    println!(
+        "  {:<36}{:>8}{:>14}{:>14}{:>10}{:>16}",
+        first, second, "plain Rust", "library", "ratio", "half the runs"
+    );
 }
 
 /// As many blocks as the chip holds: 1, 2, 3 and so on.
@@ -45,7 +45,7 @@ fn in_turn() -> Vec<u16> {
 }
 
 /// As many from all over the range, in any order.
-fn anywhere() -> Vec<u16> {
+pub fn anywhere() -> Vec<u16> {
     let mut blocks: Vec<u16> = (1..=65_534).collect();
     Rng::new(106).shuffle(&mut blocks);
     blocks.truncate(SOURCE.capacity());
@@ -53,7 +53,7 @@ fn anywhere() -> Vec<u16> {
 }
 
 /// The old chip with these blocks, slot by slot.
-fn full(blocks: &[u16], contents: &[u8]) -> Vec<u8> {
+pub fn full(blocks: &[u16], contents: &[u8]) -> Vec<u8> {
     let Geometry { n, b } = SOURCE;
     let g = reference::Geometry { n, b };
     let mut image = vec![0xFF; n * g.segment_len()];
@@ -68,7 +68,8 @@ fn full(blocks: &[u16], contents: &[u8]) -> Vec<u8> {
     image
 }
 
-type Moving = fn(&[u8], Geometry, &mut [u8], Geometry, u64) -> Reply;
+/// What builds a target from a source.
+pub type Moving = fn(&[u8], Geometry, &mut [u8], Geometry, u64) -> Reply;
 
 fn library(source: &[u8], g: Geometry, target: &mut [u8], to: Geometry, allowance: u64) -> Reply {
     let [chip, wanted] = [g, to].map(|Geometry { n, b }| typed(reference::Geometry { n, b }));
@@ -79,9 +80,10 @@ fn library(source: &[u8], g: Geometry, target: &mut [u8], to: Geometry, allowanc
     }
 }
 
-fn row(name: &str, source: &[u8], to: Geometry, runs: usize) {
+/// A row of the plain one and the library.
+pub fn row(name: &str, sides: [Moving; 2], source: &[u8], to: Geometry, runs: usize) {
     // The compiler does not know here which they are.
-    let sides: [Moving; 2] = black_box([plain::move_to, library]);
+    let sides = black_box(sides);
     let mut targets = [(); 2].map(|()| vec![0; to.n * to.segment_len()]);
     let mut replies = [Reply { code: 0, steps: 0 }; 2];
     let mut times: [Vec<Duration>; 2] = Default::default();
@@ -98,11 +100,17 @@ fn row(name: &str, source: &[u8], to: Geometry, runs: usize) {
         assert!(replies[0] == replies[1]);
         assert!(targets[0] == targets[1], "the targets differ");
     }
+    print_row(name, replies[0].steps, times);
+}
+
+/// The medians of both, the library's over that of the plain one, and between which ratios half of the
+/// runs lie.
+pub fn print_row(name: &str, count: u64, times: [Vec<Duration>; 2]) {
     let (low, high) = middle_half(&times);
     let [plain, library] = times.map(|times| median(times) * 1e6);
-    let (steps, ratio) = (replies[0].steps, library / plain);
+    let ratio = library / plain;
     println!(
-        "  {name:<36}{steps:>8}{plain:>11.1} µs{library:>11.1} µs{ratio:>10.2}{low:>8.2} to {high:.2}"
+        "  {name:<36}{count:>8}{plain:>11.1} µs{library:>11.1} µs{ratio:>10.2}{low:>8.2} to {high:.2}"
     );
 }
 

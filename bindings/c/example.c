@@ -1,5 +1,5 @@
 /* The store from C: a rewrite loses its power half way, and the acknowledged contents stand. Then a move to another
- * chip, and the same mounted.
+ * chip, what can be salvaged once that one is damaged, and the store mounted.
  *
  *     rt staticlib qanbillox                                        (at the root of the repository)
  *     cc -Wall -Wextra -Werror -Iinclude bindings/c/example.c target/staticlib/libqanbillox.a -o target/example
@@ -114,6 +114,50 @@ static int moved(void)
     return wrong;
 }
 
+/* A third chip of the new board's geometry, for what is salvaged. */
+static uint8_t saved[sizeof target];
+
+/* Prints what is found in the new chip; returns 0 if the text is this. */
+static int salvage(const char *expected)
+{
+    static uint8_t text[512]; /* qbx_salvage_length(NEW_SEGMENTS, NEW_SLOTS) is less */
+    uint64_t result = qbx_salvage(target, sizeof target, NEW_SEGMENTS, NEW_SLOTS, text, sizeof text);
+    size_t length = qbx_text_length_of(result);
+
+    printf("the salvage:\n%.*s", (int)length, (const char *)text);
+    return qbx_answer_of(result) != QBX_DONE || length != strlen(expected) || memcmp(text, expected, length) != 0;
+}
+
+static uint64_t rebuild(uint64_t budget)
+{
+    return qbx_rebuild(target, sizeof target, NEW_SEGMENTS, NEW_SLOTS, saved, sizeof saved, NEW_SEGMENTS, NEW_SLOTS,
+                       budget);
+}
+
+static uint64_t saved_read(void) { return qbx_read(saved, sizeof saved, NEW_SEGMENTS, NEW_SLOTS, BLOCK); }
+
+/* The new chip is written on, and then a fault makes a slot that was replaced look live again: nothing but a salvage
+ * reads it now. Returns 0 if all is as expected. */
+static int salvaged(void)
+{
+    int wrong = 0;
+
+    wrong += told("move again", move_there(unlimited), QBX_DONE, 30);
+    wrong += told("put there", qbx_put(target, sizeof target, NEW_SEGMENTS, NEW_SLOTS, BLOCK, (const uint8_t *)"F", 1,
+                                       unlimited), QBX_DONE, 7);
+    wrong += told("put there", new_put("G"), QBX_DONE, 6);
+    target[QBX_PAGE] |= 0x20;
+    wrong += told("recover, damaged", qbx_recover(target, sizeof target, NEW_SEGMENTS, NEW_SLOTS, unlimited),
+                  QBX_DAMAGED, 0);
+    wrong += salvage("salvage promises nothing\n"
+                     "block 7 len 1 seg 0 slot 2 differs\n"
+                     "block 8 len 1 seg 0 slot 3 same\n");
+    wrong += told("rebuild, cut", rebuild(29), QBX_CUT, 29);
+    wrong += told("rebuild", rebuild(unlimited), QBX_DONE, 36);
+    wrong += chip_shows("read what was saved", saved, saved_read(), "F");
+    return wrong;
+}
+
 /* The table of places, which is lent to the mounted form. */
 static uint32_t places[QBX_PLACES];
 
@@ -171,6 +215,7 @@ int main(void)
     wrong += shows("read", block_read(), "C");
     wrong += told("an image that is too short", qbx_format(image, sizeof image - 1, SEGMENTS, SLOTS, unlimited), QBX_SIZE, 0);
     wrong += moved();
+    wrong += salvaged();
     wrong += mounted();
     return wrong != 0;
 }

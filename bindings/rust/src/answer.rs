@@ -3,20 +3,22 @@ use core::fmt;
 
 /// What a request answers. The numbers are those of document 01, "What comes back", and of the later
 /// requests. Where several apply, the store gives the smallest; but 10 comes right after 1, and 11
-/// right after 5. 10 is for the mounted form alone, 14 for the account.
+/// right after 5. 10 is for the mounted form alone, 14 for the account and the salvage.
 #[derive(Clone, Copy, Debug, PartialEq, Eq, PartialOrd, Ord, Hash)]
 #[repr(u8)]
 pub enum Answer {
     /// 0: the request is done.
     Done = 0,
     /// 1: the number of segments, the number of slots or the length of the image is out of range; of
-    /// either image in a [move](crate::Geometry::move_to).
+    /// either image in a [move](crate::Geometry::move_to) or a [rebuild](crate::Geometry::rebuild).
     Size = 1,
     /// 2: the block number is 0 or 65,535.
     Number = 2,
     /// 3: the contents of a put have 0 bytes or over 248.
     Length = 3,
-    /// 4: the image is damaged; only a format helps. A format never answers it.
+    /// 4: the image is damaged; only a format makes a store of it again. What can be found in it, a
+    /// [salvage](crate::Geometry::salvage_into) tells and a [rebuild](crate::Geometry::rebuild) takes
+    /// along, without a promise. A format never answers 4, nor do these two.
     Damaged = 4,
     /// 5: a power cut left something unfinished; recover first. On a [`Mounted`](crate::Mounted)
     /// store: it was cut, and is to be recovered and mounted again.
@@ -24,7 +26,8 @@ pub enum Answer {
     /// 6: the block to be read or deleted is not stored.
     Absent = 6,
     /// 7: a put of a block that is not stored while [`Geometry::capacity`](crate::Geometry::capacity)
-    /// blocks are, or a [move](crate::Geometry::move_to) of more blocks than the target's capacity.
+    /// blocks are, or a [move](crate::Geometry::move_to) or [rebuild](crate::Geometry::rebuild) of more
+    /// blocks than the target's capacity.
     Full = 7,
     /// 8: the put needs a new segment, and the chip is worn, in one of two cases: the largest
     /// number that the put would give a segment, divided by the number of segments (the whole
@@ -34,7 +37,8 @@ pub enum Answer {
     Worn = 8,
     /// 9: the step budget ended before the request did. The image is as after a power cut: some
     /// first steps of the request are done, and [`recover`](crate::Geometry::recover) comes next; but
-    /// a format or a [move](crate::Geometry::move_to) is begun again.
+    /// a format, a [move](crate::Geometry::move_to) or a [rebuild](crate::Geometry::rebuild) is begun
+    /// again.
     Cut = 9,
     /// 10: the table lent to a [`mount`](crate::Geometry::mount) has fewer than
     /// [`PLACES`](crate::PLACES) entries. It is untouched.
@@ -43,7 +47,8 @@ pub enum Answer {
     /// to. To go on writing, [move](crate::Geometry::move_to) it to a second buffer, of the same
     /// geometry or another: that one is of version 2 and has all its records. A format loses them.
     FormerVersion = 11,
-    /// 14: the buffer is too short for the text of an account. It is untouched, and the length is 0.
+    /// 14: the buffer is too short for the text of an account or a salvage. It is untouched, and the
+    /// length is 0.
     ShortBuffer = 14,
 }
 

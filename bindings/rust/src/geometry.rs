@@ -77,6 +77,25 @@ impl Geometry {
             None
         }
     }
+
+    /// A length in bytes that the [salvage](Geometry::salvage_into) of no image of this geometry
+    /// exceeds, or `None` for a geometry that the store does not take.
+    ///
+    /// ```
+    /// let board = qanbillox::Geometry { segments: 4, slots: 15 };
+    /// assert_eq!(board.salvage_len(), Some(2_545)); // the longest there is has 2,329
+    /// ```
+    pub const fn salvage_len(self) -> Option<usize> {
+        // The first line, and one for each slot. A line that differs is longer by three bytes, but
+        // stands for two slots at least.
+        const FIRST: usize = "salvage promises nothing\n".len();
+        const SLOT: usize = "block 65534 len 248 seg 254 slot 255 same\n".len();
+        if self.is_valid() {
+            Some(FIRST + self.segments * self.slots * SLOT)
+        } else {
+            None
+        }
+    }
 }
 
 #[cfg(test)]
@@ -106,5 +125,12 @@ mod tests {
         assert!(account(255, 255) >= Some(2_364_768));
         assert_eq!(account(255, 256), None);
         assert_eq!(account(usize::MAX, usize::MAX), None);
+        // And of the salvage.
+        let salvage = |segments, slots| Geometry { segments, slots }.salvage_len();
+        assert!(salvage(4, 15) >= Some(2_329));
+        assert!(salvage(64, 255) >= Some(659_683));
+        assert!(salvage(255, 255) >= Some(2_665_505));
+        assert_eq!(salvage(255, 256), None);
+        assert_eq!(salvage(usize::MAX, usize::MAX), None);
     }
 }

@@ -7,8 +7,8 @@
 //!
 //! This crate is a thin, safe layer over the proved static library: it adds types, and takes
 //! nothing away. It holds no state but what is lent to it, and has no dependency. Only
-//! `Geometry::account` allocates, the text that it gives back; without the feature `alloc`, which is a
-//! default one, the crate lacks it and wants no allocator.
+//! `Geometry::account` and `Geometry::salvage` allocate, the text that they give back; without the
+//! feature `alloc`, which is a default one, the crate lacks them and wants no allocator.
 //!
 //! - [`Geometry`] is the shape of the chip, and its methods are the requests:
 //!   [`format`](Geometry::format), [`put`](Geometry::put), [`delete`](Geometry::delete),
@@ -18,6 +18,9 @@
 //! - [`Geometry::move_to`] builds an image for another chip, with the blocks of the old one.
 //! - [`Geometry::account_into`] says what an image holds, for paper, as text in a buffer that is
 //!   lent; `Geometry::account` gives the same as a string.
+//! - [`Geometry::salvage_into`] and `Geometry::salvage` say in the same way what can still be found in
+//!   a damaged image, and [`Geometry::rebuild`] builds a fresh image of it. They promise nothing of
+//!   what was acknowledged.
 //! - [`Answer`] is what comes back, with the numbers of document 01.
 //! - [`Outcome`] has the count of flash steps done, and [`Read`] the contents, borrowed from the
 //!   image.
@@ -99,6 +102,7 @@ mod geometry;
 mod mounted;
 mod moving;
 mod request;
+mod salvage;
 mod sys;
 
 pub use account::Account;
@@ -107,3 +111,4 @@ pub use blank::{blank_test, BlankTest};
 pub use geometry::{Geometry, MAX_CONTENTS, PAGE};
 pub use mounted::{Mounted, PLACES};
 pub use request::{Block, Outcome, Read, Request, UNLIMITED};
+pub use salvage::Salvage;

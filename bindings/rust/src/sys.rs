@@ -124,6 +124,29 @@ extern "C" {
         text_len: usize,
     ) -> u64;
 
+    /// Answer + 256 × length of the text.
+    pub fn qbx_salvage(
+        image: *const u8,
+        image_len: usize,
+        segments: usize,
+        slots: usize,
+        text: *mut u8,
+        text_len: usize,
+    ) -> u64;
+
+    /// Answer + 256 × steps done.
+    pub fn qbx_rebuild(
+        source: *const u8,
+        source_len: usize,
+        segments: usize,
+        slots: usize,
+        target: *mut u8,
+        target_len: usize,
+        target_segments: usize,
+        target_slots: usize,
+        budget: u64,
+    ) -> u64;
+
     /// 1 if every byte is 255, otherwise 0; + 256 × groups of eight looked at.
     pub fn qbx_is_blank(bytes: *const u8, bytes_len: usize) -> u64;
 }

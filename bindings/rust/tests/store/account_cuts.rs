@@ -11,7 +11,7 @@ use crate::prng::Rng;
 use crate::reference::*;
 
 /// The rules by which a board of this version is written.
-fn rules(version: Version) -> Rules {
+pub fn rules(version: Version) -> Rules {
     match version {
         Version::One => Rules::Former,
         Version::Two => Rules::Present,

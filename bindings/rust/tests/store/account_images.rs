@@ -188,7 +188,7 @@ fn the_first_that_fails() {
 }
 
 /// A header that fits or nearly does, its number about a limit, with any status and version.
-fn any_header(rng: &mut Rng, image: &mut [u8], g: Geometry, index: usize, base: u32) {
+pub fn any_header(rng: &mut Rng, image: &mut [u8], g: Geometry, index: usize, base: u32) {
     let n = g.n as u32;
     let round = match rng.below(8) {
         0 => 0,
@@ -211,7 +211,7 @@ fn any_header(rng: &mut Rng, image: &mut [u8], g: Geometry, index: usize, base: 
 }
 
 /// A slot of any kind, with one of few block numbers, which lie about the lengths that numbers have.
-fn any_slot(rng: &mut Rng, page: &mut [u8]) {
+pub fn any_slot(rng: &mut Rng, page: &mut [u8]) {
     let block = rng.pick(&[
         1, 2, 9, 10, 11, 99, 100, 255, 256, 999, 1_000, 9_999, 10_000, 65_533, 65_534,
     ]);
@@ -231,7 +231,7 @@ fn any_slot(rng: &mut Rng, page: &mut [u8]) {
 }
 
 /// Images put together from such headers and slots.
-fn patchwork(rng: &mut Rng, g: Geometry) -> Vec<u8> {
+pub fn patchwork(rng: &mut Rng, g: Geometry) -> Vec<u8> {
     let mut image = images::blank(g);
     let base = rng.pick(&[0, g.n, 12 * g.n, 99_998 * g.n]) as u32;
     let unused = rng.pick(&[0, 1, 2, 4]);

@@ -8,10 +8,10 @@ use crate::pages::write_header_of;
 use crate::reference::*;
 
 /// A board as the bench has it.
-const G: Geometry = Geometry { n: 4, b: 15 };
+pub const G: Geometry = Geometry { n: 4, b: 15 };
 
 /// Writes the slots of a segment from the first on: live ones, and then so many dead.
-fn fill(image: &mut [u8], number: u32, records: &[(u16, &[u8])], dead: usize) {
+pub fn fill(image: &mut [u8], number: u32, records: &[(u16, &[u8])], dead: usize) {
     let mut slot = 0;
     let mut write = |status, block, contents: &[u8]| {
         slot += 1;
@@ -27,7 +27,7 @@ fn fill(image: &mut [u8], number: u32, records: &[(u16, &[u8])], dead: usize) {
 }
 
 /// The board of the readings: its top, with number 7, owes the erase of the segment with number 4.
-fn owing_board(version: Version) -> Vec<u8> {
+pub fn owing_board(version: Version) -> Vec<u8> {
     let mut image = blank(G);
     for (number, status) in [(4, SETTLED), (5, SETTLED), (6, SETTLED), (7, OWING)] {
         write_header_of(version, &mut image, G, number, status);

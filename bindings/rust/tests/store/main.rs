@@ -43,7 +43,17 @@ mod moving_tables;
 mod pages;
 mod power_cuts;
 mod prng;
+mod rebuild_cuts;
+mod rebuild_images;
+mod rebuild_refusals;
 mod reference;
+mod salvage_cuts;
+mod salvage_harness;
+mod salvage_images;
+mod salvage_plain;
+mod salvage_reference;
+mod salvage_samples;
+mod salvage_sources;
 mod sequences;
 mod step_lists;
 #[cfg(qbx_lib)]

@@ -10,23 +10,38 @@ use crate::moving_reference as moving;
 use crate::prng::Rng;
 use crate::reference::*;
 
-/// An implementation of the move.
-struct Side {
-    name: &'static str,
-    move_to: fn(&[u8], Geometry, &mut [u8], Geometry, u64) -> Reply,
+/// What builds a target from a source: a move, or the rebuilding of request #113.
+pub type Build = fn(&[u8], Geometry, &mut [u8], Geometry, u64) -> Reply;
+
+/// An implementation of it.
+pub struct Side {
+    pub name: &'static str,
+    pub build: Build,
 }
 
-const SIDES: &[Side] = &[
-    Side {
-        name: "the plain one",
-        move_to: plain::move_to,
-    },
-    #[cfg(qbx_lib)]
-    Side {
-        name: "the library",
-        move_to: library,
-    },
-];
+/// The reference, and the implementations that are held to it.
+pub struct Builders {
+    /// What they are called in messages.
+    pub what: &'static str,
+    pub reference: Build,
+    pub sides: &'static [Side],
+}
+
+const MOVES: Builders = Builders {
+    what: "a move",
+    reference: moving::move_to,
+    sides: &[
+        Side {
+            name: "the plain one",
+            build: plain::move_to,
+        },
+        #[cfg(qbx_lib)]
+        Side {
+            name: "the library",
+            build: library,
+        },
+    ],
+};
 
 #[cfg(qbx_lib)]
 fn library(source: &[u8], g: Geometry, target: &mut [u8], to: Geometry, allowance: u64) -> Reply {
@@ -53,41 +68,46 @@ pub struct Move<'a> {
 impl Move<'_> {
     /// The reply, and the target afterwards.
     pub fn make(self, store: &Store, allowance: u64) -> (Reply, Vec<u8>) {
+        self.make_by(store, &MOVES, allowance)
+    }
+
+    /// The same by others: what is lent is the same.
+    pub fn make_by(self, store: &Store, by: &Builders, allowance: u64) -> (Reply, Vec<u8>) {
         store.count();
         let Move { source, g, to, .. } = self;
         let mut target = self.target.to_vec();
-        let reply = moving::move_to(source, g, &mut target, to, allowance);
+        let reply = (by.reference)(source, g, &mut target, to, allowance);
         match reply.code {
             DONE => assert!(reply.steps <= allowance),
-            CUT => assert_eq!(reply.steps, allowance, "a cut move does what is allowed"),
+            CUT => assert_eq!(reply.steps, allowance, "a cut does what is allowed"),
             _ => {
-                assert_eq!(reply.steps, 0, "a refused move takes no step");
-                assert!(target == self.target, "a refused move changes no byte");
+                assert_eq!(reply.steps, 0, "a refusal takes no step");
+                assert!(target == self.target, "a refusal changes no byte");
             }
         }
-        for side in SIDES {
-            self.compare(side, allowance, reply, &target);
+        for side in by.sides {
+            self.compare(by.what, side, allowance, reply, &target);
         }
         (reply, target)
     }
 
-    /// Makes the move on a side, with a source that must stay as it was.
-    fn compare(self, side: &Side, allowance: u64, reply: Reply, target: &[u8]) {
+    /// Builds the target on a side, with a source that must stay as it was.
+    fn compare(self, what: &str, side: &Side, allowance: u64, reply: Reply, target: &[u8]) {
         let Move { g, to, .. } = self;
         let source = self.source.to_vec();
         let mut written = self.target.to_vec();
-        let told = (side.move_to)(&source, g, &mut written, to, allowance);
+        let told = (side.build)(&source, g, &mut written, to, allowance);
         let name = side.name;
         assert_eq!(
             told, reply,
-            "{name} left: a move with allowance {allowance} from {g:?} to {to:?}"
+            "{name} left: {what} with allowance {allowance} from {g:?} to {to:?}"
         );
         if written != target {
             let differs = |&at: &usize| written[at] != target[at];
             let at = (0..target.len()).find(differs).expect("equal lengths");
             panic!(
                 "byte {at}: {name} has {:02X}, the reference {:02X}; \
-                 a move with allowance {allowance} from {g:?} to {to:?}",
+                 {what} with allowance {allowance} from {g:?} to {to:?}",
                 written[at], target[at]
             );
         }

@@ -48,7 +48,8 @@ fn places_of(source: &[u8], g: Geometry, target: &[u8], to: Geometry) -> Result<
     Ok(places)
 }
 
-fn write_all(flash: &mut Flash, source: &[u8], places: &[u32]) -> Result<(), Spent> {
+/// Writes the whole target: the slots of the source at these places, each under the number of its entry.
+pub fn write_all(flash: &mut Flash, source: &[u8], places: &[u32]) -> Result<(), Spent> {
     let g = flash.g;
     for index in 0..g.n {
         flash.erase(index)?;

@@ -93,12 +93,16 @@ pub fn move_to(
     to: Geometry,
     allowance: u64,
 ) -> Reply {
-    let entries = match check(source, g, target, to) {
-        Ok(entries) => entries,
-        Err(code) => return Reply { code, steps: 0 },
-    };
+    match check(source, g, target, to) {
+        Ok(entries) => build(target, to, &entries, allowance),
+        Err(code) => Reply { code, steps: 0 },
+    }
+}
+
+/// Does as many steps of the list as are allowed.
+pub fn build(target: &mut [u8], to: Geometry, entries: &[(u16, Vec<u8>)], allowance: u64) -> Reply {
     let mut steps = 0;
-    for step in list(to, &entries) {
+    for step in list(to, entries) {
         if steps == allowance {
             return Reply { code: CUT, steps };
         }

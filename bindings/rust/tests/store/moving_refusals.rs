@@ -35,7 +35,7 @@ fn each_kind() -> [(Vec<u8>, u8); 3] {
 }
 
 /// N and B out of range, or not those of an image of this geometry.
-fn wrong_geometries(g: Geometry) -> Vec<Geometry> {
+pub fn wrong_geometries(g: Geometry) -> Vec<Geometry> {
     let Geometry { n, b } = g;
     [
         (0, b),
@@ -60,7 +60,7 @@ fn wrong_geometries(g: Geometry) -> Vec<Geometry> {
 }
 
 /// Images that are too short or too long.
-fn wrong_lengths(image: &[u8]) -> Vec<Vec<u8>> {
+pub fn wrong_lengths(image: &[u8]) -> Vec<Vec<u8>> {
     let length = image.len();
     let mut longer = image.to_vec();
     longer.resize(length + PAGE, 0xFF);
