@@ -10,7 +10,9 @@ use Rattle.model.specs.Chip.{Image, rightSize}
 use Rattle.model.specs.State.{segmentsOf, holds, usedCount}
 use Rattle.model.specs.Mounted.{leastPlaces}
 use Rattle.text.specs.Text.{text, text as ascii}
-use Rattle.text.specs.Buffer.{Wrote, mostText}
+use Rattle.model.specs.Answers.{codeOf}
+use Rattle.model.specs.declared.Answer.the-variants.{Size}
+use Rattle.text.specs.Buffer.{printed, printIn, Wrote}
 use Rattle.text.proofs.Laws.{wrote-as}
 use Rattle.flash.specs.Pages.{Sized}
 use Rattle.flash.proofs.Pages.{sized}
@@ -20,7 +22,7 @@ use Rattle.index.specs.Chains.{page-few}
 use Rattle.index.specs.Sorted.{AllBelow}
 use Rattle.printing.proofs.Laws.{page-segment, Blocks, blocks-more, blocks-none, blocks-room, blocks-end}
 use Rattle.skipping.specs.Passed.{Passed}
-use Rattle.salvage.specs.Salvage.{heldIn, candidates, given, agreed, givenLine, salvageOn, salvageText}
+use Rattle.salvage.specs.Salvage.{heldIn, candidates, given, agreed, givenLine, salvageText, salvageOutcome}
 use Rattle.meeting.specs.Sheet.{Sheet}
 use Rattle.candidates.specs.Gathered.{Lies, NoneOf, OneOf, Tells, Gathered}
 use Rattle.candidates.specs.Told.{AllLie}
@@ -87,6 +89,10 @@ module _ (N B : ℕ) (s : Image) (z : rightSize N B s ≡ true) (t : Sheet) (g :
       single : (e : LiveSlot) → flatMap (givenLine found) (e ∷ []) ≡ givenLine found e
       single e = unfold flatMap in (append-nil (givenLine found e))
 
+  -- contents that a byte tells the length of
+  pub lines-short : (block : ℕ) → block < mostPages → getD (t .places) block 0 ≢ 0 → getD (t .lengths) block 0 < 256
+  lines-short block h some = ⊎-elim (λ k. absurd (some (k .place))) (λ o. omega (arith, o .length, o .lies .stands .length)) (g .tells block h)
+
   -- those without one have none
   lines-none : {text : List ℕ} {block end : ℕ} → Lines text block end → block < mostPages → getD (t .places) block 0 ≡ 0 → Lines text (block + 1) end
   lines-none {text} {block} {end} b h none = blocks-none (nothing (g .tells block h)) b h
@@ -118,3 +124,13 @@ module _ (N B : ℕ) (s : Image) (z : rightSize N B s ≡ true) (t : Sheet) (g :
   pub lines-end : {text : List ℕ} {block end : ℕ} → Lines text block end → mostPages ≤ block
       → Wrote (flatMap (givenLine (candidates N (segmentsOf N B s))) (byBlock (given (candidates N (segmentsOf N B s))))) start at text end × (end ≤ at + 80 * 65536)
   lines-end b h = let f = sized N B s z in blocks-end (given-below N B s found (candidates-lie N B s (f .some) (omega (arith, f .whole)))) few b h
+
+-- ---- by the image's size
+
+pub size-refused : (N B : ℕ) (s : Image) (buffer : List ℕ) → rightSize N B s ≡ false → printed (record { answer = Size; length = 0 }) buffer ≡ salvageOutcome N B s buffer
+unfolding printed salvageOutcome codeOf
+size-refused N B s buffer z = rw z
+
+pub size-right : (N B : ℕ) (s : Image) (buffer : List ℕ) → rightSize N B s ≡ true → printIn (salvageText N B s) buffer ≡ salvageOutcome N B s buffer
+unfolding salvageOutcome
+size-right N B s buffer z = rw z

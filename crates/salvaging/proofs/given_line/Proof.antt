@@ -1,46 +1,47 @@
+-- `salvaging::given_line`: two pieces in a row. Assumes nothing.
+use native.Mathlib.Omega.{arith}
+use Rattle.text.specs.Text.{text}
+use Rattle.text.proofs.Laws.{_then_}
 use borrow.Author.Needs.{needs}
 use Rattle.salvaging.proofs.given_line.Statement.{statement}
 use Rattle.salvaging.proofs.given_line.Tie as tie
-use Rattle.salvaging.proofs.given_line.Reads as reads
-use Rattle.salvaging.proofs.given_line.Lts as lts
-use Rattle.printing.proofs.block_text.Reads as block-text-reads
-use Rattle.text.proofs.add.Reads as add-reads
 
--- src/lib.rt:33:9
 block-text-requires : tie.Need-block-text-requires
 block-text-requires c κs = search needs
 
--- src/lib.rt:35:37
 slice-aggregate-add : tie.Need-slice-aggregate-add
 slice-aggregate-add c = search needs
 
--- src/lib.rt:35:9
 add-requires : tie.Need-add-requires
 add-requires c κs = search needs
 
--- src/lib.rt:35:9
 same-length : tie.Need-same-length
 same-length c = search needs
 
--- src/lib.rt:35:9
 returns : tie.Need-returns
-returns c = ?
+unfolding text
+returns c =
+    let k2 = c .before .before in
+    let i = k2 .before .before .before in
+    let k1 = i .before .before .before in
+    rw (i .if1 .taken) (k1 .block-text .ensures .0 then k2 .add .ensures, omega (arith, k1 .block-text .ensures .1, k2 .add .ensures .ends))
 
--- src/lib.rt:37:26
 slice-aggregate-add-2 : tie.Need-slice-aggregate-add-2
 slice-aggregate-add-2 c = search needs
 
--- src/lib.rt:37:5
 add-requires-2 : tie.Need-add-requires-2
 add-requires-2 c κs = search needs
 
--- src/lib.rt:21:1
 same-length-2 : tie.Need-same-length-2
 same-length-2 c = search needs
 
--- src/lib.rt:21:1
 returns-2 : tie.Need-returns-2
-returns-2 c = ?
+unfolding text
+returns-2 c =
+    let k2 = c .before .before in
+    let i = k2 .before .before .before in
+    let k1 = i .before .before .before in
+    rw (i .if1 .left) (k1 .block-text .ensures .0 then k2 .add2 .ensures, omega (arith, k1 .block-text .ensures .1, k2 .add2 .ensures .ends))
 
 pub given-line-spec : {M : Type 1} → statement M
 given-line-spec =

@@ -1,65 +1,70 @@
+-- `salvaging::salvage`: what is put together twice is the text. Assumes nothing.
+use mathlib.Core.Path.{refl, ap, _∙_}
+use native.Mathlib.Omega.{arith}
+use denote.Ref.{now}
+use Rattle.request.proofs.Laws.{wrong-size, right-size}
+use Rattle.text.specs.Buffer.{shortOf, doneOf}
+use Rattle.text.proofs.Laws.{print-short, print-done}
+use Rattle.salvaging.proofs.Laws.{size-refused, size-right}
 use borrow.Author.Needs.{needs}
 use Rattle.salvaging.proofs.salvage.Statement.{statement}
 use Rattle.salvaging.proofs.salvage.Tie as tie
-use Rattle.salvaging.proofs.salvage.Reads as reads
-use Rattle.salvaging.proofs.salvage.Lts as lts
-use Rattle.candidates.proofs.gather.Reads as gather-reads
-use Rattle.request.proofs.right_size.Reads as right-size-reads
-use Rattle.salvaging.proofs.compose.Reads as compose-reads
-use Rattle.text.proofs.done.Reads as done-reads
-use Rattle.text.proofs.short.Reads as short-reads
 
--- src/lib.rt:110:9
 right-size-requires : tie.Need-right-size-requires
 right-size-requires c κs = search needs
 
--- src/lib.rt:111:9
 returns : tie.Need-returns
-returns c = ?
+returns c =
+    let a = c .before .before .before .before .args in
+    (size-refused (a .segments) (a .slots) (now (a .image)) (now (a .text)) (wrong-size (a .segments) (a .slots) (now (a .image)) _ (c .before .right-size .ensures) (c .if1 .taken)), omega arith)
 
--- src/lib.rt:119:5
 gather-requires : tie.Need-gather-requires
-gather-requires c κs = ?
+gather-requires c κs =
+    let a = c .before .before .before .before .before .before .before .args in
+    (right-size (a .segments) (a .slots) (now (a .image)) _ (c .before .before .before .before .right-size .ensures) (c .before .before .before .if1 .left), refl, refl, refl)
 
--- src/lib.rt:133:9
 slice-aggregate-compose : tie.Need-slice-aggregate-compose
 slice-aggregate-compose c = search needs
 
--- src/lib.rt:136:9
 slice-aggregate-compose-2 : tie.Need-slice-aggregate-compose-2
 slice-aggregate-compose-2 c = search needs
 
--- src/lib.rt:129:9
 compose-requires : tie.Need-compose-requires
-compose-requires c κs = ?
+compose-requires c κs =
+    let a = c .before .before .before .before .before .before .before .before .before .before .before .before .args in
+    (right-size (a .segments) (a .slots) (now (a .image)) _ (c .before .before .before .before .before .before .before .before .before .right-size .ensures) (c .before .before .before .before .before .before .before .before .if1 .left), c .before .before .before .before .gather .ensures)
 
--- src/lib.rt:139:9
 short-requires : tie.Need-short-requires
 short-requires c κs = search needs
 
--- src/lib.rt:139:9
 returns-2 : tie.Need-returns-2
-returns-2 c = ?
+unfolding shortOf
+returns-2 c =
+    let a = c .before .before .before .before .before .before .before .before .before .before .before .before .before .before .before .before .args in
+    let w = c .before .before .before .compose .ensures .0 in
+    (print-short _ _ _ (omega (arith, w .ends, c .before .if2 .taken)) (c .short .ensures) ∙ size-right (a .segments) (a .slots) (now (a .image)) (now (a .text)) (right-size (a .segments) (a .slots) (now (a .image)) _ (c .before .before .before .before .before .before .before .before .before .before .before .before .before .right-size .ensures) (c .before .before .before .before .before .before .before .before .before .before .before .before .if1 .left)), rw (c .short .ensures) (omega arith))
 
--- src/lib.rt:145:9
 slice-aggregate-compose-3 : tie.Need-slice-aggregate-compose-3
 slice-aggregate-compose-3 c = search needs
 
--- src/lib.rt:141:16
 compose-requires-2 : tie.Need-compose-requires-2
-compose-requires-2 c κs = ?
+compose-requires-2 c κs =
+    let a = c .before .before .before .before .before .before .before .before .before .before .before .before .before .before .before .before .before .before .before .args in
+    (right-size (a .segments) (a .slots) (now (a .image)) _ (c .before .before .before .before .before .before .before .before .before .before .before .before .before .before .before .before .right-size .ensures) (c .before .before .before .before .before .before .before .before .before .before .before .before .before .before .before .if1 .left), c .before .before .before .before .before .before .before .before .before .before .before .gather .ensures)
 
--- src/lib.rt:141:5
 done-requires : tie.Need-done-requires
 done-requires c κs = search needs
 
--- src/lib.rt:107:1
 same-length : tie.Need-same-length
 same-length c = search needs
 
--- src/lib.rt:107:1
 returns-3 : tie.Need-returns-3
-returns-3 c = ?
+unfolding doneOf
+returns-3 c =
+    let a = c .before .before .before .before .before .before .before .before .before .before .before .before .before .before .before .before .before .before .before .before .before .before .before .args in
+    let w = c .before .before .before .before .before .before .before .before .before .before .compose .ensures .0 in
+    let v = c .before .before .before .compose2 .ensures in
+    (print-done _ _ _ _ _ (omega (arith, w .ends, c .before .before .before .before .before .before .before .before .if2 .left)) (v .0) (c .done .ensures) ∙ size-right (a .segments) (a .slots) (now (a .image)) (now (a .text)) (right-size (a .segments) (a .slots) (now (a .image)) _ (c .before .before .before .before .before .before .before .before .before .before .before .before .before .before .before .before .before .before .before .before .right-size .ensures) (c .before .before .before .before .before .before .before .before .before .before .before .before .before .before .before .before .before .before .before .if1 .left)), rw (c .done .ensures) (omega (arith, v .1)))
 
 pub salvage-spec : {M : Type 1} → statement M
 salvage-spec =
