@@ -1,19 +1,20 @@
--- Every candidate stands in the image.
+-- Every candidate stands in the image; those given are some of them.
 use Prim.Native.Nat.{ℕ, suc, _+_, _*_, _%_, _≤_, _<_}
 use mathlib.Core.Path.{_≡_, refl}
 use mathlib.Core.Bool.{Bool, true, false, cond}
-use mathlib.Core.List.{List, [], _∷_}
+use mathlib.Core.List.{List, [], _∷_, map}
 use native.Mathlib.Omega.{arith}
 use native.Mathlib.Nat.{suc-mul, mul-le-mul-right, mod-lt}
 use lib.ListN.{length, getD, take, drop}
 use Rattle.model.specs.Chip.{Image, mostSegments, mostSlots}
 use Rattle.model.specs.Slot.{live, slotOf}
-use Rattle.model.specs.State.{Segment, blank, isInUse, isOwing, segmentsOf, nextIndex, nextNumber, topIndex, nextBlanked, usedCount}
+use Rattle.model.specs.State.{Segment, blank, isInUse, isOwing, segmentsOf, nextIndex, nextNumber, topIndex, nextBlanked, usedCount, holds}
 use Rattle.account_text.specs.Account.{LiveSlot, liveIn, liveSlots}
 use Rattle.index.specs.Tables.{mostPages, pageOf, Stands}
+use Rattle.index.specs.Sorted.{AllBelow}
 use Rattle.index.specs.Lives.{Each, row-each, live-stands}
 use Rattle.index.specs.Walks.{Held, held-all, held-without, used-most, in-each, in-few}
-use Rattle.salvage.specs.Salvage.{regarded, candidates}
+use Rattle.salvage.specs.Salvage.{regarded, candidates, heldIn, given}
 use Rattle.candidates.specs.Gathered.{Lies}
 use Rattle.candidates.specs.Told.{AllLie}
 
@@ -53,3 +54,23 @@ module _ (N B : ℕ) (s : Image) (p : 0 < N) (whole : N * (B + 1) * 256 ≤ leng
   candidates-lie =
       let l = regarded N (segmentsOf N B s) in
       all-lie (liveIn N (usedCount l) l) (in-each (λ e. Lies N B s e) N B s p (λ i h. row-each (λ e. Lies N B s e) B i s (slot-lies i h) B 1 (omega arith) (omega arith)) (usedCount l) l (held-regarded N B s p))
+
+-- ---- those given are candidates
+
+pub given-below : (N B : ℕ) (s : Image) (r : List LiveSlot) → AllLie N B s r → AllBelow mostPages (given r)
+unfolding given
+given-below N B s [] a = tt
+given-below N B s (e ∷ r) a = go (holds (e .block) (map heldIn r)) (given-below N B s r (a .1))
+  where
+    go : (t : Bool) → AllBelow mostPages (given r) → AllBelow mostPages (cond t (given r) (e ∷ given r))
+    go true ih = ih
+    go false ih = (a .0 .stands .block, ih)
+
+pub given-few : (r : List LiveSlot) → length (given r) ≤ length r
+unfolding given
+given-few [] = omega arith
+given-few (e ∷ r) = go (holds (e .block) (map heldIn r)) (given-few r)
+  where
+    go : (t : Bool) → length (given r) ≤ length r → length (cond t (given r) (e ∷ given r)) ≤ suc (length r)
+    go true ih = omega arith
+    go false ih = omega arith

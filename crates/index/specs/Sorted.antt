@@ -117,6 +117,11 @@ insert-length e (x ∷ r) = go (leb (e .block) (x .block)) (insert-length e r)
     go true ih = refl
     go false ih = ap suc ih
 
+pub sorted-length : (r : List LiveSlot) → length (byBlock r) ≡ length r
+unfolding byBlock
+sorted-length [] = refl
+sorted-length (e ∷ r) = insert-length e (byBlock r) ∙ ap suc (sorted-length r)
+
 pub below-few : (k : ℕ) (r : List LiveSlot) → length (blocksBelow k r) ≤ length r
 below-few k [] = let e = ap length (none-below k) in omega arith
 below-few k (e ∷ r) = go (ltb (e .block) k) refl (below-few k r)

@@ -26,27 +26,7 @@ use Rattle.salvage.specs.Salvage.{heldIn, candidates, given, agreed, givenLine,
 use Rattle.meeting.specs.Sheet.{Sheet}
 use Rattle.candidates.specs.Gathered.{Lies, NoneOf, OneOf, Tells, Gathered}
 use Rattle.candidates.specs.Told.{AllLie}
-use Rattle.candidates.specs.Lie.{candidates-few, candidates-lie}
-
--- ---- those given are candidates
-
-given-below : (N B : ℕ) (s : Image) (r : List LiveSlot) → AllLie N B s r → AllBelow mostPages (given r)
-unfolding given
-given-below N B s [] a = tt
-given-below N B s (e ∷ r) a = go (holds (e .block) (map heldIn r)) (given-below N B s r (a .1))
-  where
-    go : (t : Bool) → AllBelow mostPages (given r) → AllBelow mostPages (cond t (given r) (e ∷ given r))
-    go true ih = ih
-    go false ih = (a .0 .stands .block, ih)
-
-given-few : (r : List LiveSlot) → length (given r) ≤ length r
-unfolding given
-given-few [] = omega arith
-given-few (e ∷ r) = go (holds (e .block) (map heldIn r)) (given-few r)
-  where
-    go : (t : Bool) → length (given r) ≤ length r → length (cond t (given r) (e ∷ given r)) ≤ suc (length r)
-    go true ih = omega arith
-    go false ih = omega arith
+use Rattle.candidates.specs.Lie.{candidates-few, candidates-lie, given-below, given-few}
 
 -- ---- a line
 
