@@ -21,7 +21,6 @@ use Rattle.model.specs.declared.Performed.{Performed}
 use Rattle.model.specs.declared.Located.{Located}
 use Rattle.bridge.specs.Lengths.{few-done, read-small}
 use Rattle.moves.specs.Moves.{moveOutcome}
-use Rattle.moves.specs.Facts.{moved-few}
 use Rattle.blank.proofs.Blank.{groups-most}
 use Rattle.text.specs.declared.Printed.{Printed}
 use Rattle.text.specs.Buffer.{Print, printed}
@@ -35,9 +34,10 @@ pub gives : (o : Outcome) (p : Performed) (s : Image) (r : ℕ) → performed p 
 unfolding performed packed
 gives o p s r e h = record { number = h ∙ ap (λ (x : Outcome). x .code + 256 * x .count) e; image = ap (λ (x : Outcome). x .image) e }
 
-pub few-moved : (N B : ℕ) (s : Image) (M D : ℕ) (t : Image) (budget : ℕ) (p : Performed) (u : Image) → Bytes s → performed p u ≡ moveOutcome N B s M D t budget → p .steps ≤ largestImage
+-- it is not more in what another definition gives
+pub few-given : (o : Outcome) (p : Performed) (u : Image) → o .count ≤ largestImage → performed p u ≡ o → p .steps ≤ largestImage
 unfolding performed
-few-moved N B s M D t budget p u b e = omega (arith, moved-few N B s M D t budget b, ap (λ (o : Outcome). o .count) e)
+few-given o p u h e = omega (arith, h, ap (λ (x : Outcome). x .count) e)
 
 pub small : (N B : ℕ) (t : Image) (b : ℕ) (p : Located) → located p ≡ readOutcome N B t b → (p .offset ≤ largestImage) × (p .length ≤ 248)
 unfolding located

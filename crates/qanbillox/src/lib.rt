@@ -1,5 +1,5 @@
-// The library's exports to C and Rust: the requests, with a table of places too, the blank test, the account and the move to
-// another chip, with what comes back packed into one number.
+// The library's exports to C and Rust: the requests, with a table of places too, the blank test, the account, the move to
+// another chip and salvage, with what comes back packed into one number.
 use blank::BlankTest;
 use model::BlockNumber;
 use model::Located;
@@ -14,6 +14,7 @@ ghost use Rattle.model.specs.Mounted.{mountOutcome, MountedPut, MountedDelete, 
 ghost use Rattle.moves.specs.Moves.{moveOutcome};
 ghost use Rattle.text.specs.Buffer.{printIn, mostText};
 ghost use Rattle.account_text.specs.Account.{accountText};
+ghost use Rattle.salvage.specs.Salvage.{salvageOutcome, rebuildOutcome};
 ghost use Rattle.qanbillox.specs.Packed.{Gives, packedRead, counts, Allows, AllowsRead, Mounts, packedBlank, Prints};
 
 // The answer, and 256 times the steps done: a list never has more than some sixteen million.
@@ -187,4 +188,26 @@ pub extern "C" fn qbx_move(
     ensures { λ r. ⌜ Gives (moveOutcome n b (now (source .entry)) «target_n» «target_b» (now (target .entry)) budget) r (now (target .exit)) ⌝ }
 {
     packed(moving::move_to(source, n, b, target, target_n, target_b, budget))
+}
+
+#[no_mangle]
+pub extern "C" fn qbx_salvage(image: &[u8], n: usize, b: usize, text: &mut [u8]) -> u64
+    ensures { λ r. ⌜ Prints (salvageOutcome n b (now (image .entry)) (now (text .entry))) r (now (text .exit)) ⌝ }
+{
+    packed_print(salvaging::salvage(image, n, b, text))
+}
+
+#[no_mangle]
+pub extern "C" fn qbx_rebuild(
+    source: &[u8],
+    n: usize,
+    b: usize,
+    target: &mut [u8],
+    target_n: usize,
+    target_b: usize,
+    budget: u64,
+) -> u64
+    ensures { λ r. ⌜ Gives (rebuildOutcome n b (now (source .entry)) «target_n» «target_b» (now (target .entry)) budget) r (now (target .exit)) ⌝ }
+{
+    packed(rebuilding::rebuild(source, n, b, target, target_n, target_b, budget))
 }

@@ -2,7 +2,8 @@
 use native.Mathlib.Omega.{arith}
 use denote.Ref.{now}
 use Rattle.model.specs.Laws.Bytes.{bytes-known}
-use Rattle.qanbillox.proofs.Laws.{few-moved, gives}
+use Rattle.moves.specs.Facts.{moved-few}
+use Rattle.qanbillox.proofs.Laws.{few-given, gives}
 use borrow.Author.Needs.{needs}
 use Rattle.qanbillox.proofs.qbx_move.Statement.{statement}
 use Rattle.qanbillox.proofs.qbx_move.Tie as tie
@@ -15,7 +16,7 @@ packed-requires c κs =
     let m = c .before .before in
     let k = m .before .before .before in
     let a = k .before .args in
-    few-moved (a .n) (a .b) (now (a .source)) (a .target-n) (a .target-b) (now (a .target)) (a .budget) _ _ (bytes-known (now (a .source)) (λ i. omega (arith, k .shared-slice-known .given i))) (m .move-to .ensures)
+    few-given _ _ _ (moved-few (a .n) (a .b) (now (a .source)) (a .target-n) (a .target-b) (now (a .target)) (a .budget) (bytes-known (now (a .source)) (λ i. omega (arith, k .shared-slice-known .given i)))) (m .move-to .ensures)
 
 same-length : tie.Need-same-length
 same-length c = search needs
