@@ -17,7 +17,7 @@ fn given_count(places: &[u32]) -> usize
     requires { ⌜ length (now places) ≡ mostPages ⌝ }
     ensures { λ r. ⌜ r ≡ count (λ p. ltb 0 p) (now (places .entry)) ⌝ }
 {
-    let mut given: usize = 0;
+    let mut given: u32 = 0;
     let mut block: usize = 0;
     while block < 65536 {
         if places[block] != 0 {
@@ -25,7 +25,7 @@ fn given_count(places: &[u32]) -> usize
         }
         block += 1;
     }
-    given
+    given as usize
 }
 
 // The same where both images have a right size. Whether the target holds all block numbers is asked before its first erase;

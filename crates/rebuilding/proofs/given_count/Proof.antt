@@ -46,6 +46,9 @@ loop-again c =
     let m = count-more (now (s .args .places)) (l .block) (l .given) (omega (arith, s .pre, t)) (l .inv .0) in
     (⊎-elim (λ x. x .1 ∙ m .0 (x .0 .taken)) (λ x. x .1 ∙ m .1 (omega (arith, x .0 .left))) (c .if1 .came), omega arith)
 
+cast-result : tie.Need-cast-result Inv-loop μ-loop
+cast-result c = let l = c .before .loop in omega (arith, l .inv .0, l .inv .1, count-few (now (c .before .before .args .places)) (l .block))
+
 returns : tie.Need-returns Inv-loop μ-loop
 returns c =
     let l = c .before .loop in
@@ -66,4 +69,5 @@ given-count-spec =
     add-block
     loop-less
     loop-again
+    cast-result
     returns)
