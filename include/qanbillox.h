@@ -9,7 +9,7 @@
  * that was cut is begun again.
  *
  * No function allocates, keeps a pointer or has state of its own. A request takes at most 14,992 bytes of stack on
- * x86-64, the account 353,744 bytes, a move 276,976, a salvage and a rebuild about 400 KiB each, measured up to n = 255
+ * x86-64, the account 353,744 bytes, a move 276,976, a salvage 397,648, a rebuild 397,680, measured up to n = 255
  * and b = 255 (bench/stack.c). Link with libqanbillox.a. */
 #ifndef QANBILLOX_H
 #define QANBILLOX_H
@@ -192,7 +192,7 @@ static inline size_t qbx_account_length(size_t n, size_t b) {
  * Answers QBX_DONE, the bytes after the text untouched; QBX_SIZE; or QBX_SHORT_BUFFER, exactly if the text is longer
  * than the buffer. Refused, all of the buffer is untouched. The image is only read, and must not overlap the buffer.
  * The longest text has 2,329 bytes with n = 4 and b = 15, 659,683 with 64 and 255, 2,665,505 with 255 and 255. It takes
- * about 400 KiB of stack: the tables that put the blocks in order are there. */
+ * 397,648 bytes of stack, 384 KiB of them the tables that put the blocks in order. */
 uint64_t qbx_salvage(const uint8_t *image, size_t image_length, size_t n, size_t b, uint8_t *text, size_t text_length);
 
 /* A length that no salvage of this geometry exceeds: as many lines as there are slots, each as long as they get. (One
@@ -214,7 +214,7 @@ static inline size_t qbx_salvage_length(size_t n, size_t b) {
  * not overlap.
  *
  * The steps are target_n + 21, 5 + length for each record, and 21 for each further segment that the records need. It
- * takes about 400 KiB of stack. */
+ * takes 397,680 bytes of stack. */
 uint64_t qbx_rebuild(const uint8_t *source, size_t source_length, size_t n, size_t b,
                      uint8_t *target, size_t target_length, size_t target_n, size_t target_b, uint64_t budget);
 
