@@ -1,5 +1,5 @@
 -- The walk from the highest number down: what is left, met by the tables, gives the whole.
-use Prim.Native.Nat.{ℕ, zero, suc, _+_, _-_, _*_, _%_, _≤_, _<_}
+use Prim.Native.Nat.{ℕ, zero, suc, _+_, _-_, _*_, _≤_, _<_}
 use mathlib.Core.Path.{_≡_, refl, sym, ap, _∙_, subst}
 use mathlib.Core.Logic.{inl}
 use mathlib.Core.Bool.{true, false}
@@ -21,7 +21,7 @@ use Rattle.index.specs.Tables.{mostPages, pageOf, ofBlock}
 use Rattle.descent.specs.Descent.{largest, Descent}
 use Rattle.descent.specs.Turns.{descent-start, turn-live, turn, end-live}
 use Rattle.salvage.specs.Salvage.{regarded, candidates, given}
-use Rattle.meeting.specs.Sheet.{Sheet, sheet, met, metRow, metKind, Within, row-within}
+use Rattle.meeting.specs.Sheet.{Sheet, met, metRow, metKind, Within, row-within}
 use Rattle.candidates.specs.Gathered.{metAll, Tells, Gathered}
 use Rattle.candidates.specs.Told.{AllLie, all-whole, all-tell}
 use Rattle.candidates.specs.Lie.{held-regarded, candidates-lie}

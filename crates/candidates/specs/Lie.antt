@@ -8,9 +8,9 @@ use native.Mathlib.Nat.{suc-mul, mul-le-mul-right, mod-lt}
 use lib.ListN.{length, getD, take, drop}
 use Rattle.model.specs.Chip.{Image, mostSegments, mostSlots}
 use Rattle.model.specs.Slot.{live, slotOf}
-use Rattle.model.specs.State.{Segment, blank, isInUse, isOwing, segmentsOf, nextIndex, nextNumber, topIndex, nextBlanked, usedCount, holds}
+use Rattle.model.specs.State.{blank, isInUse, isOwing, segmentsOf, nextIndex, nextNumber, topIndex, nextBlanked, usedCount, holds}
 use Rattle.account_text.specs.Account.{LiveSlot, liveIn, liveSlots}
-use Rattle.index.specs.Tables.{mostPages, pageOf, Stands}
+use Rattle.index.specs.Tables.{mostPages, pageOf}
 use Rattle.index.specs.Sorted.{AllBelow}
 use Rattle.index.specs.Lives.{Each, row-each, live-stands}
 use Rattle.index.specs.Walks.{Held, held-all, held-without, used-most, in-each, in-few}

@@ -1,18 +1,18 @@
 -- Tables that candidates were met by tell of each block the one given, and whether another disagrees.
-use Prim.Native.Nat.{ℕ, suc, _+_, _*_, _≤_, _<_}
+use Prim.Native.Nat.{ℕ, _*_, _<_}
 use mathlib.Core.Path.{_≡_, refl, sym, ap, _∙_, subst}
 use mathlib.Core.Logic.{_≢_, _⊎_, inl, inr, ⊎-elim}
 use mathlib.Core.Bool.{Bool, true, false, cond, _||_, _&&_, not, true≢false, false≢true}
 use mathlib.Core.List.{List, [], _∷_, map}
 use native.Mathlib.Omega.{arith}
 use native.Mathlib.Decide.{ℕ-discrete}
-use lib.ListN.{length, getD, take, drop, set, length-set}
-use lib.Seq.{getD-set-same, getD-set-other, take-append-seam}
+use lib.ListN.{length, getD, set, length-set}
+use lib.Seq.{getD-set-same, getD-set-other}
 use lib.Dec.{eqb}
 use borrow.Author.Tests.{eqb-true, eqb-false, eq-eqb, ne-eqb}
 use Rattle.model.specs.Lists.{same, all}
-use Rattle.model.specs.Chip.{Image, Page, erased}
-use Rattle.model.specs.Slot.{live, slotOf, slotPage, pageContents, mostContents}
+use Rattle.model.specs.Chip.{Image, Page}
+use Rattle.model.specs.Slot.{live, slotOf, slotPage}
 use Rattle.model.specs.State.{holds}
 use Rattle.model.specs.Laws.Lists.{and-left, and-right}
 use Rattle.model.specs.Laws.SlotPage.{live-facts}

@@ -26,14 +26,7 @@ fn walk(
     let mut top = descent::largest(&left, segments);
     while top > 0 {
         let index = (top - 1) % segments;
-        meeting::meet_row(
-            image,
-            index * (slots + 1),
-            slots,
-            places,
-            lengths,
-            differs,
-        );
+        meeting::meet_row(image, index * (slots + 1), slots, places, lengths, differs);
         left[index] = 0;
         top = descent::largest(&left, segments);
     }

@@ -18,7 +18,7 @@ use Rattle.model.specs.Laws.Lists.{map-set, count-none}
 use Rattle.model.specs.Laws.Ring.{next-at, next-ge}
 use Rattle.judge.specs.Rows.{slotsAt}
 use Rattle.judge.specs.Parts.{slotsOffset}
-use Rattle.account_text.specs.Account.{LiveSlot, liveFrom, liveIn}
+use Rattle.account_text.specs.Account.{liveFrom, liveIn}
 use Rattle.index.specs.Tables.{mostPages}
 use Rattle.index.specs.Walks.{Held, some-next, held-less, top-below, top-used, used-fewer, number-use}
 use Rattle.descent.specs.Descent.{largest, largest-next, Descent}

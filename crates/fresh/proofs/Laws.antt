@@ -7,19 +7,16 @@ use mathlib.Core.List.{List, [], _∷_, _++_, append-nil, append-assoc}
 use native.Mathlib.Nat.{sub-zero, suc-mul, mul-le-mul-right, mod-lt}
 use native.Mathlib.Numerals.{add-one}
 use native.Mathlib.Omega.{arith}
-use native.Mathlib.Decide.{decLt}
-use lib.ListN.{length, getD, take, drop, replicate, length-append, length-take, length-drop, length-replicate}
-use lib.Seq.{getD-take, getD-drop}
-use lib.Bits.{bitOr, and-le-l, and-le-r, or-add-and}
+use lib.ListN.{length, getD, take, drop, replicate, length-append, length-take, length-replicate}
 use lib.Dec.{eqb}
-use borrow.Author.Tests.{lt-ltb, le-ltb, eqb-true, eq-eqb, ne-eqb}
+use borrow.Author.Tests.{lt-ltb, le-ltb, eq-eqb, ne-eqb}
 use Rattle.model.specs.Chip.{Image, Page, Step, erased, rightSize}
 use Rattle.model.specs.Header.{newVersion}
 use Rattle.model.specs.Slot.{mostContents, slotPage, live, slotOf, Entry, entryOf}
 use Rattle.model.specs.Steps.{onPage, slotAt, writeSlot, openSegment, formatSteps}
 use Rattle.model.specs.Table.{Table}
 use Rattle.model.specs.Answers.{Work, format, stepsFor, workOn, workOf, performed, Outcome, worked, outcomeOf}
-use Rattle.model.specs.Mounted.{Places, leastPlaces}
+use Rattle.model.specs.Mounted.{Places}
 use Rattle.model.specs.Laws.Chip.{size-facts}
 use Rattle.model.specs.Laws.SlotPage.{live-facts}
 use Rattle.model.specs.declared.Performed.{Performed}

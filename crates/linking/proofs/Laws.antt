@@ -11,7 +11,6 @@ use Rattle.model.specs.Slot.{Slot, empty, torn, dead, cut, wrong, live, slotOf,
 use Rattle.model.specs.State.{entries}
 use Rattle.model.specs.declared.SlotKind.{SlotKind}
 use Rattle.model.specs.declared.SlotKind.the-variants.{Empty, Torn, Live, Dead, Cut, Wrong}
-use Rattle.model.specs.Laws.SlotPage.{live-facts}
 use Rattle.judge.specs.Rows.{kindsAt, slotsAt}
 use Rattle.rows.proofs.Laws.Rows.{kinds-next}
 use Rattle.account_text.specs.Account.{LiveSlot, liveAt, liveFrom}

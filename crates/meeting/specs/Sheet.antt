@@ -1,10 +1,9 @@
 -- Candidates by block number, in three tables: the place of the one given, where 0 is none; the length of its contents; and whether another disagrees with it.
 use Prim.Native.Nat.{ℕ, zero, suc, _+_, _*_, _≤_}
-use mathlib.Core.Path.{_≡_, refl, sym, ap, _∙_, subst}
+use mathlib.Core.Path.{_≡_}
 use mathlib.Core.Bool.{Bool, true, false, cond}
 use mathlib.Core.List.{List, [], _∷_}
 use native.Mathlib.Omega.{arith}
-use native.Mathlib.Decide.{ℕ-discrete}
 use lib.ListN.{length, getD, take, drop, set}
 use lib.Dec.{eqb}
 use Rattle.model.specs.Lists.{same}

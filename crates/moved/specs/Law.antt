@@ -14,6 +14,7 @@ use Rattle.model.specs.Histories.{Event, History}
 use Rattle.model.specs.Sequences.{Call, observed, Uncut}
 use Rattle.crash.specs.Machine.{Promise, settled, PlainRuns}
 use Rattle.crash.specs.Demand2.{Keeps, board}
+use Rattle.model.specs.Answers.{Work, worked}
 use Rattle.model.specs.Mounted.{Places}
 use Rattle.wear.specs.Demand3.{stocked, Bounded}
 use Rattle.sessions.specs.Law.{Turn, Session, eventsIn, Observes, Unbroken}
@@ -50,14 +51,14 @@ StepCount = (N B : ℕ) (s : Image) (M D : ℕ) (t : Image) (allowance : ℕ) �
 
 -- ---- "after a 9 it is begun again"
 
--- what so many moves of the source leave, one after the other from t on: each with the power lost between steps or inside one, or under some allowance
-abbrev pub Tried : ℕ → ℕ → Image → ℕ → ℕ → ℕ → Image → Image → Type 0
-Tried N B s M D zero t u = u ≡ t
-Tried N B s M D (suc k) t u = (m : Image) × (Cut D (moveWork N B s M D t .steps) t m ⊎ ((allowance : ℕ) × (m ≡ targetAfter N B s M D t allowance))) × Tried N B s M D k m u
+-- what so many builds leave, one after the other from t on, of a request that does this work on an image: each with the power lost between steps or inside one, or under some allowance
+abbrev pub Tried : (Image → Work) → ℕ → ℕ → Image → Image → Type 0
+Tried work D zero t u = u ≡ t
+Tried work D (suc k) t u = (m : Image) × (Cut D (work t .steps) t m ⊎ ((allowance : ℕ) × (m ≡ worked D (work t) t allowance .image))) × Tried work D k m u
 
 -- Of a target as a cut move leaves it nothing is promised. Begun again there, the move answers and steps as if none had been cut, and if it finishes, it leaves the same bytes.
 abbrev pub BegunAgain : Type 0
-BegunAgain = (N B : ℕ) (s : Image) (M D k : ℕ) (t u : Image) (allowance : ℕ) → Bytes s → Tried N B s M D k t u → let o = moveOutcome N B s M D t allowance in let again = moveOutcome N B s M D u allowance in
+BegunAgain = (N B : ℕ) (s : Image) (M D k : ℕ) (t u : Image) (allowance : ℕ) → Bytes s → Tried (moveWork N B s M D) D k t u → let o = moveOutcome N B s M D t allowance in let again = moveOutcome N B s M D u allowance in
     (again .code ≡ o .code) × (again .count ≡ o .count) × (o .code ≡ 0 → again .image ≡ o .image)
 
 -- ---- "Demands 2 and 3 count from the finished target as from a format, with the blocks carried over stored at its start"

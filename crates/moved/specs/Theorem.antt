@@ -78,17 +78,16 @@ step-count = λ N B s M D t a f.
 
 -- ---- begun again
 
-tried-size : (N B : ℕ) (s : Image) (M D k : ℕ) (t u : Image) → Tried N B s M D k t u → rightSize M D u ≡ rightSize M D t
-unfolding moveOutcome
-tried-size N B s M D zero t u e = ap (rightSize M D) e
-tried-size N B s M D (suc k) t u (m, c, r) =
-    tried-size N B s M D k m u r
-    ∙ ⊎-elim (λ x. cut-size M D (moveWork N B s M D t .steps) t m x) (λ x. ap (rightSize M D) (x .1) ∙ run-size M D (take (x .0) (moveWork N B s M D t .steps)) t) c
+pub tried-size : (work : Image → Work) (M D k : ℕ) (t u : Image) → Tried work D k t u → rightSize M D u ≡ rightSize M D t
+tried-size work M D zero t u e = ap (rightSize M D) e
+tried-size work M D (suc k) t u (m, c, r) =
+    tried-size work M D k m u r
+    ∙ ⊎-elim (λ x. cut-size M D (work t .steps) t m x) (λ x. ap (rightSize M D) (x .1) ∙ run-size M D (take (x .0) (work t .steps)) t) c
 
 pub begun-again : BegunAgain
 unfolding moveOutcome
 begun-again = λ N B s M D k t u a b h.
-    let z = tried-size N B s M D k t u h in
+    let z = tried-size (moveWork N B s M D) M D k t u h in
     let w = work-same N B s M D t u b z in
     (ap (codeUnder a) w, ap (λ (x : Work). length (take a (x .steps))) w, λ e. equal-targets N B s N B s M D u t a a (b, ap (codeUnder a) w ∙ e) (b, e) (λ q. refl))
 

@@ -1,19 +1,16 @@
 -- What a move that is not refused asks for; the table of its source fits the target then.
 use Prim.Native.Nat.{ℕ, suc, _≤_, _<_}
-use mathlib.Core.Path.{_≡_, refl, sym, ap, _∙_}
-use mathlib.Core.Logic.{_≢_, _⊎_, inl, inr, ⊎-elim}
-use mathlib.Core.Bool.{Bool, true, false, cond, _&&_, not}
+use mathlib.Core.Path.{_≡_, ap, _∙_}
+use mathlib.Core.Bool.{true, _&&_, not}
 use mathlib.Core.List.{List, [], _∷_, _++_, flatten}
 use native.Mathlib.Omega.{arith}
-use lib.ListN.{length, getD, take, length-take}
-use lib.Seq.{take-all, take-nil}
-use lib.Dec.{leb, eqb}
-use borrow.Author.Tests.{ltb-false, leb-true, eqb-true, eqb-false, not-false}
-use Rattle.model.specs.Chip.{Image, Step, Bytes, largestImage, rightSize, run}
+use lib.ListN.{length, getD}
+use borrow.Author.Tests.{ltb-false, not-false}
+use Rattle.model.specs.Chip.{Image, Bytes, largestImage, rightSize}
 use Rattle.model.specs.Slot.{Slot}
 use Rattle.model.specs.State.{entries, distinct, capacity, clean, state, view, entriesIn}
 use Rattle.model.specs.Table.{Table, tableOf}
-use Rattle.model.specs.Answers.{firstOf, Work, codeUnder}
+use Rattle.model.specs.Answers.{firstOf}
 use Rattle.model.specs.Laws.Lists.{and-left, and-right}
 use Rattle.model.specs.Laws.CopyOut.{Valids}
 use Rattle.bridge.specs.Views.Slots.{entries-append}
@@ -27,7 +24,7 @@ use Rattle.moves.specs.Works.{Sees, few-steps, same-work}
 
 -- ---- the table of a clean image can be written
 
-valids-append : (x y : Table) → Valids x → Valids y → Valids (x ++ y)
+pub valids-append : (x y : Table) → Valids x → Valids y → Valids (x ++ y)
 valids-append [] y a b = b
 valids-append (e ∷ x) y a b = (a .0, valids-append x y (a .1) b)
 

@@ -83,7 +83,14 @@ pub fn segment_lines(
 // ---- blocks
 
 // Of a live slot, its line but for the end.
-pub fn block_text(text: &mut [u8], at: usize, block: u32, length: u32, segment: u32, slot: u32) -> usize
+pub fn block_text(
+    text: &mut [u8],
+    at: usize,
+    block: u32,
+    length: u32,
+    segment: u32,
+    slot: u32,
+) -> usize
     requires { ⌜ at + 80 ≤ mostText ⌝ }
     ensures { λ r. ⌜ Wrote (blockText block length segment slot) (now (text .entry)) at (now (text .exit)) r × (r ≤ at + 62) ⌝ }
 {

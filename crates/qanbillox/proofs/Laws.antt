@@ -7,7 +7,7 @@ use native.Mathlib.Nat.{mod-eq-of-lt}
 use native.Mathlib.Decide.{ℕ-discrete}
 use native.Mathlib.Omega.{arith}
 use lib.ListN.{length}
-use Rattle.model.specs.Chip.{Image, Bytes, imageLength, largestImage, rightSize}
+use Rattle.model.specs.Chip.{Image, imageLength, largestImage, rightSize}
 use Rattle.model.specs.Laws.Chip.{size-facts}
 use Rattle.model.specs.Slot.{mostContents}
 use Rattle.model.specs.Header.{isBlank}
@@ -20,7 +20,6 @@ use Rattle.mounted.proofs.Laws.Refusals.{passed}
 use Rattle.model.specs.declared.Performed.{Performed}
 use Rattle.model.specs.declared.Located.{Located}
 use Rattle.bridge.specs.Lengths.{few-done, read-small}
-use Rattle.moves.specs.Moves.{moveOutcome}
 use Rattle.blank.proofs.Blank.{groups-most}
 use Rattle.text.specs.declared.Printed.{Printed}
 use Rattle.text.specs.Buffer.{Print, printed}

@@ -1,6 +1,6 @@
 -- Tables that tell the candidates given list them by rising number; and the outcome of a rebuild from what its parts did.
 use Prim.Native.Nat.{ℕ, zero, suc, _+_, _*_, _≤_, _<_}
-use mathlib.Core.Path.{_≡_, refl, sym, ap, _∙_, subst}
+use mathlib.Core.Path.{_≡_, refl, sym, ap, _∙_}
 use mathlib.Core.Logic.{_≢_, ⊎-elim}
 use mathlib.Core.Bool.{Bool, true, false, cond, _&&_}
 use mathlib.Core.List.{List, [], _∷_, _++_, map}
@@ -9,15 +9,15 @@ use native.Mathlib.Omega.{arith}
 use lib.ListN.{length, getD, take, length-append}
 use lib.Seq.{take-suc, take-all}
 use lib.Dec.{ltb, eqb}
-use borrow.Author.Tests.{eqb-true, eq-eqb, ne-eqb, lt-ltb, le-ltb}
+use borrow.Author.Tests.{ne-eqb, lt-ltb, le-ltb}
 use Rattle.model.specs.Lists.{count}
 use Rattle.model.specs.Chip.{Image, Bytes, rightSize}
 use Rattle.model.specs.Slot.{live, slotOf, entryOf}
 use Rattle.model.specs.State.{segmentsOf, capacity}
 use Rattle.model.specs.Steps.{formatSteps}
-use Rattle.model.specs.Table.{Found, absent, present, lookup}
+use Rattle.model.specs.Table.{absent, present, lookup}
 use Rattle.model.specs.Answers.{codeOf, firstOf, performed, worked}
-use Rattle.model.specs.Mounted.{Places, leastPlaces}
+use Rattle.model.specs.Mounted.{leastPlaces}
 use Rattle.model.specs.declared.Answer.{Answer}
 use Rattle.model.specs.declared.Answer.the-variants.{Size, Full}
 use Rattle.model.specs.declared.Performed.{Performed}
@@ -34,9 +34,9 @@ use Rattle.moves.specs.Fresh.{fresh-list}
 use Rattle.flash.proofs.Pages.{sized}
 use Rattle.fresh.specs.Fresh.{pageAt, listed, LivePage, Pointing}
 use Rattle.salvage.specs.Salvage.{heldIn, candidates, given, salvaged, rebuildRefusals, rebuildWork, rebuildOutcome}
-use Rattle.salvage.specs.Facts.{salvaged-distinct, salvaged-valid, Rebuildable, rebuild-fits}
+use Rattle.salvage.specs.Facts.{salvaged-distinct, salvaged-valid, rebuild-fits}
 use Rattle.meeting.specs.Sheet.{Sheet}
-use Rattle.candidates.specs.Gathered.{Lies, NoneOf, OneOf, Tells, Gathered}
+use Rattle.candidates.specs.Gathered.{NoneOf, OneOf, Tells, Gathered}
 use Rattle.candidates.specs.Lie.{candidates-lie, given-below}
 
 -- ---- a block looked up

@@ -1,5 +1,5 @@
 -- What the headers tell of segments: their numbers, and whether the top is owing.
-use Prim.Native.Nat.{ℕ, suc, _+_, _-_, _*_, _%_, _≤_, _<_}
+use Prim.Native.Nat.{ℕ, suc, _+_, _-_, _*_, _%_, _<_}
 use mathlib.Core.Path.{_≡_, refl, sym, ap, _∙_, subst}
 use mathlib.Core.Bool.{Bool, true, false, cond, false≢true}
 use mathlib.Core.List.{List, map}
@@ -21,7 +21,7 @@ use Rattle.judge.specs.Parts.{headerOffset, slotsOffset, segmentSeen, segment-s
 use Rattle.header_seen.specs.declared.HeaderSeen.{HeaderSeen}
 use Rattle.header_seen.specs.declared.HeaderSeen.the-variants.{InUse, NotInUse}
 use Rattle.header_seen.specs.Seen.{headerSeen}
-use Rattle.index.specs.Walks.{Held, held-all, number-use, top-below}
+use Rattle.index.specs.Walks.{held-all, number-use}
 use Rattle.descent.specs.Descent.{largest, largest-next}
 use Rattle.salvage.specs.Salvage.{regarded}
 

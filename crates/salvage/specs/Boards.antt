@@ -2,19 +2,18 @@
 use Prim.Native.Nat.{ℕ, suc, _+_, _*_}
 use Prim.Native.String.{String}
 use mathlib.Core.Path.{_≡_, refl}
-use mathlib.Core.Bool.{Bool, true, cond, _&&_}
+use mathlib.Core.Bool.{Bool, cond, _&&_}
 use mathlib.Core.List.{List, [], _∷_, _++_, flatten}
 use lib.ListN.{length, replicate}
 use lib.Dec.{eqb}
 use Rattle.model.specs.Lists.{same, all}
-use Rattle.model.specs.Chip.{Image, Page, erased, imageLength, inRange, rightSize, pagesOf, withSegment, step, run}
+use Rattle.model.specs.Chip.{Image, Page, erased, imageLength, rightSize, pagesOf, withSegment, step, run}
 use Rattle.model.specs.Header.{opened, erasePending, compacted, version1}
-use Rattle.model.specs.Slot.{Entry, slotPage}
+use Rattle.model.specs.Slot.{slotPage}
 use Rattle.model.specs.State.{segmentsOn, segmentsOf, State, clean, state, view}
 use Rattle.model.specs.Table.{Table, tableOf}
 use Rattle.model.specs.Answers.{Outcome}
 use Rattle.model.specs.Laws.Bench.{evaluate}
-use Rattle.model.specs.Laws.Lists.{and-left, and-right}
 use Rattle.text.specs.Text.{text}
 use Rattle.text.specs.Decimal.{decimalOf, decimal}
 use Rattle.text.specs.Buffer.{labelled}
@@ -22,7 +21,7 @@ use Rattle.account_text.specs.Account.{liveAt, liveFrom, liveIn, liveSlots, ins
 use Rattle.account_text.specs.Boards.{used, status, deads, blanks, block, sample, v2, first, begun}
 use Rattle.account_text.specs.Samples.{joined}
 use Rattle.moves.specs.Moves.{byNumber, putEach, freshSteps, freshWork, insert as insertEntry}
-use Rattle.salvage.specs.Salvage.{regarded, candidates, heldIn, given, agreed, givenLine, salvageOn, salvageText, salvaged, rebuildRefusals, rebuildWork, rebuildOutcome}
+use Rattle.salvage.specs.Salvage.{regarded, candidates, heldIn, given, agreed, givenLine, salvageOn, salvaged, rebuildRefusals, rebuildWork, rebuildOutcome}
 
 -- N, B, the image's pages, and the lines of its report behind the first
 pub record Wreck : Type 0 where

@@ -25,6 +25,7 @@ use Rattle.account_text.specs.Account.{liveFrom, liveIn, liveSlots}
 use Rattle.moves.specs.Moves.{byNumber, freshWork}
 use Rattle.moves.specs.Sorted.{sorted-length, sorted-distinct, sorted-valids}
 use Rattle.moves.specs.Fresh.{Fits}
+use Rattle.moves.specs.Facts.{valids-append}
 use Rattle.moves.specs.Works.{Sees, few-steps, same-work}
 use Rattle.salvage.specs.Salvage.{regarded, candidates, heldIn, salvaged, rebuildRefusals, rebuildWork, rebuildOutcome}
 use Rattle.salvage.specs.Given.{given-lasts, given-distinct, valid-lasts}
@@ -88,17 +89,13 @@ blank-valid (x ∷ l) i v = λ k. elim (ℕ-discrete k i) [
 
 -- ---- the candidates
 
-valids-join : (x y : Table) → Valids x → Valids y → Valids (x ++ y)
-valids-join [] y a b = b
-valids-join (e ∷ x) y a b = (a .0, valids-join x y (a .1) b)
-
 lives-valid : (N u : ℕ) (l : List Segment) → AllValid l → Valids (map heldIn (liveIn N u l))
 unfolding liveIn topSlots
 lives-valid N zero l v = tt
 lives-valid N (suc u) l v =
     let i = topIndex N l in
     rw (held-append (liveIn N u (set l i blank)) (liveFrom i 1 (slotsIn (getD l i blank))), held-from i 1 (slotsIn (getD l i blank)))
-    (valids-join (map heldIn (liveIn N u (set l i blank))) (entries (slotsIn (getD l i blank))) (lives-valid N u (set l i blank) (blank-valid l i v)) (v i))
+    (valids-append (map heldIn (liveIn N u (set l i blank))) (entries (slotsIn (getD l i blank))) (lives-valid N u (set l i blank) (blank-valid l i v)) (v i))
 
 regarded-valid : (N : ℕ) (l : List Segment) → AllValid l → AllValid (regarded N l)
 unfolding regarded nextBlanked

@@ -94,9 +94,6 @@ given-lasts (e ∷ r) = go (holds (e .block) (map heldIn r)) (given-lasts r)
 pub given-distinct : (r : List LiveSlot) → distinct (map heldIn (given r)) ≡ true
 given-distinct r = rw (given-lasts r) (distinct-lasts (map heldIn r))
 
-pub given-holds : (b : ℕ) (r : List LiveSlot) → holds b (map heldIn (given r)) ≡ holds b (map heldIn r)
-given-holds b r = rw (given-lasts r) (held-lasts b (map heldIn r))
-
 -- each number once: all are given
 pub given-all : (r : List LiveSlot) → distinct (map heldIn r) ≡ true → given r ≡ r
 unfolding given distinct heldIn

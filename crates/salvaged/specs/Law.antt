@@ -1,12 +1,12 @@
 -- Request #113: what salvage gives, on every image and after every history; and what a rebuilt image is.
 -- The source s has N segments with B slots; in the second part the target t has M with D.
-use Prim.Native.Nat.{ℕ, zero, suc, _+_, _-_, _*_, _/_, _≤_, _<_}
+use Prim.Native.Nat.{ℕ, suc, _+_, _-_, _*_, _/_, _≤_, _<_}
 use mathlib.Core.Path.{_≡_}
 use mathlib.Core.Logic.{_⊎_, _≢_}
 use mathlib.Core.Bool.{true, false}
 use mathlib.Core.List.{List, [], _∷_, _++_, flatMap, map}
 use lib.ListN.{length, getD}
-use Rattle.model.specs.Chip.{Image, Bytes, Cut, rightSize}
+use Rattle.model.specs.Chip.{Image, Bytes, rightSize}
 use Rattle.model.specs.Header.{newVersion, isFormer}
 use Rattle.model.specs.Slot.{empty, live}
 use Rattle.model.specs.State.{Segment, blank, numberAfter, slotsIn, segmentsOf, distinct, clean, damaged, state, view}
@@ -24,6 +24,7 @@ use Rattle.text.specs.Text.{text}
 use Rattle.account_text.specs.Account.{LiveSlot, liveSlots, byBlock, blockText}
 use Rattle.moves.specs.Moves.{byNumber}
 use Rattle.moves.specs.Counted.{slotSteps}
+use Rattle.moved.specs.Law.{Tried}
 use Rattle.salvage.specs.Salvage.{regarded, candidates, heldIn, given, agreed, salvageText, salvaged, rebuildWork, rebuildOutcome}
 
 -- ---- on any image of a right size, damaged ones too
@@ -144,14 +145,9 @@ abbrev pub RebuiltSteps : Type 0
 RebuiltSteps = (N B : ℕ) (s : Image) (M D : ℕ) (t : Image) (allowance : ℕ) → Bytes s → Rebuilds N B s M D t allowance
     → let blocks = salvaged N B s in rebuildOutcome N B s M D t allowance .count ≡ M + 21 * (1 + (length blocks - 1) / D) + slotSteps blocks
 
--- what so many rebuilds of the source leave, one after the other from t on: each with the power lost between steps or inside one, or under some allowance
-abbrev pub Tried : ℕ → ℕ → Image → ℕ → ℕ → ℕ → Image → Image → Type 0
-Tried N B s M D zero t u = u ≡ t
-Tried N B s M D (suc k) t u = (m : Image) × (Cut D (rebuildWork N B s M D t .steps) t m ⊎ ((allowance : ℕ) × (m ≡ targetAfter N B s M D t allowance))) × Tried N B s M D k m u
-
 -- "after a 9 it is begun again": it answers and steps as if none had been cut, and if it finishes, it leaves the same bytes
 abbrev pub RebuiltAgain : Type 0
-RebuiltAgain = (N B : ℕ) (s : Image) (M D k : ℕ) (t u : Image) (allowance : ℕ) → Bytes s → Tried N B s M D k t u → let o = rebuildOutcome N B s M D t allowance in let again = rebuildOutcome N B s M D u allowance in
+RebuiltAgain = (N B : ℕ) (s : Image) (M D k : ℕ) (t u : Image) (allowance : ℕ) → Bytes s → Tried (rebuildWork N B s M D) D k t u → let o = rebuildOutcome N B s M D t allowance in let again = rebuildOutcome N B s M D u allowance in
     (again .code ≡ o .code) × (again .count ≡ o .count) × (o .code ≡ 0 → again .image ≡ o .image)
 
 -- "Demands 2 and 3 count from the finished target as from a format, with the blocks carried over stored at its start"

@@ -1,14 +1,12 @@
 -- The second part: a finished rebuild is a fresh image built from a table that fits.
-use Prim.Native.Nat.{ℕ, zero, suc}
+use Prim.Native.Nat.{ℕ}
 use mathlib.Core.Path.{_≡_, refl, sym, ap, _∙_}
-use mathlib.Core.Logic.{⊎-elim}
 use mathlib.Core.Bool.{true}
 use lib.ListN.{length, take}
 use Rattle.model.specs.Chip.{Image, Bytes, rightSize, run}
 use Rattle.model.specs.Table.{Table, tableOf}
 use Rattle.model.specs.Answers.{Work, codeUnder}
 use Rattle.model.specs.Histories.{shown}
-use Rattle.model.specs.Laws.Chip.{run-size, cut-size}
 use Rattle.model.specs.Laws.Tables.{agree-of, agree-trans}
 use Rattle.moves.specs.Moves.{byNumber, freshSteps}
 use Rattle.moves.specs.Sorted.{sorted-length, sorted-equal}
@@ -18,7 +16,8 @@ use Rattle.moves.specs.Works.{Done, done, undone}
 use Rattle.moved.specs.Built.{builtOn, is-clean, built-version, same-blocks, built-demand2, built-demand3, built-sessions2, built-sessions3}
 use Rattle.salvage.specs.Salvage.{salvaged, rebuildRefusals, rebuildWork, rebuildOutcome}
 use Rattle.salvage.specs.Facts.{salvaged-distinct, salvaged-valid, rebuild-asks, rebuild-fits, rebuild-same}
-use Rattle.salvaged.specs.Law.{targetAfter, Rebuilds, RebuiltTable, RebuiltShown, RebuiltRefused, RebuiltEqual, RebuiltSteps, Tried, RebuiltAgain, RebuiltDemand2, RebuiltDemand3, RebuiltSessions2, RebuiltSessions3}
+use Rattle.moved.specs.Theorem.{tried-size}
+use Rattle.salvaged.specs.Law.{targetAfter, Rebuilds, RebuiltTable, RebuiltShown, RebuiltRefused, RebuiltEqual, RebuiltSteps, RebuiltAgain, RebuiltDemand2, RebuiltDemand3, RebuiltSessions2, RebuiltSessions3}
 use Rattle.salvaged.specs.Shown.{salvaged-table}
 
 pub rebuilt-refused : RebuiltRefused
@@ -72,17 +71,10 @@ rebuilt-steps = λ N B s M D t a b f.
 
 -- ---- begun again
 
-tried-size : (N B : ℕ) (s : Image) (M D k : ℕ) (t u : Image) → Tried N B s M D k t u → rightSize M D u ≡ rightSize M D t
-unfolding rebuildOutcome
-tried-size N B s M D zero t u e = ap (rightSize M D) e
-tried-size N B s M D (suc k) t u (m, c, r) =
-    tried-size N B s M D k m u r
-    ∙ ⊎-elim (λ x. cut-size M D (rebuildWork N B s M D t .steps) t m x) (λ x. ap (rightSize M D) (x .1) ∙ run-size M D (take (x .0) (rebuildWork N B s M D t .steps)) t) c
-
 pub rebuilt-again : RebuiltAgain
 unfolding rebuildOutcome
 rebuilt-again = λ N B s M D k t u a b h.
-    let w = rebuild-same N B s M D t u b (tried-size N B s M D k t u h) in
+    let w = rebuild-same N B s M D t u b (tried-size (rebuildWork N B s M D) M D k t u h) in
     (ap (codeUnder a) w, ap (λ (x : Work). length (take a (x .steps))) w, λ e. rebuilt-equal N B s N B s M D u t a a b b (ap (codeUnder a) w ∙ e) e (λ q. refl))
 
 -- ---- demands 2 and 3

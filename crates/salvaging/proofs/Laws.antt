@@ -3,29 +3,24 @@ use Prim.Native.Nat.{ℕ, zero, suc, _+_, _-_, _*_, _/_, _%_, _≤_, _<_}
 use mathlib.Core.Path.{_≡_, refl, sym, ap, _∙_, subst}
 use mathlib.Core.Logic.{_≢_, ⊎-elim}
 use mathlib.Core.Bool.{Bool, true, false, cond, not}
-use mathlib.Core.List.{List, [], _∷_, _++_, flatMap, append-nil, map}
+use mathlib.Core.List.{List, [], _∷_, _++_, flatMap, append-nil}
 use native.Mathlib.Omega.{arith}
 use lib.ListN.{length, getD}
 use Rattle.model.specs.Chip.{Image, rightSize}
-use Rattle.model.specs.State.{segmentsOf, holds, usedCount}
-use Rattle.model.specs.Mounted.{leastPlaces}
+use Rattle.model.specs.State.{segmentsOf}
 use Rattle.text.specs.Text.{text, text as ascii}
 use Rattle.model.specs.Answers.{codeOf}
 use Rattle.model.specs.declared.Answer.the-variants.{Size}
 use Rattle.text.specs.Buffer.{printed, printIn, Wrote}
 use Rattle.text.proofs.Laws.{wrote-as}
-use Rattle.flash.specs.Pages.{Sized}
 use Rattle.flash.proofs.Pages.{sized}
-use Rattle.account_text.specs.Account.{LiveSlot, liveIn, liveSlots, blockText, byBlock}
-use Rattle.index.specs.Tables.{mostPages, pageOf, ofBlock, Stands, AllStand}
-use Rattle.index.specs.Chains.{page-few}
-use Rattle.index.specs.Sorted.{AllBelow}
+use Rattle.account_text.specs.Account.{LiveSlot, blockText, byBlock}
+use Rattle.index.specs.Tables.{mostPages, pageOf, ofBlock, Stands}
 use Rattle.printing.proofs.Laws.{page-segment, Blocks, blocks-more, blocks-none, blocks-room, blocks-end}
 use Rattle.skipping.specs.Passed.{Passed}
-use Rattle.salvage.specs.Salvage.{heldIn, candidates, given, agreed, givenLine, salvageText, salvageOutcome}
+use Rattle.salvage.specs.Salvage.{candidates, given, agreed, givenLine, salvageText, salvageOutcome}
 use Rattle.meeting.specs.Sheet.{Sheet}
-use Rattle.candidates.specs.Gathered.{Lies, NoneOf, OneOf, Tells, Gathered}
-use Rattle.candidates.specs.Told.{AllLie}
+use Rattle.candidates.specs.Gathered.{OneOf, Tells, Gathered}
 use Rattle.candidates.specs.Lie.{candidates-few, candidates-lie, given-below, given-few}
 
 -- ---- a line
@@ -61,10 +56,10 @@ module _ (N B : ℕ) (s : Image) (z : rightSize N B s ≡ true) (t : Sheet) (g :
       → Wrote (blockText block n i j ++ cond d (ascii " differs\n") (ascii " same\n")) text end after then-end → then-end ≤ end + 80 → Lines after (block + 1) then-end
   lines-one {text} {after} {block} {end} {then-end} {n} {i} {j} {d} b h some en ei ej ed w near =
       ⊎-elim (λ k. absurd (some (k .place))) (λ o.
-        let one : flatMap (givenLine found) (ofBlock block (given found)) ≡ blockText block n i j ++ cond d (ascii " differs\n") (ascii " same\n") =
-        ap (flatMap (givenLine found)) (o .one) ∙ (single (o .slot) ∙ sym (line-told N B s t found block o n i j d en ei ej ed)) in
-        let few : length (ofBlock block (given found)) ≡ 1 = ap length (o .one) in
-        blocks-more b h (wrote-as (flatMap (givenLine found) (ofBlock block (given found))) (sym one) w) (omega (arith, few, near))) (g .tells block h)
+      let one : flatMap (givenLine found) (ofBlock block (given found)) ≡ blockText block n i j ++ cond d (ascii " differs\n") (ascii " same\n") =
+      ap (flatMap (givenLine found)) (o .one) ∙ (single (o .slot) ∙ sym (line-told N B s t found block o n i j d en ei ej ed)) in
+      let few : length (ofBlock block (given found)) ≡ 1 = ap length (o .one) in
+      blocks-more b h (wrote-as (flatMap (givenLine found) (ofBlock block (given found))) (sym one) w) (omega (arith, few, near))) (g .tells block h)
     where
       single : (e : LiveSlot) → flatMap (givenLine found) (e ∷ []) ≡ givenLine found e
       single e = unfold flatMap in (append-nil (givenLine found e))

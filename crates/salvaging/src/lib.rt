@@ -90,16 +90,7 @@ fn compose(
     ensures { λ r. ⌜ Wrote (salvageText segments slots (now (image .entry))) (now (text .entry)) 0 (now (text .exit)) r × (r ≤ mostText) ⌝ }
 {
     let head = text::add(text, 0, b"salvage promises nothing\n");
-    given_lines(
-        image,
-        segments,
-        slots,
-        places,
-        lengths,
-        differs,
-        text,
-        head,
-    )
+    given_lines(image, segments, slots, places, lengths, differs, text, head)
 }
 
 // The report on an image, whatever its damage: for each block number the candidate in the highest segment number, within a
@@ -138,13 +129,5 @@ pub fn salvage(image: &[u8], segments: usize, slots: usize, text: &mut [u8]) -> 
     if length > text.len() {
         return text::short();
     }
-    text::done(compose(
-        image,
-        segments,
-        slots,
-        &places,
-        &lengths,
-        &differs,
-        text,
-    ))
+    text::done(compose(image, segments, slots, &places, &lengths, &differs, text))
 }

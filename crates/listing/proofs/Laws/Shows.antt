@@ -1,20 +1,18 @@
--- Segments as they are shown, and tables of them and of numbers filled by index.
-use Prim.Native.Nat.{ℕ, suc, _+_, _-_, _%_, _≤_, _<_, max}
+-- Segments as they are shown.
+use Prim.Native.Nat.{ℕ, suc, _+_, _-_, _%_, _<_}
 use mathlib.Core.Path.{_≡_, refl, sym, ap, ap₂, _∙_}
 use mathlib.Core.Bool.{Bool, true, false, cond, _||_, _&&_, not, false≢true}
-use mathlib.Core.List.{List, [], _∷_, _++_, map}
+use mathlib.Core.List.{List, [], _∷_, map}
 use native.Mathlib.Omega.{arith}
-use native.Mathlib.Numerals.{add-one}
-use native.Mathlib.Nat.{sub-zero, mod-lt}
-use lib.ListN.{length, getD, take, drop, set}
-use lib.Seq.{take-suc, take-suc-set, take-set-lt, map-set-same, drop-cons}
+use native.Mathlib.Nat.{mod-lt}
+use lib.ListN.{length, getD, take, set}
+use lib.Seq.{take-set-lt, map-set-same}
 use lib.Dec.{eqb}
 use Rattle.model.specs.Header.{erasePending, compacted}
 use Rattle.model.specs.State.{Segment, blank, invalid, inUse, isInUse, isInvalid, isOwing, numberAfter, nextNumber, nextIndex, topIndex, usedCount, isClean, topSettled, isA, isB, isC, isD, stateOf, State, clean, unfinished, damaged, caseA, caseB, caseC, caseD}
 use Rattle.model.specs.Laws.Lists.{and-left, map-set}
 use Rattle.model.specs.Laws.Ring.{next-ge}
 use Rattle.judge.specs.Heads.{outline, stateSeen}
-use Rattle.judge.specs.declared.SegmentState.{SegmentState}
 use Rattle.judge.specs.declared.SegmentState.the-variants.{Invalid, InUse, Owing}
 use Rattle.scan.specs.Surveys.{mendIn, surveyIn, surveyOf}
 use Rattle.account_text.specs.Account.{unseen, shownIn, shown}

@@ -1,22 +1,18 @@
 -- The walk from the top down: one segment in use more was counted, and its live slots were put into the tables.
-use Prim.Native.Nat.{ℕ, zero, suc, _+_, _-_, _*_, _%_, _≤_, _<_}
+use Prim.Native.Nat.{ℕ, _+_, _-_, _*_, _≤_, _<_}
 use mathlib.Core.Path.{_≡_, refl, sym, ap, ap₂, _∙_, subst}
 use mathlib.Core.Logic.{_≢_}
 use mathlib.Core.Bool.{Bool, true, false, cond, false≢true, true≢false}
-use mathlib.Core.List.{List, [], _∷_, _++_, map}
+use mathlib.Core.List.{List, [], map}
 use native.Mathlib.Omega.{arith}
-use native.Mathlib.Decide.{ℕ-discrete, decLt}
-use native.Mathlib.Nat.{suc-mul, mul-le-mul-right}
+use native.Mathlib.Decide.{ℕ-discrete}
 use lib.ListN.{length, getD, take, set, length-set}
-use lib.Seq.{getD-set-same, getD-set-other, getD-take, take-set-lt, ext-getD, length-take-le}
-use lib.Dec.{ltb}
-use borrow.Author.Tests.{lt-ltb}
+use lib.Seq.{getD-set-same, getD-set-other, getD-take, ext-getD, length-take-le}
 use Rattle.model.specs.Lists.{count}
-use Rattle.model.specs.Chip.{Image, mostSegments, mostSlots}
+use Rattle.model.specs.Chip.{Image, mostSegments}
 use Rattle.model.specs.Slot.{Slot, kindOf}
-use Rattle.model.specs.State.{Segment, blank, invalid, inUse, isInUse, numberAfter, segmentsOf, slotsIn, topIndex, topSlots, nextNumber, usedCount}
-use Rattle.model.specs.Laws.Lists.{map-length, map-set, map-get, count-none}
-use Rattle.model.specs.Laws.Ring.{next-at, next-ge}
+use Rattle.model.specs.State.{Segment, blank, invalid, inUse, isInUse, numberAfter, segmentsOf, slotsIn, topIndex, usedCount}
+use Rattle.model.specs.Laws.Lists.{map-length, map-get}
 use Rattle.model.specs.declared.SlotKind.{SlotKind}
 use Rattle.judge.specs.Rows.{kindsAt, slotsAt}
 use Rattle.judge.specs.Parts.{slotsOffset}
@@ -25,7 +21,7 @@ use Rattle.account_text.specs.Account.{LiveSlot, liveFrom, liveIn, liveSlots, s
 use Rattle.index.specs.declared.Counts.{Counts}
 use Rattle.index.specs.declared.Shown.{Shown}
 use Rattle.index.specs.Shows.{noCounts, countsOf, shownAs, shownOf, uncounted, counted, afterShown}
-use Rattle.index.specs.Tables.{Tables, mostPages, linkRow, linked, listOf}
+use Rattle.index.specs.Tables.{Tables, linkRow, linked, listOf}
 use Rattle.index.specs.Walks.{held-shown}
 use Rattle.descent.specs.Descent.{largest, Descent}
 use Rattle.descent.specs.Turns.{descent-start, turn-below, turn-used, turn-row, turn-gone, turn-live, turn, end-unused, end-live}
@@ -159,8 +155,7 @@ module _ (N B : ℕ) (s : Image) (some : 0 < N) (least : N ≤ mostSegments) whe
       → (take N table ≡ map shownOf (whole N B s)) × (t ≡ linked B (listOf N B s) before)
   walk-end before m table left next t w z =
       let l = held-shown N B s some .count in
-      let a : length (take N table) ≡ N = length-take-le N table (omega (arith, w .rows)) in
-      (
+      let a : length (take N table) ≡ N = length-take-le N table (omega (arith, w .rows)) in (
         ext-getD none (take N table) (map shownOf (whole N B s)) (a ∙ (sym l ∙ sym (map-length shownOf (whole N B s)))) (λ j p. one j (subst (λ (k : ℕ). j < k) a p)),
         sym nothing ∙ (ap (λ (r : List LiveSlot). linked B r t) (sym (end-live N B s some m left next (w .descent) z)) ∙ w .tables),
       )

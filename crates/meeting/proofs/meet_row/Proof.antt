@@ -1,7 +1,6 @@
 -- `meeting::meet_row`. The invariant: the slots behind those that are left were met. Assumes nothing.
 use Prim.Native.Nat.{_+_, _-_, _*_, _≤_}
-use mathlib.Core.Path.{_≡_, refl, sym, _∙_, subst}
-use mathlib.Core.List.{List}
+use mathlib.Core.Path.{_≡_, sym, _∙_, subst}
 use native.Mathlib.Omega.{arith}
 use denote.Ref.{now}
 use lib.ListN.{length, take, drop}
@@ -9,7 +8,6 @@ use Rattle.model.specs.Slot.{slotOf, kindOf}
 use Rattle.judge.specs.Rows.{kindsAt}
 use Rattle.meeting.specs.Sheet.{Sheet, sheet, metRow, Within, kind-within}
 use Rattle.meeting.proofs.Laws.{row-none, row-more}
-use borrow.Author.Needs.{needs}
 use Rattle.meeting.proofs.meet_row.Statement.{statement}
 use Rattle.meeting.proofs.meet_row.Tie as tie
 

@@ -1,5 +1,4 @@
 -- `rebuilding::restore` gives the outcome of the definition. Assumes nothing.
-use mathlib.Core.Path.{_∙_}
 use native.Mathlib.Omega.{arith}
 use denote.Ref.{now}
 use Rattle.model.specs.Laws.Chip.{size-facts}

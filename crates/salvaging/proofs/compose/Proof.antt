@@ -1,8 +1,7 @@
 -- `salvaging::compose`: two parts in a row. Assumes nothing.
 use native.Mathlib.Omega.{arith}
-use denote.Ref.{now}
 use Rattle.text.specs.Text.{text}
-use Rattle.text.proofs.Laws.{_then_, wrote-as}
+use Rattle.text.proofs.Laws.{_then_}
 use Rattle.salvage.specs.Salvage.{salvageOn, salvageText}
 use borrow.Author.Needs.{needs}
 use Rattle.salvaging.proofs.compose.Statement.{statement}

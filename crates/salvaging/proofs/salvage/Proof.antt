@@ -1,5 +1,5 @@
 -- `salvaging::salvage`: what is put together twice is the text. Assumes nothing.
-use mathlib.Core.Path.{refl, ap, _∙_}
+use mathlib.Core.Path.{refl, _∙_}
 use native.Mathlib.Omega.{arith}
 use denote.Ref.{now}
 use Rattle.request.proofs.Laws.{wrong-size, right-size}
