@@ -57,7 +57,8 @@ returns-4 : tie.Need-returns-4
 unfolding moveOf asNumber isRebuild text
 returns-4 c =
     let e : isMissing (now (c .before .before .before .before .before .before .before .before .before .before .before .before .before .before .before .before .before .before .before .before .before .args .target)) ≡ false = sym (c .before .before .before .before .is-missing .ensures) ∙ c .before .before .before .if1 .left in
-    rw (sym (c .before .before .before .before .before .before .before .before .before .before .before .before .number .ensures) ∙ c .before .before .before .before .before .before .before .before .before .before .n .given .1, sym (c .before .before .before .before .before .before .before .before .number2 .ensures) ∙ c .before .before .before .before .before .before .b .given .1, e, sym (c .before .is .ensures)) (c .onto .ensures)
+    let r : isRebuild (now (c .before .before .before .before .before .before .before .before .before .before .before .before .before .before .before .before .before .before .before .before .before .args .verb)) ≡ c .before .is .result = sym (c .before .is .ensures) in
+    rw (sym (c .before .before .before .before .before .before .before .before .before .before .before .before .number .ensures) ∙ c .before .before .before .before .before .before .before .before .before .before .n .given .1, sym (c .before .before .before .before .before .before .before .before .number2 .ensures) ∙ c .before .before .before .before .before .before .b .given .1, e, r) (c .onto .ensures)
 
 pub move-of-spec : {M : Type 1} → statement M
 move-of-spec =
