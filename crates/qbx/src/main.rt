@@ -1,5 +1,5 @@
-// qbx IMAGE N B VERB [BLOCK] [--budget STEPS]: one request on a record store whose image is a file. With the verb move TARGET and
-// its N and B follow: the records are carried to another image.
+// qbx IMAGE N B VERB [BLOCK] [--budget STEPS]: one request on a record store whose image is a file. With the verb move or rebuild
+// TARGET and its N and B follow: the records, or what can be salvaged of them, are carried to another image.
 use libc::STDERR_FILENO;
 use libc::STDIN_FILENO;
 use libc::STDOUT_FILENO;
@@ -12,11 +12,11 @@ ghost use Rattle.io.specs.Counts.{Counts};
 fn usage(fd: i32) {
     io::write_all(
         fd,
-        b"qbx: a record store on NOR flash, whose image is a file\n\n  qbx IMAGE N B VERB [BLOCK] [--budget STEPS]\n  qbx IMAGE N B move TARGET N B [--budget STEPS]\n\n",
+        b"qbx: a record store on NOR flash, whose image is a file\n\n  qbx IMAGE N B VERB [BLOCK] [--budget STEPS]\n  qbx IMAGE N B move TARGET N B [--budget STEPS]\n  qbx IMAGE N B rebuild TARGET N B [--budget STEPS]\n\n",
     );
     io::write_all(
         fd,
-        b"IMAGE is the file, of N segments (2 to 255) with B slots each (2 to 255).\nOne above 4 MiB needs a stack of 24576 KiB, for account and map 26624, for move 39936: ./qbx raises the limit where it may.\n\n",
+        b"IMAGE is the file, of N segments (2 to 255) with B slots each (2 to 255).\nOne above 4 MiB needs a stack of 24576 KiB, for account, map and salvage 26624, for move and rebuild 39936: ./qbx raises the limit where it may.\n\n",
     );
     io::write_all(
         fd,
@@ -28,19 +28,19 @@ fn usage(fd: i32) {
     );
     io::write_all(
         fd,
-        b"  account        lists the segments and the blocks, and what recover would do or the condition that fails\n  map            draws the segments, one character for each slot\n",
+        b"  account        lists the segments and the blocks, and what recover would do or the condition that fails\n  map            draws the segments, one character for each slot\n  salvage        lists of each block, in a damaged image too, the newest contents that are left, and whether older ones differ\n",
     );
     io::write_all(
         fd,
-        b"  move TARGET    carries all blocks to a fresh image of its own N and B, in the file TARGET; makes it if there is none\n\n",
+        b"  move TARGET    carries all blocks to a fresh image of its own N and B, in the file TARGET; makes it if there is none\n  rebuild TARGET the same from what salvage lists, whatever state IMAGE is in\n\n",
     );
     io::write_all(
         fd,
-        b"--budget STEPS stops a verb that writes after so many flash steps, as a power cut would.\nThe answer is said with its number and the steps done; account and map write their text alone.\nThe file is replaced whole or not at all.\nA move only reads IMAGE; one that was cut is begun again, whatever its target looks like.\n",
+        b"--budget STEPS stops a verb that writes after so many flash steps, as a power cut would.\nThe answer is said with its number and the steps done; account, map and salvage write their text alone.\nThe file is replaced whole or not at all.\nMove and rebuild only read IMAGE; one that was cut is begun again, whatever its target looks like.\nSalvage promises nothing: which contents of a damaged image were acknowledged it can't tell.\n",
     );
     io::write_all(
         fd,
-        b"The version is the newest header's; the tally, in version 2, how many erases recoveries set about.\nWith no bit left none more is counted, and a put that needs a new header answers 8.\nOn version 1 put answers 11, and the other verbs do their work; format and move write version 2.\n",
+        b"The version is the newest header's; the tally, in version 2, how many erases recoveries set about.\nWith no bit left none more is counted, and a put that needs a new header answers 8.\nOn version 1 put answers 11, and the other verbs do their work; format, move and rebuild write version 2.\n",
     );
 }
 
@@ -106,8 +106,8 @@ fn read_words(path: &[u8]) {
     }
 }
 
-// The words of a move.
-fn read_move(path: &[u8], target: &[u8]) {
+// The words of a move or a rebuild.
+fn read_move(path: &[u8], verb: &[u8], target: &[u8]) {
     let mut segments = [0u8; 64];
     let a = word(2, &mut segments);
     let mut slots = [0u8; 64];
@@ -123,6 +123,7 @@ fn read_move(path: &[u8], target: &[u8]) {
     let reading = qbx_move_words::move_of(
         &segments[..a],
         &slots[..b],
+        verb,
         target,
         &target_segments[..c],
         &target_slots[..d],
@@ -137,18 +138,18 @@ fn read_move(path: &[u8], target: &[u8]) {
     }
 }
 
-// A command by its verb: a move has more words than any other, and one of them is a path.
+// A command by its verb: a move and a rebuild have more words than any other, and one of them is a path.
 fn read(path: &[u8], words: usize) {
     let mut verb = [0u8; 64];
     let n = word(4, &mut verb);
-    if qbx_move_words::is_move(&verb[..n]) {
+    if qbx_move_words::names_target(&verb[..n]) {
         if words > 10 {
             usage(STDERR_FILENO);
             return;
         }
         let mut target = io::buffer();
         let m = os::arg(5, &mut target);
-        read_move(path, &target[..m]);
+        read_move(path, &verb[..n], &target[..m]);
         return;
     }
     if words > 8 {

@@ -57,7 +57,7 @@ pub fn large(process: Process, path: &[u8], command: Command, contents: &[u8]) -
     true
 }
 
-// The same with a buffer for a text: no slot has more than 37 bytes in one, and no segment more than 60 beside its slots.
+// The same with a buffer for a text: no slot has more than 45 bytes in one, and no segment more than 60 beside its slots.
 pub fn small_text(process: Process, path: &[u8], command: Command) -> bool
     requires { ⌜ (sizeOf (command .segments) (command .slots) ≤ roomOf 0) × (needOf true 0 ≤ process .allowed) ⌝ }
     ensures { λ r. ⌜ r ≡ true ⌝ }
@@ -80,7 +80,7 @@ pub fn middle_text(process: Process, path: &[u8], command: Command) -> bool
     ensures { λ r. ⌜ r ≡ true ⌝ }
 {
     let mut image = [255u8; 4194305];
-    let mut text = [0u8; 655360];
+    let mut text = [0u8; 753664];
     qbx_work::show(
         &mut image,
         &mut text,
@@ -97,7 +97,7 @@ pub fn large_text(process: Process, path: &[u8], command: Command) -> bool
     ensures { λ r. ⌜ r ≡ true ⌝ }
 {
     let mut image = [255u8; 16711681];
-    let mut text = [0u8; 2621440];
+    let mut text = [0u8; 2949120];
     qbx_work::show(
         &mut image,
         &mut text,

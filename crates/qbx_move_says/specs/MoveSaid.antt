@@ -1,4 +1,4 @@
--- What a move says: an image of a wrong size, and a target that would be its source.
+-- What a move or a rebuild says: an image of a wrong size, and a target that would be its source.
 use Prim.Native.Nat.{ℕ}
 use mathlib.Core.Bool.{Bool, true, false}
 use mathlib.Core.List.{List, [], _++_}
@@ -19,7 +19,7 @@ unfoldable pub moveSizeLine : Bool → ℕ → ℕ → ℕ → List ℕ
 moveSizeLine target N B there = performedText Size 0 ++ nameText target ++ askedText N B ++ (text "; " ++ decimal there) ++ text " bytes are there\n"
 
 unfoldable pub clashText : Clash → List ℕ
-clashText IsSource = text "qbx: TARGET is IMAGE's own file, which a move never writes\n"
+clashText IsSource = text "qbx: TARGET is IMAGE's own file, which is only read\n"
 clashText SourceBeside = text "qbx: TARGET.new, as which TARGET is written at first, is IMAGE's own file\n"
 clashText InTheWay = text "qbx: TARGET.new, as which TARGET is written at first, is there and no plain file\n"
 clashText Apart = []

@@ -1,4 +1,4 @@
-// What a move says that no other verb does, a line each.
+// What a move or a rebuild says that no other verb does, a line each.
 use model::Answer;
 use qbx_lines::Line;
 use qbx_lines::add;
@@ -38,7 +38,7 @@ pub fn say_clash(clash: Clash) -> Line
     match clash {
         Clash::IsSource => add(
             line,
-            b"qbx: TARGET is IMAGE's own file, which a move never writes\n",
+            b"qbx: TARGET is IMAGE's own file, which is only read\n",
         ),
         Clash::SourceBeside => add(
             line,

@@ -1,6 +1,6 @@
--- The words of a move, read: N B move TARGET N B [--budget STEPS]. A word that is missing is empty.
+-- The words of a move, read: N B move TARGET N B [--budget STEPS], or with the verb rebuild. A word that is missing is empty.
 use Prim.Native.Nat.{ℕ, max}
-use mathlib.Core.Bool.{Bool, cond}
+use mathlib.Core.Bool.{Bool, cond, _||_}
 use mathlib.Core.List.{List}
 use Rattle.model.specs.Lists.{same}
 use Rattle.request.specs.Request.{sizeOf}
@@ -16,8 +16,11 @@ use Rattle.qbx_move_words.specs.declared.Move.{Move}
 use Rattle.qbx_move_words.specs.declared.MoveReading.{MoveReading}
 use Rattle.qbx_move_words.specs.declared.MoveReading.the-variants.{Right, Wrong}
 
-unfoldable pub isMove : List ℕ → Bool
-isMove w = same w (text "move")
+unfoldable pub isRebuild : List ℕ → Bool
+isRebuild w = same w (text "rebuild")
+
+unfoldable pub namesTarget : List ℕ → Bool
+namesTarget w = same w (text "move") || isRebuild w
 
 -- a word that is to be a number
 unfoldable pub asNumber : Parsed → Complaint → (ℕ → MoveReading) → MoveReading
@@ -25,7 +28,7 @@ asNumber (Number n) x go = go n
 asNumber NoNumber x go = Wrong x
 
 abbrev pub budgeted : Move → ℕ → Move
-budgeted k n = record { source = k .source; target = k .target; budget = n }
+budgeted k n = record { salvages = k .salvages; source = k .source; target = k .target; budget = n }
 
 unfoldable pub withBudget : Move → List ℕ → List ℕ → MoveReading
 withBudget k option steps =
@@ -34,22 +37,22 @@ withBudget k option steps =
     (Wrong NoOption))
 
 -- with as many steps as 64 bits can count
-abbrev pub plain : Geometry → Geometry → Move
-plain g h = record { source = g; target = h; budget = 18446744073709551615 }
+abbrev pub plain : Bool → Geometry → Geometry → Move
+plain r g h = record { salvages = r; source = g; target = h; budget = 18446744073709551615 }
 
 abbrev pub geometry : ℕ → ℕ → Geometry
 geometry N B = record { segments = N; slots = B }
 
 -- the words after the target's name
-unfoldable pub onto : Geometry → List ℕ → List ℕ → List ℕ → List ℕ → MoveReading
-onto g n b option steps =
-    asNumber (numberOf n) TargetSegments (λ N. asNumber (numberOf b) TargetSlots (λ B. withBudget (plain g (geometry N B)) option steps))
+unfoldable pub onto : Bool → Geometry → List ℕ → List ℕ → List ℕ → List ℕ → MoveReading
+onto r g n b option steps =
+    asNumber (numberOf n) TargetSegments (λ N. asNumber (numberOf b) TargetSlots (λ B. withBudget (plain r g (geometry N B)) option steps))
 
--- the words after the image's name, but for the verb; the second N and B are the target's
-unfoldable pub moveOf : List ℕ → List ℕ → List ℕ → List ℕ → List ℕ → List ℕ → List ℕ → MoveReading
-moveOf n b target m c option steps =
+-- the words after the image's name; the second N and B are the target's
+unfoldable pub moveOf : List ℕ → List ℕ → List ℕ → List ℕ → List ℕ → List ℕ → List ℕ → List ℕ → MoveReading
+moveOf n b verb target m c option steps =
     asNumber (numberOf n) Segments (λ N. asNumber (numberOf b) Slots (λ B.
-    cond (isMissing target) (Wrong NoTarget) (onto (geometry N B) m c option steps)))
+    cond (isMissing target) (Wrong NoTarget) (onto (isRebuild verb) (geometry N B) m c option steps)))
 
 -- the bytes of the larger image
 unfoldable pub largerSize : Move → ℕ

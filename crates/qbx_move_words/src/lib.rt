@@ -1,4 +1,5 @@
-// The words of a move, read: IMAGE N B move TARGET N B [--budget STEPS]; and how large its images are.
+// The words of a move, read: IMAGE N B move TARGET N B [--budget STEPS]; those of a rebuild, which differ in the verb alone; and
+// how large its images are.
 use qbx_words::Complaint;
 use qbx_words::Parsed;
 use qbx_words::is;
@@ -6,7 +7,7 @@ use qbx_words::is_missing;
 use qbx_words::number;
 ghost use mathlib.Core.Path.{_≡_};
 ghost use Rattle.request.specs.Request.{sizeOf};
-ghost use Rattle.qbx_move_words.specs.Move.{isMove, withBudget, onto, moveOf, largerSize};
+ghost use Rattle.qbx_move_words.specs.Move.{namesTarget, withBudget, onto, moveOf, largerSize};
 
 // N and B of an image.
 pub struct Geometry {
@@ -14,8 +15,9 @@ pub struct Geometry {
     pub slots: u64,
 }
 
-// A move whose words were right.
+// A move whose words were right: of a clean image's blocks, or, as a rebuild, of those that can be salvaged from any.
 pub struct Move {
+    pub salvages: bool,
     pub source: Geometry,
     pub target: Geometry,
     pub budget: u64,
@@ -26,11 +28,14 @@ pub enum MoveReading {
     Wrong(Complaint),
 }
 
-// Whether a verb is that of a move. It is no command's: another image follows it.
-pub fn is_move(verb: &[u8]) -> bool
-    ensures { λ r. ⌜ r ≡ isMove (now (verb .entry)) ⌝ }
+// Whether a verb is that of a move or a rebuild. It is no command's: another image follows it.
+pub fn names_target(verb: &[u8]) -> bool
+    ensures { λ r. ⌜ r ≡ namesTarget (now (verb .entry)) ⌝ }
 {
-    is(verb, b"move")
+    if is(verb, b"move") {
+        return true;
+    }
+    is(verb, b"rebuild")
 }
 
 // The option at the end.
@@ -44,9 +49,11 @@ fn with_budget(command: Move, option: &[u8], steps: &[u8]) -> MoveReading
         let Parsed::Number(budget) = number(steps) else {
             return MoveReading::Wrong(Complaint::Budget);
         };
+        let salvages = command.salvages;
         let source = command.source;
         let target = command.target;
         return MoveReading::Right(Move {
+            salvages,
             source,
             target,
             budget,
@@ -56,8 +63,15 @@ fn with_budget(command: Move, option: &[u8], steps: &[u8]) -> MoveReading
 }
 
 // The words after the target's name.
-fn onto(source: Geometry, segments: &[u8], slots: &[u8], option: &[u8], steps: &[u8]) -> MoveReading
-    ensures { λ r. ⌜ r ≡ onto source (now (segments .entry)) (now (slots .entry)) (now (option .entry)) (now (steps .entry)) ⌝ }
+fn onto(
+    salvages: bool,
+    source: Geometry,
+    segments: &[u8],
+    slots: &[u8],
+    option: &[u8],
+    steps: &[u8],
+) -> MoveReading
+    ensures { λ r. ⌜ r ≡ onto salvages source (now (segments .entry)) (now (slots .entry)) (now (option .entry)) (now (steps .entry)) ⌝ }
 {
     let Parsed::Number(n) = number(segments) else {
         return MoveReading::Wrong(Complaint::TargetSegments);
@@ -70,6 +84,7 @@ fn onto(source: Geometry, segments: &[u8], slots: &[u8], option: &[u8], steps: &
         slots: b,
     };
     let whole = Move {
+        salvages,
         source,
         target,
         budget: u64::MAX,
@@ -77,17 +92,18 @@ fn onto(source: Geometry, segments: &[u8], slots: &[u8], option: &[u8], steps: &
     with_budget(whole, option, steps)
 }
 
-// The words after the image's name but for the verb; those that are missing are empty.
+// The words after the image's name; those that are missing are empty.
 pub fn move_of(
     segments: &[u8],
     slots: &[u8],
+    verb: &[u8],
     target: &[u8],
     target_segments: &[u8],
     target_slots: &[u8],
     option: &[u8],
     steps: &[u8],
 ) -> MoveReading
-    ensures { λ r. ⌜ r ≡ moveOf (now (segments .entry)) (now (slots .entry)) (now (target .entry)) (now («target_segments» .entry)) (now («target_slots» .entry)) (now (option .entry)) (now (steps .entry)) ⌝ }
+    ensures { λ r. ⌜ r ≡ moveOf (now (segments .entry)) (now (slots .entry)) (now (verb .entry)) (now (target .entry)) (now («target_segments» .entry)) (now («target_slots» .entry)) (now (option .entry)) (now (steps .entry)) ⌝ }
 {
     let Parsed::Number(n) = number(segments) else {
         return MoveReading::Wrong(Complaint::Segments);
@@ -102,7 +118,15 @@ pub fn move_of(
         segments: n,
         slots: b,
     };
-    onto(source, target_segments, target_slots, option, steps)
+    let salvages = is(verb, b"rebuild");
+    onto(
+        salvages,
+        source,
+        target_segments,
+        target_slots,
+        option,
+        steps,
+    )
 }
 
 // The bytes of an image of so many segments and slots, or 0 if there is none.

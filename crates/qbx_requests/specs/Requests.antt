@@ -1,13 +1,15 @@
--- What a command does to an image, and what it tells of one.
+-- What a command does to an image, and what it prints of one.
 use Prim.Native.Nat.{ℕ}
 use mathlib.Core.List.{List, []}
 use Rattle.model.specs.Chip.{Image}
 use Rattle.model.specs.Answers.{Outcome, outcomeOf, format, put, delete, recover}
+use Rattle.text.specs.Buffer.{Print, printIn}
 use Rattle.account_text.specs.Account.{accountText}
 use Rattle.account_text.specs.Map.{mapText}
+use Rattle.salvage.specs.Salvage.{salvageOutcome}
 use Rattle.qbx_words.specs.declared.Command.{Command}
 use Rattle.qbx_words.specs.declared.Verb.{Verb}
-use Rattle.qbx_words.specs.declared.Verb.the-variants.{Format, Put, Get, Delete, Recover, Check, Account, Map, Unknown}
+use Rattle.qbx_words.specs.declared.Verb.the-variants.{Format, Put, Get, Delete, Recover, Check, Account, Map, Salvage, Unknown}
 
 abbrev pub untouched : Image → Outcome
 untouched s = record { code = 0; count = 0; image = s }
@@ -22,16 +24,18 @@ performedBy Recover k c s = outcomeOf (k .segments) (k .slots) s (k .budget) rec
 performedBy Check k c s = untouched s
 performedBy Account k c s = untouched s
 performedBy Map k c s = untouched s
+performedBy Salvage k c s = untouched s
 performedBy Unknown k c s = untouched s
 
--- the text that a command prints of an image; of most verbs there is none
-unfoldable pub textOf : Verb → Command → Image → List ℕ
-textOf Account k s = accountText (k .segments) (k .slots) s
-textOf Map k s = mapText (k .segments) (k .slots) s
-textOf Format k s = []
-textOf Put k s = []
-textOf Get k s = []
-textOf Delete k s = []
-textOf Recover k s = []
-textOf Check k s = []
-textOf Unknown k s = []
+-- what a command prints of an image, in a buffer; of most verbs it is nothing
+unfoldable pub printedBy : Verb → Command → Image → List ℕ → Print
+printedBy Account k s buffer = printIn (accountText (k .segments) (k .slots) s) buffer
+printedBy Map k s buffer = printIn (mapText (k .segments) (k .slots) s) buffer
+printedBy Salvage k s buffer = salvageOutcome (k .segments) (k .slots) s buffer
+printedBy Format k s buffer = printIn [] buffer
+printedBy Put k s buffer = printIn [] buffer
+printedBy Get k s buffer = printIn [] buffer
+printedBy Delete k s buffer = printIn [] buffer
+printedBy Recover k s buffer = printIn [] buffer
+printedBy Check k s buffer = printIn [] buffer
+printedBy Unknown k s buffer = printIn [] buffer

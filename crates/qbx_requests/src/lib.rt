@@ -8,8 +8,8 @@ ghost use mathlib.Core.Path.{_≡_};
 ghost use Prim.Native.Nat.{_≤_};
 ghost use lib.ListN.{length};
 ghost use Rattle.model.specs.Answers.{codeOf, performed};
-ghost use Rattle.text.specs.Buffer.{printed, printIn};
-ghost use Rattle.qbx_requests.specs.Requests.{performedBy, textOf};
+ghost use Rattle.text.specs.Buffer.{printed};
+ghost use Rattle.qbx_requests.specs.Requests.{performedBy, printedBy};
 
 // Nothing done.
 fn idle() -> Performed
@@ -39,13 +39,14 @@ pub fn perform(image: &mut [u8], command: Command, contents: &[u8]) -> Performed
         Verb::Check => idle(),
         Verb::Account => idle(),
         Verb::Map => idle(),
+        Verb::Salvage => idle(),
         Verb::Unknown => idle(),
     }
 }
 
 // A text about the image, in a lent buffer. A verb that prints none has none.
 pub fn describe(image: &[u8], command: Command, text: &mut [u8]) -> Printed
-    ensures { λ r. ⌜ (printed r (now (text .exit)) ≡ printIn (textOf (command .verb) command (now (image .entry))) (now (text .entry))) × (r .length ≤ length (now (text .exit))) ⌝ }
+    ensures { λ r. ⌜ (printed r (now (text .exit)) ≡ printedBy (command .verb) command (now (image .entry)) (now (text .entry))) × (r .length ≤ length (now (text .exit))) ⌝ }
 {
     let segments = command.segments as usize;
     let slots = command.slots as usize;
@@ -53,6 +54,7 @@ pub fn describe(image: &[u8], command: Command, text: &mut [u8]) -> Printed
     match verb {
         Verb::Account => accounts::account(image, segments, slots, text),
         Verb::Map => accounts::map(image, segments, slots, text),
+        Verb::Salvage => salvaging::salvage(image, segments, slots, text),
         Verb::Format => text::print(text, b""),
         Verb::Put => text::print(text, b""),
         Verb::Get => text::print(text, b""),

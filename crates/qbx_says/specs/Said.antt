@@ -61,7 +61,7 @@ sizeLine N B there = performedText Size 0 ++ askedText N B ++ (text "; " ++ deci
 unfoldable pub complaintText : Complaint → List ℕ
 complaintText Segments = text "qbx: N is not a number\n"
 complaintText Slots = text "qbx: B is not a number\n"
-complaintText NoVerb = text "qbx: the verb is none of format, put, get, delete, recover, check, account, map, move\n"
+complaintText NoVerb = text "qbx: the verb is none of format, put, get, delete, recover, check, account, map, salvage, move, rebuild\n"
 complaintText Block = text "qbx: BLOCK is not a number up to 65535\n"
 complaintText NoTarget = text "qbx: TARGET is missing, or longer than a path may be\n"
 complaintText TargetSegments = text "qbx: TARGET's N is not a number\n"

@@ -118,7 +118,7 @@ pub fn say_complaint(complaint: Complaint) -> Line
         Complaint::Slots => add(line, b"qbx: B is not a number\n"),
         Complaint::NoVerb => add(
             line,
-            b"qbx: the verb is none of format, put, get, delete, recover, check, account, map, move\n",
+            b"qbx: the verb is none of format, put, get, delete, recover, check, account, map, salvage, move, rebuild\n",
         ),
         Complaint::Block => add(line, b"qbx: BLOCK is not a number up to 65535\n"),
         Complaint::NoTarget => add(

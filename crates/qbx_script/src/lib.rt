@@ -1,5 +1,5 @@
 // Plays a script of commands, one to a line, each as qbx would obey it: IMAGE N B VERB [BLOCK] [--budget STEPS] [< contents], or
-// IMAGE N B move TARGET N B [--budget STEPS].
+// IMAGE N B move TARGET N B [--budget STEPS], or the same with rebuild.
 // All that is said goes to standard output, so that a whole story is one output to compare.
 use libc::STDIN_FILENO;
 use libc::STDOUT_FILENO;
@@ -7,12 +7,13 @@ use qbx_move_words::MoveReading;
 use qbx_script_words::word;
 use qbx_words::Reading;
 
-// The words of a move.
+// The words of a move or a rebuild.
 fn carry(line: &[u8]) {
     let target = word(line, 4);
     let reading = qbx_move_words::move_of(
         word(line, 1),
         word(line, 2),
+        word(line, 3),
         target,
         word(line, 5),
         word(line, 6),
@@ -29,7 +30,7 @@ fn carry(line: &[u8]) {
 
 // The words of a command, and what stands behind '<'.
 fn obey(line: &[u8], contents: &[u8]) {
-    if qbx_move_words::is_move(word(line, 3)) {
+    if qbx_move_words::names_target(word(line, 3)) {
         carry(line);
         return;
     }

@@ -9,7 +9,7 @@ use Rattle.qbx_words.specs.Number.{numberOf}
 use Rattle.qbx_words.specs.declared.Parsed.{Parsed}
 use Rattle.qbx_words.specs.declared.Parsed.the-variants.{Number, NoNumber}
 use Rattle.qbx_words.specs.declared.Verb.{Verb}
-use Rattle.qbx_words.specs.declared.Verb.the-variants.{Format, Put, Get, Delete, Recover, Check, Account, Map, Unknown}
+use Rattle.qbx_words.specs.declared.Verb.the-variants.{Format, Put, Get, Delete, Recover, Check, Account, Map, Salvage, Unknown}
 use Rattle.qbx_words.specs.declared.Complaint.{Complaint}
 use Rattle.qbx_words.specs.declared.Complaint.the-variants.{Segments, Slots, NoVerb, Block, NoOption, Budget}
 use Rattle.qbx_words.specs.declared.Command.{Command}
@@ -28,7 +28,8 @@ verbOf w =
     (cond (same w (text "check")) Check
     (cond (same w (text "account")) Account
     (cond (same w (text "map")) Map
-    Unknown)))))))
+    (cond (same w (text "salvage")) Salvage
+    Unknown))))))))
 
 unfoldable pub known : Verb → Bool
 known Format = true
@@ -39,6 +40,7 @@ known Recover = true
 known Check = true
 known Account = true
 known Map = true
+known Salvage = true
 known Unknown = false
 
 unfoldable pub namesBlock : Verb → Bool
@@ -50,6 +52,7 @@ namesBlock Recover = false
 namesBlock Check = false
 namesBlock Account = false
 namesBlock Map = false
+namesBlock Salvage = false
 namesBlock Unknown = false
 
 unfoldable pub writes : Verb → Bool
@@ -61,6 +64,7 @@ writes Recover = true
 writes Check = false
 writes Account = false
 writes Map = false
+writes Salvage = false
 writes Unknown = false
 
 -- whether what a verb says is a text of many lines
@@ -73,6 +77,7 @@ prints Recover = false
 prints Check = false
 prints Account = true
 prints Map = true
+prints Salvage = true
 prints Unknown = false
 
 -- ---- the words, from the last to the first

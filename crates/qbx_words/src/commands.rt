@@ -51,6 +51,9 @@ fn verb_of(word: &[u8]) -> Verb
     if is(word, b"map") {
         return Verb::Map;
     }
+    if is(word, b"salvage") {
+        return Verb::Salvage;
+    }
     Verb::Unknown
 }
 
@@ -66,6 +69,7 @@ fn known(verb: Verb) -> bool
         Verb::Check => true,
         Verb::Account => true,
         Verb::Map => true,
+        Verb::Salvage => true,
         Verb::Unknown => false,
     }
 }
@@ -82,6 +86,7 @@ fn names_block(verb: Verb) -> bool
         Verb::Check => false,
         Verb::Account => false,
         Verb::Map => false,
+        Verb::Salvage => false,
         Verb::Unknown => false,
     }
 }
@@ -98,6 +103,7 @@ fn writes(verb: Verb) -> bool
         Verb::Check => false,
         Verb::Account => false,
         Verb::Map => false,
+        Verb::Salvage => false,
         Verb::Unknown => false,
     }
 }

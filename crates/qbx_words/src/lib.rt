@@ -25,6 +25,7 @@ pub enum Verb {
     Check,
     Account,
     Map,
+    Salvage,
     Unknown,
 }
 
@@ -41,6 +42,7 @@ pub fn prints(verb: Verb) -> bool
         Verb::Check => false,
         Verb::Account => true,
         Verb::Map => true,
+        Verb::Salvage => true,
         Verb::Unknown => false,
     }
 }

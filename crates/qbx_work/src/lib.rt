@@ -119,6 +119,7 @@ fn act(
         | Verb::Recover
         | Verb::Account
         | Verb::Map
+        | Verb::Salvage
         | Verb::Unknown => change(image, path, command, contents, there, out, err),
     }
 }
@@ -145,8 +146,8 @@ pub fn obey(image: &mut [u8], path: &[u8], command: Command, contents: &[u8], ou
     );
 }
 
-// A text about the image's file, in a buffer of its own beside the image's; nothing else goes out. It is not done by `obey`:
-// what it needs of the stack would be taken for every command.
+// A text about the image's file, in a buffer of its own beside the image's; nothing else goes out, and where a wrong size gives
+// none, that is told with what is wrong. It is not done by `obey`: what it needs of the stack would be taken for every command.
 pub fn show(image: &mut [u8], text: &mut [u8], path: &[u8], command: Command, out: i32, err: i32)
     requires { ⌜ sizeOf (command .segments) (command .slots) < length (now image) ⌝ }
 {
@@ -160,6 +161,10 @@ pub fn show(image: &mut [u8], text: &mut [u8], path: &[u8], command: Command, ou
     let answer = printed.answer;
     if let Answer::ShortBuffer = answer {
         io::write_all(err, b"qbx: the text is longer than its buffer\n");
+        return;
+    }
+    if let Answer::Size = answer {
+        tell(err, Performed { answer, steps: 0 }, command, file.there);
         return;
     }
     let length = printed.length;

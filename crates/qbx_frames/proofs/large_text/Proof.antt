@@ -10,7 +10,7 @@ slice-aggregate-show : tie.Need-slice-aggregate-show
 slice-aggregate-show c = as-many 16711681 255
 
 slice-aggregate-show-2 : tie.Need-slice-aggregate-show-2
-slice-aggregate-show-2 c = as-many 2621440 0
+slice-aggregate-show-2 c = as-many 2949120 0
 
 show-requires : tie.Need-show-requires
 unfolding roomOf forBuffer

@@ -10,7 +10,7 @@ slice-aggregate-show : tie.Need-slice-aggregate-show
 slice-aggregate-show c = as-many 4194305 255
 
 slice-aggregate-show-2 : tie.Need-slice-aggregate-show-2
-slice-aggregate-show-2 c = as-many 655360 0
+slice-aggregate-show-2 c = as-many 753664 0
 
 show-requires : tie.Need-show-requires
 unfolding roomOf forBuffer

@@ -59,6 +59,12 @@ enum-told-9 c = search needs
 idle-requires-5 : tie.Need-idle-requires-5
 idle-requires-5 c κs = search needs
 
+enum-told-10 : tie.Need-enum-told-10
+enum-told-10 c = search needs
+
+idle-requires-6 : tie.Need-idle-requires-6
+idle-requires-6 c κs = search needs
+
 same-length : tie.Need-same-length
 same-length c = search needs
 
@@ -107,6 +113,10 @@ returns-9 : tie.Need-returns-9
 unfolding performedBy performed
 returns-9 c = rw (c .before .enum-told9 .given .1, c .idle5 .ensures .0, c .idle5 .ensures .1)
 
+returns-10 : tie.Need-returns-10
+unfolding performedBy performed
+returns-10 c = rw (c .before .enum-told10 .given .1, c .idle6 .ensures .0, c .idle6 .ensures .1)
+
 pub perform-spec : {M : Type 1} → statement M
 perform-spec =
     tie.close
@@ -129,6 +139,8 @@ perform-spec =
     idle-requires-4
     enum-told-9
     idle-requires-5
+    enum-told-10
+    idle-requires-6
     same-length
     returns
     same-length-2
@@ -141,4 +153,5 @@ perform-spec =
     returns-6
     returns-7
     returns-8
-    returns-9)
+    returns-9
+    returns-10)

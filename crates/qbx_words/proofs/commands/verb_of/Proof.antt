@@ -136,18 +136,40 @@ returns-8 c =
       sym (c .before .is8 .ensures) ∙ c .if8 .taken,
     )
 
+slice-aggregate-is-9 : tie.Need-slice-aggregate-is-9
+slice-aggregate-is-9 c = search needs
+
+is-requires-9 : tie.Need-is-requires-9
+is-requires-9 c κs = search needs
+
 returns-9 : tie.Need-returns-9
 unfolding text verbOf
 returns-9 c =
     rw (
-      sym (c .before .before .before .before .before .before .before .before .before .before .before .before .before .before .before .before .before .before .before .before .before .before .is .ensures) ∙ c .before .before .before .before .before .before .before .before .before .before .before .before .before .before .before .before .before .before .before .before .before .if1 .left,
-      sym (c .before .before .before .before .before .before .before .before .before .before .before .before .before .before .before .before .before .before .before .is2 .ensures) ∙ c .before .before .before .before .before .before .before .before .before .before .before .before .before .before .before .before .before .before .if2 .left,
-      sym (c .before .before .before .before .before .before .before .before .before .before .before .before .before .before .before .before .is3 .ensures) ∙ c .before .before .before .before .before .before .before .before .before .before .before .before .before .before .before .if3 .left,
-      sym (c .before .before .before .before .before .before .before .before .before .before .before .before .before .is4 .ensures) ∙ c .before .before .before .before .before .before .before .before .before .before .before .before .if4 .left,
-      sym (c .before .before .before .before .before .before .before .before .before .before .is5 .ensures) ∙ c .before .before .before .before .before .before .before .before .before .if5 .left,
-      sym (c .before .before .before .before .before .before .before .is6 .ensures) ∙ c .before .before .before .before .before .before .if6 .left,
-      sym (c .before .before .before .before .is7 .ensures) ∙ c .before .before .before .if7 .left,
-      sym (c .before .is8 .ensures) ∙ c .if8 .left,
+      sym (c .before .before .before .before .before .before .before .before .before .before .before .before .before .before .before .before .before .before .before .before .before .before .before .before .before .is .ensures) ∙ c .before .before .before .before .before .before .before .before .before .before .before .before .before .before .before .before .before .before .before .before .before .before .before .before .if1 .left,
+      sym (c .before .before .before .before .before .before .before .before .before .before .before .before .before .before .before .before .before .before .before .before .before .before .is2 .ensures) ∙ c .before .before .before .before .before .before .before .before .before .before .before .before .before .before .before .before .before .before .before .before .before .if2 .left,
+      sym (c .before .before .before .before .before .before .before .before .before .before .before .before .before .before .before .before .before .before .before .is3 .ensures) ∙ c .before .before .before .before .before .before .before .before .before .before .before .before .before .before .before .before .before .before .if3 .left,
+      sym (c .before .before .before .before .before .before .before .before .before .before .before .before .before .before .before .before .is4 .ensures) ∙ c .before .before .before .before .before .before .before .before .before .before .before .before .before .before .before .if4 .left,
+      sym (c .before .before .before .before .before .before .before .before .before .before .before .before .before .is5 .ensures) ∙ c .before .before .before .before .before .before .before .before .before .before .before .before .if5 .left,
+      sym (c .before .before .before .before .before .before .before .before .before .before .is6 .ensures) ∙ c .before .before .before .before .before .before .before .before .before .if6 .left,
+      sym (c .before .before .before .before .before .before .before .is7 .ensures) ∙ c .before .before .before .before .before .before .if7 .left,
+      sym (c .before .before .before .before .is8 .ensures) ∙ c .before .before .before .if8 .left,
+      sym (c .before .is9 .ensures) ∙ c .if9 .taken,
+    )
+
+returns-10 : tie.Need-returns-10
+unfolding text verbOf
+returns-10 c =
+    rw (
+      sym (c .before .before .before .before .before .before .before .before .before .before .before .before .before .before .before .before .before .before .before .before .before .before .before .before .before .is .ensures) ∙ c .before .before .before .before .before .before .before .before .before .before .before .before .before .before .before .before .before .before .before .before .before .before .before .before .if1 .left,
+      sym (c .before .before .before .before .before .before .before .before .before .before .before .before .before .before .before .before .before .before .before .before .before .before .is2 .ensures) ∙ c .before .before .before .before .before .before .before .before .before .before .before .before .before .before .before .before .before .before .before .before .before .if2 .left,
+      sym (c .before .before .before .before .before .before .before .before .before .before .before .before .before .before .before .before .before .before .before .is3 .ensures) ∙ c .before .before .before .before .before .before .before .before .before .before .before .before .before .before .before .before .before .before .if3 .left,
+      sym (c .before .before .before .before .before .before .before .before .before .before .before .before .before .before .before .before .is4 .ensures) ∙ c .before .before .before .before .before .before .before .before .before .before .before .before .before .before .before .if4 .left,
+      sym (c .before .before .before .before .before .before .before .before .before .before .before .before .before .is5 .ensures) ∙ c .before .before .before .before .before .before .before .before .before .before .before .before .if5 .left,
+      sym (c .before .before .before .before .before .before .before .before .before .before .is6 .ensures) ∙ c .before .before .before .before .before .before .before .before .before .if6 .left,
+      sym (c .before .before .before .before .before .before .before .is7 .ensures) ∙ c .before .before .before .before .before .before .if7 .left,
+      sym (c .before .before .before .before .is8 .ensures) ∙ c .before .before .before .if8 .left,
+      sym (c .before .is9 .ensures) ∙ c .if9 .left,
     )
 
 pub verb-of-spec : {M : Type 1} → statement M
@@ -178,4 +200,7 @@ verb-of-spec =
     slice-aggregate-is-8
     is-requires-8
     returns-8
-    returns-9)
+    slice-aggregate-is-9
+    is-requires-9
+    returns-9
+    returns-10)
