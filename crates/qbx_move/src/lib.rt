@@ -1,5 +1,5 @@
-// The work of a move, with its words handed in: both images' files are read, the target is built anew from what the source
-// stores, its file is replaced and the answer said. The source's file is only read.
+// The work of a move or a rebuild, with its words handed in: both images' files are read, the target is built anew from what
+// the source stores, or what can be salvaged of it, its file is replaced and the answer said. The source's file is only read.
 use model::Answer;
 use qbx_move_words::Move;
 use qbx_out::fail;

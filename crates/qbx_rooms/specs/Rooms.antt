@@ -18,7 +18,7 @@ roomOf k = forBuffer 1048576 4194304 largestImage k
 unfoldable pub needOf : Bool → ℕ → ℕ
 needOf prints k = cond prints (forBuffer 2560 7168 26624 k) (forBuffer 1536 6144 24576 k)
 
--- the KiB of stack that two such buffers ask for, with a table of 256 KiB: for the images of a move
+-- the KiB of stack that two such buffers ask for, with tables of 384 KiB: for the images of a move or a rebuild
 unfoldable pub moveNeedOf : ℕ → ℕ
 moveNeedOf k = forBuffer 3584 12288 39936 k
 

@@ -52,7 +52,7 @@ fn need_of(buffer: u8, prints: bool) -> u64
     24576
 }
 
-// The KiB of stack that two of it ask for, with the images of a move and the library's table.
+// The KiB of stack that two of it ask for, with the images of a move or a rebuild and the library's tables.
 fn move_need_of(buffer: u8) -> u64
     ensures { λ r. ⌜ r ≡ moveNeedOf buffer ⌝ }
 {
