@@ -14,7 +14,7 @@ use Rattle.model.specs.Lists.{same, all}
 use Rattle.model.specs.Chip.{Image, Page}
 use Rattle.model.specs.Slot.{live, slotOf, slotPage}
 use Rattle.model.specs.State.{holds}
-use Rattle.model.specs.Laws.Lists.{and-left, and-right}
+use Rattle.model.specs.Laws.Bytes.{same-eq, same-refl}
 use Rattle.model.specs.Laws.SlotPage.{live-facts}
 use Rattle.account_text.specs.Account.{LiveSlot}
 use Rattle.index.specs.Tables.{mostPages, pageOf, ofBlock}
@@ -23,21 +23,6 @@ use Rattle.meeting.specs.Sheet.{Sheet, sheet, pageAt, met}
 use Rattle.candidates.specs.Gathered.{metAll, Lies, NoneOf, OneOf, Tells}
 
 -- ---- pages of one block
-
-pub same-equal : (a b : List ℕ) → same a b ≡ true → a ≡ b
-unfolding same
-same-equal [] [] h = refl
-same-equal [] (y ∷ b) h = absurd (false≢true h)
-same-equal (x ∷ a) [] h = absurd (false≢true h)
-same-equal (x ∷ a) (y ∷ b) h =
-    let p = eqb-true x y (and-left (eqb x y) (same a b) h) in
-    let q = same-equal a b (and-right (eqb x y) (same a b) h) in
-    ap (λ (k : ℕ). k ∷ a) p ∙ ap (λ (l : List ℕ). y ∷ l) q
-
-pub same-refl : (a : List ℕ) → same a a ≡ true
-unfolding same
-same-refl [] = refl
-same-refl (x ∷ a) = rw (eq-eqb x x refl) (same-refl a)
 
 -- they are the same exactly if their contents are
 pages-same : (p q : Page) (b : ℕ) (c d : List ℕ) → slotOf p ≡ live b c → slotOf q ≡ live b d → same p q ≡ same d c
@@ -52,8 +37,8 @@ pages-same p q b c d e f = go (same p q) (same d c) refl refl
     go : (t u : Bool) → same p q ≡ t → same d c ≡ u → t ≡ u
     go true true x y = refl
     go false false x y = refl
-    go true false x y = absurd (false≢true (sym y ∙ (ap (λ (z : List ℕ). same z c) (contents (same-equal p q x)) ∙ same-refl c)))
-    go false true x y = absurd (false≢true (sym x ∙ (ap (λ (z : Page). same z q) (pages (same-equal d c y)) ∙ same-refl q)))
+    go true false x y = absurd (false≢true (sym y ∙ (ap (λ (z : List ℕ). same z c) (contents (same-eq p q x)) ∙ same-refl c)))
+    go false true x y = absurd (false≢true (sym x ∙ (ap (λ (z : Page). same z q) (pages (same-eq d c y)) ∙ same-refl q)))
 
 -- ---- those given
 

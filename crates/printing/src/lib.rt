@@ -100,7 +100,7 @@ pub fn block_text(
     text::add_labelled(text, segments, b" slot ", slot)
 }
 
-// The line.
+// The whole line, of an account.
 fn block_line(text: &mut [u8], at: usize, block: u32, length: u32, segment: u32, slot: u32) -> usize
     requires { ⌜ at + 80 ≤ mostText ⌝ }
     ensures { λ r. ⌜ Wrote (blockText block length segment slot ++ ascii "\n") (now (text .entry)) at (now (text .exit)) r × (r ≤ at + 80) ⌝ }

@@ -64,8 +64,12 @@ wrecks =
     ∷ small ((first v2 9 ∷ block 7 1 ∷ blanks 1) ++ (blanks 3 ++ (first v2 8 ∷ block 7 2 ∷ block 7 1 ∷ []))) ("block 7 len 1 seg 0 slot 1 differs" ∷ [])
     -- two that differ from each other, and not from the one given: both versions side by side
     ∷ small ((first v2 0 ∷ holder 7 (1 ∷ 2 ∷ []) ∷ holder 7 (1 ∷ 3 ∷ []) ∷ []) ++ ((first version1 1 ∷ holder 7 (1 ∷ 2 ∷ []) ∷ blanks 1) ++ blanks 3)) ("block 7 len 2 seg 1 slot 1 differs" ∷ [])
+    -- the last byte of three differs
+    ∷ small ((first v2 0 ∷ holder 7 (1 ∷ 2 ∷ 3 ∷ []) ∷ holder 7 (1 ∷ 2 ∷ 4 ∷ []) ∷ []) ++ blanks 6) ("block 7 len 3 seg 0 slot 2 differs" ∷ [])
     -- an owing top leaves the segment after it aside, in a damaged image too: what is there is neither given nor disagrees
     ∷ small ((first v2 0 ∷ block 2 1 ∷ block 4 1 ∷ []) ++ ((used 3 2 v2 compacted 1 ∷ block 3 1 ∷ status 0 ∷ []) ++ owing (block 2 2 ∷ blanks 1))) ("block 2 len 2 seg 2 slot 1 same" ∷ "block 3 len 1 seg 1 slot 1 same" ∷ [])
+    -- and also where fewer are in use than an erase that is owed would leave
+    ∷ small ((first v2 0 ∷ block 2 1 ∷ block 4 1 ∷ []) ++ (blanks 3 ++ owing (block 2 2 ∷ blanks 1))) ("block 2 len 2 seg 2 slot 1 same" ∷ [])
     -- one that owes and is not the top leaves nothing aside
     ∷ small ((first v2 3 ∷ block 2 1 ∷ blanks 1) ++ ((first v2 1 ∷ block 3 1 ∷ deads 1) ++ owing (block 2 2 ∷ deads 1))) ("block 2 len 1 seg 0 slot 1 differs" ∷ "block 3 len 1 seg 1 slot 1 same" ∷ [])
     -- (d): the newer one, as recovery would show
@@ -134,7 +138,7 @@ empty-image : resultOf 2 2 (rebuilds (replicate 2304 0) 2 2 1000) ≡ record { c
 unfolding rebuilding
 empty-image = refl
 
--- 1 for either image
-sizes : (rebuildOutcome 4 2 source 2 3 (replicate 2048 0) 1000 .code ≡ 1) × (rebuildOutcome 3 2 source 2 3 (replicate 2047 0) 1000 .code ≡ 1)
+-- 1 for either image, and before 7
+sizes : (rebuildOutcome 4 2 source 2 3 (replicate 2048 0) 1000 .code ≡ 1) × (rebuildOutcome 3 2 source 2 3 (replicate 2047 0) 1000 .code ≡ 1) × (rebuildOutcome 3 2 source 2 2 (replicate 1535 0) 1000 .code ≡ 1)
 unfolding rebuilding
-sizes = (refl, refl)
+sizes = (refl, refl, refl)

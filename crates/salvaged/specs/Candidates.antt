@@ -19,7 +19,7 @@ use Rattle.model.specs.Laws.Effects.{numbered-at}
 use Rattle.model.specs.Laws.Ring.{next-ge, next-at, used-less, number-in-use}
 use Rattle.account_text.specs.Account.{LiveSlot, liveAt, liveFrom, liveIn, liveSlots}
 use Rattle.salvage.specs.Salvage.{regarded, candidates}
-use Rattle.salvaged.specs.Law.{Among, Stands, EveryCandidate}
+use Rattle.salvaged.specs.Law.{Among, IsLive, Aside, EveryCandidate}
 
 -- ---- members
 
@@ -117,7 +117,7 @@ seen-regarded N l s = go (isOwing (getD l (topIndex N l) blank))
     go false = s
 
 -- the segment of a live slot has a number
-pub stands-number : (l : List Segment) (e : LiveSlot) → Stands l e → (n : ℕ) × (numberAfter (getD l (e .segment) blank) ≡ suc n)
+pub stands-number : (l : List Segment) (e : LiveSlot) → IsLive l e → (n : ℕ) × (numberAfter (getD l (e .segment) blank) ≡ suc n)
 stands-number l e h = go (getD l (e .segment) blank) (h .2)
   where
     go : (x : Segment) → getD (slotsIn x) (h .0) empty ≡ live (e .block) (e .contents) → (n : ℕ) × (numberAfter x ≡ suc n)
@@ -126,18 +126,18 @@ stands-number l e h = go (getD l (e .segment) blank) (h .2)
     go (inUse ver st n ks) q = (n, (unfold numberAfter in refl))
 
 -- one that stands where a segment was left out stands elsewhere
-pub stands-other : (l : List Segment) (i : ℕ) (e : LiveSlot) → Stands (set l i blank) e → e .segment ≢ i
+pub stands-other : (l : List Segment) (i : ℕ) (e : LiveSlot) → IsLive (set l i blank) e → e .segment ≢ i
 stands-other l i e h q = blank-none (n .0) (sym (ap numberAfter (ap (λ (k : ℕ). getD (set l i blank) k blank) q ∙ blank-here l i)) ∙ n .1)
   where
     n : (k : ℕ) × (numberAfter (getD (set l i blank) (e .segment) blank) ≡ suc k)
     n = stands-number (set l i blank) e h
 
-pub stands-more : (l : List Segment) (i : ℕ) (e : LiveSlot) → Stands (set l i blank) e → Stands l e
+pub stands-more : (l : List Segment) (i : ℕ) (e : LiveSlot) → IsLive (set l i blank) e → IsLive l e
 stands-more l i e h = (h .0, h .1, ap (λ (x : Segment). getD (slotsIn x) (h .0) empty) (sym (getD-set-other l i (e .segment) blank blank (stands-other l i e h))) ∙ h .2)
 
 -- ---- every one, and no other
 
-pub lives-stand : (N u : ℕ) (l : List Segment) (e : LiveSlot) → Among e (liveIn N u l) → Stands l e
+pub lives-stand : (N u : ℕ) (l : List Segment) (e : LiveSlot) → Among e (liveIn N u l) → IsLive l e
 unfolding liveIn topSlots
 lives-stand N zero l e h = absurd h
 lives-stand N (suc u) l e h =
@@ -153,14 +153,14 @@ top-number N l s h =
     let q : (nextNumber l - 1) % N ≡ r .0 = s .index (r .0) (nextNumber l - 1) (r .2 ∙ omega arith) in
     ap (λ (k : ℕ). numberAfter (getD l k blank)) q ∙ r .2
 
-stands-inside : (l : List Segment) (e : LiveSlot) → Stands l e → e .segment < length l
+stands-inside : (l : List Segment) (e : LiveSlot) → IsLive l e → e .segment < length l
 stands-inside l e h = elim (decLt (e .segment) (length l)) [
   | yes p ↦ p
   | no p ↦ let n = stands-number l e h in absurd (blank-none (n .0) (sym (ap numberAfter (List·getD-eq-default l blank (omega arith))) ∙ n .1))
 ]
 
 -- the top of segments of which one holds a live slot
-module _ (N : ℕ) (l : List Segment) (s : Seen N l) (e : LiveSlot) (h : Stands l e) where
+module _ (N : ℕ) (l : List Segment) (s : Seen N l) (e : LiveSlot) (h : IsLive l e) where
   pub numbered-top : numberAfter (getD l (topIndex N l) blank) ≡ suc (nextNumber l - 1)
   numbered-top =
       let n = stands-number l e h in
@@ -174,7 +174,7 @@ module _ (N : ℕ) (l : List Segment) (s : Seen N l) (e : LiveSlot) (h : Stands 
       used-less l i blank (omega (arith, mod-lt (nextNumber l - 1) (s .some), s .size)) (number-in-use (getD l i blank) (nextNumber l - 1) numbered-top) refl
 
   -- in the top, or in what is left
-  top-or-rest : (u : ℕ) → (Stands (set l (topIndex N l) blank) e → Among e (liveIn N u (set l (topIndex N l) blank))) → Among e (liveIn N (suc u) l)
+  top-or-rest : (u : ℕ) → (IsLive (set l (topIndex N l) blank) e → Among e (liveIn N u (set l (topIndex N l) blank))) → Among e (liveIn N (suc u) l)
   unfolding liveIn topSlots
   top-or-rest u ih =
       let i = topIndex N l in
@@ -188,7 +188,7 @@ module _ (N : ℕ) (l : List Segment) (s : Seen N l) (e : LiveSlot) (h : Stands 
       named : (i : ℕ) → e .segment ≡ i → record { block = e .block; contents = e .contents; segment = i; slot = 1 + h .0 } ≡ e
       named i q = ap₂ {C = LiveSlot} (λ x y. record { block = e .block; contents = e .contents; segment = x; slot = y }) (sym q) (omega (arith, h .1))
 
-stand-lives : (N u : ℕ) (l : List Segment) → Seen N l → usedCount l ≡ u → (e : LiveSlot) → Stands l e → Among e (liveIn N u l)
+stand-lives : (N u : ℕ) (l : List Segment) → Seen N l → usedCount l ≡ u → (e : LiveSlot) → IsLive l e → Among e (liveIn N u l)
 stand-lives N zero l s c e h =
     let n = stands-number l e h in
     let k = stands-inside l e h in
@@ -199,8 +199,27 @@ stand-lives N zero l s c e h =
 stand-lives N (suc u) l s c e h =
     top-or-rest N l s e h u (stand-lives N u (set l (topIndex N l) blank) (seen-less N l (topIndex N l) s) (omega (arith, c, top-fewer N l s e h)) e)
 
+-- ---- those that are looked at
+
+aside-less : (N : ℕ) (l : List Segment) (e : LiveSlot) → IsLive (regarded N l) e → IsLive l e × (Aside N l e → ⊥)
+unfolding regarded nextBlanked
+aside-less N l e = go (isOwing (getD l (topIndex N l) blank)) refl
+  where
+    go : (t : Bool) → isOwing (getD l (topIndex N l) blank) ≡ t → IsLive (cond t (set l (nextIndex N l) blank) l) e → IsLive l e × (Aside N l e → ⊥)
+    go true q h = (stands-more l (nextIndex N l) e h, λ a. stands-other l (nextIndex N l) e h (a .1))
+    go false q h = (h, λ a. false≢true (sym q ∙ a .0))
+
+not-aside : (N : ℕ) (l : List Segment) (e : LiveSlot) → IsLive l e → (Aside N l e → ⊥) → IsLive (regarded N l) e
+unfolding regarded nextBlanked
+not-aside N l e h n = go (isOwing (getD l (topIndex N l) blank)) refl
+  where
+    go : (t : Bool) → isOwing (getD l (topIndex N l) blank) ≡ t → IsLive (cond t (set l (nextIndex N l) blank) l) e
+    go true q = (h .0, h .1, ap (λ (x : Segment). getD (slotsIn x) (h .0) empty) (getD-set-other l (nextIndex N l) (e .segment) blank blank (λ k. n (q, k))) ∙ h .2)
+    go false q = h
+
 pub every-candidate : EveryCandidate
 unfolding candidates liveSlots
 every-candidate = λ N B s e z.
-    let m = regarded N (segmentsOf N B s) in
-    (lives-stand N (usedCount m) m e, stand-lives N (usedCount m) m (seen-regarded N (segmentsOf N B s) (seen-all N B s z)) refl e)
+    let l = segmentsOf N B s in
+    let m = regarded N l in
+    (λ h. aside-less N l e (lives-stand N (usedCount m) m e h), λ h n. stand-lives N (usedCount m) m (seen-regarded N l (seen-all N B s z)) refl e (not-aside N l e h n))

@@ -11,14 +11,14 @@ use lib.Dec.{eqb}
 use borrow.Author.Tests.{eqb-true, eq-eqb}
 use Rattle.model.specs.Lists.{same, all}
 use Rattle.model.specs.Slot.{Slot, empty, torn, dead, cut, wrong, live, entryOf}
-use Rattle.model.specs.State.{Segment, blank, numberAfter, slotsIn, segmentsOf, nextNumber, topIndex, topSlots, usedCount, holds}
+use Rattle.model.specs.State.{Segment, blank, numberAfter, isOwing, slotsIn, segmentsOf, nextNumber, topIndex, nextIndex, nextBlanked, topSlots, usedCount, holds}
 use Rattle.model.specs.Laws.Lists.{and-left, and-right}
 use Rattle.model.specs.Laws.Bytes.{same-eq, same-refl}
 use Rattle.model.specs.Laws.Ring.{next-ge}
 use Rattle.account_text.specs.Account.{LiveSlot, liveAt, liveFrom, liveIn, liveSlots}
 use Rattle.salvage.specs.Salvage.{regarded, candidates, heldIn, given, agreed}
 use Rattle.salvage.specs.Given.{given-distinct}
-use Rattle.salvaged.specs.Law.{Among, Stands, NotAfter, HighestGiven, Disagreement}
+use Rattle.salvaged.specs.Law.{Among, IsLive, NotAfter, HighestGiven, Disagreement}
 use Rattle.salvaged.specs.Candidates.{among-either, from-row, Seen, seen-less, seen-all, seen-regarded, stands-number, stands-other, stands-more, lives-stand, numbered-top}
 
 -- ---- the candidates rise by segment number, then place
@@ -43,19 +43,19 @@ rising-row l i j (wrong ∷ ks) = rising-row l i (suc j) ks
 rising-row l i j (live b c ∷ ks) = (λ g h. let r = from-row i (suc j) ks g h in inr (sym (r .0), omega (arith, r .1 .1)), rising-row l i (suc j) ks)
 
 -- the numbers of those that stand where a segment was left out are the same
-rising-more : (l : List Segment) (i : ℕ) (r : List LiveSlot) → ((e : LiveSlot) → Among e r → Stands (set l i blank) e) → Rising (set l i blank) r → Rising l r
+rising-more : (l : List Segment) (i : ℕ) (r : List LiveSlot) → ((e : LiveSlot) → Among e r → IsLive (set l i blank) e) → Rising (set l i blank) r → Rising l r
 rising-more l i [] f p = tt
 rising-more l i (e ∷ r) f p = (λ g h. carry g (f g (inr h)) (p .0 g h), rising-more l i r (λ x h. f x (inr h)) (p .1))
   where
-    number : (x : LiveSlot) → Stands (set l i blank) x → numberAfter (getD (set l i blank) (x .segment) blank) ≡ numberAfter (getD l (x .segment) blank)
+    number : (x : LiveSlot) → IsLive (set l i blank) x → numberAfter (getD (set l i blank) (x .segment) blank) ≡ numberAfter (getD l (x .segment) blank)
     number x h = ap numberAfter (getD-set-other l i (x .segment) blank blank (stands-other l i x h))
 
-    carry : (g : LiveSlot) → Stands (set l i blank) g → NotAfter (set l i blank) e g → NotAfter l e g
+    carry : (g : LiveSlot) → IsLive (set l i blank) g → NotAfter (set l i blank) e g → NotAfter l e g
     carry g h (inl q) = inl (omega (arith, q, number e (f e (inl refl)), number g h))
     carry g h (inr q) = inr q
 
 -- what is left has lower numbers than the top
-below-top : (N : ℕ) (l : List Segment) → Seen N l → (a b : LiveSlot) → Stands (set l (topIndex N l) blank) a → Stands l b → b .segment ≡ topIndex N l
+below-top : (N : ℕ) (l : List Segment) → Seen N l → (a b : LiveSlot) → IsLive (set l (topIndex N l) blank) a → IsLive l b → b .segment ≡ topIndex N l
     → numberAfter (getD l (a .segment) blank) < numberAfter (getD l (b .segment) blank)
 below-top N l s a b h k e =
     let n = stands-number l a (stands-more l (topIndex N l) a h) in
@@ -123,15 +123,19 @@ highest l (e ∷ r) p x h = go (holds (e .block) (map heldIn r)) refl h (highest
     go false q (inl k) ih = (e, itself q, sym (ap (λ (z : LiveSlot). z .block) k), subst (λ (z : LiveSlot). NotAfter l z e) (sym k) (inr (refl, omega arith)))
     go u q (inr k) ih = let g = ih x k in (g .0, more (g .0) (g .1), g .2, g .3)
 
-rising-candidates : (N : ℕ) (l : List Segment) → Seen N l → Rising (regarded N l) (candidates N l)
-unfolding candidates liveSlots
-rising-candidates N l s = rising-lives N (usedCount (regarded N l)) (regarded N l) (seen-regarded N l s)
+rising-candidates : (N : ℕ) (l : List Segment) → Seen N l → Rising l (candidates N l)
+unfolding candidates liveSlots regarded nextBlanked
+rising-candidates N l s = go (isOwing (getD l (topIndex N l) blank)) (rising-lives N (usedCount (regarded N l)) (regarded N l) (seen-regarded N l s)) (lives-stand N (usedCount (regarded N l)) (regarded N l))
+  where
+    go : (t : Bool) → let m = cond t (set l (nextIndex N l) blank) l in Rising m (liveIn N (usedCount m) m) → ((e : LiveSlot) → Among e (liveIn N (usedCount m) m) → IsLive m e) → Rising l (liveIn N (usedCount m) m)
+    go true p f = rising-more l (nextIndex N l) (liveIn N (usedCount (set l (nextIndex N l) blank)) (set l (nextIndex N l) blank)) f p
+    go false p f = p
 
 pub highest-given : HighestGiven
 highest-given = λ N B s z.
     let l = segmentsOf N B s in
     let r = candidates N l in
-    (given-distinct r, given-among r, highest (regarded N l) r (rising-candidates N l (seen-all N B s z)))
+    (given-distinct r, given-among r, highest l r (rising-candidates N l (seen-all N B s z)))
 
 -- ---- whether others disagree
 

@@ -9,7 +9,7 @@ use lib.ListN.{length, getD}
 use Rattle.model.specs.Chip.{Image, Bytes, rightSize}
 use Rattle.model.specs.Header.{newVersion, isFormer}
 use Rattle.model.specs.Slot.{empty, live}
-use Rattle.model.specs.State.{Segment, blank, numberAfter, slotsIn, segmentsOf, distinct, clean, damaged, state, view}
+use Rattle.model.specs.State.{Segment, blank, isOwing, numberAfter, topIndex, nextIndex, slotsIn, segmentsOf, distinct, clean, damaged, state, view}
 use Rattle.model.specs.Table.{Table, Agree, tableOf}
 use Rattle.model.specs.Histories.{Event, History, shown}
 use Rattle.model.specs.Sequences.{Call, observed, Uncut}
@@ -22,10 +22,10 @@ use Rattle.wear.specs.Demand3.{stocked, Bounded}
 use Rattle.sessions.specs.Law.{Turn, Session, eventsIn, Observes, Unbroken}
 use Rattle.text.specs.Text.{text}
 use Rattle.account_text.specs.Account.{LiveSlot, liveSlots, byBlock, blockText}
-use Rattle.moves.specs.Moves.{byNumber}
+use Rattle.moves.specs.Moves.{byNumber, moveOutcome}
 use Rattle.moves.specs.Counted.{slotSteps}
 use Rattle.moved.specs.Law.{Tried}
-use Rattle.salvage.specs.Salvage.{regarded, candidates, heldIn, given, agreed, salvageText, salvaged, rebuildWork, rebuildOutcome}
+use Rattle.salvage.specs.Salvage.{candidates, heldIn, given, agreed, salvageText, salvaged, rebuildWork, rebuildOutcome}
 
 -- ---- on any image of a right size, damaged ones too
 
@@ -34,13 +34,17 @@ Among e [] = ⊥
 Among e (x ∷ r) = (e ≡ x) ⊎ Among e r
 
 -- the slot that it names has live form, with its block number and contents; a segment that is not in use has no slots
-abbrev pub Stands : List Segment → LiveSlot → Type 0
-Stands l e = (j : ℕ) × (e .slot ≡ suc j) × (getD (slotsIn (getD l (e .segment) blank)) j empty ≡ live (e .block) (e .contents))
+abbrev pub IsLive : List Segment → LiveSlot → Type 0
+IsLive l e = (j : ℕ) × (e .slot ≡ suc j) × (getD (slotsIn (getD l (e .segment) blank)) j empty ≡ live (e .block) (e .contents))
 
--- "Every slot of live form in a segment whose header is in use is a candidate", and nothing else; what is left aside is blank among the regarded
+-- "where the top is owing, the segment after it is left aside"
+abbrev pub Aside : ℕ → List Segment → LiveSlot → Type 0
+Aside N l e = (isOwing (getD l (topIndex N l) blank) ≡ true) × (e .segment ≡ nextIndex N l)
+
+-- "Every slot of live form in a segment whose header is in use is a candidate", but for those left aside, and nothing else
 abbrev pub EveryCandidate : Type 0
 EveryCandidate = (N B : ℕ) (s : Image) (e : LiveSlot) → rightSize N B s ≡ true → let l = segmentsOf N B s in
-    (Among e (candidates N l) → Stands (regarded N l) e) × (Stands (regarded N l) e → Among e (candidates N l))
+    (Among e (candidates N l) → IsLive l e × (Aside N l e → ⊥)) × (IsLive l e → (Aside N l e → ⊥) → Among e (candidates N l))
 
 -- of a lower segment number; or in the same segment, before it or the same
 abbrev pub NotAfter : List Segment → LiveSlot → LiveSlot → Type 0
@@ -51,7 +55,7 @@ abbrev pub HighestGiven : Type 0
 HighestGiven = (N B : ℕ) (s : Image) → rightSize N B s ≡ true → let l = segmentsOf N B s in let r = candidates N l in
     (distinct (map heldIn (given r)) ≡ true)
     × ((g : LiveSlot) → Among g (given r) → Among g r)
-    × ((x : LiveSlot) → Among x r → (g : LiveSlot) × Among g (given r) × (g .block ≡ x .block) × NotAfter (regarded N l) x g)
+    × ((x : LiveSlot) → Among x r → (g : LiveSlot) × Among g (given r) × (g .block ≡ x .block) × NotAfter l x g)
 
 -- "say whether others disagreed with it in contents": it says same if each candidate of its number has its contents, and differs if one has others
 abbrev pub Disagreement : Type 0
@@ -129,6 +133,10 @@ RebuiltTable = (N B : ℕ) (s : Image) (M D : ℕ) (t : Image) (allowance : ℕ)
 abbrev pub RebuiltShown : Type 0
 RebuiltShown = (N B : ℕ) (s : Image) (M D : ℕ) (t : Image) (allowance : ℕ) → Bytes s → Rebuilds N B s M D t allowance → state N B s ≢ damaged
     → Agree (tableOf M D (targetAfter N B s M D t allowance)) (shown N B s)
+
+-- "by the rules of #106 without its 4 and 5": where those don't apply, a rebuild is a move.
+abbrev pub RebuiltAsMoved : Type 0
+RebuiltAsMoved = (N B : ℕ) (s : Image) (M D : ℕ) (t : Image) (allowance : ℕ) → state N B s ≡ clean → rebuildOutcome N B s M D t allowance ≡ moveOutcome N B s M D t allowance
 
 -- "No refusal changes a byte" (#106): it takes no step. The source is written by none: "The image is not written"
 abbrev pub RebuiltRefused : Type 0
