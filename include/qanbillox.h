@@ -8,8 +8,8 @@
  * answers QBX_CUT. Recover before the next request then, as after any loss of power; but a format, a move or a rebuild
  * that was cut is begun again.
  *
- * No function allocates, keeps a pointer or has state of its own. A request takes at most 14,992 bytes of stack on
- * x86-64, the account 353,744 bytes, a move 276,976, a salvage 397,648, a rebuild 397,680, measured up to n = 255
+ * No function allocates, keeps a pointer or has state of its own. A request takes at most 15,024 bytes of stack on
+ * x86-64, the account 353,792 bytes, a move 276,992, a salvage 397,648, a rebuild 397,680, measured up to n = 255
  * and b = 255 (bench/stack.c). Link with libqanbillox.a. */
 #ifndef QANBILLOX_H
 #define QANBILLOX_H
@@ -134,7 +134,7 @@ uint64_t qbx_mounted_read(const uint8_t *image, size_t image_length, size_t n, s
  * recovery does not help: begin the move again. The source is only read. Source and target must not overlap.
  *
  * The steps are target_n + 21, 5 + length for each record, and 21 for each further segment that the records need. It
- * takes 276,976 bytes of stack: the table that puts the records in order is there. */
+ * takes 276,992 bytes of stack: the table that puts the records in order is there. */
 uint64_t qbx_move(const uint8_t *source, size_t source_length, size_t n, size_t b,
                   uint8_t *target, size_t target_length, size_t target_n, size_t target_b, uint64_t budget);
 
@@ -159,7 +159,7 @@ uint64_t qbx_move(const uint8_t *source, size_t source_length, size_t n, size_t 
  *
  * Answers QBX_DONE, the bytes after the text untouched, or QBX_SHORT_BUFFER, exactly if the text is longer than the
  * buffer, all of which is then untouched. The image is only read, and must not overlap the buffer. The longest text has
- * 2,220 bytes with n = 4 and b = 15, 581,576 with 64 and 255, 2,364,768 with 255 and 255. It takes 353,744 bytes of
+ * 2,220 bytes with n = 4 and b = 15, 581,576 with 64 and 255, 2,364,768 with 255 and 255. It takes 353,792 bytes of
  * stack: the tables that put the blocks in order are there. */
 uint64_t qbx_account(const uint8_t *image, size_t image_length, size_t n, size_t b, uint8_t *text, size_t text_length);
 
