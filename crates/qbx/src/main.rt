@@ -28,7 +28,7 @@ fn usage(fd: i32) {
     );
     io::write_all(
         fd,
-        b"  account        lists the segments and the blocks, and what recover would do or the condition that fails\n  map            draws the segments, one character for each slot\n  salvage        lists of each block, in a damaged image too, the newest contents that are left, and whether older ones differ\n",
+        b"  account        lists the segments and the blocks, and what recover would do or the condition that fails\n  map            draws the segments, one character for each slot\n  salvage        lists of each block, in a damaged image too, the one in the highest segment number, and whether others differ\n",
     );
     io::write_all(
         fd,

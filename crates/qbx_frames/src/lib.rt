@@ -57,7 +57,7 @@ pub fn large(process: Process, path: &[u8], command: Command, contents: &[u8]) -
     true
 }
 
-// The same with a buffer for a text: no slot has more than 45 bytes in one, and no segment more than 60 beside its slots.
+// The same with a buffer for a text: no slot has more than 45 bytes in one, and no segment more than 61 beside its slots.
 pub fn small_text(process: Process, path: &[u8], command: Command) -> bool
     requires { ⌜ (sizeOf (command .segments) (command .slots) ≤ roomOf 0) × (needOf true 0 ≤ process .allowed) ⌝ }
     ensures { λ r. ⌜ r ≡ true ⌝ }

@@ -1,4 +1,4 @@
-// A move in the smallest of three pairs of buffers that hold its images, each with its own limit of the stack.
+// A move or a rebuild in the smallest of three pairs of buffers that hold its images, each with its own limit of the stack.
 use qbx_move_words::Move;
 use qbx_rooms::Process;
 ghost use mathlib.Core.Path.{_≡_};

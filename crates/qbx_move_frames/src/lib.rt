@@ -1,4 +1,4 @@
-// Both images of a move, on the stack, a frame for each size: the larger of the two decides.
+// Both images of a move or a rebuild, on the stack, a frame for each size: the larger of the two decides.
 use qbx_move_words::Move;
 use qbx_rooms::Process;
 ghost use mathlib.Core.Path.{_≡_};

@@ -1,5 +1,5 @@
-// Whether a name leads to a certain file. A move writes its target under one name and gives it another; neither may be its
-// source's, whatever the names look like.
+// Whether a name leads to a certain file. A move or a rebuild writes its target under one name and gives it another;
+// neither may be its source's, whatever the names look like.
 use libc::types::stat;
 use libc::types::timespec;
 ghost use mathlib.Core.Path.{_≡_};
