@@ -1,9 +1,9 @@
--- `qanbillox::packed_blank` packs what the blank test tells. Assumes nothing.
+-- `packing::packed_blank` packs what the blank test tells. Assumes nothing.
 use native.Mathlib.Omega.{arith}
-use Rattle.qanbillox.specs.Packed.{counts}
+use Rattle.packing.specs.Counts.{counts}
 use borrow.Author.Needs.{needs}
-use Rattle.qanbillox.proofs.packed_blank.Statement.{statement}
-use Rattle.qanbillox.proofs.packed_blank.Tie as tie
+use Rattle.packing.proofs.packed_blank.Statement.{statement}
+use Rattle.packing.proofs.packed_blank.Tie as tie
 
 mul-result : tie.Need-mul-result
 mul-result c = search needs

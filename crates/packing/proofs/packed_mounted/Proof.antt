@@ -1,9 +1,9 @@
--- `qanbillox::packed_mounted` packs the answer and the steps of a mounted call. Assumes nothing.
+-- `packing::packed_mounted` packs the answer and the steps of a mounted call. Assumes nothing.
 use native.Mathlib.Omega.{arith}
-use Rattle.qanbillox.specs.Packed.{counts}
+use Rattle.packing.specs.Counts.{counts}
 use borrow.Author.Needs.{needs}
-use Rattle.qanbillox.proofs.packed_mounted.Statement.{statement}
-use Rattle.qanbillox.proofs.packed_mounted.Tie as tie
+use Rattle.packing.proofs.packed_mounted.Statement.{statement}
+use Rattle.packing.proofs.packed_mounted.Tie as tie
 
 number-of-requires : tie.Need-number-of-requires
 number-of-requires c κs = search needs
