@@ -54,7 +54,7 @@ fn compose(
     ensures { λ r. ⌜ Wrote (accountOn segments slots (segmentsOf segments slots (now (image .entry)))) (now (text .entry)) 0 (now (text .exit)) r × (r ≤ mostText) ⌝ }
 {
     let listed = printing::segment_lines(text, 0, table, segments);
-    let blocks = printing::block_lines(
+    let blocks = block_lines::block_lines(
         image,
         segments,
         slots,

@@ -20,7 +20,7 @@ use Rattle.account_text.specs.Account.{LiveSlot, liveIn, liveSlots, blockText, 
 use Rattle.index.specs.Tables.{mostPages, pageOf, ofBlock, Stands, AllStand}
 use Rattle.index.specs.Chains.{page-few}
 use Rattle.index.specs.Sorted.{AllBelow}
-use Rattle.printing.proofs.Laws.{page-segment, Blocks, blocks-more, blocks-none, blocks-room, blocks-end}
+use Rattle.block_lines.proofs.Laws.{page-segment, Blocks, blocks-more, blocks-none, blocks-room, blocks-end}
 use Rattle.skipping.specs.Passed.{Passed}
 use Rattle.salvage.specs.Salvage.{heldIn, candidates, given, agreed, givenLine, salvageText, salvageOutcome}
 use Rattle.meeting.specs.Sheet.{Sheet}
@@ -61,10 +61,10 @@ module _ (N B : ℕ) (s : Image) (z : rightSize N B s ≡ true) (t : Sheet) (g :
       → Wrote (blockText block n i j ++ cond d (ascii " differs\n") (ascii " same\n")) text end after then-end → then-end ≤ end + 80 → Lines after (block + 1) then-end
   lines-one {text} {after} {block} {end} {then-end} {n} {i} {j} {d} b h some en ei ej ed w near =
       ⊎-elim (λ k. absurd (some (k .place))) (λ o.
-        let one : flatMap (givenLine found) (ofBlock block (given found)) ≡ blockText block n i j ++ cond d (ascii " differs\n") (ascii " same\n") =
-        ap (flatMap (givenLine found)) (o .one) ∙ (single (o .slot) ∙ sym (line-told N B s t found block o n i j d en ei ej ed)) in
-        let few : length (ofBlock block (given found)) ≡ 1 = ap length (o .one) in
-        blocks-more b h (wrote-as (flatMap (givenLine found) (ofBlock block (given found))) (sym one) w) (omega (arith, few, near))) (g .tells block h)
+      let one : flatMap (givenLine found) (ofBlock block (given found)) ≡ blockText block n i j ++ cond d (ascii " differs\n") (ascii " same\n") =
+      ap (flatMap (givenLine found)) (o .one) ∙ (single (o .slot) ∙ sym (line-told N B s t found block o n i j d en ei ej ed)) in
+      let few : length (ofBlock block (given found)) ≡ 1 = ap length (o .one) in
+      blocks-more b h (wrote-as (flatMap (givenLine found) (ofBlock block (given found))) (sym one) w) (omega (arith, few, near))) (g .tells block h)
     where
       single : (e : LiveSlot) → flatMap (givenLine found) (e ∷ []) ≡ givenLine found e
       single e = unfold flatMap in (append-nil (givenLine found e))

@@ -30,7 +30,7 @@ fn given_line(
     requires { ⌜ at + 80 ≤ mostText ⌝ }
     ensures { λ r. ⌜ Wrote (blockText block length segment slot ++ cond differs (ascii " differs\n") (ascii " same\n")) (now (text .entry)) at (now (text .exit)) r × (r ≤ at + 80) ⌝ }
 {
-    let end = printing::block_text(text, at, block, length, segment, slot);
+    let end = block_lines::block_text(text, at, block, length, segment, slot);
     if differs {
         return text::add(text, end, b" differs\n");
     }
@@ -90,16 +90,7 @@ fn compose(
     ensures { λ r. ⌜ Wrote (salvageText segments slots (now (image .entry))) (now (text .entry)) 0 (now (text .exit)) r × (r ≤ mostText) ⌝ }
 {
     let head = text::add(text, 0, b"salvage promises nothing\n");
-    given_lines(
-        image,
-        segments,
-        slots,
-        places,
-        lengths,
-        differs,
-        text,
-        head,
-    )
+    given_lines(image, segments, slots, places, lengths, differs, text, head)
 }
 
 // The report on an image, whatever its damage: for each block number the candidate in the highest segment number, within a
@@ -138,13 +129,5 @@ pub fn salvage(image: &[u8], segments: usize, slots: usize, text: &mut [u8]) -> 
     if length > text.len() {
         return text::short();
     }
-    text::done(compose(
-        image,
-        segments,
-        slots,
-        &places,
-        &lengths,
-        &differs,
-        text,
-    ))
+    text::done(compose(image, segments, slots, &places, &lengths, &differs, text))
 }

@@ -1,10 +1,10 @@
--- `printing::block_line`: two pieces in a row. Assumes nothing.
+-- `block_lines::block_line`: two pieces in a row. Assumes nothing.
 use native.Mathlib.Omega.{arith}
 use Rattle.text.specs.Text.{text}
 use Rattle.text.proofs.Laws.{_then_}
 use borrow.Author.Needs.{needs}
-use Rattle.printing.proofs.block_line.Statement.{statement}
-use Rattle.printing.proofs.block_line.Tie as tie
+use Rattle.block_lines.proofs.block_line.Statement.{statement}
+use Rattle.block_lines.proofs.block_line.Tie as tie
 
 block-text-requires : tie.Need-block-text-requires
 block-text-requires c κs = search needs

@@ -1,4 +1,4 @@
--- `printing::block_lines`. The invariant (`Blocks`): the lines of the smaller block numbers are there. Assumes nothing.
+-- `block_lines::block_lines`. The invariant (`Blocks`): the lines of the smaller block numbers are there. Assumes nothing.
 use Prim.Native.Nat.{_-_}
 use mathlib.Core.Logic.{⊎-elim}
 use native.Mathlib.Omega.{arith}
@@ -8,9 +8,9 @@ use lib.ListN.{getD}
 use Rattle.account_text.specs.Account.{blockLine, blockLines}
 use Rattle.index.specs.Tables.{mostPages, listOf}
 use Rattle.index.specs.Sorted.{of-few, stand-of, stand-below}
-use Rattle.printing.proofs.Laws.{chain-none, Blocks, blocks-start, blocks-more, blocks-none, blocks-as, blocks-room, blocks-end}
-use Rattle.printing.proofs.block_lines.Statement.{statement}
-use Rattle.printing.proofs.block_lines.Tie as tie
+use Rattle.block_lines.proofs.Laws.{chain-none, Blocks, blocks-start, blocks-more, blocks-none, blocks-as, blocks-room, blocks-end}
+use Rattle.block_lines.proofs.block_lines.Statement.{statement}
+use Rattle.block_lines.proofs.block_lines.Tie as tie
 
 abbrev Inv-loop : tie.InvT-loop
 Inv-loop image segments slots firsts nexts lengths text₀ at end₀ block₀ text end block = Blocks blockLine (listOf segments slots image) text₀ at text block end

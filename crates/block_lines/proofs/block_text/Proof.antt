@@ -1,12 +1,12 @@
--- `printing::block_text`: four numbers behind their labels. Assumes nothing.
+-- `block_lines::block_text`: four numbers behind their labels. Assumes nothing.
 use native.Mathlib.Omega.{arith}
 use Rattle.text.specs.Text.{text}
 use Rattle.text.specs.Buffer.{labelled}
 use Rattle.text.proofs.Laws.{_then_}
 use Rattle.account_text.specs.Account.{blockText}
 use borrow.Author.Needs.{needs}
-use Rattle.printing.proofs.block_text.Statement.{statement}
-use Rattle.printing.proofs.block_text.Tie as tie
+use Rattle.block_lines.proofs.block_text.Statement.{statement}
+use Rattle.block_lines.proofs.block_text.Tie as tie
 
 slice-aggregate-add-labelled : tie.Need-slice-aggregate-add-labelled
 slice-aggregate-add-labelled c = search needs

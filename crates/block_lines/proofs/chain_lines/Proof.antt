@@ -1,13 +1,13 @@
--- `printing::chain_lines`. The invariant (`Walk`): the lines of the pages from this one on are left. Assumes nothing.
+-- `block_lines::chain_lines`. The invariant (`Walk`): the lines of the pages from this one on are left. Assumes nothing.
 use Prim.Native.Nat.{_-_}
 use native.Mathlib.Omega.{arith}
 use borrow.Author.Needs.{needs}
 use denote.Ref.{now}
 use Rattle.index.specs.Tables.{mostPages, ofBlock, listOf}
 use Rattle.index.specs.Sorted.{of-block}
-use Rattle.printing.proofs.Laws.{chainLength, Walk, walk-start, walk-inside, walk-low, walk-short, walk-less, walk-step, walk-end}
-use Rattle.printing.proofs.chain_lines.Statement.{statement}
-use Rattle.printing.proofs.chain_lines.Tie as tie
+use Rattle.block_lines.proofs.Laws.{chainLength, Walk, walk-start, walk-inside, walk-low, walk-short, walk-less, walk-step, walk-end}
+use Rattle.block_lines.proofs.chain_lines.Statement.{statement}
+use Rattle.block_lines.proofs.chain_lines.Tie as tie
 
 abbrev Inv-loop : tie.InvT-loop
 Inv-loop image segments slots nexts lengths first block text₀ at pages page₀ end₀ text page end = Walk segments slots image nexts lengths block (ofBlock block (listOf segments slots image)) text₀ at text page end
