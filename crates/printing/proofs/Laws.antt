@@ -1,11 +1,15 @@
--- Lines of the segments of a table, written one after the other.
+-- Lines of the segments of a table, written one after the other; an image of a right size.
 use Prim.Native.Nat.{ℕ, suc, _+_, _<_}
 use mathlib.Core.Path.{_≡_, sym, ap, _∙_}
+use mathlib.Core.Bool.{Bool, true, false, _&&_, not}
 use mathlib.Core.List.{List, [], _∷_, _++_, append-nil, append-assoc}
 use native.Mathlib.Omega.{arith}
 use native.Mathlib.Numerals.{add-one}
 use lib.ListN.{length, take, getD}
 use lib.Seq.{take-suc, length-take-le}
+use lib.Dec.{eqb}
+use borrow.Author.Tests.{not-false}
+use Rattle.model.specs.Chip.{Image, imageLength, inRange, rightSize}
 use Rattle.judge.specs.declared.SegmentState.the-variants.{Blank, Invalid, InUse, Owing}
 use Rattle.text.specs.Text.{text}
 use Rattle.text.specs.Buffer.{labelled}
@@ -49,3 +53,9 @@ segment-more table i d h =
     let l : 0 + length (take i table) ≡ i = omega arith in
     rw (add-one i, take-suc table i d h)
     (ap (λ (k : ℕ). shownLines 0 (take i table) ++ shownLine k (getD table i d)) (sym l) ∙ shown-more 0 (take i table) (getD table i d))
+
+-- ---- sizes
+
+pub right : (N B : ℕ) (s : Image) (t : Bool) → t ≡ (inRange N B && eqb (length s) (imageLength N B)) → not t ≡ false → rightSize N B s ≡ true
+unfolding rightSize
+right N B s t e h = sym e ∙ not-false t h

@@ -3,13 +3,16 @@ use index::Counts;
 use index::Shown;
 use judge::SegmentState;
 use model::MOST_SEGMENTS;
+use text::Printed;
+ghost use mathlib.Core.Path.{_≡_};
 ghost use mathlib.Core.List.{_++_};
 ghost use Prim.Native.Nat.{_+_, _*_, _≤_};
 ghost use lib.ListN.{length, take};
 ghost use Rattle.model.specs.Chip.{mostSegments};
 ghost use Rattle.text.specs.Text.{text as ascii};
 ghost use Rattle.text.specs.Decimal.{decimal};
-ghost use Rattle.text.specs.Buffer.{labelled, Wrote, mostText};
+ghost use Rattle.text.specs.Buffer.{labelled, printed, printIn, Wrote, mostText};
+ghost use Rattle.account_text.specs.Account.{wrongSize};
 ghost use Rattle.index.specs.Shows.{countsLine, shownLine, shownLines};
 
 // A number behind its label, and the end of the line.
@@ -94,4 +97,11 @@ pub fn fails_line(text: &mut [u8], at: usize, place: u32) -> usize
     ensures { λ r. ⌜ Wrote (labelled "fails " place ++ ascii "\n") (now (text .entry)) at (now (text .exit)) r × (r ≤ at + 80) ⌝ }
 {
     add_ended(text, at, b"fails ", place)
+}
+
+// An image of another size.
+pub fn wrong_size(text: &mut [u8]) -> Printed
+    ensures { λ r. ⌜ (printed r (now (text .exit)) ≡ printIn wrongSize (now (text .entry))) × (r .length ≤ 8) ⌝ }
+{
+    text::print(text, b"fails 0\n")
 }

@@ -1,4 +1,4 @@
--- `accounts::picture::map`: what is put together twice is the text. Assumes nothing.
+-- `pictures::map`: what is put together twice is the text. Assumes nothing.
 use Prim.Native.Nat.{ℕ}
 use mathlib.Core.Path.{ap, _∙_}
 use mathlib.Core.List.{List}
@@ -7,10 +7,11 @@ use denote.Ref.{now}
 use Rattle.scan.proofs.Laws.Surveys.{right-size}
 use Rattle.text.specs.Buffer.{printIn}
 use Rattle.text.proofs.Laws.{print-short, print-done, wrote-as}
-use Rattle.accounts.proofs.Laws.{right, wrong-map, right-map, next-is}
+use Rattle.printing.proofs.Laws.{right}
+use Rattle.pictures.proofs.Laws.{wrong-map, right-map, next-is}
 use borrow.Author.Needs.{needs}
-use Rattle.accounts.proofs.picture.map.Statement.{statement}
-use Rattle.accounts.proofs.picture.map.Tie as tie
+use Rattle.pictures.proofs.map.Statement.{statement}
+use Rattle.pictures.proofs.map.Tie as tie
 
 right-size-requires : tie.Need-right-size-requires
 right-size-requires c κs = search needs

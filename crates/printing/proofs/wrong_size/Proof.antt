@@ -1,9 +1,9 @@
--- `accounts::wrong_size`. Assumes nothing.
+-- `printing::wrong_size`. Assumes nothing.
 use Rattle.text.specs.Text.{text}
 use Rattle.account_text.specs.Account.{wrongSize}
 use borrow.Author.Needs.{needs}
-use Rattle.accounts.proofs.wrong_size.Statement.{statement}
-use Rattle.accounts.proofs.wrong_size.Tie as tie
+use Rattle.printing.proofs.wrong_size.Statement.{statement}
+use Rattle.printing.proofs.wrong_size.Tie as tie
 
 slice-aggregate-print : tie.Need-slice-aggregate-print
 slice-aggregate-print c = search needs

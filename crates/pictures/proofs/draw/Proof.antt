@@ -1,11 +1,11 @@
--- `accounts::picture::draw`: the rows, then the legend. Assumes nothing.
+-- `pictures::draw`: the rows, then the legend. Assumes nothing.
 use denote.Ref.{now}
 use Rattle.model.specs.State.{segmentsOf}
 use Rattle.text.proofs.Laws.{_then_, wrote-as}
-use Rattle.accounts.proofs.Laws.{drawn}
+use Rattle.pictures.proofs.Laws.{drawn}
 use borrow.Author.Needs.{needs}
-use Rattle.accounts.proofs.picture.draw.Statement.{statement}
-use Rattle.accounts.proofs.picture.draw.Tie as tie
+use Rattle.pictures.proofs.draw.Statement.{statement}
+use Rattle.pictures.proofs.draw.Tie as tie
 
 map-rows-requires : tie.Need-map-rows-requires
 map-rows-requires c κs = search needs

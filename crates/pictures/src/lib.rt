@@ -1,5 +1,5 @@
-// The picture of an image, for who would rather look than read.
-use crate::wrong_size;
+// The picture of an image, for who would rather look than read, in a lent buffer. It has no `requires`, and is put together
+// twice, as an account is.
 use index::Shown;
 use model::MOST_SEGMENTS;
 use text::Printed;
@@ -35,7 +35,7 @@ pub fn map(image: &[u8], segments: usize, slots: usize, text: &mut [u8]) -> Prin
     ensures { λ r. ⌜ printed r (now (text .exit)) ≡ printIn (mapText segments slots (now (image .entry))) (now (text .entry)) ⌝ }
 {
     if !request::right_size(image.len(), segments, slots) {
-        return wrong_size(text);
+        return printing::wrong_size(text);
     }
     let survey = scan::survey(image, segments, slots);
     let table = listing::see(image, segments, slots, survey);
