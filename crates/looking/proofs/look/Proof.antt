@@ -1,15 +1,15 @@
--- `store::look::look` finds what the definition says, or gives the code of a read's refusal. Assumes nothing.
+-- `looking::look` finds what the definition says, or gives the code of a read's refusal. Assumes nothing.
 use mathlib.Core.Path.{sym, ap, _∙_}
 use denote.Ref.{now}
 use borrow.Author.Tests.{not-true, not-false}
 use Rattle.bridge.specs.Refusals.{answerIn}
 use Rattle.request.proofs.Laws.{wrong-size, right-size}
 use Rattle.scan.proofs.Laws.Told.{survey-says}
-use Rattle.store.proofs.Laws.Survey.{survey-other, survey-plan}
-use Rattle.store.proofs.Laws.Look.{look-size, look-number, look-unclean}
+use Rattle.looking.proofs.Laws.Survey.{survey-other, survey-plan}
+use Rattle.looking.proofs.Laws.Look.{look-size, look-number, look-unclean}
 use borrow.Author.Needs.{needs}
-use Rattle.store.proofs.look.look.Statement.{statement}
-use Rattle.store.proofs.look.look.Tie as tie
+use Rattle.looking.proofs.look.Statement.{statement}
+use Rattle.looking.proofs.look.Tie as tie
 
 right-size-requires : tie.Need-right-size-requires
 right-size-requires c κs = search needs

@@ -11,8 +11,8 @@ use Rattle.model.specs.Table.{lookup, contentsFound}
 use Rattle.model.specs.Answers.{codeOf, read}
 use Rattle.model.specs.declared.Answer.{Answer}
 use Rattle.bridge.specs.Accepted.{refusal}
-use Rattle.store.specs.declared.look.Looked.{Looked}
-use Rattle.store.specs.declared.look.Looked.the-variants.{At, Refused}
+use Rattle.looking.specs.declared.Looked.{Looked}
+use Rattle.looking.specs.declared.Looked.the-variants.{At, Refused}
 
 -- nothing refuses a read of the block, and its slot is there
 pub record There (N B : ℕ) (s : Image) (b at size : ℕ) : Type 0 where

@@ -1,9 +1,9 @@
--- `store::check::state_answer` goes by the state that a survey says. Assumes nothing.
+-- `looking::check::state_answer` goes by the state that a survey says. Assumes nothing.
 use Rattle.scan.specs.Surveys.{stateIn}
 use Rattle.bridge.specs.Refusals.{answerIn}
 use borrow.Author.Needs.{needs}
-use Rattle.store.proofs.check.state_answer.Statement.{statement}
-use Rattle.store.proofs.check.state_answer.Tie as tie
+use Rattle.looking.proofs.check.state_answer.Statement.{statement}
+use Rattle.looking.proofs.check.state_answer.Tie as tie
 
 enum-told : tie.Need-enum-told
 enum-told c = search needs

@@ -1,4 +1,4 @@
--- `store::erasing::erase_all` erases the segments in order. The invariant: the first `i` are erased, and paid for. Assumes nothing.
+-- `erasing::erase_all` erases the segments in order. The invariant: the first `i` are erased, and paid for. Assumes nothing.
 use Prim.Native.Nat.{_-_, _≤_}
 use mathlib.Core.Path.{_≡_, refl}
 use native.Mathlib.Omega.{arith}
@@ -7,10 +7,10 @@ use Rattle.model.specs.Steps.{eraseFirst}
 use Rattle.flash.specs.Ran.{Ran}
 use Rattle.flash.proofs.Laws.{ran-none}
 use Rattle.flash.proofs.Pages.{segment-inside}
-use Rattle.store.proofs.Laws.Erasing.{erase-next, erase-end}
+use Rattle.erasing.proofs.Laws.{erase-next, erase-end}
 use borrow.Author.Needs.{needs}
-use Rattle.store.proofs.erasing.erase_all.Statement.{statement}
-use Rattle.store.proofs.erasing.erase_all.Tie as tie
+use Rattle.erasing.proofs.erase_all.Statement.{statement}
+use Rattle.erasing.proofs.erase_all.Tie as tie
 
 abbrev Inv-loop : tie.InvT-loop
 Inv-loop image₀ segments slots budget left₀ i₀ image left i = Ran (eraseFirst i) slots budget left image₀ image × (i ≤ segments) × (length image ≡ length image₀)

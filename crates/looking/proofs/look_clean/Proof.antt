@@ -1,10 +1,10 @@
--- `store::look::look_clean` finds what the definition says. Assumes nothing.
+-- `looking::look_clean` finds what the definition says. Assumes nothing.
 use denote.Ref.{now}
 use Rattle.room.proofs.Laws.{find-fits}
-use Rattle.store.proofs.Laws.Look.{look-there, look-absent}
+use Rattle.looking.proofs.Laws.Look.{look-there, look-absent}
 use borrow.Author.Needs.{needs}
-use Rattle.store.proofs.look.look_clean.Statement.{statement}
-use Rattle.store.proofs.look.look_clean.Tie as tie
+use Rattle.looking.proofs.look_clean.Statement.{statement}
+use Rattle.looking.proofs.look_clean.Tie as tie
 
 find-requires : tie.Need-find-requires
 find-requires c κs =

@@ -1,5 +1,6 @@
 // A block looked for, by delete and by both forms of reading.
-use crate::check;
+pub mod check;
+
 use find::Found;
 use model::Answer;
 use model::BlockNumber;
@@ -10,7 +11,7 @@ ghost use mathlib.Core.Path.{_≡_};
 ghost use mathlib.Core.Bool.{true};
 ghost use Rattle.model.specs.Slot.{numberOk};
 ghost use Rattle.room.specs.Room.{Planned};
-ghost use Rattle.store.specs.Look.{Looks};
+ghost use Rattle.looking.specs.Look.{Looks};
 
 // The place of a block's live slot and the length of its contents; or why there is none.
 pub enum Looked {

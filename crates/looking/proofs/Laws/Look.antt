@@ -17,7 +17,7 @@ use Rattle.find.specs.Search.{rowsAt, foundIn}
 use Rattle.find.proofs.Callers.{Inside, found-inside, FoundAt, found-at, found-nothing}
 use Rattle.room.specs.declared.Plan.{Plan}
 use Rattle.room.specs.Room.{Planned}
-use Rattle.store.specs.Look.{There, Kept}
+use Rattle.looking.specs.Look.{There, Kept}
 use Rattle.bridge.specs.Refusals.{answerIn, unclean-code, wrong-size-code, read-number, read-unclean, read-absent, read-found}
 use Rattle.room.proofs.Laws.{plan-held, plan-sized}
 
