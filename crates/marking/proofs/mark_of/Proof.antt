@@ -1,9 +1,9 @@
--- `mapping::row::mark_of`: one character for each kind. Assumes nothing.
+-- `marking::mark_of`: one character for each kind. Assumes nothing.
 use Rattle.account_text.specs.Map.{mark}
-use Rattle.mapping.specs.Marks.{markKind}
+use Rattle.marking.specs.Marks.{markKind}
 use borrow.Author.Needs.{needs}
-use Rattle.mapping.proofs.row.mark_of.Statement.{statement}
-use Rattle.mapping.proofs.row.mark_of.Tie as tie
+use Rattle.marking.proofs.mark_of.Statement.{statement}
+use Rattle.marking.proofs.mark_of.Tie as tie
 
 enum-told : tie.Need-enum-told
 enum-told c = search needs

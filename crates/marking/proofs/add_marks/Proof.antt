@@ -1,4 +1,4 @@
--- `mapping::row::add_marks`. The invariant: whatever adds the marks that are left finishes the row. Assumes nothing.
+-- `marking::add_marks`. The invariant: whatever adds the marks that are left finishes the row. Assumes nothing.
 use Prim.Native.Nat.{ℕ, _+_, _-_, _*_, _≤_}
 use mathlib.Core.Path.{_≡_, ap, _∙_}
 use mathlib.Core.List.{List}
@@ -10,12 +10,12 @@ use Rattle.model.specs.Slot.{slotOf, kindOf}
 use Rattle.judge.specs.Rows.{slotsAt}
 use Rattle.rows.proofs.Laws.Rows.{page-part}
 use Rattle.account_text.specs.Map.{mark, marksFrom}
-use Rattle.mapping.specs.Finishes.{Finishes}
-use Rattle.mapping.specs.Marks.{markKind, mark-kind}
-use Rattle.mapping.proofs.Laws.{finish-begin, finish-more, finish-end, marks-next, marks-end}
+use Rattle.marking.specs.Finishes.{Finishes}
+use Rattle.marking.specs.Marks.{markKind, mark-kind}
+use Rattle.marking.proofs.Laws.{finish-begin, finish-more, finish-end, marks-next, marks-end}
 use borrow.Author.Needs.{needs}
-use Rattle.mapping.proofs.row.add_marks.Statement.{statement}
-use Rattle.mapping.proofs.row.add_marks.Tie as tie
+use Rattle.marking.proofs.add_marks.Statement.{statement}
+use Rattle.marking.proofs.add_marks.Tie as tie
 
 abbrev Inv-loop : tie.InvT-loop
 Inv-loop image first slots text₀ at end₀ i₀ text end i =

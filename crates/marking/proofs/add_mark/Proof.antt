@@ -1,9 +1,9 @@
--- `mapping::row::add_mark`: two pieces in a row. Assumes nothing.
+-- `marking::add_mark`: two pieces in a row. Assumes nothing.
 use native.Mathlib.Omega.{arith}
 use Rattle.text.proofs.Laws.{_then_}
 use borrow.Author.Needs.{needs}
-use Rattle.mapping.proofs.row.add_mark.Statement.{statement}
-use Rattle.mapping.proofs.row.add_mark.Tie as tie
+use Rattle.marking.proofs.add_mark.Statement.{statement}
+use Rattle.marking.proofs.add_mark.Tie as tie
 
 add-break-requires : tie.Need-add-break-requires
 add-break-requires c κs = search needs

@@ -1,12 +1,12 @@
--- `mapping::row::add_break`: nothing, or the margin. Assumes nothing.
+-- `marking::add_break`: nothing, or the margin. Assumes nothing.
 use native.Mathlib.Omega.{arith}
 use Rattle.text.proofs.Laws.{wrote-none}
 use Rattle.text.specs.Text.{text}
 use Rattle.account_text.specs.Map.{margin}
-use Rattle.mapping.proofs.Laws.{break-first, break-none, break-some}
+use Rattle.marking.proofs.Laws.{break-first, break-none, break-some}
 use borrow.Author.Needs.{needs}
-use Rattle.mapping.proofs.row.add_break.Statement.{statement}
-use Rattle.mapping.proofs.row.add_break.Tie as tie
+use Rattle.marking.proofs.add_break.Statement.{statement}
+use Rattle.marking.proofs.add_break.Tie as tie
 
 returns : tie.Need-returns
 returns c = (rw (break-first _ (c .if1 .taken)) (wrote-none _ _), omega arith)
