@@ -1,48 +1,33 @@
--- A wrong size and a right one; the parts of an account and of a picture in a row.
-use Prim.Native.Nat.{ℕ, _+_}
-use mathlib.Core.Path.{_≡_, refl, sym, ap, _∙_}
-use mathlib.Core.Bool.{Bool, true, false, _&&_, not}
+-- A wrong size and a right one; the parts of an account in a row.
+use Prim.Native.Nat.{ℕ}
+use mathlib.Core.Path.{_≡_, refl, sym, _∙_}
+use mathlib.Core.Bool.{Bool, true, _&&_, not}
 use mathlib.Core.List.{List, _++_, map}
 use lib.ListN.{length, take}
 use lib.Dec.{eqb}
-use borrow.Author.Tests.{not-true, not-false}
+use borrow.Author.Tests.{not-true}
 use Rattle.model.specs.Chip.{Image, imageLength, inRange, rightSize}
-use Rattle.model.specs.State.{Segment, segmentsOf, nextNumber}
+use Rattle.model.specs.State.{Segment, segmentsOf}
 use Rattle.account_text.specs.Account.{shown, byBlock, blockLines, lastLine, accountOn, accountText, wrongSize}
-use Rattle.account_text.specs.Map.{legend, allRows, mapOn, mapText}
 use Rattle.index.specs.declared.Shown.{Shown}
-use Rattle.index.specs.Shows.{shownOf, uncounted, afterShown, shownLines}
+use Rattle.index.specs.Shows.{shownOf, shownLines}
 use Rattle.index.specs.Tables.{listOf}
 use Rattle.index.specs.Lines.{shown-lines}
 use Rattle.prognosis.specs.declared.Prognosis.{Prognosis}
 use Rattle.prognosis.specs.declared.Prognosis.the-variants.{Recovers, Fails}
 use Rattle.prognosis.specs.Foretold.{prognosisOf}
 use Rattle.prognosis.proofs.Laws.{line-recovers, line-fails}
-use Rattle.descent.specs.Descent.{largest, largest-next}
-use Rattle.listing.proofs.Laws.Shows.{uncounted-all}
 use Rattle.accounts.specs.Foretells.{foretold}
 
 -- ---- sizes
-
-pub right : (N B : ℕ) (s : Image) (t : Bool) → t ≡ (inRange N B && eqb (length s) (imageLength N B)) → not t ≡ false → rightSize N B s ≡ true
-unfolding rightSize
-right N B s t e h = sym e ∙ not-false t h
 
 pub wrong-account : (N B : ℕ) (s : Image) (t : Bool) → t ≡ (inRange N B && eqb (length s) (imageLength N B)) → not t ≡ true → wrongSize ≡ accountText N B s
 unfolding accountText rightSize
 wrong-account N B s t e h = rw (sym e ∙ not-true t h)
 
-pub wrong-map : (N B : ℕ) (s : Image) (t : Bool) → t ≡ (inRange N B && eqb (length s) (imageLength N B)) → not t ≡ true → wrongSize ≡ mapText N B s
-unfolding mapText rightSize
-wrong-map N B s t e h = rw (sym e ∙ not-true t h)
-
 pub right-account : (N B : ℕ) (s : Image) → rightSize N B s ≡ true → accountOn N B (segmentsOf N B s) ≡ accountText N B s
 unfolding accountText
 right-account N B s h = rw h
-
-pub right-map : (N B : ℕ) (s : Image) → rightSize N B s ≡ true → mapOn N B (segmentsOf N B s) ≡ mapText N B s
-unfolding mapText
-right-map N B s h = rw h
 
 -- ---- the account
 
@@ -55,12 +40,3 @@ pub composed : (N B : ℕ) (s : Image) (table : List Shown) (p : Prognosis) → 
     → shownLines 0 (take N table) ++ (blockLines (byBlock (listOf N B s)) ++ foretold p) ≡ accountOn N B (segmentsOf N B s)
 unfolding accountOn listOf
 composed N B s table p e q = rw (e, shown-lines 0 (shown N B (segmentsOf N B s)), last-is N B (segmentsOf N B s) p q)
-
--- ---- the picture
-
-pub drawn : (N B : ℕ) (l : List Segment) → allRows N B l ++ legend ≡ mapOn N B l
-unfolding mapOn
-drawn N B l = refl
-
-pub next-is : (N B : ℕ) (l : List Segment) (table : List Shown) (n : ℕ) → take N table ≡ map uncounted (shown N B l) → n ≡ largest (map afterShown (take N table)) → n ≡ nextNumber (shown N B l)
-next-is N B l table n e h = h ∙ (ap (λ (t : List Shown). largest (map afterShown t)) e ∙ (ap largest (uncounted-all (shown N B l)) ∙ largest-next (shown N B l)))

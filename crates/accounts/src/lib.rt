@@ -1,11 +1,9 @@
-// The account of an image (request #101) and its picture, each in a lent buffer. Neither has a `requires`: any bytes, any
-// N and B. A text is put together twice, once where nothing holds it, so that its length is known before its first byte is
-// written.
-mod picture;
-
+// The account of an image (request #101), and its picture, handed on from `pictures`, each in a lent buffer. Neither has a
+// `requires`: any bytes, any N and B. A text is put together twice, once where nothing holds it, so that its length is known
+// before its first byte is written.
 use index::Shown;
 use model::MOST_SEGMENTS;
-pub use picture::map;
+pub use pictures::map;
 use prognosis::Prognosis;
 use text::Printed;
 ghost use mathlib.Core.Path.{_≡_};
@@ -15,18 +13,11 @@ ghost use lib.ListN.{length, take};
 ghost use Rattle.model.specs.State.{segmentsOf};
 ghost use Rattle.flash.specs.Pages.{Sized};
 ghost use Rattle.text.specs.Buffer.{printed, printIn, Wrote, mostText};
-ghost use Rattle.account_text.specs.Account.{shown, accountOn, accountText, wrongSize};
+ghost use Rattle.account_text.specs.Account.{shown, accountOn, accountText};
 ghost use Rattle.index.specs.Shows.{shownOf};
 ghost use Rattle.index.specs.Tables.{tables, Indexed};
 ghost use Rattle.prognosis.specs.Foretold.{prognosisOf};
 ghost use Rattle.accounts.specs.Foretells.{foretold};
-
-// An image of another size.
-fn wrong_size(text: &mut [u8]) -> Printed
-    ensures { λ r. ⌜ (printed r (now (text .exit)) ≡ printIn wrongSize (now (text .entry))) × (r .length ≤ 8) ⌝ }
-{
-    text::print(text, b"fails 0\n")
-}
 
 fn last_line(text: &mut [u8], at: usize, prognosis: Prognosis) -> usize
     requires { ⌜ at + 80 ≤ mostText ⌝ }
@@ -54,7 +45,7 @@ fn compose(
     ensures { λ r. ⌜ Wrote (accountOn segments slots (segmentsOf segments slots (now (image .entry)))) (now (text .entry)) 0 (now (text .exit)) r × (r ≤ mostText) ⌝ }
 {
     let listed = printing::segment_lines(text, 0, table, segments);
-    let blocks = printing::block_lines(
+    let blocks = block_lines::block_lines(
         image,
         segments,
         slots,
@@ -73,7 +64,7 @@ pub fn account(image: &[u8], segments: usize, slots: usize, text: &mut [u8]) -> 
     ensures { λ r. ⌜ (printed r (now (text .exit)) ≡ printIn (accountText segments slots (now (image .entry))) (now (text .entry))) × (r .length ≤ mostText) ⌝ }
 {
     if !request::right_size(image.len(), segments, slots) {
-        return wrong_size(text);
+        return printing::wrong_size(text);
     }
     let survey = scan::survey(image, segments, slots);
     let prognosis = prognosis::foretell(image, segments, slots, survey);

@@ -1,18 +1,16 @@
--- Pieces of a text one after the other, in a loop; and the rows and marks that are left to add.
-use Prim.Native.Nat.{ℕ, zero, suc, _+_, _-_, _*_, _%_, _≤_, _<_}
+-- A number with spaces before it, and the rows that are left to add.
+use Prim.Native.Nat.{ℕ, zero, suc, _+_, _-_, _≤_, _<_}
 use mathlib.Core.Path.{_≡_, refl, sym, ap, _∙_}
-use mathlib.Core.Bool.{Bool, true, false, cond, and-false}
+use mathlib.Core.Bool.{Bool, true, false, cond}
 use mathlib.Core.List.{List, [], _∷_, _++_, map, append-assoc}
 use native.Mathlib.Omega.{arith}
 use native.Mathlib.Numerals.{add-one}
 use lib.ListN.{length, getD, take, drop, replicate, drop-of-length-le}
 use lib.Seq.{drop-cons, getD-take}
-use lib.Dec.{ltb, eqb}
-use borrow.Author.Tests.{eq-eqb, ne-eqb, lt-ltb}
-use Rattle.model.specs.Lists.{chunk}
+use lib.Dec.{eqb}
 use Rattle.model.specs.Chip.{Image}
 use Rattle.model.specs.Header.{erasePending}
-use Rattle.model.specs.Slot.{Slot, slotOf}
+use Rattle.model.specs.Slot.{Slot}
 use Rattle.model.specs.State.{Segment, blank, invalid, inUse, isInUse, slotsIn, segmentsOf}
 use Rattle.model.specs.Laws.Lists.{map-get}
 use Rattle.judge.specs.declared.SegmentState.the-variants.{InUse, Owing}
@@ -21,41 +19,12 @@ use Rattle.judge.specs.Rows.{slotsAt}
 use Rattle.judge.specs.Parts.{slotsOffset}
 use Rattle.text.specs.Text.{text}
 use Rattle.text.specs.Decimal.{decimal}
-use Rattle.text.specs.Buffer.{Wrote}
-use Rattle.text.proofs.Laws.{_then_, wrote-none}
 use Rattle.account_text.specs.Account.{shown}
-use Rattle.account_text.specs.Map.{mark, mostMarks, margin, rowBreak, marksFrom, padded, rowStart, stateWord, mapRow, mapRows}
+use Rattle.account_text.specs.Map.{marksFrom, padded, rowStart, stateWord, mapRow, mapRows}
 use Rattle.index.specs.declared.Shown.{Shown}
 use Rattle.index.specs.Shows.{shownAs, uncounted}
-use Rattle.index.specs.Lives.{slots-next}
 use Rattle.index.specs.Walks.{held-shown}
-use Rattle.mapping.specs.Finishes.{Finishes}
 use Rattle.mapping.specs.Marks.{segmentBy}
-
--- ---- pieces in a loop
-
-pub finish-begin : (whole start : List ℕ) (at : ℕ) → Finishes whole whole start at start at
-finish-begin whole start at = record { finish = λ later last w. w; kept = refl }
-
-pub finish-more : {x y rest whole start buffer later : List ℕ} {at end last : ℕ} → rest ≡ x ++ y → Finishes rest whole start at buffer end → Wrote x buffer end later last → Finishes y whole start at later last
-finish-more e f w = record { finish = λ b z v. f .finish b z (rw e (w then v)); kept = w .kept ∙ f .kept }
-
-pub finish-end : {rest whole start buffer : List ℕ} {at end : ℕ} → rest ≡ [] → Finishes rest whole start at buffer end → Wrote whole start at buffer end
-finish-end {rest} {whole} {start} {buffer} {at} {end} e f = f .finish buffer end (rw e (wrote-none buffer end))
-
--- ---- what stands before a mark
-
-pub break-first : (j : ℕ) → j ≡ 0 → rowBreak j ≡ []
-unfolding rowBreak
-break-first j e = rw e
-
-pub break-none : (j : ℕ) → (j % mostMarks ≡ 0 → ⊥) → rowBreak j ≡ []
-unfolding rowBreak
-break-none j h = rw (ne-eqb (j % mostMarks) 0 h, and-false (ltb 0 j))
-
-pub break-some : (j : ℕ) → (j ≡ 0 → ⊥) → j % mostMarks ≡ 0 → rowBreak j ≡ margin
-unfolding rowBreak
-break-some j n e = rw (lt-ltb 0 j (omega (arith, n)), eq-eqb (j % mostMarks) 0 e)
 
 -- ---- a number with spaces before it
 
@@ -73,21 +42,6 @@ unfolding padded
 padded-part w n d h e =
     let f : w - d - 0 ≡ w - length (decimal n) = omega arith in
     rw (f, take-replicate {A = ℕ} (w - length (decimal n)) 9 32 (omega arith))
-
--- ---- the slots of a segment
-
-pub marks-next : (s : Image) (first i slots m : ℕ) → i < slots → m ≡ mark (slotOf (take 256 (drop (first + i * 256) s)))
-    → marksFrom i (slotsAt s (first + i * 256) (slots - i)) ≡ (rowBreak i ++ (m ∷ [])) ++ marksFrom (i + 1) (slotsAt s (first + (i + 1) * 256) (slots - (i + 1)))
-unfolding marksFrom
-marks-next s first i slots m h q =
-    let d : slots - i ≡ suc (slots - (i + 1)) = omega arith in
-    let e : first + i * 256 + 256 ≡ first + (i + 1) * 256 = omega arith in
-    let r = marksFrom (suc i) (slotsAt s (first + suc i * 256) (slots - suc i)) in
-    rw (d, slots-next s (first + i * 256) (slots - (i + 1)), e, add-one i, ← q) (sym (append-assoc (rowBreak i) (m ∷ []) r))
-
-pub marks-end : (s : Image) (o i slots : ℕ) → slots ≤ i → marksFrom i (slotsAt s o (slots - i)) ≡ []
-unfolding marksFrom slotsAt chunk
-marks-end s o i slots h = let d : slots - i ≡ 0 = omega arith in rw d
 
 -- ---- the rows
 

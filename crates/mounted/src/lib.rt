@@ -41,7 +41,7 @@ pub fn mount(image: &[u8], segments: usize, slots: usize, places: &mut [u32]) ->
     } = surveyed
     else {
         places[0] = 0;
-        return store::check::state_answer(surveyed);
+        return looking::check::state_answer(surveyed);
     };
     places::fill(image, segments, slots, first, used, places);
     Answer::Done

@@ -66,7 +66,7 @@ pub fn move_to(
         compactions: _,
     } = surveyed
     else {
-        return request::refused(store::check::state_answer(surveyed));
+        return request::refused(looking::check::state_answer(surveyed));
     };
     if request::capacity(target_segments, target_slots) < live {
         return request::refused(Answer::Full);

@@ -23,7 +23,8 @@ use Rattle.bridge.specs.Lengths.{few-done, read-small}
 use Rattle.blank.proofs.Blank.{groups-most}
 use Rattle.text.specs.declared.Printed.{Printed}
 use Rattle.text.specs.Buffer.{Print, printed}
-use Rattle.qanbillox.specs.Packed.{packed, Gives, packedRead, counts, Packs, Mounts, packedBlank, packedPrint, Prints}
+use Rattle.packing.specs.Counts.{counts}
+use Rattle.qanbillox.specs.Packed.{packed, Gives, packedRead, Packs, Mounts, packedBlank, packedPrint, Prints}
 
 pub few : (N B : ℕ) (t : Image) (budget : ℕ) (q : Request) (p : Performed) (s : Image) → performed p s ≡ outcomeOf N B t budget q → p .steps ≤ largestImage
 unfolding performed

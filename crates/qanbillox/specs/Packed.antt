@@ -9,6 +9,7 @@ use Rattle.model.specs.Blank.{blankGroups}
 use Rattle.model.specs.Answers.{Outcome, ReadOutcome}
 use Rattle.model.specs.Mounted.{Places, MountOutcome}
 use Rattle.text.specs.Buffer.{Print}
+use Rattle.packing.specs.Counts.{counts}
 
 -- the answer + 256 × the steps done
 unfoldable pub packed : Outcome → ℕ
@@ -22,10 +23,6 @@ pub record Gives (o : Outcome) (r : ℕ) (s : Image) : Type 0 where
 -- the answer + 256 × the length + 65,536 × the offset
 unfoldable pub packedRead : ReadOutcome → ℕ
 packedRead o = o .code + 256 * o .length + 65536 * o .offset
-
--- how many counts 64 bits can tell above the lowest eight: 2 to the 56th
-unfoldable pub counts : ℕ
-counts = 72057594037927936
 
 -- the answer + 256 × the steps done of a mounted call, and the image afterwards
 pub record Packs (o : Outcome) (r : ℕ) (s : Image) : Type 0 where

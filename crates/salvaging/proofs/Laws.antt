@@ -16,7 +16,7 @@ use Rattle.text.proofs.Laws.{wrote-as}
 use Rattle.flash.proofs.Pages.{sized}
 use Rattle.account_text.specs.Account.{LiveSlot, blockText, byBlock}
 use Rattle.index.specs.Tables.{mostPages, pageOf, ofBlock, Stands}
-use Rattle.printing.proofs.Laws.{page-segment, Blocks, blocks-more, blocks-none, blocks-room, blocks-end}
+use Rattle.block_lines.proofs.Laws.{page-segment, Blocks, blocks-more, blocks-none, blocks-room, blocks-end}
 use Rattle.skipping.specs.Passed.{Passed}
 use Rattle.salvage.specs.Salvage.{candidates, given, agreed, givenLine, salvageText, salvageOutcome}
 use Rattle.meeting.specs.Sheet.{Sheet}

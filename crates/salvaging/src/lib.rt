@@ -30,7 +30,7 @@ fn given_line(
     requires { ⌜ at + 80 ≤ mostText ⌝ }
     ensures { λ r. ⌜ Wrote (blockText block length segment slot ++ cond differs (ascii " differs\n") (ascii " same\n")) (now (text .entry)) at (now (text .exit)) r × (r ≤ at + 80) ⌝ }
 {
-    let end = printing::block_text(text, at, block, length, segment, slot);
+    let end = block_lines::block_text(text, at, block, length, segment, slot);
     if differs {
         return text::add(text, end, b" differs\n");
     }

@@ -1,4 +1,1 @@
-pub mod Erasing
-pub mod Survey
-pub mod Look
 pub mod Requests

@@ -3,11 +3,7 @@
 // Forms that document 01 names: the budget (its allowance) falls with each flash step, and `request` counts the steps by it;
 // block numbers, segment numbers and slot places are the three tuple structs of `model`; `let .. else` takes the clean
 // survey or the slot that was found, and all else is a refusal; `read_or` returns a part of either of two slices.
-pub mod check;
-mod erasing;
-mod look;
-
-use look::Looked;
+use looking::Looked;
 use model::Answer;
 use model::BlockNumber;
 use model::Located;
@@ -65,7 +61,7 @@ pub fn put(
         compactions,
     } = surveyed
     else {
-        return request::refused(check::state_answer(surveyed));
+        return request::refused(looking::check::state_answer(surveyed));
     };
     let plan = Plan {
         first,
@@ -86,7 +82,7 @@ pub fn delete(
 ) -> Performed
     ensures { λ r. ⌜ performed r (now (image .exit)) ≡ outcomeOf segments slots (now (image .entry)) budget (delete (block .0)) ⌝ }
 {
-    let looked = look::look(&image[..], segments, slots, block);
+    let looked = looking::look(&image[..], segments, slots, block);
     match looked {
         Looked::Refused(answer) => request::refused(answer),
         Looked::At(place, _) => mend::mark_slot(image, place, budget),
@@ -97,7 +93,7 @@ pub fn delete(
 pub fn read(image: &[u8], segments: usize, slots: usize, block: BlockNumber) -> Located
     ensures { λ r. ⌜ located r ≡ readOutcome segments slots (now (image .entry)) (block .0) ⌝ }
 {
-    let looked = look::look(image, segments, slots, block);
+    let looked = looking::look(image, segments, slots, block);
     match looked {
         Looked::Refused(answer) => Located {
             answer,
@@ -125,7 +121,7 @@ pub fn read_or<'a>(
 ) -> &'a [u8]
     ensures { λ r. ⌜ (now r ≡ pieceOr segments slots (now (image .entry)) (block .0) (now (factory .entry))) × (now (code .exit) ≡ readOutcome segments slots (now (image .entry)) (block .0) .code) ⌝ }
 {
-    let looked = look::look(image, segments, slots, block);
+    let looked = looking::look(image, segments, slots, block);
     match looked {
         Looked::Refused(answer) => {
             let number = request::code_of(answer);

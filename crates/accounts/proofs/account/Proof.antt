@@ -7,7 +7,8 @@ use denote.Ref.{now}
 use Rattle.scan.proofs.Laws.Surveys.{right-size}
 use Rattle.text.specs.Buffer.{printIn, shortOf, doneOf}
 use Rattle.text.proofs.Laws.{print-short, print-done, wrote-as}
-use Rattle.accounts.proofs.Laws.{right, wrong-account, right-account}
+use Rattle.printing.proofs.Laws.{right}
+use Rattle.accounts.proofs.Laws.{wrong-account, right-account}
 use borrow.Author.Needs.{needs}
 use Rattle.accounts.proofs.account.Statement.{statement}
 use Rattle.accounts.proofs.account.Tie as tie

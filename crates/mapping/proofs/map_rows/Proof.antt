@@ -7,8 +7,9 @@ use Rattle.model.specs.State.{segmentsOf}
 use Rattle.account_text.specs.Account.{shown}
 use Rattle.account_text.specs.Map.{mapRows, allRows}
 use Rattle.index.specs.Walks.{held-shown}
-use Rattle.mapping.specs.Finishes.{Finishes}
-use Rattle.mapping.proofs.Laws.{finish-begin, finish-more, finish-end, rows-next, rows-end}
+use Rattle.marking.specs.Finishes.{Finishes}
+use Rattle.marking.proofs.Laws.{finish-begin, finish-more, finish-end}
+use Rattle.mapping.proofs.Laws.{rows-next, rows-end}
 use borrow.Author.Needs.{needs}
 use Rattle.mapping.proofs.map_rows.Statement.{statement}
 use Rattle.mapping.proofs.map_rows.Tie as tie

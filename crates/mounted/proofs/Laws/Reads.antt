@@ -24,7 +24,7 @@ use Rattle.places.specs.Places.{entrySeen}
 use Rattle.bridge.specs.Mounting.{Kept, in-step-kept}
 use Rattle.places.proofs.Laws.Found.{foundEntry, kept-seen}
 use Rattle.places.proofs.Laws.Seen.{Believed, seen-believed}
-use Rattle.store.specs.Look.{There, Kept as Refuses}
+use Rattle.looking.specs.Look.{There, Kept as Refuses}
 use Rattle.store.proofs.Laws.Requests.{read-refused, read-there}
 use Rattle.mounted.proofs.Laws.Refusals.{passed}
 

@@ -31,7 +31,7 @@ use Rattle.bridge.specs.Views.EntriesAfter.{delete-entry}
 use Rattle.request.specs.Request.{Refused, Carried}
 use Rattle.request.proofs.Answered.{refused-outcome}
 use Rattle.mend.specs.Marks.{PageAt, MarkedAt}
-use Rattle.store.specs.Look.{There}
+use Rattle.looking.specs.Look.{There}
 use Rattle.store.proofs.Laws.Requests.{delete-done}
 use Rattle.places.specs.declared.Entry.{Entry}
 use Rattle.places.specs.declared.Entry.the-variants.{At, Absent, Stale}

@@ -7,7 +7,7 @@ use Rattle.model.specs.Mounted.{mountedAs}
 use Rattle.bridge.specs.Refusals.{answerIn}
 use Rattle.request.proofs.Laws.{wrong-size, right-size}
 use Rattle.scan.proofs.Laws.Told.{survey-says}
-use Rattle.store.proofs.Laws.Survey.{survey-other, survey-plan}
+use Rattle.looking.proofs.Laws.Survey.{survey-other, survey-plan}
 use Rattle.model.specs.Answers.{codeOf}
 use Rattle.model.specs.Laws.Mounted.{mount-size, mount-short, mount-clean}
 use Rattle.mounted.proofs.Laws.Mounts.{mount-unclean}

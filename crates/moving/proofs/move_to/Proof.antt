@@ -7,7 +7,7 @@ use Rattle.model.specs.Laws.Chip.{size-facts}
 use Rattle.bridge.specs.Refusals.{answerIn}
 use Rattle.request.proofs.Laws.{wrong-size, right-size}
 use Rattle.scan.proofs.Laws.Told.{survey-says}
-use Rattle.store.proofs.Laws.Survey.{survey-other, survey-plan, survey-live}
+use Rattle.looking.proofs.Laws.Survey.{survey-other, survey-plan, survey-live}
 use Rattle.moving.proofs.Laws.Moves.{wrong-source, wrong-target, not-clean, too-many}
 use borrow.Author.Needs.{needs}
 use Rattle.moving.proofs.move_to.Statement.{statement}

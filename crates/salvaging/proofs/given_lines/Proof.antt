@@ -8,7 +8,7 @@ use denote.Ref.{now}
 use Rattle.model.specs.State.{segmentsOf}
 use Rattle.index.specs.Tables.{mostPages}
 use Rattle.flash.proofs.Pages.{sized}
-use Rattle.printing.proofs.Laws.{Blocks, blocks-start}
+use Rattle.block_lines.proofs.Laws.{Blocks, blocks-start}
 use Rattle.salvage.specs.Salvage.{candidates, given, givenLine}
 use Rattle.meeting.specs.Sheet.{sheet}
 use Rattle.salvaging.proofs.Laws.{lines-short, lines-one, lines-passed, lines-room, lines-end}

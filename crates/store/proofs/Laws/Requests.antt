@@ -20,7 +20,7 @@ use Rattle.flash.proofs.Laws.{_then_}
 use Rattle.request.specs.Request.{Refused, Finished}
 use Rattle.bridge.specs.Refusals.{answerIn, wrong-size-code, format-code, delete-code, put-unclean, unclean-code}
 use Rattle.mend.specs.Marks.{PageAt, MarkedAt}
-use Rattle.store.specs.Look.{There, Kept}
+use Rattle.looking.specs.Look.{There, Kept}
 use Rattle.request.proofs.Answered.{refused-outcome, carried, carried-outcome}
 use Rattle.bridge.specs.Lengths.{open-length, mark-length}
 

@@ -1,7 +1,7 @@
 -- `store::delete` is the request of the definition. Assumes nothing.
 use mathlib.Core.Path.{subst}
 use denote.Ref.{now}
-use Rattle.store.specs.Look.{Looks}
+use Rattle.looking.specs.Look.{Looks}
 use Rattle.store.proofs.Laws.Requests.{delete-refused, delete-page, delete-done}
 use borrow.Author.Needs.{needs}
 use Rattle.store.proofs.delete.Statement.{statement}

@@ -10,7 +10,7 @@ use Rattle.request.proofs.Laws.{wrong-size, right-size}
 use Rattle.model.specs.Laws.Bytes.{bytes-known}
 use Rattle.request.proofs.Answered.{refused-outcome}
 use Rattle.scan.proofs.Laws.Told.{survey-says}
-use Rattle.store.proofs.Laws.Survey.{survey-other, survey-plan, survey-live, survey-few}
+use Rattle.looking.proofs.Laws.Survey.{survey-other, survey-plan, survey-live, survey-few}
 use Rattle.store.proofs.Laws.Requests.{size-refused, put-unclean-refused}
 use borrow.Author.Needs.{needs}
 use Rattle.store.proofs.put.Statement.{statement}

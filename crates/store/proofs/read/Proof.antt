@@ -3,7 +3,7 @@ use mathlib.Core.Path.{subst}
 use native.Mathlib.Omega.{arith}
 use denote.Ref.{now}
 use Rattle.model.specs.Answers.{codeOf, located}
-use Rattle.store.specs.Look.{Looks}
+use Rattle.looking.specs.Look.{Looks}
 use Rattle.store.proofs.Laws.Requests.{read-refused, read-there}
 use borrow.Author.Needs.{needs}
 use Rattle.store.proofs.read.Statement.{statement}

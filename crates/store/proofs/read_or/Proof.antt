@@ -4,7 +4,7 @@ use mathlib.Core.Path.{_≡_, sym, ap, _∙_, subst}
 use native.Mathlib.Omega.{arith}
 use denote.Ref.{now}
 use lib.ListN.{take, drop}
-use Rattle.store.specs.Look.{Looks}
+use Rattle.looking.specs.Look.{Looks}
 use Rattle.store.proofs.Laws.Requests.{code-refused, code-there, piece-absent, piece-refused, piece-there}
 use borrow.Author.Needs.{needs}
 use Rattle.store.proofs.read_or.Statement.{statement}
