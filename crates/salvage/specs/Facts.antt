@@ -12,7 +12,6 @@ use Rattle.model.specs.Chip.{Image, Page, Bytes, largestImage, pagesOf, rightSi
 use Rattle.model.specs.Header.{Version}
 use Rattle.model.specs.Slot.{Slot, empty, torn, dead, cut, wrong, live, slotOf, entryOf}
 use Rattle.model.specs.State.{Segment, blank, invalid, inUse, isOwing, slotsIn, segmentsOf, topIndex, nextIndex, topSlots, usedCount, nextBlanked, entries, distinct, capacity}
-use Rattle.model.specs.Table.{Table}
 use Rattle.model.specs.Answers.{firstOf}
 use Rattle.model.specs.Laws.Lists.{and-left, and-right}
 use Rattle.model.specs.Laws.Bytes.{chunk-bytes}
