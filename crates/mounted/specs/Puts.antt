@@ -11,7 +11,7 @@ use Rattle.model.specs.Mounted.{Places, mountedRefusal, InStep}
 use Rattle.find.specs.declared.Found.{Found}
 use Rattle.find.specs.declared.Found.the-variants.{At, Nothing}
 use Rattle.places.specs.Places.{entrySeen}
-use Rattle.mounted_put.specs.Performing.{entryFor}
+use Rattle.mounted_write.specs.Continuing.{entryFor}
 
 -- no slot was found
 unfoldable pub noneFound : Found → Bool

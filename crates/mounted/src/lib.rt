@@ -175,7 +175,7 @@ pub fn put(
     };
     let entry = places::look_up(&image[..], slots, &places[..], block);
     let Entry::Stale = entry else {
-        let old = mounted_put::old_slot(entry);
+        let old = mounted_write::old_slot(entry);
         return put_block(image, segments, slots, places, old, block, contents, budget);
     };
     request::refused(Answer::Damaged)

@@ -35,7 +35,8 @@ use Rattle.mounted_plan.specs.declared.Decision.{Decision}
 use Rattle.mounted_plan.specs.declared.Decision.the-variants as decisions
 use Rattle.mounted_plan.specs.Decided.{Decides}
 use Rattle.mounted_plan.proofs.Callers.{refused-listed, refused-exact, accepted-agreed}
-use Rattle.mounted_put.specs.Performing.{entryFor, foundFor, Performs}
+use Rattle.mounted_write.specs.Continuing.{entryFor, foundFor}
+use Rattle.mounted_put.specs.Performing.{Performs}
 use Rattle.mounted.specs.Puts.{noneFound, Puts}
 use Rattle.mounted.proofs.Laws.Refusals.{passed, bound-not-cut, none-refuses}
 use Rattle.mounted.proofs.Laws.Reads.{kept-refusal, seen-there, seen-none, seen-stale}

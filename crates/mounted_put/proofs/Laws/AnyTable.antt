@@ -25,8 +25,9 @@ use Rattle.room.specs.Room.{Plannable, Worked}
 use Rattle.room.proofs.Laws.{worked-there}
 use Rattle.put.specs.Writing.{Placed, Wrote}
 use Rattle.put.proofs.Laws.Put.{accepted-writable, put-spent}
-use Rattle.mounted_put.specs.Performing.{RoomMade, entryFor, Written, Stopped, Continued, Performs}
-use Rattle.mounted_put.proofs.Laws.Parts.{found-placed}
+use Rattle.mounted_write.specs.Continuing.{RoomMade, entryFor, Written, Stopped, Continued}
+use Rattle.mounted_write.proofs.Laws.Parts.{found-placed}
+use Rattle.mounted_put.specs.Performing.{Performs}
 use Rattle.mounted_put.proofs.Laws.InStep.{not-stopped, written-outcome, written-kept}
 
 -- ---- what comes back

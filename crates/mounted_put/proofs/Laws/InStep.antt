@@ -40,7 +40,7 @@ use Rattle.room.specs.Room.{Roomed}
 use Rattle.room.proofs.Laws.{top-is}
 use Rattle.put.specs.Writing.{Accepted, Ready}
 use Rattle.put.proofs.Laws.Put.{room-made-held, room-found, room-ready, put-done}
-use Rattle.mounted_put.specs.Performing.{entryFor, Written, Stopped}
+use Rattle.mounted_write.specs.Continuing.{entryFor, Written, Stopped}
 
 -- ---- what a lookup sees, as what a search finds
 

@@ -1,8 +1,8 @@
--- `mounted_put::stop` makes the table unusable and says that the budget ran out. Assumes nothing.
-use Rattle.mounted_put.proofs.Laws.Parts.{made-unusable}
+-- `mounted_write::stop` makes the table unusable and says that the budget ran out. Assumes nothing.
+use Rattle.mounted_write.proofs.Laws.Parts.{made-unusable}
 use borrow.Author.Needs.{needs}
-use Rattle.mounted_put.proofs.stop.Statement.{statement}
-use Rattle.mounted_put.proofs.stop.Tie as tie
+use Rattle.mounted_write.proofs.stop.Statement.{statement}
+use Rattle.mounted_write.proofs.stop.Tie as tie
 
 slice-write-places : tie.Need-slice-write-places
 slice-write-places c = search needs

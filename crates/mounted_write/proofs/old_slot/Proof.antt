@@ -1,8 +1,8 @@
--- `mounted_put::old_slot` finds what the entry tells of. Assumes nothing.
-use Rattle.mounted_put.specs.Performing.{foundFor}
+-- `mounted_write::old_slot` finds what the entry tells of. Assumes nothing.
+use Rattle.mounted_write.specs.Continuing.{foundFor}
 use borrow.Author.Needs.{needs}
-use Rattle.mounted_put.proofs.old_slot.Statement.{statement}
-use Rattle.mounted_put.proofs.old_slot.Tie as tie
+use Rattle.mounted_write.proofs.old_slot.Statement.{statement}
+use Rattle.mounted_write.proofs.old_slot.Tie as tie
 
 enum-known-entry : tie.Need-enum-known-entry
 enum-known-entry c = search needs

@@ -1,11 +1,11 @@
--- `mounted_put::write_found` looks the block up, and writes its slot or stops. Assumes nothing.
+-- `mounted_write::write_found` looks the block up, and writes its slot or stops. Assumes nothing.
 use mathlib.Core.Path.{refl}
 use native.Mathlib.Omega.{arith}
 use denote.Ref.{now}
-use Rattle.mounted_put.proofs.Laws.Parts.{found-told, found-placed, continued-written, continued-stale, continued-full}
+use Rattle.mounted_write.proofs.Laws.Parts.{found-told, found-placed, continued-written, continued-stale, continued-full}
 use borrow.Author.Needs.{needs}
-use Rattle.mounted_put.proofs.write_found.Statement.{statement}
-use Rattle.mounted_put.proofs.write_found.Tie as tie
+use Rattle.mounted_write.proofs.write_found.Statement.{statement}
+use Rattle.mounted_write.proofs.write_found.Tie as tie
 
 stop-requires : tie.Need-stop-requires
 stop-requires c κs = search needs

@@ -1,7 +1,7 @@
--- `mounted_put::enter_new` enters the segments that come after those of the plan. Assumes nothing.
+-- `mounted_write::enter_new` enters the segments that come after those of the plan. Assumes nothing.
 use borrow.Author.Needs.{needs}
-use Rattle.mounted_put.proofs.enter_new.Statement.{statement}
-use Rattle.mounted_put.proofs.enter_new.Tie as tie
+use Rattle.mounted_write.proofs.enter_new.Statement.{statement}
+use Rattle.mounted_write.proofs.enter_new.Tie as tie
 
 cast-next : tie.Need-cast-next
 cast-next c = search needs

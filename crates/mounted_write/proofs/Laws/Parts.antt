@@ -24,7 +24,7 @@ use Rattle.places.proofs.Laws.Walk.{few-bytes}
 use Rattle.room.specs.declared.Room.{Room}
 use Rattle.put.specs.Writing.{OldInside, Placed, Wrote}
 use Rattle.put.proofs.Laws.LastSteps.{place-inside}
-use Rattle.mounted_put.specs.Performing.{RoomMade, entryFor, foundFor, Continued}
+use Rattle.mounted_write.specs.Continuing.{RoomMade, entryFor, foundFor, Continued}
 
 pub made-unusable : (t : Places) → set t 0 0 ≡ unusable t
 unfolding unusable

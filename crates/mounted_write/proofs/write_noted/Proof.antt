@@ -1,9 +1,9 @@
--- `mounted_put::write_noted` takes the last steps of a put and notes the slot's place. Assumes nothing.
+-- `mounted_write::write_noted` takes the last steps of a put and notes the slot's place. Assumes nothing.
 use denote.Ref.{now}
-use Rattle.mounted_put.proofs.Laws.Parts.{noted-at, place-fits}
+use Rattle.mounted_write.proofs.Laws.Parts.{noted-at, place-fits}
 use borrow.Author.Needs.{needs}
-use Rattle.mounted_put.proofs.write_noted.Statement.{statement}
-use Rattle.mounted_put.proofs.write_noted.Tie as tie
+use Rattle.mounted_write.proofs.write_noted.Statement.{statement}
+use Rattle.mounted_write.proofs.write_noted.Tie as tie
 
 write-block-requires : tie.Need-write-block-requires
 write-block-requires c κs = search needs
