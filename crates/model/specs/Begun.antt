@@ -1,40 +1,56 @@
--- Histories with the erases that were begun: by a request that was answered, those among its steps; by one that a loss of power cut, the one that the cut fell into too.
-use Prim.Native.Nat.{ℕ, _+_}
+-- Histories with what their requests set about: the erases begun, those that a loss of power fell into too, and the tidyings that reached the owing mark.
+use Prim.Native.Nat.{ℕ, _+_, _/_, _%_, max}
 use mathlib.Core.Path.{_≡_}
 use mathlib.Core.Logic.{_⊎_}
-use mathlib.Core.Bool.{cond}
+use mathlib.Core.Bool.{Bool, false, cond, _&&_}
 use mathlib.Core.List.{List, [], _∷_, _++_}
 use lib.ListN.{length, take}
 use lib.Dec.{eqb}
-use Rattle.model.specs.Lists.{count}
-use Rattle.model.specs.Chip.{Image, Step, step, Inside}
+use Rattle.model.specs.Lists.{same, count}
+use Rattle.model.specs.Chip.{Image, Step, program, erase, step, Inside}
+use Rattle.model.specs.Header.{erasePending}
+use Rattle.model.specs.Table.{blocks}
 use Rattle.model.specs.Answers.{Request, format, put, delete, read, readOr, recover, workOf, outcomeOf}
-use Rattle.model.specs.Histories.{replyOf, Seen, answered, lost, Proper}
-use Rattle.model.specs.Sequences.{erasesIn}
+use Rattle.model.specs.Histories.{replyOf, Seen, answered, lost, Proper, shown}
+use Rattle.model.specs.Sequences.{erasesIn, Ledger, noted}
 
--- what a cut can leave of a list of steps, with the erases begun, each by the index of its segment
-abbrev pub CutBegun : ℕ → List Step → Image → Image → List ℕ → Type 0
-CutBegun B [] s t es = (t ≡ s) × (es ≡ [])
-CutBegun B (x ∷ xs) s t es =
-    ((t ≡ s) × (es ≡ []))
-    ⊎ ((Inside B x s t × (es ≡ erasesIn (x ∷ [])))
-    ⊎ ((rest : List ℕ) × (es ≡ erasesIn (x ∷ []) ++ rest) × CutBegun B xs (step B x s) t rest))
+-- a step that sets the owing mark: status 9F, which is byte 5 of a header, page 0 of its segment
+unfoldable pub isMark : ℕ → Step → Bool
+isMark B (program at v) = eqb (at / 256 % (B + 1)) 0 && (eqb (at % 256) 5 && eqb v erasePending)
+isMark B (erase i) = false
 
--- a request on image s shows this, leaves image u, and has begun these erases
-abbrev pub DoesBegun : ℕ → ℕ → Request → Seen → Image → Image → List ℕ → Type 0
-DoesBegun N B r (answered o) s u es =
-    (allowance : ℕ) × (o ≡ replyOf N B s allowance r) × (u ≡ outcomeOf N B s allowance r .image) × (es ≡ erasesIn (take allowance (workOf N B s r .steps)))
-DoesBegun N B r lost s u es = CutBegun B (workOf N B s r .steps) s u es
+unfoldable pub marksIn : ℕ → List Step → ℕ
+marksIn B xs = count (λ x. isMark B x) xs
+
+-- what a cut can leave of a list of steps, with the erases begun, each by the index of its segment, and the number of owing marks reached:
+-- a cut inside a step that sets one has reached it if it left the image as the whole step does
+abbrev pub CutBegun : ℕ → List Step → Image → Image → List ℕ → ℕ → Type 0
+CutBegun B [] s t es f = (t ≡ s) × (es ≡ []) × (f ≡ 0)
+CutBegun B (x ∷ xs) s t es f =
+    ((t ≡ s) × (es ≡ []) × (f ≡ 0))
+    ⊎ ((Inside B x s t × (es ≡ erasesIn (x ∷ [])) × (f ≡ cond (same t (step B x s)) (marksIn B (x ∷ [])) 0))
+    ⊎ ((rest : List ℕ) × (more : ℕ) × (es ≡ erasesIn (x ∷ []) ++ rest) × (f ≡ marksIn B (x ∷ []) + more) × CutBegun B xs (step B x s) t rest more))
+
+-- a request on image s shows this, leaves image u, has begun these erases and reached so many owing marks
+abbrev pub DoesBegun : ℕ → ℕ → Request → Seen → Image → Image → List ℕ → ℕ → Type 0
+DoesBegun N B r (answered o) s u es f =
+    (allowance : ℕ) × (o ≡ replyOf N B s allowance r) × (u ≡ outcomeOf N B s allowance r .image)
+    × (let done = take allowance (workOf N B s r .steps) in (es ≡ erasesIn done) × (f ≡ marksIn B done))
+DoesBegun N B r lost s u es f = CutBegun B (workOf N B s r .steps) s u es f
 
 pub record Turn : Type 0 where
   pub request : Request
   pub seen : Seen
   pub begun : List ℕ
+  pub marks : ℕ
+  -- the blocks that a finished recovery shows of the image that it left
+  pub kept : List ℕ
 
 -- each request works on the image as the one before or a cut left it
 abbrev pub Turns : ℕ → ℕ → Image → List Turn → Image → Type 0
 Turns N B s [] u = u ≡ s
-Turns N B s (e ∷ es) u = Proper (e .request) × ((m : Image) × DoesBegun N B (e .request) (e .seen) s m (e .begun) × Turns N B m es u)
+Turns N B s (e ∷ es) u =
+    Proper (e .request) × ((m : Image) × DoesBegun N B (e .request) (e .seen) s m (e .begun) (e .marks) × (e .kept ≡ blocks (shown N B m)) × Turns N B m es u)
 
 -- ---- what is counted
 
@@ -64,3 +80,23 @@ recoveryErases (e ∷ es) = byRecovery (e .request) (e .begun) + recoveryErases 
 unfoldable pub begunOn : ℕ → List Turn → ℕ
 begunOn i [] = 0
 begunOn i (e ∷ es) = count (λ x. eqb i x) (e .begun) + begunOn i es
+
+-- ---- request #112: F, R and L with cuts
+
+-- F, the tidyings that reached the owing mark
+unfoldable pub marksOf : List Turn → ℕ
+marksOf [] = 0
+marksOf (e ∷ es) = e .marks + marksOf es
+
+-- after a cut the stored blocks are those that a finished recovery shows, for L as well; R counts only what was acknowledged
+unfoldable pub notedCut : Turn → Ledger → Ledger
+notedCut e t = record { stored = e .kept; largest = max (t .largest) (length (e .kept)); replaced = t .replaced; erased = t .erased ++ e .begun }
+
+unfoldable pub notedAs : Turn → Seen → Ledger → Ledger
+notedAs e (answered o) t = cond (eqb (o .code) 9) (notedCut e t) (noted (record { request = e .request; code = o .code; erases = e .begun }) t)
+notedAs e lost t = notedCut e t
+
+-- stored blocks, L, R and the erases begun
+unfoldable pub ledgerOf : List Turn → Ledger → Ledger
+ledgerOf [] t = t
+ledgerOf (e ∷ es) t = ledgerOf es (notedAs e (e .seen) t)

@@ -27,6 +27,11 @@ without b (e ∷ t) = cond (eqb b (e .block)) (without b t) (e ∷ without b t)
 unfoldable pub store : ℕ → List ℕ → Table → Table
 store b c t = record { block = b; contents = c } ∷ without b t
 
+-- its block numbers
+unfoldable pub blocks : Table → List ℕ
+blocks [] = []
+blocks (e ∷ t) = e .block ∷ blocks t
+
 -- the same contents for every block number at once
 abbrev pub Agree : Table → Table → Type 0
 Agree t u = (b : ℕ) → lookup b t ≡ lookup b u

@@ -4,14 +4,9 @@ use mathlib.Core.Path.{_≡_}
 use mathlib.Core.List.{List, [], _∷_}
 use lib.ListN.{length, take}
 use Rattle.model.specs.Chip.{Image}
-use Rattle.model.specs.Table.{Table}
+use Rattle.model.specs.Table.{Table, blocks}
 use Rattle.model.specs.Answers.{format, outcomeOf}
 use Rattle.model.specs.Sequences.{Call, Observed, observed, Uncut, Ledger, start, ledger, eraseCount, erasesOf}
-
--- the block numbers of a table
-unfoldable pub blocks : Table → List ℕ
-blocks [] = []
-blocks (e ∷ t) = e .block ∷ blocks t
 
 -- the count of a sequence that starts with a table stored: L counts its blocks. With none it is that of a sequence from a format
 unfoldable pub stocked : Table → Ledger

@@ -9,11 +9,11 @@ use Rattle.model.specs.Chip.{Image, Step, rightSize, pagesOf, withSegment, step
 use Rattle.model.specs.Header.{newVersion}
 use Rattle.model.specs.State.{segmentsOf, view}
 use Rattle.model.specs.Steps.{onPage, slotAt, writeSlot, openSegment, formatSteps}
-use Rattle.model.specs.Table.{tableOf}
+use Rattle.model.specs.Table.{blocks, tableOf}
 use Rattle.model.specs.Answers.{format, put, delete, workOf, outcomeOf}
 use Rattle.model.specs.Sequences.{Call, Observed, observe, observed, Uncut, start, ledger, eraseCount, erasesOf}
 use Rattle.model.specs.Laws.Bench.{evaluate}
-use Rattle.wear.specs.Demand3.{blocks, stocked, ErasesPaid}
+use Rattle.wear.specs.Demand3.{stocked, ErasesPaid}
 
 abbrev pub made : Image
 made = outcomeOf 2 2 (replicate 1536 0) 1000 format .image

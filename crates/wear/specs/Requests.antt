@@ -10,7 +10,7 @@ use lib.Dec.{eqb}
 use Rattle.model.specs.Slot.{empty, dead, live, isDead}
 use Rattle.model.specs.State.{View, entriesIn, holds, distinct, blocksDistinct, Place, placeOf}
 use Rattle.model.specs.Steps.{topRow, topNumber, firstEmpty, roomFor, putSteps, writeAtTop, markOld, deleteSteps}
-use Rattle.model.specs.Table.{Table, Agree}
+use Rattle.model.specs.Table.{Table, blocks, Agree}
 use Rattle.model.specs.Answers.{put, delete}
 use Rattle.model.specs.Sequences.{Observed, erasesIn, among, removed, inserted, storedAfter, replaces, Ledger, start, noted, eraseCount, erasesOf}
 use Rattle.model.specs.Laws.Lists.{one}
@@ -20,7 +20,7 @@ use Rattle.bridge.specs.Views.Slots.{copied-none}
 use Rattle.bridge.specs.Views.Room.{room-made}
 use Rattle.bridge.specs.Views.Requests.{put-stores, delete-removes}
 use Rattle.bridge.specs.Format.{fresh-table}
-use Rattle.wear.specs.Demand3.{blocks, stocked, ErasesPaid, Balanced}
+use Rattle.wear.specs.Demand3.{stocked, ErasesPaid, Balanced}
 use Rattle.wear.specs.Counting.{deads, deads-behind, drop-behind, set-slot, copied-dead}
 use Rattle.wear.specs.Erases.{erases-append, written-none, delete-none, turns, turns-length, balanced}
 use Rattle.wear.specs.Room.{Paid, paid-after, Moved, room-moved}

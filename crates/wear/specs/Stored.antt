@@ -8,10 +8,9 @@ use lib.ListN.{length}
 use lib.Dec.{eqb}
 use borrow.Author.Tests.{eqb-true, eq-eqb, not-true}
 use Rattle.model.specs.State.{holds, distinct}
-use Rattle.model.specs.Table.{Table, without, store, Agree}
+use Rattle.model.specs.Table.{Table, without, store, blocks, Agree}
 use Rattle.model.specs.Sequences.{among, removed, inserted}
 use Rattle.model.specs.Laws.Tables.{agree-holds}
-use Rattle.wear.specs.Demand3.{blocks}
 
 -- ---- lists of block numbers
 
