@@ -1,6 +1,6 @@
 -- Segments that are alike but for the top's tally, in which a recovery counts before it mends: the same state, the same table, the same version.
 use Prim.Native.Nat.{ℕ, _-_, _%_, _≤_, _<_}
-use mathlib.Core.Path.{_≡_, refl, sym, ap, ap₂, _∙_}
+use mathlib.Core.Path.{_≡_, refl, sym, ap, ap₂, _∙_, subst}
 use mathlib.Core.Logic.{_≢_}
 use mathlib.Core.Bool.{true, _&&_}
 use mathlib.Core.List.{List}
@@ -10,10 +10,10 @@ use lib.ListN.{length, getD, set, length-set}
 use lib.Seq.{set-getD, set-set, set-comm, getD-set-same, getD-set-other}
 use lib.Dec.{eqb}
 use Rattle.model.specs.Header.{Version, version1, version2, isFormer, versionNumber}
-use Rattle.model.specs.State.{Segment, blank, invalid, inUse, isInvalid, isOwing, numberAfter, versionIn, nextNumber, topIndex, nextIndex, topVersion, usedCount, viewOf, entriesIn, isClean, nextBlanked, isA, settled, topSettled, isB}
+use Rattle.model.specs.State.{Segment, blank, invalid, inUse, isInvalid, isOwing, numberAfter, versionIn, nextNumber, topIndex, nextIndex, topVersion, usedCount, viewOf, isClean, nextBlanked, isA, settled, topSettled, isB}
 use Rattle.model.specs.Laws.Lists.{and-left, and-right, and-both, mod-inj}
 use Rattle.model.specs.Laws.Ring.{next-kept, used-kept}
-use Rattle.model.specs.Laws.Counted.{withVersion, withVersion-use, withVersion-owing, alike-next, alike-entries, alike-clean}
+use Rattle.model.specs.Laws.Counted.{withVersion, withVersion-use, withVersion-owing, SameRows, alike-next, alike-rows, alike-clean}
 
 pub record Like (N : ℕ) (l m : List Segment) : Type 0 where
   pub version : Version
@@ -80,8 +80,8 @@ module _ (N : ℕ) (l m : List Segment) (h : Like N l m) (inside : topIndex N l 
   pub like-other : (k : ℕ) → k ≢ topIndex N l → getD m k blank ≡ getD l k blank
   like-other k n = ap (λ (y : List Segment). getD y k blank) (h .segments) ∙ getD-set-other l top k changed blank (λ e. n e)
 
-  pub like-entries : entriesIn (viewOf N m) ≡ entriesIn (viewOf N l)
-  like-entries = ap (λ y. entriesIn (viewOf N y)) (h .segments) ∙ alike-entries (h .version) N l top inside
+  pub like-rows : SameRows (viewOf N m) (viewOf N l)
+  like-rows = subst (λ (y : List Segment). SameRows (viewOf N y) (viewOf N l)) (sym (h .segments)) (alike-rows (h .version) N l top inside)
 
   pub like-clean : (B : ℕ) → isClean N B m ≡ isClean N B l
   unfolding topVersion

@@ -20,7 +20,7 @@ use Rattle.model.specs.Laws.Effects.{in-use-parts, erase-effect}
 use Rattle.crash.specs.Sound.{AtLeast, headerByte, SoundAs, Sound, CutOf}
 use Rattle.crash.specs.Alike.{like-of}
 use Rattle.crash.specs.Tops.{SameTop, same-image, same-trans}
-use Rattle.crash.specs.States.{mended, recover-steps, Kept, kept-same, kept-trans, kept-clean, kept-case}
+use Rattle.crash.specs.States.{mended, recover-steps, Kept, recoveredView, kept-same, kept-with, kept-clean, kept-case}
 use Rattle.crash.specs.RecoverCount.{header-byte, other-byte, counts}
 use Rattle.crash.specs.RecoverErase.{replaced-byte, raised-segments, raised-byte}
 use Rattle.crash.specs.RecoverOwing.{apart, below, by-old, counted-mended, counted-next, counted-state, inside, left, mended-b, most, replaced-mended, replaced-next, replaced-state, replaced-top-same, rest-segments, settle-whole, settled-same, settled-there, size, two, wiped-segments, wiped-size}
@@ -208,6 +208,6 @@ cut-b N B s z e h u c = by-old N B s z e (Kept N B s u) blank-old (λ d. counted
 
     counted-old : Cut B (counts N B (segmentsOf N B s) ++ (erase (nextNumber (segmentsOf N B s) % N) ∷ settle N B (nextNumber (segmentsOf N B s) - 1))) s u → Kept N B s u
     counted-old d = ⊎-elim (λ k. counted-kept N B s z e h u k)
-        (λ k. kept-trans N B s t u (counted-kept N B s z e h t first)
+        (λ k. kept-with N B t u (recoveredView N B s) (counted-kept N B s z e h t first)
         (rest-cut N B t (run-size N B (counts N B (segmentsOf N B s)) s ∙ z) (counted-state N B s z e t first) (counted-kept N B s z e h t first .0) u (rw (counted-next N B s z e t first) k)))
         (cut-append B (counts N B (segmentsOf N B s)) (erase (nextNumber (segmentsOf N B s) % N) ∷ settle N B (nextNumber (segmentsOf N B s) - 1)) s u d)

@@ -5,16 +5,16 @@ use mathlib.Core.Bool.{true}
 use mathlib.Core.List.{List}
 use Rattle.model.specs.Chip.{Image, rightSize}
 use Rattle.model.specs.Header.{isFormer}
-use Rattle.model.specs.State.{Segment, segmentsOf, topVersion, viewOf, entriesIn, Exception, caseA, caseB, caseC, caseD, State, clean, unfinished, damaged, state}
+use Rattle.model.specs.State.{Segment, segmentsOf, topVersion, viewOf, Exception, caseA, caseB, caseC, caseD, State, clean, unfinished, damaged, state}
 use Rattle.model.specs.Steps.{mendSteps}
 use Rattle.model.specs.Answers.{recover, workOf}
-use Rattle.model.specs.Histories.{recovered, shown}
-use Rattle.model.specs.Laws.Tables.{agree-of}
+use Rattle.model.specs.Histories.{recovered}
 use Rattle.model.specs.Laws.Segments.{segments-length}
+use Rattle.model.specs.Laws.Counted.{SameRows}
 use Rattle.bridge.specs.Accepted.{recover-none}
 use Rattle.crash.specs.Sound.{SoundAs, Sound, Clean, CutOf}
 use Rattle.crash.specs.Requests.{recovered-clean, idle-cut}
-use Rattle.crash.specs.States.{isCase, mended, state-case, recover-steps, SoundWith, Kept, kept-same, Mended, mended-shown, mended-former, done}
+use Rattle.crash.specs.States.{isCase, mended, state-case, recover-steps, recoveredView, SoundWith, Kept, kept-same, Mended, mended-rows, mended-former, done}
 use Rattle.crash.specs.RecoverMarks.{mended-c, mended-d, cut-c, cut-d}
 use Rattle.crash.specs.RecoverErase.{mended-a, cut-a}
 use Rattle.crash.specs.RecoverOwing.{mended-b}
@@ -27,7 +27,7 @@ recovery-mends N B s z caseB e = mended-b N B s z e
 recovery-mends N B s z caseC e = mended-c N B s z e
 recovery-mends N B s z caseD e = mended-d N B s z e
 
--- an image that passes the test of a case is in that state, and shows the table of its mended segments
+-- an image that passes the test of a case is in that state, and is recovered to the rows of its mended segments
 module _ (N B : ℕ) (u : Image) (x : Exception) (z : rightSize N B u ≡ true) (h : isCase N B (segmentsOf N B u) x ≡ true) where
   pub case-state : state N B u ≡ unfinished x
   unfolding state
@@ -41,7 +41,7 @@ module _ (N B : ℕ) (u : Image) (x : Exception) (z : rightSize N B u ≡ true) 
       let r = recovery-mends N B u z x case-state in
       let version : isFormer (topVersion N m) ≡ isFormer (viewOf N m .version) = (unfold viewOf in refl) in (
         subst (λ y. SoundAs N B u (segmentsOf N B u) y) (sym case-state) k,
-        agree-of (shown N B u) (entriesIn (viewOf N m)) (mended-shown N B u x z case-state r ∙ ap (λ y. entriesIn (viewOf N y)) e),
+        subst (λ (y : List Segment). SameRows (recoveredView N B u) (viewOf N y)) e (mended-rows N B u x z case-state r),
         mended-former N B u x z case-state r ∙ (ap (λ y. isFormer (topVersion N y)) e ∙ version),
       )
 

@@ -26,7 +26,7 @@ use Rattle.crash.specs.Sound.{SoundAs, Sound, CutOf}
 use Rattle.crash.specs.Alike.{Like, like-of, index-apart, like-next, like-blanked, like-a}
 use Rattle.crash.specs.RecoverCount.{header-byte, other-byte, counts, counted-like}
 use Rattle.crash.specs.Tops.{SameTop, same-set}
-use Rattle.crash.specs.States.{isCase, mended, case-of, state-case, recover-steps, recovered-run, Kept, kept-same, kept-trans, Mended, kept-clean, kept-case}
+use Rattle.crash.specs.States.{isCase, mended, case-of, state-case, recover-steps, recovered-run, Kept, recoveredView, kept-same, kept-with, Mended, kept-clean, kept-case}
 
 -- ---- a segment's bytes replaced, and an erase cut inside
 
@@ -246,7 +246,7 @@ module _ (N B : ℕ) (s : Image) (z : rightSize N B s ≡ true) (e : state N B s
 
   pub cut-a : (u : Image) → CutOf N B s recover u → Kept N B s u
   cut-a u c = ⊎-elim (λ d. counted-kept N B s u z e h d)
-      (λ d. kept-trans N B s t u (counted-kept N B s t z e h whole)
+      (λ d. kept-with N B t u (recoveredView N B s) (counted-kept N B s t z e h whole)
       (erase-cut N B t u (z1 N B s z e) (counted-state N B s z e t whole) (counted-kept N B s t z e h whole .0) (rw (counted-next N B s z e t whole) d)))
       (cut-append B (counts N B (segmentsOf N B s)) (erase (nextNumber (segmentsOf N B s) % N) ∷ []) s u (rw (recover-steps N B s caseA z e ∙ steps-a N B s z e) at c))
 

@@ -26,10 +26,10 @@ use Rattle.bridge.specs.Views.Shape.{opened-entries}
 use Rattle.bridge.specs.Views.Room.{opened-clean}
 use Rattle.bridge.specs.Held.{Held}
 use Rattle.bridge.specs.Done.{next-free, open-held, ring-closed, old-after, copied-segments}
-use Rattle.crash.specs.States.{SoundWith, kept-shows}
+use Rattle.crash.specs.States.{ShowsOf, with-shows, kept-with}
 use Rattle.crash.specs.OwingCuts.{rest-cut}
 use Rattle.crash.specs.RoomTorn.{BitSix, held-shows, next-torn}
-use Rattle.crash.specs.RoomOwing.{Full, old-valid, old-fits, Owing, owing-left}
+use Rattle.crash.specs.RoomOwing.{Full, old-valid, old-fits, compacted-shows, Owing, owing-left}
 
 -- ---- steps in a header page
 
@@ -126,10 +126,10 @@ module _ (N B : ℕ) (s : Image) (v : View) (h : Held N B s v) where
   unfolding openNext nextVersion newVersion isFormer
   new-former carries = sym (carries .second)
 
-  pub open-cut : CleanView N B v → Carries v → hasRoom v ≡ false → length (v .slots) < N - 1 → suc (topNumber v) < numberLimit N → (u : Image) → Cut B (openNext N B v .steps) s u → SoundWith N B u v
+  pub open-cut : CleanView N B v → Carries v → hasRoom v ≡ false → length (v .slots) < N - 1 → suc (topNumber v) < numberLimit N → (u : Image) → Cut B (openNext N B v .steps) s u → ShowsOf N B u v
   open-cut c carries full few-used below u cut = ⊎-elim
-      (λ t. next-torn N B s v h c u (cut-size N B (openNext N B v .steps) s u cut ∙ h .size) (t .0) (t .1))
-      (λ e. let r = held-shows N B (run B (openNext N B v .steps) s) (openNext N B v .result) u (open-held N B s v h carries below few-used) (opened-clean c full few-used) e in
+      (λ t. with-shows N B u v (next-torn N B s v h c u (cut-size N B (openNext N B v .steps) s u cut ∙ h .size) (t .0) (t .1)))
+      (λ e. let r = with-shows N B u (openNext N B v .result) (held-shows N B (run B (openNext N B v .steps) s) (openNext N B v .result) u (open-held N B s v h carries below few-used) (opened-clean c full few-used) e) in
       (r .0, rw (opened-entries N B v) at (r .1), r .2 ∙ new-former carries))
       (open-left carries below u cut)
 
@@ -241,10 +241,10 @@ module _ (N B : ℕ) (s : Image) (v : View) (f : Full N B s v) where
   pub owed : Owing N B s v f (run B (copyOut N B (nextVersion v) (v .first) (suc (topNumber v)) (entries (getD (v .slots) 0 []))) s)
   owed = owes (run B (copyOut N B (nextVersion v) o n es) s) (run-size N B (copyOut N B (nextVersion v) o n es) s ∙ h .size) (rw the-run (touched2 (run B finish s2) (whole-cut B finish s2))) refl
 
-  copy-out-cut : (u : Image) → Cut B (copyOut N B (nextVersion v) o n es) s u → SoundWith N B u v
+  copy-out-cut : (u : Image) → Cut B (copyOut N B (nextVersion v) o n es) s u → ShowsOf N B u v
   copy-out-cut u c =
       let z = cut-size N B (copyOut N B (nextVersion v) o n es) s u c ∙ h .size in
-      ⊎-elim (λ t. next-torn N B s v h (f .clean) u z (t .0) (t .1)) (λ t. owes u z (t .0) (t .1) .shows) (copy-out-left u c)
+      ⊎-elim (λ t. with-shows N B u v (next-torn N B s v h (f .clean) u z (t .0) (t .1))) (λ t. compacted-shows N B s v f u (owes u z (t .0) (t .1) .shows)) (copy-out-left u c)
 
   -- the rest's old segment and number, by the number after the top's
   pub rest-after : (v .first + N) % N ≡ v .first % N
@@ -254,7 +254,7 @@ module _ (N B : ℕ) (s : Image) (v : View) (f : Full N B s v) where
   rest-last = omega (arith, ring-closed N B s v h (f .carries) (f .below) (f .all) es (old-valid N B s v f) (old-fits N B s v f))
 
   -- the rest, the old segment erased and the status after it, is how the recovery of state (b) ends
-  pub compact-cut : (u : Image) → Cut B (compactOldest N B v .steps) s u → SoundWith N B u v
+  pub compact-cut : (u : Image) → Cut B (compactOldest N B v .steps) s u → ShowsOf N B u v
   unfolding compactOldest compact
   compact-cut u c =
       let t = run B (copyOut N B (nextVersion v) o n es) s in
@@ -262,5 +262,5 @@ module _ (N B : ℕ) (s : Image) (v : View) (f : Full N B s v) where
       let w = owed in
       ⊎-elim
       (λ k. copy-out-cut u k)
-      (λ k. kept-shows N B t u (entriesIn v) (isFormer (v .version)) (w .shows) (rest-cut N B t z (w .pending) (w .shows .0) u (rw (w .next, rest-after, rest-last) k)))
+      (λ k. compacted-shows N B s v f u (kept-with N B t u (compactOldest N B v .result) (w .shows) (rest-cut N B t z (w .pending) (w .shows .0) u (rw (w .next, rest-after, rest-last) k))))
       (cut-append B (copyOut N B (nextVersion v) o n es) (erase (o % N) ∷ settle N B n) s u c)

@@ -20,17 +20,17 @@ use Rattle.bridge.specs.Views.Shape.{opened-top}
 use Rattle.bridge.specs.Views.Room.{tidied}
 use Rattle.bridge.specs.Held.{Held}
 use Rattle.bridge.specs.Requests.{until-room, until-more, top-rises, carries-next, one-compaction, compacted-rows}
-use Rattle.crash.specs.States.{SoundWith}
+use Rattle.crash.specs.States.{ShowsOf, with-shows}
 use Rattle.crash.specs.RoomTorn.{held-shows}
 use Rattle.crash.specs.RoomCuts.{open-cut, compact-cut}
 
 module _ (N B : ℕ) where
   -- nothing done
-  none-cut : (s : Image) (v : View) → Held N B s v → CleanView N B v → (u : Image) → u ≡ s → SoundWith N B u v
-  none-cut s v h c u e = held-shows N B s v u h c (ap (λ y. segmentsOf N B y) e)
+  none-cut : (s : Image) (v : View) → Held N B s v → CleanView N B v → (u : Image) → u ≡ s → ShowsOf N B u v
+  none-cut s v h c u e = with-shows N B u v (held-shows N B s v u h c (ap (λ y. segmentsOf N B y) e))
 
   compactions-cut : (k : ℕ) (s : Image) (v : View) → Held N B s v → Bytes s → CleanView N B v → length (v .slots) ≡ N - 1 → Carries v
-      → topNumber (compactUntilRoom N B k v .result) < numberLimit N → (u : Image) → Cut B (compactUntilRoom N B k v .steps) s u → SoundWith N B u v
+      → topNumber (compactUntilRoom N B k v .result) < numberLimit N → (u : Image) → Cut B (compactUntilRoom N B k v .steps) s u → ShowsOf N B u v
   compactions-cut zero s v h y c all carries below u cut = none-cut s v h c u (unfold compactUntilRoom in cut)
   compactions-cut (suc k) s v h y c all carries below u cut =
       go (hasRoom v) refl (λ t ht yt ct at bt d. compactions-cut k t (compactOldest N B v .result) ht yt ct at (carries-next N B v carries) bt u d)
@@ -38,8 +38,8 @@ module _ (N B : ℕ) where
       go : (t : Bool) → hasRoom v ≡ t
           → ((t : Image) → Held N B t (compactOldest N B v .result) → Bytes t → CleanView N B (compactOldest N B v .result) → length (compactOldest N B v .result .slots) ≡ N - 1
           → topNumber (compactUntilRoom N B k (compactOldest N B v .result) .result) < numberLimit N
-          → Cut B (compactUntilRoom N B k (compactOldest N B v .result) .steps) t u → SoundWith N B u (compactOldest N B v .result))
-          → SoundWith N B u v
+          → Cut B (compactUntilRoom N B k (compactOldest N B v .result) .steps) t u → ShowsOf N B u (compactOldest N B v .result))
+          → ShowsOf N B u v
       go true e ih = none-cut s v h c u (rw (until-room N B k v e) at cut)
       go false e ih =
           let t = tidied N B v c e in
@@ -54,14 +54,14 @@ module _ (N B : ℕ) where
           (cut-append B xs (compactUntilRoom N B k (compactOldest N B v .result) .steps) s u (rw m at cut))
 
   pub room-cut : (s : Image) (v : View) → Held N B s v → Bytes s → CleanView N B v → (hasRoom v ≡ false → Carries v) → topNumber (roomFor N B v .result) < numberLimit N
-      → (u : Image) → Cut B (roomFor N B v .steps) s u → SoundWith N B u v
+      → (u : Image) → Cut B (roomFor N B v .steps) s u → ShowsOf N B u v
   unfolding roomFor
   room-cut s v h y c carries below u cut = go (hasRoom v) (ltb (length (v .slots)) (N - 1)) refl refl below cut
     where
       chosen : Bool → Bool → Room
       chosen t w = cond t (record { steps = []; result = v }) (cond w (openNext N B v) (compactUntilRoom N B (N - 1) v))
 
-      go : (t w : Bool) → hasRoom v ≡ t → ltb (length (v .slots)) (N - 1) ≡ w → topNumber (chosen t w .result) < numberLimit N → Cut B (chosen t w .steps) s u → SoundWith N B u v
+      go : (t w : Bool) → hasRoom v ≡ t → ltb (length (v .slots)) (N - 1) ≡ w → topNumber (chosen t w .result) < numberLimit N → Cut B (chosen t w .steps) s u → ShowsOf N B u v
       go true w e k b d = none-cut s v h c u d
       go false true e k b d = open-cut N B s v h c (carries e) e (ltb-true (length (v .slots)) (N - 1) k) (omega (arith, opened-top N B v (c .some), b)) u d
       go false false e k b d = compactions-cut (N - 1) s v h y c (omega (arith, ltb-false (length (v .slots)) (N - 1) k, c .spare)) (carries e) b u d

@@ -14,6 +14,7 @@ use Rattle.model.specs.Header.{erasePending, compacted, numberBytes, inverted, 
 use Rattle.model.specs.Slot.{Entry}
 use Rattle.model.specs.State.{Segment, blank, inUse, segmentsOf, isOwing, numberAfter, nextNumber, topIndex, nextIndex, topVersion, versionIn, usedCount, View, viewOf, view, entries, entriesIn, isClean, nextBlanked, settled, topSettled, isB, caseB, unfinished, state}
 use Rattle.model.specs.Steps.{topNumber, hasRoom, headerAt, copied, nextVersion, compactOldest}
+use Rattle.model.specs.Histories.{shown}
 use Rattle.model.specs.Laws.Chip.{size-facts}
 use Rattle.model.specs.Laws.HeaderPage.{in-use-facts}
 use Rattle.model.specs.Laws.Tables.{agree-trans}
@@ -28,7 +29,7 @@ use Rattle.bridge.specs.Held.{Held, held-top, held-count, held-row, held-clean,
 use Rattle.bridge.specs.Done.{ring-closed, old-apart, compact-segments}
 use Rattle.bridge.specs.Requests.{row-fits, one-compaction, compacted-rows}
 use Rattle.crash.specs.Sound.{SoundAs}
-use Rattle.crash.specs.States.{isCase, mended, SoundWith}
+use Rattle.crash.specs.States.{isCase, mended, ShowsOf, SoundWith, with-shows}
 use Rattle.crash.specs.RecoverCount.{header-byte, other-part}
 use Rattle.crash.specs.OwingCuts.{both, both-length, Keeps, keeps-of}
 use Rattle.crash.specs.Recover.{case-state, case-shows}
@@ -155,6 +156,13 @@ module _ (N B : ℕ) (s : Image) (v : View) (f : Full N B s v) where
   unfolding compactOldest nextVersion newVersion isFormer
   new-former = sym (f .carries .second)
 
+  -- compacted, it shows what it showed
+  pub compacted-shows : (u : Image) → SoundWith N B u (compactOldest N B v .result) → ShowsOf N B u v
+  compacted-shows u k =
+      let w = compactOldest N B v .result in
+      let r = with-shows N B u w k in
+      (r .0, agree-trans (shown N B u) (entriesIn w) (entriesIn v) (r .1) (tidied N B v (f .clean) (f .noRoom) .table), r .2 ∙ new-former)
+
   owing-case : isCase N B owing caseB ≡ true
   unfolding isCase isB isOwing mended
   owing-case = rw (owing-top, owing-target, owing-mended, moved-used, moved-clean, eq-eqb (N - 1) (N - 1) refl)
@@ -162,7 +170,7 @@ module _ (N B : ℕ) (s : Image) (v : View) (f : Full N B s v) where
   -- ---- the image
 
   pub record Owing (u : Image) : Type 0 where
-    pub shows : SoundWith N B u v
+    pub shows : SoundWith N B u (compactOldest N B v .result)
     pub pending : state N B u ≡ unfinished caseB
     -- the number after the top's
     pub next : nextNumber (segmentsOf N B u) ≡ v .first + N
@@ -196,10 +204,8 @@ module _ (N B : ℕ) (s : Image) (v : View) (f : Full N B s v) where
 
     pub owing-left : Owing u
     owing-left =
-        let shows : SoundWith N B u (viewOf N moved) = case-shows N B u caseB z (rw e owing-case) moved (rw e owing-mended) owing-sound in
-        let kept : isFormer (viewOf N moved .version) ≡ isFormer (v .version) = ap (λ (y : View). isFormer (y .version)) moved-view ∙ new-former in
         record {
-          shows = (shows .0, agree-trans _ (entriesIn (viewOf N moved)) (entriesIn v) (shows .1) (rw moved-view (tidied N B v (f .clean) (f .noRoom) .table)), shows .2 ∙ kept);
+          shows = rw moved-view at (case-shows N B u caseB z (rw e owing-case) moved (rw e owing-mended) owing-sound);
           pending = case-state N B u caseB z (rw e owing-case);
           next = ap nextNumber e ∙ (owing-next ∙ sym turn);
           version = ap (λ y. topVersion N y) e ∙ owing-version;

@@ -7,8 +7,8 @@ use native.Mathlib.Omega.{arith}
 use lib.ListN.{length, getD, set}
 use lib.Seq.{set-set, set-getD, getD-set-same}
 use Rattle.model.specs.Chip.{Image, rightSize}
-use Rattle.model.specs.Header.{isFormer, allBlank}
-use Rattle.model.specs.State.{Segment, blank, invalid, segmentOf, segmentsOf, isInvalid, numberAfter, nextNumber, nextIndex, View, view, isClean, nextBlanked, isA, caseA, unfinished}
+use Rattle.model.specs.Header.{allBlank}
+use Rattle.model.specs.State.{Segment, blank, invalid, segmentOf, segmentsOf, isInvalid, numberAfter, nextNumber, nextIndex, View, viewOf, view, isClean, nextBlanked, isA, caseA, clean, unfinished}
 use Rattle.model.specs.Steps.{headerAt, topNumber}
 use Rattle.model.specs.Laws.Lists.{and-both}
 use Rattle.model.specs.Laws.HeaderPage.{bit-6-unused}
@@ -16,17 +16,17 @@ use Rattle.model.specs.Laws.Segments.{partOf, Only, only-segments}
 use Rattle.model.specs.Laws.Ring.{next-kept}
 use Rattle.model.specs.Laws.Clean.{index-inside}
 use Rattle.bridge.specs.Predicted.{CleanView}
-use Rattle.bridge.specs.Held.{Held, held-top, held-clean, clean-of-held, held-table}
+use Rattle.bridge.specs.Held.{Held, held-top, held-clean, clean-of-held}
 use Rattle.bridge.specs.Done.{next-free}
 use Rattle.crash.specs.Sound.{SoundAs}
-use Rattle.crash.specs.States.{isCase, mended, SoundWith, segments-show}
+use Rattle.crash.specs.States.{isCase, mended, SoundWith, segments-state, clean-with}
 use Rattle.crash.specs.RecoverCount.{header-byte}
 use Rattle.crash.specs.Recover.{case-shows}
 
 -- an image with the segments of a clean one that is held shows its view
 pub held-shows : (N B : ℕ) (s : Image) (v : View) (u : Image) → Held N B s v → CleanView N B v → segmentsOf N B u ≡ segmentsOf N B s → SoundWith N B u v
-held-shows N B s v u h c e = let r = segments-show N B s u (clean-of-held N B s v h c) e in
-    (r .0, rw (held-table N B s v h) at (r .1), r .2 ∙ ap (λ (y : View). isFormer (y .version)) (h .view))
+unfolding view
+held-shows N B s v u h c e = clean-with N B u v (segments-state N B s u clean e (clean-of-held N B s v h c)) (ap (λ y. viewOf N y) e ∙ h .view)
 
 -- bit 6 of a status byte
 abbrev pub BitSix : ℕ → Type 0

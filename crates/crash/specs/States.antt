@@ -1,9 +1,9 @@
--- The state of an image by its segments. The four unfinished cases alike: each passes its test, is mended to clean segments, and shows their table.
--- An image that is mended to the same shows the same.
+-- The state of an image by its segments. The four unfinished cases alike: each passes its test, is mended to clean segments, and is recovered to their rows.
+-- An image that is mended to the same is recovered to the same rows, and shows the same.
 use Prim.Native.Nat.{ℕ, _-_, _%_, _≤_, _<_}
 use mathlib.Core.Path.{_≡_, refl, sym, ap, _∙_, subst}
 use mathlib.Core.Bool.{Bool, true, false, cond, _&&_}
-use mathlib.Core.List.{List, [], _∷_}
+use mathlib.Core.List.{List, [], _∷_, flatten}
 use native.Mathlib.Omega.{arith}
 use native.Mathlib.Nat.{mod-lt}
 use lib.ListN.{length, getD, set, length-set}
@@ -11,8 +11,8 @@ use lib.Dec.{ltb, eqb}
 use Rattle.model.specs.Lists.{count}
 use Rattle.model.specs.Chip.{Image, rightSize, run}
 use Rattle.model.specs.Header.{isFormer}
-use Rattle.model.specs.Slot.{dead, cut, isTorn}
-use Rattle.model.specs.State.{Segment, blank, isInvalid, isOwing, segmentsOf, nextNumber, nextIndex, topIndex, topVersion, usedCount, View, viewOf, entriesIn, isClean, nextBlanked, isA, settled, topSettled, isB, withSlot, lastSlot, lastKind, tornMarked, isC, lastBlock, copies, older, olderMarked, isD, Exception, caseA, caseB, caseC, caseD, State, clean, unfinished, damaged, stateOf, state, view}
+use Rattle.model.specs.Slot.{Slot, dead, cut, isTorn}
+use Rattle.model.specs.State.{Segment, blank, isInvalid, isOwing, segmentsOf, nextNumber, nextIndex, topIndex, topVersion, usedCount, View, viewOf, entries, entriesIn, isClean, nextBlanked, isA, settled, topSettled, isB, withSlot, lastSlot, lastKind, tornMarked, isC, lastBlock, copies, older, olderMarked, isD, Exception, caseA, caseB, caseC, caseD, State, clean, unfinished, damaged, stateOf, state, view}
 use Rattle.model.specs.Steps.{mendSteps, recoverSteps}
 use Rattle.model.specs.Table.{Table, Agree, tableOf}
 use Rattle.model.specs.Answers.{recover, isDamaged, firstOf, refusals, stepsFor, workOn, workOf}
@@ -23,9 +23,10 @@ use Rattle.model.specs.Laws.Segments.{segments-length}
 use Rattle.model.specs.Laws.Tables.{agree-of, agree-trans}
 use Rattle.model.specs.Laws.Clean.{clean-state}
 use Rattle.model.specs.Laws.Exclusive.{exclusive}
+use Rattle.model.specs.Laws.Counted.{SameRows}
 use Rattle.crash.specs.Sound.{SoundAs, Sound, Clean, formerIn, formerShown, DoneWith}
-use Rattle.crash.specs.Requests.{shown-clean, former-clean, sound-clean}
-use Rattle.crash.specs.Alike.{Like, like-entries, like-clean, like-former}
+use Rattle.crash.specs.Requests.{recovered-clean, shown-clean, former-clean, sound-clean}
+use Rattle.crash.specs.Alike.{Like, like-rows, like-clean, like-former}
 
 -- ---- the cases
 
@@ -138,22 +139,44 @@ abbrev pub Shows : ℕ → ℕ → Image → Table → Bool → Type 0
 Shows N B u t f = Sound N B u × Agree (shown N B u) t × (formerShown N B u ≡ f)
 
 -- what a view holds
-abbrev pub SoundWith : ℕ → ℕ → Image → View → Type 0
-SoundWith N B u v = Shows N B u (entriesIn v) (isFormer (v .version))
+abbrev pub ShowsOf : ℕ → ℕ → Image → View → Type 0
+ShowsOf N B u v = Shows N B u (entriesIn v) (isFormer (v .version))
 
--- what is promised of an image that a cut recovery left
+-- the view of the image that a finished recovery leaves
+abbrev pub recoveredView : ℕ → ℕ → Image → View
+recoveredView N B u = view N B (recovered N B u)
+
+-- sound, and a finished recovery leaves the rows of this view, with version 1 or not
+abbrev pub SoundWith : ℕ → ℕ → Image → View → Type 0
+SoundWith N B u v = Sound N B u × SameRows (recoveredView N B u) v × (formerShown N B u ≡ isFormer (v .version))
+
+-- what is promised of an image that a cut recovery left: a finished one leaves what it would have left
 abbrev pub Kept : ℕ → ℕ → Image → Image → Type 0
-Kept N B s u = Shows N B u (shown N B s) (formerShown N B s)
+Kept N B s u = SoundWith N B u (recoveredView N B s)
+
+rows-sym : (v w : View) → SameRows v w → SameRows w v
+rows-sym v w a = (sym (a .0), sym (a .1))
+
+pub rows-trans : (v w x : View) → SameRows v w → SameRows w x → SameRows v x
+rows-trans v w x a b = (a .0 ∙ b .0, a .1 ∙ b .1)
+
+pub rows-table : (N B : ℕ) (u : Image) (v : View) → SameRows (recoveredView N B u) v → shown N B u ≡ entriesIn v
+unfolding shown tableOf entriesIn
+rows-table N B u v r = ap (λ (y : List (List Slot)). entries (flatten y)) (r .1)
+
+pub with-shows : (N B : ℕ) (u : Image) (v : View) → SoundWith N B u v → ShowsOf N B u v
+with-shows N B u v r = (r .0, agree-of (shown N B u) (entriesIn v) (rows-table N B u v (r .1)), r .2)
+
+pub kept-shows : (N B : ℕ) (s u : Image) → Kept N B s u → Shows N B u (shown N B s) (formerShown N B s)
+unfolding shown tableOf
+kept-shows N B s u k = with-shows N B u (recoveredView N B s) k
 
 pub kept-same : (N B : ℕ) (s u : Image) → Sound N B s → u ≡ s → Kept N B s u
-kept-same N B s u h e = subst (λ (y : Image). Kept N B s y) (sym e) (h, agree-of (shown N B s) (shown N B s) refl, refl)
+kept-same N B s u h e = subst (λ (y : Image). Kept N B s y) (sym e) (h, (refl, refl), refl)
 
 -- of an image that keeps what another keeps, and so on
-pub kept-trans : (N B : ℕ) (s u w : Image) → Kept N B s u → Kept N B u w → Kept N B s w
-kept-trans N B s u w a b = (b .0, agree-trans (shown N B w) (shown N B u) (shown N B s) (b .1) (a .1), b .2 ∙ a .2)
-
-pub kept-shows : (N B : ℕ) (s u : Image) (t : Table) (f : Bool) → Shows N B s t f → Kept N B s u → Shows N B u t f
-kept-shows N B s u t f a b = (b .0, agree-trans (shown N B u) (shown N B s) t (b .1) (a .1), b .2 ∙ a .2)
+pub kept-with : (N B : ℕ) (s u : Image) (v : View) → SoundWith N B s v → Kept N B s u → SoundWith N B u v
+kept-with N B s u v a b = (b .0, rows-trans (recoveredView N B u) (recoveredView N B s) v (b .1) (a .1), b .2 ∙ a .2)
 
 -- a clean image with this table shows it
 pub clean-shows : (N B : ℕ) (u : Image) (t : Table) (f : Bool) → DoneWith N B u t f → Shows N B u t f
@@ -163,7 +186,7 @@ clean-shows N B u t f d = (
   former-clean N B u (d .0) ∙ d .2,
 )
 
--- the state and the table are those of the segments
+-- the state, the table and the version are those of the segments
 pub segments-state : (N B : ℕ) (s u : Image) (x : State) → segmentsOf N B u ≡ segmentsOf N B s → state N B s ≡ x → state N B u ≡ x
 unfolding state
 segments-state N B s u x e h = ap (λ y. stateOf N B y) e ∙ h
@@ -176,13 +199,11 @@ pub former-in : (N B : ℕ) (s : Image) (l : List Segment) → segmentsOf N B s 
 unfolding view viewOf
 former-in N B s l e = ap (λ (y : List Segment). isFormer (topVersion N y)) e
 
--- an image with the segments of a clean one is clean, with its table
-pub segments-show : (N B : ℕ) (s u : Image) → Clean N B s → segmentsOf N B u ≡ segmentsOf N B s → Shows N B u (tableOf N B s) (formerIn N B s)
-segments-show N B s u h e = clean-shows N B u (tableOf N B s) (formerIn N B s) (
-  segments-state N B s u clean e h,
-  agree-of (tableOf N B u) (tableOf N B s) (table-in N B u (segmentsOf N B s) e ∙ sym (table-in N B s (segmentsOf N B s) refl)),
-  former-in N B u (segmentsOf N B s) e ∙ sym (former-in N B s (segmentsOf N B s) refl),
-)
+-- a clean image is recovered as it is
+pub clean-with : (N B : ℕ) (u : Image) (v : View) → Clean N B u → view N B u ≡ v → SoundWith N B u v
+clean-with N B u v h e =
+    let q : recoveredView N B u ≡ v = ap (λ y. view N B y) (recovered-clean N B u h) ∙ e in
+    (sound-clean N B u h, (ap (λ (y : View). y .first) q, ap (λ (y : View). y .slots) q), ap (λ (y : View). isFormer (y .version)) q)
 
 -- an image has been recovered to the mended segments of the case, but for what was counted in the top
 abbrev pub Mended : ℕ → ℕ → Image → Exception → Type 0
@@ -209,35 +230,41 @@ module _ (N B : ℕ) (s : Image) (x : Exception) (z : rightSize N B s ≡ true) 
   inside : topIndex N mends < length mends
   inside = mended-inside N B s x z
 
+  pub mended-rows : SameRows (recoveredView N B s) (viewOf N (mended N (segmentsOf N B s) x))
+  unfolding view
+  mended-rows = like-rows N mends (segmentsOf N B (recovered N B s)) m inside
+
   pub mended-shown : shown N B s ≡ entriesIn (viewOf N (mended N (segmentsOf N B s) x))
-  unfolding shown
-  mended-shown = table-in N B (recovered N B s) (segmentsOf N B (recovered N B s)) refl ∙ like-entries N mends (segmentsOf N B (recovered N B s)) m inside
+  mended-shown = rows-table N B s (viewOf N mends) mended-rows
 
   pub mended-former : formerShown N B s ≡ isFormer (topVersion N (mended N (segmentsOf N B s) x))
   mended-former = former-in N B (recovered N B s) (segmentsOf N B (recovered N B s)) refl ∙ like-former N mends (segmentsOf N B (recovered N B s)) m inside
 
-  -- an image with the mended segments is clean, and shows the same
+  -- an image with the mended segments is clean, and has the same rows
   clean-like : (u : Image) → Like N (mended N (segmentsOf N B s) x) (segmentsOf N B u) → Clean N B u
   unfolding state
   clean-like u q = clean-state N B (segmentsOf N B u) (like-clean N mends (segmentsOf N B u) q inside B ∙ mended-clean N B (segmentsOf N B s) x (case-of N B (segmentsOf N B s) x e))
 
   pub kept-clean : (u : Image) → Like N (mended N (segmentsOf N B s) x) (segmentsOf N B u) → Kept N B s u
-  kept-clean u q = clean-shows N B u (shown N B s) (formerShown N B s) (
-    clean-like u q,
-    agree-of (tableOf N B u) (shown N B s) (table-in N B u (segmentsOf N B u) refl ∙ (like-entries N mends (segmentsOf N B u) q inside ∙ sym mended-shown)),
-    former-in N B u (segmentsOf N B u) refl ∙ (like-former N mends (segmentsOf N B u) q inside ∙ sym mended-former),
-  )
+  kept-clean u q =
+      let r = clean-with N B u (view N B u) (clean-like u q) refl in
+      let rows : SameRows (view N B u) (viewOf N mends) = (unfold view in like-rows N mends (segmentsOf N B u) q inside) in (
+        r .0,
+        rows-trans (recoveredView N B u) (view N B u) (recoveredView N B s) (r .1) (rows-trans (view N B u) (viewOf N mends) (recoveredView N B s) rows (rows-sym (recoveredView N B s) (viewOf N mends) mended-rows)),
+        r .2 ∙ (former-in N B u (segmentsOf N B u) refl ∙ (like-former N mends (segmentsOf N B u) q inside ∙ sym mended-former)),
+      )
 
   pub done : Clean N B (recovered N B s)
   done = clean-like (recovered N B s) m
 
--- an image in the same case with the same mended segments, but for what was counted, shows the same
+-- an image in the same case with the same mended segments, but for what was counted, is recovered to the same rows
 pub kept-case : (N B : ℕ) (s u : Image) (x : Exception) → rightSize N B s ≡ true → rightSize N B u ≡ true → state N B s ≡ unfinished x → Mended N B s x → state N B u ≡ unfinished x → Mended N B u x
     → Like N (mended N (segmentsOf N B s) x) (mended N (segmentsOf N B u) x) → SoundAs N B u (segmentsOf N B u) (unfinished x) → Kept N B s u
 kept-case N B s u x z zu e m f n q h =
     let ms = mended N (segmentsOf N B s) x in
     let mu = mended N (segmentsOf N B u) x in (
       subst (λ y. SoundAs N B u (segmentsOf N B u) y) (sym f) h,
-      agree-of (shown N B u) (shown N B s) (mended-shown N B u x zu f n ∙ (like-entries N ms mu q (mended-inside N B s x z) ∙ sym (mended-shown N B s x z e m))),
+      rows-trans (recoveredView N B u) (viewOf N mu) (recoveredView N B s) (mended-rows N B u x zu f n)
+          (rows-trans (viewOf N mu) (viewOf N ms) (recoveredView N B s) (like-rows N ms mu q (mended-inside N B s x z)) (rows-sym (recoveredView N B s) (viewOf N ms) (mended-rows N B s x z e m))),
       mended-former N B u x zu f n ∙ (like-former N ms mu q (mended-inside N B s x z) ∙ sym (mended-former N B s x z e m)),
     )

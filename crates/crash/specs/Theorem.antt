@@ -15,6 +15,7 @@ use Rattle.bridge.specs.Format.{format-done, fresh-table}
 use Rattle.crash.specs.Demand2.{Demand2, FromClean, FromFormer, FromFormerLeft}
 use Rattle.crash.specs.Sound.{Clean, finished, Accepted, formerIn, DoneWith, RequestLaws}
 use Rattle.crash.specs.Starts.{demand2-from, clean-from, former-from, former-left-from}
+use Rattle.crash.specs.States.{kept-shows}
 use Rattle.crash.specs.Recover.{recover-done, recover-cut}
 use Rattle.crash.specs.Read.{read-done}
 use Rattle.crash.specs.Delete.{finished-delete, delete-cut}
@@ -43,7 +44,7 @@ module _ (N B : ℕ) where
     delete-cut = λ s u b z h a c. delete-cut N B s b z h a u c;
     read-done = read-done N B;
     recover-done = recover-done N B;
-    recover-cut = recover-cut N B;
+    recover-cut = λ s u z h c. kept-shows N B s u (recover-cut N B s u z h c);
   }
 
 pub demand2 : Demand2

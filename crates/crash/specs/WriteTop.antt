@@ -31,7 +31,7 @@ use Rattle.bridge.specs.Held.{Held, held-first, held-top, held-row, held-clean,
 use Rattle.bridge.specs.Requests.{write-top-held, put-version, put-held}
 use Rattle.crash.specs.Sound.{LeftWith}
 use Rattle.crash.specs.Tops.{SameTop, same-image, same-trans, same-slot}
-use Rattle.crash.specs.States.{isCase, mended, SoundWith, kept-shows}
+use Rattle.crash.specs.States.{isCase, mended, SoundWith, with-shows, kept-with}
 use Rattle.crash.specs.RoomTorn.{held-shows}
 use Rattle.crash.specs.RecoverMarks.{Marks, live-place, live-marks, mark-segments, mark-whole}
 use Rattle.crash.specs.Recover.{case-steps, case-shows, recover-cut}
@@ -131,7 +131,7 @@ module _ (N B : ℕ) (s : Image) (v : View) (h : Held N B s v) (clean : CleanVie
 
   -- ---- torn: state (c), with the old table
 
-  abbrev cutView : View
+  abbrev pub cutView : View
   cutView = record { first = v .first; slots = fill (gap .gap) cut; version = v .version }
 
   -- a cut slot holds no more than an empty one
@@ -153,9 +153,8 @@ module _ (N B : ℕ) (s : Image) (v : View) (h : Held N B s v) (clean : CleanVie
   torn-case = and-both (isTorn (lastKind N (changed torn))) (isClean N B (tornMarked N (changed torn))) (ap isTorn (changed-last torn refl))
       (ap (λ y. isClean N B y) torn-mended ∙ segments-clean N B (changed cut) (slot-ring N segments (h .ring) n j cut low high) (rw (changed-view cut) cut-clean))
 
-  torn-left : (u : Image) → rightSize N B u ≡ true → segmentsOf N B u ≡ changed torn → SoundWith N B u v
-  torn-left u z e = let r = case-shows N B u caseC z (rw e torn-case) (changed cut) (rw e torn-mended) tt in
-      (r .0, rw (ap entriesIn (changed-view cut) ∙ cut-entries) at (r .1), r .2 ∙ ap (λ (y : View). isFormer (y .version)) (changed-view cut))
+  torn-left : (u : Image) → rightSize N B u ≡ true → segmentsOf N B u ≡ changed torn → SoundWith N B u cutView
+  torn-left u z e = rw (changed-view cut) at (case-shows N B u caseC z (rw e torn-case) (changed cut) (rw e torn-mended) tt)
 
   -- ---- live: clean if the block was not stored, and state (d) if it was, with the new table
 
@@ -242,16 +241,17 @@ module _ (N B : ℕ) (s : Image) (v : View) (h : Held N B s v) (clean : CleanVie
         let p = rw (empty-page N B (size .two) s (size .whole) n j (top-segment .0) (top-segment .1) n (row empty) inside (top-segment .2) (row-at empty)) at (x .1) in
         (slotOf (x .0), write-cut-kind B b c (x .0) valid p, x .2)
 
-    write-cut : (u : Image) → Cut B (writeAtTop N B b c v) s u → LeftWith N B u (entriesIn v) (entriesIn (putInto b c v)) (isFormer (v .version))
+    -- what a recovery makes of it: nothing written, a cut slot, or the block put
+    abbrev pub LeftPut : Image → Type 0
+    LeftPut u = SoundWith N B u v ⊎ (SoundWith N B u cutView ⊎ SoundWith N B u (putInto b c v))
+
+    write-cut : (u : Image) → Cut B (writeAtTop N B b c v) s u → LeftPut u
     write-cut u k =
         let z = cut-size N B (writeAtTop N B b c v) s u k ∙ h .size in
         let (x, q, e) = write-left u k in
         ⊎-elim
-        (λ d. let r = held-shows N B s v u h clean ((rw d at e) ∙ changed-same) in (r .0, inl (r .1), r .2))
-        (λ w. ⊎-elim
-        (λ d. let r = torn-left u z (rw d at e) in (r .0, inl (r .1), r .2))
-        (λ d. let r = live-left u z ((rw d at e) ∙ sym wrote-segments) in (r .0, inr (r .1), r .2 ∙ put-version b c v))
-        w)
+        (λ d. inl (held-shows N B s v u h clean ((rw d at e) ∙ changed-same)))
+        (λ w. inr (⊎-elim (λ d. inl (torn-left u z (rw d at e))) (λ d. inr (live-left u z ((rw d at e) ∙ sym wrote-segments))) w))
         q
 
     -- the old slot is marked or not
@@ -275,7 +275,7 @@ module _ (N B : ℕ) (s : Image) (v : View) (h : Held N B s v) (clean : CleanVie
         go : (t : Bool) → holds b (entriesIn v) ≡ t → Cut B (cond t (markPlace N B (placeOf b v)) []) wrote u → SoundWith N B u (putInto b c v)
         go true e d =
             let w = stored-left e wrote (wrote-held .size) refl in
-            kept-shows N B wrote u (entriesIn (putInto b c v)) (isFormer (putInto b c v .version)) w (recover-cut N B wrote u (wrote-held .size) (w .0) (rw (stored-steps e) d))
+            kept-with N B wrote u (putInto b c v) w (recover-cut N B wrote u (wrote-held .size) (w .0) (rw (stored-steps e) d))
         go false e d = new-left e u (ap (λ y. segmentsOf N B y) d)
 
     -- the top is the same
@@ -288,5 +288,14 @@ module _ (N B : ℕ) (s : Image) (v : View) (h : Held N B s v) (clean : CleanVie
         mark-top : Cut B (markOld N B b v) wrote u → SameTop N B wrote u
         mark-top d = ⊎-elim (λ q. same-image N B wrote u q) (λ q. same-slot N B wrote u (placeOf b v .number % N) (placeOf b v .slot) dead q) (mark-left u d)
 
+    pub put-into-left : (u : Image) → Cut B (writeAtTop N B b c v ++ markOld N B b v) s u → LeftPut u
+    put-into-left u k = ⊎-elim (λ d. write-cut u d) (λ d. inr (inr (mark-cut u d))) (cut-append B (writeAtTop N B b c v) (markOld N B b v) s u k)
+
     pub put-into-cut : (u : Image) → Cut B (writeAtTop N B b c v ++ markOld N B b v) s u → LeftWith N B u (entriesIn v) (entriesIn (putInto b c v)) (isFormer (v .version))
-    put-into-cut u k = ⊎-elim (λ d. write-cut u d) (λ d. let r = mark-cut u d in (r .0, inr (r .1), r .2 ∙ put-version b c v)) (cut-append B (writeAtTop N B b c v) (markOld N B b v) s u k)
+    put-into-cut u k = ⊎-elim
+        (λ d. let r = with-shows N B u v d in (r .0, inl (r .1), r .2))
+        (λ w. ⊎-elim
+        (λ d. let r = with-shows N B u cutView d in (r .0, inl (rw cut-entries at (r .1)), r .2))
+        (λ d. let r = with-shows N B u (putInto b c v) d in (r .0, inr (r .1), r .2 ∙ put-version b c v))
+        w)
+        (put-into-left u k)

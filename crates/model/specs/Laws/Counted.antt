@@ -12,7 +12,7 @@ use Rattle.model.specs.Lists.{all}
 use Rattle.model.specs.Chip.{Image, Page, Bytes, pagesOf, program, erased, clear, step, run, mostSegments, numberLimit, imageLength, Cut}
 use Rattle.model.specs.Header.{numberBytes, inverted, Version, version1, version2, versionNumber, totalFits, tallyBytes, headerPage, headerStatus, headerNumber, oldIndex}
 use Rattle.model.specs.Slot.{Slot}
-use Rattle.model.specs.State.{Segment, blank, invalid, inUse, segmentOf, segmentsOf, isInUse, isInvalid, isOwing, numberAfter, slotsIn, versionIn, ofVersion, nextNumber, usedCount, firstNumber, viewOf, entriesIn, someInUse, consecutive, noneOwing, othersBlank, noneWrongOrTorn, blocksDistinct, emptySlotsLast, withinCapacity, conditions, isClean}
+use Rattle.model.specs.State.{Segment, blank, invalid, inUse, segmentOf, segmentsOf, isInUse, isInvalid, isOwing, numberAfter, slotsIn, versionIn, ofVersion, nextNumber, usedCount, firstNumber, View, viewOf, entriesIn, someInUse, consecutive, noneOwing, othersBlank, noneWrongOrTorn, blocksDistinct, emptySlotsLast, withinCapacity, conditions, isClean}
 use Rattle.model.specs.Steps.{onPage, headerAt, highestBit, clearNext, countErase}
 use Rattle.model.specs.Laws.Lists.{all-same}
 use Rattle.model.specs.Laws.Bytes.{chunk-bytes, bytes-behind}
@@ -208,6 +208,10 @@ module _ (N B : ℕ) (two : 2 ≤ N) (most : N ≤ mostSegments) (mostB : B < 25
 
 -- ---- segments alike but for the bits
 
+-- views with the same smallest number and the same slots
+abbrev pub SameRows : View → View → Type 0
+SameRows v w = (v .first ≡ w .first) × (v .slots ≡ w .slots)
+
 module _ (e : Version) where
   pub withVersion-number : (x : Segment) → numberAfter (withVersion e x) ≡ numberAfter x
   unfolding withVersion numberAfter
@@ -255,20 +259,20 @@ module _ (e : Version) where
     pub alike-next : nextNumber (set l i (withVersion e (getD l i blank))) ≡ nextNumber l
     alike-next = next-kept l i (withVersion e (getD l i blank)) (withVersion-number (getD l i blank))
 
-    alike-rows : viewOf N alike .slots ≡ viewOf N l .slots
+    alike-slots : viewOf N alike .slots ≡ viewOf N l .slots
     unfolding viewOf firstNumber
-    alike-rows = rw (alike-used, alike-next) (slots-kept N i (withVersion e (getD l i blank)) l (usedCount l) (nextNumber l - usedCount l) (withVersion-slots (getD l i blank)))
+    alike-slots = rw (alike-used, alike-next) (slots-kept N i (withVersion e (getD l i blank)) l (usedCount l) (nextNumber l - usedCount l) (withVersion-slots (getD l i blank)))
 
-    -- the table is the same
-    pub alike-entries : entriesIn (viewOf N (set l i (withVersion e (getD l i blank)))) ≡ entriesIn (viewOf N l)
-    unfolding entriesIn
-    alike-entries = rw alike-rows
+    -- the rows are the same, and so is the table
+    pub alike-rows : SameRows (viewOf N (set l i (withVersion e (getD l i blank)))) (viewOf N l)
+    unfolding viewOf firstNumber
+    alike-rows = (rw (alike-used, alike-next), alike-slots)
 
     -- and it is clean if it was
     pub alike-clean : (B : ℕ) → versionNumber e ≡ versionNumber (versionIn (getD l i blank)) → isClean N B (set l i (withVersion e (getD l i blank))) ≡ isClean N B l
     unfolding isClean conditions someInUse consecutive firstNumber noneOwing othersBlank noneWrongOrTorn blocksDistinct entriesIn emptySlotsLast withinCapacity
     alike-clean B q = let x = getD l i blank in rw (
-      alike-rows,
+      alike-slots,
       alike-used,
       alike-next,
       numbers-kept N i (withVersion e x) l (usedCount l) (nextNumber l - usedCount l) (withVersion-number x),
