@@ -91,7 +91,8 @@ unfolding turns
 turns-length N zero = refl
 turns-length N (suc e) = omega (arith, length-append (turns N e) (e % N ∷ []), turns-length N e)
 
-abbrev erasesAt : ℕ → ℕ → ℕ → ℕ
+-- of the index i
+abbrev pub erasesAt : ℕ → ℕ → ℕ → ℕ
 erasesAt N e i = count (λ x. eqb i x) (turns N e)
 
 one-more : (N e i w : ℕ) → e % N ≡ w → i ≡ w → erasesAt N (suc e) i ≡ suc (erasesAt N e i)

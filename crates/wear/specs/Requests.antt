@@ -7,7 +7,7 @@ use native.Mathlib.Omega.{arith}
 use native.Mathlib.Nat.{mul-le-mul-right, div-le-of-le-mul}
 use lib.ListN.{length, replicate}
 use lib.Dec.{eqb}
-use Rattle.model.specs.Slot.{empty, dead, live, isDead}
+use Rattle.model.specs.Slot.{Slot, empty, dead, live, isDead}
 use Rattle.model.specs.State.{View, entriesIn, holds, distinct, blocksDistinct, Place, placeOf}
 use Rattle.model.specs.Steps.{topRow, topNumber, firstEmpty, roomFor, putSteps, writeAtTop, markOld, deleteSteps}
 use Rattle.model.specs.Table.{Table, blocks, Agree}
@@ -15,7 +15,7 @@ use Rattle.model.specs.Answers.{put, delete}
 use Rattle.model.specs.Sequences.{Observed, erasesIn, among, removed, inserted, storedAfter, replaces, Ledger, start, noted, eraseCount, erasesOf}
 use Rattle.model.specs.Laws.Lists.{one}
 use Rattle.model.specs.Laws.Tables.{agree-holds}
-use Rattle.bridge.specs.Predicted.{slotChanged, written, marked, afterPut, afterDelete, fresh, CleanView}
+use Rattle.bridge.specs.Predicted.{slotChanged, written, marked, putInto, afterPut, afterDelete, fresh, CleanView}
 use Rattle.bridge.specs.Views.Slots.{copied-none}
 use Rattle.bridge.specs.Views.Room.{room-made}
 use Rattle.bridge.specs.Views.Requests.{put-stores, delete-removes}
@@ -89,35 +89,35 @@ module _ (N B : ℕ) where
       rw (e, s, r) (tracks-counted v t (t .stored) 0 [] (append-nil (t .erased) ∙ h .inTurn) (h .stored)
       (paid-after ((N - 1) * B - t .largest) (t .replaced + 0) 0 (v .slots) (omega arith) (omega arith) (λ q. omega arith) p))
 
-  -- a slot marked dead, and one written
-  paid-marked : {X E R : ℕ} (S : ℕ) (p : Place) (v : View) → R + 1 ≤ S → Paid (N - 1) X E (v .slots) R → Paid (N - 1) X E (marked p v .slots) S
-  unfolding marked slotChanged isDead one
-  paid-marked {X} S p v r h = paid-after X S 1 _ (omega arith) r (λ q. set-slot q (v .slots) (p .number - v .first) (p .slot) dead) h
+  -- a slot changed: one that becomes dead is to be paid for
+  pub paid-changed : {X E R : ℕ} (S n j : ℕ) (k : Slot) (v : View) → R + one (isDead k) ≤ S → Paid (N - 1) X E (v .slots) R → Paid (N - 1) X E (slotChanged n j k v .slots) S
+  unfolding slotChanged
+  paid-changed {X} S n j k v r h = paid-after X S (one (isDead k)) _ (omega arith) r (λ q. set-slot q (v .slots) (n - v .first) j k) h
 
-  paid-written : {X E R : ℕ} (S b : ℕ) (c : List ℕ) (v : View) → R ≤ S → Paid (N - 1) X E (v .slots) R → Paid (N - 1) X E (written b c v .slots) S
-  unfolding written slotChanged isDead one
-  paid-written {X} S b c v r h = paid-after X S 0 _ (omega arith) (omega arith) (λ q. set-slot q (v .slots) (topNumber v - v .first) (firstEmpty (topRow (v .slots))) (live b c)) h
+  pub paid-marked : {X E R : ℕ} (p : Place) (v : View) → Paid (N - 1) X E (v .slots) R → Paid (N - 1) X E (marked p v .slots) (R + 1)
+  unfolding marked isDead one
+  paid-marked {R = R} p v h = paid-changed (R + 1) (p .number) (p .slot) dead v (omega arith) h
 
-  -- the view after a put: no segment is erased once there is room
-  put-first : (v : View) (b : ℕ) (c : List ℕ) → afterPut N B b c v .first ≡ roomFor N B v .result .first
-  unfolding afterPut marked written slotChanged
-  put-first v b c = go (holds b (entriesIn (roomFor N B v .result)))
+  paid-written : {X E R : ℕ} (b : ℕ) (c : List ℕ) (v : View) → Paid (N - 1) X E (v .slots) R → Paid (N - 1) X E (written b c v .slots) R
+  unfolding written isDead one
+  paid-written {R = R} b c v h = paid-changed R (topNumber v) (firstEmpty (topRow (v .slots))) (live b c) v (omega arith) h
+
+  -- the view after a put where there is room: no segment is erased
+  pub put-first : (r : View) (b : ℕ) (c : List ℕ) → putInto b c r .first ≡ r .first
+  unfolding marked written slotChanged
+  put-first r b c = go (holds b (entriesIn r))
     where
-      go : (u : Bool) → (cond u (marked (placeOf b (roomFor N B v .result)) (written b c (roomFor N B v .result))) (written b c (roomFor N B v .result))) .first ≡ roomFor N B v .result .first
+      go : (u : Bool) → (cond u (marked (placeOf b r) (written b c r)) (written b c r)) .first ≡ r .first
       go true = refl
       go false = refl
 
-  put-paid : {X R : ℕ} (v : View) (b : ℕ) (c : List ℕ) → Paid (N - 1) X (roomFor N B v .result .first) (roomFor N B v .result .slots) R
-      → Paid (N - 1) X (afterPut N B b c v .first) (afterPut N B b c v .slots) (R + cond (holds b (entriesIn (roomFor N B v .result))) 1 0)
-  unfolding afterPut
-  put-paid {X} {R} v b c h = rw (put-first v b c) (go (holds b (entriesIn r)))
+  pub put-paid : {X R : ℕ} (r : View) (b : ℕ) (c : List ℕ) → Paid (N - 1) X (r .first) (r .slots) R
+      → Paid (N - 1) X (putInto b c r .first) (putInto b c r .slots) (R + cond (holds b (entriesIn r)) 1 0)
+  put-paid {X} {R} r b c h = rw (put-first r b c) (go (holds b (entriesIn r)))
     where
-      r : View
-      r = roomFor N B v .result
-
       go : (u : Bool) → Paid (N - 1) X (r .first) ((cond u (marked (placeOf b r) (written b c r)) (written b c r)) .slots) (R + cond u 1 0)
-      go true = paid-marked (R + 1) (placeOf b r) (written b c r) (omega arith) (paid-written R b c r (omega arith) h)
-      go false = paid-written (R + 0) b c r (omega arith) h
+      go true = paid-marked (placeOf b r) (written b c r) (paid-written b c r h)
+      go false = let e : R + 0 ≡ R = omega arith in rw e (paid-written b c r h)
 
   few-live : (v : View) (t : Ledger) → CleanView N B v → Tracks N B v t → length (entriesIn v) ≤ t .largest
   unfolding blocksDistinct
@@ -137,11 +137,11 @@ module _ (N B : ℕ) where
 
   pub tracks-put : 2 ≤ N → 2 ≤ B → (v : View) (t : Ledger) (b : ℕ) (c : List ℕ) → CleanView N B v → Tracks N B v t
       → Tracks N B (afterPut N B b c v) (noted (record { request = put b c; code = 0; erases = erasesIn (putSteps N B b c v) }) t)
-  unfolding noted storedAfter replaces counted
+  unfolding noted storedAfter replaces counted afterPut
   tracks-put two slots v t b c cv h = tracks-counted (afterPut N B b c v) t (inserted b (t .stored)) (cond (among b (t .stored)) 1 0) (erasesIn (putSteps N B b c v))
-      (rw (h .inTurn, put-erases v b c, put-first v b c) (put-moved v t cv h .inTurn))
+      (rw (h .inTurn, put-erases v b c, put-first (roomFor N B v .result) b c) (put-moved v t cv h .inTurn))
       (stored-put (t .stored) (entriesIn v) (entriesIn (afterPut N B b c v)) b c (h .stored) (put-stores N B two slots v b c cv))
-      (rw (h .stored .same b, ← agree-holds _ _ (room-made N B two slots v cv .table) b) (put-paid v b c (put-moved v t cv h .paid)))
+      (rw (h .stored .same b, ← agree-holds _ _ (room-made N B two slots v cv .table) b) (put-paid (roomFor N B v .result) b c (put-moved v t cv h .paid)))
 
   pub tracks-delete : (v : View) (t : Ledger) (b : ℕ) → CleanView N B v → holds b (entriesIn v) ≡ true → Tracks N B v t
       → Tracks N B (afterDelete b v) (noted (record { request = delete b; code = 0; erases = erasesIn (deleteSteps N B b v) }) t)
@@ -149,4 +149,4 @@ module _ (N B : ℕ) where
   tracks-delete v t b cv held h = tracks-counted (afterDelete b v) t (removed b (t .stored)) 1 (erasesIn (deleteSteps N B b v))
       (rw (delete-none N B b v) (append-nil (t .erased) ∙ h .inTurn))
       (stored-delete (t .stored) (entriesIn v) (entriesIn (afterDelete b v)) b (h .stored) (delete-removes N B v b cv held))
-      (paid-marked (t .replaced + 1) (placeOf b v) v (omega arith) (h .paid))
+      (paid-marked (placeOf b v) v (h .paid))

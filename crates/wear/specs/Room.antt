@@ -38,7 +38,7 @@ module _ (n B L R : ℕ) where
   abbrev Good : ℕ → List (List Slot) → Type 0
   Good E rows = Paid n (n * B - L) E rows R
 
-  paid-open : (E : ℕ) (rows : List (List Slot)) → Good E rows → Good E (rows ++ (replicate B empty ∷ []))
+  pub paid-open : (E : ℕ) (rows : List (List Slot)) → Good E rows → Good E (rows ++ (replicate B empty ∷ []))
   paid-open E rows v = paid-after (n * B - L) R 0 _ (omega arith) (omega arith) (λ p. omega (arith, drop-behind p rows (replicate B empty) (rw (copied-none B) (copied-dead B [])))) v
 
   -- the oldest is tidied. At a boundary all segments are full and at most L slots are live, so that nB - L or more are dead
@@ -64,7 +64,7 @@ pub record Moved (N B L R most : ℕ) (v : View) (r : Room) : Type 0 where
   pub paid : Paid (N - 1) ((N - 1) * B - L) (r .result .first) (r .result .slots) R
 
 module _ (N B L R : ℕ) where
-  abbrev PaidView : View → Type 0
+  abbrev pub PaidView : View → Type 0
   PaidView v = Paid (N - 1) ((N - 1) * B - L) (v .first) (v .slots) R
 
   -- no step
@@ -88,17 +88,17 @@ module _ (N B L R : ℕ) where
       }
 
   -- N-1 segments in use, and at most L slots live
-  record Ready (v : View) : Type 0 where
-    clean : CleanView N B v
-    all : length (v .slots) ≡ N - 1
-    few : length (entriesIn v) ≤ L
-    paid : PaidView v
+  pub record Ready (v : View) : Type 0 where
+    pub clean : CleanView N B v
+    pub all : length (v .slots) ≡ N - 1
+    pub few : length (entriesIn v) ≤ L
+    pub paid : PaidView v
 
   paid-oldest : (v : View) → length (v .slots) ≡ N - 1 → (N - 1) * B ≤ L + deads (v .slots) → PaidView v → PaidView (oldest v .result)
   unfolding compactOldest
   paid-oldest v all full p = paid-tidy (N - 1) B L R (v .first) (v .slots) all full p
 
-  ready-after : (v : View) → hasRoom v ≡ false → Ready v → Ready (oldest v .result)
+  pub ready-after : (v : View) → hasRoom v ≡ false → Ready v → Ready (oldest v .result)
   ready-after v full h =
       let t = tidied N B v (h .clean) full in
       let c : length (entriesIn v) + deads (v .slots) ≡ (N - 1) * B = rw (h .all) at (full-view (h .clean) full) in record {
