@@ -1,49 +1,40 @@
 -- Three histories on the smallest store, computed, and the theorem of each: each bound is reached. In the last a recovery loses the power inside its erase.
 use Prim.Native.Nat.{ℕ, _+_, _*_, _/_, _≤_, _<_}
-use mathlib.Core.Path.{_≡_, refl, _∙_, subst}
+use mathlib.Core.Path.{_≡_, refl, sym, _∙_, subst}
 use mathlib.Core.Logic.{inl, inr}
-use mathlib.Core.Bool.{true}
+use mathlib.Core.Bool.{Bool, true, false, cond}
 use mathlib.Core.List.{List, [], _∷_, _++_}
 use native.Mathlib.Omega.{arith}
 use lib.ListN.{replicate, take, drop}
 use lib.Bits.{and-self, and-mask}
 use native.Mathlib.Nat.{mod-eq-of-lt}
+use Rattle.model.specs.Lists.{same, count}
 use Rattle.model.specs.Chip.{Image, Bytes, rightSize, pagesOf, Step, program, erase, clear, withSegment, segmentBytes, step, run, Raised}
 use Rattle.model.specs.State.{segmentsOf, view}
 use Rattle.model.specs.Steps.{formatSteps}
+use Rattle.model.specs.Table.{blocks}
 use Rattle.model.specs.Answers.{Request, put, recover, workOf, outcomeOf}
-use Rattle.model.specs.Histories.{answered, lost, Proper, bytesRead, replyOf}
+use Rattle.model.specs.Histories.{lost, bytesRead, replyOf, shown}
 use Rattle.model.specs.Sequences.{Call, play, erasesIn}
-use Rattle.model.specs.Begun.{CutBegun, Turn, Turns, cutSeen, cutsIn, byRecovery, recoveryErases, begunOn}
+use Rattle.model.specs.Begun.{isMark, marksIn, CutBegun, Turn, Turns, cutSeen, cutsIn, byRecovery, recoveryErases, begunOn}
 use Rattle.model.specs.Bench.{call, whole}
 use Rattle.model.specs.Laws.Bench.{evaluate}
+use Rattle.model.specs.Laws.Begun.{turnsOf, AllProper, played}
 use Rattle.model.specs.Laws.Bytes.{bytes-take, bytes-drop, step-bytes, run-bytes}
 use Rattle.bridge.specs.Format.{format-bytes}
 use Rattle.crash.specs.Machine.{OnTable}
 use Rattle.tallied.specs.Law.{tallyIn, topIn, BitLeft, Unformatted}
 use Rattle.tallied.specs.Theorem.{tally-tells}
 
--- the history of some calls
-unfoldable pub turnsOf : ℕ → ℕ → Image → List Call → List Turn
-turnsOf N B s [] = []
-turnsOf N B s (x ∷ xs) =
-    record { request = x .request; seen = answered (replyOf N B s (x .allowance) (x .request)); begun = erasesIn (take (x .allowance) (workOf N B s (x .request) .steps)) }
-    ∷ turnsOf N B (outcomeOf N B s (x .allowance) (x .request) .image) xs
+-- none of the calls is a format
+abbrev AllOnTable : List Call → Type 0
+AllOnTable [] = Unit {0}
+AllOnTable (x ∷ xs) = OnTable (x .request) × AllOnTable xs
 
-abbrev Plain : List Call → Type 0
-Plain [] = Unit {0}
-Plain (x ∷ xs) = Proper (x .request) × OnTable (x .request) × Plain xs
-
-played : (N B : ℕ) (xs : List Call) (s : Image) → Plain xs → Turns N B s (turnsOf N B s xs) (play N B s xs)
-unfolding turnsOf play
-played N B [] s p = refl
-played N B (x ∷ xs) s p =
-    (p .0, (outcomeOf N B s (x .allowance) (x .request) .image, (x .allowance, refl, refl, refl), played N B xs (outcomeOf N B s (x .allowance) (x .request) .image) (p .2)))
-
-unformatted : (N B : ℕ) (xs : List Call) (s : Image) → Plain xs → Unformatted (turnsOf N B s xs)
+unformatted : (N B : ℕ) (xs : List Call) (s : Image) → AllOnTable xs → Unformatted (turnsOf N B s xs)
 unfolding turnsOf
 unformatted N B [] s p = tt
-unformatted N B (x ∷ xs) s p = (p .1, unformatted N B xs (outcomeOf N B s (x .allowance) (x .request) .image) (p .2))
+unformatted N B (x ∷ xs) s p = (p .0, unformatted N B xs (outcomeOf N B s (x .allowance) (x .request) .image) (p .1))
 
 -- N = 2, B = 2: block 7 put twice, which fills the first segment, and once more
 abbrev zeros : Image
@@ -79,8 +70,8 @@ ToldOf es u = (recoveryErases es ≤ tallyIn 2 2 u) × (tallyIn 2 2 u ≤ cutsIn
 abbrev pub Told : List Call → Type 0
 Told xs = ToldOf (seen xs) (left xs)
 
-told : (xs : List Call) → Plain xs → BitLeft 2 2 (left xs) → Told xs
-told xs p b = tally-tells 2 2 zeros (left xs) (seen xs) right-size (played 2 2 xs formatted p) (unformatted 2 2 xs formatted p) b
+told : (xs : List Call) → AllProper xs → AllOnTable xs → BitLeft 2 2 (left xs) → Told xs
+told xs p q b = tally-tells 2 2 zeros (left xs) (seen xs) right-size (played 2 2 xs formatted p) (unformatted 2 2 xs formatted q) b
 
 -- all that these compute with unfolds where this name does
 unfoldable evaluateTurns : ℕ
@@ -96,19 +87,19 @@ two = (omega arith, tt)
 three : (3 < 256) × Unit {0}
 three = (omega arith, tt)
 
-compacting-plain : Plain compacting
-compacting-plain = (one, tt, (two, tt, (three, tt, tt)))
+compacting-proper : AllProper compacting
+compacting-proper = (one, (two, (three, tt)))
 
-counted-plain : Plain counted
-counted-plain = (one, tt, (two, tt, (three, tt, (tt, tt, tt))))
+counted-proper : AllProper counted
+counted-proper = (one, (two, (three, (tt, tt))))
 
 pub compacting-told : Told compacting
 unfolding evaluateTurns
-compacting-told = told compacting compacting-plain refl
+compacting-told = told compacting compacting-proper (tt, (tt, (tt, tt))) refl
 
 pub counted-told : Told counted
 unfolding evaluateTurns
-counted-told = told counted counted-plain refl
+counted-told = told counted counted-proper (tt, (tt, (tt, (tt, tt)))) refl
 
 -- without a cut: one erase of segment 0, the top has number 1, and the tally is 0
 pub compacting-counts : (begunOn 0 (seen compacting) ≡ 1) × (topIn 2 2 (left compacting) ≡ 1) × (tallyIn 2 2 (left compacting) ≡ 0)
@@ -132,20 +123,26 @@ unfolding play outcomeOf
 played-bytes N B [] s y = y
 played-bytes N B (x ∷ xs) s y = played-bytes N B xs (outcomeOf N B s (x .allowance) (x .request) .image) (run-bytes B (take (x .allowance) (workOf N B s (x .request) .steps)) s y)
 
+-- an erase is no owing mark, however much of it was done
+erase-unmarked : (B i : ℕ) (t : Bool) → cond t (marksIn B (erase i ∷ [])) 0 ≡ 0
+unfolding marksIn isMark count
+erase-unmarked B i true = refl
+erase-unmarked B i false = refl
+
 -- one step done, then an erase begun that has changed no bit yet
 abbrev fallen : ℕ → Step → ℕ → Image → Image
 fallen B x i s = withSegment B i (segmentBytes B i (step B x s)) (step B x s)
 
-in-erase : (B : ℕ) (at v i : ℕ) (rest : List Step) (s : Image) → Bytes s → CutBegun B (program at v ∷ erase i ∷ rest) s (fallen B (program at v) i s) (i ∷ [])
+in-erase : (B : ℕ) (at v i : ℕ) (rest : List Step) (s : Image) → marksIn B (program at v ∷ []) ≡ 0 → Bytes s → CutBegun B (program at v ∷ erase i ∷ rest) s (fallen B (program at v) i s) (i ∷ []) 0
 unfolding erasesIn segmentBytes
-in-erase B at v i rest s y =
+in-erase B at v i rest s n y =
     let t = step B (program at v) s in
     let bytes : Bytes (segmentBytes B i t) = bytes-take ((B + 1) * 256) (drop (i * (B + 1) * 256) t) (bytes-drop (i * (B + 1) * 256) t (step-bytes B (program at v) s y)) in
-    inr (inr (i ∷ [], refl, inr (inl ((segmentBytes B i t, raised-same (segmentBytes B i t) bytes, refl), refl))))
+    inr (inr (i ∷ [], 0, refl, omega (arith, n), inr (inl ((segmentBytes B i t, raised-same (segmentBytes B i t) bytes, refl), refl, sym (erase-unmarked B i (same (fallen B (program at v) i s) (step B (erase i) t)))))))
 
 turns-append : (N B : ℕ) (es fs : List Turn) (s m u : Image) → Turns N B s es m → Turns N B m fs u → Turns N B s (es ++ fs) u
 turns-append N B [] fs s m u h k = subst (λ (y : Image). Turns N B y fs u) h k
-turns-append N B (e ∷ es) fs s m u (p, (n, d, rest)) k = (p, (n, d, turns-append N B es fs n m u rest k))
+turns-append N B (e ∷ es) fs s m u (p, (n, d, kept, rest)) k = (p, (n, d, kept, turns-append N B es fs n m u rest k))
 
 unformatted-append : (es fs : List Turn) → Unformatted es → Unformatted fs → Unformatted (es ++ fs)
 unformatted-append [] fs h k = k
@@ -155,25 +152,30 @@ unformatted-append (e ∷ es) fs h k = (h .0, unformatted-append es fs (h .1) k)
 abbrev owing : List Call
 owing = whole (seven 1) ∷ whole (seven 2) ∷ call (seven 3) 28 ∷ []
 
+abbrev pub lostImage : Image
+lostImage = fallen 2 (program 800 127) 0 (left owing)
+
 abbrev lostOne : List Turn
-lostOne = record { request = recover; seen = lost; begun = 0 ∷ [] } ∷ []
+lostOne = record { request = recover; seen = lost; begun = 0 ∷ []; marks = 0; kept = blocks (shown 2 2 lostImage) } ∷ []
 
 abbrev pub lostTurns : List Turn
 lostTurns = seen owing ++ lostOne
 
-abbrev pub lostImage : Image
-lostImage = fallen 2 (program 800 127) 0 (left owing)
-
-owing-plain : Plain owing
-owing-plain = (one, tt, (two, tt, (three, tt, tt)))
+owing-proper : AllProper owing
+owing-proper = (one, (two, (three, tt)))
 
 recovery-steps : workOf 2 2 (left owing) recover .steps ≡ program 800 127 ∷ erase 0 ∷ drop 2 (workOf 2 2 (left owing) recover .steps)
 unfolding evaluateTurns
 recovery-steps = refl
 
+-- the step that counts is none either
+count-unmarked : marksIn 2 (program 800 127 ∷ []) ≡ 0
+unfolding marksIn isMark count
+count-unmarked = refl
+
 pub lost-turns : Turns 2 2 formatted lostTurns lostImage
-lost-turns = turns-append 2 2 (seen owing) lostOne formatted (left owing) lostImage (played 2 2 owing formatted owing-plain)
-    (tt, (lostImage, rw recovery-steps (in-erase 2 800 127 0 (drop 2 (workOf 2 2 (left owing) recover .steps)) (left owing) (played-bytes 2 2 owing formatted (format-bytes 2 2 zeros right-size))), refl))
+lost-turns = turns-append 2 2 (seen owing) lostOne formatted (left owing) lostImage (played 2 2 owing formatted owing-proper)
+    (tt, (lostImage, rw recovery-steps (in-erase 2 800 127 0 (drop 2 (workOf 2 2 (left owing) recover .steps)) (left owing) count-unmarked (played-bytes 2 2 owing formatted (format-bytes 2 2 zeros right-size))), refl, refl))
 
 lost-left : BitLeft 2 2 lostImage
 unfolding evaluateTurns segmentBytes
@@ -182,7 +184,7 @@ lost-left = refl
 -- what the theorem says of it
 pub lost-told : ToldOf lostTurns lostImage
 lost-told = tally-tells 2 2 zeros lostImage lostTurns right-size lost-turns
-    (unformatted-append (seen owing) lostOne (unformatted 2 2 owing formatted owing-plain) (tt, tt)) lost-left
+    (unformatted-append (seen owing) lostOne (unformatted 2 2 owing formatted (tt, (tt, (tt, tt)))) (tt, tt)) lost-left
 
 -- two cuts, one erase begun by a recovery, and the tally is 1
 pub lost-counts : (cutsIn lostTurns ≡ 2) × (recoveryErases lostTurns ≡ 1) × (begunOn 0 lostTurns ≡ 1) × (tallyIn 2 2 lostImage ≡ 1)

@@ -16,7 +16,7 @@ use Rattle.model.specs.State.{segmentsOf, nextNumber, topVersion, View, viewOf,
 use Rattle.model.specs.Steps.{topNumber, hasRoom, copyOut, compact, settle, nextVersion, Room, openNext, compactOldest, compactUntilRoom, roomFor, writeAtTop, markOld, newNumbers, isWorn}
 use Rattle.model.specs.Answers.{put, workOf}
 use Rattle.model.specs.Sequences.{erasesIn}
-use Rattle.model.specs.Begun.{CutBegun}
+use Rattle.model.specs.Begun.{marksIn, CutBegun}
 use Rattle.model.specs.Laws.Chip.{run-size}
 use Rattle.model.specs.Laws.Bytes.{run-bytes}
 use Rattle.model.specs.Laws.Begun.{begun-cut, begun-append, begun-none, whole-begun}
@@ -66,18 +66,18 @@ module _ (N B : ℕ) (s : Image) (v : View) (h : Held N B s v) where
 
   -- ---- an opening
 
-  open-advances : CleanView N B v → Carries v → noBitLeft (v .version) ≡ false → length (v .slots) < N - 1 → suc (topNumber v) < numberLimit N → (u : Image) (es : List ℕ)
-      → CutBegun B (openNext N B v .steps) s u es → Advances N B s u es
+  open-advances : CleanView N B v → Carries v → noBitLeft (v .version) ≡ false → length (v .slots) < N - 1 → suc (topNumber v) < numberLimit N → (u : Image) (es : List ℕ) (f : ℕ)
+      → CutBegun B (openNext N B v .steps) s u es f → Advances N B s u es
   unfolding openNext
-  open-advances c carries left few below u es k =
-      let none : es ≡ [] = begun-none B (openNext N B v .steps) s u es (open-none N B (nextVersion v) (suc (topNumber v))) k in
+  open-advances c carries left few below u es f k =
+      let none : es ≡ [] = begun-none B (openNext N B v .steps) s u es f (open-none N B (nextVersion v) (suc (topNumber v))) k in
       let w = run B (openNext N B v .steps) s in
       let o = open-held N B s v h carries below few in
       ⊎-elim
       (λ t. advances-same N B s u es none (same-torn N B s u (suc (topNumber v) % N) (next-free N B s v h) (t .0) (t .1)))
       (λ e. let same = same-segments N B w u e in
       rw none (none-more u left (same .next ∙ (sym (held-top N B w (openNext N B v .result) o) ∙ ap suc (opened-top N B v (c .some)))) (same .version ∙ opened-version w o)))
-      (open-left N B s v h carries below u (begun-cut B (openNext N B v .steps) s u es k))
+      (open-left N B s v h carries below u (begun-cut B (openNext N B v .steps) s u es f k))
     where
       opened-version : (w : Image) → Held N B w (openNext N B v .result) → topVersion N (segmentsOf N B w) ≡ nextVersion v
       opened-version w o = unfold view viewOf openNext in (ap (λ (y : View). y .version) (o .view))
@@ -108,39 +108,39 @@ module _ (N B : ℕ) (s : Image) (v : View) (f : Full N B s v) (left : noBitLeft
   rest = erase (v .first % N) ∷ settle N B n
 
   -- after the owing mark the top stays, and the old segment is erased if anything is
-  rest-begun : (w : Image) (cs : List ℕ) → CutBegun B (erase (v .first % N) ∷ settle N B (suc (topNumber v))) t w cs → (cs ≡ []) ⊎ (cs ≡ suc n % N ∷ [])
+  rest-begun : (w : Image) (cs : List ℕ) (m : ℕ) → CutBegun B (erase (v .first % N) ∷ settle N B (suc (topNumber v))) t w cs m → (cs ≡ []) ⊎ (cs ≡ suc n % N ∷ [])
   unfolding erasesIn
-  rest-begun w cs (inl c) = inl (c .1)
-  rest-begun w cs (inr (inl c)) = inr (c .1 ∙ ap (λ (y : ℕ). y ∷ []) old-index)
-  rest-begun w cs (inr (inr (r, e, c))) =
-      let none : r ≡ [] = begun-none B (settle N B n) (step B (erase (v .first % N)) t) w r (settle-none N B n) c in
+  rest-begun w cs m (inl c) = inl (c .1)
+  rest-begun w cs m (inr (inl c)) = inr (c .1 ∙ ap (λ (y : ℕ). y ∷ []) old-index)
+  rest-begun w cs m (inr (inr (r, more, e, g, c))) =
+      let none : r ≡ [] = begun-none B (settle N B n) (step B (erase (v .first % N)) t) w r more (settle-none N B n) c in
       inr (e ∙ (ap (λ (y : List ℕ). v .first % N ∷ y) none ∙ ap (λ (y : ℕ). y ∷ []) old-index))
 
-  owing-top : (w : Image) (cs : List ℕ) → CutBegun B (erase (v .first % N) ∷ settle N B (suc (topNumber v))) t w cs → SameTop N B t w
-  owing-top w cs c =
+  owing-top : (w : Image) (cs : List ℕ) (m : ℕ) → CutBegun B (erase (v .first % N) ∷ settle N B (suc (topNumber v))) t w cs m → SameTop N B t w
+  owing-top w cs m c =
       let o = owed N B s v f in
-      rest-top N B t (run-size N B copying s ∙ f .held .size) (o .pending) (o .shows .0) w (rw (o .next, rest-after N B s v f, rest-last N B s v f) (begun-cut B (erase (v .first % N) ∷ settle N B n) t w cs c))
+      rest-top N B t (run-size N B copying s ∙ f .held .size) (o .pending) (o .shows .0) w (rw (o .next, rest-after N B s v f, rest-last N B s v f) (begun-cut B (erase (v .first % N) ∷ settle N B n) t w cs m c))
 
   -- up to the mark nothing is erased
-  before-mark : (w : Image) (bs : List ℕ) → CutBegun B copying s w bs → Advances N B s w bs
-  before-mark w bs d =
-      let none : bs ≡ [] = begun-none B copying s w bs (copied-none N B (nextVersion v) (v .first) n es) d in
+  before-mark : (w : Image) (bs : List ℕ) (m : ℕ) → CutBegun B copying s w bs m → Advances N B s w bs
+  before-mark w bs m d =
+      let none : bs ≡ [] = begun-none B copying s w bs m (copied-none N B (nextVersion v) (v .first) n es) d in
       ⊎-elim
       (λ x. advances-same N B s w bs none (same-torn N B s w (n % N) (next-free N B s v (f .held)) (x .0) (x .1)))
       (λ x. let same = same-segments N B t w (x .1) in rw none (none-more N B s v (f .held) w left (same .next ∙ owing-next) (same .version ∙ owed N B s v f .version)))
-      (copy-out-left N B s v f w (begun-cut B copying s w bs d))
+      (copy-out-left N B s v f w (begun-cut B copying s w bs m d))
 
-  after-mark : (w : Image) (bs cs : List ℕ) → bs ≡ erasesIn copying ++ cs → CutBegun B (erase (v .first % N) ∷ settle N B (suc (topNumber v))) t w cs → Advances N B s w bs
+  after-mark : (w : Image) (bs cs : List ℕ) (m : ℕ) → bs ≡ erasesIn copying ++ cs → CutBegun B (erase (v .first % N) ∷ settle N B (suc (topNumber v))) t w cs m → Advances N B s w bs
   unfolding count
-  after-mark w bs cs e d =
-      let same = owing-top w cs d in
+  after-mark w bs cs m e d =
+      let same = owing-top w cs m d in
       let here : bs ≡ cs = e ∙ ap (λ (y : List ℕ). y ++ cs) (copied-none N B (nextVersion v) (v .first) n es) in
       one-number N B s v (f .held) w bs left (same .next ∙ owing-next) (same .version ∙ owed N B s v f .version)
-      (λ i. ⊎-elim (λ q. let a : bs ≡ [] = here ∙ q in rw a (omega (arith, turns-more N i n))) (λ q. let a : bs ≡ suc n % N ∷ [] = here ∙ q in rw a (turns-one N i n)) (rest-begun w cs d))
+      (λ i. ⊎-elim (λ q. let a : bs ≡ [] = here ∙ q in rw a (omega (arith, turns-more N i n))) (λ q. let a : bs ≡ suc n % N ∷ [] = here ∙ q in rw a (turns-one N i n)) (rest-begun w cs m d))
 
-  pub compact-advances : (u : Image) (ds : List ℕ) → CutBegun B (compactOldest N B v .steps) s u ds → Advances N B s u ds
+  pub compact-advances : (u : Image) (ds : List ℕ) (m : ℕ) → CutBegun B (compactOldest N B v .steps) s u ds m → Advances N B s u ds
   unfolding compactOldest compact
-  compact-advances u ds k = ⊎-elim (λ d. before-mark u ds d) (λ d. after-mark u ds (d .0) (d .1) (d .2)) (begun-append B copying (erase (v .first % N) ∷ settle N B n) s u ds k)
+  compact-advances u ds m k = ⊎-elim (λ d. before-mark u ds m d) (λ d. after-mark u ds (d .0) (d .1) (d .2) (d .4)) (begun-append B copying (erase (v .first % N) ∷ settle N B n) s u ds m k)
 
 -- ---- room
 
@@ -149,24 +149,24 @@ fresh-bits : (v : View) → noBitLeft (nextVersion v) ≡ false
 unfolding nextVersion newVersion noBitLeft all erased
 fresh-bits v = refl
 
-idle : (N B : ℕ) (s u : Image) (es : List ℕ) → CutBegun B [] s u es → Advances N B s u es
-idle N B s u es c = advances-same N B s u es (c .1) (same-image N B s u (c .0))
+idle : (N B : ℕ) (s u : Image) (es : List ℕ) (f : ℕ) → CutBegun B [] s u es f → Advances N B s u es
+idle N B s u es f c = advances-same N B s u es (c .1) (same-image N B s u (c .0))
 
 compactions-advance : (N B k : ℕ) (s : Image) (v : View) → Held N B s v → Bytes s → CleanView N B v → length (v .slots) ≡ N - 1 → Carries v → noBitLeft (v .version) ≡ false
-    → topNumber (compactUntilRoom N B k v .result) < numberLimit N → (u : Image) (ds : List ℕ) → CutBegun B (compactUntilRoom N B k v .steps) s u ds → Advances N B s u ds
-compactions-advance N B zero s v h y c all carries left below u ds k = idle N B s u ds (unfold compactUntilRoom in k)
-compactions-advance N B (suc j) s v h y c all carries left below u ds k =
-    go (hasRoom v) refl (λ t ht yt ct at bt r d. compactions-advance N B j t (compactOldest N B v .result) ht yt ct at (carries-next N B v carries) next-bits bt u r d)
+    → topNumber (compactUntilRoom N B k v .result) < numberLimit N → (u : Image) (ds : List ℕ) (g : ℕ) → CutBegun B (compactUntilRoom N B k v .steps) s u ds g → Advances N B s u ds
+compactions-advance N B zero s v h y c all carries left below u ds g k = idle N B s u ds g (unfold compactUntilRoom in k)
+compactions-advance N B (suc j) s v h y c all carries left below u ds g k =
+    go (hasRoom v) refl (λ t ht yt ct at bt r more d. compactions-advance N B j t (compactOldest N B v .result) ht yt ct at (carries-next N B v carries) next-bits bt u r more d)
   where
     next-bits : noBitLeft (compactOldest N B v .result .version) ≡ false
     next-bits = unfold compactOldest in (fresh-bits v)
 
     go : (t : Bool) → hasRoom v ≡ t
         → ((t : Image) → Held N B t (compactOldest N B v .result) → Bytes t → CleanView N B (compactOldest N B v .result) → length (compactOldest N B v .result .slots) ≡ N - 1
-        → topNumber (compactUntilRoom N B j (compactOldest N B v .result) .result) < numberLimit N → (r : List ℕ)
-        → CutBegun B (compactUntilRoom N B j (compactOldest N B v .result) .steps) t u r → Advances N B t u r)
+        → topNumber (compactUntilRoom N B j (compactOldest N B v .result) .result) < numberLimit N → (r : List ℕ) (more : ℕ)
+        → CutBegun B (compactUntilRoom N B j (compactOldest N B v .result) .steps) t u r more → Advances N B t u r)
         → Advances N B s u ds
-    go true e ih = idle N B s u ds (rw (until-room N B j v e) at k)
+    go true e ih = idle N B s u ds g (rw (until-room N B j v e) at k)
     go false e ih =
         let t = tidied N B v c e in
         let m = until-more N B j v e in
@@ -174,23 +174,23 @@ compactions-advance N B (suc j) s v h y c all carries left below u ds k =
         let low : suc (topNumber v) < numberLimit N = omega (arith, top-rises N B j (compactOldest N B v .result) (t .clean), t .number, b) in
         let xs = compactOldest N B v .steps in
         let f : Full N B s v = record { held = h; clean = c; noRoom = e; all = all; bytes = y; carries = carries; below = low } in
-        ⊎-elim (λ d. compact-advances N B s v f left u ds d)
-        (λ d. advances-trans N B s (run B xs s) u (erasesIn xs) (d .0) ds (d .1) (compact-advances N B s v f left (run B xs s) (erasesIn xs) (whole-begun B xs s))
-        (ih (run B xs s) (one-compaction N B s v h y c all carries low) (run-bytes B xs s y) (t .clean) (compacted-rows N B v (c .some) ∙ all) b (d .0) (d .2)))
-        (begun-append B xs (compactUntilRoom N B j (compactOldest N B v .result) .steps) s u ds (rw m at k))
+        ⊎-elim (λ d. compact-advances N B s v f left u ds g d)
+        (λ d. advances-trans N B s (run B xs s) u (erasesIn xs) (d .0) ds (d .2) (compact-advances N B s v f left (run B xs s) (erasesIn xs) (marksIn B xs) (whole-begun B xs s))
+        (ih (run B xs s) (one-compaction N B s v h y c all carries low) (run-bytes B xs s y) (t .clean) (compacted-rows N B v (c .some) ∙ all) b (d .0) (d .1) (d .4)))
+        (begun-append B xs (compactUntilRoom N B j (compactOldest N B v .result) .steps) s u ds g (rw m at k))
 
 room-advances : (N B : ℕ) (s : Image) (v : View) → Held N B s v → Bytes s → CleanView N B v → (hasRoom v ≡ false → Carries v) → (hasRoom v ≡ false → noBitLeft (v .version) ≡ false)
-    → topNumber (roomFor N B v .result) < numberLimit N → (u : Image) (ds : List ℕ) → CutBegun B (roomFor N B v .steps) s u ds → Advances N B s u ds
+    → topNumber (roomFor N B v .result) < numberLimit N → (u : Image) (ds : List ℕ) (f : ℕ) → CutBegun B (roomFor N B v .steps) s u ds f → Advances N B s u ds
 unfolding roomFor
-room-advances N B s v h y c carries left below u ds k = go (hasRoom v) (ltb (length (v .slots)) (N - 1)) refl refl below k
+room-advances N B s v h y c carries left below u ds f k = go (hasRoom v) (ltb (length (v .slots)) (N - 1)) refl refl below k
   where
     chosen : Bool → Bool → Room
     chosen t w = cond t (record { steps = []; result = v }) (cond w (openNext N B v) (compactUntilRoom N B (N - 1) v))
 
-    go : (t w : Bool) → hasRoom v ≡ t → ltb (length (v .slots)) (N - 1) ≡ w → topNumber (chosen t w .result) < numberLimit N → CutBegun B (chosen t w .steps) s u ds → Advances N B s u ds
-    go true w e q b d = idle N B s u ds d
-    go false true e q b d = open-advances N B s v h c (carries e) (left e) (ltb-true (length (v .slots)) (N - 1) q) (omega (arith, opened-top N B v (c .some), b)) u ds d
-    go false false e q b d = compactions-advance N B (N - 1) s v h y c (omega (arith, ltb-false (length (v .slots)) (N - 1) q, c .spare)) (carries e) (left e) b u ds d
+    go : (t w : Bool) → hasRoom v ≡ t → ltb (length (v .slots)) (N - 1) ≡ w → topNumber (chosen t w .result) < numberLimit N → CutBegun B (chosen t w .steps) s u ds f → Advances N B s u ds
+    go true w e q b d = idle N B s u ds f d
+    go false true e q b d = open-advances N B s v h c (carries e) (left e) (ltb-true (length (v .slots)) (N - 1) q) (omega (arith, opened-top N B v (c .some), b)) u ds f d
+    go false false e q b d = compactions-advance N B (N - 1) s v h y c (omega (arith, ltb-false (length (v .slots)) (N - 1) q, c .spare)) (carries e) (left e) b u ds f d
 
 -- ---- the request
 
@@ -204,9 +204,9 @@ fresh-left N v w e = go (noBitLeft (v .version)) (rw e at w)
     go false p = refl
 
 pub put-advances : (N B : ℕ) (s : Image) (z : rightSize N B s ≡ true) (c : state N B s ≡ clean) (b : ℕ) (d : List ℕ) (bs : Bytes s) (bd : Bytes d) → Accepted N B s (put b d)
-    → (u : Image) (ds : List ℕ) → CutBegun B (workOf N B s (put b d) .steps) s u ds → Advances N B s u ds
+    → (u : Image) (ds : List ℕ) (f : ℕ) → CutBegun B (workOf N B s (put b d) .steps) s u ds f → Advances N B s u ds
 unfolding afterPut
-put-advances N B s z c b d bs bd e u ds k =
+put-advances N B s z c b d bs bd e u ds f k =
     let v = view N B s in
     let h = held-of-clean N B s z c in
     let r = roomFor N B v .result in
@@ -214,9 +214,9 @@ put-advances N B s z c b d bs bd e u ds k =
     let last = writeAtTop N B b d r ++ markOld N B b r in
     let passed = put-passed N B s b d (accepted N B s (put b d) e .1) in
     let room = room-advances N B s v h bs (clean-view N B s z c) (room-carries N B s z c b d bs bd e) (fresh-left N v (passed .fresh)) (roomed-below N B s z c b d bs bd e) in
-    ⊎-elim (λ q. room u ds q)
-    (λ q. advances-trans N B s (run B xs s) u (erasesIn xs) (q .0) ds (q .1) (room (run B xs s) (erasesIn xs) (whole-begun B xs s))
-    (advances-same N B (run B xs s) u (q .0) (begun-none B last (run B xs s) u (q .0) (written-none N B b d r) (q .2))
+    ⊎-elim (λ q. room u ds f q)
+    (λ q. advances-trans N B s (run B xs s) u (erasesIn xs) (q .0) ds (q .2) (room (run B xs s) (erasesIn xs) (marksIn B xs) (whole-begun B xs s))
+    (advances-same N B (run B xs s) u (q .0) (begun-none B last (run B xs s) u (q .0) (q .1) (written-none N B b d r) (q .4))
     (put-into-top N B (run B xs s) r (roomed-held N B s z c b d bs bd e) (roomed-clean N B s z c b d bs bd e) (roomed-gap N B s z c b d bs bd e) b d (put-valid N B s z c b d bs bd e)
-    (after-clean N B s z c b d bs bd e) u (begun-cut B last (run B xs s) u (q .0) (q .2)))))
-    (begun-append B xs last s u ds (rw (put-steps N B s z c b d bs bd e) at k))
+    (after-clean N B s z c b d bs bd e) u (begun-cut B last (run B xs s) u (q .0) (q .1) (q .4)))))
+    (begun-append B xs last s u ds f (rw (put-steps N B s z c b d bs bd e) at k))

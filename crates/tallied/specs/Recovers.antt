@@ -137,13 +137,13 @@ module _ (N B : ℕ) (s : Image) (z : rightSize N B s ≡ true) (some : 0 < next
       go e b false q = let more : tallyIn N B u ≡ suc (tallyIn N B s) = ap tallyOf e ∙ tally-more (topVersion N l) new q bit-bytes in (omega arith, omega arith)
 
   -- the count, and then these steps, which begin one erase at most and leave the top
-  pub counted-then : (xs : List Step) → ((w : Image) (cs : List ℕ) → CutBegun B xs (run B (counts N B (segmentsOf N B s)) s) w cs → (length cs ≤ 1) × SameTop N B (run B (counts N B (segmentsOf N B s)) s) w)
-      → (u : Image) (es : List ℕ) → CutBegun B (counts N B (segmentsOf N B s) ++ xs) s u es → Recovers N B s u es
-  counted-then xs then u es c = ⊎-elim
-      (λ d. let none : es ≡ [] = begun-none B (counts N B l) s u es no-erase d in
-      ⊎-elim (λ q. recovers-same N B s u es none (same-image N B s u q)) (λ q. recovers-counted u es (rw none (omega arith)) (same-image N B s1 u q)) (whole u (begun-cut B (counts N B l) s u es d)))
-      (λ d. let e : es ≡ d .0 = d .1 ∙ ap (λ (y : List ℕ). y ++ d .0) no-erase in let r = then u (d .0) (d .2) in recovers-counted u es (rw e (r .0)) (r .1))
-      (begun-append B (counts N B l) xs s u es c)
+  pub counted-then : (xs : List Step) → ((w : Image) (cs : List ℕ) (f : ℕ) → CutBegun B xs (run B (counts N B (segmentsOf N B s)) s) w cs f → (length cs ≤ 1) × SameTop N B (run B (counts N B (segmentsOf N B s)) s) w)
+      → (u : Image) (es : List ℕ) (f : ℕ) → CutBegun B (counts N B (segmentsOf N B s) ++ xs) s u es f → Recovers N B s u es
+  counted-then xs then u es f c = ⊎-elim
+      (λ d. let none : es ≡ [] = begun-none B (counts N B l) s u es f no-erase d in
+      ⊎-elim (λ q. recovers-same N B s u es none (same-image N B s u q)) (λ q. recovers-counted u es (rw none (omega arith)) (same-image N B s1 u q)) (whole u (begun-cut B (counts N B l) s u es f d)))
+      (λ d. let e : es ≡ d .0 = d .2 ∙ ap (λ (y : List ℕ). y ++ d .0) no-erase in let r = then u (d .0) (d .1) (d .4) in recovers-counted u es (rw e (r .0)) (r .1))
+      (begun-append B (counts N B l) xs s u es f c)
     where
       no-erase : erasesIn (counts N B l) ≡ []
       no-erase = on-page (headerAt N B n) (countErase (topVersion N l)) ∙ count-none (topVersion N l)
@@ -151,11 +151,11 @@ module _ (N B : ℕ) (s : Image) (z : rightSize N B s ≡ true) (some : 0 < next
 -- ---- the cases
 
 -- an erase, and then steps without one
-one-erase : (B i : ℕ) (xs : List Step) (s u : Image) (cs : List ℕ) → erasesIn xs ≡ [] → CutBegun B (erase i ∷ xs) s u cs → length cs ≤ 1
+one-erase : (B i : ℕ) (xs : List Step) (s u : Image) (cs : List ℕ) (f : ℕ) → erasesIn xs ≡ [] → CutBegun B (erase i ∷ xs) s u cs f → length cs ≤ 1
 unfolding erasesIn
-one-erase B i xs s u cs n (inl c) = rw (c .1) (omega arith)
-one-erase B i xs s u cs n (inr (inl c)) = rw (c .1) (omega arith)
-one-erase B i xs s u cs n (inr (inr (r, e, c))) = let q : r ≡ [] = begun-none B xs (step B (erase i) s) u r n c in let a : cs ≡ i ∷ [] = e ∙ ap (λ (y : List ℕ). i ∷ y) q in rw a (omega arith)
+one-erase B i xs s u cs f n (inl c) = rw (c .1) (omega arith)
+one-erase B i xs s u cs f n (inr (inl c)) = rw (c .1) (omega arith)
+one-erase B i xs s u cs f n (inr (inr (r, more, e, g, c))) = let q : r ≡ [] = begun-none B xs (step B (erase i) s) u r more n c in let a : cs ≡ i ∷ [] = e ∙ ap (λ (y : List ℕ). i ∷ y) q in rw a (omega arith)
 
 marks-none : (N B : ℕ) (l : List Segment) → (erasesIn (mendSteps N B l caseC) ≡ []) × (erasesIn (mendSteps N B l caseD) ≡ [])
 unfolding mendSteps
@@ -172,25 +172,25 @@ module _ (N B : ℕ) (s : Image) (z : rightSize N B s ≡ true) (h : Sound N B s
   abbrev mark : List Step
   mark = settle N B (nextNumber (segmentsOf N B s) - 1)
 
-  module _ (u : Image) (es : List ℕ) (c : CutBegun B (workOf N B s recover .steps) s u es) where
+  module _ (u : Image) (es : List ℕ) (f : ℕ) (c : CutBegun B (workOf N B s recover .steps) s u es f) where
     in-a : state N B s ≡ unfinished caseA → Recovers N B s u es
     unfolding erasesIn
     in-a e = counted-then N B s z (some N B s z e) new bytes (erase next ∷ [])
-        (λ w cs d. (one-erase B next [] after w cs refl d, erased-top N B s z e h w (begun-cut B (erase next ∷ []) after w cs d))) u es (rw (recover-steps N B s caseA z e ∙ steps-a N B s z e) at c)
+        (λ w cs m d. (one-erase B next [] after w cs m refl d, erased-top N B s z e h w (begun-cut B (erase next ∷ []) after w cs m d))) u es f (rw (recover-steps N B s caseA z e ∙ steps-a N B s z e) at c)
 
     in-b : state N B s ≡ unfinished caseB → Recovers N B s u es
     in-b e = by-old N B s z e (Recovers N B s u es)
-        (λ q d. let k : CutBegun B mark s u es = rw (recover-steps N B s caseB z e ∙ d) at c in
-        recovers-same N B s u es (begun-none B mark s u es (settle-none N B (nextNumber (segmentsOf N B s) - 1)) k) (settled-top N B s z e h q u (begun-cut B mark s u es k)))
+        (λ q d. let k : CutBegun B mark s u es f = rw (recover-steps N B s caseB z e ∙ d) at c in
+        recovers-same N B s u es (begun-none B mark s u es f (settle-none N B (nextNumber (segmentsOf N B s) - 1)) k) (settled-top N B s z e h q u (begun-cut B mark s u es f k)))
         (λ d. counted-then N B s z (RecoverOwing.some N B s z e) new bytes (erase next ∷ mark)
-        (λ w cs k. (one-erase B next mark after w cs (settle-none N B (nextNumber (segmentsOf N B s) - 1)) k, ended-top N B s z e h w (begun-cut B (erase next ∷ mark) after w cs k))) u es
+        (λ w cs m k. (one-erase B next mark after w cs m (settle-none N B (nextNumber (segmentsOf N B s) - 1)) k, ended-top N B s z e h w (begun-cut B (erase next ∷ mark) after w cs m k))) u es f
         (rw (recover-steps N B s caseB z e ∙ d) at c))
 
     marked : (x : Exception) → state N B s ≡ unfinished x → erasesIn (mendSteps N B (segmentsOf N B s) x) ≡ [] → SameTop N B s u → Recovers N B s u es
-    marked x e n t = recovers-same N B s u es (begun-none B (mendSteps N B (segmentsOf N B s) x) s u es n (rw (recover-steps N B s x z e) at c)) t
+    marked x e n t = recovers-same N B s u es (begun-none B (mendSteps N B (segmentsOf N B s) x) s u es f n (rw (recover-steps N B s x z e) at c)) t
 
     cut : CutOf N B s recover u
-    cut = begun-cut B (workOf N B s recover .steps) s u es c
+    cut = begun-cut B (workOf N B s recover .steps) s u es f c
 
     pub recover-counts : Recovers N B s u es
     recover-counts = go (state N B s) refl h
@@ -202,6 +202,6 @@ module _ (N B : ℕ) (s : Image) (z : rightSize N B s ≡ true) (h : Sound N B s
         case caseD e = marked caseD e (marks-none N B (segmentsOf N B s) .1) (top-d N B s z u e cut)
 
         go : (x : State) → state N B s ≡ x → SoundAs N B s (segmentsOf N B s) x → Recovers N B s u es
-        go clean e k = let d : CutBegun B [] s u es = rw (recover-none N B s e) at c in recovers-same N B s u es (d .1) (same-image N B s u (d .0))
+        go clean e k = let d : CutBegun B [] s u es f = rw (recover-none N B s e) at c in recovers-same N B s u es (d .1) (same-image N B s u (d .0))
         go (unfinished x) e k = case x e
         go damaged e k = absurd k

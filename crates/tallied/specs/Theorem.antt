@@ -13,11 +13,11 @@ use Rattle.model.specs.Header.{newVersion, isFormer, bitValues, clearedIn, clea
 use Rattle.model.specs.State.{segmentsOf, nextNumber, topVersion, View, viewOf, view, Exception, clean, unfinished, state}
 use Rattle.model.specs.Steps.{formatSteps}
 use Rattle.model.specs.Answers.{Request, format, put, delete, read, readOr, recover, stepsFor, workOf, outcomeOf}
-use Rattle.model.specs.Histories.{Seen, answered, lost, Proper, Does}
+use Rattle.model.specs.Histories.{Seen, answered, lost, Proper}
 use Rattle.model.specs.Sequences.{erasesIn}
 use Rattle.model.specs.Begun.{CutBegun, DoesBegun, Turn, Turns, cutSeen, cutsIn, byRecovery, recoveryErases, begunOn}
 use Rattle.model.specs.Laws.Chip.{size-facts, run-size}
-use Rattle.model.specs.Laws.Begun.{begun-cut, begun-none, taken-begun}
+use Rattle.model.specs.Laws.Begun.{begun-cut, begun-does, begun-none, taken-begun}
 use Rattle.bridge.specs.Predicted.{fresh}
 use Rattle.bridge.specs.Accepted.{accepted}
 use Rattle.bridge.specs.Held.{Held}
@@ -52,17 +52,13 @@ pub data Shown (N B : ℕ) (s m : Image) (r : Request) (es : List ℕ) (x : Prom
   carries-on : Advances N B s m es → byRecovery r es ≡ 0 → Shown N B s m r es x
   recovers : Recovers N B s m es → r ≡ recover → IsInterrupted x → byRecovery r es ≡ length es → Shown N B s m r es x
 
-begun-of : (N B : ℕ) (r : Request) (o : Seen) (s m : Image) (es : List ℕ) → DoesBegun N B r o s m es → CutBegun B (workOf N B s r .steps) s m es
+begun-of : (N B : ℕ) (r : Request) (o : Seen) (s m : Image) (es : List ℕ) (f : ℕ) → DoesBegun N B r o s m es f → CutBegun B (workOf N B s r .steps) s m es f
 unfolding outcomeOf
-begun-of N B r (answered y) s m es (k, reply, image, begun) = rw (image, begun) (taken-begun B (workOf N B s r .steps) s k)
-begun-of N B r lost s m es c = c
+begun-of N B r (answered y) s m es f (k, reply, image, (begun, marks)) = rw (image, begun, marks) (taken-begun B (workOf N B s r .steps) s k)
+begun-of N B r lost s m es f c = c
 
-does-of : (N B : ℕ) (r : Request) (o : Seen) (s m : Image) (es : List ℕ) → DoesBegun N B r o s m es → Does N B r o s m
-does-of N B r (answered y) s m es (k, reply, image, begun) = (k, reply, image)
-does-of N B r lost s m es c = begun-cut B (workOf N B s r .steps) s m es c
-
-idle : (N B : ℕ) (s m : Image) (r : Request) (es : List ℕ) (x : Promise) → byRecovery r [] ≡ 0 → workOf N B s r .steps ≡ [] → CutBegun B (workOf N B s r .steps) s m es → Shown N B s m r es x
-idle N B s m r es x z e c = let d : CutBegun B [] s m es = rw e at c in carries-on (advances-same N B s m es (d .1) (same-image N B s m (d .0))) (ap (λ (y : List ℕ). byRecovery r y) (d .1) ∙ z)
+idle : (N B : ℕ) (s m : Image) (r : Request) (es : List ℕ) (f : ℕ) (x : Promise) → byRecovery r [] ≡ 0 → workOf N B s r .steps ≡ [] → CutBegun B (workOf N B s r .steps) s m es f → Shown N B s m r es x
+idle N B s m r es f x z e c = let d : CutBegun B [] s m es f = rw e at c in carries-on (advances-same N B s m es (d .1) (same-image N B s m (d .0))) (ap (λ (y : List ℕ). byRecovery r y) (d .1) ∙ z)
 
 none-by : (r : Request) → byRecovery r [] ≡ 0
 unfolding byRecovery
@@ -77,14 +73,14 @@ delete-erases : (N B : ℕ) (s : Image) (b : ℕ) → workOf N B s (delete b) .c
 delete-erases N B s b e = unfold stepsFor in (ap erasesIn (accepted N B s (delete b) e .0) ∙ delete-none N B b (viewOf N (segmentsOf N B s)))
 
 -- by what a request can do; an image that is not clean is one of an interrupted request
-shown-by : (N B : ℕ) (s m : Image) (r : Request) (es : List ℕ) (x : Promise) → rightSize N B s ≡ true → Bytes s → Sound N B s → isFormer (topVersion N (segmentsOf N B s)) ≡ false
-    → ((q : Exception) → state N B s ≡ unfinished q → IsInterrupted x) → Works N B s r → CutBegun B (workOf N B s r .steps) s m es → Shown N B s m r es x
-shown-by N B s m r es x z y h new i (Works.idle e) c = idle N B s m r es x (none-by r) e c
-shown-by N B s m r es x z y h new i (puts b v k p a) c = carries-on (put-advances N B s z k b v y p a m es c) (unfold byRecovery in refl)
-shown-by N B s m r es x z y h new i (deletes b k a) c =
+shown-by : (N B : ℕ) (s m : Image) (r : Request) (es : List ℕ) (f : ℕ) (x : Promise) → rightSize N B s ≡ true → Bytes s → Sound N B s → isFormer (topVersion N (segmentsOf N B s)) ≡ false
+    → ((q : Exception) → state N B s ≡ unfinished q → IsInterrupted x) → Works N B s r → CutBegun B (workOf N B s r .steps) s m es f → Shown N B s m r es x
+shown-by N B s m r es f x z y h new i (Works.idle e) c = idle N B s m r es f x (none-by r) e c
+shown-by N B s m r es f x z y h new i (puts b v k p a) c = carries-on (put-advances N B s z k b v y p a m es f c) (unfold byRecovery in refl)
+shown-by N B s m r es f x z y h new i (deletes b k a) c =
     let xs = workOf N B s (delete b) .steps in
-    carries-on (advances-same N B s m es (begun-none B xs s m es (delete-erases N B s b a) c) (delete-top N B s b z k a m (begun-cut B xs s m es c))) (unfold byRecovery in refl)
-shown-by N B s m r es x z y h new i (Works.recovers q e) c = recovers (recover-counts N B s z h new y m es c) refl (i q e) (unfold byRecovery in refl)
+    carries-on (advances-same N B s m es (begun-none B xs s m es f (delete-erases N B s b a) c) (delete-top N B s b z k a m (begun-cut B xs s m es f c))) (unfold byRecovery in refl)
+shown-by N B s m r es f x z y h new i (Works.recovers q e) c = recovers (recover-counts N B s z h new y m es f c) refl (i q e) (unfold byRecovery in refl)
 
 -- ---- the invariant
 
@@ -182,25 +178,25 @@ same-counts N B s x R K Q L E F r k f t = record {
 -- ---- the history
 
 module _ (N B : ℕ) where
-  event-shown : (s m : Image) (r : Request) (o : Seen) (es : List ℕ) (x : Promise) (R K : ℕ) (E : ℕ → ℕ) → OnTable r → Proper r → Invariant N B false s x → Known x
-      → Tallies N B s x R K E → DoesBegun N B r o s m es → Shown N B s m r es x
-  event-shown s m r o es (settled t) R K E on p (z, k) kn tl d =
+  event-shown : (s m : Image) (r : Request) (o : Seen) (es : List ℕ) (f : ℕ) (x : Promise) (R K : ℕ) (E : ℕ → ℕ) → OnTable r → Proper r → Invariant N B false s x → Known x
+      → Tallies N B s x R K E → DoesBegun N B r o s m es f → Shown N B s m r es x
+  event-shown s m r o es f (settled t) R K E on p (z, k) kn tl d =
       let h = sound-clean N B s (k .clean) in
-      shown-by N B s m r es (settled t) z (k .bytes) h (tl .second) (λ q e. clash q (sym (k .clean) ∙ e)) (works N B s z r on p h) (begun-of N B r o s m es d)
+      shown-by N B s m r es f (settled t) z (k .bytes) h (tl .second) (λ q e. clash q (sym (k .clean) ∙ e)) (works N B s z r on p h) (begun-of N B r o s m es f d)
     where
       clash : (q : Exception) → clean ≡ unfinished q → ⊥
       clash q e = let n : _≡_ {A = ℕ} 0 1 = cc in omega (arith, n)
-  event-shown s m r o es (interrupted t) R K E on p (z, k) kn tl d =
-      shown-by N B s m r es (interrupted t) z (k .bytes) (k .sound) (tl .second) (λ q e. tt) (works N B s z r on p (k .sound)) (begun-of N B r o s m es d)
-  event-shown s m r o es unknown R K E on p (z, k) kn tl d = absurd kn
+  event-shown s m r o es f (interrupted t) R K E on p (z, k) kn tl d =
+      shown-by N B s m r es f (interrupted t) z (k .bytes) (k .sound) (tl .second) (λ q e. tt) (works N B s z r on p (k .sound)) (begun-of N B r o s m es f d)
+  event-shown s m r o es f unknown R K E on p (z, k) kn tl d = absurd kn
 
   history : (es : List Turn) (s u : Image) (x : Promise) (R K : ℕ) (E : ℕ → ℕ) → Unformatted es → Invariant N B false s x → Known x → Tallies N B s x R K E → Turns N B s es u
       → (y : Promise) × Tallies N B u y (recoveryErases es + R) (cutsIn es + K) (λ i. begunOn i es + E i)
   unfolding recoveryErases cutsIn begunOn
   history [] s u x R K E none inv kn t e = (x, same-counts N B u x R K (0 + R) (0 + K) E (λ i. 0 + E i) (omega arith) (omega arith) (λ i. omega arith) (subst (λ (q : Image). Tallies N B q x R K E) (sym e) t))
-  history (v ∷ es) s u x R K E none inv kn t (p, (m, d, rest)) =
-      let a = one-event N B false (request-laws N B) s m x (v .request) (may N B (request-laws N B) (v .request) (none .0)) p inv (v .seen) (does-of N B (v .request) (v .seen) s m (v .begun) d) in
-      let sh = event-shown s m (v .request) (v .seen) (v .begun) x R K E (none .0) p inv kn t d in
+  history (v ∷ es) s u x R K E none inv kn t (p, (m, d, kept, rest)) =
+      let a = one-event N B false (request-laws N B) s m x (v .request) (may N B (request-laws N B) (v .request) (none .0)) p inv (v .seen) (begun-does N B (v .request) (v .seen) s m (v .begun) (v .marks) d) in
+      let sh = event-shown s m (v .request) (v .seen) (v .begun) (v .marks) x R K E (none .0) p inv kn t d in
       let t2 = step-tallies N B s m (v .request) (v .seen) (v .begun) x (a .0) R K E (none .0) (a .1) t sh in
       let b = history es m u (a .0) (byRecovery (v .request) (v .begun) + R) (cutSeen (v .seen) + K) (λ i. count (λ k. eqb i k) (v .begun) + E i) (none .1) (a .2) (move-known (a .1) (none .0) kn) t2 rest in
       (b .0, same-counts N B u (b .0) _ _ _ _ _ _ (omega arith) (omega arith) (λ i. omega arith) (b .1))
