@@ -7,12 +7,12 @@ use mathlib.Core.List.{List, [], _∷_, append-assoc}
 use native.Mathlib.Omega.{arith}
 use native.Mathlib.Nat.{mod-lt, add-mod-right}
 use lib.ListN.{length, getD, set, List·getD-append}
-use lib.Seq.{getD-drop, set-set, set-comm, getD-set-same}
+use lib.Seq.{getD-drop, set-set, set-comm, getD-set-same, getD-set-other}
 use borrow.Author.Tests.{eq-eqb}
 use Rattle.model.specs.Chip.{Image, Page, Bytes, rightSize, run, numberLimit}
 use Rattle.model.specs.Header.{erasePending, compacted, numberBytes, inverted, Version, newVersion, isFormer, tallyBytes, headerPage, headerVersion, headerStatus, oldIndex}
 use Rattle.model.specs.Slot.{Entry}
-use Rattle.model.specs.State.{Segment, blank, inUse, segmentsOf, isOwing, numberAfter, nextNumber, topIndex, nextIndex, topVersion, versionIn, usedCount, View, viewOf, view, entries, entriesIn, isClean, nextBlanked, settled, topSettled, isB, caseB, unfinished, state}
+use Rattle.model.specs.State.{Segment, blank, inUse, segmentsOf, isInUse, isOwing, numberAfter, nextNumber, topIndex, nextIndex, topVersion, versionIn, usedCount, View, viewOf, view, entries, entriesIn, isClean, nextBlanked, settled, topSettled, isB, caseB, unfinished, state}
 use Rattle.model.specs.Steps.{topNumber, hasRoom, headerAt, copied, nextVersion, compactOldest}
 use Rattle.model.specs.Histories.{shown}
 use Rattle.model.specs.Laws.Chip.{size-facts}
@@ -175,6 +175,8 @@ module _ (N B : ℕ) (s : Image) (v : View) (f : Full N B s v) where
     -- the number after the top's
     pub next : nextNumber (segmentsOf N B u) ≡ v .first + N
     pub version : topVersion N (segmentsOf N B u) ≡ nextVersion v
+    -- the old segment is in use still
+    pub old : isInUse (getD (segmentsOf N B u) (v .first % N) blank) ≡ true
 
   module _ (u : Image) (z : rightSize N B u ≡ true) (only : Only N B i s u) (e : segmentsOf N B u ≡ owing) where
     old-part : partOf N B (o % N) u ≡ partOf N B (o % N) s
@@ -202,6 +204,10 @@ module _ (N B : ℕ) (s : Image) (v : View) (f : Full N B s v) where
         let m : suc n % N ≡ o % N = ap (λ (y : ℕ). y % N) (sym turn) ∙ add-mod-right o N in
         rw (e, owing-next, d, m) (omega (arith, turn), keeps-of B (o % N) o u old-keeps)
 
+    used : isInUse (inUse (old-segment .0) (old-segment .1) o (getD (v .slots) 0 [])) ≡ true
+    unfolding isInUse
+    used = refl
+
     pub owing-left : Owing u
     owing-left =
         record {
@@ -209,4 +215,5 @@ module _ (N B : ℕ) (s : Image) (v : View) (f : Full N B s v) where
           pending = case-state N B u caseB z (rw e owing-case);
           next = ap nextNumber e ∙ (owing-next ∙ sym turn);
           version = ap (λ y. topVersion N y) e ∙ owing-version;
+          old = ap (λ (y : List Segment). isInUse (getD y (o % N) blank)) e ∙ (ap isInUse (getD-set-other segments i (o % N) (target erasePending) blank apart ∙ old-segment .2) ∙ used);
         }

@@ -78,6 +78,9 @@ unfolding countErase erasesIn
 count-none version1 = refl
 count-none (version2 total bits) = clear-none 32 bits
 
+pub counts-none : (N B : ℕ) (l : List Segment) → erasesIn (counts N B l) ≡ []
+counts-none N B l = on-page (headerAt N B (nextNumber l - 1)) (countErase (topVersion N l)) ∙ count-none (topVersion N l)
+
 module _ (N B : ℕ) (s : Image) (z : rightSize N B s ≡ true) (some : 0 < nextNumber (segmentsOf N B s)) (new : isFormer (topVersion N (segmentsOf N B s)) ≡ false) (bytes : Bytes s) where
   abbrev l : List Segment
   l = segmentsOf N B s
@@ -140,13 +143,10 @@ module _ (N B : ℕ) (s : Image) (z : rightSize N B s ≡ true) (some : 0 < next
   pub counted-then : (xs : List Step) → ((w : Image) (cs : List ℕ) (f : ℕ) → CutBegun B xs (run B (counts N B (segmentsOf N B s)) s) w cs f → (length cs ≤ 1) × SameTop N B (run B (counts N B (segmentsOf N B s)) s) w)
       → (u : Image) (es : List ℕ) (f : ℕ) → CutBegun B (counts N B (segmentsOf N B s) ++ xs) s u es f → Recovers N B s u es
   counted-then xs then u es f c = ⊎-elim
-      (λ d. let none : es ≡ [] = begun-none B (counts N B l) s u es f no-erase d in
+      (λ d. let none : es ≡ [] = begun-none B (counts N B l) s u es f (counts-none N B l) d in
       ⊎-elim (λ q. recovers-same N B s u es none (same-image N B s u q)) (λ q. recovers-counted u es (rw none (omega arith)) (same-image N B s1 u q)) (whole u (begun-cut B (counts N B l) s u es f d)))
-      (λ d. let e : es ≡ d .0 = d .2 ∙ ap (λ (y : List ℕ). y ++ d .0) no-erase in let r = then u (d .0) (d .1) (d .4) in recovers-counted u es (rw e (r .0)) (r .1))
+      (λ d. let e : es ≡ d .0 = d .2 ∙ ap (λ (y : List ℕ). y ++ d .0) (counts-none N B l) in let r = then u (d .0) (d .1) (d .4) in recovers-counted u es (rw e (r .0)) (r .1))
       (begun-append B (counts N B l) xs s u es f c)
-    where
-      no-erase : erasesIn (counts N B l) ≡ []
-      no-erase = on-page (headerAt N B n) (countErase (topVersion N l)) ∙ count-none (topVersion N l)
 
 -- ---- the cases
 

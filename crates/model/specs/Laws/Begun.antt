@@ -1,11 +1,11 @@
 -- Cuts with what they have begun are cuts, and every cut is one; so are histories. And cuts of lists one after the other.
-use Prim.Native.Nat.{ℕ, zero, suc, _+_}
+use Prim.Native.Nat.{ℕ, zero, suc, _+_, _≤_}
 use mathlib.Core.Path.{_≡_, refl, sym, ap, _∙_}
 use mathlib.Core.Logic.{_⊎_, inl, inr}
 use mathlib.Core.Bool.{Bool, true, false, cond}
 use mathlib.Core.List.{List, [], _∷_, _++_, append-assoc}
 use native.Mathlib.Omega.{arith}
-use lib.ListN.{take}
+use lib.ListN.{length, take, length-append}
 use Rattle.model.specs.Lists.{same, count}
 use Rattle.model.specs.Chip.{Image, Step, program, erase, step, run, Cut}
 use Rattle.model.specs.Table.{blocks}
@@ -141,6 +141,14 @@ begun-append B (x ∷ xs) ys s u es f (inr (inr (rest, more, e, g, c))) = go (be
       omega (arith, g, h, marks-cons B x xs),
       unfold run in d,
     )
+
+-- it begins no more erases than the list has
+pub begun-few : (B : ℕ) (xs : List Step) (s u : Image) (es : List ℕ) (f : ℕ) → CutBegun B xs s u es f → length es ≤ length (erasesIn xs)
+begun-few B [] s u es f c = rw (c .1) (omega arith)
+begun-few B (x ∷ xs) s u es f (inl c) = rw (c .1) (omega arith)
+begun-few B (x ∷ xs) s u es f (inr (inl c)) = rw (c .1, erases-cons x xs) (omega (arith, length-append (erasesIn (x ∷ [])) (erasesIn xs)))
+begun-few B (x ∷ xs) s u es f (inr (inr (rest, more, e, g, c))) =
+    rw (e, erases-cons x xs) (omega (arith, length-append (erasesIn (x ∷ [])) rest, length-append (erasesIn (x ∷ [])) (erasesIn xs), begun-few B xs (step B x s) u rest more c))
 
 -- a list without erases begins none
 pub begun-none : (B : ℕ) (xs : List Step) (s u : Image) (es : List ℕ) (f : ℕ) → erasesIn xs ≡ [] → CutBegun B xs s u es f → es ≡ []

@@ -1,0 +1,36 @@
+-- Request #112, "the erase count with cuts", as one statement over histories of any length.
+use Prim.Native.Nat.{ℕ, _+_, _-_, _*_, _/_, _≤_, _<_}
+use mathlib.Core.Path.{_≡_}
+use mathlib.Core.List.{List, [], _∷_}
+use Rattle.model.specs.Chip.{Image}
+use Rattle.model.specs.State.{clean, state}
+use Rattle.model.specs.Answers.{format, outcomeOf}
+use Rattle.model.specs.Sequences.{Ledger, start, eraseCount, erasesOf}
+use Rattle.model.specs.Begun.{Turn, Turns, cutsIn, byRecovery, marksOf, ledgerOf}
+use Rattle.tallied.specs.Law.{Unformatted}
+
+-- with F tidyings that reached the owing mark: the whole part of F/(N-1), times ((N-1)B - L), is at most R + K
+abbrev pub TidyingsPaid : ℕ → ℕ → List Turn → Type 0
+TidyingsPaid N B es = marksOf es / (N - 1) * ((N - 1) * B - ledgerOf es start .largest) ≤ ledgerOf es start .replaced + cutsIn es
+
+-- erases begun are at most F + K
+abbrev pub FewBegun : List Turn → Type 0
+FewBegun es = eraseCount (ledgerOf es start) ≤ marksOf es + cutsIn es
+
+-- the erases begun on any two segments differ by at most 1 + K
+abbrev pub WithinCuts : ℕ → List Turn → Type 0
+WithinCuts N es = (i j : ℕ) → i < N → j < N → erasesOf i (ledgerOf es start) ≤ erasesOf j (ledgerOf es start) + (1 + cutsIn es)
+
+-- a run of recovery never erases more than one segment
+abbrev pub OneErase : List Turn → Type 0
+OneErase [] = Unit {0}
+OneErase (e ∷ es) = (byRecovery (e .request) (e .begun) ≤ 1) × OneErase es
+
+-- Every history of put, delete, read and recover, with any arguments, from the image that a format that answered 0 left: each request answered, or cut anywhere.
+-- It may end anywhere, so that all this holds at every point of it, and after a cut anything may come, a recovery among it, cut again or not.
+abbrev pub WearWithCuts : Type 0
+WearWithCuts = (N B : ℕ) (s u : Image) (allowance : ℕ) (es : List Turn)
+    → outcomeOf N B s allowance format .code ≡ 0
+    → Turns N B (outcomeOf N B s allowance format .image) es u
+    → Unformatted es
+    → TidyingsPaid N B es × FewBegun es × (state N B u ≡ clean → WithinCuts N es) × OneErase es

@@ -1,0 +1,4 @@
+-- The statement, and histories on which each bound is computed.
+pub mod Law
+-- what one request may do
+pub mod Passes

@@ -1,0 +1,1 @@
+// Request #112: demand 3's count with cuts (specs/Law.antt).
