@@ -187,7 +187,7 @@ module _ (N B : ℕ) (s : Image) (z : rightSize N B s ≡ true) (e : state N B s
 
 -- the recovery cut
 pub cut-b : (N B : ℕ) (s : Image) (z : rightSize N B s ≡ true) (e : state N B s ≡ unfinished caseB) → Sound N B s → (u : Image) → CutOf N B s recover u → Kept N B s u
-cut-b N B s z e h u c = by-old N B s z e (Kept N B s u) blank-old (λ d. counted-old (rw (recover-steps N B s caseB z e ∙ d) at c))
+cut-b N B s z e h u c = by-old N B s z e (Kept N B s u) blank-old (λ q d. counted-old (rw (recover-steps N B s caseB z e ∙ d) at c))
   where
     l′ : List Segment
     l′ = segmentsOf N B s

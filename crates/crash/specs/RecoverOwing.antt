@@ -2,7 +2,7 @@
 use Prim.Native.Nat.{ℕ, suc, _+_, _-_, _*_, _%_, _≤_, _<_}
 use mathlib.Core.Path.{_≡_, refl, sym, ap, ap₂, _∙_, subst}
 use mathlib.Core.Logic.{_⊎_, _≢_}
-use mathlib.Core.Bool.{true, _||_, _&&_, false≢true}
+use mathlib.Core.Bool.{Bool, true, _||_, _&&_, false≢true}
 use mathlib.Core.List.{List, _∷_, _++_, append-assoc}
 use native.Mathlib.Omega.{arith}
 use native.Mathlib.Decide.{decLt}
@@ -194,6 +194,10 @@ module _ (N B : ℕ) (s : Image) (z : rightSize N B s ≡ true) (e : state N B s
     pub counted-next : nextNumber counted ≡ nextNumber l
     counted-next = like-next N l counted (left .1) in-list
 
+-- a segment that is not blank
+abbrev pub isUnblank : Segment → Bool
+isUnblank x = isInUse x || isInvalid x
+
 -- the segments after an erase of the old one and the status
 pub rest-segments : (N B : ℕ) (s : Image) (z : rightSize N B s ≡ true) (e : state N B s ≡ unfinished caseB)
     → segmentsOf N B (run B (erase (nextNumber (segmentsOf N B s) % N) ∷ settle N B (nextNumber (segmentsOf N B s) - 1)) s) ≡ mended N (segmentsOf N B s) caseB
@@ -215,7 +219,7 @@ module _ (N B : ℕ) (s : Image) (z : rightSize N B s ≡ true) (e : state N B s
   unfolding unlessBlank isInUse isInvalid
   steps-blank = refl
 
-  steps-else : (x : Segment) → (isInUse x || isInvalid x) ≡ true → steps-by x ≡ counts N B list ++ (erase (nextNumber list % N) ∷ mark)
+  steps-else : (x : Segment) → isUnblank x ≡ true → steps-by x ≡ counts N B list ++ (erase (nextNumber list % N) ∷ mark)
   unfolding unlessBlank eraseNext nextIndex
   steps-else x q = rw q (simp append-assoc)
 
@@ -225,19 +229,19 @@ module _ (N B : ℕ) (s : Image) (z : rightSize N B s ≡ true) (e : state N B s
 
   -- what is said of both
   pub by-old : (P : Type 0) → (getD list (nextNumber list % N) blank ≡ blank → mendSteps N B list caseB ≡ mark → P)
-      → (mendSteps N B list caseB ≡ counts N B list ++ (erase (nextNumber list % N) ∷ mark) → P) → P
+      → (isUnblank (getD list (nextNumber list % N) blank) ≡ true → mendSteps N B list caseB ≡ counts N B list ++ (erase (nextNumber list % N) ∷ mark) → P) → P
   by-old P f g = go (getD list (nextNumber list % N) blank) refl
     where
       go : (x : Segment) → getD list (nextNumber list % N) blank ≡ x → P
       go blank q = f q (steps-b ∙ (ap steps-by q ∙ steps-blank))
-      go invalid q = g (steps-b ∙ (ap steps-by q ∙ steps-else invalid (unfold isInUse isInvalid in refl)))
-      go (inUse ver st a ks) q = g (steps-b ∙ (ap steps-by q ∙ steps-else (inUse ver st a ks) (unfold isInUse in refl)))
+      go invalid q = g (ap isUnblank q ∙ (unfold isInUse isInvalid in refl)) (steps-b ∙ (ap steps-by q ∙ steps-else invalid (unfold isInUse isInvalid in refl)))
+      go (inUse ver st a ks) q = g (ap isUnblank q ∙ (unfold isInUse in refl)) (steps-b ∙ (ap steps-by q ∙ steps-else (inUse ver st a ks) (unfold isInUse in refl)))
 
   pub mended-b : Mended N B s caseB
   mended-b = by-old (Mended N B s caseB)
       (λ q d. like-of N (mended N list caseB) (segmentsOf N B (recovered N B s)) (ap (λ y. segmentsOf N B y) (recovered-run N B s caseB z e ∙ ap (λ y. run B y s) d)
       ∙ settled-there N B s z e s (size-facts N B s z .whole) (sym (ap (λ (y : Segment). set list (nextNumber list % N) y) (sym q) ∙ set-getD list (nextNumber list % N) blank))))
-      (λ d.
+      (λ q d.
       let t = run B (counts N B list) s in
       let zt = run-size N B (counts N B list) s ∙ z in
       let c = whole-cut B (counts N B list) s in

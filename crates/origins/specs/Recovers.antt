@@ -82,7 +82,7 @@ module _ (k : Slot) (told : Telling k) (N B : ℕ) (s : Image) (z : rightSize N 
   -- ---- (b)
 
   pub recovers-b : state N B s ≡ unfinished caseB → (u : Image) → CutOf N B s recover u → NoNew k N B s u
-  recovers-b e u c = RecoverOwing.by-old N B s z e (NoNew k N B s u) (λ q d. settled-alone q (rw (recover-steps N B s caseB z e ∙ d) at c)) (λ d. counted-first (rw (recover-steps N B s caseB z e ∙ d) at c))
+  recovers-b e u c = RecoverOwing.by-old N B s z e (NoNew k N B s u) (λ q d. settled-alone q (rw (recover-steps N B s caseB z e ∙ d) at c)) (λ q d. counted-first (rw (recover-steps N B s caseB z e ∙ d) at c))
     where
       mark : List Step
       mark = settle N B (nextNumber (segmentsOf N B s) - 1)

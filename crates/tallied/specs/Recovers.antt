@@ -182,7 +182,7 @@ module _ (N B : ℕ) (s : Image) (z : rightSize N B s ≡ true) (h : Sound N B s
     in-b e = by-old N B s z e (Recovers N B s u es)
         (λ q d. let k : CutBegun B mark s u es f = rw (recover-steps N B s caseB z e ∙ d) at c in
         recovers-same N B s u es (begun-none B mark s u es f (settle-none N B (nextNumber (segmentsOf N B s) - 1)) k) (settled-top N B s z e h q u (begun-cut B mark s u es f k)))
-        (λ d. counted-then N B s z (RecoverOwing.some N B s z e) new bytes (erase next ∷ mark)
+        (λ q d. counted-then N B s z (RecoverOwing.some N B s z e) new bytes (erase next ∷ mark)
         (λ w cs m k. (one-erase B next mark after w cs m (settle-none N B (nextNumber (segmentsOf N B s) - 1)) k, ended-top N B s z e h w (begun-cut B (erase next ∷ mark) after w cs m k))) u es f
         (rw (recover-steps N B s caseB z e ∙ d) at c))
 

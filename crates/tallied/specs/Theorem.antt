@@ -143,7 +143,7 @@ left-before N B s m used b = go (noBitLeft (topVersion N (segmentsOf N B s))) re
     go true e = absurd (true≢false (sym (used e) ∙ b))
     go false e = e
 
-count-least : (f : ℕ → Bool) (es : List ℕ) → count f es ≤ length es
+pub count-least : (f : ℕ → Bool) (es : List ℕ) → count f es ≤ length es
 unfolding count
 count-least f [] = omega arith
 count-least f (x ∷ es) = go (f x) (count-least f es)

@@ -2,3 +2,4 @@
 pub mod Law
 -- what one request may do
 pub mod Passes
+pub mod Recovers
