@@ -1,25 +1,27 @@
 -- The owing marks in the step lists: a compaction has one, its last step, and the other lists have none.
 use Prim.Native.Nat.{ℕ, suc, _+_, _-_, _*_, _/_, _%_, _≤_, _<_}
-use mathlib.Core.Path.{_≡_, refl, sym, _∙_}
-use mathlib.Core.Logic.{inl, inr}
-use mathlib.Core.Bool.{Bool, true, false, cond, _&&_}
+use mathlib.Core.Path.{_≡_, refl, sym, ap, _∙_}
+use mathlib.Core.Logic.{_⊎_, inl, inr, ⊎-elim}
+use mathlib.Core.Bool.{Bool, true, false, cond, _&&_, false≢true}
 use mathlib.Core.List.{List, [], _∷_, _++_, append-assoc}
 use native.Mathlib.Omega.{arith}
 use native.Mathlib.Nat.{mul-add-mod-self-right, mod-eq-of-lt, mul-mod-left}
-use lib.ListN.{length}
+use lib.ListN.{length, getD}
 use lib.Dec.{eqb}
 use borrow.Author.Tests.{ne-eqb}
-use Rattle.model.specs.Lists.{count}
-use Rattle.model.specs.Chip.{Page, Step, program, erase}
-use Rattle.model.specs.Header.{opened, erasePending, Version, version1, version2, noOldSegment, headerPage}
+use Rattle.model.specs.Lists.{same, count}
+use Rattle.model.specs.Chip.{Image, Page, Step, program, erase, clear, step, run}
+use Rattle.model.specs.Header.{opened, compactionBegun, erasePending, Version, version1, version2, noOldSegment, headerPage}
 use Rattle.model.specs.Slot.{mostContents, Entry}
 use Rattle.model.specs.State.{Place}
 use Rattle.model.specs.Steps.{programPart, onPage, headerAt, slotAt, writeSlot, markDead, markPlace, openSegment, copyEntries, copyOut, settle, highestBit, clearNext, countErase}
-use Rattle.model.specs.Begun.{isMark, marksIn}
+use Rattle.model.specs.Begun.{isMark, marksIn, CutBegun}
+use Rattle.model.specs.Laws.Bytes.{same-eq, same-refl, OneBit, erase-pending-bit}
 use Rattle.model.specs.Laws.Pages.{InPage, in-part, on-page-append}
 use Rattle.model.specs.Laws.Programs.{Spares, Outside, spares-part}
-use Rattle.model.specs.Laws.HeaderPage.{openingHeader, compactionHeader, numberHeader, settledHeader, open-segment-page, copy-out-pages, settle-page, pending-parts, opening-in-page, compaction-in-page, number-in-page, settled-in-page}
+use Rattle.model.specs.Laws.HeaderPage.{openingHeader, compactionHeader, numberHeader, settledHeader, open-segment-page, copy-out-pages, settle-page, pending-parts, opening-in-page, compaction-in-page, number-in-page, settled-in-page, clear-compaction}
 use Rattle.model.specs.Laws.SlotPage.{write-in-page}
+use Rattle.model.specs.Laws.PageCuts.{one-bit-cut}
 use Rattle.model.specs.Laws.CopyOut.{Valids}
 use Rattle.model.specs.Laws.Counted.{clear-in-page}
 use Rattle.model.specs.Laws.Begun.{marks-append}
@@ -146,3 +148,19 @@ mark-one N B n = header-marks B (n % N) (program 5 erasePending ∷ []) (omega a
 
 pub copy-out-one : (N B : ℕ) (ver : Version) (o n : ℕ) (es : List Entry) → Valids es → length es ≤ B → marksIn B (copyOut N B ver o n es) ≡ 1
 copy-out-one N B ver o n es v h = rw (copy-out-marks N B ver o n es, marks-append B (numbered N B ver o n es) (owingMark N B n ∷ []), numbered-unmarked N B ver o n es v h, mark-one N B n)
+
+-- the mark is one bit: a cut of it leaves the image as it was, or has reached it
+pub mark-begun : (N B n : ℕ) (s t : Image) (ds : List ℕ) (f : ℕ) → getD s (headerAt N B n * 256 + 5) 0 ≡ compactionBegun → CutBegun B (owingMark N B n ∷ []) s t ds f
+    → ((t ≡ s) × (f ≡ 0)) ⊎ ((t ≡ run B (owingMark N B n ∷ []) s) × (f ≡ 1))
+unfolding run
+mark-begun N B n s t ds f e (inl c) = inl (c .0, c .2)
+mark-begun N B n s t ds f e (inr (inr (rest, more, g, h, c))) = inr (c .0, omega (arith, h, c .2, mark-one N B n))
+mark-begun N B n s t ds f e (inr (inl c)) = go (same t (step B (owingMark N B n) s)) refl (c .2)
+  where
+    one : OneBit (clear (getD s (headerAt N B n * 256 + 5) 0) erasePending) (getD s (headerAt N B n * 256 + 5) 0)
+    one = rw (e, clear-compaction) erase-pending-bit
+
+    go : (b : Bool) → same t (step B (owingMark N B n) s) ≡ b → f ≡ cond b (marksIn B (owingMark N B n ∷ [])) 0 → ((t ≡ s) × (f ≡ 0)) ⊎ ((t ≡ step B (owingMark N B n) s) × (f ≡ 1))
+    go true q h = inr (same-eq t (step B (owingMark N B n) s) q, h ∙ mark-one N B n)
+    go false q h = ⊎-elim (λ k. inl (k, h)) (λ k. absurd (false≢true (sym q ∙ (ap (λ y. same y (step B (owingMark N B n) s)) k ∙ same-refl (step B (owingMark N B n) s)))))
+        (one-bit-cut B (headerAt N B n * 256 + 5) erasePending s t one (inr (inl (c .0))))
