@@ -8,25 +8,29 @@ use native.Mathlib.Omega.{arith}
 use native.Mathlib.Nat.{add-mod-right}
 use lib.ListN.{length, getD, set}
 use lib.Seq.{getD-set-same, getD-set-other}
-use Rattle.model.specs.Chip.{Image, Page, Step, erase, rightSize, run, numberLimit, imageLength, erased, Cut}
-use Rattle.model.specs.Header.{newVersion, isFormer, tallyOf}
+use Rattle.model.specs.Chip.{Image, Page, Step, program, erase, rightSize, run, numberLimit, imageLength, erased, Cut}
+use Rattle.model.specs.Header.{compactionBegun, erasePending, newVersion, isFormer, tallyOf}
 use Rattle.model.specs.Slot.{Entry}
 use Rattle.model.specs.State.{segmentOf, segmentsOf, View, entries, entriesIn}
 use Rattle.model.specs.Steps.{topNumber, hasRoom, onPage, headerAt, slotAt, writeSlot, copyEntries, copyOut, compact, settle, nextVersion, openNext, compactOldest}
 use Rattle.model.specs.Laws.Chip.{run-append, run-length, run-size, cut-append, cut-size, whole-cut, SizeFacts, size-facts}
 use Rattle.model.specs.Laws.Pages.{InPage}
-use Rattle.model.specs.Laws.HeaderPage.{openingHeader, compactionHeader, pendingHeader, open-segment-page, copy-out-pages, opening-in-page, compaction-in-page, pending-in-page, begunPage, opening-run, pending-run}
+use Rattle.model.specs.Laws.HeaderPage.{openingHeader, compactionHeader, numberHeader, open-segment-page, opening-in-page, compaction-in-page, number-in-page, begunPage, opening-run}
 use Rattle.model.specs.Laws.SlotPage.{write-in-page}
-use Rattle.model.specs.Laws.PageCuts.{opening-cut, compaction-cut, begun-bit-6, pending-cut}
+use Rattle.model.specs.Laws.PageCuts.{opening-cut, compaction-cut, begun-bit-6, number-cut}
 use Rattle.model.specs.Laws.Segments.{partOf, part-size, Only, only-segments, only-trans, only-cut, part-run, part-cut}
 use Rattle.model.specs.Laws.Effects.{index, blank-page, header-only, header-run, few}
 use Rattle.model.specs.Laws.CopyOut.{Valids, copy-in-segment, begun}
+use Rattle.model.specs.Begun.{marksIn, CutBegun}
+use Rattle.model.specs.Laws.Begun.{cut-begun, begun-cut, Behind, begun-append, begun-unmarked}
+use Rattle.model.specs.Laws.Marks.{numbered, owingMark, copy-out-marks, numbered-unmarked, mark-begun}
 use Rattle.bridge.specs.Predicted.{CleanView, Carries}
 use Rattle.bridge.specs.Views.Shape.{opened-entries}
 use Rattle.bridge.specs.Views.Room.{opened-clean}
 use Rattle.bridge.specs.Held.{Held}
 use Rattle.bridge.specs.Done.{next-free, open-held, ring-closed, old-after, copied-segments}
 use Rattle.crash.specs.States.{ShowsOf, with-shows, kept-with}
+use Rattle.crash.specs.RecoverCount.{header-byte}
 use Rattle.crash.specs.OwingCuts.{rest-cut}
 use Rattle.crash.specs.RoomTorn.{BitSix, held-shows, next-torn}
 use Rattle.crash.specs.RoomOwing.{Full, old-valid, old-fits, compacted-shows, Owing, owing-left}
@@ -196,50 +200,91 @@ module _ (N B : ℕ) (s : Image) (v : View) (f : Full N B s v) where
   copy-torn : (u : Image) → Cut B copying s1 u → TornNext N B s v u
   copy-torn u c = (copy-touched u c, rw (copy-page u c) (begun-bit-6 N B (o % N)))
 
-  -- the number and the owing mark
+  -- the number, up to the owing mark
   abbrev s2 : Image
   s2 = run B copying s1
 
   size2 : SizeFacts N B s2
   size2 = size-facts N B s2 (run-size N B copying s1 ∙ (run-size N B begin s ∙ h .size))
 
-  abbrev finish : List Step
-  finish = onPage (headerAt N B n) (pendingHeader N B (nextVersion v) n (o % N))
+  abbrev number : List Step
+  number = onPage (headerAt N B n) (numberHeader N B (nextVersion v) n (o % N))
 
-  the-run : run B (copyOut N B (nextVersion v) o n es) s ≡ run B finish s2
-  the-run = ap (λ (x : List Step). run B x s) (copy-out-pages N B (nextVersion v) o n es) ∙ (run-append B begin (copying ++ finish) s ∙ run-append B copying finish s1)
+  number-page : InPage (numberHeader N B (nextVersion v) n (o % N))
+  number-page = number-in-page N B (nextVersion v) n (o % N)
 
-  touched2 : (u : Image) → Cut B finish s2 u → Only N B i s u
-  touched2 u c = only-trans N B i s s2 u (copy-touched s2 (whole-cut B copying s1)) (header-touched N B s2 size2 n (f .below) (pendingHeader N B (nextVersion v) n (o % N)) (pending-in-page N B (nextVersion v) n (o % N)) u c)
+  number-status : (u : Image) → Cut B number s2 u → getD (getD (partOf N B i u) 0 []) 5 0 ≡ compactionBegun
+  number-status u c = number-cut N B (nextVersion v) n (o % N) (getD (partOf N B i u) 0 [])
+      (header-cut N B s2 size2 n (f .below) (numberHeader N B (nextVersion v) n (o % N)) number-page u c (begunPage N B (o % N)) (copy-page s2 (whole-cut B copying s1)))
+
+  number-torn : (u : Image) → Cut B number s2 u → TornNext N B s v u
+  number-torn u c = (
+    only-trans N B i s s2 u (copy-touched s2 (whole-cut B copying s1)) (header-touched N B s2 size2 n (f .below) (numberHeader N B (nextVersion v) n (o % N)) number-page u c),
+    rw (number-status u c) refl,
+  )
+
+  -- all three
+  numbered-torn : (u : Image) → Cut B (numbered N B (nextVersion v) o n es) s u → TornNext N B s v u
+  unfolding numbered
+  numbered-torn u c =
+      ⊎-elim (λ k. begin-torn u k) (λ k. ⊎-elim (λ r. copy-torn u r) (λ r. number-torn u r) (cut-append B copying number s1 u k)) (cut-append B begin (copying ++ number) s u c)
+
+  -- the owing mark
+  abbrev s3 : Image
+  s3 = run B (numbered N B (nextVersion v) o n es) s
+
+  status3 : getD s3 (headerAt N B n * 256 + 5) 0 ≡ compactionBegun
+  unfolding numbered headerAt
+  status3 =
+      sym (header-byte N B i 5 s3 (index N B (d .two) s (d .whole) n) (omega arith))
+      ∙ (ap (λ (x : Image). getD (getD (partOf N B i x) 0 []) 5 0) (run-append B begin (copying ++ number) s ∙ run-append B copying number s1) ∙ number-status (run B number s2) (whole-cut B number s2))
+
+  the-run : run B (copyOut N B (nextVersion v) o n es) s ≡ run B (owingMark N B n ∷ []) s3
+  the-run = ap (λ (x : List Step). run B x s) (copy-out-marks N B (nextVersion v) o n es) ∙ run-append B (numbered N B (nextVersion v) o n es) (owingMark N B n ∷ []) s
+
+  whole-touched : Only N B i s (run B (copyOut N B (nextVersion v) o n es) s)
+  unfolding onPage
+  whole-touched =
+      let size3 = size-facts N B s3 (run-size N B (numbered N B (nextVersion v) o n es) s ∙ h .size) in
+      rw the-run (only-trans N B i s s3 (run B (owingMark N B n ∷ []) s3) (numbered-torn s3 (whole-cut B (numbered N B (nextVersion v) o n es) s) .0)
+      (header-touched N B s3 size3 n (f .below) (program 5 erasePending ∷ []) (omega arith, tt) (run B (owingMark N B n ∷ []) s3) (whole-cut B (owingMark N B n ∷ []) s3)))
 
   -- with the segments of the whole of it, the image owes the erase
-  owes : (u : Image) → rightSize N B u ≡ true → Only N B i s u → segmentsOf N B u ≡ segmentsOf N B (run B (copyOut N B (nextVersion v) o n es) s) → Owing N B s v f u
+  pub owes : (u : Image) → rightSize N B u ≡ true → Only N B i s u → segmentsOf N B u ≡ segmentsOf N B (run B (copyOut N B (nextVersion v) o n es) s) → Owing N B s v f u
   owes u z touched e = owing-left N B s v f u z touched (e ∙ copied-segments N B s v h (f .carries) (f .below) (f .all) es (old-valid N B s v f) (old-fits N B s v f))
 
-  finish-left : (u : Image) → Cut B finish s2 u → TornNext N B s v u ⊎ (Only N B i s u × (segmentsOf N B u ≡ segmentsOf N B (run B (copyOut N B (nextVersion v) o n es) s)))
-  unfolding nextVersion
-  finish-left u c =
-      let xs = pendingHeader N B (nextVersion v) n (o % N) in
-      let p = pending-in-page N B (nextVersion v) n (o % N) in
-      let page2 = copy-page s2 (whole-cut B copying s1) in
-      ⊎-elim
-      (λ six. inl (touched2 u c, six))
-      (λ e. let whole = header-whole N B s2 size2 n (f .below) xs p u c (e ∙ sym (ap (λ (x : Page). run B xs x) page2 ∙ pending-run N B (tallyOf (v .version)) n (o % N))) in
-      inr (touched2 u c, whole ∙ ap (λ x. segmentsOf N B x) (sym the-run)))
-      (pending-cut N B (tallyOf (v .version)) n (o % N) (getD (partOf N B i u) 0 []) (header-cut N B s2 size2 n (f .below) xs p u c (begunPage N B (o % N)) page2))
+  -- the mark is not reached and the target torn, or it is and the target owes the erase
+  pub copy-out-marked : (u : Image) (ds : List ℕ) (m : ℕ) → CutBegun B (copyOut N B (nextVersion v) (v .first) (suc (topNumber v)) (entries (getD (v .slots) 0 []))) s u ds m
+      → ((m ≡ 0) × TornNext N B s v u)
+      ⊎ ((m ≡ 1) × Only N B (suc (topNumber v) % N) s u
+      × (segmentsOf N B u ≡ segmentsOf N B (run B (copyOut N B (nextVersion v) (v .first) (suc (topNumber v)) (entries (getD (v .slots) 0 []))) s)))
+  copy-out-marked u ds m c = go (begun-append B before (owingMark N B n ∷ []) s u ds m (rw (copy-out-marks N B (nextVersion v) o n es) at c))
+    where
+      before : List Step
+      before = numbered N B (nextVersion v) o n es
+
+      none : marksIn B before ≡ 0
+      none = numbered-unmarked N B (nextVersion v) o n es (old-valid N B s v f) (old-fits N B s v f)
+
+      go : CutBegun B before s u ds m ⊎ Behind B before (owingMark N B n ∷ []) s u ds m
+          → ((m ≡ 0) × TornNext N B s v u) ⊎ ((m ≡ 1) × Only N B i s u × (segmentsOf N B u ≡ segmentsOf N B (run B (copyOut N B (nextVersion v) o n es) s)))
+      go (inl k) = inl (begun-unmarked B before s u ds m none k, numbered-torn u (begun-cut B before s u ds m k))
+      go (inr (rest, more, e, g, k)) =
+          ⊎-elim
+          (λ r. inl (omega (arith, none, g, r .1), rw (r .0) (numbered-torn s3 (whole-cut B before s))))
+          (λ r. inr (omega (arith, none, g, r .1), rw (r .0, ← the-run) whole-touched, ap (λ x. segmentsOf N B x) (r .0 ∙ sym the-run)))
+          (mark-begun N B n s3 u rest more status3 k)
 
   -- the target is still torn, or it owes the erase
   pub copy-out-left : (u : Image) → Cut B (copyOut N B (nextVersion v) (v .first) (suc (topNumber v)) (entries (getD (v .slots) 0 []))) s u
       → TornNext N B s v u
       ⊎ (Only N B (suc (topNumber v) % N) s u
       × (segmentsOf N B u ≡ segmentsOf N B (run B (copyOut N B (nextVersion v) (v .first) (suc (topNumber v)) (entries (getD (v .slots) 0 []))) s)))
-  copy-out-left u c =
-      ⊎-elim (λ k. inl (begin-torn u k)) (λ k. ⊎-elim (λ r. inl (copy-torn u r)) (λ r. finish-left u r) (cut-append B copying finish s1 u k))
-      (cut-append B begin (copying ++ finish) s u (rw (copy-out-pages N B (nextVersion v) o n es) at c))
+  copy-out-left u c = let (ds, m, k) = cut-begun B (copyOut N B (nextVersion v) o n es) s u c in ⊎-elim (λ t. inl (t .1)) (λ t. inr (t .1, t .2)) (copy-out-marked u ds m k)
 
   -- whole, it owes it
   pub owed : Owing N B s v f (run B (copyOut N B (nextVersion v) (v .first) (suc (topNumber v)) (entries (getD (v .slots) 0 []))) s)
-  owed = owes (run B (copyOut N B (nextVersion v) o n es) s) (run-size N B (copyOut N B (nextVersion v) o n es) s ∙ h .size) (rw the-run (touched2 (run B finish s2) (whole-cut B finish s2))) refl
+  owed = owes (run B (copyOut N B (nextVersion v) o n es) s) (run-size N B (copyOut N B (nextVersion v) o n es) s ∙ h .size) whole-touched refl
 
   copy-out-cut : (u : Image) → Cut B (copyOut N B (nextVersion v) o n es) s u → ShowsOf N B u v
   copy-out-cut u c =

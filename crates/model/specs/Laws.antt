@@ -28,7 +28,9 @@ pub mod Counted
 pub mod Blank
 -- a mount, and what refuses a mounted call
 pub mod Mounted
--- the bench table
+-- what a cut has begun, and which steps set the owing mark
 pub mod Begun
+pub mod Marks
+-- the bench table
 pub mod Bench
 pub mod Counts

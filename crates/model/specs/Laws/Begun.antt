@@ -22,7 +22,7 @@ begun-cut B (x ∷ xs) s u es f (inr (inl c)) = inr (inl (c .0))
 begun-cut B (x ∷ xs) s u es f (inr (inr (rest, more, e, g, c))) = inr (inr (begun-cut B xs (step B x s) u rest more c))
 
 -- and every cut has begun something
-cut-begun : (B : ℕ) (xs : List Step) (s u : Image) → Cut B xs s u → (es : List ℕ) × (f : ℕ) × CutBegun B xs s u es f
+pub cut-begun : (B : ℕ) (xs : List Step) (s u : Image) → Cut B xs s u → (es : List ℕ) × (f : ℕ) × CutBegun B xs s u es f
 cut-begun B [] s u c = ([], 0, (c, refl, refl))
 cut-begun B (x ∷ xs) s u (inl c) = ([], 0, inl (c, refl, refl))
 cut-begun B (x ∷ xs) s u (inr (inl c)) = (erasesIn (x ∷ []), cond (same u (step B x s)) (marksIn B (x ∷ [])) 0, inr (inl (c, refl, refl)))

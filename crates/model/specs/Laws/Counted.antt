@@ -66,7 +66,7 @@ clear-cut B (x ∷ xs) p at u e c = go (eqb x 0) (λ k. clear-cut B xs (p ++ (x 
     go false later (inr (inr q)) = (clear (getD (p ++ (x ∷ xs)) at 0) (x - highestBit x) ∷ xs, q ∙ (unfold step in set-behind p x (clear (getD (p ++ (x ∷ xs)) at 0) (x - highestBit x)) xs at e), refl)
 
 -- the steps stay in the page
-clear-in-page : (bits : List ℕ) (at : ℕ) → at + length bits ≤ 256 → InPage (clearNext at bits)
+pub clear-in-page : (bits : List ℕ) (at : ℕ) → at + length bits ≤ 256 → InPage (clearNext at bits)
 unfolding clearNext
 clear-in-page [] at h = tt
 clear-in-page (x ∷ xs) at h = go (eqb x 0) (clear-in-page xs (suc at) (omega arith))

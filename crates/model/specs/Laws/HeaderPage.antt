@@ -2,7 +2,7 @@
 use Prim.Native.Nat.{ℕ, suc, _+_, _-_, _/_, _%_, _≤_, _<_}
 use mathlib.Core.Path.{_≡_, refl, sym, ap, _∙_}
 use mathlib.Core.Bool.{Bool, true, false, cond, _&&_}
-use mathlib.Core.List.{List, [], _∷_, _++_}
+use mathlib.Core.List.{List, [], _∷_, _++_, append-assoc}
 use native.Mathlib.Omega.{arith}
 use native.Mathlib.Nat.{mod-eq-of-lt, mod-add-mod, mod-lt, add-mod-right}
 use lib.ListN.{getD}
@@ -151,6 +151,10 @@ compactionHeader N B ver n old = let h = headerPage N B ver erasePending n old i
 unfoldable pub pendingHeader : ℕ → ℕ → Version → ℕ → ℕ → List Step
 pendingHeader N B ver n old = let h = headerPage N B ver erasePending n old in programPart h 17 4 ++ (programPart h 8 8 ++ (program 5 erasePending ∷ []))
 
+-- that without the owing mark, which comes last
+unfoldable pub numberHeader : ℕ → ℕ → Version → ℕ → ℕ → List Step
+numberHeader N B ver n old = let h = headerPage N B ver erasePending n old in programPart h 17 4 ++ programPart h 8 8
+
 unfoldable pub settledHeader : List Step
 settledHeader = program 5 compacted ∷ []
 
@@ -162,6 +166,10 @@ pub copy-out-pages : (N B : ℕ) (ver : Version) (o n : ℕ) (es : List Entry)
     → copyOut N B ver o n es ≡ onPage (headerAt N B n) (compactionHeader N B ver n (o % N)) ++ (copyEntries N B n 0 es ++ onPage (headerAt N B n) (pendingHeader N B ver n (o % N)))
 unfolding copyOut compactionHeader pendingHeader
 copy-out-pages N B ver o n es = refl
+
+pub pending-parts : (N B : ℕ) (ver : Version) (n old : ℕ) → pendingHeader N B ver n old ≡ numberHeader N B ver n old ++ (program 5 erasePending ∷ [])
+unfolding pendingHeader numberHeader
+pending-parts N B ver n old = simp append-assoc
 
 pub settle-page : (N B n : ℕ) → settle N B n ≡ onPage (headerAt N B n) settledHeader
 unfolding settle settledHeader
@@ -180,10 +188,12 @@ unfolding compactionHeader
 compaction-in-page N B ver n old = let h = headerPage N B ver erasePending n old in
     (omega arith, in-append (programPart h 0 5) _ (in-part h 0 5 (omega arith)) (in-append (programPart h 6 2) _ (in-part h 6 2 (omega arith)) (in-part h 16 1 (omega arith))))
 
+pub number-in-page : (N B : ℕ) (ver : Version) (n old : ℕ) → InPage (numberHeader N B ver n old)
+unfolding numberHeader
+number-in-page N B ver n old = let h = headerPage N B ver erasePending n old in in-append (programPart h 17 4) _ (in-part h 17 4 (omega arith)) (in-part h 8 8 (omega arith))
+
 pub pending-in-page : (N B : ℕ) (ver : Version) (n old : ℕ) → InPage (pendingHeader N B ver n old)
-unfolding pendingHeader
-pending-in-page N B ver n old = let h = headerPage N B ver erasePending n old in
-    in-append (programPart h 17 4) _ (in-part h 17 4 (omega arith)) (in-append (programPart h 8 8) _ (in-part h 8 8 (omega arith)) (omega arith, tt))
+pending-in-page N B ver n old = rw (pending-parts N B ver n old) (in-append (numberHeader N B ver n old) _ (number-in-page N B ver n old) (omega arith, tt))
 
 pub settled-in-page : InPage settledHeader
 unfolding settledHeader

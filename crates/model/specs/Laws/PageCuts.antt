@@ -11,9 +11,9 @@ use Rattle.model.specs.Header.{openingBegun, opened, compactionBegun, er
 use Rattle.model.specs.Slot.{writeBegun, written, slotPage, Slot, empty, torn, live, slotOf}
 use Rattle.model.specs.Steps.{programPart, writeSlot}
 use Rattle.model.specs.Laws.Chip.{run-append, cut-append}
-use Rattle.model.specs.Laws.Bytes.{clear-erased, erased-get, erased-length, OneBit, begun-bit, written-bit, live-dead-bit, torn-cut-bit, compaction-begun-bit, erase-pending-bit}
+use Rattle.model.specs.Laws.Bytes.{clear-erased, erased-get, erased-length, OneBit, begun-bit, written-bit, live-dead-bit, torn-cut-bit, compaction-begun-bit}
 use Rattle.model.specs.Laws.Programs.{Spares, spares-append, spares-part, spared-run, spared-cut}
-use Rattle.model.specs.Laws.HeaderPage.{erased-bit-6, openingHeader, compactionHeader, pendingHeader, begunPage, opening-run, pending-run, clear-begun, clear-compaction}
+use Rattle.model.specs.Laws.HeaderPage.{erased-bit-6, openingHeader, compactionHeader, numberHeader, begunPage, opening-run, clear-begun}
 use Rattle.model.specs.Laws.SlotPage.{Valid, slot-live, erased-empty, begun-torn, writeMiddle, write-parts, write-run, Markable, clear-live, clear-torn, clear-written}
 
 -- ---- a status of one bit, programmed first or last
@@ -147,12 +147,10 @@ begun-status N B old = refl
 pub begun-bit-6 : (N B old : ℕ) → getD (begunPage N B old) 5 0 / 64 % 2 ≡ 1
 begun-bit-6 N B old = bit-6 compactionBegun (begunPage N B old) (begun-status N B old) refl
 
-pub pending-cut : (N B t n old : ℕ) (u : Page) → Cut B (pendingHeader N B (newVersion t) n old) (begunPage N B old) u
-    → (getD u 5 0 / 64 % 2 ≡ 1) ⊎ (u ≡ headerPage N B (newVersion t) erasePending n old)
-pending-cut N B t n old u k =
-    let h = headerPage N B (newVersion t) erasePending n old in
-    let e = begun-status N B old in
-    let parts : pendingHeader N B (newVersion t) n old ≡ (programPart h 17 4 ++ programPart h 8 8) ++ (program 5 erasePending ∷ []) = (unfold pendingHeader in simp append-assoc) in
-    ⊎-elim (λ g. inl (bit-6 compactionBegun u (g ∙ e) refl)) (λ g. inr (g ∙ (ap (λ y. run B y (begunPage N B old)) (sym parts) ∙ pending-run N B t n old)))
-    (finish-cut B 5 erasePending (programPart h 17 4 ++ programPart h 8 8) (begunPage N B old) u (rw (e, clear-compaction) erase-pending-bit)
-    (spares-append 5 (programPart h 17 4) (programPart h 8 8) (spares-part 5 h 17 4 (inl (omega arith))) (spares-part 5 h 8 8 (inl (omega arith)))) (rw parts at k))
+-- and the bytes before the owing mark leave the status as it is
+pub number-cut : (N B : ℕ) (ver : Version) (n old : ℕ) (u : Page) → Cut B (numberHeader N B ver n old) (begunPage N B old) u → getD u 5 0 ≡ compactionBegun
+unfolding numberHeader
+number-cut N B ver n old u k = let h = headerPage N B ver erasePending n old in
+    spared-cut B 5 (numberHeader N B ver n old) (begunPage N B old) u
+    (spares-append 5 (programPart h 17 4) (programPart h 8 8) (spares-part 5 h 17 4 (inl (omega arith))) (spares-part 5 h 8 8 (inl (omega arith)))) k
+    ∙ begun-status N B old

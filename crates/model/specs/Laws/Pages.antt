@@ -87,6 +87,12 @@ all-erased N B xs ps h =
 
 -- ---- steps inside one page
 
+pub on-page-append : (p : ℕ) (xs ys : List Step) → onPage p (xs ++ ys) ≡ onPage p xs ++ onPage p ys
+unfolding onPage
+on-page-append p [] ys = refl
+on-page-append p (program at v ∷ xs) ys = ap {B = List Step} (λ z. program (p * 256 + at) v ∷ z) (on-page-append p xs ys)
+on-page-append p (erase i ∷ xs) ys = ap {B = List Step} (λ z. erase i ∷ z) (on-page-append p xs ys)
+
 -- every step programs a byte of a page
 abbrev pub InPage : List Step → Type 0
 InPage [] = Unit {0}
