@@ -244,6 +244,9 @@ module _ (N B : ℕ) (s : Image) (z : rightSize N B s ≡ true) (cl : state N B 
     pub roomed-table : Agree (entriesIn (roomFor N B (view N B s) .result)) (entriesIn (view N B s))
     roomed-table = made .table
 
+    pub roomed-size : length (entriesIn (roomFor N B (view N B s) .result)) ≡ length (entriesIn (view N B s))
+    roomed-size = made .size
+
     -- it is of version 2 as before
     pub roomed-former : isFormer (roomFor N B (view N B s) .result .version) ≡ isFormer (view N B s .version)
     roomed-former = room-former N B v (passes .second)

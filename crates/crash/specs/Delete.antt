@@ -41,11 +41,16 @@ module _ (N B : ℕ) (s : Image) (b : ℕ) (z : rightSize N B s ≡ true) (h : C
   unfolding view
   marks = live-marks (live-place N (segmentsOf N B s) b (delete-passed N B s b (accepted N B s (delete b) a .1)))
 
+  -- one step without an inside
+  pub delete-whole : (u : Image) → CutOf N B s (delete b) u → (u ≡ s) ⊎ (u ≡ finished N B s (delete b))
+  delete-whole u c = ⊎-elim (λ q. inl q) (λ q. inr (q ∙ ap (λ (y : List Step). run B y s) (sym steps)))
+      (mark-whole N B s z (placeOf b (view N B s) .number) (placeOf b (view N B s) .slot) dead marks u (rw steps at c))
+
   pub delete-cut : (u : Image) → CutOf N B s (delete b) u → LeftWith N B u (tableOf N B s) (without b (tableOf N B s)) (formerIn N B s)
   delete-cut u c = ⊎-elim
       (λ q. subst Left (sym q) (let d = clean-shows N B s (tableOf N B s) (formerIn N B s) (h, agree-of (tableOf N B s) (tableOf N B s) refl, refl) in (d .0, inl (d .1), d .2)))
-      (λ q. subst Left (sym (q ∙ ap (λ (y : List Step). run B y s) (sym steps))) (let d = clean-shows N B (finished N B s (delete b)) (without b (tableOf N B s)) (formerIn N B s) finished-delete in (d .0, inr (d .1), d .2)))
-      (mark-whole N B s z (placeOf b (view N B s) .number) (placeOf b (view N B s) .slot) dead marks u (rw steps at c))
+      (λ q. subst Left (sym q) (let d = clean-shows N B (finished N B s (delete b)) (without b (tableOf N B s)) (formerIn N B s) finished-delete in (d .0, inr (d .1), d .2)))
+      (delete-whole u c)
     where
       Left : Image → Type 0
       Left y = LeftWith N B y (tableOf N B s) (without b (tableOf N B s)) (formerIn N B s)
@@ -53,8 +58,9 @@ module _ (N B : ℕ) (s : Image) (b : ℕ) (z : rightSize N B s ≡ true) (h : C
   -- the slot is marked or not
   pub delete-left : (u : Image) → CutOf N B s (delete b) u → (u ≡ s)
       ⊎ (segmentsOf N B u ≡ set (segmentsOf N B s) (placeOf b (view N B s) .number % N) (withSlot (placeOf b (view N B s) .slot) dead (getD (segmentsOf N B s) (placeOf b (view N B s) .number % N) blank)))
-  delete-left u c = ⊎-elim (λ q. inl q) (λ q. inr (ap (λ y. segmentsOf N B y) q ∙ mark-segments N B s z (placeOf b (view N B s) .number) (placeOf b (view N B s) .slot) dead marks))
-      (mark-whole N B s z (placeOf b (view N B s) .number) (placeOf b (view N B s) .slot) dead marks u (rw steps at c))
+  delete-left u c = ⊎-elim (λ q. inl q)
+      (λ q. inr (ap (λ y. segmentsOf N B y) (q ∙ ap (λ (y : List Step). run B y s) steps) ∙ mark-segments N B s z (placeOf b (view N B s) .number) (placeOf b (view N B s) .slot) dead marks))
+      (delete-whole u c)
 
   pub delete-top : (u : Image) → CutOf N B s (delete b) u → SameTop N B s u
   delete-top u c = ⊎-elim (λ q. same-image N B s u q) (λ q. same-slot N B s u (placeOf b (view N B s) .number % N) (placeOf b (view N B s) .slot) dead q) (delete-left u c)

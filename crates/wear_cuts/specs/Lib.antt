@@ -3,3 +3,4 @@ pub mod Law
 -- what one request may do
 pub mod Passes
 pub mod Recovers
+pub mod Puts

@@ -44,8 +44,8 @@ pub record Passes (N B k e : ℕ) (s u : Image) (es : List ℕ) (f : ℕ) : Type
   pub owed : (i : ℕ) → erasesAt N (recoveredView N B u .first) i + erasesIf i (due N B s) ≤ erasesAt N (recoveredView N B s .first) i + erasesIf i es + erasesIf i (due N B u)
   pub paid : (L R : ℕ) → length (shown N B s) ≤ L → PaidView N B L R (recoveredView N B s) → PaidView N B L (R + k) (recoveredView N B u)
 
-pub paid-more : (N B L R k : ℕ) (v : View) → PaidView N B L R v → PaidView N B L (R + k) v
-paid-more N B L R k v p = paid-after ((N - 1) * B - L) (R + k) 0 (v .slots) (omega arith) (omega arith) (λ q. omega arith) p
+pub paid-more : (N B L R S : ℕ) (v : View) → R ≤ S → PaidView N B L R v → PaidView N B L S v
+paid-more N B L R S v h p = paid-after ((N - 1) * B - L) S 0 (v .slots) (omega arith) (omega arith) (λ q. omega arith) p
 
 -- the same, by views with the same rows
 pub passes-views : (N B k e : ℕ) (s u : Image) (es : List ℕ) (f : ℕ) (v w : View) → SameRows (recoveredView N B s) v → SameRows (recoveredView N B u) w → w .first ≡ v .first + f → length es ≤ f + e
@@ -68,7 +68,7 @@ passes-same N B e s u q = rw q (record {
   few = omega arith;
   each = λ i. omega arith;
   owed = λ i. omega arith;
-  paid = λ L R h p. paid-more N B L R 0 (recoveredView N B s) p;
+  paid = λ L R h p. paid-more N B L R (R + 0) (recoveredView N B s) (omega arith) p;
 })
 
 pub passes-trans : (N B k j : ℕ) (s t u : Image) (es ds fs : List ℕ) (f g h : ℕ) → fs ≡ es ++ ds → h ≡ f + g → length (shown N B t) ≤ length (shown N B s)

@@ -10,33 +10,40 @@ use lib.Dec.{ltb, eqb}
 use borrow.Author.Tests.{ltb-true, ltb-false}
 use Rattle.model.specs.Lists.{count}
 use Rattle.model.specs.Chip.{Image, Bytes, Step, erase, rightSize, step, run, numberLimit}
-use Rattle.model.specs.Slot.{Entry, cut, isDead}
-use Rattle.model.specs.State.{blank, segmentsOf, isInUse, isInvalid, View, view, entries, entriesIn, holds, clean, state}
-use Rattle.model.specs.Steps.{topRow, topNumber, hasRoom, firstEmpty, copyOut, compact, settle, nextVersion, Room, openNext, compactOldest, compactUntilRoom, roomFor, writeAtTop, markOld}
-use Rattle.model.specs.Answers.{put, workOf}
+use Rattle.model.specs.Slot.{Entry, empty, dead, cut, isDead}
+use Rattle.model.specs.State.{blank, segmentsOf, isInUse, isInvalid, nextNumber, View, viewOf, view, entries, entriesIn, holds, placeOf, clean, state}
+use Rattle.model.specs.Steps.{topRow, topNumber, hasRoom, firstEmpty, copyOut, compact, settle, nextVersion, Room, openNext, compactOldest, compactUntilRoom, roomFor, markPlace, writeAtTop, markOld, deleteSteps}
+use Rattle.model.specs.Answers.{put, delete, stepsFor, workOf}
 use Rattle.model.specs.Histories.{shown}
 use Rattle.model.specs.Sequences.{erasesIn}
-use Rattle.model.specs.Begun.{marksIn, CutBegun}
+use Rattle.model.specs.Begun.{isMark, marksIn, CutBegun}
 use Rattle.model.specs.Laws.Lists.{one}
 use Rattle.model.specs.Laws.Chip.{run-size, cut-size}
 use Rattle.model.specs.Laws.Bytes.{run-bytes}
 use Rattle.model.specs.Laws.Counted.{SameRows}
 use Rattle.model.specs.Laws.Begun.{begun-cut, Behind, begun-append, begun-none, begun-unmarked, whole-begun, marks-append}
-use Rattle.model.specs.Laws.Marks.{open-unmarked, settle-unmarked, copy-out-one}
-use Rattle.bridge.specs.Predicted.{putInto, CleanView, Carries}
+use Rattle.model.specs.Laws.SlotPage.{Valid}
+use Rattle.model.specs.Laws.Marks.{open-unmarked, settle-unmarked, dead-unmarked, write-unmarked, copy-out-one}
+use Rattle.bridge.specs.Predicted.{slotChanged, marked, putInto, afterPut, afterDelete, CleanView, Carries}
+use Rattle.bridge.specs.Views.Places.{fill-changed, TopGap, in-view}
 use Rattle.bridge.specs.Views.Shape.{opened-top}
 use Rattle.bridge.specs.Views.Room.{tidied, opened-clean}
+use Rattle.bridge.specs.Accepted.{accepted, delete-passed}
 use Rattle.bridge.specs.Held.{Held, held-of-clean, clean-view, clean-of-held}
 use Rattle.bridge.specs.Done.{open-held}
-use Rattle.bridge.specs.Requests.{until-room, until-more, top-rises, carries-next, one-compaction, compacted-rows}
+use Rattle.bridge.specs.Requests.{until-room, until-more, top-rises, carries-next, one-compaction, compacted-rows, delete-done, put-valid, room-carries, roomed-below, roomed-held, roomed-clean, roomed-gap, roomed-size, after-clean, put-steps}
 use Rattle.crash.specs.Sound.{Accepted}
-use Rattle.crash.specs.States.{recoveredView, SoundWith, rows-table, kept-with}
+use Rattle.crash.specs.States.{recoveredView, SoundWith, rows-table, kept-with, clean-with}
+use Rattle.crash.specs.RecoverMarks.{slot-inside, live-place, live-marks}
+use Rattle.crash.specs.Delete.{delete-whole}
 use Rattle.crash.specs.RoomTorn.{held-shows, next-torn}
 use Rattle.crash.specs.OwingCuts.{rest-cut}
 use Rattle.crash.specs.RoomOwing.{Full, old-valid, old-fits, Owing}
 use Rattle.crash.specs.RoomCuts.{TornNext, open-left, copy-out-marked, owes, owed, rest-after, rest-last}
-use Rattle.wear.specs.Erases.{erasesAt, open-none, copied-none, settle-none}
+use Rattle.crash.specs.WriteTop.{cutView, put-into-left}
+use Rattle.wear.specs.Erases.{erasesAt, open-none, copied-none, settle-none, mark-none, written-none}
 use Rattle.wear.specs.Room.{paid-open, PaidView, ready-after}
+use Rattle.wear.specs.Requests.{paid-changed, paid-marked, put-first, put-paid}
 use Rattle.wear_cuts.specs.Passes.{erasesIf, due, due-clean, turned-one, paid-more, Passes, passes-views, passes-same, passes-trans}
 use Rattle.wear_cuts.specs.Recovers.{due-b}
 
@@ -58,7 +65,7 @@ module _ (N B : ℕ) (s : Image) (v : View) (h : Held N B s v) (c : CleanView N 
       (λ i. rw q (omega arith)) (λ i. rw (q, none-due) (omega arith)) paid)
 
   kept-passes : (u : Image) (es : List ℕ) (f : ℕ) → es ≡ [] → f ≡ 0 → SoundWith N B u v → Passes N B 0 0 s u es f
-  kept-passes u es f e g r = still-passes 0 u es f v e g (r .1) refl (λ L R l p. paid-more N B L R 0 v p)
+  kept-passes u es f e g r = still-passes 0 u es f v e g (r .1) refl (λ L R l p. paid-more N B L R (R + 0) v (omega arith) p)
 
   -- ---- an opening
 
@@ -74,7 +81,7 @@ module _ (N B : ℕ) (s : Image) (v : View) (h : Held N B s v) (c : CleanView N 
       ⊎-elim
       (λ t. kept-passes u es f none unmarked (next-torn N B s v h c u (cut-size N B xs s u cut ∙ h .size) (t .0) (t .1)))
       (λ e. still-passes 0 u es f w none unmarked (held-shows N B (run B xs s) w u (open-held N B s v h carries below few) (opened-clean c full few) e .1) refl
-      (λ L R l p. paid-more N B L R 0 w (paid-open (N - 1) B L R (v .first) (v .slots) p)))
+      (λ L R l p. paid-more N B L R (R + 0) w (omega arith) (paid-open (N - 1) B L R (v .first) (v .slots) p)))
       (open-left N B s v h carries below u cut)
 
 -- ---- a compaction
@@ -112,7 +119,7 @@ module _ (N B : ℕ) (s : Image) (v : View) (f : Full N B s v) where
   unfolding compactOldest count
   moved-passes u ds r q =
       passes-views N B 0 0 s u ds 1 v w (held-rows N B s v (f .held) (f .clean)) (r .1) (omega arith) (few q) (λ i. each i q) (λ i. owed i q)
-      (λ L R l p. paid-more N B L R 0 w (ready-after N B L R v (f .noRoom) (record { clean = f .clean; all = f .all; few = l; paid = p }) .paid))
+      (λ L R l p. paid-more N B L R (R + 0) w (omega arith) (ready-after N B L R v (f .noRoom) (record { clean = f .clean; all = f .all; few = l; paid = p }) .paid))
     where
       few : ((ds ≡ []) × (due N B u ≡ v .first % N ∷ [])) ⊎ (ds ≡ v .first % N ∷ []) → length ds ≤ 1 + 0
       few (inl a) = rw (a .0) (omega arith)
@@ -137,8 +144,17 @@ module _ (N B : ℕ) (s : Image) (v : View) (f : Full N B s v) where
       (λ a. let p = owes N B s v f u z (a .1) (a .2) in rw (a .0) (moved-passes u ds (p .shows) (inl (none, owing-due u z p))))
       (copy-out-marked N B s v f u ds m d)
 
+  -- after it the old segment is erased if anything is
+  rest-begun : (u : Image) (cs : List ℕ) (k : ℕ) → CutBegun B (erase (v .first % N) ∷ settle N B (suc (topNumber v))) t u cs k → due N B t ≡ v .first % N ∷ []
+      → ((cs ≡ []) × (due N B u ≡ v .first % N ∷ [])) ⊎ (cs ≡ v .first % N ∷ [])
+  unfolding erasesIn
+  rest-begun u cs k (inl q) a = inl (q .1, ap (λ y. due N B y) (q .0) ∙ a)
+  rest-begun u cs k (inr (inl q)) a = inr (q .1)
+  rest-begun u cs k (inr (inr (r, j, q, b, x))) a =
+      let none : r ≡ [] = begun-none B (settle N B n) (step B (erase (v .first % N)) t) u r j (settle-none N B n) x in inr (q ∙ ap (λ (y : List ℕ). v .first % N ∷ y) none)
+
   after-mark : (u : Image) (ds : List ℕ) (m : ℕ) → Behind B copying rest s u ds m → Passes N B 0 0 s u ds m
-  unfolding marksIn count
+  unfolding marksIn isMark count
   after-mark u ds m (cs, k, e, g, d) =
       let p = owed N B s v f in
       let z = run-size N B copying s ∙ f .held .size in
@@ -146,14 +162,151 @@ module _ (N B : ℕ) (s : Image) (v : View) (f : Full N B s v) where
       let unmarked : k ≡ 0 = begun-unmarked B rest t u cs k (settle-unmarked N B n) d in
       let marked : m ≡ 1 = omega (arith, g, unmarked, copy-out-one N B (nextVersion v) o n es (old-valid N B s v f) (old-fits N B s v f)) in
       let r = kept-with N B t u w (p .shows) (rest-cut N B t z (p .pending) (p .shows .0) u (rw (p .next, rest-after N B s v f, rest-last N B s v f) (begun-cut B rest t u cs k d))) in
-      rw (marked, here) (moved-passes u cs r (go d (owing-due t z p)))
-    where
-      go : CutBegun B rest t u cs k → due N B t ≡ v .first % N ∷ [] → ((cs ≡ []) × (due N B u ≡ v .first % N ∷ [])) ⊎ (cs ≡ v .first % N ∷ [])
-      go (inl q) a = inl (q .1, ap (λ y. due N B y) (q .0) ∙ a)
-      go (inr (inl q)) a = inr (unfold erasesIn in (q .1))
-      go (inr (inr (r, j, q, b, x))) a =
-          let none : r ≡ [] = begun-none B (settle N B n) (step B (erase (v .first % N)) t) u r j (settle-none N B n) x in inr (unfold erasesIn in (q ∙ ap {B = List ℕ} (λ (y : List ℕ). v .first % N ∷ y) none))
+      rw (marked, here) (moved-passes u cs r (rest-begun u cs k d (owing-due t z p)))
 
   pub compact-passes : (u : Image) (ds : List ℕ) (m : ℕ) → CutBegun B (compactOldest N B v .steps) s u ds m → Passes N B 0 0 s u ds m
   unfolding compactOldest compact
   compact-passes u ds m k = ⊎-elim (λ d. before-mark u ds m d) (λ d. after-mark u ds m d) (begun-append B copying rest s u ds m k)
+
+-- ---- room
+
+series-pass : (N B k : ℕ) (s : Image) (v : View) → Held N B s v → Bytes s → CleanView N B v → length (v .slots) ≡ N - 1 → Carries v
+    → topNumber (compactUntilRoom N B k v .result) < numberLimit N → (u : Image) (ds : List ℕ) (m : ℕ) → CutBegun B (compactUntilRoom N B k v .steps) s u ds m → Passes N B 0 0 s u ds m
+series-pass N B zero s v h y c all carries below u ds m k =
+    let d : CutBegun B [] s u ds m = (unfold compactUntilRoom in k) in rw (d .1, d .2) (passes-same N B 0 s u (d .0))
+series-pass N B (suc j) s v h y c all carries below u ds m k =
+    go (hasRoom v) refl (λ t ht yt ct at bt r p d. series-pass N B j t (compactOldest N B v .result) ht yt ct at (carries-next N B v carries) bt u r p d)
+  where
+    go : (t : Bool) → hasRoom v ≡ t
+        → ((t : Image) → Held N B t (compactOldest N B v .result) → Bytes t → CleanView N B (compactOldest N B v .result) → length (compactOldest N B v .result .slots) ≡ N - 1
+        → topNumber (compactUntilRoom N B j (compactOldest N B v .result) .result) < numberLimit N → (r : List ℕ) (p : ℕ)
+        → CutBegun B (compactUntilRoom N B j (compactOldest N B v .result) .steps) t u r p → Passes N B 0 0 t u r p)
+        → Passes N B 0 0 s u ds m
+    go true e ih = let d : CutBegun B [] s u ds m = rw (until-room N B j v e) at k in rw (d .1, d .2) (passes-same N B 0 s u (d .0))
+    go false e ih =
+        let a = tidied N B v c e in
+        let more = until-more N B j v e in
+        let b : topNumber (compactUntilRoom N B j (compactOldest N B v .result) .result) < numberLimit N = rw more at below in
+        let low : suc (topNumber v) < numberLimit N = omega (arith, top-rises N B j (compactOldest N B v .result) (a .clean), a .number, b) in
+        let xs = compactOldest N B v .steps in
+        let t = run B xs s in
+        let f : Full N B s v = record { held = h; clean = c; noRoom = e; all = all; bytes = y; carries = carries; below = low } in
+        let ht = one-compaction N B s v h y c all carries low in
+        let less : length (shown N B t) ≤ length (shown N B s) = rw (held-shown N B t (compactOldest N B v .result) ht (a .clean), held-shown N B s v h c) (omega (arith, a .size)) in
+        ⊎-elim (λ d. compact-passes N B s v f u ds m d)
+        (λ d. passes-trans N B 0 0 s t u (erasesIn xs) (d .0) ds (marksIn B xs) (d .1) m (d .2) (d .3) less (compact-passes N B s v f t (erasesIn xs) (marksIn B xs) (whole-begun B xs s))
+        (ih t ht (run-bytes B xs s y) (a .clean) (compacted-rows N B v (c .some) ∙ all) b (d .0) (d .1) (d .4)))
+        (begun-append B xs (compactUntilRoom N B j (compactOldest N B v .result) .steps) s u ds m (rw more at k))
+
+room-pass : (N B : ℕ) (s : Image) (v : View) → Held N B s v → Bytes s → CleanView N B v → (hasRoom v ≡ false → Carries v)
+    → topNumber (roomFor N B v .result) < numberLimit N → (u : Image) (ds : List ℕ) (m : ℕ) → CutBegun B (roomFor N B v .steps) s u ds m → Passes N B 0 0 s u ds m
+unfolding roomFor
+room-pass N B s v h y c carries below u ds m k = go (hasRoom v) (ltb (length (v .slots)) (N - 1)) refl refl below k
+  where
+    chosen : Bool → Bool → Room
+    chosen t w = cond t (record { steps = []; result = v }) (cond w (openNext N B v) (compactUntilRoom N B (N - 1) v))
+
+    go : (t w : Bool) → hasRoom v ≡ t → ltb (length (v .slots)) (N - 1) ≡ w → topNumber (chosen t w .result) < numberLimit N → CutBegun B (chosen t w .steps) s u ds m → Passes N B 0 0 s u ds m
+    go true w e q b d = rw (d .1, d .2) (passes-same N B 0 s u (d .0))
+    go false true e q b d = open-passes N B s v h c (carries e) e (ltb-true (length (v .slots)) (N - 1) q) (omega (arith, opened-top N B v (c .some), b)) u ds m d
+    go false false e q b d = series-pass N B (N - 1) s v h y c (omega (arith, ltb-false (length (v .slots)) (N - 1) q, c .spare)) (carries e) b u ds m d
+
+-- ---- the slot written, and the old one marked
+
+-- a stored block's slot is one of its segment's
+pub place-inside : (N B : ℕ) (s : Image) → rightSize N B s ≡ true → (b : ℕ) → holds b (entriesIn (view N B s)) ≡ true → placeOf b (view N B s) .slot < B
+unfolding view
+place-inside N B s z b h =
+    let p = placeOf b (viewOf N (segmentsOf N B s)) in slot-inside N B s z (p .number) (p .slot) dead (live-marks (live-place N (segmentsOf N B s) b h))
+
+module _ (N B : ℕ) (s : Image) (v : View) (h : Held N B s v) (c : CleanView N B v) (gap : TopGap v) (b : ℕ) (d : List ℕ) (valid : Valid b d) (after : CleanView N B (putInto b d v)) where
+  mark-unmarked : marksIn B (markOld N B b v) ≡ 0
+  unfolding markOld marksIn count
+  mark-unmarked = go (holds b (entriesIn v)) refl
+    where
+      go : (t : Bool) → holds b (entriesIn v) ≡ t → marksIn B (cond t (markPlace N B (placeOf b v)) []) ≡ 0
+      go true e = dead-unmarked N B (placeOf b v) (rw (h .view) at (place-inside N B s (h .size) b (rw (h .view) e)))
+      go false e = unfold marksIn count in refl
+
+  written-unmarked : marksIn B (writeAtTop N B b d v ++ markOld N B b v) ≡ 0
+  unfolding writeAtTop
+  written-unmarked =
+      let j : firstEmpty (topRow (v .slots)) < B = rw (gap .slot) (in-view B v (gap .gap) empty (gap .split) (c .rows) .short) in
+      omega (arith, marks-append B (writeAtTop N B b d v) (markOld N B b v), mark-unmarked, write-unmarked N B (topNumber v) (firstEmpty (topRow (v .slots))) b d j (valid .short))
+
+  -- a cut slot is dead
+  cut-paid : (L R : ℕ) → PaidView N B L R v → PaidView N B L (R + 1) (cutView N B s v h c gap)
+  unfolding isDead one
+  cut-paid L R p =
+      let n = topNumber v in
+      let j = firstEmpty (topRow (v .slots)) in
+      let same = fill-changed v (gap .gap) empty cut n j (gap .split) (gap .number) (gap .slot) in
+      rw (ap (λ (y : View). y .slots) same) at (paid-changed N B (R + 1) n j cut v (omega arith) p)
+
+  block-paid : (L R : ℕ) → PaidView N B L R v → PaidView N B L (R + 1) (putInto b d v)
+  block-paid L R p = paid-more N B L (R + cond (holds b (entriesIn v)) 1 0) (R + 1) (putInto b d v) (go (holds b (entriesIn v))) (put-paid N B v b d p)
+    where
+      go : (t : Bool) → R + cond t 1 0 ≤ R + 1
+      go true = omega arith
+      go false = omega arith
+
+  write-passes : (u : Image) (es : List ℕ) (f : ℕ) → CutBegun B (writeAtTop N B b d v ++ markOld N B b v) s u es f → Passes N B 1 0 s u es f
+  write-passes u es f k =
+      let xs = writeAtTop N B b d v ++ markOld N B b v in
+      let none = begun-none B xs s u es f (written-none N B b d v) k in
+      let unmarked = begun-unmarked B xs s u es f written-unmarked k in
+      ⊎-elim
+      (λ r. still-passes N B s v h c 1 u es f v none unmarked (r .1) refl (λ L R l p. paid-more N B L R (R + 1) v (omega arith) p))
+      (λ q. ⊎-elim
+      (λ r. still-passes N B s v h c 1 u es f (cutView N B s v h c gap) none unmarked (r .1) refl (λ L R l p. cut-paid L R p))
+      (λ r. still-passes N B s v h c 1 u es f (putInto b d v) none unmarked (r .1) (put-first N B v b d) (λ L R l p. block-paid L R p))
+      q)
+      (put-into-left N B s v h c gap b d valid after u (begun-cut B xs s u es f k))
+
+-- ---- the requests
+
+pub put-passes : (N B : ℕ) (s : Image) (z : rightSize N B s ≡ true) (c : state N B s ≡ clean) (b : ℕ) (d : List ℕ) (bs : Bytes s) (bd : Bytes d) → Accepted N B s (put b d)
+    → (u : Image) (es : List ℕ) (f : ℕ) → CutBegun B (workOf N B s (put b d) .steps) s u es f → Passes N B 1 0 s u es f
+unfolding afterPut
+put-passes N B s z c b d bs bd e u es f k =
+    let v = view N B s in
+    let h = held-of-clean N B s z c in
+    let cv = clean-view N B s z c in
+    let r = roomFor N B v .result in
+    let xs = roomFor N B v .steps in
+    let t = run B xs s in
+    let ht = roomed-held N B s z c b d bs bd e in
+    let ct = roomed-clean N B s z c b d bs bd e in
+    let room = room-pass N B s v h bs cv (room-carries N B s z c b d bs bd e) (roomed-below N B s z c b d bs bd e) in
+    let less : length (shown N B t) ≤ length (shown N B s) = rw (held-shown N B t r ht ct, held-shown N B s v h cv) (omega (arith, roomed-size N B s z c b d bs bd e)) in
+    ⊎-elim (λ q. more (room u es f q))
+    (λ q. passes-trans N B 0 1 s t u (erasesIn xs) (q .0) es (marksIn B xs) (q .1) f (q .2) (q .3) less (room t (erasesIn xs) (marksIn B xs) (whole-begun B xs s))
+    (write-passes N B t r ht ct (roomed-gap N B s z c b d bs bd e) b d (put-valid N B s z c b d bs bd e) (after-clean N B s z c b d bs bd e) u (q .0) (q .1) (q .4)))
+    (begun-append B xs (writeAtTop N B b d r ++ markOld N B b r) s u es f (rw (put-steps N B s z c b d bs bd e) at k))
+  where
+    more : Passes N B 0 0 s u es f → Passes N B 1 0 s u es f
+    more p = record { first = p .first; few = p .few; each = p .each; owed = p .owed; paid = λ L R l q. paid-more N B L (R + 0) (R + 1) (recoveredView N B u) (omega arith) (p .paid L R l q) }
+
+delete-paid : (N B L R b : ℕ) (v : View) → PaidView N B L R v → PaidView N B L (R + 1) (afterDelete b v)
+unfolding afterDelete marked slotChanged
+delete-paid N B L R b v p = paid-marked N B (placeOf b v) v p
+
+pub delete-passes : (N B : ℕ) (s : Image) → rightSize N B s ≡ true → state N B s ≡ clean → (b : ℕ) → Accepted N B s (delete b)
+    → (u : Image) (es : List ℕ) (f : ℕ) → CutBegun B (workOf N B s (delete b) .steps) s u es f → Passes N B 1 0 s u es f
+unfolding stepsFor deleteSteps view
+delete-passes N B s z c b e u es f k =
+    let v = view N B s in
+    let h = held-of-clean N B s z c in
+    let cv = clean-view N B s z c in
+    let xs = workOf N B s (delete b) .steps in
+    let p = placeOf b v in
+    let a = accepted N B s (delete b) e in
+    let held = delete-passed N B s b (a .1) in
+    let none = begun-none B xs s u es f (ap erasesIn (a .0) ∙ mark-none N B p) k in
+    let unmarked = begun-unmarked B xs s u es f (ap (λ y. marksIn B y) (a .0) ∙ dead-unmarked N B p (place-inside N B s z b held)) k in
+    let d = delete-done N B s z c b e in
+    ⊎-elim
+    (λ q. still-passes N B s v h cv 1 u es f v none unmarked (held-shows N B s v u h cv (ap (λ y. segmentsOf N B y) q) .1) refl (λ L R l y. paid-more N B L R (R + 1) v (omega arith) y))
+    (λ q. let w = afterDelete b v in
+    still-passes N B s v h cv 1 u es f w none unmarked (clean-with N B u w (rw q (d .0)) (rw q (d .1)) .1) (unfold afterDelete marked slotChanged in refl) (λ L R l y. delete-paid N B L R b v y))
+    (delete-whole N B s b z c e u (begun-cut B xs s u es f k))
