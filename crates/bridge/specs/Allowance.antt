@@ -4,7 +4,7 @@ use mathlib.Core.Path.{_≡_, refl, ap}
 use mathlib.Core.Logic.{_⊎_, inl, inr, ⊎-elim, _≢_}
 use mathlib.Core.Bool.{Bool, true, false}
 use mathlib.Core.List.{List}
-use lib.ListN.{length}
+use lib.ListN.{length, take}
 use lib.Seq.{take-all}
 use lib.Dec.{leb}
 use borrow.Author.Tests.{leb-true, leb-false}
@@ -14,6 +14,7 @@ use Rattle.model.specs.Laws.Chip.{prefix-cut}
 
 -- its whole list done
 pub record Ends (N B : ℕ) (s : Image) (allowance : ℕ) (r : Request) : Type 0 where
+  pub whole : take allowance (workOf N B s r .steps) ≡ workOf N B s r .steps
   pub code : outcomeOf N B s allowance r .code ≡ workOf N B s r .code
   pub image : outcomeOf N B s allowance r .image ≡ run B (workOf N B s r .steps) s
 
@@ -30,7 +31,7 @@ ends-or-stops N B s allowance r = go (leb (length xs) allowance) refl
     xs = workOf N B s r .steps
 
     go : (t : Bool) → leb (length xs) allowance ≡ t → Ends N B s allowance r ⊎ Stops N B s allowance r
-    go true e = inl (record { code = rw e; image = ap (λ y. run B y s) (take-all allowance xs (leb-true (length xs) allowance e)) })
+    go true e = let w = take-all allowance xs (leb-true (length xs) allowance e) in inl (record { whole = w; code = rw e; image = ap (λ y. run B y s) w })
     go false e = inr (record { short = leb-false (length xs) allowance e; code = rw e; image = prefix-cut B allowance xs s })
 
 -- one that does not answer 9 ends

@@ -42,7 +42,7 @@ use Rattle.tallied.specs.Recovers.{Recovers, recover-counts}
 
 -- ---- what each event gives
 
-abbrev IsInterrupted : Promise → Type 0
+abbrev pub IsInterrupted : Promise → Type 0
 IsInterrupted (settled t) = ⊥
 IsInterrupted (interrupted t) = Unit {0}
 IsInterrupted unknown = ⊥
@@ -52,7 +52,7 @@ pub data Shown (N B : ℕ) (s m : Image) (r : Request) (es : List ℕ) (x : Prom
   carries-on : Advances N B s m es → byRecovery r es ≡ 0 → Shown N B s m r es x
   recovers : Recovers N B s m es → r ≡ recover → IsInterrupted x → byRecovery r es ≡ length es → Shown N B s m r es x
 
-begun-of : (N B : ℕ) (r : Request) (o : Seen) (s m : Image) (es : List ℕ) (f : ℕ) → DoesBegun N B r o s m es f → CutBegun B (workOf N B s r .steps) s m es f
+pub begun-of : (N B : ℕ) (r : Request) (o : Seen) (s m : Image) (es : List ℕ) (f : ℕ) → DoesBegun N B r o s m es f → CutBegun B (workOf N B s r .steps) s m es f
 unfolding outcomeOf
 begun-of N B r (answered y) s m es f (k, reply, image, (begun, marks)) = rw (image, begun, marks) (taken-begun B (workOf N B s r .steps) s k)
 begun-of N B r lost s m es f c = c
@@ -85,7 +85,7 @@ shown-by N B s m r es f x z y h new i (Works.recovers q e) c = recovers (recover
 -- ---- the invariant
 
 -- the tally against the cuts: a cut that no recovery has finished after is still to be counted
-abbrev Below : Promise → ℕ → ℕ → Type 0
+abbrev pub Below : Promise → ℕ → ℕ → Type 0
 Below (settled t) a k = a ≤ k
 Below (interrupted t) a k = a < k
 Below unknown a k = ⊥
@@ -95,7 +95,7 @@ record Tallies (N B : ℕ) (s : Image) (x : Promise) (R K : ℕ) (E : ℕ → �
   counted : BitLeft N B s → (R ≤ tallyIn N B s) × Below x (tallyIn N B s) K
   erases : (i : ℕ) → E i ≤ turnsTo N i (nextNumber (segmentsOf N B s)) + R
 
-known : (x : Promise) (a k : ℕ) → Below x a k → a ≤ k
+pub known : (x : Promise) (a k : ℕ) → Below x a k → a ≤ k
 known (settled t) a k h = h
 known (interrupted t) a k h = omega arith
 known unknown a k h = absurd h
@@ -106,7 +106,7 @@ cut-one o (inl e) = rw e
 cut-one o (inr e) = rw e
 
 -- the tally as it was
-below-same : {C : Board} {w : Bool} {r : Request} {o : Seen} {x y : Promise} → Moves C w r o x y → OnTable r → (a k : ℕ) → Below x a k → Below y a (cutSeen o + k)
+pub below-same : {C : Board} {w : Bool} {r : Request} {o : Seen} {x y : Promise} → Moves C w r o x y → OnTable r → (a k : ℕ) → Below x a k → Below y a (cutSeen o + k)
 below-same (answers q e) f a k h = omega (arith, h)
 below-same (answers-again q i e) f a k h = omega (arith, h)
 below-same (asks-recovery q i e) f a k h = omega (arith, h)
@@ -118,7 +118,7 @@ below-same {r = r} (format-cut i e) f a k h = absurd (subst OnTable i f)
 below-same (no-promise q) f a k h = absurd h
 
 -- one more, by a recovery after a cut
-below-more : {C : Board} {w : Bool} {r : Request} {o : Seen} {x y : Promise} → Moves C w r o x y → r ≡ recover → IsInterrupted x → (a b k : ℕ) → b ≤ suc a → Below x a k → Below y b (cutSeen o + k)
+pub below-more : {C : Board} {w : Bool} {r : Request} {o : Seen} {x y : Promise} → Moves C w r o x y → r ≡ recover → IsInterrupted x → (a b k : ℕ) → b ≤ suc a → Below x a k → Below y b (cutSeen o + k)
 unfolding malformed
 below-more (answers q e) f i a b k l h = absurd i
 below-more (answers-again q m e) f i a b k l h = omega (arith, h)

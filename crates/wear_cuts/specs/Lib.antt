@@ -4,3 +4,4 @@ pub mod Law
 pub mod Passes
 pub mod Recovers
 pub mod Puts
+pub mod Counted

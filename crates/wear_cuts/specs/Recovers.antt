@@ -10,20 +10,24 @@ use lib.Dec.{eqb}
 use borrow.Author.Tests.{eqb-true}
 use Rattle.model.specs.Lists.{count}
 use Rattle.model.specs.Chip.{Image, Step, erase, rightSize, step, run, Cut}
-use Rattle.model.specs.State.{Segment, blank, segmentsOf, isInUse, isInvalid, nextNumber, topIndex, nextIndex, Exception, caseA, caseB, caseC, caseD, State, clean, unfinished, damaged, stateOf, state}
+use Rattle.model.specs.Slot.{dead, cut}
+use Rattle.model.specs.State.{Segment, blank, inUse, segmentsOf, isInUse, isInvalid, slotsIn, nextNumber, nextIndex, topVersion, lastSlot, older, Exception, caseA, caseB, caseC, caseD, State, clean, unfinished, damaged, stateOf, state}
 use Rattle.model.specs.Steps.{settle, unlessBlank, eraseNext, mendSteps, recoverSteps}
 use Rattle.model.specs.Answers.{recover, stepsFor, workOf}
 use Rattle.model.specs.Sequences.{erasesIn}
-use Rattle.model.specs.Begun.{CutBegun}
+use Rattle.model.specs.Begun.{isMark, marksIn, CutBegun}
 use Rattle.model.specs.Laws.Lists.{count-append}
 use Rattle.model.specs.Laws.Chip.{size-facts, run-size, whole-cut, cut-size}
 use Rattle.model.specs.Laws.Segments.{segments-length}
-use Rattle.model.specs.Laws.Begun.{begun-cut, erases-append, Behind, begun-append, begun-few}
+use Rattle.model.specs.Laws.Begun.{begun-cut, erases-append, marks-append, Behind, begun-append, begun-few, begun-unmarked}
+use Rattle.model.specs.Laws.Counted.{bits-length}
+use Rattle.model.specs.Laws.Marks.{settle-unmarked, count-unmarked, dead-unmarked}
 use Rattle.bridge.specs.Accepted.{accepted, refused-none, recover-none}
 use Rattle.crash.specs.Sound.{SoundAs, Sound}
 use Rattle.crash.specs.Alike.{like-after}
-use Rattle.crash.specs.States.{recoveredView, recover-steps}
-use Rattle.crash.specs.RecoverCount.{counts}
+use Rattle.crash.specs.States.{case-of, recoveredView, recover-steps}
+use Rattle.crash.specs.RecoverMarks.{slot-inside, last-marks, older-marks}
+use Rattle.crash.specs.RecoverCount.{counts, top, top-below}
 use Rattle.crash.specs.RecoverErase
 use Rattle.crash.specs.RecoverErase.{steps-a}
 use Rattle.crash.specs.RecoverOwing
@@ -138,3 +142,47 @@ module _ (N B : ℕ) (s : Image) (z : rightSize N B s ≡ true) where
       go clean e k = none (due-clean N B s e)
       go (unfinished x) e k = case x e
       go damaged e k = absurd k
+
+  -- ---- no tidying
+
+  counts-unmarked : 0 < nextNumber (segmentsOf N B s) → marksIn B (counts N B (segmentsOf N B s)) ≡ 0
+  counts-unmarked some =
+      let l = segmentsOf N B s in
+      let n = nextNumber l - 1 in
+      let slots = slotsIn (getD l (n % N) blank) in
+      let d = size-facts N B s z in
+      let (st, at) = top N B s z some in
+      count-unmarked N B n (topVersion N l) (λ total bits e. bits-length N B (d .two) (d .most) (d .mostB) s (d .whole) n (top-below N B s z some) st slots total bits (at ∙ ap (λ y. inUse y st n slots) e))
+
+  recover-unmarked : Sound N B s → marksIn B (workOf N B s recover .steps) ≡ 0
+  unfolding marksIn count
+  recover-unmarked h = go (state N B s) refl h
+    where
+      l : List Segment
+      l = segmentsOf N B s
+
+      next : (ys : List Step) → 0 < nextNumber (segmentsOf N B s) → marksIn B ys ≡ 0 → marksIn B (counts N B (segmentsOf N B s) ++ (erase (nextNumber (segmentsOf N B s) % N) ∷ ys)) ≡ 0
+      next ys some q = marks-append B (counts N B l) (erase (nextNumber l % N) ∷ ys) ∙ (unfold marksIn isMark count in omega (arith, counts-unmarked some, q))
+
+      case : (x : Exception) → state N B s ≡ unfinished x → marksIn B (mendSteps N B (segmentsOf N B s) x) ≡ 0
+      case caseA e = rw (steps-a N B s z e) (next [] (RecoverErase.some N B s z e) (unfold marksIn count in refl))
+      case caseB e = by-old N B s z e (marksIn B (mendSteps N B (segmentsOf N B s) caseB) ≡ 0)
+          (λ q d. rw d (settle-unmarked N B (nextNumber l - 1)))
+          (λ q d. rw d (next (settle N B (nextNumber l - 1)) (RecoverOwing.some N B s z e) (settle-unmarked N B (nextNumber l - 1))))
+      case caseC e = unfold mendSteps state in
+          (dead-unmarked N B (record { number = nextNumber l - 1; slot = lastSlot N l }) (slot-inside N B s z (nextNumber l - 1) (lastSlot N l) cut (last-marks N B l (case-of N B l caseC e))))
+      case caseD e = unfold mendSteps state in (dead-unmarked N B (older N l) (slot-inside N B s z (older N l .number) (older N l .slot) dead (older-marks N B l (case-of N B l caseD e))))
+
+      go : (x : State) → state N B s ≡ x → SoundAs N B s (segmentsOf N B s) x → marksIn B (workOf N B s recover .steps) ≡ 0
+      go clean e k = rw (recover-none N B s e) (unfold marksIn count in refl)
+      go (unfinished x) e k = rw (recover-steps N B s x z e) (case x e)
+      go damaged e k = absurd k
+
+  pub recover-passes : Sound N B s → (u : Image) (es : List ℕ) (f : ℕ) → CutBegun B (workOf N B s recover .steps) s u es f → (f ≡ 0) × Passes N B 0 1 s u es f
+  recover-passes h u es f c =
+      let xs = workOf N B s recover .steps in
+      let v = recoveredView N B s in
+      let few : length es ≤ 1 = omega (arith, begun-few B xs s u es f c, recover-few N B s) in
+      let unmarked : f ≡ 0 = begun-unmarked B xs s u es f (recover-unmarked h) c in
+      (unmarked, passes-views N B 0 1 s u es f v v (refl, refl) (recover-cut N B s u z h (begun-cut B xs s u es f c) .1) (omega (arith, unmarked)) (omega (arith, few))
+      (λ i. omega (arith, few, count-least (λ x. eqb i x) es)) (λ i. omega (arith, recover-owed h u es f c i)) (λ L R l p. paid-more N B L R (R + 0) v (omega arith) p))
