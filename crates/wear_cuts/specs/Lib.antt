@@ -5,3 +5,4 @@ pub mod Passes
 pub mod Recovers
 pub mod Puts
 pub mod Counted
+pub mod Events
