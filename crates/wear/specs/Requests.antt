@@ -1,10 +1,9 @@
 -- What is counted follows the view: through a put, a delete, and a request that writes nothing.
-use Prim.Native.Nat.{ℕ, _+_, _-_, _*_, _/_, max, _≤_}
+use Prim.Native.Nat.{ℕ, _+_, _-_, _*_, max, _≤_}
 use mathlib.Core.Path.{_≡_, refl, ap, _∙_}
 use mathlib.Core.Bool.{Bool, true, false, cond}
 use mathlib.Core.List.{List, [], _++_, append-nil}
 use native.Mathlib.Omega.{arith}
-use native.Mathlib.Nat.{mul-le-mul-right, div-le-of-le-mul}
 use lib.ListN.{length, replicate}
 use lib.Dec.{eqb}
 use Rattle.model.specs.Slot.{Slot, empty, dead, live, isDead}
@@ -23,7 +22,7 @@ use Rattle.bridge.specs.Format.{fresh-table}
 use Rattle.wear.specs.Demand3.{stocked, ErasesPaid, Balanced}
 use Rattle.wear.specs.Counting.{deads, deads-behind, drop-behind, set-slot, copied-dead}
 use Rattle.wear.specs.Erases.{erases-append, written-none, delete-none, turns, turns-length, balanced}
-use Rattle.wear.specs.Room.{Paid, paid-after, Moved, room-moved}
+use Rattle.wear.specs.Room.{Paid, paid-after, paid-bound, Moved, room-moved}
 use Rattle.wear.specs.Stored.{Stored, blocks-length, stored-blocks, stored-length, stored-put, stored-delete}
 
 -- the count belongs to the view
@@ -37,11 +36,7 @@ pub record Tracks (N B : ℕ) (v : View) (t : Ledger) : Type 0 where
 
 pub tracks-paid : (N B : ℕ) (v : View) (t : Ledger) → Tracks N B v t → ErasesPaid N B t
 unfolding eraseCount
-tracks-paid N B v t h =
-    let p = h .paid in
-    let d : v .first / (N - 1) ≤ p .k = div-le-of-le-mul (N - 1) (omega (arith, p .boundary)) in
-    let e : length (t .erased) ≡ v .first = ap length (h .inTurn) ∙ turns-length N (v .first) in
-    rw e (omega (arith, p .paid, mul-le-mul-right ((N - 1) * B - t .largest) d))
+tracks-paid N B v t h = let e : length (t .erased) ≡ v .first = ap length (h .inTurn) ∙ turns-length N (v .first) in rw e (paid-bound (h .paid))
 
 pub tracks-balanced : (N B : ℕ) (v : View) (t : Ledger) → Tracks N B v t → Balanced N t
 unfolding erasesOf

@@ -1,10 +1,10 @@
 -- The invariant of demand 3's bound, and that making room keeps it.
-use Prim.Native.Nat.{ℕ, zero, suc, _+_, _-_, _*_, _%_, _≤_, _<_}
+use Prim.Native.Nat.{ℕ, zero, suc, _+_, _-_, _*_, _/_, _%_, _≤_, _<_}
 use mathlib.Core.Path.{_≡_, refl, sym, _∙_}
 use mathlib.Core.Bool.{Bool, true, false, cond}
 use mathlib.Core.List.{List, [], _∷_, _++_, append-nil, append-assoc}
 use native.Mathlib.Omega.{arith}
-use native.Mathlib.Nat.{mul-le-mul-left}
+use native.Mathlib.Nat.{mul-le-mul-left, mul-le-mul-right, div-le-of-le-mul}
 use lib.ListN.{length, getD, drop, replicate}
 use lib.Dec.{ltb}
 use borrow.Author.Tests.{ltb-false}
@@ -33,6 +33,10 @@ pub paid-after : {n X E : ℕ} {rows : List (List Slot)} {R : ℕ} (Y S m : ℕ)
     → Paid n X E rows R → Paid n Y E next S
 paid-after Y S m next h r d v =
     record { k = v .k; p = v .p; boundary = v .boundary; part = v .part; paid = omega (arith, v .paid, mul-le-mul-left (v .k) h, d (v .p)) }
+
+-- the whole part of E/n, times X, is at most R
+pub paid-bound : {n X E : ℕ} {rows : List (List Slot)} {R : ℕ} → Paid n X E rows R → E / n * X ≤ R
+paid-bound {n} {X} {E} p = let d : E / n ≤ p .k = div-le-of-le-mul n (omega (arith, p .boundary)) in omega (arith, p .paid, mul-le-mul-right X d)
 
 module _ (n B L R : ℕ) where
   abbrev Good : ℕ → List (List Slot) → Type 0

@@ -148,16 +148,19 @@ module _ (N B : ℕ) where
       some h zero = g
       some h (suc k) = h k
 
-  -- ---- from a format that answered 0
+  -- ---- from a format that answered 0, which has run whole
 
-  formatted : (s : Image) (allowance : ℕ) → outcomeOf N B s allowance format .code ≡ 0 → Sequenced N B (outcomeOf N B s allowance format .image) start
+  pub format-answered : (s : Image) (allowance : ℕ) → outcomeOf N B s allowance format .code ≡ 0 → (rightSize N B s ≡ true) × (outcomeOf N B s allowance format .image ≡ run B (formatSteps N B) s)
   unfolding stepsFor
-  formatted s allowance e =
+  format-answered s allowance e =
       let f = ends N B s allowance format (λ p. omega arith) in
       let a = accepted N B s format (sym (f .code) ∙ e) in
-      let size = format-passed N B s (a .1) in
+      (format-passed N B s (a .1), f .image ∙ ap (λ xs. run B xs s) (a .0))
+
+  formatted : (s : Image) (allowance : ℕ) → outcomeOf N B s allowance format .code ≡ 0 → Sequenced N B (outcomeOf N B s allowance format .image) start
+  formatted s allowance e =
+      let (size, image) = format-answered s allowance e in
       let d = format-done N B s size in
-      let image : outcomeOf N B s allowance format .image ≡ run B (formatSteps N B) s = f .image ∙ ap (λ xs. run B xs s) (a .0) in
       rw image (record { size = run-size N B (formatSteps N B) s ∙ size; bytes = format-bytes N B s size; clean = d .0; tracks = rw (d .1) (tracks-start N B (size-facts N B s size .two)) })
 
 -- after each call of a sequence

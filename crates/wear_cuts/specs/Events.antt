@@ -147,7 +147,7 @@ module _ (N B : ℕ) (s : Image) (t : Ledger) (K : ℕ) (z : rightSize N B s ≡
 
 -- ---- any request, by what was seen of it
 
-noted-erased : (e : Turn) (o : Seen) (t : Ledger) → notedAs e o t .erased ≡ t .erased ++ e .begun
+pub noted-erased : (e : Turn) (o : Seen) (t : Ledger) → notedAs e o t .erased ≡ t .erased ++ e .begun
 unfolding notedAs notedCut
 noted-erased e lost t = refl
 noted-erased e (answered o) t = go (eqb (o .code) 9)

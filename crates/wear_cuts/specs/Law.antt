@@ -2,11 +2,13 @@
 use Prim.Native.Nat.{ℕ, _+_, _-_, _*_, _/_, _≤_, _<_}
 use mathlib.Core.Path.{_≡_}
 use mathlib.Core.List.{List, [], _∷_}
+use lib.ListN.{take}
 use Rattle.model.specs.Chip.{Image}
 use Rattle.model.specs.State.{clean, state}
 use Rattle.model.specs.Answers.{format, outcomeOf}
-use Rattle.model.specs.Sequences.{Ledger, start, eraseCount, erasesOf}
+use Rattle.model.specs.Sequences.{Call, observed, Uncut, start, ledger, eraseCount, erasesOf}
 use Rattle.model.specs.Begun.{Turn, Turns, cutsIn, byRecovery, marksOf, ledgerOf}
+use Rattle.wear.specs.Demand3.{ErasesPaid, Balanced}
 use Rattle.tallied.specs.Law.{Unformatted}
 
 -- with F tidyings that reached the owing mark: the whole part of F/(N-1), times ((N-1)B - L), is at most R + K
@@ -34,3 +36,10 @@ WearWithCuts = (N B : ℕ) (s u : Image) (allowance : ℕ) (es : List Turn)
     → Turns N B (outcomeOf N B s allowance format .image) es u
     → Unformatted es
     → TidyingsPaid N B es × FewBegun es × (state N B u ≡ clean → WithinCuts N es) × OneErase es
+
+-- Demand 3's bound and balance, of the sequences that it speaks of: what is left of the statement where K is 0.
+abbrev pub BoundAndBalance : Type 0
+BoundAndBalance = (N B : ℕ) (s : Image) (allowance : ℕ) (xs : List Call)
+    → outcomeOf N B s allowance format .code ≡ 0
+    → let os = observed N B (outcomeOf N B s allowance format .image) xs in
+    Uncut os → ErasesPaid N B (ledger os start) × ((k : ℕ) → Balanced N (ledger (take k os) start))

@@ -6,3 +6,7 @@ pub mod Recovers
 pub mod Puts
 pub mod Counted
 pub mod Events
+-- the induction over histories
+pub mod Theorem
+-- and what it says where there is no cut
+pub mod Uncut

@@ -1,0 +1,149 @@
+-- Request #112, by induction over the turns of a history, along with demand 2's machine.
+use Prim.Native.Nat.{ℕ, suc, _+_, _-_, _≤_, _<_}
+use mathlib.Core.Path.{_≡_, refl, sym, ap, _∙_, subst}
+use mathlib.Core.Bool.{Bool, true, false}
+use mathlib.Core.List.{List, [], _∷_}
+use native.Mathlib.Omega.{arith}
+use lib.ListN.{length}
+use Rattle.model.specs.Lists.{count}
+use Rattle.model.specs.Chip.{Image, Bytes, rightSize, run}
+use Rattle.model.specs.State.{View, view, Exception, clean, unfinished, state}
+use Rattle.model.specs.Steps.{formatSteps}
+use Rattle.model.specs.Table.{blocks}
+use Rattle.model.specs.Answers.{Request, format, put, delete, read, readOr, recover, workOf, outcomeOf}
+use Rattle.model.specs.Histories.{Seen, Proper, shown}
+use Rattle.model.specs.Sequences.{erasesIn, Ledger, start, eraseCount, erasesOf}
+use Rattle.model.specs.Begun.{DoesBegun, Turn, Turns, cutSeen, cutsIn, byRecovery, marksOf, notedAs, ledgerOf}
+use Rattle.model.specs.Laws.Chip.{size-facts, run-size}
+use Rattle.model.specs.Laws.Begun.{begun-does, begun-few}
+use Rattle.bridge.specs.Predicted.{fresh}
+use Rattle.bridge.specs.Format.{format-done}
+use Rattle.crash.specs.Machine.{Board, Promise, settled, interrupted, unknown, OnTable, Moves}
+use Rattle.crash.specs.Sound.{Sound}
+use Rattle.crash.specs.Requests.{sound-clean}
+use Rattle.crash.specs.ReadingRuns.{Known, move-known}
+use Rattle.crash.specs.Invariant.{Invariant}
+use Rattle.crash.specs.Skeleton.{one-event}
+use Rattle.crash.specs.Works.{works, may}
+use Rattle.crash.specs.States.{recoveredView, rows-table, clean-with}
+use Rattle.crash.specs.Starts.{formatted-stores}
+use Rattle.crash.specs.Theorem.{request-laws}
+use Rattle.wear.specs.Erases.{turns, erasesAt, balanced}
+use Rattle.wear.specs.Room.{paid-bound}
+use Rattle.wear.specs.Requests.{tracks-start}
+use Rattle.wear.specs.Sequence.{format-answered}
+use Rattle.tallied.specs.Law.{Unformatted}
+use Rattle.tallied.specs.Theorem.{IsInterrupted, known, begun-of}
+use Rattle.wear_cuts.specs.Law.{TidyingsPaid, FewBegun, WithinCuts, OneErase, WearWithCuts}
+use Rattle.wear_cuts.specs.Passes.{due-clean}
+use Rattle.wear_cuts.specs.Recovers.{recover-few}
+use Rattle.wear_cuts.specs.Counted.{Erased, erased-on, erased-recovered, Funded, shown-distinct}
+use Rattle.wear_cuts.specs.Events.{Did, carries-on, recovers, did, noted-erased, event-funded}
+
+record Counts (N B : ℕ) (s : Image) (x : Promise) (t : Ledger) (K F : ℕ) : Type 0 where
+  erased : Erased N B s x t K F
+  funded : Funded N B s t K
+
+-- ---- one event
+
+-- what demand 2 knows of an image
+record Facts (N B : ℕ) (s : Image) (x : Promise) : Type 0 where
+  size : rightSize N B s ≡ true
+  bytes : Bytes s
+  sound : Sound N B s
+  pending : (q : Exception) → state N B s ≡ unfinished q → IsInterrupted x
+
+facts : (N B : ℕ) (s : Image) (x : Promise) → Invariant N B false s x → Known x → Facts N B s x
+facts N B s (settled t) (z, k) kn = record { size = z; bytes = k .bytes; sound = sound-clean N B s (k .clean); pending = λ q e. clash q (sym (k .clean) ∙ e) }
+  where
+    clash : (q : Exception) → clean ≡ unfinished q → ⊥
+    clash q e = let n : _≡_ {A = ℕ} 0 1 = cc in omega (arith, n)
+facts N B s (interrupted t) (z, k) kn = record { size = z; bytes = k .bytes; sound = k .sound; pending = λ q e. tt }
+facts N B s unknown i kn = absurd kn
+
+module _ (N B : ℕ) where
+  event : (s m : Image) (e : Turn) (x y : Promise) (t : Ledger) (K F : ℕ) {C : Board} {w : Bool} → OnTable (e .request) → Proper (e .request) → Facts N B s x → Facts N B m y
+      → Moves C w (e .request) (e .seen) x y → DoesBegun N B (e .request) (e .seen) s m (e .begun) (e .marks) → e .kept ≡ blocks (shown N B m)
+      → Counts N B s x t K F → Counts N B m y (notedAs e (e .seen) t) (cutSeen (e .seen) + K) (e .marks + F)
+  event s m e x y t K F on pr a b moves d kept c =
+      let what = did N B s m (e .request) x (e .begun) (e .marks) (a .size) (a .bytes) (a .sound) (a .pending) (works N B s (a .size) (e .request) on pr (a .sound))
+      (begun-of N B (e .request) (e .seen) s m (e .begun) (e .marks) d) in
+      record {
+        erased = go what;
+        funded = event-funded N B s m e x t K (a .size) (a .bytes) (a .sound) (c .funded) (shown-distinct N B s (a .size) (a .sound)) (shown-distinct N B m (b .size) (b .sound)) kept on pr what (e .seen) d;
+      }
+    where
+      go : Did N B s m (e .request) x (e .begun) (e .marks) → Erased N B m y (notedAs e (e .seen) t) (cutSeen (e .seen) + K) (e .marks + F)
+      go (carries-on k few p) = erased-on N B s m (e .request) (e .seen) (e .begun) (e .marks) x y t (notedAs e (e .seen) t) K F (noted-erased e (e .seen) t) on moves (c .erased) p
+      go (recovers is cut none p) = erased-recovered N B s m (e .request) (e .seen) (e .begun) (e .marks) x y t (notedAs e (e .seen) t) K F (noted-erased e (e .seen) t) moves is cut none (c .erased) p
+
+  -- ---- the history
+
+  counts-as : (s : Image) (x : Promise) (t : Ledger) (K F J G : ℕ) → K ≡ J → F ≡ G → Counts N B s x t K F → Counts N B s x t J G
+  counts-as s x t K F J G k f c = subst (λ (q : ℕ). Counts N B s x t J q) f (subst (λ (q : ℕ). Counts N B s x t q F) k c)
+
+  history : (es : List Turn) (s u : Image) (x : Promise) (t : Ledger) (K F : ℕ) → Unformatted es → Invariant N B false s x → Known x → Counts N B s x t K F → Turns N B s es u
+      → (y : Promise) × Counts N B u y (ledgerOf es t) (cutsIn es + K) (marksOf es + F)
+  unfolding ledgerOf cutsIn marksOf
+  history [] s u x t K F none inv kn c e = (x, counts-as u x t K F (0 + K) (0 + F) (omega arith) (omega arith) (subst (λ (q : Image). Counts N B q x t K F) (sym e) c))
+  history (v ∷ es) s u x t K F none inv kn c (p, (m, d, kept, rest)) =
+      let r = v .request in
+      let o = v .seen in
+      let (y, moves, after) = one-event N B false (request-laws N B) s m x r (may N B (request-laws N B) r (none .0)) p inv o (begun-does N B r o s m (v .begun) (v .marks) d) in
+      let ky = move-known moves (none .0) kn in
+      let c2 = event s m v x y t K F (none .0) p (facts N B s x inv kn) (facts N B m y after ky) moves d kept c in
+      let (z, last) = history es m u y (notedAs v o t) (cutSeen o + K) (v .marks + F) (none .1) after ky c2 rest in
+      (z, counts-as u z (ledgerOf es (notedAs v o t)) (cutsIn es + (cutSeen o + K)) (marksOf es + (v .marks + F)) (cutSeen o + cutsIn es + K) (v .marks + marksOf es + F) (omega arith) (omega arith) last)
+
+  -- ---- from a finished format
+
+  module _ (s : Image) (z : rightSize N B s ≡ true) where
+    abbrev formatted : Image
+    formatted = run B (formatSteps N B) s
+
+    fresh-rows : (recoveredView N B formatted .first ≡ fresh B .first) × (recoveredView N B formatted .slots ≡ fresh B .slots)
+    fresh-rows = let d = format-done N B s z in clean-with N B formatted (fresh B) (d .0) (d .1) .1
+
+    begins : Counts N B formatted (settled []) start 0 0
+    unfolding start eraseCount erasesOf turns count fresh
+    begins =
+        let t = tracks-start N B (size-facts N B s z .two) in record {
+          erased = record { first = fresh-rows .0; total = omega arith; each = λ i. omega arith; owed = λ i. omega arith };
+          funded = record { stored = rw (rows-table N B formatted (fresh B) fresh-rows) (t .stored); most = t .most; paid = rw (fresh-rows .0, fresh-rows .1) (t .paid) };
+        }
+
+-- ---- a recovery's erases
+
+one-erase : (N B : ℕ) (es : List Turn) (s u : Image) → Turns N B s es u → OneErase es
+one-erase N B [] s u e = tt
+one-erase N B (v ∷ es) s u (p, (m, d, kept, rest)) = (go (v .request) (begun-few B _ s m (v .begun) (v .marks) (begun-of N B (v .request) (v .seen) s m (v .begun) (v .marks) d)), one-erase N B es m u rest)
+  where
+    go : (r : Request) → length (v .begun) ≤ length (erasesIn (workOf N B s r .steps)) → byRecovery r (v .begun) ≤ 1
+    go format h = unfold byRecovery in omega arith
+    go (put b c) h = unfold byRecovery in omega arith
+    go (delete b) h = unfold byRecovery in omega arith
+    go (read b) h = unfold byRecovery in omega arith
+    go (readOr b f) h = unfold byRecovery in omega arith
+    go recover h = unfold byRecovery in omega (arith, h, recover-few N B s)
+
+-- ---- the theorem
+
+pub wear-with-cuts : WearWithCuts
+unfolding count
+wear-with-cuts N B s u allowance es e runs none =
+    let (z, image) = format-answered N B s allowance e in
+    let from : Turns N B (run B (formatSteps N B) s) es u = subst (λ (q : Image). Turns N B q es u) image runs in
+    let inv : Invariant N B false (run B (formatSteps N B) s) (settled []) = (run-size N B (formatSteps N B) s ∙ z, formatted-stores N B (request-laws N B) s z) in
+    let (y, c) = history N B es (run B (formatSteps N B) s) u (settled []) start 0 0 none inv tt (begins N B s z) from in
+    let t = ledgerOf es start in
+    let F = marksOf es + 0 in
+    let K = cutsIn es + 0 in
+    let a = c .erased in
+    let f : recoveredView N B u .first ≡ marksOf es = omega (arith, a .first) in
+    let bound = paid-bound (c .funded .paid) in
+    let k : t .replaced + K ≡ t .replaced + cutsIn es = omega arith in (
+      rw (f, k) at bound,
+      omega (arith, known y (eraseCount t) (F + K) (a .total)),
+      λ cl i j hi hj. (let q = rw (due-clean N B u cl) at (a .owed j) in omega (arith, known y (erasesOf i t) (erasesAt N F i + K) (a .each i), balanced N F i j hi hj, q)),
+      one-erase N B es (run B (formatSteps N B) s) u from,
+    )
