@@ -19,7 +19,7 @@ use Rattle.model.specs.Sequences.{Call, play, erasesIn}
 use Rattle.model.specs.Begun.{isMark, marksIn, CutBegun, Turn, Turns, cutSeen, cutsIn, byRecovery, recoveryErases, begunOn}
 use Rattle.model.specs.Bench.{call, whole}
 use Rattle.model.specs.Laws.Bench.{evaluate}
-use Rattle.model.specs.Laws.Begun.{turnsOf, AllProper, played}
+use Rattle.model.specs.Laws.Begun.{turnsOf, AllProper, played, append-begun}
 use Rattle.model.specs.Laws.Bytes.{bytes-take, bytes-drop, step-bytes, run-bytes}
 use Rattle.bridge.specs.Format.{format-bytes}
 use Rattle.crash.specs.Machine.{OnTable}
@@ -27,11 +27,11 @@ use Rattle.tallied.specs.Law.{tallyIn, topIn, BitLeft, Unformatted}
 use Rattle.tallied.specs.Theorem.{tally-tells}
 
 -- none of the calls is a format
-abbrev AllOnTable : List Call → Type 0
+abbrev pub AllOnTable : List Call → Type 0
 AllOnTable [] = Unit {0}
 AllOnTable (x ∷ xs) = OnTable (x .request) × AllOnTable xs
 
-unformatted : (N B : ℕ) (xs : List Call) (s : Image) → AllOnTable xs → Unformatted (turnsOf N B s xs)
+pub unformatted : (N B : ℕ) (xs : List Call) (s : Image) → AllOnTable xs → Unformatted (turnsOf N B s xs)
 unfolding turnsOf
 unformatted N B [] s p = tt
 unformatted N B (x ∷ xs) s p = (p .0, unformatted N B xs (outcomeOf N B s (x .allowance) (x .request) .image) (p .1))
@@ -118,7 +118,7 @@ unfolding clear
 raised-same [] y = refl
 raised-same (a ∷ s) y = ((and-self a, and-mask a 8 ∙ mod-eq-of-lt (y .0)), raised-same s (y .1))
 
-played-bytes : (N B : ℕ) (xs : List Call) (s : Image) → Bytes s → Bytes (play N B s xs)
+pub played-bytes : (N B : ℕ) (xs : List Call) (s : Image) → Bytes s → Bytes (play N B s xs)
 unfolding play outcomeOf
 played-bytes N B [] s y = y
 played-bytes N B (x ∷ xs) s y = played-bytes N B xs (outcomeOf N B s (x .allowance) (x .request) .image) (run-bytes B (take (x .allowance) (workOf N B s (x .request) .steps)) s y)
@@ -129,22 +129,23 @@ unfolding marksIn isMark count
 erase-unmarked B i true = refl
 erase-unmarked B i false = refl
 
--- one step done, then an erase begun that has changed no bit yet
-abbrev fallen : ℕ → Step → ℕ → Image → Image
-fallen B x i s = withSegment B i (segmentBytes B i (step B x s)) (step B x s)
+-- some steps done, then an erase begun that has changed no bit yet
+abbrev pub fallen : ℕ → List Step → ℕ → Image → Image
+fallen B xs i s = withSegment B i (segmentBytes B i (run B xs s)) (run B xs s)
 
-in-erase : (B : ℕ) (at v i : ℕ) (rest : List Step) (s : Image) → marksIn B (program at v ∷ []) ≡ 0 → Bytes s → CutBegun B (program at v ∷ erase i ∷ rest) s (fallen B (program at v) i s) (i ∷ []) 0
+pub in-erase : (B : ℕ) (xs : List Step) (i : ℕ) (rest : List Step) (s : Image) → Bytes s → CutBegun B (xs ++ (erase i ∷ rest)) s (fallen B xs i s) (erasesIn xs ++ (i ∷ [])) (marksIn B xs + 0)
 unfolding erasesIn segmentBytes
-in-erase B at v i rest s n y =
-    let t = step B (program at v) s in
-    let bytes : Bytes (segmentBytes B i t) = bytes-take ((B + 1) * 256) (drop (i * (B + 1) * 256) t) (bytes-drop (i * (B + 1) * 256) t (step-bytes B (program at v) s y)) in
-    inr (inr (i ∷ [], 0, refl, omega (arith, n), inr (inl ((segmentBytes B i t, raised-same (segmentBytes B i t) bytes, refl), refl, sym (erase-unmarked B i (same (fallen B (program at v) i s) (step B (erase i) t)))))))
+in-erase B xs i rest s y =
+    let t = run B xs s in
+    let bytes : Bytes (segmentBytes B i t) = bytes-take ((B + 1) * 256) (drop (i * (B + 1) * 256) t) (bytes-drop (i * (B + 1) * 256) t (run-bytes B xs s y)) in
+    append-begun B xs (erase i ∷ rest) s (fallen B xs i s) (i ∷ []) 0
+    (inr (inl ((segmentBytes B i t, raised-same (segmentBytes B i t) bytes, refl), refl, sym (erase-unmarked B i (same (fallen B xs i s) (step B (erase i) t))))))
 
-turns-append : (N B : ℕ) (es fs : List Turn) (s m u : Image) → Turns N B s es m → Turns N B m fs u → Turns N B s (es ++ fs) u
+pub turns-append : (N B : ℕ) (es fs : List Turn) (s m u : Image) → Turns N B s es m → Turns N B m fs u → Turns N B s (es ++ fs) u
 turns-append N B [] fs s m u h k = subst (λ (y : Image). Turns N B y fs u) h k
 turns-append N B (e ∷ es) fs s m u (p, (n, d, kept, rest)) k = (p, (n, d, kept, turns-append N B es fs n m u rest k))
 
-unformatted-append : (es fs : List Turn) → Unformatted es → Unformatted fs → Unformatted (es ++ fs)
+pub unformatted-append : (es fs : List Turn) → Unformatted es → Unformatted fs → Unformatted (es ++ fs)
 unformatted-append [] fs h k = k
 unformatted-append (e ∷ es) fs h k = (h .0, unformatted-append es fs (h .1) k)
 
@@ -153,7 +154,7 @@ abbrev owing : List Call
 owing = whole (seven 1) ∷ whole (seven 2) ∷ call (seven 3) 28 ∷ []
 
 abbrev pub lostImage : Image
-lostImage = fallen 2 (program 800 127) 0 (left owing)
+lostImage = fallen 2 (program 800 127 ∷ []) 0 (left owing)
 
 abbrev lostOne : List Turn
 lostOne = record { request = recover; seen = lost; begun = 0 ∷ []; marks = 0; kept = blocks (shown 2 2 lostImage) } ∷ []
@@ -168,14 +169,14 @@ recovery-steps : workOf 2 2 (left owing) recover .steps ≡ program 800 127 ∷ 
 unfolding evaluateTurns
 recovery-steps = refl
 
--- the step that counts is none either
-count-unmarked : marksIn 2 (program 800 127 ∷ []) ≡ 0
-unfolding marksIn isMark count
-count-unmarked = refl
+-- the bit is no mark
+lost-does : CutBegun 2 (workOf 2 2 (left owing) recover .steps) (left owing) lostImage (0 ∷ []) 0
+unfolding erasesIn marksIn isMark count
+lost-does = rw recovery-steps (in-erase 2 (program 800 127 ∷ []) 0 (drop 2 (workOf 2 2 (left owing) recover .steps)) (left owing) (played-bytes 2 2 owing formatted (format-bytes 2 2 zeros right-size)))
 
 pub lost-turns : Turns 2 2 formatted lostTurns lostImage
 lost-turns = turns-append 2 2 (seen owing) lostOne formatted (left owing) lostImage (played 2 2 owing formatted owing-proper)
-    (tt, (lostImage, rw recovery-steps (in-erase 2 800 127 0 (drop 2 (workOf 2 2 (left owing) recover .steps)) (left owing) count-unmarked (played-bytes 2 2 owing formatted (format-bytes 2 2 zeros right-size))), refl, refl))
+    (tt, (lostImage, lost-does, refl, refl))
 
 lost-left : BitLeft 2 2 lostImage
 unfolding evaluateTurns segmentBytes

@@ -4,7 +4,6 @@ use mathlib.Core.Path.{_≡_}
 use mathlib.Core.List.{List, [], _∷_}
 use lib.ListN.{take}
 use Rattle.model.specs.Chip.{Image}
-use Rattle.model.specs.State.{clean, state}
 use Rattle.model.specs.Answers.{format, outcomeOf}
 use Rattle.model.specs.Sequences.{Call, observed, Uncut, start, ledger, eraseCount, erasesOf}
 use Rattle.model.specs.Begun.{Turn, Turns, cutsIn, byRecovery, marksOf, ledgerOf}
@@ -19,9 +18,12 @@ TidyingsPaid N B es = marksOf es / (N - 1) * ((N - 1) * B - ledgerOf es start .l
 abbrev pub FewBegun : List Turn → Type 0
 FewBegun es = eraseCount (ledgerOf es start) ≤ marksOf es + cutsIn es
 
--- the erases begun on any two segments differ by at most 1 + K
+-- the erases begun on any two segments differ by at most 1 + K: whenever the image is clean, and at every other point too
+abbrev pub Within : List Turn → ℕ → ℕ → Type 0
+Within es i j = erasesOf i (ledgerOf es start) ≤ erasesOf j (ledgerOf es start) + (1 + cutsIn es)
+
 abbrev pub WithinCuts : ℕ → List Turn → Type 0
-WithinCuts N es = (i j : ℕ) → i < N → j < N → erasesOf i (ledgerOf es start) ≤ erasesOf j (ledgerOf es start) + (1 + cutsIn es)
+WithinCuts N es = (i j : ℕ) → i < N → j < N → Within es i j
 
 -- a run of recovery never erases more than one segment
 abbrev pub OneErase : List Turn → Type 0
@@ -35,7 +37,7 @@ WearWithCuts = (N B : ℕ) (s u : Image) (allowance : ℕ) (es : List Turn)
     → outcomeOf N B s allowance format .code ≡ 0
     → Turns N B (outcomeOf N B s allowance format .image) es u
     → Unformatted es
-    → TidyingsPaid N B es × FewBegun es × (state N B u ≡ clean → WithinCuts N es) × OneErase es
+    → TidyingsPaid N B es × FewBegun es × WithinCuts N es × OneErase es
 
 -- Demand 3's bound and balance, of the sequences that it speaks of: what is left of the statement where K is 0.
 abbrev pub BoundAndBalance : Type 0

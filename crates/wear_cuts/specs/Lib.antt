@@ -1,5 +1,6 @@
 -- The statement, and histories on which each bound is computed.
 pub mod Law
+pub mod Instances
 -- what one request may do
 pub mod Passes
 pub mod Recovers

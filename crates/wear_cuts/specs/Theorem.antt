@@ -5,6 +5,7 @@ use mathlib.Core.Bool.{Bool, true, false}
 use mathlib.Core.List.{List, [], _∷_}
 use native.Mathlib.Omega.{arith}
 use lib.ListN.{length}
+use lib.Dec.{eqb}
 use Rattle.model.specs.Lists.{count}
 use Rattle.model.specs.Chip.{Image, Bytes, rightSize, run}
 use Rattle.model.specs.State.{View, view, Exception, clean, unfinished, state}
@@ -33,9 +34,10 @@ use Rattle.wear.specs.Room.{paid-bound}
 use Rattle.wear.specs.Requests.{tracks-start}
 use Rattle.wear.specs.Sequence.{format-answered}
 use Rattle.tallied.specs.Law.{Unformatted}
-use Rattle.tallied.specs.Theorem.{IsInterrupted, known, begun-of}
+use Rattle.tallied.specs.Theorem.{IsInterrupted, Below, known, count-least, begun-of}
 use Rattle.wear_cuts.specs.Law.{TidyingsPaid, FewBegun, WithinCuts, OneErase, WearWithCuts}
-use Rattle.wear_cuts.specs.Passes.{due-clean}
+use Rattle.wear_cuts.specs.Instances
+use Rattle.wear_cuts.specs.Passes.{erasesIf, due, due-clean}
 use Rattle.wear_cuts.specs.Recovers.{recover-few}
 use Rattle.wear_cuts.specs.Counted.{Erased, erased-on, erased-recovered, Funded, shown-distinct}
 use Rattle.wear_cuts.specs.Events.{Did, carries-on, recovers, did, noted-erased, event-funded}
@@ -83,17 +85,17 @@ module _ (N B : ℕ) where
   counts-as s x t K F J G k f c = subst (λ (q : ℕ). Counts N B s x t J q) f (subst (λ (q : ℕ). Counts N B s x t q F) k c)
 
   history : (es : List Turn) (s u : Image) (x : Promise) (t : Ledger) (K F : ℕ) → Unformatted es → Invariant N B false s x → Known x → Counts N B s x t K F → Turns N B s es u
-      → (y : Promise) × Counts N B u y (ledgerOf es t) (cutsIn es + K) (marksOf es + F)
+      → (y : Promise) × Invariant N B false u y × Counts N B u y (ledgerOf es t) (cutsIn es + K) (marksOf es + F)
   unfolding ledgerOf cutsIn marksOf
-  history [] s u x t K F none inv kn c e = (x, counts-as u x t K F (0 + K) (0 + F) (omega arith) (omega arith) (subst (λ (q : Image). Counts N B q x t K F) (sym e) c))
+  history [] s u x t K F none inv kn c e = (x, subst (λ (q : Image). Invariant N B false q x) (sym e) inv, counts-as u x t K F (0 + K) (0 + F) (omega arith) (omega arith) (subst (λ (q : Image). Counts N B q x t K F) (sym e) c))
   history (v ∷ es) s u x t K F none inv kn c (p, (m, d, kept, rest)) =
       let r = v .request in
       let o = v .seen in
       let (y, moves, after) = one-event N B false (request-laws N B) s m x r (may N B (request-laws N B) r (none .0)) p inv o (begun-does N B r o s m (v .begun) (v .marks) d) in
       let ky = move-known moves (none .0) kn in
       let c2 = event s m v x y t K F (none .0) p (facts N B s x inv kn) (facts N B m y after ky) moves d kept c in
-      let (z, last) = history es m u y (notedAs v o t) (cutSeen o + K) (v .marks + F) (none .1) after ky c2 rest in
-      (z, counts-as u z (ledgerOf es (notedAs v o t)) (cutsIn es + (cutSeen o + K)) (marksOf es + (v .marks + F)) (cutSeen o + cutsIn es + K) (v .marks + marksOf es + F) (omega arith) (omega arith) last)
+      let (z, end, last) = history es m u y (notedAs v o t) (cutSeen o + K) (v .marks + F) (none .1) after ky c2 rest in
+      (z, end, counts-as u z (ledgerOf es (notedAs v o t)) (cutsIn es + (cutSeen o + K)) (marksOf es + (v .marks + F)) (cutSeen o + cutsIn es + K) (v .marks + marksOf es + F) (omega arith) (omega arith) last)
 
   -- ---- from a finished format
 
@@ -112,6 +114,13 @@ module _ (N B : ℕ) where
           funded = record { stored = rw (rows-table N B formatted (fresh B) fresh-rows) (t .stored); most = t .most; paid = rw (fresh-rows .0, fresh-rows .1) (t .paid) };
         }
 
+-- an erase is due only after a cut, which no erase has used up yet
+covered : (N B : ℕ) (u : Image) (y : Promise) (i a k : ℕ) → Invariant N B false u y → Below y a k → a + erasesIf i (due N B u) ≤ k
+unfolding count
+covered N B u (settled t) i a k (z, h) b = rw (due-clean N B u (h .clean)) (omega (arith, b))
+covered N B u (interrupted t) i a k (z, h) b = omega (arith, b, count-least (λ x. eqb i x) (due N B u), recover-few N B u)
+covered N B u unknown i a k h b = absurd b
+
 -- ---- a recovery's erases
 
 one-erase : (N B : ℕ) (es : List Turn) (s u : Image) → Turns N B s es u → OneErase es
@@ -129,12 +138,11 @@ one-erase N B (v ∷ es) s u (p, (m, d, kept, rest)) = (go (v .request) (begun-f
 -- ---- the theorem
 
 pub wear-with-cuts : WearWithCuts
-unfolding count
 wear-with-cuts N B s u allowance es e runs none =
     let (z, image) = format-answered N B s allowance e in
     let from : Turns N B (run B (formatSteps N B) s) es u = subst (λ (q : Image). Turns N B q es u) image runs in
     let inv : Invariant N B false (run B (formatSteps N B) s) (settled []) = (run-size N B (formatSteps N B) s ∙ z, formatted-stores N B (request-laws N B) s z) in
-    let (y, c) = history N B es (run B (formatSteps N B) s) u (settled []) start 0 0 none inv tt (begins N B s z) from in
+    let (y, end, c) = history N B es (run B (formatSteps N B) s) u (settled []) start 0 0 none inv tt (begins N B s z) from in
     let t = ledgerOf es start in
     let F = marksOf es + 0 in
     let K = cutsIn es + 0 in
@@ -144,6 +152,6 @@ wear-with-cuts N B s u allowance es e runs none =
     let k : t .replaced + K ≡ t .replaced + cutsIn es = omega arith in (
       rw (f, k) at bound,
       omega (arith, known y (eraseCount t) (F + K) (a .total)),
-      λ cl i j hi hj. (let q = rw (due-clean N B u cl) at (a .owed j) in omega (arith, known y (erasesOf i t) (erasesAt N F i + K) (a .each i), balanced N F i j hi hj, q)),
+      λ i j hi hj. omega (arith, covered N B u y j (erasesOf i t) (erasesAt N F i + K) end (a .each i), balanced N F i j hi hj, a .owed j),
       one-erase N B es (run B (formatSteps N B) s) u from,
     )

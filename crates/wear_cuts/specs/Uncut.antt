@@ -6,12 +6,10 @@ use mathlib.Core.Bool.{Bool, false, cond}
 use mathlib.Core.List.{List, [], _∷_}
 use native.Mathlib.Omega.{arith}
 use native.Mathlib.Nat.{le-div-iff-mul-le, div-mul-le-self, mul-le-mul-right}
-use lib.ListN.{length, take}
-use lib.Seq.{take-length}
+use lib.ListN.{take}
 use lib.Dec.{eqb}
 use borrow.Author.Tests.{ne-eqb}
 use Rattle.model.specs.Chip.{Image}
-use Rattle.model.specs.State.{clean, state}
 use Rattle.model.specs.Answers.{Request, format, put, delete, read, readOr, recover, workOf, outcomeOf}
 use Rattle.model.specs.Histories.{Proper, replyOf}
 use Rattle.model.specs.Sequences.{Call, play, erasesIn, Observed, observe, observed, InSequence, Uncut, Ledger, start, noted, ledger, eraseCount, erasesOf}
@@ -21,7 +19,7 @@ use Rattle.model.specs.Laws.Begun.{turnOf, turnsOf, AllProper, played}
 use Rattle.bridge.specs.Allowance.{ends}
 use Rattle.crash.specs.Machine.{OnTable}
 use Rattle.wear.specs.Demand3.{ErasesPaid, Balanced}
-use Rattle.wear.specs.Sequence.{format-answered, stays-clean}
+use Rattle.wear.specs.Sequence.{format-answered}
 use Rattle.tallied.specs.Law.{Unformatted}
 use Rattle.wear_cuts.specs.Law.{WearWithCuts, BoundAndBalance}
 
@@ -97,8 +95,7 @@ module _ (law : WearWithCuts) (N B : ℕ) (s : Image) (allowance : ℕ) (e : out
   level xs u i j hi hj =
       let es = turnsOf N B m xs in
       let l = law N B s (play N B m xs) allowance es e (played N B xs m (all-proper N B xs m u)) (none-formats N B xs m u) in
-      let still : state N B (play N B m xs) ≡ clean = rw (take-length xs) at (stays-clean N B s allowance xs e u (length xs)) in
-      let q : erasesOf i (ledger (observed N B m xs) start) ≤ erasesOf j (ledger (observed N B m xs) start) + (1 + 0) = rw (same-ledger N B xs m start u, none-cut N B xs m u) at (l .2 still i j hi hj) in
+      let q : erasesOf i (ledger (observed N B m xs) start) ≤ erasesOf j (ledger (observed N B m xs) start) + (1 + 0) = rw (same-ledger N B xs m start u, none-cut N B xs m u) at (l .2 i j hi hj) in
       omega (arith, q)
 
 pub without-cuts : WearWithCuts → BoundAndBalance

@@ -14,6 +14,7 @@ use Rattle.model.specs.Histories.{replyOf, Seen, answered, lost, Proper,
 use Rattle.model.specs.Sequences.{Call, play, erasesIn}
 use Rattle.model.specs.Begun.{isMark, marksIn, CutBegun, DoesBegun, Turn, Turns}
 use Rattle.model.specs.Laws.Lists.{count-append}
+use Rattle.model.specs.Laws.Counts
 
 pub begun-cut : (B : ℕ) (xs : List Step) (s u : Image) (es : List ℕ) (f : ℕ) → CutBegun B xs s u es f → Cut B xs s u
 begun-cut B [] s u es f c = c .0
@@ -141,6 +142,18 @@ begun-append B (x ∷ xs) ys s u es f (inr (inr (rest, more, e, g, c))) = go (be
       omega (arith, g, h, marks-cons B x xs),
       unfold run in d,
     )
+
+-- and back: the first done, and a cut in the second
+pub append-begun : (B : ℕ) (xs ys : List Step) (s u : Image) (es : List ℕ) (f : ℕ) → CutBegun B ys (run B xs s) u es f → CutBegun B (xs ++ ys) s u (erasesIn xs ++ es) (marksIn B xs + f)
+unfolding run erasesIn marksIn count
+append-begun B [] ys s u es f c = let e : 0 + f ≡ f = omega arith in rw e c
+append-begun B (x ∷ xs) ys s u es f c = inr (inr (
+  erasesIn xs ++ es,
+  marksIn B xs + f,
+  ap (λ (y : List ℕ). y ++ es) (erases-cons x xs) ∙ append-assoc (erasesIn (x ∷ [])) (erasesIn xs) es,
+  omega (arith, marks-cons B x xs),
+  append-begun B xs ys (step B x s) u es f c,
+))
 
 -- it begins no more erases than the list has
 pub begun-few : (B : ℕ) (xs : List Step) (s u : Image) (es : List ℕ) (f : ℕ) → CutBegun B xs s u es f → length es ≤ length (erasesIn xs)

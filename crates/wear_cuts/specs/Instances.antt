@@ -1,0 +1,86 @@
+-- Three histories on the smallest store, N = 2 and B = 2, computed: each bound is reached, or fails without K, so that each must-fail edit of the statement is false of one of them.
+use Prim.Native.Nat.{ℕ, _+_, _-_, _*_, _/_, _≤_}
+use mathlib.Core.Path.{_≡_, refl}
+use mathlib.Core.List.{List, [], _∷_}
+use native.Mathlib.Omega.{arith}
+use lib.ListN.{replicate}
+use Rattle.model.specs.Chip.{Image, rightSize, pagesOf, withSegment, step, run}
+use Rattle.model.specs.State.{segmentsOf, clean, state, view}
+use Rattle.model.specs.Table.{blocks, tableOf}
+use Rattle.model.specs.Answers.{Request, format, put, delete, recover, workOf, outcomeOf}
+use Rattle.model.specs.Histories.{answered, lost, bytesRead, replyOf, recovered, shown}
+use Rattle.model.specs.Sequences.{Call, play, Ledger, start, noted, eraseCount, erasesOf}
+use Rattle.model.specs.Begun.{isMark, marksIn, Turn, cutSeen, cutsIn, byRecovery, marksOf, notedCut, notedAs, ledgerOf}
+use Rattle.model.specs.Bench.{call, whole}
+use Rattle.model.specs.Laws.Bench.{evaluate}
+use Rattle.model.specs.Laws.Begun.{turnsOf}
+use Rattle.wear_cuts.specs.Law.{TidyingsPaid, FewBegun, Within, OneErase}
+
+-- a chip full of zero bytes, formatted
+abbrev pub formatted : Image
+formatted = outcomeOf 2 2 (replicate 1536 0) 1000 format .image
+
+abbrev seven : ℕ → Request
+seven v = put 7 (v ∷ [])
+
+-- two puts fill the segment, the third compacts; the fourth is cut in the header of its target, which the recovery erases
+abbrev pub worn : List Call
+worn = whole (seven 1) ∷ whole (seven 2) ∷ whole (seven 3) ∷ call (seven 4) 5 ∷ whole recover ∷ []
+
+-- a put is cut in its slot, the next one right after the owing mark, and its recovery after the erase: the slot that the compaction leaves behind became dead by a cut
+abbrev pub unpaid : List Call
+unpaid = whole (seven 1) ∷ call (seven 2) 3 ∷ whole recover ∷ call (seven 3) 28 ∷ call recover 2 ∷ whole recover ∷ []
+
+abbrev pub plain : List Call
+plain = whole (seven 1) ∷ whole (seven 2) ∷ whole (seven 3) ∷ whole (seven 4) ∷ whole (seven 5) ∷ []
+
+-- what is counted of them
+abbrev pub turns : List Call → List Turn
+turns xs = turnsOf 2 2 formatted xs
+
+-- all that these compute with unfolds where this name does
+unfoldable pub evaluateCounts : ℕ
+unfolding evaluate turnsOf play outcomeOf workOf rightSize segmentsOf pagesOf run step withSegment replyOf bytesRead view blocks tableOf recovered shown isMark marksIn cutSeen cutsIn byRecovery marksOf notedCut notedAs ledgerOf erasesOf state
+evaluateCounts = 0
+
+-- F = 1, K = 1 and two erases begun, both on segment 0
+pub worn-counts : (ledgerOf (turns worn) start ≡ record { stored = 7 ∷ []; largest = 1; replaced = 2; erased = 0 ∷ 0 ∷ [] }) × (marksOf (turns worn) ≡ 1) × (cutsIn (turns worn) ≡ 1)
+unfolding evaluateCounts
+worn-counts = (refl, refl, refl)
+
+-- E = F + K, and segment 0 has 1 + K more than segment 1
+pub worn-few : FewBegun (turns worn)
+unfolding evaluateCounts
+worn-few = omega arith
+
+pub worn-within : Within (turns worn) 0 1
+unfolding evaluateCounts
+worn-within = omega arith
+
+pub worn-reached : (eraseCount (ledgerOf (turns worn) start) ≡ marksOf (turns worn) + cutsIn (turns worn))
+    × (erasesOf 0 (ledgerOf (turns worn) start) ≡ erasesOf 1 (ledgerOf (turns worn) start) + (1 + cutsIn (turns worn)))
+unfolding evaluateCounts
+worn-reached = (refl, refl)
+
+-- F = 1, K = 3, L = 1 and R = 0: 1 is at most 0 + 3, and not at most 0
+pub unpaid-counts : (ledgerOf (turns unpaid) start ≡ record { stored = 7 ∷ []; largest = 1; replaced = 0; erased = 0 ∷ [] }) × (marksOf (turns unpaid) ≡ 1) × (cutsIn (turns unpaid) ≡ 3)
+unfolding evaluateCounts
+unpaid-counts = (refl, refl, refl)
+
+pub unpaid-paid : TidyingsPaid 2 2 (turns unpaid)
+unfolding evaluateCounts
+unpaid-paid = omega arith
+
+-- five puts without a cut: F = 3, L = 1 and R = 4. With (N-1)B in place of (N-1)B - L it would be 6
+pub plain-paid : TidyingsPaid 2 2 (turns plain)
+unfolding evaluateCounts
+plain-paid = omega arith
+
+-- the recovery that was cut has erased one segment; two in one run are ruled out
+pub unpaid-one : OneErase (turns unpaid)
+unfolding evaluateCounts
+unpaid-one = (omega arith, (omega arith, (omega arith, (omega arith, (omega arith, (omega arith, tt))))))
+
+pub not-two : OneErase (record { request = recover; seen = lost; begun = 0 ∷ 1 ∷ []; marks = 0; kept = [] } ∷ []) → ⊥
+unfolding byRecovery
+not-two h = omega (arith, h .0)
