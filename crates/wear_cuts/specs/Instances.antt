@@ -1,7 +1,7 @@
 -- Three histories on the smallest store, N = 2 and B = 2, computed: each bound is reached, or fails without K, so that each must-fail edit of the statement is false of one of them.
 use Prim.Native.Nat.{ℕ, _+_, _-_, _*_, _/_, _≤_}
 use mathlib.Core.Path.{_≡_, refl}
-use mathlib.Core.List.{List, [], _∷_}
+use mathlib.Core.List.{List, [], _∷_, _++_}
 use native.Mathlib.Omega.{arith}
 use lib.ListN.{replicate}
 use Rattle.model.specs.Chip.{Image, rightSize, pagesOf, withSegment, step, run}
@@ -24,8 +24,11 @@ abbrev seven : ℕ → Request
 seven v = put 7 (v ∷ [])
 
 -- two puts fill the segment, the third compacts; the fourth is cut in the header of its target, which the recovery erases
+abbrev pub cutOff : List Call
+cutOff = whole (seven 1) ∷ whole (seven 2) ∷ whole (seven 3) ∷ call (seven 4) 5 ∷ []
+
 abbrev pub worn : List Call
-worn = whole (seven 1) ∷ whole (seven 2) ∷ whole (seven 3) ∷ call (seven 4) 5 ∷ whole recover ∷ []
+worn = cutOff ++ (whole recover ∷ [])
 
 -- a put is cut in its slot, the next one right after the owing mark, and its recovery after the erase: the slot that the compaction leaves behind became dead by a cut
 abbrev pub unpaid : List Call

@@ -11,3 +11,4 @@ pub mod Events
 pub mod Theorem
 -- and what it says where there is no cut
 pub mod Uncut
+pub mod Examples
