@@ -34,8 +34,9 @@ worn = cutOff ++ (whole recover ∷ [])
 abbrev pub unpaid : List Call
 unpaid = whole (seven 1) ∷ call (seven 2) 3 ∷ whole recover ∷ call (seven 3) 28 ∷ call recover 2 ∷ whole recover ∷ []
 
+-- no cut: five puts and a delete
 abbrev pub plain : List Call
-plain = whole (seven 1) ∷ whole (seven 2) ∷ whole (seven 3) ∷ whole (seven 4) ∷ whole (seven 5) ∷ []
+plain = whole (seven 1) ∷ whole (seven 2) ∷ whole (seven 3) ∷ whole (seven 4) ∷ whole (seven 5) ∷ whole (delete 7) ∷ []
 
 -- what is counted of them
 abbrev pub turns : List Call → List Turn
@@ -74,7 +75,7 @@ pub unpaid-paid : TidyingsPaid 2 2 (turns unpaid)
 unfolding evaluateCounts
 unpaid-paid = omega arith
 
--- five puts without a cut: F = 3, L = 1 and R = 4. With (N-1)B in place of (N-1)B - L it would be 6
+-- F = 3, L = 1 and R = 5: 3 is at most 5. With (N-1)B in place of (N-1)B - L it would be 6, and so it would with the blocks stored at the end for L
 pub plain-paid : TidyingsPaid 2 2 (turns plain)
 unfolding evaluateCounts
 plain-paid = omega arith
