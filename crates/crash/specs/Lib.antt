@@ -26,6 +26,7 @@ pub mod Delete
 pub mod RoomTorn
 pub mod RoomOwing
 pub mod RoomCuts
+pub mod RoomSteps
 pub mod RoomMade
 pub mod WriteTop
 pub mod PutCut

@@ -10,7 +10,7 @@ use lib.ListN.{length, getD, set, length-set}
 use lib.Seq.{set-getD, set-set, getD-set-other}
 use lib.Dec.{eqb}
 use borrow.Author.Tests.{eqb-true}
-use Rattle.model.specs.Chip.{Image, Step, erase, erased, step, run, mostSegments, numberLimit, imageLength, rightSize, Cut}
+use Rattle.model.specs.Chip.{Image, Step, erase, step, run, mostSegments, numberLimit, imageLength, rightSize, Cut}
 use Rattle.model.specs.Header.{erasePending, compacted, Version, headerStatus}
 use Rattle.model.specs.Slot.{Slot}
 use Rattle.model.specs.State.{Segment, blank, invalid, inUse, segmentsOf, isInUse, isInvalid, isOwing, numberAfter, slotsIn, versionIn, nextNumber, topIndex, nextIndex, topVersion, usedCount, isClean, nextBlanked, settled, topSettled, isB, caseB, unfinished, stateOf, state}

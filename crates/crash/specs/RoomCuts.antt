@@ -11,7 +11,7 @@ use lib.Seq.{getD-set-same, getD-set-other}
 use Rattle.model.specs.Chip.{Image, Page, Step, program, erase, rightSize, run, numberLimit, imageLength, erased, Cut}
 use Rattle.model.specs.Header.{compactionBegun, erasePending, newVersion, isFormer, tallyOf}
 use Rattle.model.specs.Slot.{Entry}
-use Rattle.model.specs.State.{segmentOf, segmentsOf, View, entries, entriesIn}
+use Rattle.model.specs.State.{segmentOf, segmentsOf, View, entries}
 use Rattle.model.specs.Steps.{topNumber, hasRoom, onPage, headerAt, slotAt, writeSlot, copyEntries, copyOut, compact, settle, nextVersion, openNext, compactOldest}
 use Rattle.model.specs.Laws.Chip.{run-append, run-length, run-size, cut-append, cut-size, whole-cut, SizeFacts, size-facts}
 use Rattle.model.specs.Laws.Pages.{InPage}

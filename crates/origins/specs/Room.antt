@@ -1,30 +1,26 @@
 -- Room made for a put, whole or cut: a segment opened or copied to has only live and empty slots, and the one that it replaces is left aside.
 use Prim.Native.Nat.{ℕ, zero, suc, _+_, _-_, _%_, _<_}
-use mathlib.Core.Path.{_≡_, refl, sym, ap, _∙_, subst}
+use mathlib.Core.Path.{_≡_, sym, ap, _∙_, subst}
 use mathlib.Core.Logic.{inl, ⊎-elim}
-use mathlib.Core.Bool.{Bool, true, false, cond}
+use mathlib.Core.Bool.{true, false}
 use mathlib.Core.List.{List, [], _∷_, _++_, map}
-use native.Mathlib.Omega.{arith}
 use lib.ListN.{length, getD, set, replicate}
-use lib.Dec.{ltb}
-use borrow.Author.Tests.{ltb-true, ltb-false}
 use Rattle.model.specs.Chip.{Image, Bytes, Step, erase, rightSize, run, numberLimit, Cut}
 use Rattle.model.specs.Header.{opened, erasePending, Version, newVersion, tallyOf}
 use Rattle.model.specs.Slot.{Slot, empty, Entry, holding}
 use Rattle.model.specs.State.{Segment, blank, inUse, isOwing, segmentOf, segmentsOf, slotsIn, topIndex, nextIndex, nextBlanked, View, entries, Place}
-use Rattle.model.specs.Steps.{topNumber, hasRoom, copied, copyOut, compact, settle, nextVersion, Room, openNext, compactOldest, compactUntilRoom, roomFor}
+use Rattle.model.specs.Steps.{topNumber, hasRoom, copied, copyOut, compact, settle, nextVersion, openNext, compactOldest, roomFor}
 use Rattle.model.specs.Laws.Chip.{SizeFacts, size-facts, run-size, cut-append, whole-cut}
-use Rattle.model.specs.Laws.Bytes.{run-bytes}
+use Rattle.model.specs.Laws.Begun.{begun-cut, cut-begun}
 use Rattle.model.specs.Laws.Segments.{partOf, only-segments}
 use Rattle.model.specs.Laws.Effects.{open-effect}
 use Rattle.bridge.specs.Predicted.{CleanView, Carries}
-use Rattle.bridge.specs.Views.Shape.{opened-top}
-use Rattle.bridge.specs.Views.Room.{tidied}
 use Rattle.bridge.specs.Held.{Held}
 use Rattle.bridge.specs.Done.{next-free, open-held, copied-segments}
-use Rattle.bridge.specs.Requests.{until-room, until-more, top-rises, carries-next, one-compaction, compacted-rows}
 use Rattle.crash.specs.RecoverErase.{unused-segment}
 use Rattle.crash.specs.RoomOwing.{Full, old-valid, old-fits}
+use Rattle.crash.specs.RoomSteps
+use Rattle.crash.specs.RoomSteps.{RoomLaws}
 use Rattle.crash.specs.RoomCuts.{TornNext, open-left, copy-out-left, owed, rest-after, rest-last}
 use Rattle.origins.specs.Law.{readAt, inForce}
 use Rattle.origins.specs.Reads.{Telling, not-telling, blank-reads, empty-plain, plain-reads}
@@ -122,38 +118,15 @@ module _ (k : Slot) (told : Telling k) (N B : ℕ) (s : Image) (v : View) (f : F
 -- ---- until there is room
 
 module _ (k : Slot) (told : Telling k) (N B : ℕ) where
-  compactions : (j : ℕ) (s : Image) (v : View) → Held N B s v → Bytes s → CleanView N B v → length (v .slots) ≡ N - 1 → Carries v
-      → topNumber (compactUntilRoom N B j v .result) < numberLimit N → (u : Image) → Cut B (compactUntilRoom N B j v .steps) s u → NoNew k N B s u
-  compactions zero s v h y c all carries below u d = no-new-image k N B s u (unfold compactUntilRoom in d)
-  compactions (suc j) s v h y c all carries below u d = go (hasRoom v) refl (λ t ht yt ct at bt x. compactions j t (compactOldest N B v .result) ht yt ct at (carries-next N B v carries) bt u x)
-    where
-      go : (t : Bool) → hasRoom v ≡ t
-          → ((t : Image) → Held N B t (compactOldest N B v .result) → Bytes t → CleanView N B (compactOldest N B v .result) → length (compactOldest N B v .result .slots) ≡ N - 1
-          → topNumber (compactUntilRoom N B j (compactOldest N B v .result) .result) < numberLimit N
-          → Cut B (compactUntilRoom N B j (compactOldest N B v .result) .steps) t u → NoNew k N B t u)
-          → NoNew k N B s u
-      go true e ih = no-new-image k N B s u (rw (until-room N B j v e) at d)
-      go false e ih =
-          let t = tidied N B v c e in
-          let m = until-more N B j v e in
-          let b : topNumber (compactUntilRoom N B j (compactOldest N B v .result) .result) < numberLimit N = rw m at below in
-          let low : suc (topNumber v) < numberLimit N = omega (arith, top-rises N B j (compactOldest N B v .result) (t .clean), t .number, b) in
-          let xs = compactOldest N B v .steps in
-          let f : Full N B s v = record { held = h; clean = c; noRoom = e; all = all; bytes = y; carries = carries; below = low } in
-          ⊎-elim (λ x. compacting k told N B s v f u x)
-          (λ x. no-new-trans k N B s (run B xs s) u (compacting k told N B s v f (run B xs s) (whole-cut B xs s))
-          (ih (run B xs s) (one-compaction N B s v h y c all carries low) (run-bytes B xs s y) (t .clean) (compacted-rows N B v (c .some) ∙ all) b x))
-          (cut-append B xs (compactUntilRoom N B j (compactOldest N B v .result) .steps) s u (rw m at d))
+  room-none : RoomLaws N B (λ s v u es f. NoNew k N B s u)
+  room-none = record {
+    nothing = λ s v h c u e. no-new-image k N B s u e;
+    opened = λ s v h c carries full few below u es f d. opening k told N B s v h carries few below u (begun-cut B (openNext N B v .steps) s u es f d);
+    compacted = λ s v f u es m d. compacting k told N B s v f u (begun-cut B (compactOldest N B v .steps) s u es m d);
+    behind = λ s v f u es m r. let xs = compactOldest N B v .steps in no-new-trans k N B s (run B xs s) u (compacting k told N B s v f (run B xs s) (whole-cut B xs s)) r;
+  }
 
   pub making-room : (s : Image) (v : View) → Held N B s v → Bytes s → CleanView N B v → (hasRoom v ≡ false → Carries v) → topNumber (roomFor N B v .result) < numberLimit N
       → (u : Image) → Cut B (roomFor N B v .steps) s u → NoNew k N B s u
-  unfolding roomFor
-  making-room s v h y c carries below u d = go (hasRoom v) (ltb (length (v .slots)) (N - 1)) refl refl below d
-    where
-      chosen : Bool → Bool → Room
-      chosen t w = cond t (record { steps = []; result = v }) (cond w (openNext N B v) (compactUntilRoom N B (N - 1) v))
-
-      go : (t w : Bool) → hasRoom v ≡ t → ltb (length (v .slots)) (N - 1) ≡ w → topNumber (chosen t w .result) < numberLimit N → Cut B (chosen t w .steps) s u → NoNew k N B s u
-      go true w e q b x = no-new-image k N B s u x
-      go false true e q b x = opening k told N B s v h (carries e) (ltb-true (length (v .slots)) (N - 1) q) (omega (arith, opened-top N B v (c .some), b)) u x
-      go false false e q b x = compactions (N - 1) s v h y c (omega (arith, ltb-false (length (v .slots)) (N - 1) q, c .spare)) (carries e) b u x
+  making-room s v h y c carries below u d = let (es, f, x) = cut-begun B (roomFor N B v .steps) s u d in
+      RoomSteps.making-room N B (λ s v u es f. NoNew k N B s u) room-none s v h y c carries below u es f x

@@ -20,7 +20,7 @@ use Rattle.model.specs.Begun.{isMark, marksIn, CutBegun, Turn, Turns, cutSeen, 
 use Rattle.model.specs.Bench.{call, whole}
 use Rattle.model.specs.Laws.Bench.{evaluate}
 use Rattle.model.specs.Laws.Begun.{turnsOf, AllProper, played, append-begun}
-use Rattle.model.specs.Laws.Bytes.{bytes-take, bytes-drop, step-bytes, run-bytes}
+use Rattle.model.specs.Laws.Bytes.{bytes-take, bytes-drop, run-bytes}
 use Rattle.bridge.specs.Format.{format-bytes}
 use Rattle.crash.specs.Machine.{OnTable}
 use Rattle.tallied.specs.Law.{tallyIn, topIn, BitLeft, Unformatted}

@@ -1,37 +1,35 @@
 -- A put, finished or cut: the tally is carried on, and each erase begun is of the index of a new number.
-use Prim.Native.Nat.{ℕ, zero, suc, _+_, _-_, _/_, _%_, _≤_, _<_}
+use Prim.Native.Nat.{ℕ, suc, _+_, _-_, _/_, _%_, _≤_, _<_}
 use mathlib.Core.Path.{_≡_, refl, sym, ap, _∙_}
 use mathlib.Core.Logic.{_⊎_, inl, inr, ⊎-elim}
-use mathlib.Core.Bool.{Bool, true, false, cond, _||_, true≢false}
+use mathlib.Core.Bool.{Bool, true, false, _||_, true≢false}
 use mathlib.Core.List.{List, [], _∷_, _++_}
 use native.Mathlib.Omega.{arith}
 use lib.ListN.{length, getD}
-use lib.Dec.{ltb, leb, eqb}
-use borrow.Author.Tests.{ltb-true, ltb-false}
+use lib.Dec.{leb, eqb}
 use Rattle.model.specs.Lists.{all, count}
 use Rattle.model.specs.Chip.{Image, Bytes, Step, erase, erased, rightSize, step, run, numberLimit, eraseLimit}
 use Rattle.model.specs.Header.{newVersion, isFormer, bitValues, clearedIn, clearedBits, tallyOf, noBitLeft}
 use Rattle.model.specs.Slot.{Entry}
 use Rattle.model.specs.State.{segmentsOf, nextNumber, topVersion, View, viewOf, view, entries, clean, state}
-use Rattle.model.specs.Steps.{topNumber, hasRoom, copyOut, compact, settle, nextVersion, Room, openNext, compactOldest, compactUntilRoom, roomFor, writeAtTop, markOld, newNumbers, isWorn}
+use Rattle.model.specs.Steps.{topNumber, hasRoom, copyOut, compact, settle, nextVersion, openNext, compactOldest, roomFor, writeAtTop, markOld, newNumbers, isWorn}
 use Rattle.model.specs.Answers.{put, workOf}
 use Rattle.model.specs.Sequences.{erasesIn}
 use Rattle.model.specs.Begun.{marksIn, CutBegun}
 use Rattle.model.specs.Laws.Chip.{run-size}
-use Rattle.model.specs.Laws.Bytes.{run-bytes}
 use Rattle.model.specs.Laws.Begun.{begun-cut, begun-append, begun-none, whole-begun}
 use Rattle.bridge.specs.Predicted.{afterPut, CleanView, Carries}
 use Rattle.bridge.specs.Views.Shape.{opened-top}
-use Rattle.bridge.specs.Views.Room.{tidied}
 use Rattle.bridge.specs.Accepted.{put-passed, accepted}
 use Rattle.bridge.specs.Held.{Held, held-top, held-of-clean, clean-view}
 use Rattle.bridge.specs.Done.{next-free, open-held}
-use Rattle.bridge.specs.Requests.{until-room, until-more, top-rises, carries-next, one-compaction, compacted-rows, put-valid, room-carries, roomed-below, roomed-held, roomed-clean, roomed-gap, after-clean, put-steps}
+use Rattle.bridge.specs.Requests.{put-valid, room-carries, roomed-below, roomed-held, roomed-clean, roomed-gap, after-clean, put-steps}
 use Rattle.crash.specs.Sound.{Accepted}
 use Rattle.crash.specs.Tops.{SameTop, same-segments, same-image, same-torn}
 use Rattle.crash.specs.OwingCuts.{rest-top}
 use Rattle.crash.specs.RoomOwing.{Full}
 use Rattle.crash.specs.RoomCuts.{open-left, copy-out-left, owed, rest-after, rest-last}
+use Rattle.crash.specs.RoomSteps.{RoomLaws, making-room}
 use Rattle.crash.specs.WriteTop.{put-into-top}
 use Rattle.wear.specs.Erases.{open-none, copied-none, settle-none, written-none}
 use Rattle.tallied.specs.Counts.{turnsTo, turns-more, turns-one, Advances, advances-same, advances-trans}
@@ -149,48 +147,20 @@ fresh-bits : (v : View) → noBitLeft (nextVersion v) ≡ false
 unfolding nextVersion newVersion noBitLeft all erased
 fresh-bits v = refl
 
-idle : (N B : ℕ) (s u : Image) (es : List ℕ) (f : ℕ) → CutBegun B [] s u es f → Advances N B s u es
-idle N B s u es f c = advances-same N B s u es (c .1) (same-image N B s u (c .0))
+-- where a new header is needed, the top has a bit left
+abbrev Advancing : ℕ → ℕ → Image → View → Image → List ℕ → ℕ → Type 0
+Advancing N B s v u es f = (hasRoom v ≡ false → noBitLeft (v .version) ≡ false) → Advances N B s u es
 
-compactions-advance : (N B k : ℕ) (s : Image) (v : View) → Held N B s v → Bytes s → CleanView N B v → length (v .slots) ≡ N - 1 → Carries v → noBitLeft (v .version) ≡ false
-    → topNumber (compactUntilRoom N B k v .result) < numberLimit N → (u : Image) (ds : List ℕ) (g : ℕ) → CutBegun B (compactUntilRoom N B k v .steps) s u ds g → Advances N B s u ds
-compactions-advance N B zero s v h y c all carries left below u ds g k = idle N B s u ds g (unfold compactUntilRoom in k)
-compactions-advance N B (suc j) s v h y c all carries left below u ds g k =
-    go (hasRoom v) refl (λ t ht yt ct at bt r more d. compactions-advance N B j t (compactOldest N B v .result) ht yt ct at (carries-next N B v carries) next-bits bt u r more d)
-  where
-    next-bits : noBitLeft (compactOldest N B v .result .version) ≡ false
-    next-bits = unfold compactOldest in (fresh-bits v)
-
-    go : (t : Bool) → hasRoom v ≡ t
-        → ((t : Image) → Held N B t (compactOldest N B v .result) → Bytes t → CleanView N B (compactOldest N B v .result) → length (compactOldest N B v .result .slots) ≡ N - 1
-        → topNumber (compactUntilRoom N B j (compactOldest N B v .result) .result) < numberLimit N → (r : List ℕ) (more : ℕ)
-        → CutBegun B (compactUntilRoom N B j (compactOldest N B v .result) .steps) t u r more → Advances N B t u r)
-        → Advances N B s u ds
-    go true e ih = idle N B s u ds g (rw (until-room N B j v e) at k)
-    go false e ih =
-        let t = tidied N B v c e in
-        let m = until-more N B j v e in
-        let b : topNumber (compactUntilRoom N B j (compactOldest N B v .result) .result) < numberLimit N = rw m at below in
-        let low : suc (topNumber v) < numberLimit N = omega (arith, top-rises N B j (compactOldest N B v .result) (t .clean), t .number, b) in
-        let xs = compactOldest N B v .steps in
-        let f : Full N B s v = record { held = h; clean = c; noRoom = e; all = all; bytes = y; carries = carries; below = low } in
-        ⊎-elim (λ d. compact-advances N B s v f left u ds g d)
-        (λ d. advances-trans N B s (run B xs s) u (erasesIn xs) (d .0) ds (d .2) (compact-advances N B s v f left (run B xs s) (erasesIn xs) (marksIn B xs) (whole-begun B xs s))
-        (ih (run B xs s) (one-compaction N B s v h y c all carries low) (run-bytes B xs s y) (t .clean) (compacted-rows N B v (c .some) ∙ all) b (d .0) (d .1) (d .4)))
-        (begun-append B xs (compactUntilRoom N B j (compactOldest N B v .result) .steps) s u ds g (rw m at k))
-
-room-advances : (N B : ℕ) (s : Image) (v : View) → Held N B s v → Bytes s → CleanView N B v → (hasRoom v ≡ false → Carries v) → (hasRoom v ≡ false → noBitLeft (v .version) ≡ false)
-    → topNumber (roomFor N B v .result) < numberLimit N → (u : Image) (ds : List ℕ) (f : ℕ) → CutBegun B (roomFor N B v .steps) s u ds f → Advances N B s u ds
-unfolding roomFor
-room-advances N B s v h y c carries left below u ds f k = go (hasRoom v) (ltb (length (v .slots)) (N - 1)) refl refl below k
-  where
-    chosen : Bool → Bool → Room
-    chosen t w = cond t (record { steps = []; result = v }) (cond w (openNext N B v) (compactUntilRoom N B (N - 1) v))
-
-    go : (t w : Bool) → hasRoom v ≡ t → ltb (length (v .slots)) (N - 1) ≡ w → topNumber (chosen t w .result) < numberLimit N → CutBegun B (chosen t w .steps) s u ds f → Advances N B s u ds
-    go true w e q b d = idle N B s u ds f d
-    go false true e q b d = open-advances N B s v h c (carries e) (left e) (ltb-true (length (v .slots)) (N - 1) q) (omega (arith, opened-top N B v (c .some), b)) u ds f d
-    go false false e q b d = compactions-advance N B (N - 1) s v h y c (omega (arith, ltb-false (length (v .slots)) (N - 1) q, c .spare)) (carries e) (left e) b u ds f d
+room-advances : (N B : ℕ) → RoomLaws N B (Advancing N B)
+room-advances N B = record {
+  nothing = λ s v h c u e left. advances-same N B s u [] refl (same-image N B s u e);
+  opened = λ s v h c carries full few below u es f d left. open-advances N B s v h c carries (left full) few below u es f d;
+  compacted = λ s v f u es m d left. compact-advances N B s v f (left (f .noRoom)) u es m d;
+  behind = λ s v f u es m a left.
+      let xs = compactOldest N B v .steps in
+      advances-trans N B s (run B xs s) u (erasesIn xs) es (erasesIn xs ++ es) refl (compact-advances N B s v f (left (f .noRoom)) (run B xs s) (erasesIn xs) (marksIn B xs) (whole-begun B xs s))
+      (a (λ q. (unfold compactOldest in fresh-bits v)));
+}
 
 -- ---- the request
 
@@ -213,9 +183,10 @@ put-advances N B s z c b d bs bd e u ds f k =
     let xs = roomFor N B v .steps in
     let last = writeAtTop N B b d r ++ markOld N B b r in
     let passed = put-passed N B s b d (accepted N B s (put b d) e .1) in
-    let room = room-advances N B s v h bs (clean-view N B s z c) (room-carries N B s z c b d bs bd e) (fresh-left N v (passed .fresh)) (roomed-below N B s z c b d bs bd e) in
-    ⊎-elim (λ q. room u ds f q)
-    (λ q. advances-trans N B s (run B xs s) u (erasesIn xs) (q .0) ds (q .2) (room (run B xs s) (erasesIn xs) (marksIn B xs) (whole-begun B xs s))
+    let left = fresh-left N v (passed .fresh) in
+    let room = making-room N B (Advancing N B) (room-advances N B) s v h bs (clean-view N B s z c) (room-carries N B s z c b d bs bd e) (roomed-below N B s z c b d bs bd e) in
+    ⊎-elim (λ q. room u ds f q left)
+    (λ q. advances-trans N B s (run B xs s) u (erasesIn xs) (q .0) ds (q .2) (room (run B xs s) (erasesIn xs) (marksIn B xs) (whole-begun B xs s) left)
     (advances-same N B (run B xs s) u (q .0) (begun-none B last (run B xs s) u (q .0) (q .1) (written-none N B b d r) (q .4))
     (put-into-top N B (run B xs s) r (roomed-held N B s z c b d bs bd e) (roomed-clean N B s z c b d bs bd e) (roomed-gap N B s z c b d bs bd e) b d (put-valid N B s z c b d bs bd e)
     (after-clean N B s z c b d bs bd e) u (begun-cut B last (run B xs s) u (q .0) (q .1) (q .4)))))

@@ -1,15 +1,15 @@
 -- The invariant, in two halves: the erases begun against F and K, and what R and K pay for. Each is kept by what one request may do.
-use Prim.Native.Nat.{ℕ, suc, _+_, _-_, _*_, max, _≤_}
+use Prim.Native.Nat.{ℕ, _+_, _-_, _*_, max, _≤_}
 use mathlib.Core.Path.{_≡_, refl, sym, ap, _∙_, subst}
 use mathlib.Core.Bool.{Bool, true}
-use mathlib.Core.List.{List, [], _∷_, _++_}
+use mathlib.Core.List.{List, _++_}
 use native.Mathlib.Omega.{arith}
 use lib.ListN.{length, length-append}
 use lib.Dec.{eqb}
 use Rattle.model.specs.Lists.{count}
 use Rattle.model.specs.Chip.{Image, rightSize}
 use Rattle.model.specs.State.{distinct}
-use Rattle.model.specs.Table.{Table, blocks, tableOf}
+use Rattle.model.specs.Table.{blocks, tableOf}
 use Rattle.model.specs.Answers.{Request, recover, workOf}
 use Rattle.model.specs.Histories.{Seen, recovered, shown}
 use Rattle.model.specs.Sequences.{Ledger, eraseCount, erasesOf}

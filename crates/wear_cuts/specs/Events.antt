@@ -1,42 +1,41 @@
 -- One event of a history: a request that ended, refused or done; or one that was cut.
 use Prim.Native.Nat.{ℕ, zero, suc, _+_, _≤_}
-use mathlib.Core.Path.{_≡_, refl, sym, ap, _∙_, subst}
-use mathlib.Core.Logic.{_⊎_, inl, inr, ⊎-elim}
+use mathlib.Core.Path.{_≡_, refl, sym, ap, _∙_}
+use mathlib.Core.Logic.{_⊎_, ⊎-elim}
 use mathlib.Core.Bool.{Bool, true, false, cond, true≢false}
-use mathlib.Core.List.{List, [], _∷_, _++_}
+use mathlib.Core.List.{List, [], _++_}
 use native.Mathlib.Omega.{arith}
-use lib.ListN.{length, take}
+use lib.ListN.{length}
 use lib.Dec.{eqb}
-use borrow.Author.Tests.{eqb-true, eq-eqb, ne-eqb}
-use Rattle.model.specs.Chip.{Image, Bytes, rightSize, run}
+use borrow.Author.Tests.{eq-eqb, ne-eqb}
+use Rattle.model.specs.Chip.{Image, Bytes, rightSize}
 use Rattle.model.specs.State.{segmentsOf, entriesIn, holds, distinct, Exception, State, clean, unfinished, damaged, state, view}
 use Rattle.model.specs.Steps.{roomFor}
-use Rattle.model.specs.Table.{blocks, store, without, Agree, tableOf}
+use Rattle.model.specs.Table.{blocks, tableOf}
 use Rattle.model.specs.Answers.{Request, format, put, delete, read, readOr, recover, workOf, outcomeOf}
 use Rattle.model.specs.Histories.{Reply, replyOf, Seen, answered, lost, Proper, recovered, shown}
 use Rattle.model.specs.Sequences.{erasesIn, among, storedAfter, replaces, Ledger, noted}
 use Rattle.model.specs.Begun.{marksIn, CutBegun, DoesBegun, Turn, cutSeen, notedCut, notedAs}
-use Rattle.model.specs.Laws.Chip.{size-facts, cut-size}
-use Rattle.model.specs.Laws.Tables.{agree-of, agree-trans, agree-holds}
-use Rattle.model.specs.Laws.Begun.{begun-cut, whole-begun}
+use Rattle.model.specs.Laws.Chip.{size-facts}
+use Rattle.model.specs.Laws.Tables.{agree-holds}
+use Rattle.model.specs.Laws.Begun.{whole-begun}
 use Rattle.bridge.specs.Predicted.{afterPut}
 use Rattle.bridge.specs.Views.Room.{room-made}
-use Rattle.bridge.specs.Allowance.{Ends, Stops, ends-or-stops}
-use Rattle.bridge.specs.Accepted.{refused-none, recover-none}
+use Rattle.bridge.specs.Allowance.{Ends, ends-or-stops}
 use Rattle.bridge.specs.Held.{clean-view}
 use Rattle.bridge.specs.Requests.{put-done, after-table}
 use Rattle.crash.specs.Machine.{malformed, OnTable, WantsRecovery, Promise}
 use Rattle.crash.specs.Sound.{SoundAs, Sound, Clean, Accepted, finished}
 use Rattle.crash.specs.Requests.{refused-idle, read-idle, readOr-idle, recovered-clean, shown-clean, idle-finished, Unfinished, code-unfinished}
 use Rattle.crash.specs.Works
-use Rattle.crash.specs.Works.{Works, puts, deletes, works}
+use Rattle.crash.specs.Works.{Works, puts, deletes}
 use Rattle.crash.specs.States.{recoveredView, rows-table, clean-with}
 use Rattle.crash.specs.Recover.{recover-done}
 use Rattle.crash.specs.Delete.{finished-delete}
 use Rattle.wear.specs.Room.{PaidView, room-moved}
 use Rattle.wear.specs.Requests.{put-paid}
-use Rattle.wear.specs.Stored.{Stored, stored-put, stored-delete}
-use Rattle.tallied.specs.Theorem.{IsInterrupted, begun-of}
+use Rattle.wear.specs.Stored.{stored-put, stored-delete}
+use Rattle.tallied.specs.Theorem.{IsInterrupted}
 use Rattle.wear_cuts.specs.Passes.{paid-more, Passes, passes-same}
 use Rattle.wear_cuts.specs.Recovers.{recover-passes}
 use Rattle.wear_cuts.specs.Puts.{put-passes, delete-passes}

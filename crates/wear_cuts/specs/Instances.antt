@@ -1,15 +1,15 @@
 -- Three histories on the smallest store, N = 2 and B = 2, computed: each bound is reached, or fails without K, so that each must-fail edit of the statement is false of one of them.
-use Prim.Native.Nat.{ℕ, _+_, _-_, _*_, _/_, _≤_}
+use Prim.Native.Nat.{ℕ, _+_, _-_}
 use mathlib.Core.Path.{_≡_, refl}
 use mathlib.Core.List.{List, [], _∷_, _++_}
 use native.Mathlib.Omega.{arith}
 use lib.ListN.{replicate}
 use Rattle.model.specs.Chip.{Image, rightSize, pagesOf, withSegment, step, run}
-use Rattle.model.specs.State.{segmentsOf, clean, state, view}
+use Rattle.model.specs.State.{segmentsOf, state, view}
 use Rattle.model.specs.Table.{blocks, tableOf}
 use Rattle.model.specs.Answers.{Request, format, put, delete, recover, workOf, outcomeOf}
-use Rattle.model.specs.Histories.{answered, lost, bytesRead, replyOf, recovered, shown}
-use Rattle.model.specs.Sequences.{Call, play, Ledger, start, noted, eraseCount, erasesOf}
+use Rattle.model.specs.Histories.{lost, bytesRead, replyOf, recovered, shown}
+use Rattle.model.specs.Sequences.{Call, play, start, eraseCount, erasesOf}
 use Rattle.model.specs.Begun.{isMark, marksIn, Turn, cutSeen, cutsIn, byRecovery, marksOf, notedCut, notedAs, ledgerOf}
 use Rattle.model.specs.Bench.{call, whole}
 use Rattle.model.specs.Laws.Bench.{evaluate}

@@ -2,7 +2,7 @@
 use Prim.Native.Nat.{ℕ, _+_, _-_, _*_, _/_, _≤_, _<_}
 use mathlib.Core.Path.{_≡_}
 use mathlib.Core.List.{List, [], _∷_}
-use lib.ListN.{length, take}
+use lib.ListN.{take}
 use Rattle.model.specs.Chip.{Image}
 use Rattle.model.specs.Answers.{format, outcomeOf}
 use Rattle.model.specs.Sequences.{Call, observed, Uncut, start, ledger, eraseCount, erasesOf}

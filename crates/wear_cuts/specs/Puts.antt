@@ -1,37 +1,33 @@
 -- A put, finished or cut: each compaction that reaches the owing mark is one number and one erase, begun or still due; and at most one slot becomes dead that no compaction takes away.
-use Prim.Native.Nat.{ℕ, zero, suc, _+_, _-_, _%_, _≤_, _<_}
-use mathlib.Core.Path.{_≡_, refl, sym, ap, _∙_}
+use Prim.Native.Nat.{ℕ, suc, _+_, _-_, _%_, _≤_, _<_}
+use mathlib.Core.Path.{_≡_, refl, ap, _∙_}
 use mathlib.Core.Logic.{_⊎_, inl, inr, ⊎-elim}
-use mathlib.Core.Bool.{Bool, true, false, cond, _||_}
+use mathlib.Core.Bool.{Bool, true, false, cond}
 use mathlib.Core.List.{List, [], _∷_, _++_}
 use native.Mathlib.Omega.{arith}
 use lib.ListN.{length, getD}
-use lib.Dec.{ltb, eqb}
-use borrow.Author.Tests.{ltb-true, ltb-false}
 use Rattle.model.specs.Lists.{count}
 use Rattle.model.specs.Chip.{Image, Bytes, Step, erase, rightSize, step, run, numberLimit}
 use Rattle.model.specs.Slot.{Entry, empty, dead, cut, isDead}
-use Rattle.model.specs.State.{blank, segmentsOf, isInUse, isInvalid, nextNumber, View, viewOf, view, entries, entriesIn, holds, placeOf, clean, state}
-use Rattle.model.specs.Steps.{topRow, topNumber, hasRoom, firstEmpty, copyOut, compact, settle, nextVersion, Room, openNext, compactOldest, compactUntilRoom, roomFor, markPlace, writeAtTop, markOld, deleteSteps}
+use Rattle.model.specs.State.{segmentsOf, nextNumber, View, viewOf, view, entries, entriesIn, holds, placeOf, clean, state}
+use Rattle.model.specs.Steps.{topRow, topNumber, hasRoom, firstEmpty, copyOut, compact, settle, nextVersion, openNext, compactOldest, roomFor, markPlace, writeAtTop, markOld, deleteSteps}
 use Rattle.model.specs.Answers.{put, delete, stepsFor, workOf}
 use Rattle.model.specs.Histories.{shown}
 use Rattle.model.specs.Sequences.{erasesIn}
 use Rattle.model.specs.Begun.{isMark, marksIn, CutBegun}
 use Rattle.model.specs.Laws.Lists.{one}
 use Rattle.model.specs.Laws.Chip.{run-size, cut-size}
-use Rattle.model.specs.Laws.Bytes.{run-bytes}
 use Rattle.model.specs.Laws.Counted.{SameRows}
 use Rattle.model.specs.Laws.Begun.{begun-cut, Behind, begun-append, begun-none, begun-unmarked, whole-begun, marks-append}
 use Rattle.model.specs.Laws.SlotPage.{Valid}
 use Rattle.model.specs.Laws.Marks.{open-unmarked, settle-unmarked, dead-unmarked, write-unmarked, copy-out-one}
 use Rattle.bridge.specs.Predicted.{slotChanged, marked, putInto, afterPut, afterDelete, CleanView, Carries}
 use Rattle.bridge.specs.Views.Places.{fill-changed, TopGap, in-view}
-use Rattle.bridge.specs.Views.Shape.{opened-top}
 use Rattle.bridge.specs.Views.Room.{tidied, opened-clean}
 use Rattle.bridge.specs.Accepted.{accepted, delete-passed}
 use Rattle.bridge.specs.Held.{Held, held-of-clean, clean-view, clean-of-held}
 use Rattle.bridge.specs.Done.{open-held}
-use Rattle.bridge.specs.Requests.{until-room, until-more, top-rises, carries-next, one-compaction, compacted-rows, delete-done, put-valid, room-carries, roomed-below, roomed-held, roomed-clean, roomed-gap, roomed-size, after-clean, put-steps}
+use Rattle.bridge.specs.Requests.{one-compaction, delete-done, put-valid, room-carries, roomed-below, roomed-held, roomed-clean, roomed-gap, roomed-size, after-clean, put-steps}
 use Rattle.crash.specs.Sound.{Accepted}
 use Rattle.crash.specs.States.{recoveredView, SoundWith, rows-table, kept-with, clean-with}
 use Rattle.crash.specs.RecoverMarks.{slot-inside, live-place, live-marks}
@@ -39,7 +35,8 @@ use Rattle.crash.specs.Delete.{delete-whole}
 use Rattle.crash.specs.RoomTorn.{held-shows, next-torn}
 use Rattle.crash.specs.OwingCuts.{rest-cut}
 use Rattle.crash.specs.RoomOwing.{Full, old-valid, old-fits, Owing}
-use Rattle.crash.specs.RoomCuts.{TornNext, open-left, copy-out-marked, owes, owed, rest-after, rest-last}
+use Rattle.crash.specs.RoomCuts.{open-left, copy-out-marked, owes, owed, rest-after, rest-last}
+use Rattle.crash.specs.RoomSteps.{RoomLaws, making-room}
 use Rattle.crash.specs.WriteTop.{cutView, put-into-left}
 use Rattle.wear.specs.Erases.{erasesAt, open-none, copied-none, settle-none, mark-none, written-none}
 use Rattle.wear.specs.Room.{paid-open, PaidView, ready-after}
@@ -170,46 +167,19 @@ module _ (N B : ℕ) (s : Image) (v : View) (f : Full N B s v) where
 
 -- ---- room
 
-series-pass : (N B k : ℕ) (s : Image) (v : View) → Held N B s v → Bytes s → CleanView N B v → length (v .slots) ≡ N - 1 → Carries v
-    → topNumber (compactUntilRoom N B k v .result) < numberLimit N → (u : Image) (ds : List ℕ) (m : ℕ) → CutBegun B (compactUntilRoom N B k v .steps) s u ds m → Passes N B 0 0 s u ds m
-series-pass N B zero s v h y c all carries below u ds m k =
-    let d : CutBegun B [] s u ds m = (unfold compactUntilRoom in k) in rw (d .1, d .2) (passes-same N B 0 s u (d .0))
-series-pass N B (suc j) s v h y c all carries below u ds m k =
-    go (hasRoom v) refl (λ t ht yt ct at bt r p d. series-pass N B j t (compactOldest N B v .result) ht yt ct at (carries-next N B v carries) bt u r p d)
-  where
-    go : (t : Bool) → hasRoom v ≡ t
-        → ((t : Image) → Held N B t (compactOldest N B v .result) → Bytes t → CleanView N B (compactOldest N B v .result) → length (compactOldest N B v .result .slots) ≡ N - 1
-        → topNumber (compactUntilRoom N B j (compactOldest N B v .result) .result) < numberLimit N → (r : List ℕ) (p : ℕ)
-        → CutBegun B (compactUntilRoom N B j (compactOldest N B v .result) .steps) t u r p → Passes N B 0 0 t u r p)
-        → Passes N B 0 0 s u ds m
-    go true e ih = let d : CutBegun B [] s u ds m = rw (until-room N B j v e) at k in rw (d .1, d .2) (passes-same N B 0 s u (d .0))
-    go false e ih =
-        let a = tidied N B v c e in
-        let more = until-more N B j v e in
-        let b : topNumber (compactUntilRoom N B j (compactOldest N B v .result) .result) < numberLimit N = rw more at below in
-        let low : suc (topNumber v) < numberLimit N = omega (arith, top-rises N B j (compactOldest N B v .result) (a .clean), a .number, b) in
-        let xs = compactOldest N B v .steps in
-        let t = run B xs s in
-        let f : Full N B s v = record { held = h; clean = c; noRoom = e; all = all; bytes = y; carries = carries; below = low } in
-        let ht = one-compaction N B s v h y c all carries low in
-        let less : length (shown N B t) ≤ length (shown N B s) = rw (held-shown N B t (compactOldest N B v .result) ht (a .clean), held-shown N B s v h c) (omega (arith, a .size)) in
-        ⊎-elim (λ d. compact-passes N B s v f u ds m d)
-        (λ d. passes-trans N B 0 0 s t u (erasesIn xs) (d .0) ds (marksIn B xs) (d .1) m (d .2) (d .3) less (compact-passes N B s v f t (erasesIn xs) (marksIn B xs) (whole-begun B xs s))
-        (ih t ht (run-bytes B xs s y) (a .clean) (compacted-rows N B v (c .some) ∙ all) b (d .0) (d .1) (d .4)))
-        (begun-append B xs (compactUntilRoom N B j (compactOldest N B v .result) .steps) s u ds m (rw more at k))
-
-room-pass : (N B : ℕ) (s : Image) (v : View) → Held N B s v → Bytes s → CleanView N B v → (hasRoom v ≡ false → Carries v)
-    → topNumber (roomFor N B v .result) < numberLimit N → (u : Image) (ds : List ℕ) (m : ℕ) → CutBegun B (roomFor N B v .steps) s u ds m → Passes N B 0 0 s u ds m
-unfolding roomFor
-room-pass N B s v h y c carries below u ds m k = go (hasRoom v) (ltb (length (v .slots)) (N - 1)) refl refl below k
-  where
-    chosen : Bool → Bool → Room
-    chosen t w = cond t (record { steps = []; result = v }) (cond w (openNext N B v) (compactUntilRoom N B (N - 1) v))
-
-    go : (t w : Bool) → hasRoom v ≡ t → ltb (length (v .slots)) (N - 1) ≡ w → topNumber (chosen t w .result) < numberLimit N → CutBegun B (chosen t w .steps) s u ds m → Passes N B 0 0 s u ds m
-    go true w e q b d = rw (d .1, d .2) (passes-same N B 0 s u (d .0))
-    go false true e q b d = open-passes N B s v h c (carries e) e (ltb-true (length (v .slots)) (N - 1) q) (omega (arith, opened-top N B v (c .some), b)) u ds m d
-    go false false e q b d = series-pass N B (N - 1) s v h y c (omega (arith, ltb-false (length (v .slots)) (N - 1) q, c .spare)) (carries e) b u ds m d
+room-passes : (N B : ℕ) → RoomLaws N B (λ s v u es f. Passes N B 0 0 s u es f)
+room-passes N B = record {
+  nothing = λ s v h c u e. passes-same N B 0 s u e;
+  opened = λ s v h c carries full few below u es f d. open-passes N B s v h c carries full few below u es f d;
+  compacted = λ s v f u es m d. compact-passes N B s v f u es m d;
+  behind = λ s v f u es m p.
+      let xs = compactOldest N B v .steps in
+      let t = run B xs s in
+      let a = tidied N B v (f .clean) (f .noRoom) in
+      let held = one-compaction N B s v (f .held) (f .bytes) (f .clean) (f .all) (f .carries) (f .below) in
+      let less : length (shown N B t) ≤ length (shown N B s) = rw (held-shown N B t (compactOldest N B v .result) held (a .clean), held-shown N B s v (f .held) (f .clean)) (omega (arith, a .size)) in
+      passes-trans N B 0 0 s t u (erasesIn xs) es (erasesIn xs ++ es) (marksIn B xs) m (marksIn B xs + m) refl refl less (compact-passes N B s v f t (erasesIn xs) (marksIn B xs) (whole-begun B xs s)) p;
+}
 
 -- ---- the slot written, and the old one marked
 
@@ -277,7 +247,7 @@ put-passes N B s z c b d bs bd e u es f k =
     let t = run B xs s in
     let ht = roomed-held N B s z c b d bs bd e in
     let ct = roomed-clean N B s z c b d bs bd e in
-    let room = room-pass N B s v h bs cv (room-carries N B s z c b d bs bd e) (roomed-below N B s z c b d bs bd e) in
+    let room = making-room N B (λ s v u es f. Passes N B 0 0 s u es f) (room-passes N B) s v h bs cv (room-carries N B s z c b d bs bd e) (roomed-below N B s z c b d bs bd e) in
     let less : length (shown N B t) ≤ length (shown N B s) = rw (held-shown N B t r ht ct, held-shown N B s v h cv) (omega (arith, roomed-size N B s z c b d bs bd e)) in
     ⊎-elim (λ q. more (room u es f q))
     (λ q. passes-trans N B 0 1 s t u (erasesIn xs) (q .0) es (marksIn B xs) (q .1) f (q .2) (q .3) less (room t (erasesIn xs) (marksIn B xs) (whole-begun B xs s))

@@ -9,7 +9,7 @@ use lib.ListN.{length, getD, length-append}
 use lib.Dec.{eqb}
 use borrow.Author.Tests.{eqb-true}
 use Rattle.model.specs.Lists.{count}
-use Rattle.model.specs.Chip.{Image, Step, erase, rightSize, step, run, Cut}
+use Rattle.model.specs.Chip.{Image, Step, erase, rightSize, run, Cut}
 use Rattle.model.specs.Slot.{dead, cut}
 use Rattle.model.specs.State.{Segment, blank, inUse, segmentsOf, isInUse, isInvalid, slotsIn, nextNumber, nextIndex, topVersion, lastSlot, older, Exception, caseA, caseB, caseC, caseD, State, clean, unfinished, damaged, stateOf, state}
 use Rattle.model.specs.Steps.{settle, unlessBlank, eraseNext, mendSteps, recoverSteps}
@@ -17,7 +17,7 @@ use Rattle.model.specs.Answers.{recover, stepsFor, workOf}
 use Rattle.model.specs.Sequences.{erasesIn}
 use Rattle.model.specs.Begun.{isMark, marksIn, CutBegun}
 use Rattle.model.specs.Laws.Lists.{count-append}
-use Rattle.model.specs.Laws.Chip.{size-facts, run-size, whole-cut, cut-size}
+use Rattle.model.specs.Laws.Chip.{size-facts, whole-cut, cut-size}
 use Rattle.model.specs.Laws.Segments.{segments-length}
 use Rattle.model.specs.Laws.Begun.{begun-cut, erases-append, marks-append, Behind, begun-append, begun-few, begun-unmarked}
 use Rattle.model.specs.Laws.Counted.{bits-length}
@@ -183,6 +183,8 @@ module _ (N B : ℕ) (s : Image) (z : rightSize N B s ≡ true) where
       let xs = workOf N B s recover .steps in
       let v = recoveredView N B s in
       let few : length es ≤ 1 = omega (arith, begun-few B xs s u es f c, recover-few N B s) in
-      let unmarked : f ≡ 0 = begun-unmarked B xs s u es f (recover-unmarked h) c in
-      (unmarked, passes-views N B 0 1 s u es f v v (refl, refl) (recover-cut N B s u z h (begun-cut B xs s u es f c) .1) (omega (arith, unmarked)) (omega (arith, few))
-      (λ i. omega (arith, few, count-least (λ x. eqb i x) es)) (λ i. omega (arith, recover-owed h u es f c i)) (λ L R l p. paid-more N B L R (R + 0) v (omega arith) p))
+      let unmarked : f ≡ 0 = begun-unmarked B xs s u es f (recover-unmarked h) c in (
+        unmarked,
+        passes-views N B 0 1 s u es f v v (refl, refl) (recover-cut N B s u z h (begun-cut B xs s u es f c) .1) (omega (arith, unmarked)) (omega (arith, few))
+            (λ i. omega (arith, few, count-least (λ x. eqb i x) es)) (λ i. omega (arith, recover-owed h u es f c i)) (λ L R l p. paid-more N B L R (R + 0) v (omega arith) p),
+      )

@@ -1,6 +1,6 @@
 -- Request #112, by induction over the turns of a history, along with demand 2's machine.
-use Prim.Native.Nat.{ℕ, suc, _+_, _-_, _≤_, _<_}
-use mathlib.Core.Path.{_≡_, refl, sym, ap, _∙_, subst}
+use Prim.Native.Nat.{ℕ, _+_, _-_, _≤_}
+use mathlib.Core.Path.{_≡_, sym, _∙_, subst}
 use mathlib.Core.Bool.{Bool, true, false}
 use mathlib.Core.List.{List, [], _∷_}
 use native.Mathlib.Omega.{arith}
@@ -8,11 +8,11 @@ use lib.ListN.{length}
 use lib.Dec.{eqb}
 use Rattle.model.specs.Lists.{count}
 use Rattle.model.specs.Chip.{Image, Bytes, rightSize, run}
-use Rattle.model.specs.State.{View, view, Exception, clean, unfinished, state}
+use Rattle.model.specs.State.{Exception, clean, unfinished, state}
 use Rattle.model.specs.Steps.{formatSteps}
 use Rattle.model.specs.Table.{blocks}
-use Rattle.model.specs.Answers.{Request, format, put, delete, read, readOr, recover, workOf, outcomeOf}
-use Rattle.model.specs.Histories.{Seen, Proper, shown}
+use Rattle.model.specs.Answers.{Request, format, put, delete, read, readOr, recover, workOf}
+use Rattle.model.specs.Histories.{Proper, shown}
 use Rattle.model.specs.Sequences.{erasesIn, Ledger, start, eraseCount, erasesOf}
 use Rattle.model.specs.Begun.{DoesBegun, Turn, Turns, cutSeen, cutsIn, byRecovery, marksOf, notedAs, ledgerOf}
 use Rattle.model.specs.Laws.Chip.{size-facts, run-size}
@@ -35,7 +35,7 @@ use Rattle.wear.specs.Requests.{tracks-start}
 use Rattle.wear.specs.Sequence.{format-answered}
 use Rattle.tallied.specs.Law.{Unformatted}
 use Rattle.tallied.specs.Theorem.{IsInterrupted, Below, known, count-least, begun-of}
-use Rattle.wear_cuts.specs.Law.{TidyingsPaid, FewBegun, WithinCuts, OneErase, WearWithCuts}
+use Rattle.wear_cuts.specs.Law.{OneErase, WearWithCuts}
 use Rattle.wear_cuts.specs.Instances
 use Rattle.wear_cuts.specs.Passes.{erasesIf, due, due-clean}
 use Rattle.wear_cuts.specs.Recovers.{recover-few}

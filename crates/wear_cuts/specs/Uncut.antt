@@ -1,18 +1,16 @@
 -- Where there is no cut, the statement gives demand 3's bound and balance: a sequence of calls is a history whose K is 0, with the same count, and E is at most F.
 use Prim.Native.Nat.{ℕ, zero, suc, _+_, _-_, _*_, _/_, _≤_, _<_}
-use mathlib.Core.Path.{_≡_, refl, sym, ap, ap₂, _∙_, subst}
+use mathlib.Core.Path.{_≡_, refl, ap, _∙_}
 use mathlib.Core.Logic.{_≢_}
-use mathlib.Core.Bool.{Bool, false, cond}
 use mathlib.Core.List.{List, [], _∷_}
 use native.Mathlib.Omega.{arith}
 use native.Mathlib.Nat.{le-div-iff-mul-le, div-mul-le-self, mul-le-mul-right}
 use lib.ListN.{take}
-use lib.Dec.{eqb}
 use borrow.Author.Tests.{ne-eqb}
 use Rattle.model.specs.Chip.{Image}
-use Rattle.model.specs.Answers.{Request, format, put, delete, read, readOr, recover, workOf, outcomeOf}
+use Rattle.model.specs.Answers.{Request, format, put, delete, read, readOr, recover, outcomeOf}
 use Rattle.model.specs.Histories.{Proper, replyOf}
-use Rattle.model.specs.Sequences.{Call, play, erasesIn, Observed, observe, observed, InSequence, Uncut, Ledger, start, noted, ledger, eraseCount, erasesOf}
+use Rattle.model.specs.Sequences.{Call, play, Observed, observe, observed, InSequence, Uncut, Ledger, start, noted, ledger, eraseCount, erasesOf}
 use Rattle.model.specs.Begun.{cutSeen, cutsIn, marksOf, notedAs, ledgerOf}
 use Rattle.model.specs.Laws.Chip.{size-facts}
 use Rattle.model.specs.Laws.Begun.{turnOf, turnsOf, AllProper, played}
@@ -100,8 +98,7 @@ module _ (law : WearWithCuts) (N B : ℕ) (s : Image) (allowance : ℕ) (e : out
 
 pub without-cuts : WearWithCuts → BoundAndBalance
 without-cuts law N B s allowance xs e u =
-    let m = outcomeOf N B s allowance format .image in
-    (
+    let m = outcomeOf N B s allowance format .image in (
       paid law N B s allowance e xs u,
       λ k. rw (observed-take N B k xs m) at (level law N B s allowance e (take k xs) (rw (observed-take N B k xs m) (uncut-take k (observed N B m xs) u))),
     )

@@ -8,7 +8,6 @@ use native.Mathlib.Omega.{arith}
 use lib.ListN.{length, getD, set, length-append}
 use lib.Seq.{set-getD, set-append-seam, getD-at, getD-append-add}
 use lib.Dec.{eqb}
-use Rattle.model.specs.Lists.{all}
 use Rattle.model.specs.Chip.{Image, Page, Bytes, pagesOf, program, erased, clear, step, run, mostSegments, numberLimit, imageLength, Cut}
 use Rattle.model.specs.Header.{numberBytes, inverted, Version, version1, version2, versionNumber, totalFits, tallyBytes, headerPage, headerStatus, headerNumber, oldIndex}
 use Rattle.model.specs.Slot.{Slot}
