@@ -1,5 +1,5 @@
 -- Histories with what their requests set about: the erases begun, those that a loss of power fell into too, and the tidyings that reached the owing mark.
-use Prim.Native.Nat.{ℕ, _+_, _/_, _%_, max}
+use Prim.Native.Nat.{ℕ, _+_, _/_, _%_}
 use mathlib.Core.Path.{_≡_}
 use mathlib.Core.Logic.{_⊎_}
 use mathlib.Core.Bool.{Bool, false, cond, _&&_}
@@ -12,7 +12,7 @@ use Rattle.model.specs.Header.{erasePending}
 use Rattle.model.specs.Table.{blocks}
 use Rattle.model.specs.Answers.{Request, format, put, delete, read, readOr, recover, workOf, outcomeOf}
 use Rattle.model.specs.Histories.{replyOf, Seen, answered, lost, Proper, shown}
-use Rattle.model.specs.Sequences.{erasesIn, Ledger, noted}
+use Rattle.model.specs.Sequences.{erasesIn}
 
 -- a step that sets the owing mark: status 9F, which is byte 5 of a header, page 0 of its segment
 unfoldable pub isMark : ℕ → Step → Bool
@@ -80,23 +80,3 @@ recoveryErases (e ∷ es) = byRecovery (e .request) (e .begun) + recoveryErases 
 unfoldable pub begunOn : ℕ → List Turn → ℕ
 begunOn i [] = 0
 begunOn i (e ∷ es) = count (λ x. eqb i x) (e .begun) + begunOn i es
-
--- ---- request #112: F, R and L with cuts
-
--- F, the tidyings that reached the owing mark
-unfoldable pub marksOf : List Turn → ℕ
-marksOf [] = 0
-marksOf (e ∷ es) = e .marks + marksOf es
-
--- after a cut the stored blocks are those that a finished recovery shows, for L as well; R counts only what was acknowledged
-unfoldable pub notedCut : Turn → Ledger → Ledger
-notedCut e t = record { stored = e .kept; largest = max (t .largest) (length (e .kept)); replaced = t .replaced; erased = t .erased ++ e .begun }
-
-unfoldable pub notedAs : Turn → Seen → Ledger → Ledger
-notedAs e (answered o) t = cond (eqb (o .code) 9) (notedCut e t) (noted (record { request = e .request; code = o .code; erases = e .begun }) t)
-notedAs e lost t = notedCut e t
-
--- stored blocks, L, R and the erases begun
-unfoldable pub ledgerOf : List Turn → Ledger → Ledger
-ledgerOf [] t = t
-ledgerOf (e ∷ es) t = ledgerOf es (notedAs e (e .seen) t)

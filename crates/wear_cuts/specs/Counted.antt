@@ -13,7 +13,7 @@ use Rattle.model.specs.Table.{blocks, tableOf}
 use Rattle.model.specs.Answers.{Request, recover, workOf}
 use Rattle.model.specs.Histories.{Seen, recovered, shown}
 use Rattle.model.specs.Sequences.{Ledger, eraseCount, erasesOf}
-use Rattle.model.specs.Begun.{Turn, cutSeen, notedCut}
+use Rattle.model.specs.Begun.{Turn, cutSeen}
 use Rattle.model.specs.Laws.Lists.{count-append}
 use Rattle.model.specs.Laws.Chip.{run-size}
 use Rattle.bridge.specs.Views.Shape.{clean-distinct}
@@ -26,6 +26,7 @@ use Rattle.wear.specs.Erases.{erasesAt}
 use Rattle.wear.specs.Room.{paid-after, PaidView}
 use Rattle.wear.specs.Stored.{Stored, stored-blocks, stored-length}
 use Rattle.tallied.specs.Theorem.{IsInterrupted, Below, below-same, below-more}
+use Rattle.wear_counts.specs.Counts.{notedCut}
 use Rattle.wear_cuts.specs.Passes.{erasesIf, due, Passes}
 
 -- ---- the erases begun: F is the smallest number in use once recovered, and its turns are erased, but for those still due

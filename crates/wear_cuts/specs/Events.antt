@@ -15,7 +15,7 @@ use Rattle.model.specs.Table.{blocks, tableOf}
 use Rattle.model.specs.Answers.{Request, format, put, delete, read, readOr, recover, workOf, outcomeOf}
 use Rattle.model.specs.Histories.{Reply, replyOf, Seen, answered, lost, Proper, recovered, shown}
 use Rattle.model.specs.Sequences.{erasesIn, among, storedAfter, replaces, Ledger, noted}
-use Rattle.model.specs.Begun.{marksIn, CutBegun, DoesBegun, Turn, cutSeen, notedCut, notedAs}
+use Rattle.model.specs.Begun.{marksIn, CutBegun, DoesBegun, Turn, cutSeen}
 use Rattle.model.specs.Laws.Chip.{size-facts}
 use Rattle.model.specs.Laws.Tables.{agree-holds}
 use Rattle.model.specs.Laws.Begun.{whole-begun}
@@ -36,6 +36,7 @@ use Rattle.wear.specs.Room.{PaidView, room-moved}
 use Rattle.wear.specs.Requests.{put-paid}
 use Rattle.wear.specs.Stored.{stored-put, stored-delete}
 use Rattle.tallied.specs.Theorem.{IsInterrupted}
+use Rattle.wear_counts.specs.Counts.{notedCut, notedAs}
 use Rattle.wear_cuts.specs.Passes.{paid-more, Passes, passes-same}
 use Rattle.wear_cuts.specs.Recovers.{recover-passes}
 use Rattle.wear_cuts.specs.Puts.{put-passes, delete-passes}

@@ -10,19 +10,20 @@ use Rattle.model.specs.Table.{blocks}
 use Rattle.model.specs.Answers.{format, recover, workOf, outcomeOf}
 use Rattle.model.specs.Histories.{lost, shown}
 use Rattle.model.specs.Sequences.{Call, play, erasesIn, start}
-use Rattle.model.specs.Begun.{isMark, marksIn, CutBegun, Turn, Turns, cutsIn, marksOf, ledgerOf}
+use Rattle.model.specs.Begun.{isMark, marksIn, CutBegun, Turn, Turns, cutsIn}
 use Rattle.model.specs.Bench.{whole}
 use Rattle.model.specs.Laws.Begun.{turnsOf, AllProper, played}
 use Rattle.bridge.specs.Format.{format-bytes}
 use Rattle.wear.specs.Sequence.{format-answered}
 use Rattle.tallied.specs.Law.{Unformatted}
 use Rattle.tallied.specs.Examples.{AllOnTable, unformatted, played-bytes, fallen, in-erase, turns-append, unformatted-append}
-use Rattle.wear_cuts.specs.Law.{TidyingsPaid, FewBegun, WithinCuts, OneErase}
-use Rattle.wear_cuts.specs.Instances.{formatted, cutOff, worn, unpaid, turns, evaluateCounts}
+use Rattle.wear_counts.specs.Counts.{marksOf, ledgerOf}
+use Rattle.wear_counts.specs.Law.{TidyingsPaid, FewBegun, WithinCuts, OneErase}
+use Rattle.wear_counts.specs.Instances.{formatted, cutOff, worn, unpaid, turns, evaluateTurns, evaluateCounts}
 use Rattle.wear_cuts.specs.Theorem.{wear-with-cuts}
 
 formats : outcomeOf 2 2 (replicate 1536 0) 1000 format .code ≡ 0
-unfolding evaluateCounts
+unfolding evaluateTurns
 formats = refl
 
 -- what the theorem says of a history
@@ -60,7 +61,7 @@ abbrev pub lostTurns : List Turn
 lostTurns = turns cutOff ++ (lostOne ∷ turnsOf 2 2 torn (whole recover ∷ []))
 
 recovery-steps : workOf 2 2 before recover .steps ≡ program 800 127 ∷ erase 0 ∷ []
-unfolding evaluateCounts
+unfolding evaluateTurns
 recovery-steps = refl
 
 lost-does : CutBegun 2 (workOf 2 2 before recover .steps) before torn (0 ∷ []) 0
@@ -80,5 +81,5 @@ lost-told = told-of lostTurns (play 2 2 torn (whole recover ∷ []))
     (unformatted-append (turns cutOff) (lostOne ∷ turnsOf 2 2 torn (whole recover ∷ [])) (unformatted 2 2 cutOff formatted (tt, (tt, (tt, (tt, tt))))) (tt, unformatted 2 2 (whole recover ∷ []) torn (tt, tt)))
 
 pub lost-counts : (ledgerOf lostTurns start .erased ≡ 0 ∷ 0 ∷ 0 ∷ []) × (marksOf lostTurns ≡ 1) × (cutsIn lostTurns ≡ 2)
-unfolding evaluateCounts segmentBytes
+unfolding evaluateTurns evaluateCounts segmentBytes
 lost-counts = (refl, refl, refl)

@@ -1,7 +1,4 @@
--- The statement, and histories on which each bound is computed.
-pub mod Law
-pub mod Instances
--- what one request may do
+-- What one request may do.
 pub mod Passes
 pub mod Recovers
 pub mod Puts

@@ -14,7 +14,7 @@ use Rattle.model.specs.Table.{blocks}
 use Rattle.model.specs.Answers.{Request, format, put, delete, read, readOr, recover, workOf}
 use Rattle.model.specs.Histories.{Proper, shown}
 use Rattle.model.specs.Sequences.{erasesIn, Ledger, start, eraseCount, erasesOf}
-use Rattle.model.specs.Begun.{DoesBegun, Turn, Turns, cutSeen, cutsIn, byRecovery, marksOf, notedAs, ledgerOf}
+use Rattle.model.specs.Begun.{DoesBegun, Turn, Turns, cutSeen, cutsIn, byRecovery}
 use Rattle.model.specs.Laws.Chip.{size-facts, run-size}
 use Rattle.model.specs.Laws.Begun.{begun-does, begun-few}
 use Rattle.bridge.specs.Predicted.{fresh}
@@ -35,8 +35,9 @@ use Rattle.wear.specs.Requests.{tracks-start}
 use Rattle.wear.specs.Sequence.{format-answered}
 use Rattle.tallied.specs.Law.{Unformatted}
 use Rattle.tallied.specs.Theorem.{IsInterrupted, Below, known, count-least, begun-of}
-use Rattle.wear_cuts.specs.Law.{OneErase, WearWithCuts}
-use Rattle.wear_cuts.specs.Instances
+use Rattle.wear_counts.specs.Counts.{marksOf, notedAs, ledgerOf}
+use Rattle.wear_counts.specs.Law.{OneErase, WearWithCuts}
+use Rattle.wear_counts.specs.Instances
 use Rattle.wear_cuts.specs.Passes.{erasesIf, due, due-clean}
 use Rattle.wear_cuts.specs.Recovers.{recover-few}
 use Rattle.wear_cuts.specs.Counted.{Erased, erased-on, erased-recovered, Funded, shown-distinct}

@@ -11,7 +11,7 @@ use Rattle.model.specs.Chip.{Image}
 use Rattle.model.specs.Answers.{Request, format, put, delete, read, readOr, recover, outcomeOf}
 use Rattle.model.specs.Histories.{Proper, replyOf}
 use Rattle.model.specs.Sequences.{Call, play, Observed, observe, observed, InSequence, Uncut, Ledger, start, noted, ledger, eraseCount, erasesOf}
-use Rattle.model.specs.Begun.{cutSeen, cutsIn, marksOf, notedAs, ledgerOf}
+use Rattle.model.specs.Begun.{cutSeen, cutsIn}
 use Rattle.model.specs.Laws.Chip.{size-facts}
 use Rattle.model.specs.Laws.Begun.{turnOf, turnsOf, AllProper, played}
 use Rattle.bridge.specs.Allowance.{ends}
@@ -19,7 +19,8 @@ use Rattle.crash.specs.Machine.{OnTable}
 use Rattle.wear.specs.Demand3.{ErasesPaid, Balanced}
 use Rattle.wear.specs.Sequence.{format-answered}
 use Rattle.tallied.specs.Law.{Unformatted}
-use Rattle.wear_cuts.specs.Law.{WearWithCuts, BoundAndBalance}
+use Rattle.wear_counts.specs.Counts.{marksOf, notedAs, ledgerOf}
+use Rattle.wear_counts.specs.Law.{WearWithCuts, BoundAndBalance}
 
 -- ---- the same calls as a history
 

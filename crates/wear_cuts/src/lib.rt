@@ -1,1 +1,1 @@
-// Request #112: demand 3's count with cuts (specs/Law.antt).
+// Request #112, the erase count with cuts, proved in specs/. There is no code here.

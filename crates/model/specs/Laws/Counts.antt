@@ -1,5 +1,5 @@
 -- What a sequence counts, on a short one: rewrites and deletes that answer 0 are counted, refused requests are not, and L is the most that was stored.
--- And what a history with cuts counts: after a cut what is kept is stored; marks reached, and erases begun.
+-- And what a cut has begun: the owing marks reached, and the erases.
 use Prim.Native.Nat.{ℕ, _+_}
 use mathlib.Core.Path.{_≡_, refl}
 use mathlib.Core.Logic.{inl, inr}
@@ -7,9 +7,8 @@ use mathlib.Core.List.{List, [], _∷_}
 use Rattle.model.specs.Lists.{same, count}
 use Rattle.model.specs.Chip.{Image, Step, program, erase, clear, segmentBytes, withSegment, step}
 use Rattle.model.specs.Answers.{Request, put, delete, read, recover}
-use Rattle.model.specs.Histories.{Seen, answered, lost}
 use Rattle.model.specs.Sequences.{erasesIn, Observed, among, removed, inserted, storedAfter, replaces, start, noted, ledger, eraseCount, erasesOf}
-use Rattle.model.specs.Begun.{isMark, marksIn, CutBegun, Turn, cutSeen, cutsIn, marksOf, notedCut, notedAs, ledgerOf}
+use Rattle.model.specs.Begun.{isMark, marksIn, CutBegun}
 
 abbrev saw : Request → ℕ → List ℕ → Observed
 saw r code erases = record { request = r; code = code; erases = erases }
@@ -26,30 +25,6 @@ counted = refl
 erases-counted : eraseCount (ledger short start) ∷ erasesOf 2 (ledger short start) ∷ erasesOf 1 (ledger short start) ∷ [] ≡ 1 ∷ 1 ∷ 0 ∷ []
 unfolding short count among removed inserted storedAfter replaces start noted ledger eraseCount erasesOf
 erases-counted = refl
-
--- ---- with cuts
-
-abbrev turn : Request → Seen → List ℕ → ℕ → List ℕ → Turn
-turn r o es f kept = record { request = r; seen = o; begun = es; marks = f; kept = kept }
-
-abbrev answer : ℕ → Seen
-answer n = answered (record { code = n; bytes = [] })
-
--- a put is stopped by its allowance after it was done, with a tidying that reached the owing mark, recovered, and its block rewritten;
--- a delete is lost after it was done, and its recovery cut, and a put refused until one ends; the last put is lost after it was done. R is 1, the rewrite, and L is 3, of what a recovery would show
-torn : List Turn
-torn = turn (put 1 (9 ∷ [])) (answer 0) [] 0 (1 ∷ []) ∷ turn (put 2 (9 ∷ [])) (answer 9) (0 ∷ []) 1 (2 ∷ 1 ∷ []) ∷ turn recover (answer 0) (0 ∷ []) 0 (2 ∷ 1 ∷ [])
-    ∷ turn (put 2 (9 ∷ [])) (answer 0) [] 0 (2 ∷ 1 ∷ []) ∷ turn (delete 2) lost [] 0 (1 ∷ []) ∷ turn recover lost [] 0 (1 ∷ []) ∷ turn (put 1 (9 ∷ [])) (answer 5) [] 0 (1 ∷ [])
-    ∷ turn recover (answer 0) [] 0 (1 ∷ []) ∷ turn (put 3 (9 ∷ [])) (answer 0) [] 0 (3 ∷ 1 ∷ []) ∷ turn (put 4 (9 ∷ [])) lost (1 ∷ []) 0 (4 ∷ 3 ∷ 1 ∷ []) ∷ []
-
-torn-counted : ledgerOf torn start ≡ record { stored = 4 ∷ 3 ∷ 1 ∷ []; largest = 3; replaced = 1; erased = 0 ∷ 0 ∷ 1 ∷ [] }
-unfolding torn among removed inserted storedAfter replaces start noted notedCut notedAs ledgerOf
-torn-counted = refl
-
--- F = 1 and K = 4
-torn-cuts : marksOf torn ∷ cutsIn torn ∷ [] ≡ 1 ∷ 4 ∷ []
-unfolding torn marksOf cutSeen cutsIn
-torn-cuts = refl
 
 -- ---- what a cut has begun: a chip of one page, of which the first bytes are enough
 

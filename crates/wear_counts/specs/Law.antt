@@ -6,9 +6,10 @@ use lib.ListN.{take}
 use Rattle.model.specs.Chip.{Image}
 use Rattle.model.specs.Answers.{format, outcomeOf}
 use Rattle.model.specs.Sequences.{Call, observed, Uncut, start, ledger, eraseCount, erasesOf}
-use Rattle.model.specs.Begun.{Turn, Turns, cutsIn, byRecovery, marksOf, ledgerOf}
+use Rattle.model.specs.Begun.{Turn, Turns, cutsIn, byRecovery}
 use Rattle.wear.specs.Demand3.{ErasesPaid, Balanced}
 use Rattle.tallied.specs.Law.{Unformatted}
+use Rattle.wear_counts.specs.Counts.{marksOf, ledgerOf}
 
 -- with F tidyings that reached the owing mark: the whole part of F/(N-1), times ((N-1)B - L), is at most R + K
 abbrev pub TidyingsPaid : ℕ → ℕ → List Turn → Type 0
