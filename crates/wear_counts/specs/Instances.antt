@@ -16,7 +16,7 @@ use Rattle.model.specs.Bench.{call, whole}
 use Rattle.model.specs.Laws.Bench.{evaluate}
 use Rattle.model.specs.Laws.Begun.{turnsOf}
 use Rattle.wear_counts.specs.Counts.{marksOf, notedCut, notedAs, ledgerOf}
-use Rattle.wear_counts.specs.Law.{TidyingsPaid, FewBegun, Within, OneErase}
+use Rattle.wear_counts.specs.Law.{TidyingsPaid, FewBegun, Within, OneErase, OldestIs}
 
 -- a chip full of zero bytes, formatted
 abbrev pub formatted : Image
@@ -104,6 +104,11 @@ unpaid-one = rw unpaid-turns (omega arith, (omega arith, (omega arith, (omega ar
 pub not-two : OneErase (saw recover 9 (0 ∷ 1 ∷ []) 0 ∷ []) → ⊥
 unfolding evaluateCounts
 not-two h = omega (arith, h .0)
+
+-- the chip tells as much: the smallest number in use is 1
+pub unpaid-oldest : OldestIs 2 2 (play 2 2 formatted unpaid) (turns unpaid)
+unfolding evaluateTurns evaluateCounts
+unpaid-oldest = refl
 
 -- ---- a bound that wants L
 

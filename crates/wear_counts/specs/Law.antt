@@ -4,8 +4,10 @@ use mathlib.Core.Path.{_≡_}
 use mathlib.Core.List.{List, [], _∷_}
 use lib.ListN.{take}
 use Rattle.model.specs.Chip.{Image}
+use Rattle.model.specs.State.{holds, view}
 use Rattle.model.specs.Answers.{format, outcomeOf}
-use Rattle.model.specs.Sequences.{Call, observed, Uncut, start, ledger, eraseCount, erasesOf}
+use Rattle.model.specs.Histories.{recovered, shown}
+use Rattle.model.specs.Sequences.{Call, observed, Uncut, among, start, ledger, eraseCount, erasesOf}
 use Rattle.model.specs.Begun.{Turn, Turns, cutsIn, byRecovery}
 use Rattle.wear.specs.Demand3.{ErasesPaid, Balanced}
 use Rattle.tallied.specs.Law.{Unformatted}
@@ -32,13 +34,23 @@ OneErase [] = Unit {0}
 OneErase (e ∷ es) = (byRecovery (e .request) (e .begun) ≤ 1) × OneErase es
 
 -- Every history of put, delete, read and recover, with any arguments, from the image that a format that answered 0 left: each request answered, or cut anywhere.
--- It may end anywhere, so that all this holds at every point of it, and after a cut anything may come, a recovery among it, cut again or not.
+-- After a cut anything may come, a recovery that is cut again among it; and a history may end anywhere.
+pub record FromFormat (N B : ℕ) (es : List Turn) (u : Image) : Type 0 where
+  pub before : Image
+  pub allowance : ℕ
+  pub finished : outcomeOf N B before allowance format .code ≡ 0
+  pub runs : Turns N B (outcomeOf N B before allowance format .image) es u
+  pub unformatted : Unformatted es
+
 abbrev pub WearWithCuts : Type 0
-WearWithCuts = (N B : ℕ) (s u : Image) (allowance : ℕ) (es : List Turn)
-    → outcomeOf N B s allowance format .code ≡ 0
-    → Turns N B (outcomeOf N B s allowance format .image) es u
-    → Unformatted es
-    → TidyingsPaid N B es × FewBegun es × WithinCuts N es × OneErase es
+WearWithCuts = (N B : ℕ) (es : List Turn) (u : Image) → FromFormat N B es u → TidyingsPaid N B es × FewBegun es × WithinCuts N es × OneErase es
+
+-- What is counted is what the chip tells: once recovered, the smallest number in use is F, and the blocks that are shown are those counted as stored.
+abbrev pub OldestIs : ℕ → ℕ → Image → List Turn → Type 0
+OldestIs N B u es = view N B (recovered N B u) .first ≡ marksOf es
+
+abbrev pub CountsTell : Type 0
+CountsTell = (N B : ℕ) (es : List Turn) (u : Image) → FromFormat N B es u → OldestIs N B u es × ((b : ℕ) → among b (ledgerOf es start .stored) ≡ holds b (shown N B u))
 
 -- Demand 3's bound and balance, of the sequences that it speaks of: what is left of the statement where K is 0.
 abbrev pub BoundAndBalance : Type 0

@@ -31,7 +31,7 @@ abbrev pub Told : List Turn → Type 0
 Told es = TidyingsPaid 2 2 es × FewBegun es × WithinCuts 2 es × OneErase es
 
 told-of : (es : List Turn) (u : Image) → Turns 2 2 formatted es u → Unformatted es → Told es
-told-of es u runs none = wear-with-cuts 2 2 (replicate 1536 0) u 1000 es formats runs none
+told-of es u runs none = wear-with-cuts 2 2 es u (record { before = replicate 1536 0; allowance = 1000; finished = formats; runs = runs; unformatted = none })
 
 told : (xs : List Call) → AllProper xs → AllOnTable xs → Told (turns xs)
 told xs p q = told-of (turns xs) (play 2 2 formatted xs) (played 2 2 xs formatted p) (unformatted 2 2 xs formatted q)

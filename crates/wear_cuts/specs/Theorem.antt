@@ -36,7 +36,7 @@ use Rattle.wear.specs.Sequence.{format-answered}
 use Rattle.tallied.specs.Law.{Unformatted}
 use Rattle.tallied.specs.Theorem.{IsInterrupted, Below, known, count-least, begun-of}
 use Rattle.wear_counts.specs.Counts.{marksOf, notedAs, ledgerOf}
-use Rattle.wear_counts.specs.Law.{OneErase, WearWithCuts}
+use Rattle.wear_counts.specs.Law.{OneErase, FromFormat, WearWithCuts, CountsTell}
 use Rattle.wear_counts.specs.Instances
 use Rattle.wear_cuts.specs.Passes.{erasesIf, due, due-clean}
 use Rattle.wear_cuts.specs.Recovers.{recover-few}
@@ -138,21 +138,34 @@ one-erase N B (v ∷ es) s u (p, (m, d, kept, rest)) = (go (v .request) (begun-f
 
 -- ---- the theorem
 
+module _ (N B : ℕ) (es : List Turn) (u : Image) (h : FromFormat N B es u) where
+  abbrev made : Image
+  made = run B (formatSteps N B) (h .before)
+
+  from : (rightSize N B (h .before) ≡ true) × Turns N B made es u
+  from = let (z, image) = format-answered N B (h .before) (h .allowance) (h .finished) in (z, subst (λ (q : Image). Turns N B q es u) image (h .runs))
+
+  counted : (y : Promise) × Invariant N B false u y × Counts N B u y (ledgerOf es start) (cutsIn es + 0) (marksOf es + 0)
+  counted = let z = from .0 in
+      history N B es made u (settled []) start 0 0 (h .unformatted) (run-size N B (formatSteps N B) (h .before) ∙ z, formatted-stores N B (request-laws N B) (h .before) z) tt (begins N B (h .before) z) (from .1)
+
+  first-number : recoveredView N B u .first ≡ marksOf es
+  first-number = omega (arith, counted .2 .erased .first)
+
 pub wear-with-cuts : WearWithCuts
-wear-with-cuts N B s u allowance es e runs none =
-    let (z, image) = format-answered N B s allowance e in
-    let from : Turns N B (run B (formatSteps N B) s) es u = subst (λ (q : Image). Turns N B q es u) image runs in
-    let inv : Invariant N B false (run B (formatSteps N B) s) (settled []) = (run-size N B (formatSteps N B) s ∙ z, formatted-stores N B (request-laws N B) s z) in
-    let (y, end, c) = history N B es (run B (formatSteps N B) s) u (settled []) start 0 0 none inv tt (begins N B s z) from in
+wear-with-cuts N B es u h =
+    let (y, end, c) = counted N B es u h in
     let t = ledgerOf es start in
     let F = marksOf es + 0 in
     let K = cutsIn es + 0 in
     let a = c .erased in
-    let f : recoveredView N B u .first ≡ marksOf es = omega (arith, a .first) in
-    let bound = paid-bound (c .funded .paid) in
-    let k : t .replaced + K ≡ t .replaced + cutsIn es = omega arith in (
-      rw (f, k) at bound,
+    let k : t .replaced + K ≡ t .replaced + cutsIn es = omega arith in
+    let bound = paid-bound (c .funded .paid) in (
+      rw (first-number N B es u h, k) at bound,
       omega (arith, known y (eraseCount t) (F + K) (a .total)),
       λ i j hi hj. omega (arith, covered N B u y j (erasesOf i t) (erasesAt N F i + K) end (a .each i), balanced N F i j hi hj, a .owed j),
-      one-erase N B es (run B (formatSteps N B) s) u from,
+      one-erase N B es (made N B es u h) u (from N B es u h .1),
     )
+
+pub counts-tell : CountsTell
+counts-tell N B es u h = (first-number N B es u h, counted N B es u h .2 .funded .stored .same)

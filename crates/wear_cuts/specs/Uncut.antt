@@ -20,7 +20,7 @@ use Rattle.wear.specs.Demand3.{ErasesPaid, Balanced}
 use Rattle.wear.specs.Sequence.{format-answered}
 use Rattle.tallied.specs.Law.{Unformatted}
 use Rattle.wear_counts.specs.Counts.{marksOf, notedAs, ledgerOf}
-use Rattle.wear_counts.specs.Law.{WearWithCuts, BoundAndBalance}
+use Rattle.wear_counts.specs.Law.{FromFormat, WearWithCuts, BoundAndBalance}
 
 -- ---- the same calls as a history
 
@@ -79,11 +79,15 @@ module _ (law : WearWithCuts) (N B : ℕ) (s : Image) (allowance : ℕ) (e : out
   abbrev m : Image
   m = outcomeOf N B s allowance format .image
 
+  -- the calls as a history from that format
+  from : (xs : List Call) → Uncut (observed N B m xs) → FromFormat N B (turnsOf N B m xs) (play N B m xs)
+  from xs u = record { before = s; allowance = allowance; finished = e; runs = played N B xs m (all-proper N B xs m u); unformatted = none-formats N B xs m u }
+
   paid : (xs : List Call) → Uncut (observed N B m xs) → ErasesPaid N B (ledger (observed N B m xs) start)
   paid xs u =
       let es = turnsOf N B m xs in
       let t = ledger (observed N B m xs) start in
-      let l = law N B s (play N B m xs) allowance es e (played N B xs m (all-proper N B xs m u)) (none-formats N B xs m u) in
+      let l = law N B es (play N B m xs) (from xs u) in
       let bound : marksOf es / (N - 1) * ((N - 1) * B - t .largest) ≤ t .replaced + 0 = rw (same-ledger N B xs m start u, none-cut N B xs m u) at (l .0) in
       let few : eraseCount t ≤ marksOf es + 0 = rw (same-ledger N B xs m start u, none-cut N B xs m u) at (l .1) in
       let some : 0 < N - 1 = omega (arith, size-facts N B s (format-answered N B s allowance e .0) .two) in
@@ -93,7 +97,7 @@ module _ (law : WearWithCuts) (N B : ℕ) (s : Image) (allowance : ℕ) (e : out
   level : (xs : List Call) → Uncut (observed N B m xs) → Balanced N (ledger (observed N B m xs) start)
   level xs u i j hi hj =
       let es = turnsOf N B m xs in
-      let l = law N B s (play N B m xs) allowance es e (played N B xs m (all-proper N B xs m u)) (none-formats N B xs m u) in
+      let l = law N B es (play N B m xs) (from xs u) in
       let q : erasesOf i (ledger (observed N B m xs) start) ≤ erasesOf j (ledger (observed N B m xs) start) + (1 + 0) = rw (same-ledger N B xs m start u, none-cut N B xs m u) at (l .2 i j hi hj) in
       omega (arith, q)
 
