@@ -22,7 +22,7 @@ use Rattle.bridge.specs.Format.{fresh-table}
 use Rattle.wear.specs.Demand3.{stocked, ErasesPaid, Balanced}
 use Rattle.wear.specs.Counting.{deads, deads-behind, drop-behind, set-slot, copied-dead}
 use Rattle.wear.specs.Erases.{erases-append, written-none, delete-none, turns, turns-length, balanced}
-use Rattle.wear.specs.Room.{Paid, paid-after, paid-bound, Moved, room-moved}
+use Rattle.wear.specs.Room.{Paid, paid-after, paid-bound, room-few, Moved, room-moved}
 use Rattle.wear.specs.Stored.{Stored, blocks-length, stored-blocks, stored-length, stored-put, stored-delete}
 
 -- the count belongs to the view
@@ -118,7 +118,7 @@ module _ (N B : ℕ) where
   unfolding blocksDistinct
   few-live v t c h = omega (arith, stored-length (t .stored) (entriesIn v) (h .stored) (c .once), h .most)
 
-  put-moved : (v : View) (t : Ledger) → CleanView N B v → Tracks N B v t → Moved N B (t .largest) (t .replaced) (N - 1) v (roomFor N B v)
+  put-moved : (v : View) (t : Ledger) → CleanView N B v → Tracks N B v t → Moved N B (t .largest) (t .replaced) v (roomFor N B v)
   put-moved v t c h = room-moved N B (t .largest) (t .replaced) v c (few-live v t c h) (h .paid)
 
   put-erases : (v : View) (b : ℕ) (c : List ℕ) → erasesIn (putSteps N B b c v) ≡ erasesIn (roomFor N B v .steps)
@@ -127,8 +127,8 @@ module _ (N B : ℕ) where
       let r = roomFor N B v in
       rw (erases-append (r .steps) (writeAtTop N B b c (r .result) ++ markOld N B b (r .result)), written-none N B b c (r .result)) (append-nil (erasesIn (r .steps)))
 
-  pub put-few : (v : View) (t : Ledger) (b : ℕ) (c : List ℕ) → CleanView N B v → Tracks N B v t → length (erasesIn (putSteps N B b c v)) ≤ N - 1
-  put-few v t b c cv h = rw (put-erases v b c) (put-moved v t cv h .few)
+  pub put-few : (v : View) (b : ℕ) (c : List ℕ) → length (erasesIn (putSteps N B b c v)) ≤ N - 1
+  put-few v b c = rw (put-erases v b c) (room-few N B v)
 
   pub tracks-put : 2 ≤ N → 2 ≤ B → (v : View) (t : Ledger) (b : ℕ) (c : List ℕ) → CleanView N B v → Tracks N B v t
       → Tracks N B (afterPut N B b c v) (noted (record { request = put b c; code = 0; erases = erasesIn (putSteps N B b c v) }) t)

@@ -8,6 +8,7 @@ use native.Mathlib.Nat.{mul-le-mul-left, mul-le-mul-right, div-le-of-le-mul}
 use lib.ListN.{length, getD, drop, replicate}
 use lib.Dec.{ltb}
 use borrow.Author.Tests.{ltb-false}
+use Rattle.model.specs.Chip.{Step}
 use Rattle.model.specs.Slot.{Slot, empty}
 use Rattle.model.specs.State.{View, entries, entriesIn}
 use Rattle.model.specs.Steps.{topNumber, hasRoom, copied, Room, nextVersion, openNext, compactOldest, compactUntilRoom, roomFor}
@@ -61,10 +62,34 @@ module _ (n B L R : ℕ) where
         paid = omega (arith, drop-behind (length r) r (copied B (entries s)) (copied-dead B (entries s)), deads-behind r);
       }
 
--- what making room, by these steps, does to a view
-pub record Moved (N B L R most : ℕ) (v : View) (r : Room) : Type 0 where
+-- ---- at most N-1 erases, one for each tidying
+
+oldest-one : (N B : ℕ) (v : View) (xs : List Step) → length (erasesIn (compactOldest N B v .steps ++ xs)) ≡ suc (length (erasesIn xs))
+unfolding compactOldest
+oldest-one N B v xs = simp (erases-append, compact-one)
+
+series-few : (N B k : ℕ) (v : View) → length (erasesIn (compactUntilRoom N B k v .steps)) ≤ k
+unfolding erasesIn compactUntilRoom
+series-few N B zero v = omega arith
+series-few N B (suc k) v = go (hasRoom v) refl (series-few N B k (compactOldest N B v .result))
+  where
+    go : (t : Bool) → hasRoom v ≡ t → length (erasesIn (compactUntilRoom N B k (compactOldest N B v .result) .steps)) ≤ k → length (erasesIn (compactUntilRoom N B (suc k) v .steps)) ≤ suc k
+    go true e ih = rw (until-room N B k v e) (unfold erasesIn in omega arith)
+    go false e ih = rw (until-more N B k v e) (omega (arith, ih, oldest-one N B v (compactUntilRoom N B k (compactOldest N B v .result) .steps)))
+
+pub room-few : (N B : ℕ) (v : View) → length (erasesIn (roomFor N B v .steps)) ≤ N - 1
+unfolding roomFor openNext
+room-few N B v = go (hasRoom v) (ltb (length (v .slots)) (N - 1))
+  where
+    go : (t u : Bool) → length (erasesIn (cond t (record { steps = []; result = v }) (cond u (openNext N B v) (compactUntilRoom N B (N - 1) v)) .steps)) ≤ N - 1
+    go true u = unfold erasesIn in omega arith
+    go false true = unfold openNext in (rw (open-none N B (nextVersion v) (suc (topNumber v))) (omega arith))
+    go false false = series-few N B (N - 1) v
+
+-- ---- what making room, by these steps, does to a view
+
+pub record Moved (N B L R : ℕ) (v : View) (r : Room) : Type 0 where
   pub inTurn : turns N (v .first) ++ erasesIn (r .steps) ≡ turns N (r .result .first)
-  pub few : length (erasesIn (r .steps)) ≤ most
   pub paid : Paid (N - 1) ((N - 1) * B - L) (r .result .first) (r .result .slots) R
 
 module _ (N B L R : ℕ) where
@@ -72,22 +97,20 @@ module _ (N B L R : ℕ) where
   PaidView v = Paid (N - 1) ((N - 1) * B - L) (v .first) (v .slots) R
 
   -- no step
-  unmoved : (most : ℕ) (v : View) → PaidView v → Moved N B L R most v (record { steps = []; result = v })
+  unmoved : (v : View) → PaidView v → Moved N B L R v (record { steps = []; result = v })
   unfolding erasesIn
-  unmoved most v p = record { inTurn = append-nil (turns N (v .first)); few = omega arith; paid = p }
+  unmoved v p = record { inTurn = append-nil (turns N (v .first)); paid = p }
 
   abbrev oldest : View → Room
   oldest v = compactOldest N B v
 
   -- a tidying, then more of them
-  again : (most : ℕ) (v : View) (more : Room) → Moved N B L R most (oldest v .result) more
-      → Moved N B L R (suc most) v (record { steps = oldest v .steps ++ more .steps; result = more .result })
+  again : (v : View) (more : Room) → Moved N B L R (oldest v .result) more → Moved N B L R v (record { steps = oldest v .steps ++ more .steps; result = more .result })
   unfolding compactOldest turns
-  again most v more m =
+  again v more m =
       let one = compact-one N B (nextVersion v) (v .first) (suc (topNumber v)) (entries (getD (v .slots) 0 [])) in
       record {
         inTurn = simp (erases-append, one) (sym (append-assoc (turns N (v .first)) (v .first % N ∷ []) (erasesIn (more .steps))) ∙ m .inTurn);
-        few = simp (erases-append, one) (omega (arith, m .few));
         paid = m .paid;
       }
 
@@ -112,24 +135,24 @@ module _ (N B L R : ℕ) where
         paid = paid-oldest v (h .all) (omega (arith, c, h .few)) (h .paid);
       }
 
-  series-moved : (most : ℕ) (v : View) → Ready v → Moved N B L R most v (compactUntilRoom N B most v)
-  series-moved zero v h = unfold compactUntilRoom in unmoved 0 v (h .paid)
+  series-moved : (most : ℕ) (v : View) → Ready v → Moved N B L R v (compactUntilRoom N B most v)
+  series-moved zero v h = unfold compactUntilRoom in unmoved v (h .paid)
   series-moved (suc most) v h = go (hasRoom v) refl (λ x. series-moved most (oldest v .result) x)
     where
-      go : (t : Bool) → hasRoom v ≡ t → (Ready (oldest v .result) → Moved N B L R most (oldest v .result) (compactUntilRoom N B most (oldest v .result)))
-          → Moved N B L R (suc most) v (compactUntilRoom N B (suc most) v)
-      go true e ih = rw (until-room N B most v e) (unmoved (suc most) v (h .paid))
-      go false e ih = rw (until-more N B most v e) (again most v (compactUntilRoom N B most (oldest v .result)) (ih (ready-after v e h)))
+      go : (t : Bool) → hasRoom v ≡ t → (Ready (oldest v .result) → Moved N B L R (oldest v .result) (compactUntilRoom N B most (oldest v .result)))
+          → Moved N B L R v (compactUntilRoom N B (suc most) v)
+      go true e ih = rw (until-room N B most v e) (unmoved v (h .paid))
+      go false e ih = rw (until-more N B most v e) (again v (compactUntilRoom N B most (oldest v .result)) (ih (ready-after v e h)))
 
-  -- making room takes at most N-1 erases, in turn, and keeps what is paid
-  pub room-moved : (v : View) → CleanView N B v → length (entriesIn v) ≤ L → PaidView v → Moved N B L R (N - 1) v (roomFor N B v)
+  -- making room erases in turn, and keeps what is paid
+  pub room-moved : (v : View) → CleanView N B v → length (entriesIn v) ≤ L → PaidView v → Moved N B L R v (roomFor N B v)
   unfolding roomFor openNext erasesIn
   room-moved v c few p = go (hasRoom v) (ltb (length (v .slots)) (N - 1)) refl
     where
       go : (t u : Bool) → ltb (length (v .slots)) (N - 1) ≡ u
-          → Moved N B L R (N - 1) v (cond t (record { steps = []; result = v }) (cond u (openNext N B v) (compactUntilRoom N B (N - 1) v)))
-      go true u e = unmoved (N - 1) v p
+          → Moved N B L R v (cond t (record { steps = []; result = v }) (cond u (openNext N B v) (compactUntilRoom N B (N - 1) v)))
+      go true u e = unmoved v p
       go false true e =
           let none = open-none N B (nextVersion v) (suc (topNumber v)) in
-          record { inTurn = rw none (append-nil (turns N (v .first))); few = rw none (omega arith); paid = paid-open (N - 1) B L R (v .first) (v .slots) p }
+          record { inTurn = rw none (append-nil (turns N (v .first))); paid = paid-open (N - 1) B L R (v .first) (v .slots) p }
       go false false e = series-moved (N - 1) v (record { clean = c; all = omega (arith, ltb-false (length (v .slots)) (N - 1) e, c .spare); few = few; paid = p })

@@ -75,7 +75,7 @@ module _ (N B : ℕ) where
       let size = size-facts N B s (g .size) in
       kept s t (record { request = put b c; allowance = allowance }) g f (d .0)
       (rw (d .1, e, a .0) (tracks-put N B (size .two) (size .slots) (view N B s) t b c cv (g .tracks)))
-      (rw (a .0) (put-few N B (view N B s) t b c cv (g .tracks)))
+      (rw (a .0) (put-few N B (view N B s) b c))
 
   done-delete : (s : Image) (t : Ledger) (b allowance : ℕ) → Sequenced N B s t → Ends N B s allowance (delete b) → workOf N B s (delete b) .code ≡ 0
       → Kept s t (record { request = delete b; allowance = allowance })

@@ -16,7 +16,7 @@ use Rattle.model.specs.Bench.{call, whole}
 use Rattle.model.specs.Laws.Bench.{evaluate}
 use Rattle.model.specs.Laws.Begun.{turnsOf}
 use Rattle.wear_counts.specs.Counts.{marksOf, notedCut, notedAs, ledgerOf}
-use Rattle.wear_counts.specs.Law.{TidyingsPaid, FewBegun, Within, OneErase, OldestIs}
+use Rattle.wear_counts.specs.Law.{TidyingsPaid, FewBegun, Within, OneErase, FewEach, OldestIs}
 
 -- a chip full of zero bytes, formatted
 abbrev pub formatted : Image
@@ -80,6 +80,10 @@ pub worn-reached : (eraseCount (ledgerOf (turns worn) start) ≡ marksOf (turns 
     × (erasesOf 0 (ledgerOf (turns worn) start) ≡ erasesOf 1 (ledgerOf (turns worn) start) + (1 + cutsIn (turns worn)))
 unfolding evaluateCounts
 worn-reached = rw worn-turns (refl, refl)
+
+-- the third put alone begins N-1 erases
+pub worn-each : FewEach 2 (turns worn)
+worn-each = rw worn-turns (omega arith, (omega arith, (omega arith, (omega arith, (omega arith, tt)))))
 
 -- ---- a bound that R alone does not pay
 

@@ -2,14 +2,13 @@
 use Prim.Native.Nat.{ℕ, _+_, _-_, _*_, _/_, _≤_, _<_}
 use mathlib.Core.Path.{_≡_}
 use mathlib.Core.List.{List, [], _∷_}
-use lib.ListN.{take}
+use lib.ListN.{length}
 use Rattle.model.specs.Chip.{Image}
 use Rattle.model.specs.State.{holds, view}
 use Rattle.model.specs.Answers.{format, outcomeOf}
 use Rattle.model.specs.Histories.{recovered, shown}
-use Rattle.model.specs.Sequences.{Call, observed, Uncut, among, start, ledger, eraseCount, erasesOf}
+use Rattle.model.specs.Sequences.{among, start, eraseCount, erasesOf}
 use Rattle.model.specs.Begun.{Turn, Turns, cutsIn, byRecovery}
-use Rattle.wear.specs.Demand3.{ErasesPaid, Balanced}
 use Rattle.tallied.specs.Law.{Unformatted}
 use Rattle.wear_counts.specs.Counts.{marksOf, ledgerOf}
 
@@ -33,6 +32,11 @@ abbrev pub OneErase : List Turn → Type 0
 OneErase [] = Unit {0}
 OneErase (e ∷ es) = (byRecovery (e .request) (e .begun) ≤ 1) × OneErase es
 
+-- and no request more than N-1, as in demand 3
+abbrev pub FewEach : ℕ → List Turn → Type 0
+FewEach N [] = Unit {0}
+FewEach N (e ∷ es) = (length (e .begun) ≤ N - 1) × FewEach N es
+
 -- Every history of put, delete, read and recover, with any arguments, from the image that a format that answered 0 left: each request answered, or cut anywhere.
 -- After a cut anything may come, a recovery that is cut again among it; and a history may end anywhere.
 pub record FromFormat (N B : ℕ) (es : List Turn) (u : Image) : Type 0 where
@@ -43,7 +47,7 @@ pub record FromFormat (N B : ℕ) (es : List Turn) (u : Image) : Type 0 where
   pub unformatted : Unformatted es
 
 abbrev pub WearWithCuts : Type 0
-WearWithCuts = (N B : ℕ) (es : List Turn) (u : Image) → FromFormat N B es u → TidyingsPaid N B es × FewBegun es × WithinCuts N es × OneErase es
+WearWithCuts = (N B : ℕ) (es : List Turn) (u : Image) → FromFormat N B es u → TidyingsPaid N B es × FewBegun es × WithinCuts N es × OneErase es × FewEach N es
 
 -- What is counted is what the chip tells: once recovered, the smallest number in use is F, and the blocks that are shown are those counted as stored.
 abbrev pub OldestIs : ℕ → ℕ → Image → List Turn → Type 0
@@ -51,10 +55,3 @@ OldestIs N B u es = view N B (recovered N B u) .first ≡ marksOf es
 
 abbrev pub CountsTell : Type 0
 CountsTell = (N B : ℕ) (es : List Turn) (u : Image) → FromFormat N B es u → OldestIs N B u es × ((b : ℕ) → among b (ledgerOf es start .stored) ≡ holds b (shown N B u))
-
--- Demand 3's bound and balance, of the sequences that it speaks of: what is left of the statement where K is 0.
-abbrev pub BoundAndBalance : Type 0
-BoundAndBalance = (N B : ℕ) (s : Image) (allowance : ℕ) (xs : List Call)
-    → outcomeOf N B s allowance format .code ≡ 0
-    → let os = observed N B (outcomeOf N B s allowance format .image) xs in
-    Uncut os → ErasesPaid N B (ledger os start) × ((k : ℕ) → Balanced N (ledger (take k os) start))

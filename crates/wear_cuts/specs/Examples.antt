@@ -18,7 +18,7 @@ use Rattle.wear.specs.Sequence.{format-answered}
 use Rattle.tallied.specs.Law.{Unformatted}
 use Rattle.tallied.specs.Examples.{AllOnTable, unformatted, played-bytes, fallen, in-erase, turns-append, unformatted-append}
 use Rattle.wear_counts.specs.Counts.{marksOf, ledgerOf}
-use Rattle.wear_counts.specs.Law.{TidyingsPaid, FewBegun, WithinCuts, OneErase}
+use Rattle.wear_counts.specs.Law.{TidyingsPaid, FewBegun, WithinCuts, OneErase, FewEach}
 use Rattle.wear_counts.specs.Instances.{formatted, cutOff, worn, unpaid, turns, evaluateTurns, evaluateCounts}
 use Rattle.wear_cuts.specs.Theorem.{wear-with-cuts}
 
@@ -28,7 +28,7 @@ formats = refl
 
 -- what the theorem says of a history
 abbrev pub Told : List Turn → Type 0
-Told es = TidyingsPaid 2 2 es × FewBegun es × WithinCuts 2 es × OneErase es
+Told es = TidyingsPaid 2 2 es × FewBegun es × WithinCuts 2 es × OneErase es × FewEach 2 es
 
 told-of : (es : List Turn) (u : Image) → Turns 2 2 formatted es u → Unformatted es → Told es
 told-of es u runs none = wear-with-cuts 2 2 es u (record { before = replicate 1536 0; allowance = 1000; finished = formats; runs = runs; unformatted = none })

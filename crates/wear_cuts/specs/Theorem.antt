@@ -1,27 +1,29 @@
 -- Request #112, by induction over the turns of a history, along with demand 2's machine.
 use Prim.Native.Nat.{ℕ, _+_, _-_, _≤_}
-use mathlib.Core.Path.{_≡_, sym, _∙_, subst}
+use mathlib.Core.Path.{_≡_, refl, sym, _∙_, subst}
 use mathlib.Core.Bool.{Bool, true, false}
 use mathlib.Core.List.{List, [], _∷_}
 use native.Mathlib.Omega.{arith}
 use lib.ListN.{length}
 use lib.Dec.{eqb}
+use borrow.Author.Tests.{eqb-true}
 use Rattle.model.specs.Lists.{count}
 use Rattle.model.specs.Chip.{Image, Bytes, rightSize, run}
-use Rattle.model.specs.State.{Exception, clean, unfinished, state}
+use Rattle.model.specs.State.{segmentsOf, viewOf, Exception, clean, unfinished, state}
 use Rattle.model.specs.Steps.{formatSteps}
 use Rattle.model.specs.Table.{blocks}
-use Rattle.model.specs.Answers.{Request, format, put, delete, read, readOr, recover, workOf}
+use Rattle.model.specs.Answers.{Request, format, put, delete, read, readOr, recover, stepsFor, workOf}
 use Rattle.model.specs.Histories.{Proper, shown}
 use Rattle.model.specs.Sequences.{erasesIn, Ledger, start, eraseCount, erasesOf}
 use Rattle.model.specs.Begun.{DoesBegun, Turn, Turns, cutSeen, cutsIn, byRecovery}
 use Rattle.model.specs.Laws.Chip.{size-facts, run-size}
 use Rattle.model.specs.Laws.Begun.{begun-does, begun-few}
 use Rattle.bridge.specs.Predicted.{fresh}
+use Rattle.bridge.specs.Accepted.{accepted, refused-none}
 use Rattle.bridge.specs.Format.{format-done}
 use Rattle.crash.specs.Machine.{Board, Promise, settled, interrupted, unknown, OnTable, Moves}
 use Rattle.crash.specs.Sound.{Sound}
-use Rattle.crash.specs.Requests.{sound-clean}
+use Rattle.crash.specs.Requests.{read-idle, readOr-idle, sound-clean}
 use Rattle.crash.specs.ReadingRuns.{Known, move-known}
 use Rattle.crash.specs.Invariant.{Invariant}
 use Rattle.crash.specs.Skeleton.{one-event}
@@ -29,14 +31,14 @@ use Rattle.crash.specs.Works.{works, may}
 use Rattle.crash.specs.States.{recoveredView, rows-table, clean-with}
 use Rattle.crash.specs.Starts.{formatted-stores}
 use Rattle.crash.specs.Theorem.{request-laws}
-use Rattle.wear.specs.Erases.{turns, erasesAt, balanced}
+use Rattle.wear.specs.Erases.{delete-none, turns, erasesAt, balanced}
 use Rattle.wear.specs.Room.{paid-bound}
-use Rattle.wear.specs.Requests.{tracks-start}
+use Rattle.wear.specs.Requests.{tracks-start, put-few}
 use Rattle.wear.specs.Sequence.{format-answered}
 use Rattle.tallied.specs.Law.{Unformatted}
 use Rattle.tallied.specs.Theorem.{IsInterrupted, Below, known, count-least, begun-of}
 use Rattle.wear_counts.specs.Counts.{marksOf, notedAs, ledgerOf}
-use Rattle.wear_counts.specs.Law.{OneErase, FromFormat, WearWithCuts, CountsTell}
+use Rattle.wear_counts.specs.Law.{OneErase, FewEach, FromFormat, WearWithCuts, CountsTell}
 use Rattle.wear_counts.specs.Instances
 use Rattle.wear_cuts.specs.Passes.{erasesIf, due, due-clean}
 use Rattle.wear_cuts.specs.Recovers.{recover-few}
@@ -122,19 +124,38 @@ covered N B u (settled t) i a k (z, h) b = rw (due-clean N B u (h .clean)) (omeg
 covered N B u (interrupted t) i a k (z, h) b = omega (arith, b, count-least (λ x. eqb i x) (due N B u), recover-few N B u)
 covered N B u unknown i a k h b = absurd b
 
--- ---- a recovery's erases
+-- ---- the erases of each request
 
-one-erase : (N B : ℕ) (es : List Turn) (s u : Image) → Turns N B s es u → OneErase es
-one-erase N B [] s u e = tt
-one-erase N B (v ∷ es) s u (p, (m, d, kept, rest)) = (go (v .request) (begun-few B _ s m (v .begun) (v .marks) (begun-of N B (v .request) (v .seen) s m (v .begun) (v .marks) d)), one-erase N B es m u rest)
+few-each : (N B : ℕ) → 2 ≤ N → (es : List Turn) (s u : Image) → Unformatted es → Turns N B s es u → OneErase es × FewEach N es
+few-each N B two [] s u none e = (tt, tt)
+few-each N B two (v ∷ es) s u none (p, (m, d, kept, rest)) =
+    let few = begun-few B (workOf N B s (v .request) .steps) s m (v .begun) (v .marks) (begun-of N B (v .request) (v .seen) s m (v .begun) (v .marks) d) in
+    let later = few-each N B two es m u (none .1) rest in
+    ((one (v .request) few, later .0), (omega (arith, few, most (v .request) (none .0)), later .1))
   where
-    go : (r : Request) → length (v .begun) ≤ length (erasesIn (workOf N B s r .steps)) → byRecovery r (v .begun) ≤ 1
-    go format h = unfold byRecovery in omega arith
-    go (put b c) h = unfold byRecovery in omega arith
-    go (delete b) h = unfold byRecovery in omega arith
-    go (read b) h = unfold byRecovery in omega arith
-    go (readOr b f) h = unfold byRecovery in omega arith
-    go recover h = unfold byRecovery in omega (arith, h, recover-few N B s)
+    one : (r : Request) → length (v .begun) ≤ length (erasesIn (workOf N B s r .steps)) → byRecovery r (v .begun) ≤ 1
+    one format h = unfold byRecovery in omega arith
+    one (put b c) h = unfold byRecovery in omega arith
+    one (delete b) h = unfold byRecovery in omega arith
+    one (read b) h = unfold byRecovery in omega arith
+    one (readOr b f) h = unfold byRecovery in omega arith
+    one recover h = unfold byRecovery in omega (arith, h, recover-few N B s)
+
+    -- a request that is refused has none
+    done : (r : Request) → length (erasesIn (stepsFor N B (segmentsOf N B s) r)) ≤ N - 1 → length (erasesIn (workOf N B s r .steps)) ≤ N - 1
+    done r h = go (eqb (workOf N B s r .code) 0) refl
+      where
+        go : (t : Bool) → eqb (workOf N B s r .code) 0 ≡ t → length (erasesIn (workOf N B s r .steps)) ≤ N - 1
+        go true e = rw (accepted N B s r (eqb-true (workOf N B s r .code) 0 e) .0) h
+        go false e = rw (refused-none N B s r e) (unfold erasesIn in omega arith)
+
+    most : (r : Request) → OnTable r → length (erasesIn (workOf N B s r .steps)) ≤ N - 1
+    most format o = absurd o
+    most (put b c) o = done (put b c) (unfold stepsFor in put-few N B (viewOf N (segmentsOf N B s)) b c)
+    most (delete b) o = done (delete b) (unfold stepsFor in rw (delete-none N B b (viewOf N (segmentsOf N B s))) (omega arith))
+    most (read b) o = rw (read-idle N B s b) (unfold erasesIn in omega arith)
+    most (readOr b f) o = rw (readOr-idle N B s b f) (unfold erasesIn in omega arith)
+    most recover o = omega (arith, recover-few N B s, two)
 
 -- ---- the theorem
 
@@ -160,11 +181,14 @@ wear-with-cuts N B es u h =
     let K = cutsIn es + 0 in
     let a = c .erased in
     let k : t .replaced + K ≡ t .replaced + cutsIn es = omega arith in
-    let bound = paid-bound (c .funded .paid) in (
+    let bound = paid-bound (c .funded .paid) in
+    let (z, runs) = from N B es u h in
+    let each = few-each N B (size-facts N B (h .before) z .two) es (made N B es u h) u (h .unformatted) runs in (
       rw (first-number N B es u h, k) at bound,
       omega (arith, known y (eraseCount t) (F + K) (a .total)),
       λ i j hi hj. omega (arith, covered N B u y j (erasesOf i t) (erasesAt N F i + K) end (a .each i), balanced N F i j hi hj, a .owed j),
-      one-erase N B es (made N B es u h) u (from N B es u h .1),
+      each .0,
+      each .1,
     )
 
 pub counts-tell : CountsTell

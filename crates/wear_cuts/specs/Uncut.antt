@@ -1,4 +1,4 @@
--- Where there is no cut, the statement gives demand 3's bound and balance: a sequence of calls is a history whose K is 0, with the same count, and E is at most F.
+-- Where there is no cut, the statement gives demand 3: a sequence of calls is a history whose K is 0, with the same count, and E is at most F.
 use Prim.Native.Nat.{ℕ, zero, suc, _+_, _-_, _*_, _/_, _≤_, _<_}
 use mathlib.Core.Path.{_≡_, refl, ap, _∙_}
 use mathlib.Core.Logic.{_≢_}
@@ -16,11 +16,11 @@ use Rattle.model.specs.Laws.Chip.{size-facts}
 use Rattle.model.specs.Laws.Begun.{turnOf, turnsOf, AllProper, played}
 use Rattle.bridge.specs.Allowance.{ends}
 use Rattle.crash.specs.Machine.{OnTable}
-use Rattle.wear.specs.Demand3.{ErasesPaid, Balanced}
+use Rattle.wear.specs.Demand3.{ErasesPaid, FewErases, Balanced, Demand3}
 use Rattle.wear.specs.Sequence.{format-answered}
 use Rattle.tallied.specs.Law.{Unformatted}
 use Rattle.wear_counts.specs.Counts.{marksOf, notedAs, ledgerOf}
-use Rattle.wear_counts.specs.Law.{FromFormat, WearWithCuts, BoundAndBalance}
+use Rattle.wear_counts.specs.Law.{FewEach, FromFormat, WearWithCuts}
 
 -- ---- the same calls as a history
 
@@ -59,6 +59,11 @@ module _ (N B : ℕ) where
   same-ledger (x ∷ xs) s t u =
       let m = outcomeOf N B s (x .allowance) (x .request) .image in
       ap (λ (y : Ledger). ledgerOf (turnsOf N B m xs) y) (same-noted s x t (unfold observe in (u .1))) ∙ same-ledger xs m (noted (observe N B s x) t) (u .2)
+
+  same-few : (xs : List Call) (s : Image) → Uncut (observed N B s xs) → FewEach N (turnsOf N B s xs) → FewErases N (observed N B s xs)
+  unfolding observed observe turnsOf
+  same-few [] s u f = tt
+  same-few (x ∷ xs) s u f = (rw (ends N B s (x .allowance) (x .request) (u .1) .whole) at (f .0), same-few xs (outcomeOf N B s (x .allowance) (x .request) .image) (u .2) (f .1))
 
   -- ---- prefixes
 
@@ -101,9 +106,10 @@ module _ (law : WearWithCuts) (N B : ℕ) (s : Image) (allowance : ℕ) (e : out
       let q : erasesOf i (ledger (observed N B m xs) start) ≤ erasesOf j (ledger (observed N B m xs) start) + (1 + 0) = rw (same-ledger N B xs m start u, none-cut N B xs m u) at (l .2 i j hi hj) in
       omega (arith, q)
 
-pub without-cuts : WearWithCuts → BoundAndBalance
+pub without-cuts : WearWithCuts → Demand3
 without-cuts law N B s allowance xs e u =
     let m = outcomeOf N B s allowance format .image in (
       paid law N B s allowance e xs u,
+      same-few N B xs m u (law N B (turnsOf N B m xs) (play N B m xs) (from law N B s allowance e xs u) .4),
       λ k. rw (observed-take N B k xs m) at (level law N B s allowance e (take k xs) (rw (observed-take N B k xs m) (uncut-take k (observed N B m xs) u))),
     )
