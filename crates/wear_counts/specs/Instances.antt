@@ -1,5 +1,5 @@
--- Three histories on the smallest store, N = 2 and B = 2, computed: each bound is reached, or fails without K, so that each must-fail edit of the statement is false of one of them.
-use Prim.Native.Nat.{ℕ, _+_, _-_}
+-- Three histories on the smallest store, N = 2 and B = 2, computed: each clause of the statement holds of one of them as it stands, and no longer with a number less; and it excludes what would follow by one more erase or tidying.
+use Prim.Native.Nat.{ℕ, _+_}
 use mathlib.Core.Path.{_≡_, refl}
 use mathlib.Core.List.{List, [], _∷_, _++_}
 use native.Mathlib.Omega.{arith}
@@ -8,7 +8,7 @@ use Rattle.model.specs.Lists.{count}
 use Rattle.model.specs.Chip.{Image, rightSize, pagesOf, withSegment, step, run}
 use Rattle.model.specs.State.{segmentsOf, state, view}
 use Rattle.model.specs.Table.{blocks, tableOf}
-use Rattle.model.specs.Answers.{Request, format, put, recover, workOf, outcomeOf}
+use Rattle.model.specs.Answers.{Request, format, put, delete, recover, workOf, outcomeOf}
 use Rattle.model.specs.Histories.{answered, bytesRead, replyOf, recovered, shown}
 use Rattle.model.specs.Sequences.{Call, play, among, removed, inserted, storedAfter, replaces, start, noted, eraseCount, erasesOf}
 use Rattle.model.specs.Begun.{isMark, marksIn, Turn, cutSeen, cutsIn, byRecovery}
@@ -36,13 +36,13 @@ worn = cutOff ++ (whole recover ∷ [])
 abbrev pub unpaid : List Call
 unpaid = whole (seven 1) ∷ call (seven 2) 3 ∷ whole recover ∷ call (seven 3) 28 ∷ call recover 2 ∷ whole recover ∷ []
 
--- no cut: five puts
+-- no cut: five puts and a delete
 abbrev pub plain : List Call
-plain = whole (seven 1) ∷ whole (seven 2) ∷ whole (seven 3) ∷ whole (seven 4) ∷ whole (seven 5) ∷ []
+plain = whole (seven 1) ∷ whole (seven 2) ∷ whole (seven 3) ∷ whole (seven 4) ∷ whole (seven 5) ∷ whole (delete 7) ∷ []
 
 -- what is counted of them
-abbrev pub turns : List Call → List Turn
-turns xs = turnsOf 2 2 formatted xs
+abbrev pub turnsFor : List Call → List Turn
+turnsFor xs = turnsOf 2 2 formatted xs
 
 -- all that the store computes with unfolds where this name does, and all that is counted where the next does
 unfoldable pub evaluateTurns : ℕ
@@ -59,49 +59,60 @@ saw r n es f = record { request = r; seen = answered (record { code = n; bytes =
 
 -- ---- E = F + K, and segment 0 has 1 + K more than segment 1
 
-worn-turns : turns worn ≡ saw (seven 1) 0 [] 0 ∷ saw (seven 2) 0 [] 0 ∷ saw (seven 3) 0 (0 ∷ []) 1 ∷ saw (seven 4) 9 [] 0 ∷ saw recover 0 (0 ∷ []) 0 ∷ []
+worn-turns : turnsFor worn ≡ saw (seven 1) 0 [] 0 ∷ saw (seven 2) 0 [] 0 ∷ saw (seven 3) 0 (0 ∷ []) 1 ∷ saw (seven 4) 9 [] 0 ∷ saw recover 0 (0 ∷ []) 0 ∷ []
 unfolding evaluateTurns
 worn-turns = refl
 
 -- F = 1, K = 1 and two erases begun, both on segment 0
-pub worn-counts : (ledgerOf (turns worn) start ≡ record { stored = 7 ∷ []; largest = 1; replaced = 2; erased = 0 ∷ 0 ∷ [] }) × (marksOf (turns worn) ≡ 1) × (cutsIn (turns worn) ≡ 1)
+pub worn-counts : (ledgerOf (turnsFor worn) start ≡ record { stored = 7 ∷ []; largest = 1; replaced = 2; erased = 0 ∷ 0 ∷ [] }) × (marksOf (turnsFor worn) ≡ 1) × (cutsIn (turnsFor worn) ≡ 1)
 unfolding evaluateCounts
 worn-counts = rw worn-turns (refl, refl, refl)
 
-pub worn-few : FewBegun (turns worn)
+pub worn-few : FewBegun (turnsFor worn)
 unfolding evaluateCounts
 worn-few = rw worn-turns (omega arith)
 
-pub worn-within : Within (turns worn) 0 1
+pub worn-within : Within (turnsFor worn) (λ x. erasesOf x (ledgerOf (turnsFor worn) start)) 0 1
 unfolding evaluateCounts
 worn-within = rw worn-turns (omega arith)
 
-pub worn-reached : (eraseCount (ledgerOf (turns worn) start) ≡ marksOf (turns worn) + cutsIn (turns worn))
-    × (erasesOf 0 (ledgerOf (turns worn) start) ≡ erasesOf 1 (ledgerOf (turns worn) start) + (1 + cutsIn (turns worn)))
+pub worn-reached : (eraseCount (ledgerOf (turnsFor worn) start) ≡ marksOf (turnsFor worn) + cutsIn (turnsFor worn))
+    × (erasesOf 0 (ledgerOf (turnsFor worn) start) ≡ erasesOf 1 (ledgerOf (turnsFor worn) start) + (1 + cutsIn (turnsFor worn)))
 unfolding evaluateCounts
 worn-reached = rw worn-turns (refl, refl)
 
+-- one more erase, without a cut, is excluded
+pub worn-most : (FewBegun (turnsFor worn ++ (saw recover 0 (0 ∷ []) 0 ∷ [])) → ⊥)
+    × (Within (turnsFor worn) (λ x. erasesOf x (ledgerOf (turnsFor worn ++ (saw recover 0 (0 ∷ []) 0 ∷ [])) start)) 0 1 → ⊥)
+unfolding evaluateCounts
+worn-most = rw worn-turns ((λ h. omega (arith, h)), (λ h. omega (arith, h)))
+
 -- the third put alone begins N-1 erases
-pub worn-each : FewEach 2 (turns worn)
+pub worn-each : FewEach 2 (turnsFor worn)
 worn-each = rw worn-turns (omega arith, (omega arith, (omega arith, (omega arith, (omega arith, tt)))))
 
 -- ---- a bound that R alone does not pay
 
-unpaid-turns : turns unpaid ≡ saw (seven 1) 0 [] 0 ∷ saw (seven 2) 9 [] 0 ∷ saw recover 0 [] 0 ∷ saw (seven 3) 9 [] 1 ∷ saw recover 9 (0 ∷ []) 0 ∷ saw recover 0 [] 0 ∷ []
+unpaid-turns : turnsFor unpaid ≡ saw (seven 1) 0 [] 0 ∷ saw (seven 2) 9 [] 0 ∷ saw recover 0 [] 0 ∷ saw (seven 3) 9 [] 1 ∷ saw recover 9 (0 ∷ []) 0 ∷ saw recover 0 [] 0 ∷ []
 unfolding evaluateTurns
 unpaid-turns = refl
 
 -- F = 1, K = 3, L = 1 and R = 0: 1 is at most 0 + 3, and not at most 0
-pub unpaid-counts : (ledgerOf (turns unpaid) start ≡ record { stored = 7 ∷ []; largest = 1; replaced = 0; erased = 0 ∷ [] }) × (marksOf (turns unpaid) ≡ 1) × (cutsIn (turns unpaid) ≡ 3)
+pub unpaid-counts : (ledgerOf (turnsFor unpaid) start ≡ record { stored = 7 ∷ []; largest = 1; replaced = 0; erased = 0 ∷ [] }) × (marksOf (turnsFor unpaid) ≡ 1) × (cutsIn (turnsFor unpaid) ≡ 3)
 unfolding evaluateCounts
 unpaid-counts = rw unpaid-turns (refl, refl, refl)
 
-pub unpaid-paid : TidyingsPaid 2 2 (turns unpaid)
+pub unpaid-paid : TidyingsPaid 2 2 (turnsFor unpaid)
 unfolding evaluateCounts
 unpaid-paid = rw unpaid-turns (omega arith)
 
--- the recovery that was cut has erased one segment; two in one run are ruled out
-pub unpaid-one : OneErase (turns unpaid)
+-- three tidyings more, without a rewrite or a cut, are excluded
+pub unpaid-most : TidyingsPaid 2 2 (turnsFor unpaid ++ (saw recover 0 [] 3 ∷ [])) → ⊥
+unfolding evaluateCounts
+unpaid-most = rw unpaid-turns (λ h. omega (arith, h))
+
+-- the recovery that was cut has erased one segment; two in one run are excluded
+pub unpaid-one : OneErase (turnsFor unpaid)
 unfolding evaluateCounts
 unpaid-one = rw unpaid-turns (omega arith, (omega arith, (omega arith, (omega arith, (omega arith, (omega arith, tt))))))
 
@@ -110,17 +121,22 @@ unfolding evaluateCounts
 not-two h = omega (arith, h .0)
 
 -- the chip tells as much: the smallest number in use is 1
-pub unpaid-oldest : OldestIs 2 2 (play 2 2 formatted unpaid) (turns unpaid)
+pub unpaid-oldest : OldestIs 2 2 (play 2 2 formatted unpaid) (turnsFor unpaid)
 unfolding evaluateTurns evaluateCounts
 unpaid-oldest = refl
 
 -- ---- a bound that wants L
 
-plain-turns : turns plain ≡ saw (seven 1) 0 [] 0 ∷ saw (seven 2) 0 [] 0 ∷ saw (seven 3) 0 (0 ∷ []) 1 ∷ saw (seven 4) 0 (1 ∷ []) 1 ∷ saw (seven 5) 0 (0 ∷ []) 1 ∷ []
+plain-turns : turnsFor plain ≡ saw (seven 1) 0 [] 0 ∷ saw (seven 2) 0 [] 0 ∷ saw (seven 3) 0 (0 ∷ []) 1 ∷ saw (seven 4) 0 (1 ∷ []) 1 ∷ saw (seven 5) 0 (0 ∷ []) 1
+    ∷ record { request = delete 7; seen = answered (record { code = 0; bytes = [] }); begun = []; marks = 0; kept = [] } ∷ []
 unfolding evaluateTurns
 plain-turns = refl
 
--- F = 3, L = 1 and R = 4: 3 is at most 4. With (N-1)B in place of (N-1)B - L it would be 6
-pub plain-paid : TidyingsPaid 2 2 (turns plain)
+-- F = 3, L = 1 and R = 5: 3 is at most 5. With (N-1)B in place of (N-1)B - L it would be 6, and so it would with the blocks stored at the end for L
+pub plain-counts : (ledgerOf (turnsFor plain) start ≡ record { stored = []; largest = 1; replaced = 5; erased = 0 ∷ 1 ∷ 0 ∷ [] }) × (marksOf (turnsFor plain) ≡ 3)
+unfolding evaluateCounts
+plain-counts = rw plain-turns (refl, refl)
+
+pub plain-paid : TidyingsPaid 2 2 (turnsFor plain)
 unfolding evaluateCounts
 plain-paid = rw plain-turns (omega arith)

@@ -18,8 +18,8 @@ use Rattle.wear.specs.Sequence.{format-answered}
 use Rattle.tallied.specs.Law.{Unformatted}
 use Rattle.tallied.specs.Examples.{AllOnTable, unformatted, played-bytes, fallen, in-erase, turns-append, unformatted-append}
 use Rattle.wear_counts.specs.Counts.{marksOf, ledgerOf}
-use Rattle.wear_counts.specs.Law.{TidyingsPaid, FewBegun, WithinCuts, OneErase, FewEach}
-use Rattle.wear_counts.specs.Instances.{formatted, cutOff, worn, unpaid, turns, evaluateTurns, evaluateCounts}
+use Rattle.wear_counts.specs.Law.{TidyingsPaid, FewBegun, WithinCuts, WithinRequest, OneErase, FewEach}
+use Rattle.wear_counts.specs.Instances.{formatted, cutOff, worn, unpaid, turnsFor, evaluateTurns, evaluateCounts}
 use Rattle.wear_cuts.specs.Theorem.{wear-with-cuts}
 
 formats : outcomeOf 2 2 (replicate 1536 0) 1000 format .code ≡ 0
@@ -27,22 +27,22 @@ unfolding evaluateTurns
 formats = refl
 
 -- what the theorem says of a history
-abbrev pub Told : List Turn → Type 0
-Told es = TidyingsPaid 2 2 es × FewBegun es × WithinCuts 2 es × OneErase es × FewEach 2 es
+abbrev pub Told : List Turn → Image → Type 0
+Told es u = TidyingsPaid 2 2 es × FewBegun es × WithinCuts 2 es × WithinRequest 2 2 es u × OneErase es × FewEach 2 es
 
-told-of : (es : List Turn) (u : Image) → Turns 2 2 formatted es u → Unformatted es → Told es
+told-of : (es : List Turn) (u : Image) → Turns 2 2 formatted es u → Unformatted es → Told es u
 told-of es u runs none = wear-with-cuts 2 2 es u (record { before = replicate 1536 0; allowance = 1000; finished = formats; runs = runs; unformatted = none })
 
-told : (xs : List Call) → AllProper xs → AllOnTable xs → Told (turns xs)
-told xs p q = told-of (turns xs) (play 2 2 formatted xs) (played 2 2 xs formatted p) (unformatted 2 2 xs formatted q)
+told : (xs : List Call) → AllProper xs → AllOnTable xs → Told (turnsFor xs) (play 2 2 formatted xs)
+told xs p q = told-of (turnsFor xs) (play 2 2 formatted xs) (played 2 2 xs formatted p) (unformatted 2 2 xs formatted q)
 
 byte : (v : ℕ) → v < 256 → (v < 256) × Unit {0}
 byte v h = (h, tt)
 
-pub worn-told : Told (turns worn)
+pub worn-told : Told (turnsFor worn) (play 2 2 formatted worn)
 worn-told = told worn (byte 1 (omega arith), (byte 2 (omega arith), (byte 3 (omega arith), (byte 4 (omega arith), (tt, tt))))) (tt, (tt, (tt, (tt, (tt, tt)))))
 
-pub unpaid-told : Told (turns unpaid)
+pub unpaid-told : Told (turnsFor unpaid) (play 2 2 formatted unpaid)
 unpaid-told = told unpaid (byte 1 (omega arith), (byte 2 (omega arith), (tt, (byte 3 (omega arith), (tt, (tt, tt)))))) (tt, (tt, (tt, (tt, (tt, (tt, tt))))))
 
 -- ---- the first of them with its recovery lost inside the erase, and run again: three erases begun on segment 0, F = 1 and K = 2, so that both bounds are reached once more
@@ -58,7 +58,7 @@ abbrev lostOne : Turn
 lostOne = record { request = recover; seen = lost; begun = 0 ∷ []; marks = 0; kept = blocks (shown 2 2 torn) }
 
 abbrev pub lostTurns : List Turn
-lostTurns = turns cutOff ++ (lostOne ∷ turnsOf 2 2 torn (whole recover ∷ []))
+lostTurns = turnsFor cutOff ++ (lostOne ∷ turnsOf 2 2 torn (whole recover ∷ []))
 
 recovery-steps : workOf 2 2 before recover .steps ≡ program 800 127 ∷ erase 0 ∷ []
 unfolding evaluateTurns
@@ -74,11 +74,11 @@ lost-does = rw recovery-steps (in-erase 2 (program 800 127 ∷ []) 0 [] before b
 cut-proper : AllProper cutOff
 cut-proper = (byte 1 (omega arith), (byte 2 (omega arith), (byte 3 (omega arith), (byte 4 (omega arith), tt))))
 
-pub lost-told : Told lostTurns
+pub lost-told : Told lostTurns (play 2 2 torn (whole recover ∷ []))
 lost-told = told-of lostTurns (play 2 2 torn (whole recover ∷ []))
-    (turns-append 2 2 (turns cutOff) (lostOne ∷ turnsOf 2 2 torn (whole recover ∷ [])) formatted before (play 2 2 torn (whole recover ∷ [])) (played 2 2 cutOff formatted cut-proper)
+    (turns-append 2 2 (turnsFor cutOff) (lostOne ∷ turnsOf 2 2 torn (whole recover ∷ [])) formatted before (play 2 2 torn (whole recover ∷ [])) (played 2 2 cutOff formatted cut-proper)
     (tt, (torn, lost-does, refl, played 2 2 (whole recover ∷ []) torn (tt, tt))))
-    (unformatted-append (turns cutOff) (lostOne ∷ turnsOf 2 2 torn (whole recover ∷ [])) (unformatted 2 2 cutOff formatted (tt, (tt, (tt, (tt, tt))))) (tt, unformatted 2 2 (whole recover ∷ []) torn (tt, tt)))
+    (unformatted-append (turnsFor cutOff) (lostOne ∷ turnsOf 2 2 torn (whole recover ∷ [])) (unformatted 2 2 cutOff formatted (tt, (tt, (tt, (tt, tt))))) (tt, unformatted 2 2 (whole recover ∷ []) torn (tt, tt)))
 
 pub lost-counts : (ledgerOf lostTurns start .erased ≡ 0 ∷ 0 ∷ 0 ∷ []) × (marksOf lostTurns ≡ 1) × (cutsIn lostTurns ≡ 2)
 unfolding evaluateTurns evaluateCounts segmentBytes

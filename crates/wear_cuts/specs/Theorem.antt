@@ -38,9 +38,8 @@ use Rattle.wear.specs.Sequence.{format-answered}
 use Rattle.tallied.specs.Law.{Unformatted}
 use Rattle.tallied.specs.Theorem.{IsInterrupted, Below, known, count-least, begun-of}
 use Rattle.wear_counts.specs.Counts.{marksOf, notedAs, ledgerOf}
-use Rattle.wear_counts.specs.Law.{OneErase, FewEach, FromFormat, WearWithCuts, CountsTell}
-use Rattle.wear_counts.specs.Instances
-use Rattle.wear_cuts.specs.Passes.{erasesIf, due, due-clean}
+use Rattle.wear_counts.specs.Law.{WithinRequest, OneErase, FewEach, FromFormat, WearWithCuts, CountsTell}
+use Rattle.wear_cuts.specs.Passes.{erasesIf, due, due-clean, Passes}
 use Rattle.wear_cuts.specs.Recovers.{recover-few}
 use Rattle.wear_cuts.specs.Counted.{Erased, erased-on, erased-recovered, Funded, shown-distinct}
 use Rattle.wear_cuts.specs.Events.{Did, carries-on, recovers, did, noted-erased, event-funded}
@@ -157,7 +156,7 @@ few-each N B two (v ∷ es) s u none (p, (m, d, kept, rest)) =
     most (readOr b f) o = rw (readOr-idle N B s b f) (unfold erasesIn in omega arith)
     most recover o = omega (arith, recover-few N B s, two)
 
--- ---- the theorem
+-- ---- a history from a finished format
 
 module _ (N B : ℕ) (es : List Turn) (u : Image) (h : FromFormat N B es u) where
   abbrev made : Image
@@ -173,6 +172,42 @@ module _ (N B : ℕ) (es : List Turn) (u : Image) (h : FromFormat N B es u) wher
   first-number : recoveredView N B u .first ≡ marksOf es
   first-number = omega (arith, counted .2 .erased .first)
 
+-- ---- inside a request
+
+-- a recovery has something to do only after a cut, which no erase has used up yet
+strictly : (y : Promise) (a k : ℕ) → IsInterrupted y → Below y a k → a + 1 ≤ k
+strictly (settled t) a k i b = absurd i
+strictly (interrupted t) a k i b = omega (arith, b)
+strictly unknown a k i b = absurd b
+
+within-request : (N B : ℕ) (es : List Turn) (u : Image) → FromFormat N B es u → WithinRequest N B es u
+within-request N B es u h r w ds f on pr c cl i j hi hj =
+    let (y, inv, k) = counted N B es u h in
+    let a = facts N B u y inv (known-of y (eraseCount t) (marksOf es + 0 + (cutsIn es + 0)) (k .erased .total)) in
+    go y k (did N B u w r y ds f (a .size) (a .bytes) (a .sound) (a .pending) (works N B u (a .size) r on pr (a .sound)) c)
+  where
+    known-of : (y : Promise) (a k : ℕ) → Below y a k → Known y
+    known-of (settled t) a k b = tt
+    known-of (interrupted t) a k b = tt
+    known-of unknown a k b = absurd b
+
+    t : Ledger
+    t = ledgerOf es start
+
+    both : (y : Promise) (e : ℕ) {k : ℕ} → (q : Counts N B u y (ledgerOf es start) (cutsIn es + 0) (marksOf es + 0)) → Passes N B k e u w ds f → erasesOf i (ledgerOf es start) + e ≤ erasesAt N (marksOf es + 0) i + (cutsIn es + 0)
+        → erasesOf i (ledgerOf es start) + erasesIf i ds ≤ erasesOf j (ledgerOf es start) + erasesIf j ds + (1 + cutsIn es)
+    both y e q p b =
+        let each = rw (q .erased .first) at (p .each i) in
+        let owed = rw (q .erased .first) at (p .owed j) in
+        let none : erasesIf j (due N B w) ≡ 0 = rw (due-clean N B w cl) (unfold count in refl) in
+        omega (arith, each, owed, none, b, q .erased .owed j, balanced N (recoveredView N B w .first) i j hi hj)
+
+    go : (y : Promise) → Counts N B u y (ledgerOf es start) (cutsIn es + 0) (marksOf es + 0) → Did N B u w r y ds f → erasesOf i (ledgerOf es start) + erasesIf i ds ≤ erasesOf j (ledgerOf es start) + erasesIf j ds + (1 + cutsIn es)
+    go y q (carries-on k few p) = both y 0 q p (omega (arith, known y (erasesOf i t) (erasesAt N (marksOf es + 0) i + (cutsIn es + 0)) (q .erased .each i)))
+    go y q (recovers is cut none p) = both y 1 q p (strictly y (erasesOf i t) (erasesAt N (marksOf es + 0) i + (cutsIn es + 0)) cut (q .erased .each i))
+
+-- ---- the theorem
+
 pub wear-with-cuts : WearWithCuts
 wear-with-cuts N B es u h =
     let (y, end, c) = counted N B es u h in
@@ -187,6 +222,7 @@ wear-with-cuts N B es u h =
       rw (first-number N B es u h, k) at bound,
       omega (arith, known y (eraseCount t) (F + K) (a .total)),
       λ i j hi hj. omega (arith, covered N B u y j (erasesOf i t) (erasesAt N F i + K) end (a .each i), balanced N F i j hi hj, a .owed j),
+      within-request N B es u h,
       each .0,
       each .1,
     )

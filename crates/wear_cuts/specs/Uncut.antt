@@ -110,6 +110,6 @@ pub without-cuts : WearWithCuts → Demand3
 without-cuts law N B s allowance xs e u =
     let m = outcomeOf N B s allowance format .image in (
       paid law N B s allowance e xs u,
-      same-few N B xs m u (law N B (turnsOf N B m xs) (play N B m xs) (from law N B s allowance e xs u) .4),
+      same-few N B xs m u (law N B (turnsOf N B m xs) (play N B m xs) (from law N B s allowance e xs u) .5),
       λ k. rw (observed-take N B k xs m) at (level law N B s allowance e (take k xs) (rw (observed-take N B k xs m) (uncut-take k (observed N B m xs) u))),
     )
