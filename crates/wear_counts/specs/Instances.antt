@@ -22,7 +22,7 @@ use Rattle.wear_counts.specs.Law.{TidyingsPaid, FewBegun, Within, OneEra
 abbrev pub formatted : Image
 formatted = outcomeOf 2 2 (replicate 1536 0) 1000 format .image
 
-abbrev seven : ℕ → Request
+abbrev pub seven : ℕ → Request
 seven v = put 7 (v ∷ [])
 
 -- two puts fill the segment, the third compacts; the fourth is cut in the header of its target, which the recovery erases

@@ -1,7 +1,7 @@
 -- One event of a history: a request that ended, refused or done; or one that was cut.
 use Prim.Native.Nat.{ℕ, zero, suc, _+_, _≤_}
 use mathlib.Core.Path.{_≡_, refl, sym, ap, _∙_}
-use mathlib.Core.Logic.{_⊎_, ⊎-elim}
+use mathlib.Core.Logic.{⊎-elim}
 use mathlib.Core.Bool.{Bool, true, false, cond, true≢false}
 use mathlib.Core.List.{List, [], _++_}
 use native.Mathlib.Omega.{arith}
@@ -59,20 +59,20 @@ did N B s m r x es f z y h i (Works.recovers q e) c = let p = recover-passes N B
 
 module _ (N B : ℕ) (s : Image) (t : Ledger) (K : ℕ) (z : rightSize N B s ≡ true) (y : Bytes s) (a : Funded N B s t K) where
   -- the count after a request with this answer
-  abbrev count : Request → ℕ → List ℕ → Ledger
-  count r n es = noted (record { request = r; code = n; erases = es }) t
+  abbrev after : Request → ℕ → List ℕ → Ledger
+  after r n es = noted (record { request = r; code = n; erases = es }) t
 
   -- no block is stored or removed, and nothing is shown that was not
   same-funded : (m : Image) (r : Request) (n : ℕ) (es : List ℕ) → shown N B m ≡ shown N B s → PaidView N B (t .largest) (t .replaced + K) (recoveredView N B m)
-      → cond (eqb n 0) (storedAfter r (t .stored)) (t .stored) ≡ t .stored → cond (eqb n 0) (replaces r (t .stored)) 0 ≡ 0 → Funded N B m (count r n es) K
+      → cond (eqb n 0) (storedAfter r (t .stored)) (t .stored) ≡ t .stored → cond (eqb n 0) (replaces r (t .stored)) 0 ≡ 0 → Funded N B m (after r n es) K
   unfolding noted
-  same-funded m r n es q p st none = funded-more N B s m t K a (count r n es) K (t .replaced + K) (rw (st, q) (a .stored)) refl p (omega (arith, none))
+  same-funded m r n es q p st none = funded-more N B s m t K a (after r n es) K (t .replaced + K) (rw (st, q) (a .stored)) refl p (omega (arith, none))
 
   idle-funded : (r : Request) (n : ℕ) (es : List ℕ) → workOf N B s r .steps ≡ [] → cond (eqb n 0) (storedAfter r (t .stored)) (t .stored) ≡ t .stored → cond (eqb n 0) (replaces r (t .stored)) 0 ≡ 0
-      → Funded N B (finished N B s r) (count r n es) K
+      → Funded N B (finished N B s r) (after r n es) K
   idle-funded r n es none st re = rw (idle-finished N B s r none) (same-funded s r n es refl (a .paid) st re)
 
-  put-funded : (b : ℕ) (d : List ℕ) (es : List ℕ) → Clean N B s → Bytes d → Accepted N B s (put b d) → distinct (shown N B s) ≡ true → Funded N B (finished N B s (put b d)) (count (put b d) 0 es) K
+  put-funded : (b : ℕ) (d : List ℕ) (es : List ℕ) → Clean N B s → Bytes d → Accepted N B s (put b d) → distinct (shown N B s) ≡ true → Funded N B (finished N B s (put b d)) (after (put b d) 0 es) K
   unfolding noted storedAfter replaces tableOf afterPut
   put-funded b d es c bd e ds =
       let v = view N B s in
@@ -87,22 +87,22 @@ module _ (N B : ℕ) (s : Image) (t : Ledger) (K : ℕ) (z : rightSize N B s ≡
       let few : length (entriesIn v) ≤ t .largest = rw before at (shown-few N B s s t K a ds) in
       let room = room-moved N B (t .largest) (t .replaced + K) v cv few (rw rv at (a .paid)) .paid in
       let held : among b (t .stored) ≡ holds b (entriesIn r) = a .stored .same b ∙ (ap (λ x. holds b x) before ∙ sym (agree-holds (entriesIn r) (entriesIn v) (room-made N B (size .two) (size .slots) v cv .table) b)) in
-      funded-more N B s m t K a (count (put b d) 0 es) K (t .replaced + K + cond (holds b (entriesIn r)) 1 0)
+      funded-more N B s m t K a (after (put b d) 0 es) K (t .replaced + K + cond (holds b (entriesIn r)) 1 0)
       (stored-put (t .stored) (shown N B s) (shown N B m) b d (a .stored) (rw (rows-table N B m (afterPut N B b d v) rows, before) (after-table N B s z c b d y bd e)))
       refl (rw (rows .0, rows .1) (put-paid N B r b d room)) (rw held (omega arith))
 
-  delete-funded : (b : ℕ) (es : List ℕ) → Clean N B s → Accepted N B s (delete b) → distinct (shown N B s) ≡ true → Funded N B (finished N B s (delete b)) (count (delete b) 0 es) K
+  delete-funded : (b : ℕ) (es : List ℕ) → Clean N B s → Accepted N B s (delete b) → distinct (shown N B s) ≡ true → Funded N B (finished N B s (delete b)) (after (delete b) 0 es) K
   unfolding noted storedAfter replaces
   delete-funded b es c e ds =
       let m = finished N B s (delete b) in
       let xs = workOf N B s (delete b) .steps in
       let done = finished-delete N B s b z c e in
       let p = delete-passes N B s z c b e m (erasesIn xs) (marksIn B xs) (whole-begun B xs s) in
-      funded-more N B s m t K a (count (delete b) 0 es) K (t .replaced + K + 1)
+      funded-more N B s m t K a (after (delete b) 0 es) K (t .replaced + K + 1)
       (stored-delete (t .stored) (shown N B s) (shown N B m) b (a .stored) (rw (shown-clean N B m (done .0), shown-clean N B s c) (done .1)))
       refl (p .paid (t .largest) (t .replaced + K) (shown-few N B s m t K a ds) (a .paid)) (omega arith)
 
-  recover-funded : (es : List ℕ) → Sound N B s → distinct (shown N B s) ≡ true → Funded N B (finished N B s recover) (count recover 0 es) K
+  recover-funded : (es : List ℕ) → Sound N B s → distinct (shown N B s) ≡ true → Funded N B (finished N B s recover) (after recover 0 es) K
   unfolding storedAfter replaces recovered shown
   recover-funded es h ds =
       let m = finished N B s recover in
@@ -111,12 +111,12 @@ module _ (N B : ℕ) (s : Image) (t : Ledger) (K : ℕ) (z : rightSize N B s ≡
       same-funded m recover 0 es (shown-clean N B m (recover-done N B s z h))
       (paid-more N B (t .largest) (t .replaced + K + 0) (t .replaced + K) (recoveredView N B m) (omega arith) (p .paid (t .largest) (t .replaced + K) (shown-few N B s m t K a ds) (a .paid))) refl refl
 
-  pub ended-funded : (r : Request) → OnTable r → Proper r → Sound N B s → distinct (shown N B s) ≡ true → (es : List ℕ) (n : ℕ) → workOf N B s r .code ≡ n → Funded N B (finished N B s r) (count r n es) K
+  pub ended-funded : (r : Request) → OnTable r → Proper r → Sound N B s → distinct (shown N B s) ≡ true → (es : List ℕ) (n : ℕ) → workOf N B s r .code ≡ n → Funded N B (finished N B s r) (after r n es) K
   ended-funded r on pr h ds es (suc n) e =
       let no : eqb (suc n) 0 ≡ false = ne-eqb (suc n) 0 (λ q. omega arith) in idle-funded r (suc n) es (refused-idle N B s r n e) (rw no) (rw no)
   ended-funded r on pr h ds es zero e = go (state N B s) refl h
     where
-      done : (q : Request) → OnTable q → Proper q → Clean N B s → workOf N B s q .code ≡ 0 → Funded N B (finished N B s q) (count q 0 es) K
+      done : (q : Request) → OnTable q → Proper q → Clean N B s → workOf N B s q .code ≡ 0 → Funded N B (finished N B s q) (after q 0 es) K
       done format oq pq c k = absurd oq
       done (put b d) oq pq c k = put-funded b d es c pq k ds
       done (delete b) oq pq c k = delete-funded b es c k ds
@@ -132,7 +132,7 @@ module _ (N B : ℕ) (s : Image) (t : Ledger) (K : ℕ) (z : rightSize N B s ≡
           wants zero p = omega (arith, p)
           wants (suc n) p = let no : eqb (suc n) 0 ≡ false = ne-eqb (suc n) 0 (λ o. omega arith) in let f : suc n ≡ 0 = rw no at p in omega (arith, f)
 
-      recovery : (q : Request) → OnTable q → Unfinished N B s → workOf N B s q .code ≡ 0 → Funded N B (finished N B s q) (count q 0 es) K
+      recovery : (q : Request) → OnTable q → Unfinished N B s → workOf N B s q .code ≡ 0 → Funded N B (finished N B s q) (after q 0 es) K
       recovery format oq un k = absurd oq
       recovery (put b d) oq un k = absurd (asks (put b d) tt un k)
       recovery (delete b) oq un k = absurd (asks (delete b) tt un k)
@@ -140,7 +140,7 @@ module _ (N B : ℕ) (s : Image) (t : Ledger) (K : ℕ) (z : rightSize N B s ≡
       recovery (readOr b d) oq un k = absurd (asks (readOr b d) tt un k)
       recovery recover oq un k = recover-funded es h ds
 
-      go : (x : State) → state N B s ≡ x → SoundAs N B s (segmentsOf N B s) x → Funded N B (finished N B s r) (count r 0 es) K
+      go : (x : State) → state N B s ≡ x → SoundAs N B s (segmentsOf N B s) x → Funded N B (finished N B s r) (after r 0 es) K
       go clean c k = done r on pr c e
       go (unfinished x) c k = recovery r on (x, c) e
       go damaged c k = absurd k

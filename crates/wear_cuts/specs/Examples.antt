@@ -1,25 +1,25 @@
--- The theorem of histories that are computed in Instances, and of one more, with a cut inside an erase.
+-- The theorem of histories that are computed in Instances, and of two more: with a cut inside an erase, and with one after a put was done.
 use Prim.Native.Nat.{ℕ, _<_}
 use mathlib.Core.Path.{_≡_, refl, sym, subst}
 use mathlib.Core.List.{List, [], _∷_, _++_}
 use native.Mathlib.Omega.{arith}
 use lib.ListN.{replicate}
 use Rattle.model.specs.Lists.{count}
-use Rattle.model.specs.Chip.{Image, Bytes, segmentBytes, program, erase}
+use Rattle.model.specs.Chip.{Image, Bytes, segmentBytes, program, erase, run}
 use Rattle.model.specs.Table.{blocks}
 use Rattle.model.specs.Answers.{format, recover, workOf, outcomeOf}
 use Rattle.model.specs.Histories.{lost, shown}
 use Rattle.model.specs.Sequences.{Call, play, erasesIn, start}
 use Rattle.model.specs.Begun.{isMark, marksIn, CutBegun, Turn, Turns, cutsIn}
 use Rattle.model.specs.Bench.{whole}
-use Rattle.model.specs.Laws.Begun.{turnsOf, AllProper, played}
+use Rattle.model.specs.Laws.Begun.{turnsOf, AllProper, played, whole-begun}
 use Rattle.bridge.specs.Format.{format-bytes}
 use Rattle.wear.specs.Sequence.{format-answered}
 use Rattle.tallied.specs.Law.{Unformatted}
 use Rattle.tallied.specs.Examples.{AllOnTable, unformatted, played-bytes, fallen, in-erase, turns-append, unformatted-append}
 use Rattle.wear_counts.specs.Counts.{marksOf, ledgerOf}
 use Rattle.wear_counts.specs.Law.{TidyingsPaid, FewBegun, WithinCuts, WithinRequest, OneErase, FewEach}
-use Rattle.wear_counts.specs.Instances.{formatted, cutOff, worn, unpaid, turnsFor, evaluateTurns, evaluateCounts}
+use Rattle.wear_counts.specs.Instances.{formatted, seven, cutOff, worn, unpaid, turnsFor, evaluateTurns, evaluateCounts}
 use Rattle.wear_cuts.specs.Theorem.{wear-with-cuts}
 
 formats : outcomeOf 2 2 (replicate 1536 0) 1000 format .code ≡ 0
@@ -83,3 +83,22 @@ lost-told = told-of lostTurns (play 2 2 torn (whole recover ∷ []))
 pub lost-counts : (ledgerOf lostTurns start .erased ≡ 0 ∷ 0 ∷ 0 ∷ []) × (marksOf lostTurns ≡ 1) × (cutsIn lostTurns ≡ 2)
 unfolding evaluateTurns evaluateCounts segmentBytes
 lost-counts = (refl, refl, refl)
+
+-- ---- a put that is lost after its last step: its block is stored, so that it counts as a rewrite when it is put again
+
+abbrev pub after : Image
+after = run 2 (workOf 2 2 formatted (seven 1) .steps) formatted
+
+abbrev pub storedTurns : List Turn
+storedTurns =
+    record { request = seven 1; seen = lost; begun = erasesIn (workOf 2 2 formatted (seven 1) .steps); marks = marksIn 2 (workOf 2 2 formatted (seven 1) .steps); kept = blocks (shown 2 2 after) }
+    ∷ turnsOf 2 2 after (whole (seven 2) ∷ [])
+
+pub stored-told : Told storedTurns (play 2 2 after (whole (seven 2) ∷ []))
+stored-told = told-of storedTurns (play 2 2 after (whole (seven 2) ∷ []))
+    (byte 1 (omega arith), (after, whole-begun 2 (workOf 2 2 formatted (seven 1) .steps) formatted, refl, played 2 2 (whole (seven 2) ∷ []) after (byte 2 (omega arith), tt)))
+    (tt, unformatted 2 2 (whole (seven 2) ∷ []) after (tt, tt))
+
+pub stored-counts : (ledgerOf storedTurns start ≡ record { stored = 7 ∷ []; largest = 1; replaced = 1; erased = [] }) × (cutsIn storedTurns ≡ 1)
+unfolding evaluateTurns evaluateCounts
+stored-counts = (refl, refl)

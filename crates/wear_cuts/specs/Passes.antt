@@ -22,7 +22,7 @@ use Rattle.wear.specs.Room.{paid-after, PaidView}
 abbrev pub erasesIf : ℕ → List ℕ → ℕ
 erasesIf i es = count (λ x. eqb i x) es
 
--- the erases that a recovery of an image would make, and those of index i
+-- the erases that a recovery of an image would make
 abbrev pub due : ℕ → ℕ → Image → List ℕ
 due N B s = erasesIn (workOf N B s recover .steps)
 
