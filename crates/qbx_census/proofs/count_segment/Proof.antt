@@ -1,12 +1,12 @@
--- `qbx_report::count_segment`: the segment that the image has at an index. Assumes nothing.
+-- `qbx_census::count_segment`: the segment that the image has at an index. Assumes nothing.
 use mathlib.Core.Path.{_∙_}
 use native.Mathlib.Omega.{arith}
 use denote.Ref.{now}
 use Rattle.summary.proofs.Laws.{segment-inside}
-use Rattle.qbx_report.proofs.Laws.{segment-unused, segment-used}
+use Rattle.qbx_census.proofs.Laws.{segment-unused, segment-used}
 use borrow.Author.Needs.{needs}
-use Rattle.qbx_report.proofs.count_segment.Statement.{statement}
-use Rattle.qbx_report.proofs.count_segment.Tie as tie
+use Rattle.qbx_census.proofs.count_segment.Statement.{statement}
+use Rattle.qbx_census.proofs.count_segment.Tie as tie
 
 add-at : tie.Need-add-at
 add-at c = search needs

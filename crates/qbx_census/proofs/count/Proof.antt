@@ -1,8 +1,8 @@
--- `qbx_report::count` is the definition's. Assumes nothing.
-use Rattle.qbx_report.specs.Census.{counted}
+-- `qbx_census::count` is the definition's. Assumes nothing.
+use Rattle.qbx_census.specs.Census.{counted}
 use borrow.Author.Needs.{needs}
-use Rattle.qbx_report.proofs.count.Statement.{statement}
-use Rattle.qbx_report.proofs.count.Tie as tie
+use Rattle.qbx_census.proofs.count.Statement.{statement}
+use Rattle.qbx_census.proofs.count.Tie as tie
 
 enum-told : tie.Need-enum-told
 enum-told c = search needs

@@ -1,4 +1,4 @@
--- `qbx_report::take_census`. The invariant: what is left of the segments, behind what was counted, gives the whole. Assumes nothing.
+-- `qbx_census::take_census`. The invariant: what is left of the segments, behind what was counted, gives the whole. Assumes nothing.
 use Prim.Native.Nat.{_+_, _-_, _*_, _≤_, _<_}
 use mathlib.Core.Path.{_≡_, refl, sym, ap, _∙_}
 use mathlib.Core.Logic.{⊎-elim}
@@ -8,11 +8,11 @@ use lib.ListN.{length, getD, drop}
 use borrow.Author.Needs.{needs}
 use Rattle.model.specs.State.{blank, segmentsOf}
 use Rattle.model.specs.Laws.Segments.{segments-length}
-use Rattle.qbx_report.specs.declared.Census.{Census}
-use Rattle.qbx_report.specs.Census.{total, setAside, countSegment, countSegments, censusOf}
-use Rattle.qbx_report.proofs.Laws.{aside-length, aside-there, aside-other, segments-next, segments-end}
-use Rattle.qbx_report.proofs.take_census.Statement.{statement}
-use Rattle.qbx_report.proofs.take_census.Tie as tie
+use Rattle.qbx_census.specs.declared.Census.{Census}
+use Rattle.qbx_census.specs.Census.{total, setAside, countSegment, countSegments, censusOf}
+use Rattle.qbx_census.proofs.Laws.{aside-length, aside-there, aside-other, segments-next, segments-end}
+use Rattle.qbx_census.proofs.take_census.Statement.{statement}
+use Rattle.qbx_census.proofs.take_census.Tie as tie
 
 abbrev Inv-loop : tie.InvT-loop
 Inv-loop image segments slots aside census₀ i₀ census i =

@@ -1,4 +1,4 @@
--- `qbx_report::count_slots`. The invariant: what is left of the row, behind what was counted, gives the whole. Assumes nothing.
+-- `qbx_census::count_slots`. The invariant: what is left of the row, behind what was counted, gives the whole. Assumes nothing.
 use Prim.Native.Nat.{ℕ, _+_, _-_, _*_, _≤_}
 use mathlib.Core.List.{List}
 use mathlib.Core.Path.{_≡_, sym, ap, _∙_}
@@ -10,11 +10,11 @@ use lib.ListN.{take, drop, length-take, length-drop}
 use Rattle.model.specs.Slot.{slotOf, kindOf}
 use Rattle.judge.specs.Rows.{kindsAt}
 use Rattle.rows.proofs.Laws.Rows.{page-part}
-use Rattle.qbx_report.specs.declared.Census.{Census}
-use Rattle.qbx_report.specs.Census.{total, counted, countKinds}
-use Rattle.qbx_report.proofs.Laws.{counted-total, slots-next, slots-end}
-use Rattle.qbx_report.proofs.count_slots.Statement.{statement}
-use Rattle.qbx_report.proofs.count_slots.Tie as tie
+use Rattle.qbx_census.specs.declared.Census.{Census}
+use Rattle.qbx_census.specs.Census.{total, counted, countKinds}
+use Rattle.qbx_census.proofs.Laws.{counted-total, slots-next, slots-end}
+use Rattle.qbx_census.proofs.count_slots.Statement.{statement}
+use Rattle.qbx_census.proofs.count_slots.Tie as tie
 
 abbrev Inv-loop : tie.InvT-loop
 Inv-loop image at slots sum₀ i₀ sum i =
