@@ -7,9 +7,9 @@ use Rattle.text.specs.Buffer.{Print, printIn}
 use Rattle.account_text.specs.Account.{accountText}
 use Rattle.account_text.specs.Map.{mapText}
 use Rattle.salvage.specs.Salvage.{salvageOutcome}
+use Rattle.qbx_verbs.specs.declared.Verb.{Verb}
+use Rattle.qbx_verbs.specs.declared.Verb.the-variants.{Format, Put, Get, Delete, Recover, Check, Account, Map, Salvage, Unknown}
 use Rattle.qbx_words.specs.declared.Command.{Command}
-use Rattle.qbx_words.specs.declared.Verb.{Verb}
-use Rattle.qbx_words.specs.declared.Verb.the-variants.{Format, Put, Get, Delete, Recover, Check, Account, Map, Salvage, Unknown}
 
 abbrev pub untouched : Image → Outcome
 untouched s = record { code = 0; count = 0; image = s }

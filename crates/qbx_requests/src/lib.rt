@@ -1,8 +1,8 @@
 // What a command asks of the store, on the image alone.
 use model::Answer;
 use model::Performed;
+use qbx_verbs::Verb;
 use qbx_words::Command;
-use qbx_words::Verb;
 use text::Printed;
 ghost use mathlib.Core.Path.{_≡_};
 ghost use Prim.Native.Nat.{_≤_};
