@@ -157,7 +157,7 @@ pub fn show(image: &mut [u8], text: &mut [u8], path: &[u8], command: Command, ou
         return;
     }
     let n = file.count;
-    let printed = qbx_requests::describe(&image[..n], command, text);
+    let printed = qbx_texts::describe(&image[..n], command, text);
     let answer = printed.answer;
     if let Answer::ShortBuffer = answer {
         io::write_all(err, b"qbx: the text is longer than its buffer\n");

@@ -1,9 +1,9 @@
--- `qbx_requests::describe`: what each verb prints is the definition's. Assumes nothing.
-use Rattle.qbx_requests.specs.Requests.{printedBy}
-use Rattle.qbx_requests.proofs.Laws.{both, both-salvaged}
+-- `qbx_texts::describe`: what each verb prints is the definition's. Assumes nothing.
+use Rattle.qbx_texts.specs.Texts.{printedBy}
+use Rattle.qbx_texts.proofs.Laws.{both, both-salvaged}
 use borrow.Author.Needs.{needs}
-use Rattle.qbx_requests.proofs.describe.Statement.{statement}
-use Rattle.qbx_requests.proofs.describe.Tie as tie
+use Rattle.qbx_texts.proofs.describe.Statement.{statement}
+use Rattle.qbx_texts.proofs.describe.Tie as tie
 
 enum-told : tie.Need-enum-told
 enum-told c = search needs
