@@ -4,9 +4,9 @@ use libc::STDERR_FILENO;
 use libc::STDIN_FILENO;
 use libc::STDOUT_FILENO;
 use qbx_move_words::MoveReading;
+use qbx_verbs::Verb;
 use qbx_words::Command;
 use qbx_words::Reading;
-use qbx_words::Verb;
 ghost use Rattle.io.specs.Counts.{Counts};
 
 fn usage(fd: i32) {

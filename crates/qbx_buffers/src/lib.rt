@@ -26,7 +26,7 @@ fn within(last: u8, process: Process, path: &[u8], command: Command, contents: &
         return false;
     }
     let verb = command.verb;
-    let prints = qbx_words::prints(verb);
+    let prints = qbx_verbs::prints(verb);
     let needed = qbx_rooms::lacking(last, prints, process.allowed);
     if needed > 0 {
         qbx_out::lack_stack(size, needed, process.allowed, process.err);

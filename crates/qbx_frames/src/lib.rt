@@ -5,7 +5,7 @@ ghost use mathlib.Core.Path.{_≡_};
 ghost use mathlib.Core.Bool.{true, false};
 ghost use Prim.Native.Nat.{_≤_};
 ghost use Rattle.request.specs.Request.{sizeOf};
-ghost use Rattle.qbx_words.specs.Command.{prints};
+ghost use Rattle.qbx_verbs.specs.Verbs.{prints};
 ghost use Rattle.qbx_rooms.specs.Rooms.{roomOf, needOf};
 
 // Each buffer has a byte more than the largest image in it, so that a larger file is seen to be one.

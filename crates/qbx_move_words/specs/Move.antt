@@ -5,10 +5,10 @@ use mathlib.Core.List.{List}
 use Rattle.model.specs.Lists.{same}
 use Rattle.request.specs.Request.{sizeOf}
 use Rattle.text.specs.Text.{text}
-use Rattle.qbx_words.specs.Number.{numberOf}
+use Rattle.qbx_numbers.specs.Number.{numberOf}
+use Rattle.qbx_numbers.specs.declared.Parsed.{Parsed}
+use Rattle.qbx_numbers.specs.declared.Parsed.the-variants.{Number, NoNumber}
 use Rattle.qbx_words.specs.Command.{isMissing}
-use Rattle.qbx_words.specs.declared.Parsed.{Parsed}
-use Rattle.qbx_words.specs.declared.Parsed.the-variants.{Number, NoNumber}
 use Rattle.qbx_words.specs.declared.Complaint.{Complaint}
 use Rattle.qbx_words.specs.declared.Complaint.the-variants.{Segments, Slots, NoTarget, TargetSegments, TargetSlots, NoOption, Budget}
 use Rattle.qbx_move_words.specs.declared.Geometry.{Geometry}

@@ -1,10 +1,10 @@
 // The words of a move, read: IMAGE N B move TARGET N B [--budget STEPS]; those of a rebuild, which differ in the verb alone; and
 // how large its images are.
+use qbx_numbers::Parsed;
+use qbx_numbers::number;
 use qbx_words::Complaint;
-use qbx_words::Parsed;
 use qbx_words::is;
 use qbx_words::is_missing;
-use qbx_words::number;
 ghost use mathlib.Core.Path.{_≡_};
 ghost use Rattle.request.specs.Request.{sizeOf};
 ghost use Rattle.qbx_move_words.specs.Move.{namesTarget, withBudget, onto, moveOf, largerSize};

@@ -5,82 +5,19 @@ use mathlib.Core.List.{List, [], _∷_}
 use lib.Dec.{ltb}
 use Rattle.model.specs.Lists.{same}
 use Rattle.text.specs.Text.{text}
-use Rattle.qbx_words.specs.Number.{numberOf}
-use Rattle.qbx_words.specs.declared.Parsed.{Parsed}
-use Rattle.qbx_words.specs.declared.Parsed.the-variants.{Number, NoNumber}
-use Rattle.qbx_words.specs.declared.Verb.{Verb}
-use Rattle.qbx_words.specs.declared.Verb.the-variants.{Format, Put, Get, Delete, Recover, Check, Account, Map, Salvage, Unknown}
+use Rattle.qbx_numbers.specs.Number.{numberOf}
+use Rattle.qbx_numbers.specs.declared.Parsed.{Parsed}
+use Rattle.qbx_numbers.specs.declared.Parsed.the-variants.{Number, NoNumber}
+use Rattle.qbx_verbs.specs.declared.Verb.{Verb}
+use Rattle.qbx_verbs.specs.Verbs.{known, namesBlock, writes}
+use Rattle.qbx_verb_words.specs.Verb.{verbOf}
 use Rattle.qbx_words.specs.declared.Complaint.{Complaint}
 use Rattle.qbx_words.specs.declared.Complaint.the-variants.{Segments, Slots, NoVerb, Block, NoOption, Budget}
 use Rattle.qbx_words.specs.declared.Command.{Command}
 use Rattle.qbx_words.specs.declared.Reading.{Reading}
 use Rattle.qbx_words.specs.declared.Reading.the-variants.{Right, Wrong}
 
--- ---- verbs
-
-unfoldable pub verbOf : List ℕ → Verb
-verbOf w =
-    cond (same w (text "format")) Format
-    (cond (same w (text "put")) Put
-    (cond (same w (text "get")) Get
-    (cond (same w (text "delete")) Delete
-    (cond (same w (text "recover")) Recover
-    (cond (same w (text "check")) Check
-    (cond (same w (text "account")) Account
-    (cond (same w (text "map")) Map
-    (cond (same w (text "salvage")) Salvage
-    Unknown))))))))
-
-unfoldable pub known : Verb → Bool
-known Format = true
-known Put = true
-known Get = true
-known Delete = true
-known Recover = true
-known Check = true
-known Account = true
-known Map = true
-known Salvage = true
-known Unknown = false
-
-unfoldable pub namesBlock : Verb → Bool
-namesBlock Format = false
-namesBlock Put = true
-namesBlock Get = true
-namesBlock Delete = true
-namesBlock Recover = false
-namesBlock Check = false
-namesBlock Account = false
-namesBlock Map = false
-namesBlock Salvage = false
-namesBlock Unknown = false
-
-unfoldable pub writes : Verb → Bool
-writes Format = true
-writes Put = true
-writes Get = false
-writes Delete = true
-writes Recover = true
-writes Check = false
-writes Account = false
-writes Map = false
-writes Salvage = false
-writes Unknown = false
-
--- whether what a verb says is a text of many lines
-unfoldable pub prints : Verb → Bool
-prints Format = false
-prints Put = false
-prints Get = false
-prints Delete = false
-prints Recover = false
-prints Check = false
-prints Account = true
-prints Map = true
-prints Salvage = true
-prints Unknown = false
-
--- ---- the words, from the last to the first
+-- the words are read from the last to the first
 
 unfoldable pub isMissing : List ℕ → Bool
 isMissing [] = true

@@ -1,111 +1,23 @@
 // The words of a command line, read.
 use crate::Command;
 use crate::Complaint;
-use crate::Parsed;
 use crate::Reading;
-use crate::Verb;
-use crate::numbers::number;
 use model::BlockNumber;
+use qbx_numbers::Parsed;
+use qbx_numbers::number;
+use qbx_verb_words::is;
+use qbx_verb_words::verb_of;
+use qbx_verbs::known;
+use qbx_verbs::names_block;
+use qbx_verbs::writes;
 ghost use mathlib.Core.Path.{_≡_};
-ghost use Rattle.model.specs.Lists.{same};
-ghost use Rattle.qbx_words.specs.Command.{verbOf, known, namesBlock, writes, isMissing, withBudget, withBlock, afterVerb, commandOf};
-
-// Whether a word is a certain one.
-pub fn is(word: &[u8], name: &[u8]) -> bool
-    ensures { λ r. ⌜ r ≡ same (now (word .entry)) (now (name .entry)) ⌝ }
-{
-    check::same(word, name)
-}
+ghost use Rattle.qbx_words.specs.Command.{isMissing, withBudget, withBlock, afterVerb, commandOf};
 
 // Whether a word is missing: it is empty then.
 pub fn is_missing(word: &[u8]) -> bool
     ensures { λ r. ⌜ r ≡ isMissing (now (word .entry)) ⌝ }
 {
     word.len() == 0
-}
-
-fn verb_of(word: &[u8]) -> Verb
-    ensures { λ r. ⌜ r ≡ verbOf (now (word .entry)) ⌝ }
-{
-    if is(word, b"format") {
-        return Verb::Format;
-    }
-    if is(word, b"put") {
-        return Verb::Put;
-    }
-    if is(word, b"get") {
-        return Verb::Get;
-    }
-    if is(word, b"delete") {
-        return Verb::Delete;
-    }
-    if is(word, b"recover") {
-        return Verb::Recover;
-    }
-    if is(word, b"check") {
-        return Verb::Check;
-    }
-    if is(word, b"account") {
-        return Verb::Account;
-    }
-    if is(word, b"map") {
-        return Verb::Map;
-    }
-    if is(word, b"salvage") {
-        return Verb::Salvage;
-    }
-    Verb::Unknown
-}
-
-fn known(verb: Verb) -> bool
-    ensures { λ r. ⌜ r ≡ known verb ⌝ }
-{
-    match verb {
-        Verb::Format => true,
-        Verb::Put => true,
-        Verb::Get => true,
-        Verb::Delete => true,
-        Verb::Recover => true,
-        Verb::Check => true,
-        Verb::Account => true,
-        Verb::Map => true,
-        Verb::Salvage => true,
-        Verb::Unknown => false,
-    }
-}
-
-fn names_block(verb: Verb) -> bool
-    ensures { λ r. ⌜ r ≡ namesBlock verb ⌝ }
-{
-    match verb {
-        Verb::Format => false,
-        Verb::Put => true,
-        Verb::Get => true,
-        Verb::Delete => true,
-        Verb::Recover => false,
-        Verb::Check => false,
-        Verb::Account => false,
-        Verb::Map => false,
-        Verb::Salvage => false,
-        Verb::Unknown => false,
-    }
-}
-
-fn writes(verb: Verb) -> bool
-    ensures { λ r. ⌜ r ≡ writes verb ⌝ }
-{
-    match verb {
-        Verb::Format => true,
-        Verb::Put => true,
-        Verb::Get => false,
-        Verb::Delete => true,
-        Verb::Recover => true,
-        Verb::Check => false,
-        Verb::Account => false,
-        Verb::Map => false,
-        Verb::Salvage => false,
-        Verb::Unknown => false,
-    }
 }
 
 // The option at the end.

@@ -5,14 +5,14 @@ use model::Performed;
 use qbx_images::ImageFile;
 use qbx_out::fail;
 use qbx_out::print;
+use qbx_verbs::Verb;
 use qbx_words::Command;
-use qbx_words::Verb;
 ghost use mathlib.Core.Path.{_≡_};
 ghost use mathlib.Core.Bool.{false};
 ghost use Prim.Native.Nat.{_<_, _≤_};
 ghost use lib.ListN.{length};
 ghost use Rattle.request.specs.Request.{sizeOf};
-ghost use Rattle.qbx_words.specs.Command.{prints};
+ghost use Rattle.qbx_verbs.specs.Verbs.{prints};
 
 // Has the image's file in the buffer: the file's own bytes, or a chip from the factory where format finds none.
 fn present(image: &mut [u8], path: &[u8], command: Command) -> ImageFile
@@ -157,7 +157,7 @@ pub fn show(image: &mut [u8], text: &mut [u8], path: &[u8], command: Command, ou
         return;
     }
     let n = file.count;
-    let printed = qbx_requests::describe(&image[..n], command, text);
+    let printed = qbx_texts::describe(&image[..n], command, text);
     let answer = printed.answer;
     if let Answer::ShortBuffer = answer {
         io::write_all(err, b"qbx: the text is longer than its buffer\n");

@@ -20,7 +20,7 @@ use Rattle.qbx_rooms.proofs.lacking.Reads as lacking-reads
 use Rattle.qbx_rooms.proofs.room_of.Reads as room-of-reads
 use Rattle.qbx_frames.proofs.small.Reads as small-reads
 use Rattle.qbx_frames.proofs.small_text.Reads as small-text-reads
-use Rattle.qbx_words.proofs.prints.Reads as prints-reads
+use Rattle.qbx_verbs.proofs.prints.Reads as prints-reads
 use Rattle.qbx_out.proofs.lack_stack.Reads as lack-stack-reads
 use Rattle.request.proofs.size_of.Reads as size-of-reads
 use Rattle.qbx_buffers.proofs.+within.{statement}

@@ -1,6 +1,6 @@
 -- `qbx_report::condition_of`: the state that the survey says. Assumes nothing.
 use Rattle.scan.specs.Surveys.{stateIn}
-use Rattle.qbx_report.specs.Census.{conditionOf}
+use Rattle.qbx_report.specs.Report.{conditionOf}
 use Rattle.qbx_report.proofs.Laws.{condition-told}
 use borrow.Author.Needs.{needs}
 use Rattle.qbx_report.proofs.condition_of.Statement.{statement}

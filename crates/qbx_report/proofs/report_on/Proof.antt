@@ -3,7 +3,7 @@ use denote.Ref.{now}
 use Rattle.model.specs.State.{segmentsOf}
 use Rattle.model.specs.Laws.Segments.{segments-length}
 use Rattle.flash.proofs.Pages.{sized}
-use Rattle.qbx_report.specs.Census.{reportOf}
+use Rattle.qbx_report.specs.Report.{reportOf}
 use Rattle.qbx_report.proofs.Laws.{census-shown}
 use borrow.Author.Needs.{needs}
 use Rattle.qbx_report.proofs.report_on.Statement.{statement}

@@ -1,5 +1,5 @@
 -- `qbx_words::commands::is_missing` is the test of the definition. Assumes nothing.
-use Rattle.qbx_words.proofs.Laws.Words.{missing-length}
+use Rattle.qbx_words.proofs.Laws.{missing-length}
 use Rattle.qbx_words.proofs.commands.is_missing.Statement.{statement}
 use Rattle.qbx_words.proofs.commands.is_missing.Tie as tie
 
