@@ -1,10 +1,10 @@
--- `copying::slots_place` is the offset of the page of the definition. Assumes nothing.
+-- `live_slots::slots_place` is the offset of the page of the definition. Assumes nothing.
 use Prim.Native.Nat.{_+_}
 use native.Mathlib.Nat.{mul-le-mul-right}
 use native.Mathlib.Omega.{arith}
 use borrow.Author.Needs.{needs}
-use Rattle.copying.proofs.slots_place.Statement.{statement}
-use Rattle.copying.proofs.slots_place.Tie as tie
+use Rattle.live_slots.proofs.slots_place.Statement.{statement}
+use Rattle.live_slots.proofs.slots_place.Tie as tie
 
 add-result : tie.Need-add-result
 add-result c = search needs

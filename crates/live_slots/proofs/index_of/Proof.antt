@@ -1,9 +1,9 @@
--- `copying::index_of` is the number's remainder. Assumes nothing.
+-- `live_slots::index_of` is the number's remainder. Assumes nothing.
 use mathlib.Core.Path.{refl}
 use native.Mathlib.Nat.{mod-lt}
 use borrow.Author.Needs.{needs}
-use Rattle.copying.proofs.index_of.Statement.{statement}
-use Rattle.copying.proofs.index_of.Tie as tie
+use Rattle.live_slots.proofs.index_of.Statement.{statement}
+use Rattle.live_slots.proofs.index_of.Tie as tie
 
 cast-result : tie.Need-cast-result
 cast-result c = search needs

@@ -26,7 +26,7 @@ use Rattle.flash.proofs.Pages.{in-page}
 use Rattle.slot.proofs.Laws.Kinds.{Other, other-holds}
 use Rattle.slot.specs.Parts.{slotParts}
 use Rattle.slot.proofs.Laws.Writes.{slot-parts, write-within}
-use Rattle.copying.specs.Live.{liveEntries, firstSlot, Apart, Copied}
+use Rattle.live_slots.specs.Live.{liveEntries, firstSlot, Apart, Copied}
 
 -- ---- a page by value
 

@@ -1,4 +1,4 @@
--- `copying::page_of` is the page's bytes. The invariant: the first `i` of them are copied. Assumes nothing.
+-- `live_slots::page_of` is the page's bytes. The invariant: the first `i` of them are copied. Assumes nothing.
 use Prim.Native.Nat.{ℕ, _-_, _≤_}
 use mathlib.Core.Path.{_≡_, refl, ap, _∙_}
 use mathlib.Core.List.{List}
@@ -6,10 +6,10 @@ use native.Mathlib.Omega.{arith}
 use denote.Ref.{now}
 use lib.ListN.{length, getD, set, replicate, length-set}
 use lib.Seq.{paste, paste-zero}
-use Rattle.copying.proofs.Laws.{page-turn, page-whole}
+use Rattle.live_slots.proofs.Laws.{page-turn, page-whole}
 use borrow.Author.Needs.{needs}
-use Rattle.copying.proofs.page_of.Statement.{statement}
-use Rattle.copying.proofs.page_of.Tie as tie
+use Rattle.live_slots.proofs.page_of.Statement.{statement}
+use Rattle.live_slots.proofs.page_of.Tie as tie
 
 abbrev Inv-loop : tie.InvT-loop
 Inv-loop bytes page₀ i₀ page i = (page ≡ paste page₀ 0 bytes i) × (i ≤ 256) × (length page ≡ 256)
