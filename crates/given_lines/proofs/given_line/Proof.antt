@@ -1,10 +1,10 @@
--- `salvaging::given_line`: two pieces in a row. Assumes nothing.
+-- `given_lines::given_line`: two pieces in a row. Assumes nothing.
 use native.Mathlib.Omega.{arith}
 use Rattle.text.specs.Text.{text}
 use Rattle.text.proofs.Laws.{_then_}
 use borrow.Author.Needs.{needs}
-use Rattle.salvaging.proofs.given_line.Statement.{statement}
-use Rattle.salvaging.proofs.given_line.Tie as tie
+use Rattle.given_lines.proofs.given_line.Statement.{statement}
+use Rattle.given_lines.proofs.given_line.Tie as tie
 
 block-text-requires : tie.Need-block-text-requires
 block-text-requires c κs = search needs

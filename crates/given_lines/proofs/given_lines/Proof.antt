@@ -1,4 +1,4 @@
--- `salvaging::given_lines`. The invariant (`Blocks`): the lines of the smaller block numbers are there. Assumes nothing.
+-- `given_lines::given_lines`. The invariant (`Blocks`): the lines of the smaller block numbers are there. Assumes nothing.
 use Prim.Native.Nat.{_-_}
 use mathlib.Core.Path.{refl}
 use mathlib.Core.List.{[]}
@@ -11,9 +11,9 @@ use Rattle.flash.proofs.Pages.{sized}
 use Rattle.block_lines.proofs.Laws.{Blocks, blocks-start}
 use Rattle.salvage.specs.Salvage.{candidates, given, givenLine}
 use Rattle.meeting.specs.Sheet.{sheet}
-use Rattle.salvaging.proofs.Laws.{lines-short, lines-one, lines-passed, lines-room, lines-end}
-use Rattle.salvaging.proofs.given_lines.Statement.{statement}
-use Rattle.salvaging.proofs.given_lines.Tie as tie
+use Rattle.given_lines.proofs.Laws.{lines-short, lines-one, lines-passed, lines-room, lines-end}
+use Rattle.given_lines.proofs.given_lines.Statement.{statement}
+use Rattle.given_lines.proofs.given_lines.Tie as tie
 
 abbrev Inv-loop : tie.InvT-loop
 Inv-loop image segments slots places lengths differs text₀ at pages end₀ block₀ text end block =
