@@ -1,4 +1,4 @@
--- `mounted::mount` gives the answer and the table of the definition. Assumes nothing.
+-- `mounting::mount` gives the answer and the table of the definition. Assumes nothing.
 use mathlib.Core.Path.{sym, ap, _∙_}
 use native.Mathlib.Omega.{arith}
 use denote.Ref.{now}
@@ -10,10 +10,10 @@ use Rattle.scan.proofs.Laws.Told.{survey-says}
 use Rattle.looking.proofs.Laws.Survey.{survey-other, survey-plan}
 use Rattle.model.specs.Answers.{codeOf}
 use Rattle.model.specs.Laws.Mounted.{mount-size, mount-short, mount-clean}
-use Rattle.mounted.proofs.Laws.Mounts.{mount-unclean}
+use Rattle.mounting.proofs.Laws.{mount-unclean}
 use borrow.Author.Needs.{needs}
-use Rattle.mounted.proofs.mount.Statement.{statement}
-use Rattle.mounted.proofs.mount.Tie as tie
+use Rattle.mounting.proofs.mount.Statement.{statement}
+use Rattle.mounting.proofs.mount.Tie as tie
 
 right-size-requires : tie.Need-right-size-requires
 right-size-requires c κs = search needs

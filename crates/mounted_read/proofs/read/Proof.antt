@@ -1,15 +1,15 @@
--- `mounted::read` keeps its contract. Assumes nothing.
+-- `mounted_read::read` keeps its contract. Assumes nothing.
 use mathlib.Core.Path.{sym, _∙_}
 use native.Mathlib.Omega.{arith}
 use denote.Ref.{now}
 use lib.ListN.{getD}
 use Rattle.model.specs.Answers.{codeOf, located}
 use Rattle.places.proofs.Laws.Seen.{seen-believed}
-use Rattle.mounted.proofs.Laws.Refusals.{none-refuses, slots-few, refusing-code}
-use Rattle.mounted.proofs.Laws.Reads.{read-bound, read-absent-entry, read-stale-entry, read-entry}
+use Rattle.mounted_read.proofs.Laws.Refusals.{none-refuses, slots-few, refusing-code}
+use Rattle.mounted_read.proofs.Laws.Reads.{read-bound, read-absent-entry, read-stale-entry, read-entry}
 use borrow.Author.Needs.{needs}
-use Rattle.mounted.proofs.read.Statement.{statement}
-use Rattle.mounted.proofs.read.Tie as tie
+use Rattle.mounted_read.proofs.read.Statement.{statement}
+use Rattle.mounted_read.proofs.read.Tie as tie
 
 refusal-requires : tie.Need-refusal-requires
 refusal-requires c κs = search needs

@@ -26,7 +26,7 @@ use Rattle.places.proofs.Laws.Found.{foundEntry, kept-seen}
 use Rattle.places.proofs.Laws.Seen.{Believed, seen-believed}
 use Rattle.looking.specs.Look.{There, Kept as Refuses}
 use Rattle.store.proofs.Laws.Requests.{read-refused, read-there}
-use Rattle.mounted.proofs.Laws.Refusals.{passed}
+use Rattle.mounted_read.proofs.Laws.Refusals.{passed}
 
 -- ---- in step
 

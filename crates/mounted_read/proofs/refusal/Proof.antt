@@ -1,4 +1,4 @@
--- `mounted::refusal` is the first of the refusals that bind a mounted call. Assumes nothing.
+-- `mounted_read::refusal` is the first of the refusals that bind a mounted call. Assumes nothing.
 use mathlib.Core.Path.{sym, _∙_}
 use native.Mathlib.Omega.{arith}
 use denote.Ref.{now}
@@ -7,8 +7,8 @@ use Rattle.request.proofs.Laws.{wrong-size, right-size}
 use Rattle.model.specs.Answers.{codeOf}
 use Rattle.model.specs.Laws.Mounted.{refuses-size, refuses-short, refuses-number, refuses-length, refuses-unusable, refuses-none}
 use borrow.Author.Needs.{needs}
-use Rattle.mounted.proofs.refusal.Statement.{statement}
-use Rattle.mounted.proofs.refusal.Tie as tie
+use Rattle.mounted_read.proofs.refusal.Statement.{statement}
+use Rattle.mounted_read.proofs.refusal.Tie as tie
 
 right-size-requires : tie.Need-right-size-requires
 right-size-requires c κs = search needs
