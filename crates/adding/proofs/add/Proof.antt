@@ -1,11 +1,11 @@
--- `fresh::add` writes the slot of a page after the steps that found an empty one. Assumes nothing.
+-- `adding::add` writes the slot of a page after the steps that found an empty one. Assumes nothing.
 use Prim.Native.Nat.{_-_}
 use native.Mathlib.Omega.{arith}
 use denote.Ref.{now}
-use Rattle.fresh.proofs.Laws.{page-fits, slot-inside, slot-place, opened-length, page-added}
+use Rattle.adding.proofs.Laws.{page-fits, slot-inside, slot-place, opened-length, page-added}
 use borrow.Author.Needs.{needs}
-use Rattle.fresh.proofs.add.Statement.{statement}
-use Rattle.fresh.proofs.add.Tie as tie
+use Rattle.adding.proofs.add.Statement.{statement}
+use Rattle.adding.proofs.add.Tie as tie
 
 next-slot-requires : tie.Need-next-slot-requires
 next-slot-requires c κs = search needs

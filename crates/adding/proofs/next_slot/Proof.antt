@@ -1,10 +1,10 @@
--- `fresh::next_slot` opens the next segment where the top has no empty slot. Assumes nothing.
+-- `adding::next_slot` opens the next segment where the top has no empty slot. Assumes nothing.
 use native.Mathlib.Omega.{arith}
 use denote.Ref.{now}
-use Rattle.fresh.proofs.Laws.{still-free, next-opened}
+use Rattle.adding.proofs.Laws.{still-free, next-opened}
 use borrow.Author.Needs.{needs}
-use Rattle.fresh.proofs.next_slot.Statement.{statement}
-use Rattle.fresh.proofs.next_slot.Tie as tie
+use Rattle.adding.proofs.next_slot.Statement.{statement}
+use Rattle.adding.proofs.next_slot.Tie as tie
 
 -- an edit of the test is refused where it opens a segment, and not here for its words
 returns : tie.Need-returns
