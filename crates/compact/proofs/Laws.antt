@@ -16,8 +16,8 @@ use Rattle.flash.specs.Ran.{Ran, Programmed}
 use Rattle.flash.proofs.Laws.{_then_}
 use Rattle.flash.specs.Pages.{Sized}
 use Rattle.header_steps.specs.Parts.{beginCompaction, finishCopy}
-use Rattle.copying.specs.Live.{liveEntries, Apart, Copied}
-use Rattle.copying.proofs.Laws.{pages-kept}
+use Rattle.live_slots.specs.Live.{liveEntries, Apart, Copied}
+use Rattle.live_slots.proofs.Laws.{pages-kept}
 use Rattle.compact.specs.Compaction.{Compaction, compact-parts}
 
 begin-in-target : (N B : ℕ) (e : Version) (o n : ℕ) → InSegment B (n % N) (beginCompaction N B e o n)

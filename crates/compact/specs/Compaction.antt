@@ -9,7 +9,7 @@ use Rattle.model.specs.Slot.{Entry}
 use Rattle.model.specs.Steps.{copyEntries, compact, settle}
 use Rattle.flash.specs.Ran.{Ran}
 use Rattle.header_steps.specs.Parts.{beginCompaction, finishCopy, copy-out-parts}
-use Rattle.copying.specs.Live.{liveEntries}
+use Rattle.live_slots.specs.Live.{liveEntries}
 
 -- the whole compaction, whose target gets a new header with this total
 pub record Compaction (N B total o n budget left count : ℕ) (from to : Image) : Type 0 where

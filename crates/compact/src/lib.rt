@@ -3,7 +3,7 @@ use copying::Compacted;
 use model::SegmentNumber;
 ghost use lib.ListN.{length};
 ghost use Rattle.flash.specs.Pages.{Sized};
-ghost use Rattle.copying.specs.Live.{Apart};
+ghost use Rattle.live_slots.specs.Live.{Apart};
 ghost use Rattle.compact.specs.Compaction.{Compaction};
 
 // Compacts an old segment into the one that a number belongs to: the target is begun, the live slots are copied, the
@@ -23,7 +23,7 @@ pub fn compact_segment(
     let begun = header_steps::begin_compaction(image, segments, slots, total, old, number, budget);
     let copy = copying::copy_live(image, segments, slots, old, number, begun);
     let pending = header_steps::finish_copy(image, segments, slots, total, old, number, copy.left);
-    let erased = flash::erase_segment(image, copying::index_of(segments, old), slots, pending);
+    let erased = flash::erase_segment(image, live_slots::index_of(segments, old), slots, pending);
     let left = header_steps::settle(image, segments, slots, number, erased);
     Compacted {
         left,

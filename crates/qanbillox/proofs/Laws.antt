@@ -16,7 +16,7 @@ use Rattle.model.specs.Answers.{Request, codeOf, performed, Outcome, outcomeOf,
 use Rattle.model.specs.declared.Answer.{Answer}
 use Rattle.model.specs.Mounted.{Places, MountOutcome, mountedAs, mountedRefusal, MountedRead}
 use Rattle.request.proofs.Laws.{most-pages}
-use Rattle.mounted.proofs.Laws.Refusals.{passed}
+use Rattle.mounted_read.proofs.Laws.Refusals.{passed}
 use Rattle.model.specs.declared.Performed.{Performed}
 use Rattle.model.specs.declared.Located.{Located}
 use Rattle.bridge.specs.Lengths.{few-done, read-small}

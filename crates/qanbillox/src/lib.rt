@@ -70,7 +70,7 @@ pub extern "C" fn qbx_account(image: &[u8], n: usize, b: usize, text: &mut [u8])
 pub extern "C" fn qbx_mount(image: &[u8], n: usize, b: usize, table: &mut [u32]) -> u64
     ensures { λ r. ⌜ Mounts (mountOutcome n b (now (image .entry)) (now (table .entry))) r (now (table .exit)) ⌝ }
 {
-    request::number_of(mounted::mount(image, n, b, table))
+    request::number_of(mounting::mount(image, n, b, table))
 }
 
 #[no_mangle]
@@ -112,7 +112,7 @@ pub extern "C" fn qbx_mounted_read(
 ) -> u64
     ensures { λ r. ⌜ AllowsRead (λ o. MountedRead n b block o (now (image .entry)) (now (table .entry))) r ⌝ }
 {
-    packing::packed_read(mounted::read(image, n, b, table, BlockNumber(block)))
+    packing::packed_read(mounted_read::read(image, n, b, table, BlockNumber(block)))
 }
 
 #[no_mangle]

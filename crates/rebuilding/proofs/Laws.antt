@@ -32,7 +32,8 @@ use Rattle.moves.specs.Placed.{placed}
 use Rattle.moves.specs.Sorted.{foundAt, rising, sorted-rising}
 use Rattle.moves.specs.Fresh.{fresh-list}
 use Rattle.flash.proofs.Pages.{sized}
-use Rattle.fresh.specs.Fresh.{pageAt, listed, LivePage, Pointing}
+use Rattle.adding.specs.Adding.{LivePage}
+use Rattle.fresh.specs.Fresh.{pageAt, listed, Pointing}
 use Rattle.salvage.specs.Salvage.{heldIn, candidates, given, salvaged, rebuildRefusals, rebuildWork, rebuildOutcome}
 use Rattle.salvage.specs.Facts.{salvaged-distinct, salvaged-valid, rebuild-fits}
 use Rattle.meeting.specs.Sheet.{Sheet}

@@ -33,7 +33,7 @@ use Rattle.flash.specs.Ran.{Ran, Programmed}
 use Rattle.flash.proofs.Laws.{ran-none, _then_}
 use Rattle.flash.specs.Pages.{Sized}
 use Rattle.flash.proofs.Pages.{sized}
-use Rattle.copying.specs.Live.{liveEntries, Apart}
+use Rattle.live_slots.specs.Live.{liveEntries, Apart}
 use Rattle.compact.specs.Compaction.{Compaction}
 use Rattle.compact.specs.Composed.{then-list-if-whole}
 use Rattle.room.specs.declared.Plan.{Plan}

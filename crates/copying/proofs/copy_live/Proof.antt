@@ -6,7 +6,7 @@ use native.Mathlib.Omega.{arith}
 use denote.Ref.{now}
 use Rattle.model.specs.Chip.{Page}
 use Rattle.model.specs.Slot.{slotOf, kindOf}
-use Rattle.copying.proofs.Laws.{Copying, copying-start, copying-skip, copying-unwritten, copying-turn, copying-end, live-page, slots-inside}
+use Rattle.live_slots.proofs.Laws.{Copying, copying-start, copying-skip, copying-unwritten, copying-turn, copying-end, live-page, slots-inside}
 use borrow.Author.Needs.{needs}
 use Rattle.copying.proofs.copy_live.Statement.{statement}
 use Rattle.copying.proofs.copy_live.Tie as tie

@@ -38,8 +38,8 @@ use Rattle.mounted_plan.proofs.Callers.{refused-listed, refused-exact, accepted
 use Rattle.mounted_write.specs.Continuing.{entryFor, foundFor}
 use Rattle.mounted_put.specs.Performing.{Performs}
 use Rattle.mounted.specs.Puts.{noneFound, Puts}
-use Rattle.mounted.proofs.Laws.Refusals.{passed, bound-not-cut, none-refuses}
-use Rattle.mounted.proofs.Laws.Reads.{kept-refusal, seen-there, seen-none, seen-stale}
+use Rattle.mounted_read.proofs.Laws.Refusals.{passed, bound-not-cut, none-refuses}
+use Rattle.mounted_read.proofs.Laws.Reads.{kept-refusal, seen-there, seen-none, seen-stale}
 use Rattle.mounted.proofs.Laws.Writes.{refused-writes}
 
 -- the refusals of a plan are among those of a put

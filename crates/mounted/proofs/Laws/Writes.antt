@@ -40,8 +40,8 @@ use Rattle.bridge.specs.Mounting.{Kept, in-step-kept, kept-in-step}
 use Rattle.places.proofs.Laws.Seen.{seen-believed}
 use Rattle.places.proofs.Laws.Noted.{noted-past, noted-unusable, noted-zero, noted-kept}
 use Rattle.mounted.specs.Marks.{EntryInside, MarkedEntry}
-use Rattle.mounted.proofs.Laws.Refusals.{Passed, passed, bound-not-cut, number-range}
-use Rattle.mounted.proofs.Laws.Reads.{refuses-absent, seen-there, seen-absent, seen-stale}
+use Rattle.mounted_read.proofs.Laws.Refusals.{Passed, passed, bound-not-cut, number-range}
+use Rattle.mounted_read.proofs.Laws.Reads.{refuses-absent, seen-there, seen-absent, seen-stale}
 
 module _ (N B : ℕ) (s : Image) (t : Places) (b : ℕ) (taken : Bool) (codes : List ℕ) (r : Request) (allowance : ℕ) where
   -- refused: no step is taken, and neither image nor table is touched

@@ -2,7 +2,7 @@
 use mathlib.Core.Path.{_∙_}
 use native.Mathlib.Omega.{arith}
 use denote.Ref.{now}
-use Rattle.mounted.proofs.Laws.Refusals.{none-refuses, slots-few, refusing-code}
+use Rattle.mounted_read.proofs.Laws.Refusals.{none-refuses, slots-few, refusing-code}
 use Rattle.mounted.proofs.Laws.Writes.{delete-bound, entry-inside, delete-entry-writes}
 use borrow.Author.Needs.{needs}
 use Rattle.mounted.proofs.delete.Statement.{statement}

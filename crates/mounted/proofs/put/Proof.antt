@@ -1,7 +1,7 @@
 -- `mounted::put` keeps its contract. Assumes nothing.
 use mathlib.Core.Path.{sym, _∙_}
 use denote.Ref.{now}
-use Rattle.mounted.proofs.Laws.Refusals.{slots-few, refusing-code}
+use Rattle.mounted_read.proofs.Laws.Refusals.{slots-few, refusing-code}
 use Rattle.mounted.proofs.Laws.Puts.{put-bound, put-unbound, put-stale, puts-told}
 use borrow.Author.Needs.{needs}
 use Rattle.mounted.proofs.put.Statement.{statement}

@@ -6,7 +6,7 @@ use Rattle.model.specs.Slot.{mostContents}
 use Rattle.model.specs.Laws.Bytes.{bytes-known}
 use Rattle.bridge.specs.Accepted.{taken-short}
 use Rattle.mounted_plan.proofs.Callers.{accepted-fits}
-use Rattle.mounted.proofs.Laws.Refusals.{passed}
+use Rattle.mounted_read.proofs.Laws.Refusals.{passed}
 use Rattle.mounted.proofs.Laws.Puts.{put-refused, put-performed}
 use borrow.Author.Needs.{needs}
 use Rattle.mounted.proofs.put_block.Statement.{statement}

@@ -25,7 +25,8 @@ use Rattle.bridge.specs.Mounting.{filled-entry, filled-length, live-page}
 use Rattle.moves.specs.Sorted.{foundAt, rising, sorted-rising}
 use Rattle.moves.specs.Moves.{byNumber}
 use Rattle.moves.specs.Facts.{table-distinct, table-valid}
-use Rattle.fresh.specs.Fresh.{pageAt, listed, LivePage, Pointing}
+use Rattle.adding.specs.Adding.{LivePage}
+use Rattle.fresh.specs.Fresh.{pageAt, listed, Pointing}
 
 -- an array of so many
 pub as-many : (n v : ℕ) → n ≤ length (replicate n v)
