@@ -2,11 +2,13 @@
 use Prim.Native.Nat.{ℕ}
 use mathlib.Core.Path.{_≡_, refl}
 use mathlib.Core.List.{List, [], _∷_, _++_}
+use native.Mathlib.Omega.{arith}
 use Rattle.model.specs.Answers.{Request, put, delete, recover}
 use Rattle.model.specs.Histories.{Seen, answered, lost}
 use Rattle.model.specs.Sequences.{among, removed, inserted, storedAfter, replaces, start, noted}
 use Rattle.model.specs.Begun.{Turn, cutSeen, cutsIn}
 use Rattle.wear_counts.specs.Counts.{marksOf, notedCut, notedAs, ledgerOf}
+use Rattle.wear_counts.specs.Law.{TidyingsPaid}
 
 abbrev turn : Request → Seen → List ℕ → ℕ → List ℕ → Turn
 turn r o es f kept = record { request = r; seen = o; begun = es; marks = f; kept = kept }
@@ -34,3 +36,18 @@ torn-cuts = refl
 torn-after : ledgerOf (torn ++ (turn (delete 4) lost [] 0 (3 ∷ 1 ∷ []) ∷ [])) start ≡ record { stored = 3 ∷ 1 ∷ []; largest = 3; replaced = 1; erased = 0 ∷ 1 ∷ [] }
 unfolding torn among removed inserted storedAfter replaces start noted notedCut notedAs ledgerOf
 torn-after = refl
+
+-- ---- the bound with three segments of two slots
+
+-- three cuts, block 1 kept by each, and so many tidyings: L = 1 and R = 0
+abbrev tidied : ℕ → List Turn
+tidied f = turn recover lost [] f (1 ∷ []) ∷ turn recover lost [] 0 (1 ∷ []) ∷ turn recover lost [] 0 (1 ∷ []) ∷ []
+
+-- three tidyings go into N-1 once, which makes 3, at most K; four go twice, which makes 6
+bound-whole : TidyingsPaid 3 2 (tidied 3)
+unfolding start cutSeen cutsIn marksOf notedCut notedAs ledgerOf
+bound-whole = omega arith
+
+bound-most : TidyingsPaid 3 2 (tidied 4) → ⊥
+unfolding start cutSeen cutsIn marksOf notedCut notedAs ledgerOf
+bound-most h = omega (arith, h)
