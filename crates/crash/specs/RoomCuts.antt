@@ -289,7 +289,7 @@ module _ (N B : ℕ) (s : Image) (v : View) (f : Full N B s v) where
   copy-out-cut : (u : Image) → Cut B (copyOut N B (nextVersion v) o n es) s u → ShowsOf N B u v
   copy-out-cut u c =
       let z = cut-size N B (copyOut N B (nextVersion v) o n es) s u c ∙ h .size in
-      ⊎-elim (λ t. with-shows N B u v (next-torn N B s v h (f .clean) u z (t .0) (t .1))) (λ t. compacted-shows N B s v f u (owes u z (t .0) (t .1) .shows)) (copy-out-left u c)
+      ⊎-elim (λ t. with-shows N B u v (next-torn N B s v h (f .clean) u z (t .0) (t .1))) (λ t. compacted-shows N B s v f u (with-shows N B u (compactOldest N B v .result) (owes u z (t .0) (t .1) .shows))) (copy-out-left u c)
 
   -- the rest's old segment and number, by the number after the top's
   pub rest-after : (v .first + N) % N ≡ v .first % N
@@ -307,5 +307,6 @@ module _ (N B : ℕ) (s : Image) (v : View) (f : Full N B s v) where
       let w = owed in
       ⊎-elim
       (λ k. copy-out-cut u k)
-      (λ k. compacted-shows N B s v f u (kept-with N B t u (compactOldest N B v .result) (w .shows) (rest-cut N B t z (w .pending) (w .shows .0) u (rw (w .next, rest-after, rest-last) k))))
+      (λ k. let r = compactOldest N B v .result in
+      compacted-shows N B s v f u (with-shows N B u r (kept-with N B t u r (w .shows) (rest-cut N B t z (w .pending) (w .shows .0) u (rw (w .next, rest-after, rest-last) k)))))
       (cut-append B (copyOut N B (nextVersion v) o n es) (erase (o % N) ∷ settle N B n) s u c)

@@ -29,7 +29,7 @@ use Rattle.bridge.specs.Held.{Held, held-top, held-count, held-row, held-clean,
 use Rattle.bridge.specs.Done.{ring-closed, old-apart, compact-segments}
 use Rattle.bridge.specs.Requests.{row-fits, one-compaction, compacted-rows}
 use Rattle.crash.specs.Sound.{SoundAs}
-use Rattle.crash.specs.States.{isCase, mended, ShowsOf, SoundWith, with-shows}
+use Rattle.crash.specs.States.{isCase, mended, ShowsOf, SoundWith}
 use Rattle.crash.specs.RecoverCount.{header-byte, other-part}
 use Rattle.crash.specs.OwingCuts.{both, both-length, Keeps, keeps-of}
 use Rattle.crash.specs.Recover.{case-state, case-shows}
@@ -157,11 +157,8 @@ module _ (N B : ℕ) (s : Image) (v : View) (f : Full N B s v) where
   new-former = sym (f .carries .second)
 
   -- compacted, it shows what it showed
-  pub compacted-shows : (u : Image) → SoundWith N B u (compactOldest N B v .result) → ShowsOf N B u v
-  compacted-shows u k =
-      let w = compactOldest N B v .result in
-      let r = with-shows N B u w k in
-      (r .0, agree-trans (shown N B u) (entriesIn w) (entriesIn v) (r .1) (tidied N B v (f .clean) (f .noRoom) .table), r .2 ∙ new-former)
+  pub compacted-shows : (u : Image) → ShowsOf N B u (compactOldest N B v .result) → ShowsOf N B u v
+  compacted-shows u r = (r .0, agree-trans (shown N B u) (entriesIn (compactOldest N B v .result)) (entriesIn v) (r .1) (tidied N B v (f .clean) (f .noRoom) .table), r .2 ∙ new-former)
 
   owing-case : isCase N B owing caseB ≡ true
   unfolding isCase isB isOwing mended

@@ -47,6 +47,21 @@ IsInterrupted (settled t) = ⊥
 IsInterrupted (interrupted t) = Unit {0}
 IsInterrupted unknown = ⊥
 
+-- what demand 2 knows of an image
+pub record Facts (N B : ℕ) (s : Image) (x : Promise) : Type 0 where
+  pub size : rightSize N B s ≡ true
+  pub bytes : Bytes s
+  pub sound : Sound N B s
+  pub pending : (q : Exception) → state N B s ≡ unfinished q → IsInterrupted x
+
+pub facts : (N B : ℕ) (s : Image) (x : Promise) → Invariant N B false s x → Known x → Facts N B s x
+facts N B s (settled t) (z, k) kn = record { size = z; bytes = k .bytes; sound = sound-clean N B s (k .clean); pending = λ q e. clash q (sym (k .clean) ∙ e) }
+  where
+    clash : (q : Exception) → clean ≡ unfinished q → ⊥
+    clash q e = let n : _≡_ {A = ℕ} 0 1 = cc in omega (arith, n)
+facts N B s (interrupted t) (z, k) kn = record { size = z; bytes = k .bytes; sound = k .sound; pending = λ q e. tt }
+facts N B s unknown i kn = absurd kn
+
 -- a recovery on an image that is not clean, or any other request
 pub data Shown (N B : ℕ) (s m : Image) (r : Request) (es : List ℕ) (x : Promise) : Type 0 where
   carries-on : Advances N B s m es → byRecovery r es ≡ 0 → Shown N B s m r es x
@@ -180,15 +195,8 @@ same-counts N B s x R K Q L E F r k f t = record {
 module _ (N B : ℕ) where
   event-shown : (s m : Image) (r : Request) (o : Seen) (es : List ℕ) (f : ℕ) (x : Promise) (R K : ℕ) (E : ℕ → ℕ) → OnTable r → Proper r → Invariant N B false s x → Known x
       → Tallies N B s x R K E → DoesBegun N B r o s m es f → Shown N B s m r es x
-  event-shown s m r o es f (settled t) R K E on p (z, k) kn tl d =
-      let h = sound-clean N B s (k .clean) in
-      shown-by N B s m r es f (settled t) z (k .bytes) h (tl .second) (λ q e. clash q (sym (k .clean) ∙ e)) (works N B s z r on p h) (begun-of N B r o s m es f d)
-    where
-      clash : (q : Exception) → clean ≡ unfinished q → ⊥
-      clash q e = let n : _≡_ {A = ℕ} 0 1 = cc in omega (arith, n)
-  event-shown s m r o es f (interrupted t) R K E on p (z, k) kn tl d =
-      shown-by N B s m r es f (interrupted t) z (k .bytes) (k .sound) (tl .second) (λ q e. tt) (works N B s z r on p (k .sound)) (begun-of N B r o s m es f d)
-  event-shown s m r o es f unknown R K E on p (z, k) kn tl d = absurd kn
+  event-shown s m r o es f x R K E on p inv kn tl d =
+      let a = facts N B s x inv kn in shown-by N B s m r es f x (a .size) (a .bytes) (a .sound) (tl .second) (a .pending) (works N B s (a .size) r on p (a .sound)) (begun-of N B r o s m es f d)
 
   history : (es : List Turn) (s u : Image) (x : Promise) (R K : ℕ) (E : ℕ → ℕ) → Unformatted es → Invariant N B false s x → Known x → Tallies N B s x R K E → Turns N B s es u
       → (y : Promise) × Tallies N B u y (recoveryErases es + R) (cutsIn es + K) (λ i. begunOn i es + E i)

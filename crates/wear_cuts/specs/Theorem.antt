@@ -8,8 +8,8 @@ use lib.ListN.{length}
 use lib.Dec.{eqb}
 use borrow.Author.Tests.{eqb-true}
 use Rattle.model.specs.Lists.{count}
-use Rattle.model.specs.Chip.{Image, Bytes, rightSize, run}
-use Rattle.model.specs.State.{segmentsOf, viewOf, Exception, clean, unfinished, state}
+use Rattle.model.specs.Chip.{Image, rightSize, run}
+use Rattle.model.specs.State.{segmentsOf, viewOf, clean}
 use Rattle.model.specs.Steps.{formatSteps}
 use Rattle.model.specs.Table.{blocks}
 use Rattle.model.specs.Answers.{Request, format, put, delete, read, readOr, recover, stepsFor, workOf}
@@ -22,8 +22,7 @@ use Rattle.bridge.specs.Predicted.{fresh}
 use Rattle.bridge.specs.Accepted.{accepted, refused-none}
 use Rattle.bridge.specs.Format.{format-done}
 use Rattle.crash.specs.Machine.{Board, Promise, settled, interrupted, unknown, OnTable, Moves}
-use Rattle.crash.specs.Sound.{Sound}
-use Rattle.crash.specs.Requests.{read-idle, readOr-idle, sound-clean}
+use Rattle.crash.specs.Requests.{read-idle, readOr-idle}
 use Rattle.crash.specs.ReadingRuns.{Known, move-known}
 use Rattle.crash.specs.Invariant.{Invariant}
 use Rattle.crash.specs.Skeleton.{one-event}
@@ -36,7 +35,7 @@ use Rattle.wear.specs.Room.{paid-bound}
 use Rattle.wear.specs.Requests.{tracks-start, put-few}
 use Rattle.wear.specs.Sequence.{format-answered}
 use Rattle.tallied.specs.Law.{Unformatted}
-use Rattle.tallied.specs.Theorem.{IsInterrupted, Below, known, count-least, begun-of}
+use Rattle.tallied.specs.Theorem.{IsInterrupted, Facts, facts, Below, known, count-least, begun-of}
 use Rattle.wear_counts.specs.Counts.{marksOf, notedAs, ledgerOf}
 use Rattle.wear_counts.specs.Law.{WithinRequest, OneErase, FewEach, FromFormat, WearWithCuts, CountsTell}
 use Rattle.wear_cuts.specs.Passes.{erasesIf, due, due-clean, Passes}
@@ -49,21 +48,6 @@ record Counts (N B : ℕ) (s : Image) (x : Promise) (t : Ledger) (K F : ℕ) : T
   funded : Funded N B s t K
 
 -- ---- one event
-
--- what demand 2 knows of an image
-record Facts (N B : ℕ) (s : Image) (x : Promise) : Type 0 where
-  size : rightSize N B s ≡ true
-  bytes : Bytes s
-  sound : Sound N B s
-  pending : (q : Exception) → state N B s ≡ unfinished q → IsInterrupted x
-
-facts : (N B : ℕ) (s : Image) (x : Promise) → Invariant N B false s x → Known x → Facts N B s x
-facts N B s (settled t) (z, k) kn = record { size = z; bytes = k .bytes; sound = sound-clean N B s (k .clean); pending = λ q e. clash q (sym (k .clean) ∙ e) }
-  where
-    clash : (q : Exception) → clean ≡ unfinished q → ⊥
-    clash q e = let n : _≡_ {A = ℕ} 0 1 = cc in omega (arith, n)
-facts N B s (interrupted t) (z, k) kn = record { size = z; bytes = k .bytes; sound = k .sound; pending = λ q e. tt }
-facts N B s unknown i kn = absurd kn
 
 module _ (N B : ℕ) where
   event : (s m : Image) (e : Turn) (x y : Promise) (t : Ledger) (K F : ℕ) {C : Board} {w : Bool} → OnTable (e .request) → Proper (e .request) → Facts N B s x → Facts N B m y
