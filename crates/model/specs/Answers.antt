@@ -7,13 +7,14 @@ use lib.Dec.{ltb, leb, eqb}
 use Rattle.model.specs.Chip.{Image, Step, rightSize, run}
 use Rattle.model.specs.Header.{isFormer}
 use Rattle.model.specs.Slot.{mostContents, numberOk}
-use Rattle.model.specs.State.{Segment, segmentsOf, View, viewOf, entriesIn, holds, capacity, Place, placeOf, State, clean, unfinished, damaged, stateOf, view}
+use Rattle.model.specs.State.{Segment, segmentsOf, View, viewOf, entriesIn, holds, capacity, Place, placeOf, State, clean, unfinished, damaged, stateOf, state, view}
 use Rattle.model.specs.Steps.{slotAt, putSteps, deleteSteps, formatSteps, recoverSteps, isWorn}
-use Rattle.model.specs.Table.{lookup, contentsFound}
+use Rattle.model.specs.Table.{lookup, contentsFound, liveBetween, tableOf}
 use Rattle.model.specs.declared.Answer.{Answer}
 use Rattle.model.specs.declared.Performed.{Performed}
 use Rattle.model.specs.declared.Located.{Located}
-use Rattle.model.specs.declared.Answer.the-variants.{Done, Size, Number, Length, Damaged, Unfinished, Absent, Full, Worn, Cut, ShortTable, FormerVersion, ShortBuffer}
+use Rattle.model.specs.declared.Counted.{Counted}
+use Rattle.model.specs.declared.Answer.the-variants.{Done, Size, Number, Length, Damaged, Unfinished, Absent, Full, Worn, Cut, ShortTable, FormerVersion, Foreign, Shares, ShortBuffer}
 
 -- the paper's number of an answer
 unfoldable pub codeOf : Answer → ℕ
@@ -29,6 +30,8 @@ codeOf Worn = 8
 codeOf Cut = 9
 codeOf ShortTable = 10
 codeOf FormerVersion = 11
+codeOf Foreign = 12
+codeOf Shares = 13
 codeOf ShortBuffer = 14
 
 pub data Request : Type 0 where
@@ -179,3 +182,25 @@ pieceRead N B s b = let o = readOutcome N B s b in take (o .length) (drop (o .of
 -- the second form: that piece; or for answer 6 the whole factory record; or for other refusals an empty piece
 unfoldable pub pieceOr : ℕ → ℕ → Image → ℕ → List ℕ → List ℕ
 pieceOr N B s b factory = cond (eqb (readOutcome N B s b .code) 6) factory (pieceRead N B s b)
+
+-- ---- counting (request #110)
+
+-- what a count gives: its answer, how many blocks of a range of numbers are live, and whether one block is; none if refused
+pub record CountOutcome : Type 0 where
+  pub code : ℕ
+  pub blocks : ℕ
+  pub stored : Bool
+
+-- what the code's answer says
+unfoldable pub counted : Counted → CountOutcome
+counted p = record { code = codeOf (p .answer); blocks = p .blocks; stored = p .stored }
+
+unfoldable pub countRefusals : ℕ → ℕ → Image → List Refusal
+countRefusals N B s = let st = state N B s in (1 when not (rightSize N B s)) ∷ (4 when isDamaged st) ∷ (5 when isUnfinished st) ∷ []
+
+-- any two numbers make a range, and any number is asked for: what is no block's is not live
+unfoldable pub countOutcome : ℕ → ℕ → Image → ℕ → ℕ → ℕ → CountOutcome
+countOutcome N B s first last b =
+    let code = firstOf (countRefusals N B s) in
+    let t = tableOf N B s in
+    cond (eqb code 0) (record { code = 0; blocks = liveBetween first last t; stored = holds b t }) (record { code = code; blocks = 0; stored = false })

@@ -1,9 +1,10 @@
 -- The plain table of demand 2: from block number to contents.
 use Prim.Native.Nat.{ℕ}
 use mathlib.Core.Path.{_≡_}
-use mathlib.Core.Bool.{cond}
+use mathlib.Core.Bool.{cond, _&&_}
 use mathlib.Core.List.{List, [], _∷_}
-use lib.Dec.{eqb}
+use lib.Dec.{leb, eqb}
+use Rattle.model.specs.Lists.{count}
 use Rattle.model.specs.Chip.{Image}
 use Rattle.model.specs.Slot.{Entry}
 use Rattle.model.specs.State.{entriesIn, view}
@@ -40,6 +41,10 @@ Agree t u = (b : ℕ) → lookup b t ≡ lookup b u
 unfoldable pub contentsFound : Found → List ℕ
 contentsFound absent = []
 contentsFound (present c) = c
+
+-- request #110: how many of its blocks have a number from first to last
+unfoldable pub liveBetween : ℕ → ℕ → Table → ℕ
+liveBetween first last t = count (λ e. leb first (e .block) && leb (e .block) last) t
 
 -- the table that a clean image holds
 unfoldable pub tableOf : ℕ → ℕ → Image → Table

@@ -28,7 +28,8 @@ pub enum SlotKind {
     Wrong,
 }
 
-// What comes back, in the order of document 01's table of answers, with 10 of request #102, 11 of #104 and 14 of #101.
+// What comes back, in the order of document 01's table of answers, with 10 of request #102, 11 of #104, 12 and 13 of #110 and 14 of
+// #101.
 pub enum Answer {
     Done,
     Size,
@@ -42,6 +43,8 @@ pub enum Answer {
     Cut,
     ShortTable,
     FormerVersion,
+    Foreign,
+    Shares,
     ShortBuffer,
 }
 
@@ -56,4 +59,11 @@ pub struct Located {
     pub answer: Answer,
     pub offset: usize,
     pub length: usize,
+}
+
+// A count's answer, how many blocks of a range are stored, and whether one block is (request #110).
+pub struct Counted {
+    pub answer: Answer,
+    pub blocks: usize,
+    pub stored: bool,
 }

@@ -4,7 +4,7 @@ use mathlib.Core.Bool.{cond}
 use mathlib.Core.List.{List, [], _++_}
 use lib.Dec.{eqb}
 use Rattle.model.specs.declared.Answer.{Answer}
-use Rattle.model.specs.declared.Answer.the-variants.{Done, Size, Number, Length, Damaged, Unfinished, Absent, Full, Worn, Cut, ShortTable, FormerVersion, ShortBuffer}
+use Rattle.model.specs.declared.Answer.the-variants.{Done, Size, Number, Length, Damaged, Unfinished, Absent, Full, Worn, Cut, ShortTable, FormerVersion, Foreign, Shares, ShortBuffer}
 use Rattle.model.specs.Answers.{codeOf}
 use Rattle.model.specs.Chip.{inRange, imageLength}
 use Rattle.text.specs.Text.{text}
@@ -32,6 +32,8 @@ reason Worn = text " worn"
 reason Cut = []
 reason ShortTable = text " short table"
 reason FormerVersion = text " former version"
+reason Foreign = text " foreign"
+reason Shares = text " shares"
 reason ShortBuffer = text " short buffer"
 
 -- an answer, as "refused: 7 full"

@@ -44,6 +44,8 @@ fn add_reason(line: Line, answer: Answer) -> Line
         Answer::Cut => add(line, b""),
         Answer::ShortTable => add(line, b" short table"),
         Answer::FormerVersion => add(line, b" former version"),
+        Answer::Foreign => add(line, b" foreign"),
+        Answer::Shares => add(line, b" shares"),
         Answer::ShortBuffer => add(line, b" short buffer"),
     }
 }

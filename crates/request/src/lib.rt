@@ -110,7 +110,8 @@ pub fn finished(budget: u64, left: u64, before: u64, last: u64) -> Performed
     }
 }
 
-// The number of an answer in document 01's table; 10 is of request #102, 11 of #104, 14 of #101.
+// The number of an answer in document 01's table; 10 is of request #102, 11 of #104, 12 and 13 of #110, 14 of
+// #101.
 pub fn code_of(answer: Answer) -> u8
     ensures { λ r. ⌜ r ≡ codeOf answer ⌝ }
 {
@@ -127,6 +128,8 @@ pub fn code_of(answer: Answer) -> u8
         Answer::Cut => 9,
         Answer::ShortTable => 10,
         Answer::FormerVersion => 11,
+        Answer::Foreign => 12,
+        Answer::Shares => 13,
         Answer::ShortBuffer => 14,
     }
 }

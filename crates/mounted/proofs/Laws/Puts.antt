@@ -14,7 +14,7 @@ use Rattle.model.specs.State.{entriesIn, holds, view}
 use Rattle.model.specs.Answers.{codeOf, lengthOk, put, performed}
 use Rattle.model.specs.Sequences.{among}
 use Rattle.model.specs.declared.Answer.{Answer}
-use Rattle.model.specs.declared.Answer.the-variants.{Done, Size, Number, Length, Damaged, Unfinished, Absent as NotStored, Full, Worn, Cut, ShortTable, FormerVersion, ShortBuffer}
+use Rattle.model.specs.declared.Answer.the-variants.{Done, Size, Number, Length, Damaged, Unfinished, Absent as NotStored, Full, Worn, Cut, ShortTable, FormerVersion, Foreign, Shares, ShortBuffer}
 use Rattle.model.specs.declared.Performed.{Performed}
 use Rattle.model.specs.declared.SlotPlace.{SlotPlace}
 use Rattle.model.specs.Mounted.{Places, mountedRefusal, InStep, MountedPut}
@@ -57,6 +57,8 @@ planned-listed Worn h = (refl, λ z. omega arith, λ z. omega arith)
 planned-listed Cut h = absurd (false≢true h)
 planned-listed ShortTable h = absurd (false≢true h)
 planned-listed FormerVersion h = (refl, λ z. omega arith, λ z. omega arith)
+planned-listed Foreign h = absurd (false≢true h)
+planned-listed Shares h = absurd (false≢true h)
 planned-listed ShortBuffer h = absurd (false≢true h)
 
 module _ (N B : ℕ) (s : Image) (t : Places) (b : ℕ) (c : List ℕ) (budget : ℕ) where

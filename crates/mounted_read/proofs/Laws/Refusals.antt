@@ -12,7 +12,7 @@ use Rattle.model.specs.Laws.Chip.{size-facts}
 use Rattle.model.specs.Laws.Lists.{and-left, and-right}
 use Rattle.model.specs.Slot.{numberOk}
 use Rattle.model.specs.Answers.{codeOf, _when_, firstOf}
-use Rattle.model.specs.declared.Answer.the-variants.{Done, Size, Number, Length, Damaged, Unfinished, Absent, Full, Worn, Cut, ShortTable, FormerVersion, ShortBuffer}
+use Rattle.model.specs.declared.Answer.the-variants.{Done, Size, Number, Length, Damaged, Unfinished, Absent, Full, Worn, Cut, ShortTable, FormerVersion, Foreign, Shares, ShortBuffer}
 use Rattle.model.specs.declared.Answer.{Answer}
 use Rattle.put.proofs.Laws.Writing.{Refusing, refusing-not}
 use Rattle.model.specs.Mounted.{Places, leastPlaces, mountedRefusals, mountedRefusal}
@@ -78,4 +78,6 @@ refusing-code Worn h e = omega arith
 refusing-code Cut h e = omega arith
 refusing-code ShortTable h e = omega arith
 refusing-code FormerVersion h e = omega arith
+refusing-code Foreign h e = omega arith
+refusing-code Shares h e = omega arith
 refusing-code ShortBuffer h e = omega arith

@@ -14,7 +14,7 @@ use borrow.Author.Tests.{ne-eqb}
 use Rattle.model.specs.Answers.{codeOf}
 use Rattle.model.specs.Mounted.{Places, leastPlaces, unusable}
 use Rattle.model.specs.declared.Answer.{Answer}
-use Rattle.model.specs.declared.Answer.the-variants.{Done, Size, Number, Length, Damaged, Unfinished, Absent, Full, Worn, Cut, ShortTable, FormerVersion, ShortBuffer}
+use Rattle.model.specs.declared.Answer.the-variants.{Done, Size, Number, Length, Damaged, Unfinished, Absent, Full, Worn, Cut, ShortTable, FormerVersion, Foreign, Shares, ShortBuffer}
 use Rattle.model.proofs.Answer.{the-type}
 use Rattle.places.specs.Places.{noted}
 
@@ -41,6 +41,8 @@ other-code Worn h = refl
 other-code Cut h = refl
 other-code ShortTable h = refl
 other-code FormerVersion h = refl
+other-code Foreign h = refl
+other-code Shares h = refl
 other-code ShortBuffer h = refl
 
 -- an answer other than 9
@@ -64,6 +66,8 @@ uncut-code Worn h = refl
 uncut-code Cut h = absurd (cut-not h)
 uncut-code ShortTable h = refl
 uncut-code FormerVersion h = refl
+uncut-code Foreign h = refl
+uncut-code Shares h = refl
 uncut-code ShortBuffer h = refl
 
 module _ (t : Places) (b place : ℕ) (a : Answer) where

@@ -123,6 +123,24 @@ slice-aggregate-add-13 c = search needs
 add-requires-13 : tie.Need-add-requires-13
 add-requires-13 c κs = search needs
 
+enum-told-14 : tie.Need-enum-told-14
+enum-told-14 c = search needs
+
+slice-aggregate-add-14 : tie.Need-slice-aggregate-add-14
+slice-aggregate-add-14 c = search needs
+
+add-requires-14 : tie.Need-add-requires-14
+add-requires-14 c κs = search needs
+
+enum-told-15 : tie.Need-enum-told-15
+enum-told-15 c = search needs
+
+slice-aggregate-add-15 : tie.Need-slice-aggregate-add-15
+slice-aggregate-add-15 c = search needs
+
+add-requires-15 : tie.Need-add-requires-15
+add-requires-15 c κs = search needs
+
 returns : tie.Need-returns
 unfolding text reason
 returns c = rw (c .before .before .enum-told .given .1) (c .add .ensures, omega arith)
@@ -175,6 +193,14 @@ returns-13 : tie.Need-returns-13
 unfolding text reason
 returns-13 c = rw (c .before .before .enum-told13 .given .1) (c .add13 .ensures, omega arith)
 
+returns-14 : tie.Need-returns-14
+unfolding text reason
+returns-14 c = rw (c .before .before .enum-told14 .given .1) (c .add14 .ensures, omega arith)
+
+returns-15 : tie.Need-returns-15
+unfolding text reason
+returns-15 c = rw (c .before .before .enum-told15 .given .1) (c .add15 .ensures, omega arith)
+
 pub add-reason-spec : {M : Type 1} → statement M
 add-reason-spec =
     tie.close
@@ -218,6 +244,12 @@ add-reason-spec =
     enum-told-13
     slice-aggregate-add-13
     add-requires-13
+    enum-told-14
+    slice-aggregate-add-14
+    add-requires-14
+    enum-told-15
+    slice-aggregate-add-15
+    add-requires-15
     returns
     returns-2
     returns-3
@@ -230,4 +262,6 @@ add-reason-spec =
     returns-10
     returns-11
     returns-12
-    returns-13)
+    returns-13
+    returns-14
+    returns-15)

@@ -1,0 +1,2 @@
+-- What tenants can rely on, and its proof.
+pub mod Law
