@@ -2,8 +2,9 @@ use core::error::Error;
 use core::fmt;
 
 /// What a request answers. The numbers are those of document 01, "What comes back", and of the later
-/// requests. Where several apply, the store gives the smallest; but 10 comes right after 1, and 11
-/// right after 5. 10 is for the mounted form alone, 14 for the account and the salvage.
+/// requests. Where several apply, the store gives the smallest; but 10 and 13 come right after 1, 12
+/// right after 2, and 11 right after 5. 10 is for the mounted form alone, 12 and 13 for a
+/// [`Tenant`](crate::Tenant), 14 for the account, the salvage and a tenant's read.
 #[derive(Clone, Copy, Debug, PartialEq, Eq, PartialOrd, Ord, Hash)]
 #[repr(u8)]
 pub enum Answer {
@@ -27,7 +28,7 @@ pub enum Answer {
     Absent = 6,
     /// 7: a put of a block that is not stored while [`Geometry::capacity`](crate::Geometry::capacity)
     /// blocks are, or a [move](crate::Geometry::move_to) or [rebuild](crate::Geometry::rebuild) of more
-    /// blocks than the target's capacity.
+    /// blocks than the target's capacity. For a [`Tenant`](crate::Tenant): its own quota is used.
     Full = 7,
     /// 8: the put needs a new segment, and the chip is worn, in one of two cases: the largest
     /// number that the put would give a segment, divided by the number of segments (the whole
@@ -47,8 +48,15 @@ pub enum Answer {
     /// to. To go on writing, [move](crate::Geometry::move_to) it to a second buffer, of the same
     /// geometry or another: that one is of version 2 and has all its records. A format loses them.
     FormerVersion = 11,
-    /// 14: the buffer is too short for the text of an account or a salvage. It is untouched, and the
-    /// length is 0.
+    /// 12: the block is not in the range of the [`Tenant`](crate::Tenant) that asks, or there is no
+    /// tenant of that number.
+    Foreign = 12,
+    /// 13: the list of [`Share`](crate::Share)s breaks a rule: more than 40 tenants, a range that is
+    /// empty or has a number that is no block's, two that overlap, or quotas that add up to more than
+    /// [`Geometry::capacity`](crate::Geometry::capacity).
+    Shares = 13,
+    /// 14: the buffer is too short for the text of an account or a salvage, or for the contents that a
+    /// [`Tenant`](crate::Tenant) reads. It is untouched, and the length is 0.
     ShortBuffer = 14,
 }
 
@@ -66,7 +74,7 @@ const BY_NUMBER: [Option<Answer>; 256] = {
 
 impl Answer {
     /// All answers by rising number.
-    pub const ALL: [Answer; 13] = [
+    pub const ALL: [Answer; 15] = [
         Answer::Done,
         Answer::Size,
         Answer::Number,
@@ -79,6 +87,8 @@ impl Answer {
         Answer::Cut,
         Answer::ShortTable,
         Answer::FormerVersion,
+        Answer::Foreign,
+        Answer::Shares,
         Answer::ShortBuffer,
     ];
 
@@ -97,15 +107,15 @@ impl Answer {
     /// use qanbillox::Answer;
     /// assert_eq!(Answer::from_number(7), Some(Answer::Full));
     /// assert_eq!(Answer::from_number(11), Some(Answer::FormerVersion));
-    /// assert_eq!(Answer::from_number(12), None);
+    /// assert_eq!(Answer::from_number(15), None);
     /// ```
     #[inline]
     pub const fn from_number(number: u8) -> Option<Answer> {
         BY_NUMBER[number as usize]
     }
 
-    /// Whether this is a refusal, 1 to 8, 10, 11 or 14. A refused request has changed no byte, of the
-    /// image or of a buffer lent for text.
+    /// Whether this is a refusal, 1 to 8 or 10 to 14. A refused request has changed no byte, of the
+    /// image or of a buffer lent for text or contents.
     pub const fn is_refusal(self) -> bool {
         !matches!(self, Answer::Done | Answer::Cut)
     }
@@ -126,7 +136,9 @@ impl fmt::Display for Answer {
             Answer::Cut => "step budget spent",
             Answer::ShortTable => "table of places too short",
             Answer::FormerVersion => "image of a former version: no puts",
-            Answer::ShortBuffer => "buffer too short for the text",
+            Answer::Foreign => "another tenant's block, or no such tenant",
+            Answer::Shares => "list of shares broken",
+            Answer::ShortBuffer => "buffer too short",
         })
     }
 }
@@ -142,17 +154,17 @@ mod tests {
         for number in 0..=u8::MAX {
             match Answer::from_number(number) {
                 Some(answer) => assert_eq!(answer.number(), number),
-                None => assert!(matches!(number, 12 | 13) || number > 14),
+                None => assert!(number > 14),
             }
         }
         let numbers = Answer::ALL.map(Answer::number);
-        assert_eq!(numbers, [0, 1, 2, 3, 4, 5, 6, 7, 8, 9, 10, 11, 14]);
+        assert_eq!(numbers, [0, 1, 2, 3, 4, 5, 6, 7, 8, 9, 10, 11, 12, 13, 14]);
     }
 
     #[test]
     fn done_and_cut_alone_are_no_refusals() {
         for answer in Answer::ALL {
-            let refusal = matches!(answer.number(), 1..=8 | 10 | 11 | 14);
+            let refusal = matches!(answer.number(), 1..=8 | 10..=14);
             assert_eq!(answer.is_refusal(), refusal);
         }
     }

@@ -21,6 +21,8 @@
 //! - [`Geometry::salvage_into`] and `Geometry::salvage` say in the same way what can still be found in
 //!   a damaged image, and [`Geometry::rebuild`] builds a fresh image of it. They promise nothing of
 //!   what was acknowledged.
+//! - [`Geometry::tenant`] makes the view of one [`Tenant`], by a list of [`Share`]s: its own blocks,
+//!   up to its quota, and nothing of what others store.
 //! - [`Answer`] is what comes back, with the numbers of document 01.
 //! - [`Outcome`] has the count of flash steps done, and [`Read`] the contents, borrowed from the
 //!   image.
@@ -104,6 +106,7 @@ mod moving;
 mod request;
 mod salvage;
 mod sys;
+mod tenant;
 
 pub use account::Account;
 pub use answer::Answer;
@@ -112,3 +115,4 @@ pub use geometry::{Geometry, MAX_CONTENTS, PAGE};
 pub use mounted::{Mounted, PLACES};
 pub use request::{Block, Outcome, Read, Request, UNLIMITED};
 pub use salvage::Salvage;
+pub use tenant::{Share, Tenant, MAX_TENANTS};

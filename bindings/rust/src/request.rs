@@ -101,7 +101,7 @@ impl<'a> Read<'a> {
 #[inline]
 pub(crate) fn unpack_answer(packed: u64) -> Answer {
     // The library is proved to answer these; another number means a library of another version.
-    Answer::from_number((packed & 0xFF) as u8).expect("an answer from 0 to 11, or 14")
+    Answer::from_number((packed & 0xFF) as u8).expect("an answer from 0 to 14")
 }
 
 /// The requests. Each works on an image that the caller lends for the call; the store keeps nothing

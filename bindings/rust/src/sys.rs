@@ -147,6 +147,46 @@ extern "C" {
         budget: u64,
     ) -> u64;
 
+    /// The answer.
+    pub fn qbx_share_put(
+        image: *mut u8,
+        image_len: usize,
+        segments: usize,
+        slots: usize,
+        shares: *const u32,
+        shares_len: usize,
+        tenant: u32,
+        block: u16,
+        contents: *const u8,
+        contents_len: usize,
+    ) -> u64;
+
+    /// The answer.
+    pub fn qbx_share_delete(
+        image: *mut u8,
+        image_len: usize,
+        segments: usize,
+        slots: usize,
+        shares: *const u32,
+        shares_len: usize,
+        tenant: u32,
+        block: u16,
+    ) -> u64;
+
+    /// Answer + 256 × length of the contents.
+    pub fn qbx_share_read(
+        image: *const u8,
+        image_len: usize,
+        segments: usize,
+        slots: usize,
+        shares: *const u32,
+        shares_len: usize,
+        tenant: u32,
+        block: u16,
+        contents: *mut u8,
+        contents_len: usize,
+    ) -> u64;
+
     /// 1 if every byte is 255, otherwise 0; + 256 × groups of eight looked at.
     pub fn qbx_is_blank(bytes: *const u8, bytes_len: usize) -> u64;
 }

@@ -55,6 +55,14 @@ mod salvage_reference;
 mod salvage_samples;
 mod salvage_sources;
 mod sequences;
+#[cfg(qbx_lib)]
+mod shares_binding;
+mod shares_cuts;
+mod shares_harness;
+mod shares_images;
+mod shares_lists;
+mod shares_reference;
+mod shares_runs;
 mod step_lists;
 #[cfg(qbx_lib)]
 #[allow(dead_code)]

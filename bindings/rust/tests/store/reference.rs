@@ -32,7 +32,11 @@ pub const CUT: u8 = 9;
 pub const SHORT_TABLE: u8 = 10;
 /// Request #104: a put on an image of version 1, checked after 5.
 pub const FORMER_VERSION: u8 = 11;
-/// Request #101: a lent buffer is too short for the text.
+/// Request #110: a foreign number or an unknown tenant, checked after 2.
+pub const FOREIGN: u8 = 12;
+/// Request #110: a list of shares that breaks its rules, checked after 1.
+pub const SHARES: u8 = 13;
+/// Request #101: a lent buffer is too short for the text; #110: for the contents.
 pub const SHORT_BUFFER: u8 = 14;
 
 // Status bytes of a header page
