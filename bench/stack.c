@@ -35,6 +35,10 @@ static uint8_t image[LONGEST], base[LONGEST], cut[LONGEST];
 static uint8_t text[LONGEST_TEXT], target[LONGEST];
 static uint32_t places[QBX_PLACES];
 
+/* Forty tenants, the first of whom has all the blocks that are stored here. */
+enum { NUMBERS = 3 * QBX_MOST_TENANTS };
+static uint32_t shares[NUMBERS];
+
 /* The block that the requests are about, and what is put: once there is room, that takes SLOT steps for a block that
  * is stored already. */
 enum { BLOCK = 1, OTHER = 2, SLOT = 5 + QBX_MOST_CONTENTS + 1 };
@@ -49,6 +53,7 @@ static struct {
             {"recover (c)", 0},              {"recover (d)", 0},              {"blank test", 0},
             {"mount", 0},                    {"mounted put, with room", 0},   {"mounted put, opening", 0},
             {"mounted put, compacting", 0},  {"mounted read", 0},             {"mounted delete", 0},
+            {"put by tenant", 0},            {"read by tenant", 0},           {"delete by tenant", 0},
             {"account", 0},                  {"move", 0},                     {"salvage", 0},
             {"rebuild", 0}};
 /* Those with large tables are the last rows, and each has its own limit. */
@@ -74,6 +79,9 @@ enum request {
     MOVE,
     SALVAGE,
     REBUILD,
+    SHARE_PUT,
+    SHARE_READ,
+    SHARE_DELETE,
     MOUNT,
     MOUNTED_PUT,
     MOUNTED_READ,
@@ -102,6 +110,11 @@ static void make_request(void)
     case MOVE: result = qbx_move(image, length, n, b, target, length, n, b, UINT64_MAX); break;
     case SALVAGE: result = qbx_salvage(image, length, n, b, text, sizeof text); break;
     case REBUILD: result = qbx_rebuild(image, length, n, b, target, length, n, b, UINT64_MAX); break;
+    case SHARE_PUT:
+        result = qbx_share_put(image, length, n, b, shares, NUMBERS, 1, BLOCK, contents, sizeof contents);
+        break;
+    case SHARE_READ: result = qbx_share_read(image, length, n, b, shares, NUMBERS, 1, BLOCK, text, sizeof text); break;
+    case SHARE_DELETE: result = qbx_share_delete(image, length, n, b, shares, NUMBERS, 1, BLOCK); break;
     case MOUNT: result = qbx_mount(image, length, n, b, places, QBX_PLACES); break;
     case MOUNTED_PUT:
         result = qbx_mounted_put(image, length, n, b, places, QBX_PLACES, BLOCK, contents, sizeof contents, UINT64_MAX);
@@ -225,6 +238,16 @@ static void measure_any_state(void)
     }
 }
 
+/* The first tenant's range ends where the others' begin, a number each. */
+static void share(void)
+{
+    for (uint32_t i = 0; i < QBX_MOST_TENANTS; i++) {
+        shares[3 * i] = i == 0 ? 1 : 60000 + i;
+        shares[3 * i + 1] = 60000 + i;
+        shares[3 * i + 2] = i == 0 ? (uint32_t)qbx_capacity(n, b) : 0;
+    }
+}
+
 static void measure_chip(int full_ring)
 {
     write_slots(1);
@@ -240,6 +263,9 @@ static void measure_chip(int full_ring)
     measure("mounted put, with room", MOUNTED_PUT, base);
     measure("mounted read", MOUNTED_READ, base);
     measure("mounted delete", MOUNTED_DELETE, base);
+    measure("put by tenant", SHARE_PUT, base);
+    measure("read by tenant", SHARE_READ, base);
+    measure("delete by tenant", SHARE_DELETE, base);
     measure_any_state();
     measure("move", MOVE, base);
     if (n > 2) {
@@ -249,12 +275,14 @@ static void measure_chip(int full_ring)
         measure("rebuild", REBUILD, base);
         write_slots(b);
         measure("put, opening a segment", PUT, base);
+        measure("put by tenant", SHARE_PUT, base);
         measure("mounted put, opening", MOUNTED_PUT, base);
         measure_recovery("recover (a)", SLOT + 3, 2);
     }
     if (full_ring) {
         write_slots((n - 1) * b);
         measure("put, compacting first", PUT, base);
+        measure("put by tenant", SHARE_PUT, base);
         measure("mount", MOUNT, base);
         measure("mounted put, compacting", MOUNTED_PUT, base);
         measure_recovery("recover (a)", SLOT + 3, 2);
@@ -300,6 +328,7 @@ int main(int count, char **words)
         n = chips[i].n;
         b = chips[i].b;
         length = qbx_image_length(n, b);
+        share();
         measure_chip(chips[i].full_ring);
     }
     most = print_rows(0, REQUESTS, limits[0]);

@@ -2,7 +2,7 @@
  *
  * Every request takes the whole image, the number of segments n (2 to 255) and of slots in each b (2 to 255); a move
  * and a rebuild take these of two images.
- * Any arguments get an answer from the table below; a refused request (1 to 8, 10, 11, 14) changes no byte, but for a
+ * Any arguments get an answer from the table below; a refused request (1 to 8, 10 to 14) changes no byte, but for a
  * mount that marks its table unusable.
  * budget is the most flash steps to take: when it is spent the request stops as if the power had gone, and
  * answers QBX_CUT. Recover before the next request then, as after any loss of power; but a format, a move or a rebuild
@@ -21,8 +21,9 @@
 extern "C" {
 #endif
 
-/* The first that applies is given, in the order 1, 10, 2 to 5, 11, 6 to 9. Only the mounted form answers 10. The
- * account answers 0 or 14, a salvage 0, 1 or 14, no other request 14.
+/* The first that applies is given, in the order 1, 10 or 13, 2, 12, 3 to 5, 11, 6 to 9, 14. Only the mounted form
+ * answers 10, only a request by tenant 12 and 13. The account answers 0 or 14, a salvage 0, 1 or 14, a read by tenant
+ * may answer 14, and no other request.
  *
  * A put is worn only if it needs a new segment, and then in two cases: the whole part of number / n, number being the
  * largest that it would give a segment, plus the tally of erases that recoveries have set about since the format, the
@@ -44,18 +45,21 @@ enum qbx_answer {
                                 the table is not usable; recover, and mount again */
     QBX_ABSENT = 6,          /* read or delete of a block that is not stored */
     QBX_FULL = 7,            /* put of a new block while (n-1)*b-1 are stored; move, rebuild of more blocks than the
-                                target holds */
+                                target holds; by tenant: of a new block while its own quota is used */
     QBX_WORN = 8,            /* put: the chip is worn, as said above */
     QBX_CUT = 9,             /* the budget ended before the steps did */
     QBX_SHORT_TABLE = 10,    /* mounted form: the table has under 65,536 entries; it is untouched */
     QBX_FORMER_VERSION = 11, /* put on an image of version 1; what to do is said above */
-    QBX_SHORT_BUFFER = 14    /* account, salvage: the buffer is too short for the text; it is untouched, and the length
-                                is 0 */
+    QBX_FOREIGN = 12,        /* by tenant: the block is not in its range, or there is no such tenant */
+    QBX_SHARES = 13,         /* by tenant: the list of shares breaks a rule */
+    QBX_SHORT_BUFFER = 14    /* account, salvage, read by tenant: the buffer is too short for the text or the contents;
+                                it is untouched, and the length is 0 */
 };
 
 #define QBX_PAGE 256u          /* bytes in a page */
 #define QBX_MOST_CONTENTS 248u /* bytes in a record at most; the least that qbx_put takes is 1 */
 #define QBX_PLACES 65536u      /* entries in a table of places at least */
+#define QBX_MOST_TENANTS 40u   /* tenants in a list of shares at most */
 
 /* The bytes of an image of this geometry. */
 static inline size_t qbx_image_length(size_t n, size_t b) { return n * (b + 1) * QBX_PAGE; }
@@ -163,7 +167,8 @@ uint64_t qbx_move(const uint8_t *source, size_t source_length, size_t n, size_t 
  * stack: the tables that put the blocks in order are there. */
 uint64_t qbx_account(const uint8_t *image, size_t image_length, size_t n, size_t b, uint8_t *text, size_t text_length);
 
-/* What it and qbx_salvage give beside the answer: the text's length, 0 if there is none. */
+/* What it, qbx_salvage and qbx_share_read give beside the answer: the length of the text or contents, 0 if there is
+ * none. */
 static inline size_t qbx_text_length_of(uint64_t result) { return (size_t)(result >> 8); }
 
 /* A length that no account of this geometry exceeds: as many lines as there may be, each as long as they get. */
@@ -217,6 +222,41 @@ static inline size_t qbx_salvage_length(size_t n, size_t b) {
  * takes 397,680 bytes of stack. */
 uint64_t qbx_rebuild(const uint8_t *source, size_t source_length, size_t n, size_t b,
                      uint8_t *target, size_t target_length, size_t target_n, size_t target_b, uint64_t budget);
+
+/* Shares for tenants: put, delete and read by tenant, each of whom has a range of block numbers for its own and a
+ * quota. shares has three numbers for each tenant: the first block number of its range, the last (still in it), and how
+ * many blocks of the range it may have stored; shares_length counts numbers, not tenants. tenant is its place in that
+ * list, from 1.
+ *
+ * QBX_SHARES: shares_length is no multiple of 3 or over 3 * QBX_MOST_TENANTS, a range is empty or has a number that is
+ * no block's (1 to 65,534 are), two overlap, or the quotas add up to more than qbx_capacity(n, b). No tenant at all, a
+ * quota of 0, and one larger than its range are right. QBX_FOREIGN: the block is not in this tenant's range, or there
+ * is no tenant of that number: 0 is none. So no tenant can read, write or delete another's block.
+ *
+ * A put of a block that is not stored answers QBX_FULL exactly if as many blocks of the tenant's range are stored as its
+ * quota says, or more; one that is stored can always be rewritten. All else is as qbx_put, qbx_delete and qbx_read
+ * answer. That holds of an image written only through these three, with one list, since a format; on any other the
+ * store's own QBX_FULL stands too. On such an image nothing that the others do shows in what a tenant gets, as long as
+ * nobody was answered QBX_WORN: so there is no budget, and neither a count of steps nor a place comes back. After a loss
+ * of power: qbx_recover.
+ *
+ * A put takes one pass over the image more than qbx_put, to count. Image, list and buffer must not overlap. */
+
+/* Store contents, 1 to 248 bytes. Gives the answer. */
+uint64_t qbx_share_put(uint8_t *image, size_t image_length, size_t n, size_t b,
+                       const uint32_t *shares, size_t shares_length, uint32_t tenant, uint16_t block,
+                       const uint8_t *contents, size_t contents_length);
+
+/* Forget a block. Gives the answer. */
+uint64_t qbx_share_delete(uint8_t *image, size_t image_length, size_t n, size_t b,
+                          const uint32_t *shares, size_t shares_length, uint32_t tenant, uint16_t block);
+
+/* Copy a block's contents to the front of a lent buffer, the rest of which is untouched. One that is too short for them
+ * is untouched: QBX_SHORT_BUFFER; QBX_MOST_CONTENTS bytes are always enough. Gives the answer, and the length as
+ * qbx_text_length_of tells it. */
+uint64_t qbx_share_read(const uint8_t *image, size_t image_length, size_t n, size_t b,
+                        const uint32_t *shares, size_t shares_length, uint32_t tenant, uint16_t block,
+                        uint8_t *contents, size_t contents_length);
 
 /* Whether every byte is 255, as an erase leaves it: the store's own test. It looks at groups of eight bytes, from the
  * first byte on, and stops after the first that differs; the last may be shorter. Any bytes, any length, none too. */

@@ -3,11 +3,11 @@
 //! and with its blank test by words of eight bytes.
 //!
 //!     rt staticlib qanbillox                  # at the root of the repository
-//!     cargo run --release --offline           # here; with mounted, move or salvage those tables alone
+//!     cargo run --release --offline           # here; with mounted, move, salvage or shares those tables alone
 //!
 //! One process; the three sides get the same images in turn, and their answers, steps and images
-//! are compared, and the texts of their accounts. The mounted form, the move and the salvage have two
-//! sides of their own (`mounted.rs`, `moving.rs`, `salvage.rs`). The buffer is filled from a prepared image before each
+//! are compared, and the texts of their accounts. The mounted form, the move, the salvage and puts by
+//! tenant have two sides of their own (`mounted.rs`, `moving.rs`, `salvage.rs`, `shares.rs`). The buffer is filled from a prepared image before each
 //! request, outside the time taken, so each finds it in the cache as far as it fits. The figures are
 //! medians.
 
@@ -23,6 +23,7 @@ mod pages;
 #[path = "../../bindings/rust/tests/store/prng.rs"]
 mod prng;
 mod salvage;
+mod shares;
 
 use by_bytes::reference;
 use by_words::reference as words;
@@ -38,9 +39,9 @@ fn main() {
     let words: Vec<String> = std::env::args().skip(1).collect();
     if let Some(word) = words
         .iter()
-        .find(|word| !["mounted", "move", "salvage"].contains(&word.as_str()))
+        .find(|word| !["mounted", "move", "salvage", "shares"].contains(&word.as_str()))
     {
-        eprintln!("{word} is none of the tables: mounted, move, salvage");
+        eprintln!("{word} is none of the tables: mounted, move, salvage, shares");
         std::process::exit(2);
     }
     let wanted = |part| words.is_empty() || words.iter().any(|word| word == part);
@@ -61,6 +62,10 @@ fn main() {
         salvage::reports(&[(4, 15, 401), (16, 255, 201), (255, 255, 31)]);
         println!();
         salvage::rebuilds(201);
+        println!();
+    }
+    if wanted("shares") {
+        shares::rows(201);
     }
 }
 

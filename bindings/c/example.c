@@ -1,5 +1,5 @@
 /* The store from C: a rewrite loses its power half way, and the acknowledged contents stand. Then a move to another
- * chip, what can be salvaged once that one is damaged, and the store mounted.
+ * chip, what can be salvaged once that one is damaged, the store mounted, and one of two tenants on it.
  *
  *     rt staticlib qanbillox                                        (at the root of the repository)
  *     cc -Wall -Wextra -Werror -Iinclude bindings/c/example.c target/staticlib/libqanbillox.a -o target/example
@@ -193,6 +193,54 @@ static int mounted(void)
     return wrong;
 }
 
+/* The new chip shared by two tenants: blocks 1 to 9 and two of them, blocks 10 to 19 and three. */
+static const uint32_t shares[] = {1, 9, 2, 10, 19, 3};
+
+enum { NUMBERS = sizeof shares / sizeof shares[0] };
+
+static uint64_t put_by(uint32_t tenant, uint16_t block, const char *contents)
+{
+    return qbx_share_put(target, sizeof target, NEW_SEGMENTS, NEW_SLOTS, shares, NUMBERS, tenant, block,
+                         (const uint8_t *)contents, strlen(contents));
+}
+
+static uint64_t delete_by(uint32_t tenant, uint16_t block)
+{
+    return qbx_share_delete(target, sizeof target, NEW_SEGMENTS, NEW_SLOTS, shares, NUMBERS, tenant, block);
+}
+
+/* Says what a tenant reads; returns 0 if it gets this answer and these contents. */
+static int read_by(uint32_t tenant, uint16_t block, enum qbx_answer answer, const char *contents)
+{
+    uint8_t lent[QBX_MOST_CONTENTS];
+    uint64_t result = qbx_share_read(target, sizeof target, NEW_SEGMENTS, NEW_SLOTS, shares, NUMBERS, tenant, block,
+                                     lent, sizeof lent);
+    size_t length = qbx_text_length_of(result);
+
+    printf("%-28s answer %d, '%.*s'\n", "read by tenant", (int)qbx_answer_of(result), (int)length, (const char *)lent);
+    return qbx_answer_of(result) != answer || length != strlen(contents) || memcmp(lent, contents, length) != 0;
+}
+
+/* Each has its own blocks and its own quota. Returns 0 if all is as expected. */
+static int shared(void)
+{
+    int wrong = 0;
+
+    wrong += told("format", qbx_format(target, sizeof target, NEW_SEGMENTS, NEW_SLOTS, unlimited), QBX_DONE, 24);
+    wrong += told("put by tenant 1", put_by(1, 7, "H"), QBX_DONE, 0);
+    wrong += told("put by tenant 1", put_by(1, 8, "I"), QBX_DONE, 0);
+    wrong += told("its quota is used", put_by(1, 9, "J"), QBX_FULL, 0);
+    wrong += told("a rewrite", put_by(1, 8, "K"), QBX_DONE, 0);
+    wrong += told("a foreign block", put_by(2, 7, "L"), QBX_FOREIGN, 0);
+    wrong += told("no such tenant", put_by(0, 7, "L"), QBX_FOREIGN, 0);
+    wrong += told("put by tenant 2", put_by(2, 10, "M"), QBX_DONE, 0);
+    wrong += read_by(2, 8, QBX_FOREIGN, "");
+    wrong += read_by(1, 8, QBX_DONE, "K");
+    wrong += told("delete by tenant 1", delete_by(1, 8), QBX_DONE, 0);
+    wrong += read_by(1, 8, QBX_ABSENT, "");
+    return wrong;
+}
+
 int main(void)
 {
     int wrong = 0;
@@ -217,5 +265,6 @@ int main(void)
     wrong += moved();
     wrong += salvaged();
     wrong += mounted();
+    wrong += shared();
     return wrong != 0;
 }

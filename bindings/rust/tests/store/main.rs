@@ -61,6 +61,7 @@ mod shares_cuts;
 mod shares_harness;
 mod shares_images;
 mod shares_lists;
+mod shares_plain;
 mod shares_reference;
 mod shares_runs;
 mod step_lists;

@@ -1,9 +1,11 @@
-//! The layer under test (request #110): each request runs on the reference and, if it is linked, on the
-//! library, with a copy of the same image and buffer, and everything that comes back is compared.
+//! The layer under test (request #110): each request runs on the reference, a put also on the plain
+//! implementation, and, if it is linked, all on the library, with a copy of the same image and buffer,
+//! and everything that comes back is compared.
 
 use crate::harness::Store;
 use crate::prng::Rng;
 use crate::reference::*;
+use crate::shares_plain as plain;
 use crate::shares_reference::{self as shares, Asked, Share, Told};
 
 /// A list of shares as the numbers that are handed over.
@@ -50,6 +52,15 @@ pub fn ask(
     );
     if told.code != DONE {
         assert!(before == image, "a refused request changes no byte");
+    }
+    if let Asked::Put { block, contents } = asked {
+        let mut copy = before.clone();
+        let code = plain::put_by(&mut copy, g, list, tenant, *block, contents);
+        assert_eq!(
+            code, told.code,
+            "{asked:?} of tenant {tenant} by {list:?}, {g:?}"
+        );
+        assert!(copy == image, "the plain one leaves another image");
     }
     #[cfg(qbx_lib)]
     library::compare(before, image, g, list, tenant, asked, &told);
