@@ -61,11 +61,32 @@ pub fn rows(runs: usize) {
         code,
     };
     let puts = [
-        put("a rewrite with room", &roomy[..], &most[..], 20, 1_900, DONE),
+        put(
+            "a rewrite with room",
+            &roomy[..],
+            &most[..],
+            20,
+            1_900,
+            DONE,
+        ),
         put("a new block with room", &roomy, &most, 40, 3_840, DONE),
-        put("a rewrite, compacting first", &crowded, &most, 20, 1_900, DONE),
+        put(
+            "a rewrite, compacting first",
+            &crowded,
+            &most,
+            20,
+            1_900,
+            DONE,
+        ),
         put("a rewrite, the quota used", &roomy, &less, 20, 1_900, DONE),
-        put("a new block, the quota used", &roomy, &less, 40, 3_840, FULL),
+        put(
+            "a new block, the quota used",
+            &roomy,
+            &less,
+            40,
+            3_840,
+            FULL,
+        ),
     ];
     print_heads("put by one of 40, N=16, B=255", "answer");
     let times: Vec<_> = puts.iter().map(|put| row(put, runs)).collect();
@@ -112,7 +133,9 @@ fn plain_put(image: &mut [u8], list: &[u32], tenant: u32, block: u16) -> u8 {
 fn library_put(image: &mut [u8], shares: &[Share], tenant: u32, block: u16) -> u8 {
     let Geometry { n, b } = black_box(CHIP);
     let chip = typed(reference::Geometry { n, b });
-    let done = chip.tenant(image, shares, tenant).put(Block(block), &CONTENTS);
+    let done = chip
+        .tenant(image, shares, tenant)
+        .put(Block(block), &CONTENTS);
     done.err().unwrap_or(Answer::Done).number()
 }
 

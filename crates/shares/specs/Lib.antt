@@ -1,3 +1,4 @@
--- The definitions, and what they come to.
+-- The definitions, and what they come to on small chips.
 pub mod Shares
 pub mod Layer
+pub mod Instances
