@@ -3,3 +3,5 @@ pub mod Law
 pub mod Live
 pub mod Owners
 pub mod Codes
+pub mod Meeting
+pub mod Turns
