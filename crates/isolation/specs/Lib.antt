@@ -5,3 +5,5 @@ pub mod Owners
 pub mod Codes
 pub mod Meeting
 pub mod Turns
+pub mod Within
+pub mod Images
