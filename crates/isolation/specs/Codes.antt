@@ -69,6 +69,11 @@ module _ (N B : ℕ) (ns : List ℕ) (s : Image) (a : ℕ) where
   unfolding bounds
   bound-other b = four-other (rightSize N B s) (sharesOk N B ns) (numberOk b) (owns (sharesOf ns) a b)
 
+  -- images of one size are bound alike
+  pub bound-same : (r : Image) (b : ℕ) → rightSize N B s ≡ rightSize N B r → bound N B ns s a b ≡ bound N B ns r a b
+  unfolding bounds
+  bound-same r b e = ap (λ (z : Bool). firstOf (four z (sharesOk N B ns) (numberOk b) (owns (sharesOf ns) a b))) e
+
   -- the number of the first of its own rows
   abbrev pub row : Asked → ℕ
   row r = firstOf (rows (shareOf (sharesOf ns) a) (tableOf N B s) (workOf N B s (storeRequest r) .code) r)

@@ -127,14 +127,14 @@ unwritten-on (read b) h = tt
 unwritten-on (readOr b f) h = tt
 unwritten-on recover h = tt
 
-unwritten-proper : (r : Request) → Unwritten r → (t : Table) → made t r ≡ t
+unwritten-made : (r : Request) → Unwritten r → (t : Table) → made t r ≡ t
 unfolding made
-unwritten-proper format h t = absurd h
-unwritten-proper (put b c) h t = absurd h
-unwritten-proper (delete b) h t = absurd h
-unwritten-proper (read b) h t = refl
-unwritten-proper (readOr b f) h t = refl
-unwritten-proper recover h t = refl
+unwritten-made format h t = absurd h
+unwritten-made (put b c) h t = absurd h
+unwritten-made (delete b) h t = absurd h
+unwritten-made (read b) h t = refl
+unwritten-made (readOr b f) h t = refl
+unwritten-made recover h t = refl
 
 -- ---- all turns
 
@@ -151,7 +151,7 @@ through N B ns (store e ∷ ts) s u v only k (p, w, (m, d, rest)) =
     let r = e .request in
     let f = one-event N B false (request-laws N B) s m v r (may N B (request-laws N B) r (unwritten-on r (only .0))) p (k .0) (e .seen) d in
     let q = move-known (λ t. Within ns t) (board N B false) (wears N B s) r (e .seen) v (f .0) (f .1) (unwritten-on r (only .0))
-            (λ t i z. subst (λ (y : Table). Within ns y) (sym (unwritten-proper r (only .0) t)) z) (k .1) in
+            (λ t i z. subst (λ (y : Table). Within ns y) (sym (unwritten-made r (only .0) t)) z) (k .1) in
     let ih = through N B ns ts m u (f .0) (only .1) (f .2, q) rest in
     (ih .0, ih .1, λ b c shows. ⊎-elim (λ old. ⊎-elim (λ older. inl older) (λ new. absurd (subst Unwritten (new .0) (only .0))) (move-from (f .1) b c old)) (λ new. inr new) (ih .2 b c shows))
 through N B ns (tenant x o ∷ ts) s u v only k (p, (m, h, rest)) = go (turn-layered N B ns x o s m v p k h) (λ y l. through N B ns ts m u y only l rest)

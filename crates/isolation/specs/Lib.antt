@@ -7,3 +7,4 @@ pub mod Meeting
 pub mod Turns
 pub mod Within
 pub mod Images
+pub mod Replies

@@ -57,7 +57,7 @@ module _ (N B : ℕ) (ns : List ℕ) (s : Image) (a : ℕ) (r : Asked) where
   unfolding shareOutcome run
   refused-image h = ap (λ y. run B y s) (refused-steps h)
 
-  outcome-code : shareOutcome N B ns s a r .code ≡ shareCode N B ns s a r
+  pub outcome-code : shareOutcome N B ns s a r .code ≡ shareCode N B ns s a r
   unfolding shareOutcome shareWork
   outcome-code = refl
 

@@ -6,9 +6,10 @@ use mathlib.Core.Bool.{Bool, true, false, cond, _&&_, not, true≢false, false�
 use mathlib.Core.List.{List, [], _∷_}
 use native.Mathlib.Omega.{arith}
 use native.Mathlib.Decide.{ℕ-discrete}
+use lib.ListN.{length}
 use lib.Dec.{leb, eqb}
 use borrow.Author.Tests.{leb-true, leb-false}
-use Rattle.model.specs.State.{holds, distinct}
+use Rattle.model.specs.State.{holds, distinct, capacity}
 use Rattle.model.specs.Table.{Table, lookup, without, store, Agree, contentsFound}
 use Rattle.model.specs.Answers.{put, delete, read}
 use Rattle.model.specs.Laws.Tables.{agree-holds, lookup-held, found-held, absent-free, lookup-without-same, lookup-without-other, lookup-store-other}
@@ -16,7 +17,7 @@ use Rattle.crash.specs.Machine.{made}
 use Rattle.shares.specs.Shares.{Share, sharesOf, sharesOk, isTenant, shareOf, owns}
 use Rattle.shares.specs.Layer.{Asked, puts, deletes, reads, blockAsked, storeRequest, quotaUsed}
 use Rattle.isolation.specs.Live.{live-none, live-without, live-rewritten, live-added, live-elsewhere, live-same}
-use Rattle.isolation.specs.Owners.{covers, live, covers-owner, one-owner, Owned, WithinQuotas}
+use Rattle.isolation.specs.Owners.{covers, live, owner-tenant, covers-owner, one-owner, Owned, WithinQuotas, room-for-tenant}
 use Rattle.isolation.specs.Codes.{Spare}
 
 abbrev pub Within : List ℕ → Table → Type 0
@@ -25,6 +26,11 @@ Within ns t = Owned (sharesOf ns) t × WithinQuotas (sharesOf ns) t
 pub within-empty : (ns : List ℕ) → Within ns []
 unfolding holds
 within-empty ns = ((λ b h. absurd (false≢true h)), λ a h. let x = shareOf (sharesOf ns) a in omega (arith, live-none (x .first) (x .last)))
+
+-- a tenant whose quota is not used finds room
+pub tenant-room : (N B : ℕ) (ns : List ℕ) (a b : ℕ) (t : Table) → sharesOk N B ns ≡ true → Within ns t → owns (sharesOf ns) a b ≡ true → quotaUsed (shareOf (sharesOf ns) a) t ≡ false → length t < capacity N B
+unfolding quotaUsed
+tenant-room N B ns a b t right w own h = let x = shareOf (sharesOf ns) a in room-for-tenant N B ns a t right (w .0) (w .1) (owner-tenant (sharesOf ns) a b own) (leb-false (x .quota) (live x t) h)
 
 -- ---- tables that show the same
 
@@ -44,8 +50,17 @@ spare-agree x t u p q g (reads b lent) h = tt
 -- ---- an accepted request
 
 -- what another number shows was there before
-held-before : (b : ℕ) (t u : Table) → lookup b u ≡ lookup b t → holds b u ≡ true → holds b t ≡ true
+pub held-before : (b : ℕ) (t u : Table) → lookup b u ≡ lookup b t → holds b u ≡ true → holds b t ≡ true
 held-before b t u e h = found-held b t (contentsFound (lookup b u)) (sym e ∙ lookup-held b u h)
+
+pub held-same : (b : ℕ) (t u : Table) → lookup b t ≡ lookup b u → holds b t ≡ holds b u
+held-same b t u e = go (holds b t) (holds b u) refl refl
+  where
+    go : (x y : Bool) → holds b t ≡ x → holds b u ≡ y → x ≡ y
+    go true true p q = refl
+    go true false p q = absurd (true≢false (sym (held-before b u t e p) ∙ q))
+    go false true p q = absurd (true≢false (sym (held-before b t u (sym e) q) ∙ p))
+    go false false p q = refl
 
 -- a new block, while the quota is not used
 below : (x : Share) (t : Table) (b : ℕ) → (not (holds b t) && quotaUsed x t) ≡ false → holds b t ≡ false → live x t < x .quota
