@@ -112,9 +112,9 @@ asked-layered N B ns x o s m v p (k, w) d =
 
 -- a tenant's turn, answered or cut
 pub turn-layered : (N B : ℕ) (ns : List ℕ) (x : Call) (o : Seen) (s m : Image) (v : Promise) → ProperAsked (x .asked) → Layered N B ns s v → Serves N B ns x o s m
-    → ((m ≡ s) × Layered N B ns m v) ⊎ ((y : Promise) × Moves (board N B false) (wears N B s) (storeRequest (x .asked)) o v y × Layered N B ns m y × Asks N B ns x o s m)
+    → (Unacknowledged o × (m ≡ s) × Layered N B ns m v) ⊎ ((y : Promise) × Moves (board N B false) (wears N B s) (storeRequest (x .asked)) o v y × Layered N B ns m y × Asks N B ns x o s m)
 turn-layered N B ns x o s m v p k h = ⊎-elim
-    (λ i. inl (i .1, subst (λ (y : Image). Layered N B ns y v) (sym (i .1)) k))
+    (λ i. inl (i .0, i .1, subst (λ (y : Image). Layered N B ns y v) (sym (i .1)) k))
     (λ d. let a = asked-layered N B ns x o s m v p k d in inr (a .0, a .1, a .2, d))
     (meets N B ns x s o m h)
 
@@ -168,9 +168,9 @@ through N B ns (tenant x o ∷ ts) s u v only k (p, (m, h, rest)) = go (turn-lay
             inr (x .tenant, ap (λ (i : ℕ). owns (sharesOf ns) (x .tenant) i) (sym (e .1)) ∙ asks .taken-so .passed .own, inl (refl, e .0)))
         (move-from d b c shows)
 
-    go : ((m ≡ s) × Layered N B ns m v) ⊎ ((y : Promise) × Moves (board N B false) (wears N B s) (storeRequest (x .asked)) o v y × Layered N B ns m y × Asks N B ns x o s m)
+    go : (Unacknowledged o × (m ≡ s) × Layered N B ns m v) ⊎ ((y : Promise) × Moves (board N B false) (wears N B s) (storeRequest (x .asked)) o v y × Layered N B ns m y × Asks N B ns x o s m)
         → ((y : Promise) → Layered N B ns m y → (z : Promise) × Layered N B ns u z × From ns ts y z) → (z : Promise) × Layered N B ns u z × From ns (tenant x o ∷ ts) v z
-    go (inl i) ih = let a = ih v (i .1) in (a .0, a .1, later v (a .0) (a .2) (λ b c shows. inl shows))
+    go (inl i) ih = let a = ih v (i .2) in (a .0, a .1, later v (a .0) (a .2) (λ b c shows. inl shows))
     go (inr (y, d, l, asks)) ih = let a = ih y l in (a .0, a .1, later y (a .0) (a .2) (now y d asks))
 
 -- ---- the start

@@ -8,3 +8,4 @@ pub mod Turns
 pub mod Within
 pub mod Images
 pub mod Replies
+pub mod Runs

@@ -87,6 +87,7 @@ ends-whole : (N B : ℕ) (s : Image) (r : Request) → Ends N B s (length (workO
 ends-whole N B s r = ⊎-elim (λ e. e) (λ e. absurd (omega (arith, e .short))) (ends-or-stops N B s (length (workOf N B s r .steps)) r)
 
 pub record Asks (N B : ℕ) (ns : List ℕ) (x : Call) (o : Seen) (s m : Image) : Type 0 where
+  pub zero-code : shareCode N B ns s (x .tenant) (x .asked) ≡ 0
   pub taken-so : Taken N B ns s (x .tenant) (x .asked)
   pub tidy : Clean N B s
   pub does : Does N B (storeRequest (x .asked)) o s m
@@ -113,7 +114,7 @@ module _ (N B : ℕ) (ns : List ℕ) (x : Call) (s : Image) where
   meets o m h = go (eqb code 0) refl o h
     where
       asks : (q : Seen) → code ≡ 0 → Does N B (storeRequest (x .asked)) q s m → Asks N B ns x q s m
-      asks q e d = let t = taken N B ns s (x .tenant) (x .asked) e in record { taken-so = t; tidy = accepted-clean N B s (x .asked) (t .accepted); does = d }
+      asks q e d = let t = taken N B ns s (x .tenant) (x .asked) e in record { zero-code = e; taken-so = t; tidy = accepted-clean N B s (x .asked) (t .accepted); does = d }
 
       go : (t : Bool) → eqb code 0 ≡ t → (q : Seen) → Serves N B ns x q s m → (Unacknowledged q × (m ≡ s)) ⊎ Asks N B ns x q s m
       go true e (answered p) k = let z = eqb-true code 0 e in inr (asks (answered p) z (answered-so m p k z))
