@@ -9,3 +9,4 @@ pub mod Within
 pub mod Images
 pub mod Replies
 pub mod Runs
+pub mod Isolated

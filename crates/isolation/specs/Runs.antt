@@ -6,8 +6,6 @@ use mathlib.Core.Bool.{Bool, true, false, cond}
 use mathlib.Core.List.{List, [], _∷_}
 use native.Mathlib.Omega.{arith}
 use native.Mathlib.Decide.{ℕ-discrete}
-use lib.Dec.{eqb}
-use borrow.Author.Tests.{eq-eqb, ne-eqb}
 use Rattle.model.specs.Chip.{Image}
 use Rattle.model.specs.Table.{Table, lookup, Agree, tableOf}
 use Rattle.model.specs.Answers.{put, delete, read}
@@ -18,7 +16,7 @@ use Rattle.crash.specs.Demand2.{board}
 use Rattle.crash.specs.Reading.{codeSeen, settled-exact}
 use Rattle.shares.specs.Shares.{sharesOf, owns}
 use Rattle.shares.specs.Layer.{Asked, puts, deletes, reads, blockAsked, storeRequest, shareCode}
-use Rattle.isolation.specs.Law.{Call, served, replyTo, ProperAsked, Told, told, beforeWorn, requestsOf, repliesTo, AllProper, SameAsFar, Unacknowledged}
+use Rattle.isolation.specs.Law.{Call, served, replyTo, ProperAsked, Unacknowledged}
 use Rattle.isolation.specs.Owners.{one-owner}
 use Rattle.isolation.specs.Codes.{Taken}
 use Rattle.isolation.specs.Meeting.{outcome-code, Asks}
@@ -50,10 +48,10 @@ made-same r t u b h = elim (ℕ-discrete b (blockAsked r)) [
 
 module _ (N B : ℕ) (ns : List ℕ) where
   -- the image that it leaves
-  abbrev after : Image → Call → Image
+  abbrev pub after : Image → Call → Image
   after s x = served N B ns s x .image
 
-  abbrev codeTo : Image → Call → ℕ
+  abbrev pub codeTo : Image → Call → ℕ
   codeTo s x = replyTo N B ns s x .code
 
   -- the table that it leaves: the same if it is refused, else what the store's request makes of it
@@ -86,7 +84,7 @@ module _ (N B : ℕ) (ns : List ℕ) where
 
 -- ---- two runs
 
-abbrev call : ℕ → Asked → Call
+abbrev pub call : ℕ → Asked → Call
 call a q = record { tenant = a; asked = q }
 
 pub record Alike (N B : ℕ) (ns : List ℕ) (a : ℕ) (s r : Image) : Type 0 where
@@ -97,14 +95,14 @@ pub record Alike (N B : ℕ) (ns : List ℕ) (a : ℕ) (s r : Image) : Type 0 wh
   pub own : SameOwn N B ns a one two
 
 module _ (N B : ℕ) (ns : List ℕ) (a : ℕ) where
-  alike-sym : (s r : Image) → Alike N B ns a s r → Alike N B ns a r s
+  pub alike-sym : (s r : Image) → Alike N B ns a s r → Alike N B ns a r s
   alike-sym s r k = record { one = k .two; two = k .one; left = k .right; right = k .left; own = λ b h. sym (k .own b h) }
 
   tidy-of : (s : Image) (t : Table) → Layered N B ns s (settled t) → Tidy N B ns s
   tidy-of s t (k, w) = record { size = k .0; fine = k .1 .clean; second = k .1 .version; within = clean-within N B ns s (settled t) (k .1 .clean) k w }
 
   -- a request of another tenant changes none of its blocks
-  other-turn : (s r : Image) (x : Call) → ProperAsked (x .asked) → x .tenant ≢ a → Alike N B ns a s r → Alike N B ns a (after N B ns s x) r
+  pub other-turn : (s r : Image) (x : Call) → ProperAsked (x .asked) → x .tenant ≢ a → Alike N B ns a s r → Alike N B ns a (after N B ns s x) r
   other-turn s r x p n k =
       let d = turns N B ns s x (k .one) p (k .left) in
       record { one = d .0; two = k .two; left = d .1; right = k .right; own = λ b h. same (d .0) (d .2) b h ∙ k .own b h }
@@ -115,7 +113,7 @@ module _ (N B : ℕ) (ns : List ℕ) (a : ℕ) where
           ∙ made-other (x .asked) (k .one) b (λ i. n (one-owner N B ns (x .tenant) a (blockAsked (x .asked)) (q .passed .right) (q .passed .own) (subst (λ (j : ℕ). owns (sharesOf ns) a j ≡ true) i h)))
 
   -- its own request is told the same in both, and does the same to its blocks
-  own-turn : (s r : Image) (q : Asked) → ProperAsked q → Alike N B ns a s r
+  pub own-turn : (s r : Image) (q : Asked) → ProperAsked q → Alike N B ns a s r
       → codeTo N B ns s (call a q) ≢ 8 → codeTo N B ns r (call a q) ≢ 8 → (replyTo N B ns s (call a q) ≡ replyTo N B ns r (call a q)) × Alike N B ns a (after N B ns s (call a q)) (after N B ns r (call a q))
   own-turn s r q p k m n =
       let d = turns N B ns s x (k .one) p (k .left) in
