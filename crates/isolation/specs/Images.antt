@@ -39,33 +39,33 @@ use Rattle.isolation.specs.Within.{Within, within-empty, within-agree, s
 
 -- ---- what a promise says of its table
 
-abbrev pub Known : (Table → Type 0) → Promise → Type 0
-Known P (settled t) = P t
-Known P (interrupted t) = P t
-Known P unknown = ⊥
+abbrev pub Promised : (Table → Type 0) → Promise → Type 0
+Promised P (settled t) = P t
+Promised P (interrupted t) = P t
+Promised P unknown = ⊥
 
-holds-known : (P : Table → Type 0) (x : Promise) (t : Table) → Holds x t → Known P x → P t
-holds-known P (settled u) t e h = subst P e h
-holds-known P (interrupted u) t e h = subst P e h
-holds-known P unknown t e h = absurd e
+holds-promised : (P : Table → Type 0) (x : Promise) (t : Table) → Holds x t → Promised P x → P t
+holds-promised P (settled u) t e h = subst P e h
+holds-promised P (interrupted u) t e h = subst P e h
+holds-promised P unknown t e h = absurd e
 
 -- a request that keeps a property of the table keeps it of the promise
-pub move-known : (P : Table → Type 0) (C : Board) (w : Bool) (r : Request) (o : Seen) (x y : Promise) → Moves C w r o x y → OnTable r
-    → ((t : Table) → Holds x t → P t → P (made t r)) → Known P x → Known P y
+pub move-promised : (P : Table → Type 0) (C : Board) (w : Bool) (r : Request) (o : Seen) (x y : Promise) → Moves C w r o x y → OnTable r
+    → ((t : Table) → Holds x t → P t → P (made t r)) → Promised P x → Promised P y
 unfolding next
-move-known P C w r o x y m on keeps h = go x y m keeps h
+move-promised P C w r o x y m on keeps h = go x y m keeps h
   where
     after : (t : Table) → P t → P (made t r) → (u : Bool) → P (cond u (made t r) t)
     after t p q true = q
     after t p q false = p
 
-    go : (v z : Promise) → Moves C w r o v z → ((t : Table) → Holds v t → P t → P (made t r)) → Known P v → Known P z
+    go : (v z : Promise) → Moves C w r o v z → ((t : Table) → Holds v t → P t → P (made t r)) → Promised P v → Promised P z
     go v z (answers {t = t} i e) k p = after t p (k t refl p) (eqb (plainCode C w t r) 0)
     go v z (answers-again {t = t} i j e) k p = after t p (k t refl p) (eqb (plainCode C w t r) 0)
     go v z (asks-recovery i j e) k p = p
     go v z (refuses-malformed n i e) k p = p
-    go v z (not-begun t i j e) k p = holds-known P v t i p
-    go v z (wholly-done t i j e) k p = let q = holds-known P v t i p in after t q (k t i q) (eqb (plainCode C w t r) 0)
+    go v z (not-begun t i j e) k p = holds-promised P v t i p
+    go v z (wholly-done t i j e) k p = let q = holds-promised P v t i p in after t q (k t i q) (eqb (plainCode C w t r) 0)
     go v z (formats i e) k p = absurd (not-format r on i)
     go v z (format-cut i e) k p = absurd (not-format r on i)
     go v z (no-promise i) k p = p
@@ -82,7 +82,7 @@ unfolding tableOf
 clean-once N B s z h = clean-distinct (clean-view N B s z h)
 
 -- and keeps to the shares
-pub clean-within : (N B : ℕ) (ns : List ℕ) (s : Image) (x : Promise) → Clean N B s → Invariant N B false s x → Known (λ t. Within ns t) x → Within ns (tableOf N B s)
+pub clean-within : (N B : ℕ) (ns : List ℕ) (s : Image) (x : Promise) → Clean N B s → Invariant N B false s x → Promised (λ t. Within ns t) x → Within ns (tableOf N B s)
 clean-within N B ns s (settled t) h k w = let c = clean-table N B s (settled t) t h k refl in within-agree ns (tableOf N B s) t (clean-once N B s (k .0) h) (c .1) (c .0) w
 clean-within N B ns s (interrupted t) h k w = let c = clean-table N B s (interrupted t) t h k refl in within-agree ns (tableOf N B s) t (clean-once N B s (k .0) h) (c .1) (c .0) w
 clean-within N B ns s unknown h k w = absurd w
@@ -90,18 +90,18 @@ clean-within N B ns s unknown h k w = absurd w
 -- ---- one turn
 
 -- what is held was held before, or its owner put it in this turn
-abbrev From : List ℕ → List Turn → Promise → Promise → Type 0
+abbrev pub From : List ℕ → List Turn → Promise → Promise → Type 0
 From ns ts x y = (b : ℕ) (c : List ℕ) → Shows y b (present c) → Shows x b (present c) ⊎ ((a : ℕ) × (owns (sharesOf ns) a b ≡ true) × PutBy a b c ts)
 
 -- an image that keeps a promise whose table keeps to the shares
 abbrev pub Layered : ℕ → ℕ → List ℕ → Image → Promise → Type 0
-Layered N B ns s x = Invariant N B false s x × Known (λ t. Within ns t) x
+Layered N B ns s x = Invariant N B false s x × Promised (λ t. Within ns t) x
 
 asked-layered : (N B : ℕ) (ns : List ℕ) (x : Call) (o : Seen) (s m : Image) (v : Promise) → ProperAsked (x .asked) → Layered N B ns s v → Asks N B ns x o s m
     → (y : Promise) × Moves (board N B false) (wears N B s) (storeRequest (x .asked)) o v y × Layered N B ns m y
 asked-layered N B ns x o s m v p (k, w) d =
     let f = asked-moves N B false ns x o s m v p k d in
-    (f .0, f .1, (f .2, move-known (λ t. Within ns t) (board N B false) (wears N B s) (storeRequest (x .asked)) o v (f .0) (f .1) (asked-on (x .asked)) keeps w))
+    (f .0, f .1, (f .2, move-promised (λ t. Within ns t) (board N B false) (wears N B s) (storeRequest (x .asked)) o v (f .0) (f .1) (asked-on (x .asked)) keeps w))
   where
     keeps : (t : Table) → Holds v t → Within ns t → Within ns (made t (storeRequest (x .asked)))
     keeps t e q =
@@ -150,7 +150,7 @@ through N B ns [] s u v only k h = (v, subst (λ (y : Image). Layered N B ns y v
 through N B ns (store e ∷ ts) s u v only k (p, w, (m, d, rest)) =
     let r = e .request in
     let f = one-event N B false (request-laws N B) s m v r (may N B (request-laws N B) r (unwritten-on r (only .0))) p (k .0) (e .seen) d in
-    let q = move-known (λ t. Within ns t) (board N B false) (wears N B s) r (e .seen) v (f .0) (f .1) (unwritten-on r (only .0))
+    let q = move-promised (λ t. Within ns t) (board N B false) (wears N B s) r (e .seen) v (f .0) (f .1) (unwritten-on r (only .0))
             (λ t i z. subst (λ (y : Table). Within ns y) (sym (unwritten-made r (only .0) t)) z) (k .1) in
     let ih = through N B ns ts m u (f .0) (only .1) (f .2, q) rest in
     (ih .0, ih .1, λ b c shows. ⊎-elim (λ old. ⊎-elim (λ older. inl older) (λ new. absurd (subst Unwritten (new .0) (only .0))) (move-from (f .1) b c old)) (λ new. inr new) (ih .2 b c shows))

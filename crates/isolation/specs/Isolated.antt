@@ -98,3 +98,29 @@ module _ (N B : ℕ) (ns : List ℕ) (a : ℕ) where
       | no o ↦ rw (heard-other s x xs n o) (isolated xs (after N B ns s x) (ps .1) ys r (other-turn N B ns a s r x (ps .0) o k) qs (sym (asked-other x xs o) ∙ h))
     ]
   ]
+
+-- ---- runs in which nobody is told 8
+
+-- nothing is cut off
+pub none-worn : (l : List Told) → NoneWorn l → beforeWorn l ≡ l
+unfolding beforeWorn
+none-worn [] h = refl
+none-worn (y ∷ l) h = rw (ne-eqb (y .reply .code) 8 (h .0)) (ap {B = List Told} (λ z. y ∷ z) (none-worn l (h .1)))
+
+-- a reply to each request
+pub all-told : (N B : ℕ) (ns : List ℕ) (a : ℕ) (xs : List Call) (s : Image) → length (repliesTo a (told N B ns s xs)) ≡ length (requestsOf a xs)
+unfolding told repliesTo requestsOf
+all-told N B ns a [] s = refl
+all-told N B ns a (x ∷ xs) s = go (eqb a (x .tenant)) (all-told N B ns a xs (after N B ns s x))
+  where
+    go : (t : Bool) → length (repliesTo a (told N B ns (after N B ns s x) xs)) ≡ length (requestsOf a xs)
+        → length (cond t (replyTo N B ns s x ∷ repliesTo a (told N B ns (after N B ns s x) xs)) (repliesTo a (told N B ns (after N B ns s x) xs))) ≡ length (cond t (x .asked ∷ requestsOf a xs) (requestsOf a xs))
+    go true ih = ap suc ih
+    go false ih = ih
+
+-- the same as far as both go, and both as long
+pub same-all : (p q : List Reply) → SameAsFar p q → length p ≡ length q → p ≡ q
+same-all [] [] h e = refl
+same-all [] (y ∷ q) h e = absurd (omega (arith, e))
+same-all (x ∷ p) [] h e = absurd (omega (arith, e))
+same-all (x ∷ p) (y ∷ q) h e = ap₂ {C = List Reply} (λ z l. z ∷ l) (h .0) (same-all p q (h .1) (omega (arith, e)))

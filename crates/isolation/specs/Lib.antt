@@ -10,3 +10,4 @@ pub mod Images
 pub mod Replies
 pub mod Runs
 pub mod Isolated
+pub mod Theorem
