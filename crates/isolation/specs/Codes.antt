@@ -1,22 +1,25 @@
 -- The answer of the layer by its rows: what binds every request, then the rows of this one. What an accepted request passed, and when a put is answered 7.
 use Prim.Native.Nat.{ℕ, zero, suc}
 use mathlib.Core.Path.{_≡_, refl, sym, ap, _∙_}
-use mathlib.Core.Logic.{_⊎_, inl, inr, ⊎-elim}
-use mathlib.Core.Bool.{Bool, true, false, cond, _||_, _&&_, not, true≢false, false≢true}
+use mathlib.Core.Logic.{_⊎_, inl, inr}
+use mathlib.Core.Bool.{Bool, true, false, cond, _&&_, not, true≢false}
 use mathlib.Core.List.{List, [], _∷_, _++_}
 use native.Mathlib.Omega.{arith}
 use lib.ListN.{length}
-use lib.Dec.{ltb, eqb}
+use lib.Dec.{ltb, eqb, leb}
 use borrow.Author.Tests.{eqb-true, ne-eqb}
 use Rattle.model.specs.Chip.{Image, rightSize}
+use Rattle.model.specs.Header.{isFormer}
 use Rattle.model.specs.Slot.{numberOk}
-use Rattle.model.specs.State.{holds}
+use Rattle.model.specs.State.{holds, segmentsOf, state, capacity, viewOf, view}
+use Rattle.model.specs.Steps.{isWorn}
 use Rattle.model.specs.Table.{Table, lookup, contentsFound, tableOf}
-use Rattle.model.specs.Answers.{put, Refusal, _when_, firstOf, workOf}
-use Rattle.model.specs.Laws.Lists.{and-left, and-right, and-both}
+use Rattle.model.specs.Answers.{put, Refusal, _when_, firstOf, workOf, isDamaged, isUnfinished, refusals, lengthOk, isFull}
+use Rattle.bridge.specs.Accepted.{code-of}
+use Rattle.bridge.specs.Refusals.{neither}
+use Rattle.crash.specs.Sound.{Clean}
 use Rattle.shares.specs.Shares.{Share, sharesOf, sharesOk, shareOf, owns}
 use Rattle.shares.specs.Layer.{Asked, puts, deletes, reads, blockAsked, storeRequest, bounds, beforeFull, quotaUsed, rows, shareCode}
-use Rattle.isolation.specs.Law.{FullElsewhere, Reaches7, OwnQuotaUsed}
 
 -- ---- what binds every request
 
@@ -65,7 +68,7 @@ module _ (N B : ℕ) (ns : List ℕ) (s : Image) (a : ℕ) where
   unfolding bounds
   passes b h = let p = four-none (rightSize N B s) (sharesOk N B ns) (numberOk b) (owns (sharesOf ns) a b) h in record { size = p .0; right = p .1; number = p .2; own = p .3 }
 
-  bound-other : (b : ℕ) → (bound N B ns s a b ≡ 7 → ⊥) × (bound N B ns s a b ≡ 8 → ⊥)
+  pub bound-other : (b : ℕ) → (bound N B ns s a b ≡ 7 → ⊥) × (bound N B ns s a b ≡ 8 → ⊥)
   unfolding bounds
   bound-other b = four-other (rightSize N B s) (sharesOk N B ns) (numberOk b) (owns (sharesOf ns) a b)
 
@@ -128,7 +131,7 @@ taken N B ns s a r h =
 
 -- ---- 7
 
-seven : (m k : ℕ) (before : ℕ → Bool) (held used : Bool) → (m ≡ 7 → ⊥) → before 7 ≡ false → cond (eqb m 0) (cond (before k) k (cond (not held && used) 7 (cond true k 0))) m ≡ 7
+pub seven : (m k : ℕ) (before : ℕ → Bool) (held used : Bool) → (m ≡ 7 → ⊥) → before 7 ≡ false → cond (eqb m 0) (cond (before k) k (cond (not held && used) 7 (cond true k 0))) m ≡ 7
     → ((m ≡ 0) × (before k ≡ false)) × (((held ≡ false) × (used ≡ true)) ⊎ (k ≡ 7))
 seven (suc m) k before held used n e h = absurd (n (sym (stops m _) ∙ h))
 seven zero k before held used n e h = go (before k) refl held used h
@@ -139,7 +142,7 @@ seven zero k before held used n e h = go (before k) refl held used h
     go false b false true q = ((refl, b), inl (refl, refl))
     go false b false false q = ((refl, b), inr q)
 
-seven-back : (k : ℕ) (v w : Bool) → ((v ≡ false) × (w ≡ true)) ⊎ (k ≡ 7) → cond (not v && w) 7 (cond true k 0) ≡ 7
+pub seven-back : (k : ℕ) (v w : Bool) → ((v ≡ false) × (w ≡ true)) ⊎ (k ≡ 7) → cond (not v && w) 7 (cond true k 0) ≡ 7
 seven-back k v w (inl (p, q)) = rw (p, q)
 seven-back k v w (inr e) = go (not v && w)
   where
@@ -147,18 +150,26 @@ seven-back k v w (inr e) = go (not v && w)
     go true = refl
     go false = e
 
-pub full-elsewhere : FullElsewhere
-unfolding firstOf rows blockAsked storeRequest
-full-elsewhere N B ns u a b c = (there, back)
-  where
-    k : ℕ
-    k = workOf N B u (put b c) .code
+-- the store's 7: the image is clean and full
+seven-rows : (size number short damage undone former full worn : Bool)
+    → firstOf ((1 when size) ∷ (2 when number) ∷ (3 when short) ∷ (4 when damage) ∷ (5 when undone) ∷ (11 when former) ∷ (7 when full) ∷ (8 when worn) ∷ []) ≡ 7
+    → (damage ≡ false) × (undone ≡ false) × (full ≡ true)
+unfolding firstOf
+seven-rows true number short damage undone former full worn h = absurd (omega (arith, h))
+seven-rows false true short damage undone former full worn h = absurd (omega (arith, h))
+seven-rows false false true damage undone former full worn h = absurd (omega (arith, h))
+seven-rows false false false true undone former full worn h = absurd (omega (arith, h))
+seven-rows false false false false true former full worn h = absurd (omega (arith, h))
+seven-rows false false false false false true full worn h = absurd (omega (arith, h))
+seven-rows false false false false false false true worn h = (refl, refl, refl)
+seven-rows false false false false false false false true h = absurd (omega (arith, h))
+seven-rows false false false false false false false false h = absurd (omega (arith, h))
 
-    x : Share
-    x = shareOf (sharesOf ns) a
-
-    there : shareCode N B ns u a (puts b c) ≡ 7 → Reaches7 N B ns u a b c × (OwnQuotaUsed N B ns u a b ⊎ (k ≡ 7))
-    there h = seven (bound N B ns u a b) k beforeFull (holds b (tableOf N B u)) (quotaUsed x (tableOf N B u)) (bound-other N B ns u a b .0) (unfold beforeFull in refl) (sym (share-code N B ns u a (puts b c)) ∙ h)
-
-    back : Reaches7 N B ns u a b c → OwnQuotaUsed N B ns u a b ⊎ (k ≡ 7) → shareCode N B ns u a (puts b c) ≡ 7
-    back (m, e) h = share-code N B ns u a (puts b c) ∙ rw (m, e) (seven-back k (holds b (tableOf N B u)) (quotaUsed x (tableOf N B u)) h)
+pub store-full : (N B : ℕ) (s : Image) (b : ℕ) (c : List ℕ) → workOf N B s (put b c) .code ≡ 7
+    → Clean N B s × ((not (holds b (tableOf N B s)) && leb (capacity N B) (length (tableOf N B s))) ≡ true)
+unfolding refusals state view isFull tableOf
+store-full N B s b c h =
+    let v = viewOf N (segmentsOf N B s) in
+    let p = seven-rows (not (rightSize N B s)) (not (numberOk b)) (not (lengthOk (length c))) (isDamaged (state N B s)) (isUnfinished (state N B s)) (isFormer (v .version)) (isFull N B b v) (isWorn N v)
+    (sym (code-of N B s (put b c)) ∙ h) in
+    (neither (state N B s) (p .0) (p .1), p .2)

@@ -1,7 +1,7 @@
 -- Images written only through the layer since a format: what they hold or will show keeps to the shares, and who put it, through every cut and recovery.
 use Prim.Native.Nat.{ℕ}
 use mathlib.Core.Path.{_≡_, refl, sym, ap, _∙_, subst}
-use mathlib.Core.Logic.{_⊎_, inl, inr, ⊎-elim, _≢_}
+use mathlib.Core.Logic.{_⊎_, inl, inr, ⊎-elim}
 use mathlib.Core.Bool.{Bool, true, false, cond}
 use mathlib.Core.List.{List, [], _∷_}
 use native.Mathlib.Omega.{arith}
@@ -9,9 +9,9 @@ use lib.Dec.{eqb}
 use Rattle.model.specs.Chip.{Image, rightSize, run}
 use Rattle.model.specs.State.{distinct}
 use Rattle.model.specs.Steps.{formatSteps}
-use Rattle.model.specs.Table.{Table, Found, absent, present, lookup, Agree, tableOf}
-use Rattle.model.specs.Answers.{Request, format, put, delete, read, readOr, recover, workOf, outcomeOf}
-use Rattle.model.specs.Histories.{Seen, Does, wears, shown}
+use Rattle.model.specs.Table.{Table, present, Agree, tableOf}
+use Rattle.model.specs.Answers.{Request, format, put, delete, read, readOr, recover}
+use Rattle.model.specs.Histories.{Seen, wears, shown}
 use Rattle.model.specs.Laws.Chip.{run-size}
 use Rattle.model.specs.Laws.Tables.{agree-of, agree-trans}
 use Rattle.bridge.specs.Views.Shape.{clean-distinct}
@@ -21,18 +21,17 @@ use Rattle.bridge.specs.Allowance.{ends}
 use Rattle.crash.specs.Machine.{Board, plainCode, made, next, Promise, settled, interrupted, unknown, OnTable, Holds, Moves, answers, answers-again, asks-recovery, refuses-malformed, not-begun, wholly-done, formats, format-cut, no-promise}
 use Rattle.crash.specs.Demand2.{board}
 use Rattle.crash.specs.Sound.{Clean}
-use Rattle.crash.specs.Invariant.{Stores, Invariant, Follows}
+use Rattle.crash.specs.Invariant.{Invariant}
 use Rattle.crash.specs.Requests.{shown-clean, steps-format}
 use Rattle.crash.specs.Skeleton.{one-event}
 use Rattle.crash.specs.Works.{may}
 use Rattle.crash.specs.Reading.{not-format}
-use Rattle.crash.specs.ReadingRuns.{Shows, Puts, move-from}
+use Rattle.crash.specs.ReadingRuns.{Shows, move-from}
 use Rattle.crash.specs.Starts.{formatted-stores}
 use Rattle.crash.specs.Theorem.{request-laws}
 use Rattle.shares.specs.Shares.{sharesOf, shareOf, owns}
 use Rattle.shares.specs.Layer.{Asked, puts, deletes, reads, blockAsked, storeRequest}
 use Rattle.isolation.specs.Law.{Call, ProperAsked, Turn, tenant, store, Serves, Unwritten, OnlyLayer, Through, formatted, FinishedFormat, PutBy, Unacknowledged}
-use Rattle.isolation.specs.Codes.{Taken, Spare}
 use Rattle.isolation.specs.Meeting.{Asks, meets}
 use Rattle.isolation.specs.Turns.{asked-on, asked-moves}
 use Rattle.isolation.specs.Within.{Within, within-empty, within-agree, spare-agree, within-made}
@@ -108,7 +107,7 @@ asked-layered N B ns x o s m v p (k, w) d =
         let t-of = clean-table N B s v t (d .tidy) k e in
         let a = d .taken-so in
         within-made N B ns (a .passed .right) (x .tenant) t (t-of .1) q (x .asked) (a .passed .own)
-            (spare-agree (shareOf (sharesOf ns) (x .tenant)) (tableOf N B s) t (clean-once N B s (a .passed .size) (d .tidy)) (t-of .1) (t-of .0) (x .asked) (a .spare))
+        (spare-agree (shareOf (sharesOf ns) (x .tenant)) (tableOf N B s) t (clean-once N B s (a .passed .size) (d .tidy)) (t-of .1) (t-of .0) (x .asked) (a .spare))
 
 -- a tenant's turn, answered or cut
 pub turn-layered : (N B : ℕ) (ns : List ℕ) (x : Call) (o : Seen) (s m : Image) (v : Promise) → ProperAsked (x .asked) → Layered N B ns s v → Serves N B ns x o s m
@@ -151,7 +150,7 @@ through N B ns (store e ∷ ts) s u v only k (p, w, (m, d, rest)) =
     let r = e .request in
     let f = one-event N B false (request-laws N B) s m v r (may N B (request-laws N B) r (unwritten-on r (only .0))) p (k .0) (e .seen) d in
     let q = move-promised (λ t. Within ns t) (board N B false) (wears N B s) r (e .seen) v (f .0) (f .1) (unwritten-on r (only .0))
-            (λ t i z. subst (λ (y : Table). Within ns y) (sym (unwritten-made r (only .0) t)) z) (k .1) in
+    (λ t i z. subst (λ (y : Table). Within ns y) (sym (unwritten-made r (only .0) t)) z) (k .1) in
     let ih = through N B ns ts m u (f .0) (only .1) (f .2, q) rest in
     (ih .0, ih .1, λ b c shows. ⊎-elim (λ old. ⊎-elim (λ older. inl older) (λ new. absurd (subst Unwritten (new .0) (only .0))) (move-from (f .1) b c old)) (λ new. inr new) (ih .2 b c shows))
 through N B ns (tenant x o ∷ ts) s u v only k (p, (m, h, rest)) = go (turn-layered N B ns x o s m v p k h) (λ y l. through N B ns ts m u y only l rest)
@@ -165,7 +164,7 @@ through N B ns (tenant x o ∷ ts) s u v only k (p, (m, h, rest)) = go (turn-lay
     now y d asks b c shows = ⊎-elim
         (λ old. inl old)
         (λ new. let e = puts-asked (x .asked) b c (new .0) in
-            inr (x .tenant, ap (λ (i : ℕ). owns (sharesOf ns) (x .tenant) i) (sym (e .1)) ∙ asks .taken-so .passed .own, inl (refl, e .0)))
+        inr (x .tenant, ap (λ (i : ℕ). owns (sharesOf ns) (x .tenant) i) (sym (e .1)) ∙ asks .taken-so .passed .own, inl (refl, e .0)))
         (move-from d b c shows)
 
     go : (Unacknowledged o × (m ≡ s) × Layered N B ns m v) ⊎ ((y : Promise) × Moves (board N B false) (wears N B s) (storeRequest (x .asked)) o v y × Layered N B ns m y × Asks N B ns x o s m)

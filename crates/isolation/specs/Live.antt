@@ -1,18 +1,18 @@
 -- Laws of the count of live blocks in a range of numbers: by what a table shows in the range, with a block taken out, with a block stored.
-use Prim.Native.Nat.{ℕ, zero, suc, _+_, _≤_}
+use Prim.Native.Nat.{ℕ, suc, _+_, _≤_}
 use mathlib.Core.Path.{_≡_, refl, sym, ap, _∙_}
 use mathlib.Core.Logic.{_≢_}
-use mathlib.Core.Bool.{Bool, true, false, cond, _||_, _&&_, not, true≢false, false≢true, and-eq-true-iff}
+use mathlib.Core.Bool.{Bool, true, false, cond, _&&_, not, true≢false, and-eq-true-iff}
 use mathlib.Core.List.{List, [], _∷_}
 use native.Mathlib.Omega.{arith}
 use native.Mathlib.Decide.{ℕ-discrete}
 use lib.Dec.{leb, eqb}
-use borrow.Author.Tests.{eqb-true, eqb-false, eq-eqb, ne-eqb, not-true}
+use borrow.Author.Tests.{eqb-true, eq-eqb, ne-eqb, not-true}
 use Rattle.model.specs.Lists.{count}
 use Rattle.model.specs.Slot.{Entry}
 use Rattle.model.specs.State.{holds, distinct, copies}
-use Rattle.model.specs.Table.{Table, Found, absent, present, lookup, without, store, liveBetween}
-use Rattle.model.specs.Laws.Tables.{copies-cons, copies-none, distinct-copies, held-copies, absent-copies, lookup-absent, lookup-held, absent-free, found-held, lookup-without-same, lookup-without-other, without-absent, distinct-without}
+use Rattle.model.specs.Table.{Table, lookup, without, store, liveBetween}
+use Rattle.model.specs.Laws.Tables.{copies-cons, copies-none, distinct-copies, held-copies, lookup-absent, absent-free, found-held, lookup-without-same, lookup-without-other, distinct-without}
 
 module _ (first last : ℕ) where
   -- a number of the range

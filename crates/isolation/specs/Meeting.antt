@@ -1,27 +1,25 @@
--- A tenant's request as the store meets it: it does nothing there, or it is what the store's own request does, of an own block on a clean image. Foreign blocks are refused.
-use Prim.Native.Nat.{ℕ, zero, suc}
+-- A tenant's request as the store meets it: it does nothing there, or it is what the store's own request does, of an own block on a clean image.
+use Prim.Native.Nat.{ℕ}
 use mathlib.Core.Path.{_≡_, refl, sym, ap, ap₂, _∙_}
-use mathlib.Core.Logic.{_⊎_, inl, inr, ⊎-elim, _≢_}
-use mathlib.Core.Bool.{Bool, true, false, cond, not}
-use mathlib.Core.List.{List, [], _∷_}
+use mathlib.Core.Logic.{_⊎_, inl, inr, ⊎-elim}
+use mathlib.Core.Bool.{Bool, true, false}
+use mathlib.Core.List.{List, []}
 use native.Mathlib.Omega.{arith}
 use lib.ListN.{length}
 use lib.Dec.{eqb}
-use borrow.Author.Tests.{eqb-true, eqb-false, ne-eqb}
-use Rattle.model.specs.Chip.{Image, Step, Cut, rightSize, run}
-use Rattle.model.specs.Slot.{numberOk}
+use borrow.Author.Tests.{eqb-true, eqb-false}
+use Rattle.model.specs.Chip.{Image, rightSize, run}
 use Rattle.model.specs.State.{segmentsOf, state}
-use Rattle.model.specs.Table.{contentsFound, lookup, tableOf}
-use Rattle.model.specs.Answers.{Request, put, delete, read, firstOf, isDamaged, isUnfinished, absentRefusals, refusals, workOf, outcomeOf, pieceRead}
+use Rattle.model.specs.Table.{tableOf}
+use Rattle.model.specs.Answers.{Request, put, delete, read, firstOf, isDamaged, isUnfinished, absentRefusals, refusals, workOf}
 use Rattle.model.specs.Histories.{Reply, bytesRead, replyOf, Seen, answered, lost, Does}
 use Rattle.bridge.specs.Accepted.{code-of, size-passed}
-use Rattle.bridge.specs.Refusals.{none-applies, neither}
 use Rattle.bridge.specs.Allowance.{Ends, ends-or-stops}
+use Rattle.bridge.specs.Refusals.{none-applies, neither}
 use Rattle.crash.specs.Sound.{Clean}
 use Rattle.crash.specs.Theorem.{request-laws}
-use Rattle.shares.specs.Shares.{sharesOf, sharesOk, owns}
-use Rattle.shares.specs.Layer.{Asked, puts, deletes, reads, blockAsked, storeRequest, bounds, rows, shareCode, shareWork, contentsAsked, Shared, shareOutcome}
-use Rattle.isolation.specs.Law.{Call, served, replyTo, Serves, Unacknowledged, ForeignRefused}
+use Rattle.shares.specs.Layer.{Asked, puts, deletes, reads, storeRequest, shareCode, shareWork, contentsAsked, shareOutcome}
+use Rattle.isolation.specs.Law.{Call, served, replyTo, Serves, Unacknowledged}
 use Rattle.isolation.specs.Codes.{Taken, taken}
 
 -- ---- what the store accepts of put, delete and read, it accepts on a clean image
@@ -124,9 +122,3 @@ module _ (N B : ℕ) (ns : List ℕ) (x : Call) (s : Image) where
         j ∙ refused-image N B ns s (x .tenant) (x .asked) e,
       )
       go false e lost k = inl (tt, rw (refused-steps N B ns s (x .tenant) (x .asked) e) at k)
-
--- ---- foreign blocks
-
-pub foreign-refused : ForeignRefused
-unfolding served shareOutcome shareWork shareCode bounds firstOf run
-foreign-refused N B ns s x z right number foreign = rw (z, right, number, foreign)

@@ -1,7 +1,7 @@
 -- Laws of a list of shares: a block has one owner, and while each tenant keeps to its quota there are at most as many blocks as all quotas together.
 use Prim.Native.Nat.{ℕ, zero, suc, _+_, _-_, _%_, _≤_, _<_}
 use mathlib.Core.Path.{_≡_, refl, sym, ap, _∙_}
-use mathlib.Core.Bool.{Bool, true, false, cond, _||_, _&&_, not, true≢false, false≢true}
+use mathlib.Core.Bool.{Bool, true, false, cond, _||_, _&&_, not, true≢false}
 use mathlib.Core.List.{List, [], _∷_}
 use native.Mathlib.Omega.{arith}
 use lib.ListN.{length, getD}
@@ -13,7 +13,7 @@ use Rattle.model.specs.State.{holds, capacity}
 use Rattle.model.specs.Table.{Table, liveBetween}
 use Rattle.model.specs.Laws.Lists.{and-left, and-right, and-both, all-get}
 use Rattle.shares.specs.Shares.{Share, mostTenants, sharesOf, rangeOk, overlap, disjoint, quotaSum, sharesOk, isTenant, shareOf, owns}
-use Rattle.isolation.specs.Live.{inRange, live-none, live-cons}
+use Rattle.isolation.specs.Live.{inRange, live-cons}
 
 -- the share at a place, and what nobody asks for behind the last
 abbrev nobody : Share

@@ -1,29 +1,29 @@
 -- What a tenant is told on two clean images of the layer that hold the same of its own blocks is the same, but for 8.
-use Prim.Native.Nat.{ℕ, zero, suc, _<_}
+use Prim.Native.Nat.{ℕ, zero, suc}
 use mathlib.Core.Path.{_≡_, refl, sym, ap, ap₂, _∙_}
 use mathlib.Core.Logic.{_≢_}
-use mathlib.Core.Bool.{Bool, true, false, cond, _||_, _&&_, not, true≢false, false≢true}
-use mathlib.Core.List.{List, [], _∷_}
+use mathlib.Core.Bool.{Bool, true, false, cond, _||_, _&&_, not, false≢true}
+use mathlib.Core.List.{List, []}
 use native.Mathlib.Omega.{arith}
 use lib.ListN.{length}
 use lib.Dec.{ltb, leb, eqb}
 use borrow.Author.Tests.{lt-ltb, eqb-true, ne-eqb}
 use Rattle.model.specs.Chip.{Image, rightSize}
 use Rattle.model.specs.Slot.{numberOk}
-use Rattle.model.specs.State.{holds, distinct, capacity}
+use Rattle.model.specs.State.{holds, capacity}
 use Rattle.model.specs.Table.{Table, lookup, contentsFound, tableOf}
-use Rattle.model.specs.Answers.{put, delete, read, lengthOk, firstOf, workOf}
-use Rattle.model.specs.Histories.{Reply, wears}
+use Rattle.model.specs.Answers.{lengthOk, firstOf, workOf}
+use Rattle.model.specs.Histories.{wears}
 use Rattle.crash.specs.Machine.{malformed, codeOnTable, plainCode}
 use Rattle.crash.specs.Demand2.{board}
 use Rattle.crash.specs.Sound.{Clean, formerIn}
 use Rattle.crash.specs.Requests.{code-clean}
-use Rattle.shares.specs.Shares.{Share, sharesOf, sharesOk, shareOf, owns}
+use Rattle.shares.specs.Shares.{Share, sharesOf, shareOf, owns}
 use Rattle.shares.specs.Layer.{Asked, puts, deletes, reads, blockAsked, storeRequest, beforeFull, quotaUsed, rows, shareCode, shareWork, contentsAsked, shareOutcome}
-use Rattle.isolation.specs.Law.{Call, served, replyTo}
+use Rattle.isolation.specs.Law.{served, replyTo}
 use Rattle.isolation.specs.Live.{live-same}
-use Rattle.isolation.specs.Owners.{owner-tenant, owner-covers, covers-owner}
-use Rattle.isolation.specs.Codes.{bound, Passes, passes, bound-same, row, share-code, Taken, taken}
+use Rattle.isolation.specs.Owners.{owner-tenant, covers-owner}
+use Rattle.isolation.specs.Codes.{bound, Passes, passes, bound-same, row, share-code, taken}
 use Rattle.isolation.specs.Meeting.{outcome-code}
 use Rattle.isolation.specs.Turns.{asked-on}
 use Rattle.isolation.specs.Within.{Within, tenant-room, held-same}

@@ -1,15 +1,14 @@
 -- Two runs without a cut, request by request: each keeps an image of the layer, and one tenant's blocks and replies stay the same in both.
-use Prim.Native.Nat.{ℕ, zero, suc}
-use mathlib.Core.Path.{_≡_, refl, sym, ap, ap₂, _∙_, subst}
-use mathlib.Core.Logic.{_⊎_, inl, inr, ⊎-elim, _≢_}
-use mathlib.Core.Bool.{Bool, true, false, cond}
-use mathlib.Core.List.{List, [], _∷_}
+use Prim.Native.Nat.{ℕ}
+use mathlib.Core.Path.{_≡_, refl, sym, ap, _∙_, subst}
+use mathlib.Core.Logic.{_⊎_, inl, inr, _≢_}
+use mathlib.Core.Bool.{true, false}
+use mathlib.Core.List.{List}
 use native.Mathlib.Omega.{arith}
 use native.Mathlib.Decide.{ℕ-discrete}
 use Rattle.model.specs.Chip.{Image}
-use Rattle.model.specs.Table.{Table, lookup, Agree, tableOf}
-use Rattle.model.specs.Answers.{put, delete, read}
-use Rattle.model.specs.Histories.{Reply, Seen, answered, wears}
+use Rattle.model.specs.Table.{Table, lookup, tableOf}
+use Rattle.model.specs.Histories.{Reply, answered, wears}
 use Rattle.model.specs.Laws.Tables.{lookup-without-same, lookup-without-other, lookup-store-same, lookup-store-other}
 use Rattle.crash.specs.Machine.{plainCode, plain, made, next, Promise, settled, Moves}
 use Rattle.crash.specs.Demand2.{board}

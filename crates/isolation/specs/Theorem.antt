@@ -1,36 +1,35 @@
 -- What tenants can rely on, proved.
 use Prim.Native.Nat.{ℕ}
 use mathlib.Core.Path.{_≡_, refl, sym, ap, _∙_, subst}
-use mathlib.Core.Logic.{_⊎_, inl, inr, ⊎-elim, _≢_}
-use mathlib.Core.Bool.{Bool, true, false, _&&_, not, true≢false}
-use mathlib.Core.List.{List, [], _∷_}
+use mathlib.Core.Logic.{_⊎_, inl, ⊎-elim, _≢_}
+use mathlib.Core.Bool.{Bool, true, false, not, true≢false}
+use mathlib.Core.List.{List, []}
 use native.Mathlib.Omega.{arith}
 use lib.ListN.{length}
 use lib.Dec.{leb}
 use borrow.Author.Tests.{leb-true, not-true}
-use Rattle.model.specs.Chip.{Image, rightSize}
-use Rattle.model.specs.Header.{isFormer}
-use Rattle.model.specs.Slot.{numberOk}
-use Rattle.model.specs.State.{segmentsOf, viewOf, view, entriesIn, holds, capacity, state}
-use Rattle.model.specs.Steps.{isWorn}
+use Rattle.model.specs.Chip.{Image, run}
+use Rattle.model.specs.State.{holds, capacity}
 use Rattle.model.specs.Table.{Table, present, lookup, tableOf}
-use Rattle.model.specs.Answers.{put, _when_, firstOf, isDamaged, isUnfinished, lengthOk, isFull, refusals, workOf}
-use Rattle.model.specs.Histories.{Reply, answered}
+use Rattle.model.specs.Answers.{put, firstOf, workOf}
+use Rattle.model.specs.Histories.{Reply, answered, wears, shown}
 use Rattle.model.specs.Laws.Lists.{and-left, and-right}
-use Rattle.bridge.specs.Accepted.{code-of}
-use Rattle.bridge.specs.Refusals.{neither}
 use Rattle.crash.specs.Machine.{Promise, settled, interrupted, unknown}
-use Rattle.crash.specs.Sound.{Clean}
+use Rattle.crash.specs.Demand2.{board}
+use Rattle.crash.specs.Sound.{formerIn}
+use Rattle.crash.specs.Invariant.{Stores}
+use Rattle.crash.specs.Requests.{shown-clean}
 use Rattle.crash.specs.ReadingRuns.{Shows, Known, read-shows}
-use Rattle.shares.specs.Shares.{sharesOf, shareOf, owns}
-use Rattle.shares.specs.Layer.{puts, reads, blockAsked, storeRequest, quotaUsed}
-use Rattle.isolation.specs.Law.{Call, served, replyTo, told, repliesTo, formatted, Isolation, NothingShows, Turn, OfLayer, Reaches7, OwnQuotaUsed, GuaranteedShare, PutBy, OwnContents, Unacknowledged}
+use Rattle.crash.specs.Theorem.{demand2}
+use Rattle.shares.specs.Shares.{Share, sharesOf, shareOf, owns}
+use Rattle.shares.specs.Layer.{puts, reads, blockAsked, storeRequest, quotaUsed, bounds, beforeFull, rows, shareCode, shareWork, shareOutcome}
+use Rattle.isolation.specs.Law.{Call, served, replyTo, told, repliesTo, formatted, Isolation, NothingShows, Turn, OfLayer, Reaches7, OwnQuotaUsed, GuaranteedShare, PutBy, OwnContents, Unacknowledged, ForeignRefused, LayerDemand2, OthersKept, FullElsewhere}
 use Rattle.isolation.specs.Owners.{one-owner}
-use Rattle.isolation.specs.Codes.{Taken, passes, full-elsewhere}
+use Rattle.isolation.specs.Codes.{passes, bound, share-code, bound-other, seven, seven-back, store-full}
 use Rattle.isolation.specs.Meeting.{Asks, meets}
-use Rattle.isolation.specs.Turns.{asked-moves}
+use Rattle.isolation.specs.Turns.{asked-moves, layer-history, other-shown, shows-shown}
 use Rattle.isolation.specs.Within.{Within, tenant-room}
-use Rattle.isolation.specs.Images.{Promised, clean-within, Layered, From, through, start}
+use Rattle.isolation.specs.Images.{Promised, clean-once, clean-within, Layered, From, through, start}
 use Rattle.isolation.specs.Isolated.{isolated, none-worn, all-told, same-all}
 
 -- ---- two runs
@@ -49,29 +48,22 @@ nothing-shows N B ns a s r k m xs ys h i ps qs e f g =
 
 -- ---- a guaranteed share
 
--- the store's 7: the image is clean and full
-seven-rows : (size number short damage undone former full worn : Bool)
-    → firstOf ((1 when size) ∷ (2 when number) ∷ (3 when short) ∷ (4 when damage) ∷ (5 when undone) ∷ (11 when former) ∷ (7 when full) ∷ (8 when worn) ∷ []) ≡ 7
-    → (damage ≡ false) × (undone ≡ false) × (full ≡ true)
-unfolding firstOf
-seven-rows true number short damage undone former full worn h = absurd (omega (arith, h))
-seven-rows false true short damage undone former full worn h = absurd (omega (arith, h))
-seven-rows false false true damage undone former full worn h = absurd (omega (arith, h))
-seven-rows false false false true undone former full worn h = absurd (omega (arith, h))
-seven-rows false false false false true former full worn h = absurd (omega (arith, h))
-seven-rows false false false false false true full worn h = absurd (omega (arith, h))
-seven-rows false false false false false false true worn h = (refl, refl, refl)
-seven-rows false false false false false false false true h = absurd (omega (arith, h))
-seven-rows false false false false false false false false h = absurd (omega (arith, h))
+-- on any image
+pub full-elsewhere : FullElsewhere
+unfolding firstOf rows blockAsked storeRequest
+full-elsewhere N B ns u a b c = (there, back)
+  where
+    k : ℕ
+    k = workOf N B u (put b c) .code
 
-store-full : (N B : ℕ) (s : Image) (b : ℕ) (c : List ℕ) → workOf N B s (put b c) .code ≡ 7
-    → Clean N B s × ((not (holds b (tableOf N B s)) && leb (capacity N B) (length (tableOf N B s))) ≡ true)
-unfolding refusals state view isFull tableOf
-store-full N B s b c h =
-    let v = viewOf N (segmentsOf N B s) in
-    let p = seven-rows (not (rightSize N B s)) (not (numberOk b)) (not (lengthOk (length c))) (isDamaged (state N B s)) (isUnfinished (state N B s)) (isFormer (v .version)) (isFull N B b v) (isWorn N v)
-            (sym (code-of N B s (put b c)) ∙ h) in
-    (neither (state N B s) (p .0) (p .1), p .2)
+    x : Share
+    x = shareOf (sharesOf ns) a
+
+    there : shareCode N B ns u a (puts b c) ≡ 7 → Reaches7 N B ns u a b c × (OwnQuotaUsed N B ns u a b ⊎ (k ≡ 7))
+    there h = seven (bound N B ns u a b) k beforeFull (holds b (tableOf N B u)) (quotaUsed x (tableOf N B u)) (bound-other N B ns u a b .0) (unfold beforeFull in refl) (sym (share-code N B ns u a (puts b c)) ∙ h)
+
+    back : Reaches7 N B ns u a b c → OwnQuotaUsed N B ns u a b ⊎ (k ≡ 7) → shareCode N B ns u a (puts b c) ≡ 7
+    back (m, e) h = share-code N B ns u a (puts b c) ∙ rw (m, e) (seven-back k (holds b (tableOf N B u)) (quotaUsed x (tableOf N B u)) h)
 
 -- what an image of the layer has gone through
 since : (N B : ℕ) (ns : List ℕ) (ts : List Turn) (u : Image) → OfLayer N B ns ts u → (y : Promise) × Layered N B ns u y × From ns ts (settled []) y
@@ -120,3 +112,30 @@ own-contents N B ns ts u a b lent c h e = ⊎-elim (λ i. absurd (i .0 (ap (λ (
         let shows = read-shows (f .1) b c (known (λ t. Within ns t) (y .0) (y .1 .1)) refl (ap answered e) in
         ⊎-elim (λ old. absurd (none-before b c old))
         (λ new. subst (λ (i : ℕ). PutBy i b c ts) (one-owner N B ns (new .0) a b (d .taken-so .passed .right) (new .1) (d .taken-so .passed .own)) (new .2)) (y .2 b c shows)
+
+-- ---- foreign blocks
+
+pub foreign-refused : ForeignRefused
+unfolding served shareOutcome shareWork shareCode bounds firstOf run
+foreign-refused N B ns s x z right number foreign = rw (z, right, number, foreign)
+
+pub others-kept : OthersKept
+others-kept N B ns s m x o b z y h p served foreign = ⊎-elim idle asked (meets N B ns x s o m served)
+  where
+    idle : Unacknowledged o × (m ≡ s) → lookup b (shown N B m) ≡ lookup b (tableOf N B s)
+    idle (n, e) = rw e (ap (λ (v : Table). lookup b v) (shown-clean N B s h))
+
+    stored : Stores N B (formerIn N B s) s (tableOf N B s)
+    stored = record { clean = h; version = refl; table = λ i. refl; once = clean-once N B s z h; bytes = y }
+
+    asked : Asks N B ns x o s m → lookup b (shown N B m) ≡ lookup b (tableOf N B s)
+    asked k =
+        let d = asked-moves N B (formerIn N B s) ns x o s m (settled (tableOf N B s)) p (z, stored) k in
+        let other : b ≢ blockAsked (x .asked) = (λ e. true≢false (sym (k .taken-so .passed .own) ∙ (ap (λ (i : ℕ). owns (sharesOf ns) (x .tenant) i) (sym e) ∙ foreign))) in
+        shows-shown N B (formerIn N B s) m (d .0) b (lookup b (tableOf N B s)) (d .2)
+        (other-shown (board N B (formerIn N B s)) (wears N B s) (x .asked) o (settled (tableOf N B s)) (d .0) b (lookup b (tableOf N B s)) (d .1) other refl)
+
+-- ---- demand 2
+
+pub layer-demand2 : LayerDemand2
+layer-demand2 N B ns s u ts z h = let a = layer-history N B ns ts s u h in (a .0, a .1, a .2, demand2 N B s u (a .0) z (a .2))

@@ -1,27 +1,21 @@
 -- Every history through the layer is one of the store; and what a tenant's turn leaves of the blocks that are not its own.
 use Prim.Native.Nat.{ℕ}
-use mathlib.Core.Path.{_≡_, refl, sym, ap, _∙_, subst}
-use mathlib.Core.Logic.{_⊎_, inl, inr, ⊎-elim, _≢_}
-use mathlib.Core.Bool.{Bool, true, false, true≢false}
+use mathlib.Core.Path.{_≡_, refl, ap, _∙_, subst}
+use mathlib.Core.Logic.{_⊎_, inl, inr, _≢_}
+use mathlib.Core.Bool.{Bool}
 use mathlib.Core.List.{List, [], _∷_}
-use Rattle.model.specs.Chip.{Image, Bytes, rightSize}
-use Rattle.model.specs.State.{clean, state}
-use Rattle.model.specs.Table.{Table, Found, lookup, tableOf}
-use Rattle.model.specs.Answers.{Request, format, put, delete, read, readOr, recover}
-use Rattle.model.specs.Histories.{Seen, answered, lost, Proper, Does, wears, Event, History, shown}
-use Rattle.bridge.specs.Views.Shape.{clean-distinct}
-use Rattle.bridge.specs.Held.{clean-view}
-use Rattle.crash.specs.Machine.{Board, Promise, settled, interrupted, unknown, OnTable, Moves, PlainRuns}
-use Rattle.crash.specs.Demand2.{board}
-use Rattle.crash.specs.Sound.{Clean, formerIn}
-use Rattle.crash.specs.Invariant.{Stores, Invariant, Follows}
+use Rattle.model.specs.Chip.{Image}
+use Rattle.model.specs.State.{clean}
+use Rattle.model.specs.Table.{Table, Found, lookup}
+use Rattle.model.specs.Histories.{Seen, wears, Event, History, shown}
+use Rattle.crash.specs.Machine.{Board, Promise, settled, interrupted, unknown, OnTable, Moves}
+use Rattle.crash.specs.Invariant.{Invariant, Follows}
 use Rattle.crash.specs.Requests.{shown-clean}
 use Rattle.crash.specs.Skeleton.{May, one-event}
 use Rattle.crash.specs.ReadingRuns.{Shows, Spares, runs-keep}
-use Rattle.crash.specs.Theorem.{request-laws, demand2}
-use Rattle.shares.specs.Shares.{sharesOf, owns}
+use Rattle.crash.specs.Theorem.{request-laws}
 use Rattle.shares.specs.Layer.{Asked, puts, deletes, reads, blockAsked, storeRequest}
-use Rattle.isolation.specs.Law.{Call, ProperAsked, Turn, tenant, store, Serves, Through, Passed, Unacknowledged, LayerDemand2, OthersKept}
+use Rattle.isolation.specs.Law.{Call, ProperAsked, Turn, tenant, store, Through, Passed, Unacknowledged}
 use Rattle.isolation.specs.Meeting.{Asks, meets}
 
 -- ---- the events at the store
@@ -38,9 +32,6 @@ layer-history N B ns (tenant x o ∷ ts) s u (p, (m, h, rest)) = go (meets N B n
     go (inr k) ih =
         let e : Event = record { request = storeRequest (x .asked); worn = wears N B s; seen = o } in
         (e ∷ ih .0, inr (e, ih .0, refl, refl, refl, ih .1), (p, refl, (m, k .does, ih .2)))
-
-pub layer-demand2 : LayerDemand2
-layer-demand2 N B ns s u ts z h = let a = layer-history N B ns ts s u h in (a .0, a .1, a .2, demand2 N B s u (a .0) z (a .2))
 
 -- ---- other blocks
 
@@ -73,23 +64,7 @@ asked-moves N B f ns x o s m v p k d = one-event N B f (request-laws N B) s m v 
 pub other-shown : (C : Board) (w : Bool) (r : Asked) (o : Seen) (v y : Promise) (b : ℕ) (z : Found) → Moves C w (storeRequest r) o v y → b ≢ blockAsked r → Shows v b z → Shows y b z
 other-shown C w r o v y b z d n h = runs-keep C (record { request = storeRequest r; worn = w; seen = o } ∷ []) v y (y, d, refl) b z (asked-spares r b n, tt) h
 
-shows-shown : (N B : ℕ) (f : Bool) (m : Image) (y : Promise) (b : ℕ) (z : Found) → Invariant N B f m y → Shows y b z → lookup b (shown N B m) ≡ z
+pub shows-shown : (N B : ℕ) (f : Bool) (m : Image) (y : Promise) (b : ℕ) (z : Found) → Invariant N B f m y → Shows y b z → lookup b (shown N B m) ≡ z
 shows-shown N B f m (settled t) b z k h = ap (λ (v : Table). lookup b v) (shown-clean N B m (k .1 .clean)) ∙ (k .1 .table b ∙ h)
 shows-shown N B f m (interrupted t) b z k h = k .1 .table b ∙ h
 shows-shown N B f m unknown b z k h = absurd h
-
-pub others-kept : OthersKept
-others-kept N B ns s m x o b z y h p served foreign = ⊎-elim idle asked (meets N B ns x s o m served)
-  where
-    idle : Unacknowledged o × (m ≡ s) → lookup b (shown N B m) ≡ lookup b (tableOf N B s)
-    idle (n, e) = rw e (ap (λ (v : Table). lookup b v) (shown-clean N B s h))
-
-    stored : Stores N B (formerIn N B s) s (tableOf N B s)
-    stored = unfold tableOf in (record { clean = h; version = refl; table = λ i. refl; once = clean-distinct (clean-view N B s z h); bytes = y })
-
-    asked : Asks N B ns x o s m → lookup b (shown N B m) ≡ lookup b (tableOf N B s)
-    asked k =
-        let d = asked-moves N B (formerIn N B s) ns x o s m (settled (tableOf N B s)) p (z, stored) k in
-        let other : b ≢ blockAsked (x .asked) = (λ e. true≢false (sym (k .taken-so .passed .own) ∙ (ap (λ (i : ℕ). owns (sharesOf ns) (x .tenant) i) (sym e) ∙ foreign))) in
-        shows-shown N B (formerIn N B s) m (d .0) b (lookup b (tableOf N B s)) (d .2)
-            (other-shown (board N B (formerIn N B s)) (wears N B s) (x .asked) o (settled (tableOf N B s)) (d .0) b (lookup b (tableOf N B s)) (d .1) other refl)

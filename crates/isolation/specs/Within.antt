@@ -1,20 +1,18 @@
 -- Tables that keep to the shares: every block has an owner, and no tenant has more than its quota. A tenant's accepted request keeps it so.
-use Prim.Native.Nat.{ℕ, suc, _≤_, _<_}
+use Prim.Native.Nat.{ℕ, _≤_, _<_}
 use mathlib.Core.Path.{_≡_, refl, sym, ap, ap₂, _∙_}
-use mathlib.Core.Logic.{_≢_}
-use mathlib.Core.Bool.{Bool, true, false, cond, _&&_, not, true≢false, false≢true}
-use mathlib.Core.List.{List, [], _∷_}
+use mathlib.Core.Bool.{Bool, true, false, _&&_, not, true≢false, false≢true}
+use mathlib.Core.List.{List, []}
 use native.Mathlib.Omega.{arith}
 use native.Mathlib.Decide.{ℕ-discrete}
 use lib.ListN.{length}
-use lib.Dec.{leb, eqb}
-use borrow.Author.Tests.{leb-true, leb-false}
+use lib.Dec.{leb}
+use borrow.Author.Tests.{leb-false}
 use Rattle.model.specs.State.{holds, distinct, capacity}
 use Rattle.model.specs.Table.{Table, lookup, without, store, Agree, contentsFound}
-use Rattle.model.specs.Answers.{put, delete, read}
 use Rattle.model.specs.Laws.Tables.{agree-holds, lookup-held, found-held, absent-free, lookup-without-same, lookup-without-other, lookup-store-other}
 use Rattle.crash.specs.Machine.{made}
-use Rattle.shares.specs.Shares.{Share, sharesOf, sharesOk, isTenant, shareOf, owns}
+use Rattle.shares.specs.Shares.{Share, sharesOf, sharesOk, shareOf, owns}
 use Rattle.shares.specs.Layer.{Asked, puts, deletes, reads, blockAsked, storeRequest, quotaUsed}
 use Rattle.isolation.specs.Live.{live-none, live-without, live-rewritten, live-added, live-elsewhere, live-same}
 use Rattle.isolation.specs.Owners.{covers, live, owner-tenant, covers-owner, one-owner, Owned, WithinQuotas, room-for-tenant}
