@@ -86,6 +86,12 @@ module _ (N B : ℕ) (ns : List ℕ) (s : Image) (a : ℕ) where
   share-code r = four-first (rightSize N B s) (sharesOk N B ns) (numberOk (blockAsked r)) (owns (sharesOf ns) a (blockAsked r))
       (rows (shareOf (sharesOf ns) a) (tableOf N B s) (workOf N B s (storeRequest r) .code) r)
 
+-- a foreign block is refused before its own rows
+pub foreign-code : (N B : ℕ) (ns : List ℕ) (s : Image) (a : ℕ) (r : Asked) → rightSize N B s ≡ true → sharesOk N B ns ≡ true → numberOk (blockAsked r) ≡ true
+    → owns (sharesOf ns) a (blockAsked r) ≡ false → shareCode N B ns s a r ≡ 12
+unfolding shareCode bounds firstOf
+foreign-code N B ns s a r z right number foreign = rw (z, right, number, foreign)
+
 -- ---- the rows of a request
 
 -- a put is not refused for the quota

@@ -38,11 +38,11 @@ module _ (N B : ℕ) (ns : List ℕ) (a : ℕ) where
   module _ (x : Call) (xs : List Call) where
     asked-own : x .tenant ≡ a → requestsOf a (x ∷ xs) ≡ x .asked ∷ requestsOf a xs
     unfolding requestsOf
-    asked-own e = rw (eq-eqb a (x .tenant) (sym e))
+    asked-own e = ap (λ (t : Bool). cond t (x .asked ∷ requestsOf a xs) (requestsOf a xs)) (eq-eqb a (x .tenant) (sym e))
 
     asked-other : x .tenant ≢ a → requestsOf a (x ∷ xs) ≡ requestsOf a xs
     unfolding requestsOf
-    asked-other o = rw (ne-eqb a (x .tenant) (λ e. o (sym e)))
+    asked-other o = ap (λ (t : Bool). cond t (x .asked ∷ requestsOf a xs) (requestsOf a xs)) (ne-eqb a (x .tenant) (λ e. o (sym e)))
 
   as-call : (x : Call) (q : Asked) → x .tenant ≡ a → x .asked ≡ q → x ≡ call a q
   as-call x q e i = ap₂ call e i

@@ -22,10 +22,10 @@ use Rattle.crash.specs.Requests.{shown-clean}
 use Rattle.crash.specs.ReadingRuns.{Shows, Known, read-shows}
 use Rattle.crash.specs.Theorem.{demand2}
 use Rattle.shares.specs.Shares.{Share, sharesOf, shareOf, owns}
-use Rattle.shares.specs.Layer.{puts, reads, blockAsked, storeRequest, quotaUsed, bounds, beforeFull, rows, shareCode, shareWork, shareOutcome}
+use Rattle.shares.specs.Layer.{puts, reads, blockAsked, storeRequest, quotaUsed, beforeFull, rows, shareCode, shareWork, shareOutcome}
 use Rattle.isolation.specs.Law.{Call, served, replyTo, told, repliesTo, formatted, Isolation, NothingShows, Turn, OfLayer, Reaches7, OwnQuotaUsed, GuaranteedShare, PutBy, OwnContents, Unacknowledged, ForeignRefused, LayerDemand2, OthersKept, FullElsewhere}
 use Rattle.isolation.specs.Owners.{one-owner}
-use Rattle.isolation.specs.Codes.{passes, bound, share-code, bound-other, seven, seven-back, store-full}
+use Rattle.isolation.specs.Codes.{passes, bound, share-code, bound-other, foreign-code, seven, seven-back, store-full}
 use Rattle.isolation.specs.Meeting.{Asks, meets}
 use Rattle.isolation.specs.Turns.{asked-moves, layer-history, other-shown, shows-shown}
 use Rattle.isolation.specs.Within.{Within, tenant-room}
@@ -116,8 +116,8 @@ own-contents N B ns ts u a b lent c h e = ⊎-elim (λ i. absurd (i .0 (ap (λ (
 -- ---- foreign blocks
 
 pub foreign-refused : ForeignRefused
-unfolding served shareOutcome shareWork shareCode bounds firstOf run
-foreign-refused N B ns s x z right number foreign = rw (z, right, number, foreign)
+unfolding served shareOutcome shareWork run
+foreign-refused N B ns s x z right number foreign = rw (foreign-code N B ns s (x .tenant) (x .asked) z right number foreign)
 
 pub others-kept : OthersKept
 others-kept N B ns s m x o b z y h p served foreign = ⊎-elim idle asked (meets N B ns x s o m served)
