@@ -164,7 +164,7 @@ through N B ns (tenant x o ∷ ts) s u v only k (p, (m, h, rest)) = go (turn-lay
     now y d asks b c shows = ⊎-elim
         (λ old. inl old)
         (λ new. let e = puts-asked (x .asked) b c (new .0) in
-        inr (x .tenant, ap (λ (i : ℕ). owns (sharesOf ns) (x .tenant) i) (sym (e .1)) ∙ asks .taken-so .passed .own, inl (refl, e .0)))
+        inr (x .tenant, ap (λ (i : ℕ). owns (sharesOf ns) (x .tenant) i) (sym (e .1)) ∙ asks .taken-so .passed .own, inl (refl, e .0, asks .begun)))
         (move-from d b c shows)
 
     go : (Unacknowledged o × (m ≡ s) × Layered N B ns m v) ⊎ ((y : Promise) × Moves (board N B false) (wears N B s) (storeRequest (x .asked)) o v y × Layered N B ns m y × Asks N B ns x o s m)

@@ -161,10 +161,15 @@ abbrev pub OthersKept : Type 0
 OthersKept = (N B : ℕ) (ns : List ℕ) (s m : Image) (x : Call) (o : Seen) (b : ℕ) → rightSize N B s ≡ true → Bytes s → state N B s ≡ clean → ProperAsked (x .asked) → Serves N B ns x o s m
     → owns (sharesOf ns) (x .tenant) b ≡ false → lookup b (shown N B m) ≡ lookup b (tableOf N B s)
 
--- tenant a put these contents under this number, answered or cut
+-- the layer did not refuse it: answered 0, or cut
+abbrev pub Begun : Seen → Type 0
+Begun (answered o) = o .code ≡ 0
+Begun lost = Unit {0}
+
+-- tenant a put these contents under this number, and was not refused
 abbrev pub PutBy : ℕ → ℕ → List ℕ → List Turn → Type 0
 PutBy a b c [] = ⊥
-PutBy a b c (tenant x o ∷ ts) = ((x .tenant ≡ a) × (x .asked ≡ puts b c)) ⊎ PutBy a b c ts
+PutBy a b c (tenant x o ∷ ts) = ((x .tenant ≡ a) × (x .asked ≡ puts b c) × Begun o) ⊎ PutBy a b c ts
 PutBy a b c (store e ∷ ts) = PutBy a b c ts
 
 -- The accident of tenant 31: what a tenant reads it has put itself, under that number, through every power cut and recovery.

@@ -19,7 +19,7 @@ use Rattle.bridge.specs.Refusals.{none-applies, neither}
 use Rattle.crash.specs.Sound.{Clean}
 use Rattle.crash.specs.Theorem.{request-laws}
 use Rattle.shares.specs.Layer.{Asked, puts, deletes, reads, storeRequest, shareCode, shareWork, contentsAsked, shareOutcome}
-use Rattle.isolation.specs.Law.{Call, served, replyTo, Serves, Unacknowledged}
+use Rattle.isolation.specs.Law.{Call, served, replyTo, Serves, Begun, Unacknowledged}
 use Rattle.isolation.specs.Codes.{Taken, taken}
 
 -- ---- what the store accepts of put, delete and read, it accepts on a clean image
@@ -86,6 +86,7 @@ ends-whole N B s r = ⊎-elim (λ e. e) (λ e. absurd (omega (arith, e .short)))
 
 pub record Asks (N B : ℕ) (ns : List ℕ) (x : Call) (o : Seen) (s m : Image) : Type 0 where
   pub zero-code : shareCode N B ns s (x .tenant) (x .asked) ≡ 0
+  pub begun : Begun o
   pub taken-so : Taken N B ns s (x .tenant) (x .asked)
   pub tidy : Clean N B s
   pub does : Does N B (storeRequest (x .asked)) o s m
@@ -111,12 +112,12 @@ module _ (N B : ℕ) (ns : List ℕ) (x : Call) (s : Image) where
   unfolding served replyTo
   meets o m h = go (eqb code 0) refl o h
     where
-      asks : (q : Seen) → code ≡ 0 → Does N B (storeRequest (x .asked)) q s m → Asks N B ns x q s m
-      asks q e d = let t = taken N B ns s (x .tenant) (x .asked) e in record { zero-code = e; taken-so = t; tidy = accepted-clean N B s (x .asked) (t .accepted); does = d }
+      asks : (q : Seen) → code ≡ 0 → Begun q → Does N B (storeRequest (x .asked)) q s m → Asks N B ns x q s m
+      asks q e i d = let t = taken N B ns s (x .tenant) (x .asked) e in record { zero-code = e; begun = i; taken-so = t; tidy = accepted-clean N B s (x .asked) (t .accepted); does = d }
 
       go : (t : Bool) → eqb code 0 ≡ t → (q : Seen) → Serves N B ns x q s m → (Unacknowledged q × (m ≡ s)) ⊎ Asks N B ns x q s m
-      go true e (answered p) k = let z = eqb-true code 0 e in inr (asks (answered p) z (answered-so m p k z))
-      go true e lost k = let z = eqb-true code 0 e in inr (asks lost z (rw (own-steps N B ns s (x .tenant) (x .asked) z) at k))
+      go true e (answered p) k = let z = eqb-true code 0 e in inr (asks (answered p) z (ap (λ (y : Reply). y .code) (k .0) ∙ (outcome-code N B ns s (x .tenant) (x .asked) ∙ z)) (answered-so m p k z))
+      go true e lost k = let z = eqb-true code 0 e in inr (asks lost z tt (rw (own-steps N B ns s (x .tenant) (x .asked) z) at k))
       go false e (answered p) (i, j) = inl (
         (λ n. eqb-false code 0 e (sym (outcome-code N B ns s (x .tenant) (x .asked)) ∙ (ap (λ (y : Reply). y .code) (sym i) ∙ n))),
         j ∙ refused-image N B ns s (x .tenant) (x .asked) e,
