@@ -23,7 +23,7 @@ use Rattle.crash.specs.ReadingRuns.{Shows, Known, read-shows}
 use Rattle.crash.specs.Theorem.{demand2}
 use Rattle.shares.specs.Shares.{Share, sharesOf, shareOf, owns}
 use Rattle.shares.specs.Layer.{puts, reads, blockAsked, storeRequest, quotaUsed, beforeFull, rows, shareCode, shareWork, shareOutcome}
-use Rattle.isolation.specs.Law.{Call, served, replyTo, told, repliesTo, formatted, Isolation, NothingShows, Turn, OfLayer, Reaches7, OwnQuotaUsed, GuaranteedShare, PutBy, OwnContents, Unacknowledged, ForeignRefused, LayerDemand2, OthersKept, FullElsewhere}
+use Rattle.isolation.specs.Law.{Call, served, replyTo, told, repliesTo, formatted, Isolation, NothingShows, Turn, OfLayer, Reaches7, OwnQuotaUsed, GuaranteedShare, PutBy, OwnContents, ForeignRefused, LayerDemand2, OthersKept, FullElsewhere}
 use Rattle.isolation.specs.Owners.{one-owner}
 use Rattle.isolation.specs.Codes.{passes, bound, share-code, bound-other, foreign-code, seven, seven-back, store-full}
 use Rattle.isolation.specs.Meeting.{Asks, meets}
@@ -120,20 +120,18 @@ unfolding served shareOutcome shareWork run
 foreign-refused N B ns s x z right number foreign = rw (foreign-code N B ns s (x .tenant) (x .asked) z right number foreign)
 
 pub others-kept : OthersKept
-others-kept N B ns s m x o b z y h p served foreign = ⊎-elim idle asked (meets N B ns x s o m served)
+others-kept N B ns s m x o b y p served foreign = ⊎-elim (λ i. ap (λ (v : Image). lookup b (shown N B v)) (i .1)) asked (meets N B ns x s o m served)
   where
-    idle : Unacknowledged o × (m ≡ s) → lookup b (shown N B m) ≡ lookup b (tableOf N B s)
-    idle (n, e) = rw e (ap (λ (v : Table). lookup b v) (shown-clean N B s h))
-
-    stored : Stores N B (formerIn N B s) s (tableOf N B s)
-    stored = record { clean = h; version = refl; table = λ i. refl; once = clean-once N B s z h; bytes = y }
-
-    asked : Asks N B ns x o s m → lookup b (shown N B m) ≡ lookup b (tableOf N B s)
+    asked : Asks N B ns x o s m → lookup b (shown N B m) ≡ lookup b (shown N B s)
     asked k =
-        let d = asked-moves N B (formerIn N B s) ns x o s m (settled (tableOf N B s)) p (z, stored) k in
+        let f = formerIn N B s in
+        let t = tableOf N B s in
+        let z = k .taken-so .passed .size in
+        let stored : Stores N B f s t = record { clean = k .tidy; version = refl; table = λ i. refl; once = clean-once N B s z (k .tidy); bytes = y } in
+        let d = asked-moves N B f ns x o s m (settled t) p (z, stored) k in
         let other : b ≢ blockAsked (x .asked) = (λ e. true≢false (sym (k .taken-so .passed .own) ∙ (ap (λ (i : ℕ). owns (sharesOf ns) (x .tenant) i) (sym e) ∙ foreign))) in
-        shows-shown N B (formerIn N B s) m (d .0) b (lookup b (tableOf N B s)) (d .2)
-        (other-shown (board N B (formerIn N B s)) (wears N B s) (x .asked) o (settled (tableOf N B s)) (d .0) b (lookup b (tableOf N B s)) (d .1) other refl)
+        shows-shown N B f m (d .0) b (lookup b t) (d .2) (other-shown (board N B f) (wears N B s) (x .asked) o (settled t) (d .0) b (lookup b t) (d .1) other refl)
+        ∙ ap (λ (v : Table). lookup b v) (sym (shown-clean N B s (k .tidy)))
 
 -- ---- demand 2
 
