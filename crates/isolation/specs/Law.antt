@@ -7,7 +7,7 @@ use mathlib.Core.List.{List, [], _∷_}
 use lib.Dec.{eqb}
 use Rattle.model.specs.Chip.{Image, Bytes, Cut, rightSize}
 use Rattle.model.specs.Slot.{numberOk}
-use Rattle.model.specs.State.{clean, holds, state}
+use Rattle.model.specs.State.{holds}
 use Rattle.model.specs.Table.{lookup, tableOf}
 use Rattle.model.specs.Answers.{Request, format, put, delete, read, readOr, recover, firstOf, workOf, outcomeOf}
 use Rattle.model.specs.Histories.{Reply, Seen, answered, lost, Proper, Does, wears, Event, History, shown}
@@ -156,15 +156,20 @@ abbrev pub ForeignRefused : Type 0
 ForeignRefused = (N B : ℕ) (ns : List ℕ) (s : Image) (x : Call) → rightSize N B s ≡ true → sharesOk N B ns ≡ true → numberOk (blockAsked (x .asked)) ≡ true
     → owns (sharesOf ns) (x .tenant) (blockAsked (x .asked)) ≡ false → served N B ns s x ≡ record { code = 12; given = []; image = s }
 
--- Whatever a tenant asks for on a clean image, answered or cut anywhere: what a finished recovery shows of a block that is not its own is what was stored.
+-- Whatever a tenant asks for on any image of bytes, clean or not, answered or cut anywhere: what a finished recovery shows of a block that is not its own stays as it was.
 abbrev pub OthersKept : Type 0
-OthersKept = (N B : ℕ) (ns : List ℕ) (s m : Image) (x : Call) (o : Seen) (b : ℕ) → rightSize N B s ≡ true → Bytes s → state N B s ≡ clean → ProperAsked (x .asked) → Serves N B ns x o s m
-    → owns (sharesOf ns) (x .tenant) b ≡ false → lookup b (shown N B m) ≡ lookup b (tableOf N B s)
+OthersKept = (N B : ℕ) (ns : List ℕ) (s m : Image) (x : Call) (o : Seen) (b : ℕ) → Bytes s → ProperAsked (x .asked) → Serves N B ns x o s m
+    → owns (sharesOf ns) (x .tenant) b ≡ false → lookup b (shown N B m) ≡ lookup b (shown N B s)
 
--- tenant a put these contents under this number, answered or cut
+-- the layer did not refuse it: answered 0, or cut
+abbrev pub Begun : Seen → Type 0
+Begun (answered o) = o .code ≡ 0
+Begun lost = Unit {0}
+
+-- tenant a put these contents under this number, and was not refused
 abbrev pub PutBy : ℕ → ℕ → List ℕ → List Turn → Type 0
 PutBy a b c [] = ⊥
-PutBy a b c (tenant x o ∷ ts) = ((x .tenant ≡ a) × (x .asked ≡ puts b c)) ⊎ PutBy a b c ts
+PutBy a b c (tenant x o ∷ ts) = ((x .tenant ≡ a) × (x .asked ≡ puts b c) × Begun o) ⊎ PutBy a b c ts
 PutBy a b c (store e ∷ ts) = PutBy a b c ts
 
 -- The accident of tenant 31: what a tenant reads it has put itself, under that number, through every power cut and recovery.
