@@ -1,5 +1,5 @@
 -- Request #110, what tenants can rely on: isolation, a share that is guaranteed, foreign blocks out of reach, and power cuts. One N and B, one list of shares ns.
-use Prim.Native.Nat.{ℕ}
+use Prim.Native.Nat.{ℕ, _<_}
 use mathlib.Core.Path.{_≡_}
 use mathlib.Core.Logic.{_⊎_, _≢_}
 use mathlib.Core.Bool.{true, false, cond}
@@ -8,13 +8,13 @@ use lib.Dec.{eqb}
 use Rattle.model.specs.Chip.{Image, Bytes, Cut, rightSize}
 use Rattle.model.specs.Slot.{numberOk}
 use Rattle.model.specs.State.{holds}
-use Rattle.model.specs.Table.{lookup, tableOf}
+use Rattle.model.specs.Table.{lookup, liveBetween, tableOf}
 use Rattle.model.specs.Answers.{Request, format, put, delete, read, readOr, recover, firstOf, workOf, outcomeOf}
 use Rattle.model.specs.Histories.{Reply, Seen, answered, lost, Proper, Does, wears, Event, History, shown}
 use Rattle.crash.specs.Machine.{Promise, unknown, PlainRuns}
 use Rattle.crash.specs.Demand2.{Keeps, board}
 use Rattle.shares.specs.Shares.{sharesOf, sharesOk, shareOf, owns}
-use Rattle.shares.specs.Layer.{Asked, puts, deletes, reads, blockAsked, storeRequest, bounds, beforeFull, quotaUsed, shareCode, shareWork, Shared, shareOutcome}
+use Rattle.shares.specs.Layer.{Asked, puts, reads, blockAsked, storeRequest, bounds, beforeFull, quotaUsed, shareCode, shareWork, Shared, shareOutcome}
 
 -- a tenant's request
 pub record Call : Type 0 where
@@ -137,11 +137,16 @@ Reaches7 N B ns s a b c = (firstOf (bounds N B ns s a b) ≡ 0) × (beforeFull (
 abbrev pub OwnQuotaUsed : ℕ → ℕ → List ℕ → Image → ℕ → ℕ → Type 0
 OwnQuotaUsed N B ns s a b = (holds b (tableOf N B s) ≡ false) × (quotaUsed (shareOf (sharesOf ns) a) (tableOf N B s) ≡ true)
 
--- A guaranteed share: so a tenant below its quota is never refused a new block with 7, whatever the others store, through every power cut and recovery.
+-- A guaranteed share, through every power cut and recovery.
 abbrev pub GuaranteedShare : Type 0
 GuaranteedShare = (N B : ℕ) (ns : List ℕ) (ts : List Turn) (u : Image) (a b : ℕ) (c : List ℕ) → OfLayer N B ns ts u
     → (shareCode N B ns u a (puts b c) ≡ 7 → Reaches7 N B ns u a b c × OwnQuotaUsed N B ns u a b)
     × (Reaches7 N B ns u a b c → OwnQuotaUsed N B ns u a b → shareCode N B ns u a (puts b c) ≡ 7)
+
+-- So a tenant below its quota is never refused a block with 7, whatever the others store.
+abbrev pub BelowQuota : Type 0
+BelowQuota = (N B : ℕ) (ns : List ℕ) (ts : List Turn) (u : Image) (a b : ℕ) (c : List ℕ) → OfLayer N B ns ts u
+    → let x = shareOf (sharesOf ns) a in liveBetween (x .first) (x .last) (tableOf N B u) < x .quota → shareCode N B ns u a (puts b c) ≢ 7
 
 -- On any other image the store's 7 stands too, and nothing else answers 7.
 abbrev pub FullElsewhere : Type 0

@@ -10,7 +10,7 @@ use lib.Dec.{leb}
 use borrow.Author.Tests.{leb-true, not-true}
 use Rattle.model.specs.Chip.{Image, run}
 use Rattle.model.specs.State.{holds, capacity}
-use Rattle.model.specs.Table.{Table, present, lookup, tableOf}
+use Rattle.model.specs.Table.{Table, present, lookup, liveBetween, tableOf}
 use Rattle.model.specs.Answers.{put, firstOf, workOf}
 use Rattle.model.specs.Histories.{Reply, answered, wears, shown}
 use Rattle.model.specs.Laws.Lists.{and-left, and-right}
@@ -23,7 +23,7 @@ use Rattle.crash.specs.ReadingRuns.{Shows, Known, read-shows}
 use Rattle.crash.specs.Theorem.{demand2}
 use Rattle.shares.specs.Shares.{Share, sharesOf, shareOf, owns}
 use Rattle.shares.specs.Layer.{puts, reads, blockAsked, storeRequest, quotaUsed, beforeFull, rows, shareCode, shareWork, shareOutcome}
-use Rattle.isolation.specs.Law.{Call, served, replyTo, told, repliesTo, formatted, Isolation, NothingShows, Turn, OfLayer, Reaches7, OwnQuotaUsed, GuaranteedShare, PutBy, OwnContents, ForeignRefused, LayerDemand2, OthersKept, FullElsewhere}
+use Rattle.isolation.specs.Law.{Call, served, replyTo, told, repliesTo, formatted, Isolation, NothingShows, Turn, OfLayer, Reaches7, OwnQuotaUsed, GuaranteedShare, BelowQuota, PutBy, OwnContents, ForeignRefused, LayerDemand2, OthersKept, FullElsewhere}
 use Rattle.isolation.specs.Owners.{one-owner}
 use Rattle.isolation.specs.Codes.{passes, bound, share-code, bound-other, foreign-code, seven, seven-back, store-full}
 use Rattle.isolation.specs.Meeting.{Asks, meets}
@@ -85,6 +85,13 @@ guaranteed-share N B ns ts u a b c h = ((λ e. let f = full-elsewhere N B ns u a
         go : (x : Bool) → quotaUsed (shareOf (sharesOf ns) a) (tableOf N B u) ≡ x → (quotaUsed (shareOf (sharesOf ns) a) (tableOf N B u) ≡ false → ⊥) → x ≡ true
         go true e n = refl
         go false e n = absurd (n e)
+
+pub below-quota : BelowQuota
+unfolding quotaUsed
+below-quota N B ns ts u a b c h few full =
+    let x = shareOf (sharesOf ns) a in
+    let live = liveBetween (x .first) (x .last) (tableOf N B u) in
+    omega (arith, few, leb-true (x .quota) live (guaranteed-share N B ns ts u a b c h .0 full .1 .1))
 
 -- ---- a tenant reads what it has put
 
