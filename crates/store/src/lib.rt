@@ -3,16 +3,19 @@
 // Forms that document 01 names: the budget (its allowance) falls with each flash step, and `request` counts the steps by it;
 // block numbers, segment numbers and slot places are the three tuple structs of `model`; `let .. else` takes the clean
 // survey or the slot that was found, and all else is a refusal; `read_or` returns a part of either of two slices.
+use counting::Sought;
 use looking::Looked;
 use model::Answer;
 use model::BlockNumber;
+use model::Counted;
 use model::Located;
 use model::Performed;
 use model::SegmentNumber;
 use room::Plan;
 use scan::Surveyed;
 ghost use mathlib.Core.Path.{_≡_};
-ghost use Rattle.model.specs.Answers.{performed, outcomeOf, format, put, delete, recover, located, readOutcome, pieceOr};
+ghost use mathlib.Core.Bool.{false};
+ghost use Rattle.model.specs.Answers.{performed, outcomeOf, format, put, delete, recover, located, readOutcome, pieceOr, counted, countOutcome};
 
 // The number of the answer that a block is not stored.
 const ABSENT: u8 = 6;
@@ -137,6 +140,51 @@ pub fn read_or<'a>(
             let end = start + length;
             &image[start..end]
         }
+    }
+}
+
+// A count that was refused.
+fn uncounted(answer: Answer) -> Counted
+    ensures { λ r. ⌜ r ≡ record { answer = answer; blocks = 0; stored = false } ⌝ }
+{
+    Counted {
+        answer,
+        blocks: 0,
+        stored: false,
+    }
+}
+
+// How many blocks of a range of numbers are stored, and whether one block is (request #110), in one pass.
+pub fn count(
+    image: &[u8],
+    segments: usize,
+    slots: usize,
+    first: BlockNumber,
+    last: BlockNumber,
+    block: BlockNumber,
+) -> Counted
+    ensures { λ r. ⌜ counted r ≡ countOutcome segments slots (now (image .entry)) (first .0) (last .0) (block .0) ⌝ }
+{
+    if !request::right_size(image.len(), segments, slots) {
+        return uncounted(Answer::Size);
+    }
+    let surveyed = scan::survey(image, segments, slots);
+    let Surveyed::Clean {
+        first: oldest,
+        used,
+        live: _,
+        free: _,
+        compactions: _,
+    } = surveyed
+    else {
+        return uncounted(looking::check::state_answer(surveyed));
+    };
+    let sought = Sought { first, last, block };
+    let met = counting::count_live(image, segments, slots, oldest, used, sought);
+    Counted {
+        answer: Answer::Done,
+        blocks: met.blocks,
+        stored: met.stored,
     }
 }
 

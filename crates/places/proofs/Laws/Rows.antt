@@ -27,7 +27,7 @@ use Rattle.places.proofs.Laws.Walk.{entered-live, entered-over, entered
 -- ---- what a kind says of the status
 
 -- an empty slot is not written
-empty-status : (p : Page) → slotOf p ≡ empty → getD p 0 0 ≡ written → ⊥
+pub empty-status : (p : Page) → slotOf p ≡ empty → getD p 0 0 ≡ written → ⊥
 unfolding slotOf
 empty-status p e h = go (slotFits p) (rw h at e)
   where
@@ -35,7 +35,7 @@ empty-status p e h = go (slotFits p) (rw h at e)
     go true q = let z : _≡_ {A = ℕ} 0 1 = cc in omega arith
     go false q = let z : _≡_ {A = ℕ} 0 1 = cc in omega arith
 
-live-block : (p : Page) (b : ℕ) (c : List ℕ) → slotOf p ≡ live b c → pageBlock p ≡ b
+pub live-block : (p : Page) (b : ℕ) (c : List ℕ) → slotOf p ≡ live b c → pageBlock p ≡ b
 unfolding pageBlock slotPage
 live-block p b c e = rw (live-facts p b c e .page) (omega arith)
 

@@ -1,0 +1,3 @@
+pub mod Meet
+pub mod Walk
+pub mod Rows
