@@ -129,6 +129,13 @@ module _ (most : ℕ) (ns : List ℕ) where
     unfolding sharesWithin
     within-few h = rw (e, le-leb (length (sharesOf ns)) mostTenants (omega (arith, shares-length ns)))
 
+-- ranges of a list that is right
+pub within-ranges : (most : ℕ) (ns : List ℕ) → sharesWithin most ns ≡ true → all rangeOk (sharesOf ns) ≡ true
+unfolding sharesWithin
+within-ranges most ns e =
+    let xs = sharesOf ns in
+    and-left (all rangeOk xs) (disjoint xs && leb (quotaSum xs) most) (and-right (leb (length xs) mostTenants) _ (and-right (eqb (length ns % 3) 0) _ e))
+
 pub sum-tested : (sum quotas most : ℕ) {x : Bool} → sum ≡ quotas → x ≡ leb quotas most → leb sum most ≡ x
 sum-tested sum quotas most e h = rw e (sym h)
 
@@ -150,6 +157,10 @@ module _ (ns : List ℕ) (a : ℕ) where
   pub stranger : (b : ℕ) → isTenant (sharesOf ns) a ≡ false → false ≡ owns (sharesOf ns) a b
   unfolding owns
   stranger b e = rw e
+
+  pub owner-tenant : (b : ℕ) → owns (sharesOf ns) a b ≡ true → isTenant (sharesOf ns) a ≡ true
+  unfolding owns
+  owner-tenant b e = and-left (isTenant (sharesOf ns) a) _ e
 
   module _ (e : isTenant (sharesOf ns) a ≡ true) where
     pub tenant-first : 0 < a
