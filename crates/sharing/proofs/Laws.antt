@@ -1,0 +1,4 @@
+pub mod Bounds
+pub mod Written
+pub mod Read
+pub mod Put
