@@ -1,13 +1,13 @@
 -- A list of shares by the places of its numbers: one share more or less, what is left at the end, and a tenant's share.
 use Prim.Native.Nat.{ℕ, zero, suc, _+_, _-_, _*_, _/_, _%_, _≤_, _<_}
 use mathlib.Core.Path.{_≡_, refl, sym, ap, _∙_}
-use mathlib.Core.Bool.{Bool, true, false, _&&_, not}
+use mathlib.Core.Bool.{Bool, true, false, _&&_}
 use mathlib.Core.List.{List, [], _∷_}
 use native.Mathlib.Omega.{arith}
 use lib.ListN.{length, getD, drop}
 use lib.Seq.{drop-cons, drop-length}
 use lib.Dec.{leb, ltb, eqb}
-use borrow.Author.Tests.{ltb-true, ltb-false, leb-true, le-leb, lt-leb, lt-ltb, le-ltb, eq-eqb, ne-eqb}
+use borrow.Author.Tests.{ltb-true, leb-true, le-leb, lt-leb, lt-ltb, le-ltb, ne-eqb}
 use Rattle.model.specs.Lists.{all}
 use Rattle.model.specs.Slot.{numberOk}
 use Rattle.model.specs.State.{capacity}
@@ -141,7 +141,7 @@ sum-tested sum quotas most e h = rw e (sym h)
 
 -- ---- tenants
 
-share-index : (ns : List ℕ) (at i : ℕ) (d : Share) → at + i * 3 + 3 ≤ length ns → getD (sharesFrom ns at) i d ≡ shareAt ns (at + i * 3)
+pub share-index : (ns : List ℕ) (at i : ℕ) (d : Share) → at + i * 3 + 3 ≤ length ns → getD (sharesFrom ns at) i d ≡ shareAt ns (at + i * 3)
 share-index ns at zero d h = rw (shares-next ns at (omega arith)) (ap (shareAt ns) (omega arith))
 share-index ns at (suc i) d h = rw (shares-next ns at (omega arith)) (share-index ns (at + 3) i d (omega arith) ∙ ap (shareAt ns) (omega arith))
 

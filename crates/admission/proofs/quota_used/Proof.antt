@@ -1,5 +1,4 @@
 -- `admission::quota_used` is the test of the definition. Assumes nothing.
-use borrow.Author.Needs.{needs}
 use Rattle.admission.proofs.quota_used.Statement.{statement}
 use Rattle.admission.proofs.quota_used.Tie as tie
 

@@ -2,14 +2,13 @@
 use Prim.Native.Nat.{_+_, _-_}
 use mathlib.Core.Path.{_≡_, refl, sym, ap, _∙_}
 use mathlib.Core.Bool.{not}
-use native.Mathlib.Omega.{arith}
 use denote.Ref.{now}
 use lib.ListN.{length}
 use borrow.Author.Needs.{needs}
 use Rattle.model.specs.Lists.{all}
 use Rattle.shares.specs.Shares.{overlap}
 use Rattle.share_list.specs.Places.{Stands, shareAt, clearOf}
-use Rattle.share_list.proofs.Laws.{shares-end, stands-whole, stands-next, all-next, goes-on, stops}
+use Rattle.share_list.proofs.Laws.{shares-end, stands-next, all-next, goes-on, stops}
 use Rattle.share_list.proofs.apart.Statement.{statement}
 use Rattle.share_list.proofs.apart.Tie as tie
 

@@ -1,14 +1,13 @@
 -- `share_list::ranges_ok`. The invariant: whether all ranges are right is whether those left are. Assumes nothing.
 use Prim.Native.Nat.{_-_}
 use mathlib.Core.Path.{_≡_, refl, sym, ap, _∙_}
-use native.Mathlib.Omega.{arith}
 use denote.Ref.{now}
 use lib.ListN.{length}
 use borrow.Author.Needs.{needs}
 use borrow.Author.Tests.{not-true, not-false}
 use Rattle.model.specs.Lists.{all}
 use Rattle.shares.specs.Shares.{sharesOf, rangeOk}
-use Rattle.share_list.specs.Places.{Stands, shareAt, sharesFrom}
+use Rattle.share_list.specs.Places.{Stands, sharesFrom}
 use Rattle.share_list.proofs.Laws.{shares-end, stands-next, all-next, goes-on, stops}
 use Rattle.share_list.proofs.ranges_ok.Statement.{statement}
 use Rattle.share_list.proofs.ranges_ok.Tie as tie

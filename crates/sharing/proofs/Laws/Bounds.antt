@@ -1,6 +1,6 @@
 -- A request that what binds all refuses, and one that it does not.
 use Prim.Native.Nat.{ℕ}
-use mathlib.Core.Path.{_≡_, sym, _∙_}
+use mathlib.Core.Path.{_≡_, _∙_}
 use mathlib.Core.List.{List, []}
 use Rattle.model.specs.Chip.{Image, run}
 use Rattle.model.specs.Answers.{codeOf}

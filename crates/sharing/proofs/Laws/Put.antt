@@ -11,7 +11,7 @@ use borrow.Author.Tests.{eqb-true}
 use Rattle.model.specs.Chip.{Image, run, largestImage, rightSize}
 use Rattle.model.specs.Slot.{numberOk}
 use Rattle.model.specs.State.{State, clean, unfinished, damaged, holds, state}
-use Rattle.model.specs.Table.{liveBetween, tableOf}
+use Rattle.model.specs.Table.{tableOf}
 use Rattle.model.specs.Answers.{codeOf, put, firstOf, isDamaged, isUnfinished, lengthOk, workOf, performed, Outcome, outcomeOf, CountOutcome, counted, countRefusals, countOutcome}
 use Rattle.model.specs.declared.Answer.{Answer}
 use Rattle.model.specs.declared.Performed.{Performed}

@@ -1,15 +1,15 @@
 -- A read that the store is asked for: refused, or the contents found in the image.
-use Prim.Native.Nat.{ℕ, zero, suc, _+_, _-_, _*_, _%_, _≤_, _<_}
-use mathlib.Core.Path.{_≡_, refl, sym, ap, _∙_}
-use mathlib.Core.Bool.{Bool, true, false, cond, not}
-use mathlib.Core.List.{List, [], _++_}
+use Prim.Native.Nat.{ℕ, suc, _+_, _-_, _%_, _≤_, _<_}
+use mathlib.Core.Path.{_≡_, refl, ap, _∙_}
+use mathlib.Core.Bool.{Bool, true, false, cond}
+use mathlib.Core.List.{List, []}
 use native.Mathlib.Omega.{arith}
 use native.Mathlib.Nat.{mod-lt}
 use lib.ListN.{length, take, drop}
-use lib.Dec.{ltb, leb, eqb}
+use lib.Dec.{ltb, eqb}
 use borrow.Author.Tests.{ltb-true, ltb-false, le-leb, lt-leb, ne-eqb}
 use Rattle.model.specs.Chip.{Image, imageLength, rightSize}
-use Rattle.model.specs.State.{segmentsOf, stateOf, usedCount, firstNumber, View, viewOf, entriesIn, placeOf, state, view}
+use Rattle.model.specs.State.{segmentsOf, stateOf, usedCount, firstNumber, viewOf, entriesIn, placeOf, state, view}
 use Rattle.model.specs.Steps.{slotAt}
 use Rattle.model.specs.Table.{lookup, contentsFound, tableOf}
 use Rattle.model.specs.Answers.{codeOf, read, firstOf, isDamaged, isUnfinished, absentRefusals, refusals, workOf, ReadOutcome, located, contentsAt, readOutcome, pieceRead}
@@ -22,7 +22,7 @@ use Rattle.bridge.specs.Lengths.{image-rows, slot-short, read-small}
 use Rattle.crash.specs.Sound.{Clean}
 use Rattle.crash.specs.Requests.{read-code}
 use Rattle.crash.specs.Read.{read-done}
-use Rattle.text.specs.Buffer.{Print, printed, printIn}
+use Rattle.text.specs.Buffer.{printed, printIn}
 use Rattle.text.specs.declared.Printed.{Printed}
 use Rattle.shares.specs.Shares.{Share}
 use Rattle.shares.specs.Layer.{reads, storeRequest, rows, contentsAsked, gaveIn}
