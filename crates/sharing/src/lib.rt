@@ -6,9 +6,10 @@ use model::BlockNumber;
 use share_list::Part;
 use text::Printed;
 ghost use mathlib.Core.Path.{_≡_};
+ghost use Prim.Native.Nat.{_≤_};
 ghost use mathlib.Core.Bool.{true};
 ghost use Rattle.model.specs.Chip.{rightSize};
-ghost use Rattle.model.specs.Slot.{numberOk};
+ghost use Rattle.model.specs.Slot.{mostContents, numberOk};
 ghost use Rattle.text.specs.Buffer.{printed};
 ghost use Rattle.shares.specs.Layer.{puts, deletes, reads, shareOutcome, wrote, gaveIn};
 ghost use Rattle.share_list.specs.Places.{shareIn};
@@ -90,7 +91,7 @@ pub fn read(
     block: BlockNumber,
     contents: &mut [u8],
 ) -> Printed
-    ensures { λ r. ⌜ printed r (now (contents .exit)) ≡ gaveIn (shareOutcome segments slots (now (shares .entry)) (now (image .entry)) tenant (reads (block .0) (now (contents .entry)))) (now (contents .entry)) ⌝ }
+    ensures { λ r. ⌜ (printed r (now (contents .exit)) ≡ gaveIn (shareOutcome segments slots (now (shares .entry)) (now (image .entry)) tenant (reads (block .0) (now (contents .entry)))) (now (contents .entry))) × (r .length ≤ mostContents) ⌝ }
 {
     let admitted = admission::admit(image, segments, slots, shares, tenant, block);
     if let Admitted::Refused(answer) = admitted {

@@ -5,6 +5,7 @@ use native.Mathlib.Omega.{arith}
 use denote.Ref.{now}
 use lib.ListN.{drop, length-take}
 use borrow.Author.Needs.{needs}
+use Rattle.model.specs.Slot.{mostContents}
 use Rattle.text.specs.Buffer.{printed}
 use Rattle.shares.specs.Layer.{reads, blockAsked, gaveIn}
 use Rattle.share_list.specs.Places.{shareIn}
@@ -21,13 +22,13 @@ enum-known-admitted : tie.Need-enum-known-admitted
 enum-known-admitted c = search needs
 
 returns : tie.Need-returns
-unfolding printed gaveIn blockAsked
+unfolding printed gaveIn blockAsked mostContents
 returns c =
     let m = c .before .before .before in
     let a = m .before .before .before .before .args in
     let lent = now (a .contents) in
-    ap (λ o. gaveIn o lent) (sym (refused-outcome (a .segments) (a .slots) (now (a .shares)) (now (a .image)) (a .tenant) (reads (a .block .0) lent) (c .before .admitted .given .0 .0)
-    (subst (Admits (a .segments) (a .slots) (now (a .shares)) (now (a .image)) (a .tenant) (a .block .0)) (c .before .admitted .given .1) (m .admit .ensures))))
+    (ap (λ o. gaveIn o lent) (sym (refused-outcome (a .segments) (a .slots) (now (a .shares)) (now (a .image)) (a .tenant) (reads (a .block .0) lent) (c .before .admitted .given .0 .0)
+    (subst (Admits (a .segments) (a .slots) (now (a .shares)) (now (a .image)) (a .tenant) (a .block .0)) (c .before .admitted .given .1) (m .admit .ensures)))), omega arith)
 
 enum-told : tie.Need-enum-told
 enum-told c = search needs
@@ -39,7 +40,7 @@ code-of-requires : tie.Need-code-of-requires
 code-of-requires c κs = search needs
 
 returns-2 : tie.Need-returns-2
-unfolding blockAsked
+unfolding blockAsked mostContents
 returns-2 c =
     let d = c .before .before in
     let t = d .before in
@@ -47,9 +48,9 @@ returns-2 c =
     let a = m .before .before .before .before .args in
     let lent = now (a .contents) in
     let part = t .enum-told .given .0 .0 in
-    not-read (a .segments) (a .slots) (now (a .image)) (a .block .0) (d .read .result) (d .read .ensures) (shareIn part) lent (omega (arith, c .if1 .taken, c .before .code-of .ensures))
+    (not-read (a .segments) (a .slots) (now (a .image)) (a .block .0) (d .read .result) (d .read .ensures) (shareIn part) lent (omega (arith, c .if1 .taken, c .before .code-of .ensures))
     ∙ ap (λ o. gaveIn o lent) (sym (allowed-outcome (a .segments) (a .slots) (now (a .shares)) (now (a .image)) (a .tenant) (reads (a .block .0) lent) part
-    (subst (Admits (a .segments) (a .slots) (now (a .shares)) (now (a .image)) (a .tenant) (a .block .0)) (t .enum-told .given .1) (m .admit .ensures))))
+    (subst (Admits (a .segments) (a .slots) (now (a .shares)) (now (a .image)) (a .tenant) (a .block .0)) (t .enum-told .given .1) (m .admit .ensures)))), omega arith)
 
 add-end : tie.Need-add-end
 add-end c =
@@ -81,7 +82,7 @@ same-length : tie.Need-same-length
 same-length c = search needs
 
 returns-3 : tie.Need-returns-3
-unfolding blockAsked
+unfolding blockAsked mostContents
 returns-3 c =
     let k = c .before .before .before .before .before .before in
     let d = k .before .before in
@@ -90,9 +91,11 @@ returns-3 c =
     let a = m .before .before .before .before .args in
     let lent = now (a .contents) in
     let part = t .enum-told .given .0 .0 in
-    was-read (a .segments) (a .slots) (now (a .image)) (a .block .0) (d .read .result) (d .read .ensures) (omega (arith, k .if1 .left, k .before .code-of .ensures)) (shareIn part) lent (c .before .before .print .result) _ (c .before .before .print .ensures .0)
+    let p = d .read .result in
+    (was-read (a .segments) (a .slots) (now (a .image)) (a .block .0) (d .read .result) (d .read .ensures) (omega (arith, k .if1 .left, k .before .code-of .ensures)) (shareIn part) lent (c .before .before .print .result) _ (c .before .before .print .ensures .0)
     ∙ ap (λ o. gaveIn o lent) (sym (allowed-outcome (a .segments) (a .slots) (now (a .shares)) (now (a .image)) (a .tenant) (reads (a .block .0) lent) part
-    (subst (Admits (a .segments) (a .slots) (now (a .shares)) (now (a .image)) (a .tenant) (a .block .0)) (t .enum-told .given .1) (m .admit .ensures))))
+    (subst (Admits (a .segments) (a .slots) (now (a .shares)) (now (a .image)) (a .tenant) (a .block .0)) (t .enum-told .given .1) (m .admit .ensures)))),
+    omega (arith, c .before .before .print .ensures .1, length-take (p .offset + p .length - p .offset) (drop (p .offset) (now (a .image))), told-small (a .segments) (a .slots) (now (a .image)) (a .block .0) p (d .read .ensures)))
 
 pub read-spec : {M : Type 1} → statement M
 read-spec =
