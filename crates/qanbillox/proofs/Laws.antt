@@ -24,7 +24,8 @@ use Rattle.blank.proofs.Blank.{groups-most}
 use Rattle.text.specs.declared.Printed.{Printed}
 use Rattle.text.specs.Buffer.{Print, printed}
 use Rattle.packing.specs.Counts.{counts}
-use Rattle.qanbillox.specs.Packed.{packed, Gives, packedRead, Packs, Mounts, packedBlank, packedPrint, Prints}
+use Rattle.shares.specs.Layer.{Shared, wrote}
+use Rattle.qanbillox.specs.Packed.{packed, Gives, packedRead, Packs, Mounts, packedBlank, packedPrint, Prints, Serves}
 
 pub few : (N B : ℕ) (t : Image) (budget : ℕ) (q : Request) (p : Performed) (s : Image) → performed p s ≡ outcomeOf N B t budget q → p .steps ≤ largestImage
 unfolding performed
@@ -96,3 +97,9 @@ mounted-small N B b s t p m = elim (ℕ-discrete (codeOf (p .answer)) 0) [
 pub mounted-tells : (p : Located) (r : ℕ) → r ≡ codeOf (p .answer) + 256 * p .length + 65536 * p .offset → r ≡ packedRead (located p)
 unfolding located packedRead
 mounted-tells p r h = h
+
+-- ---- tenants
+
+pub serves : (o : Shared) (a : Answer) (s : Image) (r : ℕ) → wrote a s ≡ o → r ≡ codeOf a → Serves o r s
+unfolding wrote
+serves o a s r e h = record { number = h ∙ ap (λ (x : Shared). x .code) e; image = ap (λ (x : Shared). x .image) e }

@@ -9,6 +9,7 @@ use Rattle.model.specs.Blank.{blankGroups}
 use Rattle.model.specs.Answers.{Outcome, ReadOutcome}
 use Rattle.model.specs.Mounted.{Places, MountOutcome}
 use Rattle.text.specs.Buffer.{Print}
+use Rattle.shares.specs.Layer.{Shared}
 use Rattle.packing.specs.Counts.{counts}
 
 -- the answer + 256 × the steps done
@@ -53,3 +54,8 @@ packedPrint o = o .code + 256 * o .length
 pub record Prints (o : Print) (r : ℕ) (s : List ℕ) : Type 0 where
   pub number : r ≡ packedPrint o
   pub buffer : s ≡ o .buffer
+
+-- the answer to a tenant's put or delete, and the image afterwards
+pub record Serves (o : Shared) (r : ℕ) (s : Image) : Type 0 where
+  pub number : r ≡ o .code
+  pub image : s ≡ o .image

@@ -1,5 +1,5 @@
 // The library's exports to C and Rust: the requests, with a table of places too, the blank test, the account, the move to
-// another chip and salvage, with what comes back packed into one number.
+// another chip, salvage and requests by tenant, with what comes back packed into one number.
 use model::BlockNumber;
 ghost use mathlib.Core.Path.{_≡_};
 ghost use Rattle.model.specs.Answers.{outcomeOf, readOutcome, format, put, delete, recover};
@@ -8,7 +8,8 @@ ghost use Rattle.moves.specs.Moves.{moveOutcome};
 ghost use Rattle.text.specs.Buffer.{printIn};
 ghost use Rattle.account_text.specs.Account.{accountText};
 ghost use Rattle.salvage.specs.Salvage.{salvageOutcome, rebuildOutcome};
-ghost use Rattle.qanbillox.specs.Packed.{Gives, packedRead, Allows, AllowsRead, Mounts, packedBlank, Prints};
+ghost use Rattle.shares.specs.Layer.{puts, deletes, reads, shareOutcome, gaveIn};
+ghost use Rattle.qanbillox.specs.Packed.{Gives, packedRead, Allows, AllowsRead, Mounts, packedBlank, Prints, Serves};
 
 #[no_mangle]
 pub extern "C" fn qbx_format(image: &mut [u8], n: usize, b: usize, budget: u64) -> u64
@@ -150,4 +151,48 @@ pub extern "C" fn qbx_rebuild(
     ensures { λ r. ⌜ Gives (rebuildOutcome n b (now (source .entry)) «target_n» «target_b» (now (target .entry)) budget) r (now (target .exit)) ⌝ }
 {
     packing::packed(rebuilding::rebuild(source, n, b, target, target_n, target_b, budget))
+}
+
+#[no_mangle]
+pub extern "C" fn qbx_share_put(
+    image: &mut [u8],
+    n: usize,
+    b: usize,
+    shares: &[u32],
+    tenant: u32,
+    block: u16,
+    contents: &[u8],
+) -> u64
+    ensures { λ r. ⌜ Serves (shareOutcome n b (now (shares .entry)) (now (image .entry)) tenant (puts block (now (contents .entry)))) r (now (image .exit)) ⌝ }
+{
+    request::number_of(sharing::put(image, n, b, shares, tenant, BlockNumber(block), contents))
+}
+
+#[no_mangle]
+pub extern "C" fn qbx_share_delete(
+    image: &mut [u8],
+    n: usize,
+    b: usize,
+    shares: &[u32],
+    tenant: u32,
+    block: u16,
+) -> u64
+    ensures { λ r. ⌜ Serves (shareOutcome n b (now (shares .entry)) (now (image .entry)) tenant (deletes block)) r (now (image .exit)) ⌝ }
+{
+    request::number_of(sharing::delete(image, n, b, shares, tenant, BlockNumber(block)))
+}
+
+#[no_mangle]
+pub extern "C" fn qbx_share_read(
+    image: &[u8],
+    n: usize,
+    b: usize,
+    shares: &[u32],
+    tenant: u32,
+    block: u16,
+    contents: &mut [u8],
+) -> u64
+    ensures { λ r. ⌜ Prints (gaveIn (shareOutcome n b (now (shares .entry)) (now (image .entry)) tenant (reads block (now (contents .entry)))) (now (contents .entry))) r (now (contents .exit)) ⌝ }
+{
+    packing::packed_print(sharing::read(image, n, b, shares, tenant, BlockNumber(block), contents))
 }
