@@ -2,7 +2,7 @@
 use Prim.Native.Nat.{ℕ}
 use mathlib.Core.Path.{_≡_, refl, sym, _∙_}
 use mathlib.Core.Logic.{⊎-elim}
-use mathlib.Core.Bool.{Bool, true, false, cond}
+use mathlib.Core.Bool.{Bool, true, false, cond, _&&_, not}
 use mathlib.Core.List.{List, [], _∷_}
 use denote.Enum.Declared.{tagOf}
 use types.Run.{OneOf}
@@ -47,7 +47,16 @@ module _ (N B : ℕ) (ns : List ℕ) (s : Image) (a b : ℕ) where
         unfolding bounds firstOf
         allowed o p h = let k = shares-tested e in record { code = rw (z, k, n, o); share = h }
 
--- ---- answers but those that a put asks before room
+-- ---- a put at a used quota
+
+module _ (held used : Bool) where
+  pub held-passes : held ≡ true → false ≡ (not held && used)
+  held-passes e = rw e
+
+  pub new-counts : held ≡ false → used ≡ (not held && used)
+  new-counts e = rw e
+
+-- answers but those that the store asks before its own room
 
 tag-code : (a : Answer) → tagOf the-type a ≡ codeOf a
 unfolding codeOf
