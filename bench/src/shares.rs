@@ -1,7 +1,6 @@
 //! Request #110: forty tenants on one chip. A put by tenant beside a plain Rust
 //! (`bindings/rust/tests/store/shares_plain.rs`, its blank test by words), and beside the store's own put
-//! and one count: a read of a block that is not stored, which goes over the image and over the slots in
-//! use as a count does.
+//! and one count: a put by tenant of too many bytes, which is refused behind the count (3).
 
 use crate::by_words::reference::{Geometry, DONE, FULL};
 use crate::by_words::shares_plain as plain;
@@ -139,7 +138,7 @@ fn library_put(image: &mut [u8], shares: &[Share], tenant: u32, block: u16) -> u
     done.err().unwrap_or(Answer::Done).number()
 }
 
-/// The library's time over that of its put without shares and of a read of a block that is not stored.
+/// The library's time over that of its put without shares and of a count.
 fn beside_the_store(put: &Put, by_tenant: f64, runs: usize) {
     let Geometry { n, b } = CHIP;
     let chip = typed(reference::Geometry { n, b });
@@ -147,14 +146,16 @@ fn beside_the_store(put: &Put, by_tenant: f64, runs: usize) {
     let mut times: [Vec<Duration>; 2] = Default::default();
     for _ in 0..runs {
         image.copy_from_slice(put.image);
-        let (read, time) = timed(|| chip.read(black_box(&image), Block(65_000)).answer);
-        assert_eq!(read, Answer::Absent);
+        let lent = black_box(&mut image[..]);
+        let mut tenant = chip.tenant(lent, put.shares, put.tenant);
+        let (refused, time) = timed(|| tenant.put(Block(put.block), &[0; 249]));
+        assert_eq!(refused, Err(Answer::Length));
         times[1].push(time);
         image.copy_from_slice(put.image);
-        let image = black_box(&mut image[..]);
+        let lent = black_box(&mut image[..]);
         // Where the quota is used, the store is asked without a step to spend.
         let budget = if put.code == FULL { 0 } else { u64::MAX };
-        let (_, time) = timed(|| chip.put(image, Block(put.block), &CONTENTS, budget));
+        let (_, time) = timed(|| chip.put(lent, Block(put.block), &CONTENTS, budget));
         times[0].push(time);
     }
     let [store, count] = times.map(median);

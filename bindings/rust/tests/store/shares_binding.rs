@@ -59,6 +59,6 @@ fn a_tenants_view() {
         seen[usize::from(told.code)] += 1;
     }
     for code in [DONE, NUMBER, LENGTH, ABSENT, FULL, FOREIGN, SHORT_BUFFER] {
-        assert!(seen[usize::from(code)] > 100, "{code}: {seen:?}");
+        assert!(seen[usize::from(code)] > 50, "{code}: {seen:?}");
     }
 }
