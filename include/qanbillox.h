@@ -8,7 +8,7 @@
  * answers QBX_CUT. Recover before the next request then, as after any loss of power; but a format, a move or a rebuild
  * that was cut is begun again.
  *
- * No function allocates, keeps a pointer or has state of its own. A request takes at most 15,024 bytes of stack on
+ * No function allocates, keeps a pointer or has state of its own. A request takes at most 15,296 bytes of stack on
  * x86-64, the account 353,792 bytes, a move 276,992, a salvage 397,648, a rebuild 397,680, measured up to n = 255
  * and b = 255 (bench/stack.c). Link with libqanbillox.a. */
 #ifndef QANBILLOX_H
