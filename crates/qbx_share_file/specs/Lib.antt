@@ -1,0 +1,2 @@
+pub mod ShareFile
+pub mod Steps
