@@ -7,6 +7,7 @@ use lib.ListN.{length, take, drop}
 use Rattle.qbx_share_file.specs.declared.LineRead.{LineRead}
 use Rattle.qbx_share_file.specs.declared.LineRead.the-variants.{Blank, Share, Odd}
 use Rattle.qbx_share_file.specs.ShareFile.{over}
+use Rattle.qbx_share_file.specs.Instances.{right-files}
 
 -- how many bytes come before the first of a kind
 unfoldable pub reach : (ℕ → Bool) → List ℕ → ℕ
