@@ -51,7 +51,7 @@ fn add_reason(line: Line, answer: Answer) -> Line
 }
 
 // An answer, with no line end.
-fn say_answer(answer: Answer) -> Line
+pub fn say_answer(answer: Answer) -> Line
     ensures { λ r. ⌜ (said r ≡ answerText answer) × (r .count ≤ 44) ⌝ }
 {
     let number = request::number_of(answer);
