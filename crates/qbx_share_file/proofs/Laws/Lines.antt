@@ -120,3 +120,20 @@ module _ (text lent : List ℕ) (at k count end : ℕ) (shares : List ℕ) (line
         lists = sym (y .puts (rest .numbers)) ∙ ap (λ (ns : List ℕ). behind count ns shares) (sym n) ∙ x .lists;
         counts = omega (arith, y .counts (length (rest .numbers)), x .counts, x .long, l);
         wrong = sym (r .1) ∙ ap (λ (s : Said). s .wrong) (sym split) ∙ x .wrong }
+
+-- ---- for who reads a file
+
+within-by : (room n : ℕ) (y : Said) (t : Bool) → eqb (y .wrong) 0 ≡ t → Listed n ≡ listing room y → n ≤ room
+unfolding listing
+within-by room n y true h e =
+    let f : Listed n ≡ Listed (min (length (y .numbers)) room) = rw h at e in
+    let g : n ≡ min (length (y .numbers)) room = cc in
+    omega arith
+within-by room n y false h e =
+    let f : Listed n ≡ Wrong (y .wrong) = rw h at e in
+    let z : _≡_ {A = ℕ} 0 1 = cc in
+    absurd (omega arith)
+
+-- what is listed is within the list
+pub listed-within : (room n : ℕ) (y : Said) → Listed n ≡ listing room y → n ≤ room
+listed-within room n y e = within-by room n y (eqb (y .wrong) 0) refl e
