@@ -19,12 +19,13 @@ returns : tie.Need-returns
 unfolding number32Of fits32
 returns c = rw (sym (c .before .before .number .ensures) ∙ c .enum-told .given .1)
 
+-- that the number fits stands first: an edit is refused for that
+cast-t5 : tie.Need-cast-t5
+cast-t5 c = search needs
+
 returns-2 : tie.Need-returns-2
 unfolding number32Of fits32
 returns-2 c = rw (sym (c .before .before .before .before .number .ensures) ∙ c .before .before .n .given .1, le-ltb _ 4294967296 (c .if1 .taken))
-
-cast-t5 : tie.Need-cast-t5
-cast-t5 c = search needs
 
 returns-3 : tie.Need-returns-3
 unfolding number32Of fits32

@@ -21,9 +21,6 @@ returns c = blank-line _ (rw (c .before .word .ensures) at (c .if1 .taken))
 word-requires-2 : tie.Need-word-requires-2
 word-requires-2 c κs = search needs
 
-returns-2 : tie.Need-returns-2
-returns-2 c = long-line _ (rw (c .before .word2 .ensures) at (c .if2 .taken))
-
 word-requires-3 : tie.Need-word-requires-3
 word-requires-3 c κs = search needs
 
@@ -91,6 +88,10 @@ returns-6 c =
     let some : length (getD (wordsOf l) 0 []) ≡ 0 → ⊥ = rw (c .before .before .before .before .before .before .before .before .before .before .before .before .before .before .before .before .before .before .word .ensures) at (c .before .before .before .before .before .before .before .before .before .before .before .before .before .before .before .before .before .if1 .left) in
     let few : length (getD (wordsOf l) 3 []) ≤ 0 = rw (c .before .before .before .before .before .before .before .before .before .before .before .before .before .before .before .before .word2 .ensures) at (c .before .before .before .before .before .before .before .before .before .before .before .before .before .before .before .if2 .left) in
     three-words l _ _ _ some few (ap number32Of (sym (c .before .before .before .before .before .before .before .before .before .before .before .before .before .before .word3 .ensures)) ∙ sym (c .before .before .before .before .before .before .before .before .before .before .before .before .before .number32 .ensures) ∙ c .before .before .before .before .before .before .before .before .before .before .before .first .given .1) (ap number32Of (sym (c .before .before .before .before .before .before .before .before .before .word4 .ensures)) ∙ sym (c .before .before .before .before .before .before .before .before .number322 .ensures) ∙ c .before .before .before .before .before .before .last .given .1) (ap number32Of (sym (c .before .before .before .before .word5 .ensures)) ∙ sym (c .before .before .before .number323 .ensures) ∙ c .before .quota .given .1)
+
+-- behind what three words say, so that an edit is refused for that
+returns-2 : tie.Need-returns-2
+returns-2 c = long-line _ (rw (c .before .word2 .ensures) at (c .if2 .taken))
 
 pub read-line-spec : {M : Type 1} → statement M
 read-line-spec =
