@@ -5,6 +5,8 @@ use mathlib.Core.List.{List, [], _∷_}
 use lib.Dec.{ltb}
 use Rattle.qbx_numbers.specs.declared.Parsed.{Parsed}
 use Rattle.qbx_numbers.specs.declared.Parsed.the-variants.{Number, NoNumber}
+use Rattle.qbx_numbers.specs.declared.Parsed32.{Parsed32}
+use Rattle.qbx_numbers.specs.declared.Parsed32.the-variants.{Number32, NoNumber32}
 
 -- the digit that a byte is; 10 if it is none
 unfoldable pub digitOf : ℕ → ℕ
@@ -30,3 +32,11 @@ numberFrom v s = cond (allDigits s && ltb (valueFrom v s) numberBound) (Number (
 unfoldable pub numberOf : List ℕ → Parsed
 numberOf [] = NoNumber
 numberOf (b ∷ s) = numberFrom 0 (b ∷ s)
+
+-- a number that fits 32 bits
+unfoldable pub fits32 : Parsed → Parsed32
+fits32 (Number n) = cond (ltb n 4294967296) (Number32 n) NoNumber32
+fits32 NoNumber = NoNumber32
+
+unfoldable pub number32Of : List ℕ → Parsed32
+number32Of w = fits32 (numberOf w)

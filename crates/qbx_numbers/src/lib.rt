@@ -1,11 +1,17 @@
 // Numbers in decimal, read from a word.
 ghost use mathlib.Core.Path.{_≡_};
-ghost use Rattle.qbx_numbers.specs.Number.{digitOf, numberOf};
+ghost use Rattle.qbx_numbers.specs.Number.{digitOf, numberOf, number32Of};
 
 // A number read from a word.
 pub enum Parsed {
     Number(u64),
     NoNumber,
+}
+
+// A number of 32 bits read from a word.
+pub enum Parsed32 {
+    Number32(u32),
+    NoNumber32,
 }
 
 // A tenth of the bound on numbers that are read.
@@ -45,4 +51,17 @@ pub fn number(word: &[u8]) -> Parsed
         i += 1;
     }
     Parsed::Number(value)
+}
+
+// A number as `number` reads it, if it fits 32 bits.
+pub fn number32(word: &[u8]) -> Parsed32
+    ensures { λ r. ⌜ r ≡ number32Of (now (word .entry)) ⌝ }
+{
+    let Parsed::Number(n) = number(word) else {
+        return Parsed32::NoNumber32;
+    };
+    if n >= 4294967296 {
+        return Parsed32::NoNumber32;
+    }
+    Parsed32::Number32(n as u32)
 }

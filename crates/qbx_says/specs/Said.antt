@@ -10,7 +10,7 @@ use Rattle.model.specs.Chip.{inRange, imageLength}
 use Rattle.text.specs.Text.{text}
 use Rattle.text.specs.Decimal.{decimal}
 use Rattle.qbx_words.specs.declared.Complaint.{Complaint}
-use Rattle.qbx_words.specs.declared.Complaint.the-variants.{Segments, Slots, NoVerb, Block, NoTarget, TargetSegments, TargetSlots, NoOption, Budget}
+use Rattle.qbx_words.specs.declared.Complaint.the-variants.{Segments, Slots, NoVerb, Block, NoTarget, TargetSegments, TargetSlots, NoShares, Tenant, NoOption, Budget}
 
 -- ---- answers
 
@@ -63,11 +63,13 @@ sizeLine N B there = performedText Size 0 ++ askedText N B ++ (text "; " ++ deci
 unfoldable pub complaintText : Complaint → List ℕ
 complaintText Segments = text "qbx: N is not a number\n"
 complaintText Slots = text "qbx: B is not a number\n"
-complaintText NoVerb = text "qbx: the verb is none of format, put, get, delete, recover, check, account, map, salvage, move, rebuild\n"
+complaintText NoVerb = text "qbx: the verb is none of format, put, get, delete, recover, check, account, map, salvage, move, rebuild, share-put, share-get, share-delete\n"
 complaintText Block = text "qbx: BLOCK is not a number up to 65535\n"
 complaintText NoTarget = text "qbx: TARGET is missing, or longer than a path may be\n"
 complaintText TargetSegments = text "qbx: TARGET's N is not a number\n"
 complaintText TargetSlots = text "qbx: TARGET's B is not a number\n"
+complaintText NoShares = text "qbx: SHARES is missing, or longer than a path may be\n"
+complaintText Tenant = text "qbx: TENANT is not a number up to 4294967295\n"
 complaintText NoOption = text "qbx: only --budget STEPS may follow, and only a verb that writes\n"
 complaintText Budget = text "qbx: STEPS is not a number\n"
 

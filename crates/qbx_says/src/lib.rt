@@ -51,7 +51,7 @@ fn add_reason(line: Line, answer: Answer) -> Line
 }
 
 // An answer, with no line end.
-fn say_answer(answer: Answer) -> Line
+pub fn say_answer(answer: Answer) -> Line
     ensures { λ r. ⌜ (said r ≡ answerText answer) × (r .count ≤ 44) ⌝ }
 {
     let number = request::number_of(answer);
@@ -120,7 +120,7 @@ pub fn say_complaint(complaint: Complaint) -> Line
         Complaint::Slots => add(line, b"qbx: B is not a number\n"),
         Complaint::NoVerb => add(
             line,
-            b"qbx: the verb is none of format, put, get, delete, recover, check, account, map, salvage, move, rebuild\n",
+            b"qbx: the verb is none of format, put, get, delete, recover, check, account, map, salvage, move, rebuild, share-put, share-get, share-delete\n",
         ),
         Complaint::Block => add(line, b"qbx: BLOCK is not a number up to 65535\n"),
         Complaint::NoTarget => add(
@@ -129,6 +129,11 @@ pub fn say_complaint(complaint: Complaint) -> Line
         ),
         Complaint::TargetSegments => add(line, b"qbx: TARGET's N is not a number\n"),
         Complaint::TargetSlots => add(line, b"qbx: TARGET's B is not a number\n"),
+        Complaint::NoShares => add(
+            line,
+            b"qbx: SHARES is missing, or longer than a path may be\n",
+        ),
+        Complaint::Tenant => add(line, b"qbx: TENANT is not a number up to 4294967295\n"),
         Complaint::NoOption => add(
             line,
             b"qbx: only --budget STEPS may follow, and only a verb that writes\n",

@@ -1,10 +1,12 @@
 // Plays a script of commands, one to a line, each as qbx would obey it: IMAGE N B VERB [BLOCK] [--budget STEPS] [< contents], or
-// IMAGE N B move TARGET N B [--budget STEPS], or the same with rebuild.
+// IMAGE N B move TARGET N B [--budget STEPS], or the same with rebuild, or IMAGE N B share-put SHARES TENANT BLOCK [< contents], or
+// the same with share-get or share-delete.
 // All that is said goes to standard output, so that a whole story is one output to compare.
 use libc::STDIN_FILENO;
 use libc::STDOUT_FILENO;
 use qbx_move_words::MoveReading;
 use qbx_script_words::word;
+use qbx_share_words::ShareReading;
 use qbx_words::Reading;
 
 // The words of a move or a rebuild.
@@ -28,10 +30,40 @@ fn carry(line: &[u8]) {
     }
 }
 
+// The words of a tenant's command, and what stands behind '<'.
+fn share(line: &[u8], contents: &[u8]) {
+    let shares = word(line, 4);
+    let reading = qbx_share_words::share_of(
+        word(line, 1),
+        word(line, 2),
+        word(line, 3),
+        shares,
+        word(line, 5),
+        word(line, 6),
+    );
+    match reading {
+        ShareReading::Right(command) => {
+            qbx_share_buffers::obey(
+                word(line, 0),
+                shares,
+                command,
+                contents,
+                STDOUT_FILENO,
+                STDOUT_FILENO,
+            );
+        }
+        ShareReading::Wrong(complaint) => qbx_out::complain(complaint, STDOUT_FILENO),
+    }
+}
+
 // The words of a command, and what stands behind '<'.
 fn obey(line: &[u8], contents: &[u8]) {
     if qbx_move_words::names_target(word(line, 3)) {
         carry(line);
+        return;
+    }
+    if qbx_share_words::names_shares(word(line, 3)) {
+        share(line, contents);
         return;
     }
     let reading = qbx_words::command_of(

@@ -25,6 +25,8 @@ pub enum Complaint {
     NoTarget,
     TargetSegments,
     TargetSlots,
+    NoShares,
+    Tenant,
     NoOption,
     Budget,
 }

@@ -6,17 +6,11 @@ use borrow.Author.Needs.{needs}
 use Rattle.qbx.proofs.put.Statement.{statement}
 use Rattle.qbx.proofs.put.Tie as tie
 
-slice-aggregate-fill : tie.Need-slice-aggregate-fill
-slice-aggregate-fill c = search needs
+slice-aggregate-read-contents : tie.Need-slice-aggregate-read-contents
+slice-aggregate-read-contents c = search needs
 
-fill-requires : tie.Need-fill-requires
-fill-requires c κs = search needs
-
-slice-aggregate-write-all : tie.Need-slice-aggregate-write-all
-slice-aggregate-write-all c = search needs
-
-write-all-requires : tie.Need-write-all-requires
-write-all-requires c κs = search needs
+read-contents-requires : tie.Need-read-contents-requires
+read-contents-requires c κs = search needs
 
 returns : tie.Need-returns
 returns c = search needs
@@ -37,10 +31,8 @@ pub put-spec : {M : Type 1} → statement M
 put-spec =
     tie.close
     (tie.spec
-    slice-aggregate-fill
-    fill-requires
-    slice-aggregate-write-all
-    write-all-requires
+    slice-aggregate-read-contents
+    read-contents-requires
     returns
     array-share-prefix-contents
     slice-aggregate-obey

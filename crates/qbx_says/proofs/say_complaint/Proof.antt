@@ -91,6 +91,24 @@ slice-aggregate-add-9 c = search needs
 add-requires-9 : tie.Need-add-requires-9
 add-requires-9 c κs = search needs
 
+enum-told-10 : tie.Need-enum-told-10
+enum-told-10 c = search needs
+
+slice-aggregate-add-10 : tie.Need-slice-aggregate-add-10
+slice-aggregate-add-10 c = search needs
+
+add-requires-10 : tie.Need-add-requires-10
+add-requires-10 c κs = search needs
+
+enum-told-11 : tie.Need-enum-told-11
+enum-told-11 c = search needs
+
+slice-aggregate-add-11 : tie.Need-slice-aggregate-add-11
+slice-aggregate-add-11 c = search needs
+
+add-requires-11 : tie.Need-add-requires-11
+add-requires-11 c κs = search needs
+
 returns : tie.Need-returns
 unfolding text complaintText
 returns c = rw (c .before .before .enum-told .given .1) (more (c .add .ensures) (c .before .before .before .before .empty .ensures .0), omega arith)
@@ -127,6 +145,14 @@ returns-9 : tie.Need-returns-9
 unfolding text complaintText
 returns-9 c = rw (c .before .before .enum-told9 .given .1) (more (c .add9 .ensures) (c .before .before .before .before .empty .ensures .0), omega arith)
 
+returns-10 : tie.Need-returns-10
+unfolding text complaintText
+returns-10 c = rw (c .before .before .enum-told10 .given .1) (more (c .add10 .ensures) (c .before .before .before .before .empty .ensures .0), omega arith)
+
+returns-11 : tie.Need-returns-11
+unfolding text complaintText
+returns-11 c = rw (c .before .before .enum-told11 .given .1) (more (c .add11 .ensures) (c .before .before .before .before .empty .ensures .0), omega arith)
+
 pub say-complaint-spec : {M : Type 1} → statement M
 say-complaint-spec =
     tie.close
@@ -159,6 +185,12 @@ say-complaint-spec =
     enum-told-9
     slice-aggregate-add-9
     add-requires-9
+    enum-told-10
+    slice-aggregate-add-10
+    add-requires-10
+    enum-told-11
+    slice-aggregate-add-11
+    add-requires-11
     returns
     returns-2
     returns-3
@@ -167,4 +199,6 @@ say-complaint-spec =
     returns-6
     returns-7
     returns-8
-    returns-9)
+    returns-9
+    returns-10
+    returns-11)

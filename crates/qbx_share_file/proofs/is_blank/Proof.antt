@@ -1,0 +1,17 @@
+-- `qbx_share_file::is_blank` is the test of the definition. Assumes nothing.
+use mathlib.Core.Path.{refl}
+use borrow.Author.Tests.{eq-eqb, ne-eqb}
+use Rattle.qbx_share_file.specs.ShareFile.{isBlank}
+use Rattle.qbx_share_file.proofs.is_blank.Statement.{statement}
+use Rattle.qbx_share_file.proofs.is_blank.Tie as tie
+
+returns : tie.Need-returns
+unfolding isBlank
+returns c = rw (eq-eqb _ 32 (c .if1 .taken))
+
+returns-2 : tie.Need-returns-2
+unfolding isBlank
+returns-2 c = rw (ne-eqb _ 32 (c .if1 .left))
+
+pub is-blank-spec : {M : Type 1} → statement M
+is-blank-spec = tie.close (tie.spec returns returns-2)

@@ -1,0 +1,3 @@
+pub mod ShareFile
+pub mod Instances
+pub mod Steps
