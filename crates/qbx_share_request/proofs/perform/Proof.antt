@@ -38,7 +38,7 @@ same-length-3 c = search needs
 
 returns-2 : tie.Need-returns-2
 unfolding carriedBy askedBy
-returns-2 c = rw (c .before .before .before .before .before .enum-told2 .given .1) (read _ _ _ _ _ _ _ _ _ (c .before .before .read .ensures))
+returns-2 c = rw (c .before .before .before .before .before .enum-told2 .given .1) (read _ _ _ _ _ _ _ _ _ (c .before .before .read .ensures .0))
 
 same-length-4 : tie.Need-same-length-4
 same-length-4 c = search needs
