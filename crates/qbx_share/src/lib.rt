@@ -7,12 +7,12 @@ use qbx_out::print;
 use qbx_share_file::Listing;
 use qbx_share_words::ShareCommand;
 use qbx_share_words::ShareVerb;
-ghost use Prim.Native.Nat.{_<_, _≤_};
+ghost use Prim.Native.Nat.{_<_};
 ghost use lib.ListN.{length};
 ghost use Rattle.request.specs.Request.{sizeOf};
 
-// The numbers of one tenant more than there may be, so that too many are seen.
-const MOST_NUMBERS: usize = 123;
+// Three numbers for each of 41 tenants: one more than there may be, so that too many are seen.
+const NUMBERS: usize = 123;
 
 // The most bytes of a file of shares.
 const MOST_TEXT: usize = 4096;
@@ -154,18 +154,10 @@ pub fn obey(
         io::write_all(err, b"qbx: SHARES is longer than 4096 bytes\n");
         return;
     }
-    let mut shares = [0u32; MOST_NUMBERS];
+    let mut shares = [0u32; NUMBERS];
     let listing = qbx_share_file::read_shares(&text[..n], &mut shares);
     match listing {
-        Listing::Listed(count) => work(
-            image,
-            path,
-            &shares[..count],
-            command,
-            contents,
-            out,
-            err,
-        ),
+        Listing::Listed(count) => work(image, path, &shares[..count], command, contents, out, err),
         Listing::Wrong(line) => print(err, qbx_share_says::say_wrong_line(line)),
     }
 }

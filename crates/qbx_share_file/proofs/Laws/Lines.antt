@@ -119,7 +119,8 @@ module _ (text lent : List ℕ) (at k count end : ℕ) (shares : List ℕ) (line
         long = y .long ∙ x .long;
         lists = sym (y .puts (rest .numbers)) ∙ ap (λ (ns : List ℕ). behind count ns shares) (sym n) ∙ x .lists;
         counts = omega (arith, y .counts (length (rest .numbers)), x .counts, x .long, l);
-        wrong = sym (r .1) ∙ ap (λ (s : Said). s .wrong) (sym split) ∙ x .wrong }
+        wrong = sym (r .1) ∙ ap (λ (s : Said). s .wrong) (sym split) ∙ x .wrong;
+      }
 
 -- ---- for who reads a file
 

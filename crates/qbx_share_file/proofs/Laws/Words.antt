@@ -13,7 +13,7 @@ use Rattle.qbx_numbers.specs.declared.Parsed32.the-variants.{Number32, NoNumber
 use Rattle.qbx_share_file.specs.declared.LineRead.the-variants.{Blank, Odd}
 use Rattle.qbx_share_file.specs.ShareFile.{parts, filled, isBlank, wordsOf, shareOf, lineOf}
 use Rattle.qbx_share_file.specs.Steps.{reach}
-use Rattle.qbx_share_file.proofs.Laws.Parts.{others, parts-first, filled-others}
+use Rattle.qbx_share_file.proofs.Laws.Parts.{parts-first, filled-others}
 
 -- ---- from the front
 

@@ -1,5 +1,4 @@
 -- `qbx_share_file::is_blank` is the test of the definition. Assumes nothing.
-use mathlib.Core.Path.{refl}
 use borrow.Author.Tests.{eq-eqb, ne-eqb}
 use Rattle.qbx_share_file.specs.ShareFile.{isBlank}
 use Rattle.qbx_share_file.proofs.is_blank.Statement.{statement}

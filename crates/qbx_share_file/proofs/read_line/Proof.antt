@@ -1,11 +1,11 @@
 -- `qbx_share_file::read_line`: a word and not four, each a number. Assumes nothing.
 use Prim.Native.Nat.{_≤_}
 use mathlib.Core.Path.{_≡_, refl, sym, ap, _∙_}
-use mathlib.Core.List.{List, []}
+use mathlib.Core.List.{[]}
 use denote.Ref.{now}
 use lib.ListN.{length, getD}
 use Rattle.qbx_numbers.specs.Number.{number32Of}
-use Rattle.qbx_numbers.specs.declared.Parsed32.the-variants.{Number32, NoNumber32}
+use Rattle.qbx_numbers.specs.declared.Parsed32.the-variants.{NoNumber32}
 use Rattle.qbx_share_file.specs.ShareFile.{wordsOf, shareOf}
 use Rattle.qbx_share_file.proofs.Laws.Words.{blank-line, long-line, three-words}
 use borrow.Author.Needs.{needs}

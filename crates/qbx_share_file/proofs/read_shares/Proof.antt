@@ -1,6 +1,6 @@
 -- `qbx_share_file::read_shares`. The invariant: what is left to be read gives what the whole text does. Assumes nothing.
 use Prim.Native.Nat.{_-_}
-use mathlib.Core.Path.{_≡_, sym, _∙_}
+use mathlib.Core.Path.{sym, _∙_}
 use native.Mathlib.Omega.{arith}
 use lib.ListN.{length}
 use denote.Ref.{now}
