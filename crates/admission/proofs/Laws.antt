@@ -13,9 +13,9 @@ use Rattle.model.specs.Answers.{codeOf, firstOf}
 use Rattle.model.specs.declared.Answer.{Answer}
 use Rattle.model.specs.declared.Answer.the-variants.{Done, Size, Number, Length, Damaged, Unfinished, Absent, Full, Worn, Cut, ShortTable, FormerVersion, Foreign, Shares, ShortBuffer}
 use Rattle.model.proofs.Answer.{the-type}
-use Rattle.shares.specs.Shares.{sharesOf, sharesOk, shareOf, owns}
+use Rattle.shares.specs.Shares.{sharesOf, sharesWithin, sharesOk, shareOf, owns}
 use Rattle.shares.specs.Layer.{bounds, beforeFull}
-use Rattle.share_list.specs.Places.{sharesWithin, shareIn}
+use Rattle.share_list.specs.Places.{shareIn}
 use Rattle.share_list.specs.declared.Part.{Part}
 use Rattle.share_list.proofs.Laws.{within-capacity}
 use Rattle.admission.specs.Admission.{Allowed, Kept}

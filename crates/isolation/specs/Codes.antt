@@ -98,7 +98,7 @@ foreign-code N B ns s a r z right number foreign = rw (z, right, number, foreign
 abbrev pub Spare : Share → Table → Asked → Type 0
 Spare x t (puts b c) = (not (holds b t) && quotaUsed x t) ≡ false
 Spare x t (deletes b) = Unit {0}
-Spare x t (reads b lent) = Unit {0}
+Spare x t (reads b size) = Unit {0}
 
 -- refused by none of its rows: the store answers 0
 rows-none : (x : Share) (t : Table) (k : ℕ) (r : Asked) → firstOf (rows x t k r) ≡ 0 → (k ≡ 0) × Spare x t r
@@ -110,9 +110,9 @@ rows-none x t k (puts b c) h = go (beforeFull k) refl (not (holds b t) && quotaU
     go false e true q = absurd (omega (arith, q))
     go false e false q = (q, refl)
 rows-none x t k (deletes b) h = (h, tt)
-rows-none x t k (reads b lent) h = (go (eqb k 0) refl h, tt)
+rows-none x t k (reads b size) h = (go (eqb k 0) refl h, tt)
   where
-    go : (y : Bool) → eqb k 0 ≡ y → cond (not y) k (cond (ltb (length lent) (length (contentsFound (lookup b t)))) 14 0) ≡ 0 → k ≡ 0
+    go : (y : Bool) → eqb k 0 ≡ y → cond (not y) k (cond (ltb size (length (contentsFound (lookup b t)))) 14 0) ≡ 0 → k ≡ 0
     go true e q = eqb-true k 0 e
     go false e q = q
 

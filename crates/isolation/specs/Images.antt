@@ -141,7 +141,7 @@ puts-asked : (r : Asked) (b : ℕ) (c : List ℕ) → storeRequest r ≡ put b c
 unfolding storeRequest blockAsked
 puts-asked (puts a d) b c e = (cc, cc)
 puts-asked (deletes a) b c e = absurd (let y : _≡_ {A = ℕ} 0 1 = cc in omega (arith, y))
-puts-asked (reads a lent) b c e = absurd (let y : _≡_ {A = ℕ} 0 1 = cc in omega (arith, y))
+puts-asked (reads a size) b c e = absurd (let y : _≡_ {A = ℕ} 0 1 = cc in omega (arith, y))
 
 pub through : (N B : ℕ) (ns : List ℕ) (ts : List Turn) (s u : Image) (v : Promise) → OnlyLayer ts → Layered N B ns s v → Through N B ns s ts u
     → (y : Promise) × Layered N B ns u y × From ns ts v y

@@ -179,8 +179,8 @@ PutBy a b c (store e ∷ ts) = PutBy a b c ts
 
 -- The accident of tenant 31: what a tenant reads it has put itself, under that number, through every power cut and recovery.
 abbrev pub OwnContents : Type 0
-OwnContents = (N B : ℕ) (ns : List ℕ) (ts : List Turn) (u : Image) (a b : ℕ) (lent c : List ℕ) → OfLayer N B ns ts u
-    → replyTo N B ns u (record { tenant = a; asked = reads b lent }) ≡ record { code = 0; bytes = c } → PutBy a b c ts
+OwnContents = (N B : ℕ) (ns : List ℕ) (ts : List Turn) (u : Image) (a b size : ℕ) (c : List ℕ) → OfLayer N B ns ts u
+    → replyTo N B ns u (record { tenant = a; asked = reads b size }) ≡ record { code = 0; bytes = c } → PutBy a b c ts
 
 -- ---- with a cut: demand 2
 

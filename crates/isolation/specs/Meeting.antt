@@ -42,7 +42,7 @@ accepted-clean N B s (puts b c) e =
     let damage = none-applies 3 (isDamaged (state N B s)) _ contents in
     neither (state N B s) (damage .0) (none-applies 4 (isUnfinished (state N B s)) _ (damage .1) .0)
 accepted-clean N B s (deletes b) e = absent-clean N B s b (sym (code-of N B s (delete b)) ∙ e)
-accepted-clean N B s (reads b lent) e = absent-clean N B s b (sym (code-of N B s (read b)) ∙ e)
+accepted-clean N B s (reads b size) e = absent-clean N B s b (sym (code-of N B s (read b)) ∙ e)
 
 -- ---- refused, or the store's own
 
@@ -77,8 +77,8 @@ asked-bytes : (N B : ℕ) (s : Image) (r : Asked) → workOf N B s (storeRequest
 unfolding contentsAsked bytesRead storeRequest
 asked-bytes N B s (puts b c) e = refl
 asked-bytes N B s (deletes b) e = refl
-asked-bytes N B s (reads b lent) e =
-    sym (request-laws N B .read-done s b (size-passed N B s (read b) (sym (code-of N B s (read b)) ∙ e)) (accepted-clean N B s (reads b lent) (unfold storeRequest in e)) e)
+asked-bytes N B s (reads b size) e =
+    sym (request-laws N B .read-done s b (size-passed N B s (read b) (sym (code-of N B s (read b)) ∙ e)) (accepted-clean N B s (reads b size) (unfold storeRequest in e)) e)
 
 -- under an allowance of all its steps a request ends
 ends-whole : (N B : ℕ) (s : Image) (r : Request) → Ends N B s (length (workOf N B s r .steps)) r

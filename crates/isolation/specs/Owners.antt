@@ -12,7 +12,7 @@ use Rattle.model.specs.Slot.{Entry}
 use Rattle.model.specs.State.{holds, capacity}
 use Rattle.model.specs.Table.{Table, liveBetween}
 use Rattle.model.specs.Laws.Lists.{and-left, and-right, and-both, all-get}
-use Rattle.shares.specs.Shares.{Share, mostTenants, sharesOf, rangeOk, overlap, disjoint, quotaSum, sharesOk, isTenant, shareOf, owns}
+use Rattle.shares.specs.Shares.{Share, mostTenants, sharesOf, rangeOk, overlap, disjoint, quotaSum, sharesWithin, sharesOk, isTenant, shareOf, owns}
 use Rattle.isolation.specs.Live.{inRange, live-cons}
 
 -- the share at a place, and what nobody asks for behind the last
@@ -73,7 +73,7 @@ one-place (x ∷ xs) b (suc i) (suc j) d p q h k =
     ap suc (one-place xs b i j (and-right (all (λ y. not (overlap x y)) xs) (disjoint xs) d) (omega (arith, p)) (omega (arith, q)) h k)
 
 right-disjoint : (N B : ℕ) (ns : List ℕ) → sharesOk N B ns ≡ true → (disjoint (sharesOf ns) ≡ true) × (quotaSum (sharesOf ns) ≤ capacity N B)
-unfolding sharesOk
+unfolding sharesOk sharesWithin
 right-disjoint N B ns h =
     let xs = sharesOf ns in
     let fits = disjoint xs && leb (quotaSum xs) (capacity N B) in

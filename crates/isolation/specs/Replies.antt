@@ -113,8 +113,8 @@ module _ (N B : ℕ) (ns : List ℕ) (a : ℕ) where
         let second = put-row r e b c o in
         first ∙ (put-but-worn (lengthOk (length c)) (not (holds b (tableOf N B r)) && quotaUsed share (tableOf N B r)) (wears N B s) (wears N B r) (λ y. m (first ∙ y)) (λ y. n (second ∙ y)) ∙ sym second)
     row-alike (deletes b) p o m n = absent-alike b p (deletes b) (ap (λ (y : Bool). cond (eqb (cond (numberOk b) 0 2) 0) (cond y 0 6) (cond (numberOk b) 0 2)) (held-alike b p))
-    row-alike (reads b lent) p o m n =
-        let k = absent-alike b p (reads b lent) (ap (λ (y : Bool). cond (eqb (cond (numberOk b) 0 2) 0) (cond y 0 6) (cond (numberOk b) 0 2)) (held-alike b p)) in
+    row-alike (reads b size) p o m n =
+        let k = absent-alike b p (reads b size) (ap (λ (y : Bool). cond (eqb (cond (numberOk b) 0 2) 0) (cond y 0 6) (cond (numberOk b) 0 2)) (held-alike b p)) in
         rw (k, g b (p .own))
 
     code-alike : (q : Asked) → shareCode N B ns s a q ≢ 8 → shareCode N B ns r a q ≢ 8 → shareCode N B ns s a q ≡ shareCode N B ns r a q
@@ -136,7 +136,7 @@ module _ (N B : ℕ) (ns : List ℕ) (a : ℕ) where
     unfolding contentsAsked blockAsked
     contents-alike (puts b c) o = refl
     contents-alike (deletes b) o = refl
-    contents-alike (reads b lent) o = ap contentsFound (g b o)
+    contents-alike (reads b size) o = ap contentsFound (g b o)
 
     given-alike : (q : Asked) → shareCode N B ns s a q ≡ shareCode N B ns r a q → shareOutcome N B ns s a q .given ≡ shareOutcome N B ns r a q .given
     unfolding shareOutcome shareWork

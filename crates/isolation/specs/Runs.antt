@@ -29,13 +29,13 @@ made-other : (r : Asked) (t : Table) (b : ℕ) → b ≢ blockAsked r → lookup
 unfolding made storeRequest blockAsked
 made-other (puts a c) t b n = lookup-store-other b a c t n
 made-other (deletes a) t b n = lookup-without-other b a t n
-made-other (reads a lent) t b n = refl
+made-other (reads a size) t b n = refl
 
 made-own : (r : Asked) (t u : Table) → lookup (blockAsked r) t ≡ lookup (blockAsked r) u → lookup (blockAsked r) (made t (storeRequest r)) ≡ lookup (blockAsked r) (made u (storeRequest r))
 unfolding made storeRequest blockAsked
 made-own (puts a c) t u h = lookup-store-same a c t ∙ sym (lookup-store-same a c u)
 made-own (deletes a) t u h = lookup-without-same a t ∙ sym (lookup-without-same a u)
-made-own (reads a lent) t u h = h
+made-own (reads a size) t u h = h
 
 made-same : (r : Asked) (t u : Table) (b : ℕ) → lookup b t ≡ lookup b u → lookup b (made t (storeRequest r)) ≡ lookup b (made u (storeRequest r))
 made-same r t u b h = elim (ℕ-discrete b (blockAsked r)) [

@@ -107,10 +107,10 @@ known P unknown h = absurd h
 
 pub own-contents : OwnContents
 unfolding storeRequest blockAsked
-own-contents N B ns ts u a b lent c h e = ⊎-elim (λ i. absurd (i .0 (ap (λ (y : Reply). y .code) e))) given (meets N B ns x u (answered (replyTo N B ns u x)) (served N B ns u x .image) (refl, refl))
+own-contents N B ns ts u a b size c h e = ⊎-elim (λ i. absurd (i .0 (ap (λ (y : Reply). y .code) e))) given (meets N B ns x u (answered (replyTo N B ns u x)) (served N B ns u x .image) (refl, refl))
   where
     x : Call
-    x = record { tenant = a; asked = reads b lent }
+    x = record { tenant = a; asked = reads b size }
 
     given : Asks N B ns x (answered (replyTo N B ns u x)) u (served N B ns u x .image) → PutBy a b c ts
     given d =

@@ -40,20 +40,20 @@ pub asked-on : (r : Asked) → OnTable (storeRequest r)
 unfolding storeRequest
 asked-on (puts b c) = tt
 asked-on (deletes b) = tt
-asked-on (reads b lent) = tt
+asked-on (reads b size) = tt
 
 asked-may : (N B : ℕ) (f : Bool) (r : Asked) → May N B f (request-laws N B) (storeRequest r)
 unfolding storeRequest
 asked-may N B f (puts b c) = tt
 asked-may N B f (deletes b) = tt
-asked-may N B f (reads b lent) = tt
+asked-may N B f (reads b size) = tt
 
 -- and leaves alone what it does not ask for
 pub asked-spares : (r : Asked) (b : ℕ) → b ≢ blockAsked r → Spares b (storeRequest r)
 unfolding storeRequest blockAsked
 asked-spares (puts a c) b n = inl n
 asked-spares (deletes a) b n = n
-asked-spares (reads a lent) b n = tt
+asked-spares (reads a size) b n = tt
 
 -- one turn of a tenant that the store accepts, from any promise
 pub asked-moves : (N B : ℕ) (f : Bool) (ns : List ℕ) (x : Call) (o : Seen) (s m : Image) (v : Promise) → ProperAsked (x .asked) → Invariant N B f s v → Asks N B ns x o s m

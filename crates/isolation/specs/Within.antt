@@ -43,7 +43,7 @@ pub spare-agree : (x : Share) (t u : Table) → distinct t ≡ true → distinct
 unfolding quotaUsed
 spare-agree x t u p q g (puts b c) h = ap₂ (λ (y : Bool) (n : ℕ). not y && leb (x .quota) n) (sym (agree-holds t u g b)) (sym (live-agree x t u p q g)) ∙ h
 spare-agree x t u p q g (deletes b) h = tt
-spare-agree x t u p q g (reads b lent) h = tt
+spare-agree x t u p q g (reads b size) h = tt
 
 -- ---- an accepted request
 
@@ -101,4 +101,4 @@ module _ (N B : ℕ) (ns : List ℕ) (right : sharesOk N B ns ≡ true) (a : ℕ
   unfolding made storeRequest blockAsked
   within-made (puts b c) own spare = (put-owned b c own, put-quotas b c own spare)
   within-made (deletes b) own spare = delete-within b
-  within-made (reads b lent) own spare = w
+  within-made (reads b size) own spare = w

@@ -2,6 +2,7 @@
 // another chip, salvage and requests by tenant, with what comes back packed into one number.
 use model::BlockNumber;
 ghost use mathlib.Core.Path.{_≡_};
+ghost use lib.ListN.{length};
 ghost use Rattle.model.specs.Answers.{outcomeOf, readOutcome, format, put, delete, recover};
 ghost use Rattle.model.specs.Mounted.{mountOutcome, MountedPut, MountedDelete, MountedRead};
 ghost use Rattle.moves.specs.Moves.{moveOutcome};
@@ -192,7 +193,7 @@ pub extern "C" fn qbx_share_read(
     block: u16,
     contents: &mut [u8],
 ) -> u64
-    ensures { λ r. ⌜ Prints (gaveIn (shareOutcome n b (now (shares .entry)) (now (image .entry)) tenant (reads block (now (contents .entry)))) (now (contents .entry))) r (now (contents .exit)) ⌝ }
+    ensures { λ r. ⌜ Prints (gaveIn (shareOutcome n b (now (shares .entry)) (now (image .entry)) tenant (reads block (length (now (contents .entry))))) (now (contents .entry))) r (now (contents .exit)) ⌝ }
 {
     packing::packed_print(sharing::read(image, n, b, shares, tenant, BlockNumber(block), contents))
 }

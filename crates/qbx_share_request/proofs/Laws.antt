@@ -4,6 +4,7 @@ use mathlib.Core.Path.{_≡_, refl, sym, ap, _∙_}
 use mathlib.Core.Bool.{Bool, true, false, cond}
 use mathlib.Core.List.{List, []}
 use lib.Dec.{eqb}
+use lib.ListN.{length}
 use Rattle.model.specs.Chip.{Image, Step, run}
 use Rattle.model.specs.declared.Answer.{Answer}
 use Rattle.crash.specs.Requests.{read-idle}
@@ -22,13 +23,13 @@ no-steps true = refl
 no-steps false = refl
 
 -- a read leaves the image as it is
-kept : (N B : ℕ) (ns : List ℕ) (s : Image) (a b : ℕ) (lent : List ℕ) → shareOutcome N B ns s a (reads b lent) .image ≡ s
+kept : (N B : ℕ) (ns : List ℕ) (s : Image) (a b : ℕ) (lent : List ℕ) → shareOutcome N B ns s a (reads b (length lent)) .image ≡ s
 unfolding shareOutcome shareWork storeRequest run
-kept N B ns s a b lent = rw (read-idle N B s b, no-steps (eqb (shareCode N B ns s a (reads b lent)) 0))
+kept N B ns s a b lent = rw (read-idle N B s b, no-steps (eqb (shareCode N B ns s a (reads b (length lent))) 0))
 
-pub read : (N B : ℕ) (ns : List ℕ) (s : Image) (a b : ℕ) (lent buffer : List ℕ) (r : Printed) → printed r buffer ≡ gaveIn (shareOutcome N B ns s a (reads b lent)) lent
-    → carried r buffer s ≡ record { print = gaveIn (shareOutcome N B ns s a (reads b lent)) lent; image = shareOutcome N B ns s a (reads b lent) .image }
+pub read : (N B : ℕ) (ns : List ℕ) (s : Image) (a b : ℕ) (lent buffer : List ℕ) (r : Printed) → printed r buffer ≡ gaveIn (shareOutcome N B ns s a (reads b (length lent))) lent
+    → carried r buffer s ≡ record { print = gaveIn (shareOutcome N B ns s a (reads b (length lent))) lent; image = shareOutcome N B ns s a (reads b (length lent)) .image }
 unfolding carried
 read N B ns s a b lent buffer r e =
-    let o = shareOutcome N B ns s a (reads b lent) in
+    let o = shareOutcome N B ns s a (reads b (length lent)) in
     ap {A = Print} {B = Carried} (λ p. record { print = p; image = s }) e ∙ ap {A = Image} {B = Carried} (λ i. record { print = gaveIn o lent; image = i }) (sym (kept N B ns s a b lent))

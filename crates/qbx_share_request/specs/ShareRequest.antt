@@ -1,6 +1,7 @@
 -- What a tenant's command asks of the layer, and what comes back from it.
 use Prim.Native.Nat.{ℕ}
 use mathlib.Core.List.{List}
+use lib.ListN.{length}
 use Rattle.model.specs.Chip.{Image}
 use Rattle.text.specs.Buffer.{Print, printed}
 use Rattle.text.specs.declared.Printed.{Printed}
@@ -12,7 +13,7 @@ use Rattle.qbx_share_words.specs.declared.ShareCommand.{ShareCommand}
 -- of a block, with the contents to put, or a buffer lent for those that are read
 unfoldable pub askedBy : ShareVerb → ℕ → List ℕ → List ℕ → Asked
 askedBy Put b contents lent = puts b contents
-askedBy Get b contents lent = reads b lent
+askedBy Get b contents lent = reads b (length lent)
 askedBy Delete b contents lent = deletes b
 
 -- what comes back: the answer with the buffer, and the image afterwards

@@ -12,8 +12,8 @@ use Rattle.model.specs.Lists.{all}
 use Rattle.model.specs.Slot.{numberOk}
 use Rattle.model.specs.State.{capacity}
 use Rattle.model.specs.Laws.Lists.{and-left, and-right, all-get}
-use Rattle.shares.specs.Shares.{Share, mostTenants, sharesOf, rangeOk, overlap, disjoint, quotaSum, sharesOk, isTenant, shareOf, owns}
-use Rattle.share_list.specs.Places.{mostNumbers, shareAt, sharesFrom, Stands, clearOf, sharesWithin}
+use Rattle.shares.specs.Shares.{Share, mostTenants, sharesOf, rangeOk, overlap, disjoint, quotaSum, sharesWithin, sharesOk, isTenant, shareOf, owns}
+use Rattle.share_list.specs.Places.{mostNumbers, shareAt, sharesFrom, Stands, clearOf}
 
 -- ---- two numbers, and two ranges
 
@@ -112,7 +112,7 @@ shares-length (f ∷ l ∷ q ∷ ns) = let e = shares-length ns in omega arith
 
 -- `sharesOk`, where C is what there is to share
 pub within-capacity : (N B : ℕ) (ns : List ℕ) → sharesWithin (capacity N B) ns ≡ sharesOk N B ns
-unfolding sharesWithin sharesOk
+unfolding sharesOk
 within-capacity N B ns = refl
 
 module _ (most : ℕ) (ns : List ℕ) where

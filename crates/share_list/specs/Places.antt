@@ -1,12 +1,11 @@
 -- A list of shares by the places of its numbers.
 use Prim.Native.Nat.{ℕ, _+_, _-_, _*_, _%_, _≤_}
 use mathlib.Core.Path.{_≡_}
-use mathlib.Core.Bool.{Bool, _&&_, not}
+use mathlib.Core.Bool.{Bool, not}
 use mathlib.Core.List.{List}
 use lib.ListN.{length, getD, drop}
-use lib.Dec.{leb, eqb}
 use Rattle.model.specs.Lists.{all}
-use Rattle.shares.specs.Shares.{Share, mostTenants, sharesOf, rangeOk, overlap, disjoint, quotaSum}
+use Rattle.shares.specs.Shares.{Share, mostTenants, sharesOf, overlap}
 use Rattle.share_list.specs.declared.Part.{Part}
 
 abbrev pub mostNumbers : ℕ
@@ -27,11 +26,6 @@ Stands ns at = (at ≤ length ns) × ((length ns - at) % 3 ≡ 0)
 -- the share at one place overlaps none from another on
 abbrev pub clearOf : List ℕ → ℕ → ℕ → Bool
 clearOf ns one at = all (λ y. not (overlap (shareAt ns one) y)) (sharesFrom ns at)
-
--- a list that is right, with so many blocks to share; `sharesOk` has C
-unfoldable pub sharesWithin : ℕ → List ℕ → Bool
-sharesWithin most ns = let xs = sharesOf ns in
-    eqb (length ns % 3) 0 && (leb (length xs) mostTenants && (all rangeOk xs && (disjoint xs && leb (quotaSum xs) most)))
 
 -- the share that a part tells
 unfoldable pub shareIn : Part → Share

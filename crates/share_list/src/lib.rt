@@ -8,8 +8,8 @@ ghost use lib.ListN.{length};
 ghost use lib.Dec.{leb};
 ghost use Rattle.model.specs.Lists.{all};
 ghost use Rattle.model.specs.Slot.{numberOk};
-ghost use Rattle.shares.specs.Shares.{sharesOf, rangeOk, overlap, disjoint, quotaSum, isTenant, shareOf, owns};
-ghost use Rattle.share_list.specs.Places.{mostNumbers, Stands, shareAt, clearOf, sharesWithin, shareIn};
+ghost use Rattle.shares.specs.Shares.{sharesOf, rangeOk, overlap, disjoint, quotaSum, sharesWithin, isTenant, shareOf, owns};
+ghost use Rattle.share_list.specs.Places.{mostNumbers, Stands, shareAt, clearOf, shareIn};
 
 // Three numbers for each of 40 tenants.
 const MOST_NUMBERS: usize = 120;

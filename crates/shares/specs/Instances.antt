@@ -11,12 +11,12 @@ use Rattle.model.specs.Steps.{onPage, slotAt, programs, writeSlot, openSegment,
 use Rattle.model.specs.Table.{liveBetween, tableOf}
 use Rattle.model.specs.Answers.{workOf}
 use Rattle.model.specs.Laws.Bench.{evaluate}
-use Rattle.shares.specs.Shares.{sharesOf, rangeOk, overlap, disjoint, quotaSum, sharesOk, isTenant, shareOf, owns}
-use Rattle.shares.specs.Layer.{Asked, puts, deletes, reads, blockAsked, storeRequest, bounds, beforeFull, quotaUsed, rows, shareCode, shareWork, contentsAsked, Shared, shareOutcome}
+use Rattle.shares.specs.Shares.{sharesOf, rangeOk, overlap, disjoint, quotaSum, sharesWithin, sharesOk, isTenant, shareOf, owns}
+use Rattle.shares.specs.Layer.{Asked, puts, deletes, reads, blockAsked, storeRequest, bounds, beforeFull, quotaUsed, rows, shareCode, shareWork, contentsAsked, Shared, shareOutcome, gaveIn}
 
 -- every definition unfolds where this name does
 unfoldable computes : ℕ
-unfolding evaluate map rightSize pagesOf withSegment step run segmentsOf state view liveBetween tableOf workOf sharesOf rangeOk overlap disjoint quotaSum sharesOk isTenant shareOf owns blockAsked storeRequest bounds beforeFull quotaUsed rows shareCode shareWork contentsAsked shareOutcome
+unfolding evaluate rightSize pagesOf withSegment step run segmentsOf state view liveBetween tableOf workOf sharesOf rangeOk overlap disjoint quotaSum sharesWithin sharesOk isTenant shareOf owns blockAsked storeRequest bounds beforeFull quotaUsed rows shareCode shareWork contentsAsked shareOutcome
 computes = 0
 
 -- ---- lists, on a chip of 3 segments with 2 slots, where C is 3
@@ -47,10 +47,11 @@ wrong =
     ∷ (0 ∷ 5 ∷ 1 ∷ [])
     ∷ (1 ∷ 65535 ∷ 1 ∷ [])
     ∷ (5 ∷ 4 ∷ 1 ∷ [])
-    -- a number in two of them: the last and the first, in either order; one inside the other; not next to each other in the list
+    -- a number in two of them: the last and the first, in either order; one inside the other, in either order; not next to each other in the list
     ∷ (1 ∷ 6 ∷ 2 ∷ 6 ∷ 9 ∷ 1 ∷ [])
     ∷ (6 ∷ 9 ∷ 1 ∷ 1 ∷ 6 ∷ 2 ∷ [])
     ∷ (1 ∷ 9 ∷ 1 ∷ 3 ∷ 4 ∷ 1 ∷ [])
+    ∷ (3 ∷ 4 ∷ 1 ∷ 1 ∷ 9 ∷ 1 ∷ [])
     ∷ (1 ∷ 5 ∷ 1 ∷ 20 ∷ 29 ∷ 1 ∷ 5 ∷ 6 ∷ 1 ∷ [])
     -- quotas over C, summed wide
     ∷ (1 ∷ 5 ∷ 4 ∷ [])
@@ -62,7 +63,7 @@ right-taken : map (sharesOk 3 2) right ≡ replicate 6 true
 unfolding computes crowd right
 right-taken = refl
 
-wrong-refused : map (sharesOk 3 2) wrong ≡ replicate 14 false
+wrong-refused : map (sharesOk 3 2) wrong ≡ replicate 15 false
 unfolding computes crowd wrong
 wrong-refused = refl
 
@@ -70,6 +71,10 @@ wrong-refused = refl
 
 abbrev two : List ℕ
 two = 1 ∷ 5 ∷ 2 ∷ 6 ∷ 9 ∷ 1 ∷ []
+
+-- a tenant who may store nothing
+abbrev none : List ℕ
+none = 1 ∷ 5 ∷ 0 ∷ []
 
 abbrev slot : ℕ → ℕ → ℕ → List ℕ → List Step
 slot n j b c = onPage (slotAt 3 2 n j) (writeSlot b c)
@@ -99,10 +104,10 @@ codes ns s xs = map (λ x. shareCode 3 2 ns s (x .tenant) (x .asked)) xs
 
 -- 12 for foreign numbers and unknown tenants, after 2 and before 3; 7 for a new block while the own quota is used; 14 for a short buffer
 shared : codes two (both (newVersion 0)) (
-    ask 1 (puts 6 (1 ∷ [])) ∷ ask 2 (puts 3 (1 ∷ [])) ∷ ask 1 (reads 6 (0 ∷ 0 ∷ [])) ∷ ask 2 (deletes 3) ∷ ask 1 (puts 10 (1 ∷ []))
-    ∷ ask 0 (reads 3 (0 ∷ [])) ∷ ask 3 (reads 3 (0 ∷ [])) ∷ ask 1 (puts 0 []) ∷ ask 0 (puts 65535 []) ∷ ask 2 (puts 3 []) ∷ ask 1 (puts 3 [])
+    ask 1 (puts 6 (1 ∷ [])) ∷ ask 2 (puts 3 (1 ∷ [])) ∷ ask 1 (reads 6 2) ∷ ask 2 (deletes 3) ∷ ask 1 (puts 10 (1 ∷ []))
+    ∷ ask 0 (reads 3 1) ∷ ask 3 (reads 3 1) ∷ ask 1 (puts 0 []) ∷ ask 0 (puts 65535 []) ∷ ask 2 (puts 3 []) ∷ ask 1 (puts 3 [])
     ∷ ask 1 (puts 4 (1 ∷ [])) ∷ ask 1 (puts 3 (1 ∷ [])) ∷ ask 1 (puts 5 (1 ∷ [])) ∷ ask 2 (puts 7 (1 ∷ [])) ∷ ask 2 (deletes 6)
-    ∷ ask 1 (reads 3 (0 ∷ [])) ∷ ask 2 (reads 6 (0 ∷ [])) ∷ ask 2 (reads 7 []) ∷ ask 1 (deletes 4) ∷ [])
+    ∷ ask 1 (reads 3 1) ∷ ask 2 (reads 6 1) ∷ ask 2 (reads 7 0) ∷ ask 1 (deletes 4) ∷ [])
     ≡ 12 ∷ 12 ∷ 12 ∷ 12 ∷ 12 ∷ 12 ∷ 12 ∷ 2 ∷ 2 ∷ 12 ∷ 3 ∷ 7 ∷ 0 ∷ 0 ∷ 7 ∷ 0 ∷ 0 ∷ 14 ∷ 6 ∷ 6 ∷ []
 unfolding computes both
 shared = refl
@@ -122,20 +127,27 @@ elsewhere : codes (1 ∷ 6 ∷ 1 ∷ 7 ∷ 9 ∷ 2 ∷ []) (both (newVersion 0))
 unfolding computes both
 elsewhere = refl
 
--- 11 before 7; 7 of the quota before 8; 4 and 5
-states : codes two (both version1) (ask 1 (puts 4 (1 ∷ [])) ∷ ask 1 (puts 3 (1 ∷ [])) ∷ ask 1 (reads 3 (0 ∷ [])) ∷ [])
+-- 3, 4, 5 and 11 before 7 of the quota, and that before 8
+states : codes two (both version1) (ask 1 (puts 4 (1 ∷ [])) ∷ ask 1 (puts 3 (1 ∷ [])) ∷ ask 1 (reads 3 1) ∷ [])
     ++ (codes two spent (ask 2 (puts 7 (1 ∷ [])) ∷ ask 1 (puts 4 (1 ∷ [])) ∷ ask 1 (puts 3 (1 ∷ [])) ∷ [])
     ++ (codes two (replicate 2304 0) (ask 1 (puts 4 (1 ∷ [])) ∷ ask 1 (deletes 4) ∷ [])
-    ++ codes two (run 2 (onPage 2 (programs 0 (0x7F ∷ []))) one) (ask 1 (puts 4 (1 ∷ [])) ∷ ask 1 (reads 3 []) ∷ [])))
-    ≡ 11 ∷ 11 ∷ 0 ∷ 7 ∷ 8 ∷ 8 ∷ 4 ∷ 4 ∷ 5 ∷ 5 ∷ []
+    ++ (codes two (run 2 (onPage 2 (programs 0 (0x7F ∷ []))) one) (ask 1 (puts 4 (1 ∷ [])) ∷ ask 1 (reads 3 0) ∷ [])
+    ++ (codes none (replicate 2304 0) (ask 1 (puts 4 (1 ∷ [])) ∷ []) ++ (codes none (run 2 (onPage 2 (programs 0 (0x7F ∷ []))) one) (ask 1 (puts 4 (1 ∷ [])) ∷ []) ++ codes none one (ask 1 (puts 4 []) ∷ ask 1 (puts 4 (1 ∷ [])) ∷ ask 1 (puts 3 (1 ∷ [])) ∷ []))))))
+    ≡ 11 ∷ 11 ∷ 0 ∷ 7 ∷ 8 ∷ 8 ∷ 4 ∷ 4 ∷ 5 ∷ 5 ∷ 4 ∷ 5 ∷ 3 ∷ 7 ∷ 0 ∷ []
 unfolding computes both spent one
 states = refl
 
 -- contents come back where the answer is 0, and the image is the store's
-contents : (shareOutcome 3 2 two (both (newVersion 0)) 2 (reads 6 (0 ∷ 0 ∷ 0 ∷ [])) .given ≡ 66 ∷ 67 ∷ []) × (shareOutcome 3 2 two (both (newVersion 0)) 2 (reads 6 (0 ∷ [])) .given ≡ [])
+contents : (shareOutcome 3 2 two (both (newVersion 0)) 2 (reads 6 3) .given ≡ 66 ∷ 67 ∷ []) × (shareOutcome 3 2 two (both (newVersion 0)) 2 (reads 6 1) .given ≡ [])
 unfolding computes both
 contents = (refl, refl)
 
 written : tableOf 3 2 (shareOutcome 3 2 two one 1 (puts 4 (1 ∷ [])) .image) ≡ record { block = 3; contents = 65 ∷ [] } ∷ record { block = 4; contents = 1 ∷ [] } ∷ []
 unfolding computes one
 written = refl
+
+-- a buffer of three bytes has the two of the contents at its front; one of one byte stays as it was
+lent : gaveIn (shareOutcome 3 2 two (both (newVersion 0)) 2 (reads 6 3)) (1 ∷ 2 ∷ 3 ∷ []) ∷ gaveIn (shareOutcome 3 2 two (both (newVersion 0)) 2 (reads 6 1)) (1 ∷ []) ∷ []
+    ≡ record { code = 0; length = 2; buffer = 66 ∷ 67 ∷ 3 ∷ [] } ∷ record { code = 14; length = 0; buffer = 1 ∷ [] } ∷ []
+unfolding computes both gaveIn
+lent = refl

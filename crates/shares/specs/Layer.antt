@@ -13,22 +13,22 @@ use Rattle.model.specs.Answers.{codeOf, Request, put, delete, read, Refusal, _w
 use Rattle.text.specs.Buffer.{Print}
 use Rattle.shares.specs.Shares.{Share, sharesOf, sharesOk, shareOf, owns}
 
--- what a tenant asks for: a read with the buffer that it lends for the contents
+-- what a tenant asks for: a read with the length of the buffer that it lends for the contents
 pub data Asked : Type 0 where
   puts : ℕ → List ℕ → Asked
   deletes : ℕ → Asked
-  reads : ℕ → List ℕ → Asked
+  reads : ℕ → ℕ → Asked
 
 unfoldable pub blockAsked : Asked → ℕ
 blockAsked (puts b c) = b
 blockAsked (deletes b) = b
-blockAsked (reads b lent) = b
+blockAsked (reads b size) = b
 
 -- the store's request
 unfoldable pub storeRequest : Asked → Request
 storeRequest (puts b c) = put b c
 storeRequest (deletes b) = delete b
-storeRequest (reads b lent) = read b
+storeRequest (reads b size) = read b
 
 -- ---- the answer, in the order 1, 13, 2, 12, 3, 4, 5, 11, 6, 7, 8, 14
 
@@ -54,7 +54,7 @@ quotaUsed x t = leb (x .quota) (liveBetween (x .first) (x .last) t)
 unfoldable pub rows : Share → Table → ℕ → Asked → List Refusal
 rows x t k (puts b c) = (k when beforeFull k) ∷ (7 when not (holds b t) && quotaUsed x t) ∷ (k when true) ∷ []
 rows x t k (deletes b) = (k when true) ∷ []
-rows x t k (reads b lent) = (k when not (eqb k 0)) ∷ (14 when ltb (length lent) (length (contentsFound (lookup b t)))) ∷ []
+rows x t k (reads b size) = (k when not (eqb k 0)) ∷ (14 when ltb size (length (contentsFound (lookup b t)))) ∷ []
 
 unfoldable pub shareCode : ℕ → ℕ → List ℕ → Image → ℕ → Asked → ℕ
 shareCode N B ns s a r =
@@ -69,7 +69,7 @@ shareWork N B ns s a r = let code = shareCode N B ns s a r in record { code = co
 unfoldable pub contentsAsked : Table → Asked → List ℕ
 contentsAsked t (puts b c) = []
 contentsAsked t (deletes b) = []
-contentsAsked t (reads b lent) = contentsFound (lookup b t)
+contentsAsked t (reads b size) = contentsFound (lookup b t)
 
 -- what comes back: the answer and the contents given, none if refused; and the image afterwards. No count of steps and no place
 pub record Shared : Type 0 where

@@ -43,10 +43,14 @@ unfoldable pub quotaSum : List Share → ℕ
 quotaSum [] = 0
 quotaSum (x ∷ xs) = x .quota + quotaSum xs
 
--- up to 40 tenants, whose quotas add up to at most C
+-- up to 40 tenants, whose quotas add up to at most so many blocks
+unfoldable pub sharesWithin : ℕ → List ℕ → Bool
+sharesWithin most ns = let xs = sharesOf ns in
+    eqb (length ns % 3) 0 && (leb (length xs) mostTenants && (all rangeOk xs && (disjoint xs && leb (quotaSum xs) most)))
+
+-- and that is C
 unfoldable pub sharesOk : ℕ → ℕ → List ℕ → Bool
-sharesOk N B ns = let xs = sharesOf ns in
-    eqb (length ns % 3) 0 && (leb (length xs) mostTenants && (all rangeOk xs && (disjoint xs && leb (quotaSum xs) (capacity N B))))
+sharesOk N B ns = sharesWithin (capacity N B) ns
 
 -- ---- tenants, named by their place in the list, from 1
 

@@ -6,6 +6,7 @@ use model::BlockNumber;
 use share_list::Part;
 use text::Printed;
 ghost use mathlib.Core.Path.{_≡_};
+ghost use lib.ListN.{length};
 ghost use Prim.Native.Nat.{_≤_};
 ghost use mathlib.Core.Bool.{true};
 ghost use Rattle.model.specs.Chip.{rightSize};
@@ -91,7 +92,7 @@ pub fn read(
     block: BlockNumber,
     contents: &mut [u8],
 ) -> Printed
-    ensures { λ r. ⌜ (printed r (now (contents .exit)) ≡ gaveIn (shareOutcome segments slots (now (shares .entry)) (now (image .entry)) tenant (reads (block .0) (now (contents .entry)))) (now (contents .entry))) × (r .length ≤ mostContents) ⌝ }
+    ensures { λ r. ⌜ (printed r (now (contents .exit)) ≡ gaveIn (shareOutcome segments slots (now (shares .entry)) (now (image .entry)) tenant (reads (block .0) (length (now (contents .entry))))) (now (contents .entry))) × (r .length ≤ mostContents) ⌝ }
 {
     let admitted = admission::admit(image, segments, slots, shares, tenant, block);
     if let Admitted::Refused(answer) = admitted {

@@ -1,4 +1,5 @@
 -- `qbx_share_request::perform`: each verb is the layer's request. Assumes nothing.
+use denote.Ref.{now}
 use Rattle.qbx_share_request.specs.ShareRequest.{askedBy, carriedBy}
 use Rattle.qbx_share_request.proofs.Laws.{written, read}
 use borrow.Author.Needs.{needs}
@@ -38,7 +39,9 @@ same-length-3 c = search needs
 
 returns-2 : tie.Need-returns-2
 unfolding carriedBy askedBy
-returns-2 c = rw (c .before .before .before .before .before .enum-told2 .given .1) (read _ _ _ _ _ _ _ _ _ (c .before .before .read .ensures .0))
+returns-2 c =
+    let a = c .before .before .before .before .before .before .before .before .before .before .before .before .args in
+    rw (c .before .before .before .before .before .enum-told2 .given .1) (read _ _ _ _ _ _ (now (a .given)) _ _ (c .before .before .read .ensures .0))
 
 same-length-4 : tie.Need-same-length-4
 same-length-4 c = search needs

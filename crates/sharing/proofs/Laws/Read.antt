@@ -83,7 +83,7 @@ module _ (N B : ℕ) (s : Image) (b : ℕ) where
     pub told-small : p .length ≤ 248
     told-small = omega (arith, told-length, read-small N B s b .1)
 
-    pub not-read : (x : Share) (lent : List ℕ) → 0 < codeOf (p .answer) → printed (record { answer = p .answer; length = 0 }) lent ≡ gaveIn (outcomeWithin N B x s (reads b lent)) lent
+    pub not-read : (x : Share) (lent : List ℕ) → 0 < codeOf (p .answer) → printed (record { answer = p .answer; length = 0 }) lent ≡ gaveIn (outcomeWithin N B x s (reads b (length lent))) lent
     unfolding printed gaveIn outcomeWithin codeWithin rows firstOf storeRequest
     not-read x lent h =
         let k = told-code in
@@ -113,7 +113,7 @@ module _ (N B : ℕ) (s : Image) (b : ℕ) where
           let l = told-length in
           rw (n, o, l) (read-done N B s b (found-size done) (found-clean done) done)
 
-      pub was-read : (x : Share) (lent : List ℕ) (r : Printed) (buffer : List ℕ) → printed r buffer ≡ printIn piece lent → printed r buffer ≡ gaveIn (outcomeWithin N B x s (reads b lent)) lent
+      pub was-read : (x : Share) (lent : List ℕ) (r : Printed) (buffer : List ℕ) → printed r buffer ≡ printIn piece lent → printed r buffer ≡ gaveIn (outcomeWithin N B x s (reads b (length lent))) lent
       unfolding outcomeWithin codeWithin rows firstOf storeRequest contentsAsked
       was-read x lent r buffer w =
           let d = done in

@@ -3,7 +3,7 @@ use Prim.Native.Nat.{_+_, _-_}
 use mathlib.Core.Path.{sym, ap, subst, _∙_}
 use native.Mathlib.Omega.{arith}
 use denote.Ref.{now}
-use lib.ListN.{drop, length-take}
+use lib.ListN.{length, drop, length-take}
 use borrow.Author.Needs.{needs}
 use Rattle.model.specs.Slot.{mostContents}
 use Rattle.text.specs.Buffer.{printed}
@@ -26,9 +26,11 @@ unfolding printed gaveIn blockAsked mostContents
 returns c =
     let m = c .before .before .before in
     let a = m .before .before .before .before .args in
-    let lent = now (a .contents) in
-    (ap (λ o. gaveIn o lent) (sym (refused-outcome (a .segments) (a .slots) (now (a .shares)) (now (a .image)) (a .tenant) (reads (a .block .0) lent) (c .before .admitted .given .0 .0)
-    (subst (Admits (a .segments) (a .slots) (now (a .shares)) (now (a .image)) (a .tenant) (a .block .0)) (c .before .admitted .given .1) (m .admit .ensures)))), omega arith)
+    let lent = now (a .contents) in (
+      ap (λ o. gaveIn o lent) (sym (refused-outcome (a .segments) (a .slots) (now (a .shares)) (now (a .image)) (a .tenant) (reads (a .block .0) (length lent)) (c .before .admitted .given .0 .0)
+          (subst (Admits (a .segments) (a .slots) (now (a .shares)) (now (a .image)) (a .tenant) (a .block .0)) (c .before .admitted .given .1) (m .admit .ensures)))),
+      omega arith,
+    )
 
 enum-told : tie.Need-enum-told
 enum-told c = search needs
@@ -47,10 +49,12 @@ returns-2 c =
     let m = t .before .before in
     let a = m .before .before .before .before .args in
     let lent = now (a .contents) in
-    let part = t .enum-told .given .0 .0 in
-    (not-read (a .segments) (a .slots) (now (a .image)) (a .block .0) (d .read .result) (d .read .ensures) (shareIn part) lent (omega (arith, c .if1 .taken, c .before .code-of .ensures))
-    ∙ ap (λ o. gaveIn o lent) (sym (allowed-outcome (a .segments) (a .slots) (now (a .shares)) (now (a .image)) (a .tenant) (reads (a .block .0) lent) part
-    (subst (Admits (a .segments) (a .slots) (now (a .shares)) (now (a .image)) (a .tenant) (a .block .0)) (t .enum-told .given .1) (m .admit .ensures)))), omega arith)
+    let part = t .enum-told .given .0 .0 in (
+      not-read (a .segments) (a .slots) (now (a .image)) (a .block .0) (d .read .result) (d .read .ensures) (shareIn part) lent (omega (arith, c .if1 .taken, c .before .code-of .ensures))
+          ∙ ap (λ o. gaveIn o lent) (sym (allowed-outcome (a .segments) (a .slots) (now (a .shares)) (now (a .image)) (a .tenant) (reads (a .block .0) (length lent)) part
+          (subst (Admits (a .segments) (a .slots) (now (a .shares)) (now (a .image)) (a .tenant) (a .block .0)) (t .enum-told .given .1) (m .admit .ensures)))),
+      omega arith,
+    )
 
 add-end : tie.Need-add-end
 add-end c =
@@ -91,11 +95,12 @@ returns-3 c =
     let a = m .before .before .before .before .args in
     let lent = now (a .contents) in
     let part = t .enum-told .given .0 .0 in
-    let p = d .read .result in
-    (was-read (a .segments) (a .slots) (now (a .image)) (a .block .0) (d .read .result) (d .read .ensures) (omega (arith, k .if1 .left, k .before .code-of .ensures)) (shareIn part) lent (c .before .before .print .result) _ (c .before .before .print .ensures .0)
-    ∙ ap (λ o. gaveIn o lent) (sym (allowed-outcome (a .segments) (a .slots) (now (a .shares)) (now (a .image)) (a .tenant) (reads (a .block .0) lent) part
-    (subst (Admits (a .segments) (a .slots) (now (a .shares)) (now (a .image)) (a .tenant) (a .block .0)) (t .enum-told .given .1) (m .admit .ensures)))),
-    omega (arith, c .before .before .print .ensures .1, length-take (p .offset + p .length - p .offset) (drop (p .offset) (now (a .image))), told-small (a .segments) (a .slots) (now (a .image)) (a .block .0) p (d .read .ensures)))
+    let p = d .read .result in (
+      was-read (a .segments) (a .slots) (now (a .image)) (a .block .0) (d .read .result) (d .read .ensures) (omega (arith, k .if1 .left, k .before .code-of .ensures)) (shareIn part) lent (c .before .before .print .result) _ (c .before .before .print .ensures .0)
+          ∙ ap (λ o. gaveIn o lent) (sym (allowed-outcome (a .segments) (a .slots) (now (a .shares)) (now (a .image)) (a .tenant) (reads (a .block .0) (length lent)) part
+          (subst (Admits (a .segments) (a .slots) (now (a .shares)) (now (a .image)) (a .tenant) (a .block .0)) (t .enum-told .given .1) (m .admit .ensures)))),
+      omega (arith, c .before .before .print .ensures .1, length-take (p .offset + p .length - p .offset) (drop (p .offset) (now (a .image))), told-small (a .segments) (a .slots) (now (a .image)) (a .block .0) p (d .read .ensures)),
+    )
 
 pub read-spec : {M : Type 1} → statement M
 read-spec =
