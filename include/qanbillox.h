@@ -234,13 +234,15 @@ uint64_t qbx_rebuild(const uint8_t *source, size_t source_length, size_t n, size
  * is no tenant of that number: 0 is none. So no tenant can read, write or delete another's block.
  *
  * A put of a block that is not stored answers QBX_FULL exactly if as many blocks of the tenant's range are stored as its
- * quota says, or more; one that is stored can always be rewritten. All else is as qbx_put, qbx_delete and qbx_read
- * answer. That holds of an image written only through these three, with one list, since a format; on any other the
- * store's own QBX_FULL stands too. On such an image nothing that the others do shows in what a tenant gets, as long as
- * nobody was answered QBX_WORN: so there is no budget, and neither a count of steps nor a place comes back. After a loss
- * of power: qbx_recover.
+ * quota says, or more; one that is stored is rewritten whatever the quota. All else is as qbx_put, qbx_delete and
+ * qbx_read answer. That holds of an image written only through these three, with one list, since a format, and read and
+ * recovered in any way; on any other the store's own QBX_FULL stands too. On such an image, from the format on and
+ * without a loss of power, nothing that the others do shows in what a tenant gets, as long as nobody was answered
+ * QBX_WORN: so there is no budget, and neither a count of steps nor a place comes back. After a loss of power:
+ * qbx_recover, as ever; until then the answer may be QBX_UNFINISHED.
  *
- * A put takes one pass over the image more than qbx_put, to count. Image, list and buffer must not overlap. */
+ * A put takes about twice the time of qbx_put: the blocks of the range are counted first. Image, list and buffer must
+ * not overlap. */
 
 /* Store contents, 1 to 248 bytes. Gives the answer. */
 uint64_t qbx_share_put(uint8_t *image, size_t image_length, size_t n, size_t b,

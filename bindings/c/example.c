@@ -221,22 +221,29 @@ static int read_by(uint32_t tenant, uint16_t block, enum qbx_answer answer, cons
     return qbx_answer_of(result) != answer || length != strlen(contents) || memcmp(lent, contents, length) != 0;
 }
 
+/* Says what a tenant's request answered, which tells no steps; returns 0 if that is what was expected. */
+static int answered(const char *request, uint64_t result, enum qbx_answer answer)
+{
+    printf("%-28s answer %d\n", request, (int)result);
+    return result != (uint64_t)answer;
+}
+
 /* Each has its own blocks and its own quota. Returns 0 if all is as expected. */
 static int shared(void)
 {
     int wrong = 0;
 
     wrong += told("format", qbx_format(target, sizeof target, NEW_SEGMENTS, NEW_SLOTS, unlimited), QBX_DONE, 24);
-    wrong += told("put by tenant 1", put_by(1, 7, "H"), QBX_DONE, 0);
-    wrong += told("put by tenant 1", put_by(1, 8, "I"), QBX_DONE, 0);
-    wrong += told("its quota is used", put_by(1, 9, "J"), QBX_FULL, 0);
-    wrong += told("a rewrite", put_by(1, 8, "K"), QBX_DONE, 0);
-    wrong += told("a foreign block", put_by(2, 7, "L"), QBX_FOREIGN, 0);
-    wrong += told("no such tenant", put_by(0, 7, "L"), QBX_FOREIGN, 0);
-    wrong += told("put by tenant 2", put_by(2, 10, "M"), QBX_DONE, 0);
+    wrong += answered("put by tenant 1", put_by(1, 7, "H"), QBX_DONE);
+    wrong += answered("put by tenant 1", put_by(1, 8, "I"), QBX_DONE);
+    wrong += answered("its quota is used", put_by(1, 9, "J"), QBX_FULL);
+    wrong += answered("a rewrite", put_by(1, 8, "K"), QBX_DONE);
+    wrong += answered("a foreign block", put_by(2, 7, "L"), QBX_FOREIGN);
+    wrong += answered("no such tenant", put_by(0, 7, "L"), QBX_FOREIGN);
+    wrong += answered("put by tenant 2", put_by(2, 10, "M"), QBX_DONE);
     wrong += read_by(2, 8, QBX_FOREIGN, "");
     wrong += read_by(1, 8, QBX_DONE, "K");
-    wrong += told("delete by tenant 1", delete_by(1, 8), QBX_DONE, 0);
+    wrong += answered("delete by tenant 1", delete_by(1, 8), QBX_DONE);
     wrong += read_by(1, 8, QBX_ABSENT, "");
     return wrong;
 }

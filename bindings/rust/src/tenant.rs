@@ -21,17 +21,16 @@ pub struct Share {
 }
 
 /// The store as one tenant sees it: its own blocks alone. Whoever is handed it can neither read, write
-/// nor delete another tenant's block, and nothing that others do shows in what it answers; a new block
-/// is refused as [`Full`](Answer::Full) exactly when the tenant's own quota is used. All this of an
-/// image that was written only in this way, with one list of shares, since a format; and as long as
-/// no tenant was answered [`Worn`](Answer::Worn): the chip is one.
+/// nor delete another tenant's block.
 ///
-/// There is no step budget, and no count of steps and no place come back: they would show what others
-/// store. After a loss of power every request answers [`Unfinished`](Answer::Unfinished) until a
-/// [recovery](Geometry::recover).
+/// Of an image that was written only in this way, with one list of shares, since a format: a new block
+/// is refused as [`Full`](Answer::Full) exactly when the tenant's own quota is used; and without a loss
+/// of power nothing that others do shows in what it answers, as long as no tenant was answered
+/// [`Worn`](Answer::Worn): the chip is one. So there is no step budget, and no count of steps and no
+/// place come back. After a loss of power comes a [recovery](Geometry::recover), as ever; until then a
+/// request may answer [`Unfinished`](Answer::Unfinished).
 ///
-/// Refusals come in the order of the numbers, but [`Shares`](Answer::Shares) after
-/// [`Size`](Answer::Size), and [`Foreign`](Answer::Foreign) after [`Number`](Answer::Number).
+/// Refusals come in the order that [`Answer`] has.
 ///
 #[cfg_attr(qbx_lib, doc = "```")]
 #[cfg_attr(not(qbx_lib), doc = "```no_run")]

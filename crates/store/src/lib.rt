@@ -154,7 +154,7 @@ fn uncounted(answer: Answer) -> Counted
     }
 }
 
-// How many blocks of a range of numbers are stored, and whether one block is (request #110), in one pass.
+// How many blocks of a range of numbers are stored, and whether one block is (request #110): both by one walk.
 pub fn count(
     image: &[u8],
     segments: usize,
