@@ -69,6 +69,39 @@ fn recover(store: &Store, rng: &mut Rng, image: &mut [u8]) {
     store.done(image, G, &Request::Recover);
 }
 
+/// Until a recovery all tenants get 5, if the cut left anything to recover.
+fn all_wait(store: &Store, image: &mut [u8], list: &[u32]) {
+    if !matches!(state_of(image, G), State::Unfinished(_)) {
+        return;
+    }
+    for (i, own) in shares().iter().enumerate() {
+        let asked = read_of(own.first as u16, 248);
+        let told = ask(store, image, G, list, i as u32 + 1, &asked);
+        assert_eq!(told.code, UNFINISHED);
+    }
+}
+
+/// The table with what was asked for done.
+fn with(table: &Table, asked: &Asked) -> Table {
+    let mut table = table.clone();
+    match asked {
+        Asked::Put { block, contents } => table.insert(*block, contents.clone()),
+        asked => table.remove(&asked.block()),
+    };
+    table
+}
+
+/// What a put or a delete has to be answered, by the table.
+fn expected(table: &Table, own: Share, asked: &Asked) -> u8 {
+    let is_stored = table.contains_key(&asked.block());
+    let mine = table.keys().filter(|&&block| own.has(block)).count();
+    match asked {
+        Asked::Put { .. } if !is_stored && mine >= own.quota as usize => FULL,
+        Asked::Delete { .. } if !is_stored => ABSENT,
+        _ => DONE,
+    }
+}
+
 #[test]
 fn cut_requests_of_tenants() {
     let store = Store::new("cut_requests_of_tenants");
@@ -82,51 +115,23 @@ fn cut_requests_of_tenants() {
             let i = rng.below(3);
             let (own, tenant) = (shares()[i], i as u32 + 1);
             let block = rng.between(own.first as usize, own.last as usize) as u16;
-            let asked = if rng.once_in(5) {
-                Asked::Delete { block }
-            } else {
-                put_of(block, &rng.bytes(2))
+            let asked = match rng.below(5) {
+                0 => Asked::Delete { block },
+                _ => put_of(block, &rng.bytes(2)),
             };
-            let mut wanted = table.clone();
-            match &asked {
-                Asked::Put { contents, .. } => wanted.insert(block, contents.clone()),
-                _ => wanted.remove(&block),
-            };
+            let wanted = with(&table, &asked);
             if rng.once_in(3) && cut(&mut rng, &mut image, &list, tenant, &asked) {
-                if let State::Unfinished(_) = state_of(&image, G) {
-                    for other in 1..=3 {
-                        let block = shares()[other - 1].first as u16;
-                        let told = ask(
-                            &store,
-                            &mut image,
-                            G,
-                            &list,
-                            other as u32,
-                            &read_of(block, 248),
-                        );
-                        assert_eq!(told.code, UNFINISHED);
-                    }
-                }
+                all_wait(&store, &mut image, &list);
                 recover(&store, &mut rng, &mut image);
                 let after = shown(&store, &mut image, &list);
                 assert!(after == table || after == wanted);
-                if after == table {
-                    lost += 1;
-                } else {
-                    made += 1;
-                }
+                lost += usize::from(after == table);
+                made += usize::from(after != table);
                 table = after;
                 continue;
             }
-            let stored = table.contains_key(&block);
-            let mine = table.keys().filter(|&&block| own.has(block)).count();
             let told = ask(&store, &mut image, G, &list, tenant, &asked);
-            let expected = match &asked {
-                Asked::Put { .. } if !stored && mine >= own.quota as usize => FULL,
-                Asked::Delete { .. } if !stored => ABSENT,
-                _ => DONE,
-            };
-            assert_eq!(told.code, expected);
+            assert_eq!(told.code, expected(&table, own, &asked));
             full += usize::from(told.code == FULL);
             if told.code == DONE {
                 table = wanted;

@@ -149,6 +149,26 @@ fn two_runs_to_the_end_of_a_chip() {
     assert!(worn > 100, "{worn}");
 }
 
+type Table = BTreeMap<u16, Vec<u8>>;
+
+/// Of all its blocks a tenant reads what it put last.
+fn reads_back(
+    store: &Store,
+    image: &mut [u8],
+    g: Geometry,
+    list: &[u32],
+    (tenant, own): (u32, Share),
+    table: &Table,
+) {
+    for block in own.first as u16..=own.last as u16 {
+        let told = ask(store, image, g, list, tenant, &read_of(block, 3));
+        match table.get(&block) {
+            Some(contents) => assert_eq!((told.code, &told.buffer), (DONE, contents)),
+            None => assert_eq!(told.code, ABSENT),
+        }
+    }
+}
+
 /// Everybody stores as much as it can: whoever is below its quota has room, and reads what it put.
 #[test]
 fn a_guaranteed_share() {
@@ -159,7 +179,7 @@ fn a_guaranteed_share() {
         let (g, shares) = any_board(&mut rng);
         let list = numbers(&shares);
         let mut image = formatted(g);
-        let mut tables: Vec<BTreeMap<u16, Vec<u8>>> = vec![BTreeMap::new(); shares.len()];
+        let mut tables = vec![Table::new(); shares.len()];
         for _ in 0..120 {
             let i = rng.below(shares.len());
             let (Share { first, last, quota }, table) = (shares[i], &mut tables[i]);
@@ -174,14 +194,8 @@ fn a_guaranteed_share() {
             }
             let contents = rng.bytes(3);
             let room = table.contains_key(&block) || table.len() < quota as usize;
-            let told = ask(
-                &store,
-                &mut image,
-                g,
-                &list,
-                tenant,
-                &put_of(block, &contents),
-            );
+            let asked = put_of(block, &contents);
+            let told = ask(&store, &mut image, g, &list, tenant, &asked);
             assert_eq!(told.code, if room { DONE } else { FULL });
             if room {
                 table.insert(block, contents);
@@ -190,22 +204,16 @@ fn a_guaranteed_share() {
             }
         }
         for (i, table) in tables.iter().enumerate() {
-            for block in shares[i].first as u16..=shares[i].last as u16 {
-                let told = ask(
-                    &store,
-                    &mut image,
-                    g,
-                    &list,
-                    i as u32 + 1,
-                    &read_of(block, 3),
-                );
-                match table.get(&block) {
-                    Some(contents) => assert_eq!((told.code, &told.buffer), (DONE, contents)),
-                    None => assert_eq!(told.code, ABSENT),
-                }
-            }
+            reads_back(
+                &store,
+                &mut image,
+                g,
+                &list,
+                (i as u32 + 1, shares[i]),
+                table,
+            );
         }
-        filled += usize::from(tables.iter().map(BTreeMap::len).sum::<usize>() == g.capacity());
+        filled += usize::from(tables.iter().map(Table::len).sum::<usize>() == g.capacity());
     }
     assert!(full > 1_000 && filled > 20, "{full} refused, {filled} full");
 }

@@ -9,15 +9,14 @@ use lib.ListN.{length, take, drop}
 use lib.Dec.{ltb, eqb}
 use borrow.Author.Tests.{ltb-true, ltb-false, le-leb, lt-leb, ne-eqb}
 use Rattle.model.specs.Chip.{Image, imageLength, rightSize}
-use Rattle.model.specs.State.{segmentsOf, stateOf, usedCount, firstNumber, viewOf, entriesIn, placeOf, state, view}
+use Rattle.model.specs.State.{segmentsOf, usedCount, firstNumber, viewOf, entriesIn, placeOf, view}
 use Rattle.model.specs.Steps.{slotAt}
 use Rattle.model.specs.Table.{lookup, contentsFound, tableOf}
-use Rattle.model.specs.Answers.{codeOf, read, firstOf, isDamaged, isUnfinished, absentRefusals, refusals, workOf, ReadOutcome, located, contentsAt, readOutcome, pieceRead}
+use Rattle.model.specs.Answers.{codeOf, read, firstOf, workOf, ReadOutcome, located, contentsAt, readOutcome, pieceRead}
 use Rattle.model.specs.declared.Located.{Located}
 use Rattle.model.specs.Laws.Chip.{size-facts}
 use Rattle.model.specs.Laws.Segments.{page-in}
 use Rattle.bridge.specs.Accepted.{accepted, read-passed, size-passed}
-use Rattle.bridge.specs.Refusals.{none-applies, neither}
 use Rattle.bridge.specs.Lengths.{image-rows, slot-short, read-small}
 use Rattle.crash.specs.Sound.{Clean}
 use Rattle.crash.specs.Requests.{read-code}
@@ -26,6 +25,7 @@ use Rattle.text.specs.Buffer.{printed, printIn}
 use Rattle.text.specs.declared.Printed.{Printed}
 use Rattle.shares.specs.Shares.{Share}
 use Rattle.shares.specs.Layer.{reads, storeRequest, rows, contentsAsked, gaveIn}
+use Rattle.isolation.specs.Meeting.{accepted-clean}
 use Rattle.sharing.specs.Within.{codeWithin, outcomeWithin}
 
 -- contents in a lent buffer, by its length
@@ -43,14 +43,8 @@ module _ (N B : ℕ) (s : Image) (b : ℕ) where
 
     -- only a clean image is read
     found-clean : Clean N B s
-    unfolding refusals absentRefusals state
-    found-clean =
-        let st = stateOf N B (segmentsOf N B s) in
-        let size = none-applies 0 _ _ (accepted N B s (read b) h .1) .1 in
-        let number = none-applies 1 _ _ size .1 in
-        let damage = none-applies 3 (isDamaged st) _ number in
-        let whole = none-applies 4 (isUnfinished st) _ (damage .1) in
-        neither st (damage .0) (whole .0)
+    unfolding storeRequest
+    found-clean = accepted-clean N B s (reads b 0) h
 
     -- in a page of the image, behind eight bytes
     found-inside : contentsAt N B (placeOf b (view N B s)) + 248 ≤ length s
