@@ -1,7 +1,7 @@
 -- The answer of the layer by its rows: what binds every request, then the rows of this one. What an accepted request passed, and when a put is answered 7.
 use Prim.Native.Nat.{ℕ, zero, suc}
 use mathlib.Core.Path.{_≡_, refl, sym, ap, _∙_}
-use mathlib.Core.Logic.{_⊎_, inl, inr}
+use mathlib.Core.Logic.{_⊎_, inl, inr, ⊎-elim}
 use mathlib.Core.Bool.{Bool, true, false, cond, _&&_, not, true≢false}
 use mathlib.Core.List.{List, [], _∷_, _++_}
 use native.Mathlib.Omega.{arith}
@@ -14,7 +14,8 @@ use Rattle.model.specs.Slot.{numberOk}
 use Rattle.model.specs.State.{holds, segmentsOf, state, capacity, viewOf, view}
 use Rattle.model.specs.Steps.{isWorn}
 use Rattle.model.specs.Table.{Table, lookup, contentsFound, tableOf}
-use Rattle.model.specs.Answers.{put, Refusal, _when_, firstOf, workOf, isDamaged, isUnfinished, refusals, lengthOk, isFull}
+use Rattle.model.specs.Sequences.{among}
+use Rattle.model.specs.Answers.{put, delete, read, Refusal, _when_, firstOf, workOf, isDamaged, isUnfinished, absentRefusals, refusals, lengthOk, isFull}
 use Rattle.bridge.specs.Accepted.{code-of}
 use Rattle.bridge.specs.Refusals.{neither}
 use Rattle.crash.specs.Sound.{Clean}
@@ -134,6 +135,67 @@ taken N B ns s a r h =
     let p = by-bound (bound N B ns s a (blockAsked r)) (row N B ns s a r) (sym (share-code N B ns s a r) ∙ h) in
     let q = rows-none (shareOf (sharesOf ns) a) (tableOf N B s) (workOf N B s (storeRequest r) .code) r (p .1) in
     record { passed = passes N B ns s a (blockAsked r) (p .0); accepted = q .0; spare = q .1 }
+
+-- ---- a refusal that is not the layer's own is the store's
+
+-- the layer's own
+abbrev pub ofLayer : ℕ → Bool
+ofLayer k = among k (7 ∷ 12 ∷ 13 ∷ 14 ∷ [])
+
+own-not : (n k : ℕ) → ofLayer n ≡ true → n ≡ k → ofLayer k ≡ false → ⊥
+own-not n k t e f = true≢false (sym t ∙ (ap (λ (y : ℕ). ofLayer y) e ∙ f))
+
+four-rows : (size right number own : Bool) (k : ℕ) (r : List Refusal) → firstOf (four size right number own ++ r) ≡ suc k → ofLayer (suc k) ≡ false
+    → ((size ≡ false) × (1 ≡ suc k)) ⊎ (((size ≡ true) × (number ≡ false) × (2 ≡ suc k)) ⊎ (firstOf r ≡ suc k))
+unfolding firstOf among
+four-rows false right number own k r h n = inl (refl, h)
+four-rows true false number own k r h n = absurd (own-not 13 (suc k) refl h n)
+four-rows true true false own k r h n = inr (inl (refl, refl, h))
+four-rows true true true false k r h n = absurd (own-not 12 (suc k) refl h n)
+four-rows true true true true k r h n = inr (inr h)
+
+seven-own : ofLayer 7 ≡ true
+unfolding among
+seven-own = refl
+
+fourteen-own : ofLayer 14 ≡ true
+unfolding among
+fourteen-own = refl
+
+rows-same : (x : Share) (t : Table) (k j : ℕ) (r : Asked) → firstOf (rows x t k r) ≡ suc j → ofLayer (suc j) ≡ false → k ≡ suc j
+unfolding firstOf rows
+rows-same x t k j (puts b c) h n = go (beforeFull k) (not (holds b t) && quotaUsed x t) h
+  where
+    go : (y z : Bool) → cond y k (cond z 7 (cond true k 0)) ≡ suc j → k ≡ suc j
+    go true z q = q
+    go false true q = absurd (own-not 7 (suc j) seven-own q n)
+    go false false q = q
+rows-same x t k j (deletes b) h n = h
+rows-same x t k j (reads b size) h n = go (not (eqb k 0)) (ltb size (length (contentsFound (lookup b t)))) h
+  where
+    go : (y z : Bool) → cond y k (cond z 14 0) ≡ suc j → k ≡ suc j
+    go true z q = q
+    go false true q = absurd (own-not 14 (suc j) fourteen-own q n)
+    go false false q = absurd (omega (arith, q))
+
+store-size : (N B : ℕ) (s : Image) (r : Asked) → rightSize N B s ≡ false → workOf N B s (storeRequest r) .code ≡ 1
+unfolding storeRequest refusals absentRefusals firstOf
+store-size N B s (puts b c) z = code-of N B s (put b c) ∙ rw z
+store-size N B s (deletes b) z = code-of N B s (delete b) ∙ rw z
+store-size N B s (reads b size) z = code-of N B s (read b) ∙ rw z
+
+store-number : (N B : ℕ) (s : Image) (r : Asked) → rightSize N B s ≡ true → numberOk (blockAsked r) ≡ false → workOf N B s (storeRequest r) .code ≡ 2
+unfolding storeRequest blockAsked refusals absentRefusals firstOf
+store-number N B s (puts b c) z n = code-of N B s (put b c) ∙ rw (z, n)
+store-number N B s (deletes b) z n = code-of N B s (delete b) ∙ rw (z, n)
+store-number N B s (reads b size) z n = code-of N B s (read b) ∙ rw (z, n)
+
+pub store-same : (N B : ℕ) (ns : List ℕ) (s : Image) (a : ℕ) (r : Asked) (k : ℕ) → shareCode N B ns s a r ≡ suc k → ofLayer (suc k) ≡ false → workOf N B s (storeRequest r) .code ≡ suc k
+unfolding shareCode bounds
+store-same N B ns s a r k h n = ⊎-elim (λ p. store-size N B s r (p .0) ∙ p .1)
+    (λ q. ⊎-elim (λ p. store-number N B s r (p .0) (p .1) ∙ p .2) (λ p. rows-same (shareOf (sharesOf ns) a) (tableOf N B s) (workOf N B s (storeRequest r) .code) k r p n) q)
+    (four-rows (rightSize N B s) (sharesOk N B ns) (numberOk (blockAsked r)) (owns (sharesOf ns) a (blockAsked r)) k
+    (rows (shareOf (sharesOf ns) a) (tableOf N B s) (workOf N B s (storeRequest r) .code) r) h n)
 
 -- ---- 7
 

@@ -31,8 +31,8 @@ use Rattle.crash.specs.Starts.{formatted-stores}
 use Rattle.crash.specs.Theorem.{request-laws}
 use Rattle.shares.specs.Shares.{sharesOf, shareOf, owns}
 use Rattle.shares.specs.Layer.{Asked, puts, deletes, reads, blockAsked, storeRequest}
-use Rattle.isolation.specs.Law.{Call, ProperAsked, Turn, tenant, store, Serves, Unwritten, OnlyLayer, Through, formatted, FinishedFormat, PutBy, Unacknowledged}
-use Rattle.isolation.specs.Meeting.{Asks, meets}
+use Rattle.isolation.specs.Law.{Call, ProperAsked, Turn, tenant, store, Serves, Unwritten, OnlyLayer, Through, formatted, FinishedFormat, PutBy}
+use Rattle.isolation.specs.Meeting.{Unacknowledged, Asks, meets}
 use Rattle.isolation.specs.Turns.{asked-on, asked-moves}
 use Rattle.isolation.specs.Within.{Within, within-empty, within-agree, spare-agree, within-made}
 

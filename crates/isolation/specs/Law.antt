@@ -10,6 +10,7 @@ use Rattle.model.specs.Slot.{numberOk}
 use Rattle.model.specs.State.{holds}
 use Rattle.model.specs.Table.{lookup, liveBetween, tableOf}
 use Rattle.model.specs.Answers.{Request, format, put, delete, read, readOr, recover, firstOf, workOf, outcomeOf}
+use Rattle.model.specs.Sequences.{among}
 use Rattle.model.specs.Histories.{Reply, Seen, answered, lost, Proper, Does, wears, Event, History, shown}
 use Rattle.crash.specs.Machine.{Promise, unknown, PlainRuns}
 use Rattle.crash.specs.Demand2.{Keeps, board}
@@ -184,17 +185,17 @@ OwnContents = (N B : ℕ) (ns : List ℕ) (ts : List Turn) (u : Image) (a b size
 
 -- ---- with a cut: demand 2
 
--- no answer came back, or a refusal
-abbrev pub Unacknowledged : Seen → Type 0
-Unacknowledged (answered o) = o .code ≢ 0
-Unacknowledged lost = Unit {0}
+-- no answer came back, or the layer itself refused: its own quota, a foreign block, a wrong list, a short buffer
+abbrev pub ByLayer : Seen → Type 0
+ByLayer (answered o) = among (o .code) (7 ∷ 12 ∷ 13 ∷ 14 ∷ []) ≡ true
+ByLayer lost = Unit {0}
 
--- The events at the store: each tenant's request as the store met it; but for those that did nothing there, refused by the layer or lost without a step
+-- The events at the store: each tenant's request as the store met it, its refusals too; but for those that the layer refused by itself, and those lost without a step
 abbrev pub Passed : List Turn → List Event → Type 0
 Passed [] es = es ≡ []
 Passed (store e ∷ ts) es = (r : List Event) × (es ≡ e ∷ r) × Passed ts r
 Passed (tenant x o ∷ ts) es =
-    (Unacknowledged o × Passed ts es) ⊎ ((e : Event) × (r : List Event) × (es ≡ e ∷ r) × (e .request ≡ storeRequest (x .asked)) × (e .seen ≡ o) × Passed ts r)
+    (ByLayer o × Passed ts es) ⊎ ((e : Event) × (r : List Event) × (es ≡ e ∷ r) × (e .request ≡ storeRequest (x .asked)) × (e .seen ≡ o) × Passed ts r)
 
 -- Every history through this layer is one of the store, and so of the plain table: after a recovery each tenant's blocks are as demand 2 says.
 abbrev pub LayerDemand2 : Type 0

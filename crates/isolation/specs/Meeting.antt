@@ -1,13 +1,13 @@
--- A tenant's request as the store meets it: it does nothing there, or it is what the store's own request does, of an own block on a clean image.
-use Prim.Native.Nat.{ℕ}
+-- A tenant's request as the store meets it: it does nothing there, or it is what the store's own request does, of an own block on a clean image. Refused, but not by the layer itself, it is what the store refuses.
+use Prim.Native.Nat.{ℕ, zero, suc}
 use mathlib.Core.Path.{_≡_, refl, sym, ap, ap₂, _∙_}
-use mathlib.Core.Logic.{_⊎_, inl, inr, ⊎-elim}
+use mathlib.Core.Logic.{_⊎_, inl, inr, ⊎-elim, _≢_}
 use mathlib.Core.Bool.{Bool, true, false}
 use mathlib.Core.List.{List, []}
 use native.Mathlib.Omega.{arith}
 use lib.ListN.{length}
 use lib.Dec.{eqb}
-use borrow.Author.Tests.{eqb-true, eqb-false}
+use borrow.Author.Tests.{eqb-true, eqb-false, ne-eqb}
 use Rattle.model.specs.Chip.{Image, rightSize, run}
 use Rattle.model.specs.State.{segmentsOf, state}
 use Rattle.model.specs.Table.{tableOf}
@@ -17,10 +17,11 @@ use Rattle.bridge.specs.Accepted.{code-of, size-passed}
 use Rattle.bridge.specs.Allowance.{Ends, ends-or-stops}
 use Rattle.bridge.specs.Refusals.{none-applies, neither}
 use Rattle.crash.specs.Sound.{Clean}
+use Rattle.crash.specs.Requests.{refused-idle, idle-finished, read-refused}
 use Rattle.crash.specs.Theorem.{request-laws}
 use Rattle.shares.specs.Layer.{Asked, puts, deletes, reads, storeRequest, shareCode, shareWork, contentsAsked, shareOutcome}
-use Rattle.isolation.specs.Law.{Call, served, replyTo, Serves, Begun, Unacknowledged}
-use Rattle.isolation.specs.Codes.{Taken, taken}
+use Rattle.isolation.specs.Law.{Call, served, replyTo, Serves, Begun, ByLayer}
+use Rattle.isolation.specs.Codes.{Taken, taken, ofLayer, store-same}
 
 -- ---- what the store accepts of put, delete and read, it accepts on a clean image
 
@@ -55,6 +56,10 @@ module _ (N B : ℕ) (ns : List ℕ) (s : Image) (a : ℕ) (r : Asked) where
   unfolding shareOutcome run
   refused-image h = ap (λ y. run B y s) (refused-steps h)
 
+  refused-given : eqb (shareCode N B ns s a r) 0 ≡ false → shareOutcome N B ns s a r .given ≡ []
+  unfolding shareOutcome shareWork
+  refused-given h = rw h
+
   pub outcome-code : shareOutcome N B ns s a r .code ≡ shareCode N B ns s a r
   unfolding shareOutcome shareWork
   outcome-code = refl
@@ -80,9 +85,21 @@ asked-bytes N B s (deletes b) e = refl
 asked-bytes N B s (reads b size) e =
     sym (request-laws N B .read-done s b (size-passed N B s (read b) (sym (code-of N B s (read b)) ∙ e)) (accepted-clean N B s (reads b size) (unfold storeRequest in e)) e)
 
+-- a refusal tells of none
+refused-bytes : (N B : ℕ) (s : Image) (r : Asked) (n : ℕ) → workOf N B s (storeRequest r) .code ≡ suc n → bytesRead N B s (storeRequest r) ≡ []
+unfolding bytesRead storeRequest
+refused-bytes N B s (puts b c) n e = refl
+refused-bytes N B s (deletes b) n e = refl
+refused-bytes N B s (reads b size) n e = read-refused N B s b n e
+
 -- under an allowance of all its steps a request ends
 ends-whole : (N B : ℕ) (s : Image) (r : Request) → Ends N B s (length (workOf N B s r .steps)) r
 ends-whole N B s r = ⊎-elim (λ e. e) (λ e. absurd (omega (arith, e .short))) (ends-or-stops N B s (length (workOf N B s r .steps)) r)
+
+-- no answer came back, or a refusal
+abbrev pub Unacknowledged : Seen → Type 0
+Unacknowledged (answered o) = o .code ≢ 0
+Unacknowledged lost = Unit {0}
 
 pub record Asks (N B : ℕ) (ns : List ℕ) (x : Call) (o : Seen) (s m : Image) : Type 0 where
   pub zero-code : shareCode N B ns s (x .tenant) (x .asked) ≡ 0
@@ -123,3 +140,34 @@ module _ (N B : ℕ) (ns : List ℕ) (x : Call) (s : Image) where
         j ∙ refused-image N B ns s (x .tenant) (x .asked) e,
       )
       go false e lost k = inl (tt, rw (refused-steps N B ns s (x .tenant) (x .asked) e) at k)
+
+  -- ---- the event at the store
+
+  refused-so : (m : Image) (o : Reply) (k : ℕ) → Serves N B ns x (answered o) s m → m ≡ s → code ≡ suc k → ofLayer (suc k) ≡ false → Does N B (storeRequest (x .asked)) (answered o) s m
+  unfolding served replyTo replyOf
+  refused-so m o k (e, i) j h n =
+      let r = x .asked in
+      let same = store-same N B ns s (x .tenant) r k h n in
+      let w = ends-whole N B s (storeRequest r) in (
+        length (workOf N B s (storeRequest r) .steps),
+        e
+            ∙ ap₂ (λ (n : ℕ) (y : List ℕ). record { code = n; bytes = y }) (outcome-code N B ns s (x .tenant) r ∙ (h ∙ (sym same ∙ sym (w .code))))
+            (refused-given N B ns s (x .tenant) r (ap (λ (y : ℕ). eqb y 0) h ∙ ne-eqb (suc k) 0 (λ z. omega (arith, z))) ∙ sym (refused-bytes N B s r k same)),
+        j ∙ sym (w .image ∙ idle-finished N B s (storeRequest r) (refused-idle N B s (storeRequest r) k same)),
+      )
+
+  -- what the layer did not refuse by itself is what the store's own request does
+  pub event : (o : Seen) (m : Image) → Serves N B ns x o s m → (ByLayer o × (m ≡ s)) ⊎ Does N B (storeRequest (x .asked)) o s m
+  unfolding served replyTo
+  event o m h = go o h (meets o m h)
+    where
+      by-code : (p : Reply) → Serves N B ns x (answered p) s m → m ≡ s → (k : ℕ) → code ≡ k → p .code ≡ k → p .code ≢ 0 → (t : Bool) → ofLayer k ≡ t
+          → (ByLayer (answered p) × (m ≡ s)) ⊎ Does N B (storeRequest (x .asked)) (answered p) s m
+      by-code p d i zero c q n t e = absurd (n q)
+      by-code p d i (suc k) c q n true e = inl (ap (λ (y : ℕ). ofLayer y) q ∙ e, i)
+      by-code p d i (suc k) c q n false e = inr (refused-so m p k d i c e)
+
+      go : (q : Seen) → Serves N B ns x q s m → (Unacknowledged q × (m ≡ s)) ⊎ Asks N B ns x q s m → (ByLayer q × (m ≡ s)) ⊎ Does N B (storeRequest (x .asked)) q s m
+      go q d (inr k) = inr (k .does)
+      go lost d (inl (n, i)) = inl (tt, i)
+      go (answered p) d (inl (n, i)) = by-code p d i code refl (ap (λ (y : Reply). y .code) (d .0) ∙ outcome-code N B ns s (x .tenant) (x .asked)) n (ofLayer code) refl

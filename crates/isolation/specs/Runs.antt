@@ -15,10 +15,10 @@ use Rattle.crash.specs.Demand2.{board}
 use Rattle.crash.specs.Reading.{codeSeen, settled-exact}
 use Rattle.shares.specs.Shares.{sharesOf, owns}
 use Rattle.shares.specs.Layer.{Asked, puts, deletes, reads, blockAsked, storeRequest, shareCode}
-use Rattle.isolation.specs.Law.{Call, served, replyTo, ProperAsked, Unacknowledged}
+use Rattle.isolation.specs.Law.{Call, served, replyTo, ProperAsked}
 use Rattle.isolation.specs.Owners.{one-owner}
 use Rattle.isolation.specs.Codes.{Taken}
-use Rattle.isolation.specs.Meeting.{outcome-code, Asks}
+use Rattle.isolation.specs.Meeting.{outcome-code, Unacknowledged, Asks}
 use Rattle.isolation.specs.Turns.{asked-on}
 use Rattle.isolation.specs.Images.{clean-within, Layered, turn-layered}
 use Rattle.isolation.specs.Replies.{Tidy, SameOwn, reply-alike}

@@ -7,7 +7,7 @@ use mathlib.Core.List.{List, [], _∷_}
 use Rattle.model.specs.Chip.{Image}
 use Rattle.model.specs.State.{clean}
 use Rattle.model.specs.Table.{Table, Found, lookup}
-use Rattle.model.specs.Histories.{Seen, wears, Event, History, shown}
+use Rattle.model.specs.Histories.{Seen, Does, wears, Event, History, shown}
 use Rattle.crash.specs.Machine.{Board, Promise, settled, interrupted, unknown, OnTable, Moves}
 use Rattle.crash.specs.Invariant.{Invariant, Follows}
 use Rattle.crash.specs.Requests.{shown-clean}
@@ -15,8 +15,8 @@ use Rattle.crash.specs.Skeleton.{May, one-event}
 use Rattle.crash.specs.ReadingRuns.{Shows, Spares, runs-keep}
 use Rattle.crash.specs.Theorem.{request-laws}
 use Rattle.shares.specs.Layer.{Asked, puts, deletes, reads, blockAsked, storeRequest}
-use Rattle.isolation.specs.Law.{Call, ProperAsked, Turn, tenant, store, Through, Passed, Unacknowledged}
-use Rattle.isolation.specs.Meeting.{Asks, meets}
+use Rattle.isolation.specs.Law.{Call, ProperAsked, Turn, tenant, store, Through, Passed, ByLayer}
+use Rattle.isolation.specs.Meeting.{Asks, event}
 
 -- ---- the events at the store
 
@@ -25,13 +25,13 @@ layer-history N B ns [] s u h = ([], refl, h)
 layer-history N B ns (store e ∷ ts) s u (p, w, (m, d, rest)) =
     let ih = layer-history N B ns ts m u rest in
     (e ∷ ih .0, (ih .0, refl, ih .1), (p, w, (m, d, ih .2)))
-layer-history N B ns (tenant x o ∷ ts) s u (p, (m, h, rest)) = go (meets N B ns x s o m h) (layer-history N B ns ts m u rest)
+layer-history N B ns (tenant x o ∷ ts) s u (p, (m, h, rest)) = go (event N B ns x s o m h) (layer-history N B ns ts m u rest)
   where
-    go : (Unacknowledged o × (m ≡ s)) ⊎ Asks N B ns x o s m → (es : List Event) × Passed ts es × History N B m es u → (es : List Event) × Passed (tenant x o ∷ ts) es × History N B s es u
+    go : (ByLayer o × (m ≡ s)) ⊎ Does N B (storeRequest (x .asked)) o s m → (es : List Event) × Passed ts es × History N B m es u → (es : List Event) × Passed (tenant x o ∷ ts) es × History N B s es u
     go (inl (n, e)) ih = (ih .0, inl (n, ih .1), subst (λ (y : Image). History N B y (ih .0) u) e (ih .2))
-    go (inr k) ih =
+    go (inr d) ih =
         let e : Event = record { request = storeRequest (x .asked); worn = wears N B s; seen = o } in
-        (e ∷ ih .0, inr (e, ih .0, refl, refl, refl, ih .1), (p, refl, (m, k .does, ih .2)))
+        (e ∷ ih .0, inr (e, ih .0, refl, refl, refl, ih .1), (p, refl, (m, d, ih .2)))
 
 -- ---- other blocks
 
