@@ -20,6 +20,7 @@ use Rattle.crash.specs.Sound.{Clean}
 use Rattle.crash.specs.Theorem.{request-laws}
 use Rattle.shares.specs.Layer.{Asked, puts, deletes, reads, storeRequest, shareCode, shareWork, contentsAsked, shareOutcome}
 use Rattle.isolation.specs.Law.{Call, served, replyTo, Serves, Begun, Unacknowledged}
+use Rattle.isolation.specs.Instances
 use Rattle.isolation.specs.Codes.{Taken, taken}
 
 -- ---- what the store accepts of put, delete and read, it accepts on a clean image
