@@ -1,5 +1,6 @@
 -- What tenants can rely on, and its proof.
 pub mod Law
+pub mod Instances
 pub mod Live
 pub mod Owners
 pub mod Codes

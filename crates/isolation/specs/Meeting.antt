@@ -22,6 +22,7 @@ use Rattle.crash.specs.Theorem.{request-laws}
 use Rattle.shares.specs.Layer.{Asked, puts, deletes, reads, storeRequest, shareCode, shareWork, contentsAsked, shareOutcome}
 use Rattle.isolation.specs.Law.{Call, served, replyTo, Serves, Begun, ByLayer}
 use Rattle.isolation.specs.Codes.{Taken, taken, ofLayer, store-same}
+use Rattle.isolation.specs.Instances
 
 -- ---- what the store accepts of put, delete and read, it accepts on a clean image
 
