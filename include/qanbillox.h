@@ -236,9 +236,9 @@ uint64_t qbx_rebuild(const uint8_t *source, size_t source_length, size_t n, size
  * A put of a block that is not stored answers QBX_FULL exactly if as many blocks of the tenant's range are stored as its
  * quota says, or more; one that is stored is rewritten whatever the quota. All else is as qbx_put, qbx_delete and
  * qbx_read answer. That holds of an image written only through these three, with one list, since a format, and read and
- * recovered in any way; on any other the store's own QBX_FULL stands too. On such an image, from the format on and
- * without a loss of power, nothing that the others do shows in what a tenant gets, as long as nobody was answered
- * QBX_WORN: so there is no budget, and neither a count of steps nor a place comes back. After a loss of power:
+ * recovered in any way; on any other the store's own QBX_FULL stands too. From the format on, with these
+ * three alone and without a loss of power, nothing that the others do shows in what a tenant gets, as long as nobody
+ * was answered QBX_WORN: so there is no budget, and neither a count of steps nor a place comes back. After a loss of power:
  * qbx_recover, as ever; until then the answer may be QBX_UNFINISHED.
  *
  * A put takes about twice the time of qbx_put: the blocks of the range are counted first. Image, list and buffer must

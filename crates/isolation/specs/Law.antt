@@ -185,12 +185,12 @@ OwnContents = (N B : ℕ) (ns : List ℕ) (ts : List Turn) (u : Image) (a b size
 
 -- ---- with a cut: demand 2
 
--- no answer came back, or the layer itself refused: its own quota, a foreign block, a wrong list, a short buffer
+-- no answer came back, or one by which the layer itself refuses: its own quota (or a store that others filled), a foreign block, a wrong list, a short buffer
 abbrev pub ByLayer : Seen → Type 0
 ByLayer (answered o) = among (o .code) (7 ∷ 12 ∷ 13 ∷ 14 ∷ []) ≡ true
 ByLayer lost = Unit {0}
 
--- The events at the store: each tenant's request as the store met it, its refusals too; but for those that the layer refused by itself, and those lost without a step
+-- The events at the store: each tenant's request as the store met it, its refusals too. Those answered 7, 12, 13 or 14 may be left out, and so may lost ones, where the history is one of the store without them
 abbrev pub Passed : List Turn → List Event → Type 0
 Passed [] es = es ≡ []
 Passed (store e ∷ ts) es = (r : List Event) × (es ≡ e ∷ r) × Passed ts r
