@@ -58,7 +58,7 @@ fn show_verbs(fd: i32) {
 fn show_rules(fd: i32) {
     io::write_all(
         fd,
-        b"--budget STEPS stops a verb that writes after so many flash steps, as a power cut would.\nThe answer is said with its number and the steps done; account, map and salvage write their text alone.\nThe file is replaced whole or not at all.\nMove and rebuild only read IMAGE; one that was cut is begun again, whatever its target looks like.\nSalvage promises nothing: which contents of a damaged image were acknowledged it can't tell.\n",
+        b"--budget STEPS stops a verb that writes, but for a tenant's, after so many flash steps, as a power cut would.\nThe answer is said with its number and the steps done; account, map and salvage write their text alone.\nThe file is replaced whole or not at all.\nMove and rebuild only read IMAGE; one that was cut is begun again, whatever its target looks like.\nSalvage promises nothing: which contents of a damaged image were acknowledged it can't tell.\n",
     );
     io::write_all(
         fd,
@@ -66,7 +66,7 @@ fn show_rules(fd: i32) {
     );
     io::write_all(
         fd,
-        b"SHARES is a file of up to 4096 bytes, three numbers to a line: a tenant's first block, last block and quota. Tenants are numbered from 1, line by line.\nMore than 40 of them, ranges that overlap or are none, and quotas that add up to more than (N-1)B-1 answer 13; a block that is not the tenant's answers 12.\nA tenant is told no steps: their count shows the tidying for others.\n",
+        b"SHARES is a file of up to 4096 bytes, three numbers to a line: a tenant's first block, last block and quota. Tenants are numbered from 1, line by line.\nMore than 40 of them, ranges that overlap or are none, and quotas that add up to more than (N-1)B-1 answer 13; a block that is not the tenant's answers 12, and so does a tenant that is not there.\nA tenant is told no steps: their count shows the tidying for others.\n",
     );
 }
 
@@ -243,14 +243,21 @@ fn read(path: &[u8], words: usize) {
         read_move(path, &verb[..n], &target[..m]);
         return;
     }
-    if words > 8 {
-        usage(STDERR_FILENO);
-        return;
-    }
     if qbx_share_words::names_shares(&verb[..n]) {
+        if words > 8 {
+            io::write_all(
+                STDERR_FILENO,
+                b"qbx: nothing may follow BLOCK here, as --budget: a tenant is told no steps\n",
+            );
+            return;
+        }
         let mut shares = io::buffer();
         let m = os::arg(5, &mut shares);
         read_share(path, &verb[..n], &shares[..m]);
+        return;
+    }
+    if words > 8 {
+        usage(STDERR_FILENO);
         return;
     }
     read_words(path);

@@ -32,6 +32,13 @@ fn carry(line: &[u8]) {
 
 // The words of a tenant's command, and what stands behind '<'.
 fn share(line: &[u8], contents: &[u8]) {
+    if word(line, 7).len() > 0 {
+        io::write_all(
+            STDOUT_FILENO,
+            b"qbx: nothing may follow BLOCK here, as --budget: a tenant is told no steps\n",
+        );
+        return;
+    }
     let shares = word(line, 4);
     let reading = qbx_share_words::share_of(
         word(line, 1),

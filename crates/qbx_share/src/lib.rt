@@ -4,6 +4,7 @@ use model::Answer;
 use qbx_files::Filled;
 use qbx_out::fail;
 use qbx_out::print;
+use qbx_same::Clash;
 use qbx_share_file::Listing;
 use qbx_share_words::ShareCommand;
 use qbx_share_words::ShareVerb;
@@ -129,9 +130,8 @@ fn text_of(path: &[u8], text: &mut [u8]) -> Filled {
     filled
 }
 
-// A command on the image's file in a buffer that holds the image and more, so that a larger file is seen to be one. What it says
-// goes to the one descriptor, and what is wrong to the other, beside a read's answer: its contents go out alone.
-pub fn obey(
+// A command with the file of shares read.
+fn serve(
     image: &mut [u8],
     path: &[u8],
     shares_path: &[u8],
@@ -160,4 +160,29 @@ pub fn obey(
         Listing::Listed(count) => work(image, path, &shares[..count], command, contents, out, err),
         Listing::Wrong(line) => print(err, qbx_share_says::say_wrong_line(line)),
     }
+}
+
+// A command on the image's file in a buffer that holds the image and more, so that a larger file is seen to be one. What it says
+// goes to the one descriptor, and what is wrong to the other, beside a read's answer: its contents go out alone. The file that is
+// written beside the image's, and given its name, may not be the file of shares: it would be gone.
+pub fn obey(
+    image: &mut [u8],
+    path: &[u8],
+    shares_path: &[u8],
+    command: ShareCommand,
+    contents: &[u8],
+    out: i32,
+    err: i32,
+)
+    requires { ⌜ sizeOf (command .segments) (command .slots) < length (now image) ⌝ }
+{
+    let clash = qbx_same::clash_of(shares_path, path);
+    if let Clash::SourceBeside = clash {
+        io::write_all(
+            err,
+            b"qbx: SHARES is the file that is written beside IMAGE: name another\n",
+        );
+        return;
+    }
+    serve(image, path, shares_path, command, contents, out, err);
 }

@@ -27,9 +27,9 @@ parts parted (b ∷ s) = cond (parted b) ([] ∷ parts parted s) (before b (part
 unfoldable pub isLineEnd : ℕ → Bool
 isLineEnd b = eqb b 10
 
--- a space or a tab
+-- a space or a tab, or the byte before a line end in files of other systems
 unfoldable pub isBlank : ℕ → Bool
-isBlank b = eqb b 32 || eqb b 9
+isBlank b = eqb b 32 || (eqb b 9 || eqb b 13)
 
 unfoldable pub filled : List (List ℕ) → List (List ℕ)
 filled [] = []

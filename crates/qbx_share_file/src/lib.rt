@@ -21,11 +21,17 @@ pub enum Listing {
     Wrong(usize),
 }
 
-// Whether a byte is a space or a tab.
+// Whether a byte is a space, a tab or a carriage return.
 fn is_blank(byte: u8) -> bool
     ensures { λ r. ⌜ r ≡ isBlank byte ⌝ }
 {
-    byte == b' ' || byte == b'\t'
+    if byte == b' ' {
+        return true;
+    }
+    if byte == b'\t' {
+        return true;
+    }
+    byte == b'\r'
 }
 
 // Where the next blank is; at the line's end if there is none.

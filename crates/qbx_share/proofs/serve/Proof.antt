@@ -1,11 +1,11 @@
--- `qbx_share::obey`: the text is within its buffer, and what is listed within the list. Assumes nothing.
+-- `qbx_share::serve`: the text is within its buffer, and what is listed within the list. Assumes nothing.
 use mathlib.Core.Path.{sym, _∙_}
 use native.Mathlib.Omega.{arith}
 use lib.Seq.{length-take-le}
 use Rattle.qbx_share_file.proofs.Laws.Lines.{listed-within}
 use borrow.Author.Needs.{needs}
-use Rattle.qbx_share.proofs.obey.Statement.{statement}
-use Rattle.qbx_share.proofs.obey.Tie as tie
+use Rattle.qbx_share.proofs.serve.Statement.{statement}
+use Rattle.qbx_share.proofs.serve.Tie as tie
 
 slice-aggregate-text-of : tie.Need-slice-aggregate-text-of
 slice-aggregate-text-of c = search needs
@@ -73,8 +73,8 @@ returns-3 c = search needs
 returns-4 : tie.Need-returns-4
 returns-4 c = search needs
 
-pub obey-spec : {M : Type 1} → statement M
-obey-spec =
+pub serve-spec : {M : Type 1} → statement M
+serve-spec =
     tie.close
     (tie.spec
     slice-aggregate-text-of
