@@ -34,7 +34,7 @@ fn tell(fd: i32, answer: Answer, command: ShareCommand, there: u64) {
     print(fd, qbx_share_says::say_shared(answer));
 }
 
-// Has the image in its file, if it was changed; whether it is there.
+// Has the image in its file, if it was changed. Whether it is there is the system's word, of which nothing is proved.
 fn settle(image: &[u8], path: &[u8], answer: Answer, err: i32) -> bool {
     if let Answer::Done = answer {
         if !qbx_files::replace(path, image) {
@@ -45,7 +45,8 @@ fn settle(image: &[u8], path: &[u8], answer: Answer, err: i32) -> bool {
     true
 }
 
-// The contents alone go out; whether they did. Where the answer goes there too, a line end keeps them apart.
+// The contents alone go out; whether they did is the system's word too. Where the answer goes there too, a line end keeps them
+// apart.
 fn give(contents: &[u8], out: i32, err: i32) -> bool {
     if !io::write_all(out, contents) {
         fail(err, b"write ", b"standard output");
@@ -116,7 +117,7 @@ fn work(
     );
 }
 
-// Reads the file of shares: how many bytes, and whether they could be had.
+// Reads the file of shares: how many bytes, and whether they could be had, by the system's word.
 fn text_of(path: &[u8], text: &mut [u8]) -> Filled {
     let fd = os::open_read(path);
     if fd < 0 {
