@@ -56,6 +56,24 @@ returns-2 c =
       omega arith,
     )
 
+-- what is copied stands before the ranges, so that an edit of the test is refused for that
+returns-3 : tie.Need-returns-3
+unfolding blockAsked mostContents
+returns-3 c =
+    let k = c .before .before .before .before .before .before in
+    let d = k .before .before in
+    let t = d .before in
+    let m = t .before .before in
+    let a = m .before .before .before .before .args in
+    let lent = now (a .contents) in
+    let part = t .enum-told .given .0 .0 in
+    let p = d .read .result in (
+      was-read (a .segments) (a .slots) (now (a .image)) (a .block .0) (d .read .result) (d .read .ensures) (omega (arith, k .if1 .left, k .before .code-of .ensures)) (shareIn part) lent (c .before .before .print .result) _ (c .before .before .print .ensures .0)
+          ∙ ap (λ o. gaveIn o lent) (sym (allowed-outcome (a .segments) (a .slots) (now (a .shares)) (now (a .image)) (a .tenant) (reads (a .block .0) (length lent)) part
+          (subst (Admits (a .segments) (a .slots) (now (a .shares)) (now (a .image)) (a .tenant) (a .block .0)) (t .enum-told .given .1) (m .admit .ensures)))),
+      omega (arith, c .before .before .print .ensures .1, length-take (p .offset + p .length - p .offset) (drop (p .offset) (now (a .image))), told-small (a .segments) (a .slots) (now (a .image)) (a .block .0) p (d .read .ensures)),
+    )
+
 add-end : tie.Need-add-end
 add-end c =
     let d = c .before .before .before in
@@ -84,23 +102,6 @@ print-requires c κs =
 
 same-length : tie.Need-same-length
 same-length c = search needs
-
-returns-3 : tie.Need-returns-3
-unfolding blockAsked mostContents
-returns-3 c =
-    let k = c .before .before .before .before .before .before in
-    let d = k .before .before in
-    let t = d .before in
-    let m = t .before .before in
-    let a = m .before .before .before .before .args in
-    let lent = now (a .contents) in
-    let part = t .enum-told .given .0 .0 in
-    let p = d .read .result in (
-      was-read (a .segments) (a .slots) (now (a .image)) (a .block .0) (d .read .result) (d .read .ensures) (omega (arith, k .if1 .left, k .before .code-of .ensures)) (shareIn part) lent (c .before .before .print .result) _ (c .before .before .print .ensures .0)
-          ∙ ap (λ o. gaveIn o lent) (sym (allowed-outcome (a .segments) (a .slots) (now (a .shares)) (now (a .image)) (a .tenant) (reads (a .block .0) (length lent)) part
-          (subst (Admits (a .segments) (a .slots) (now (a .shares)) (now (a .image)) (a .tenant) (a .block .0)) (t .enum-told .given .1) (m .admit .ensures)))),
-      omega (arith, c .before .before .print .ensures .1, length-take (p .offset + p .length - p .offset) (drop (p .offset) (now (a .image))), told-small (a .segments) (a .slots) (now (a .image)) (a .block .0) p (d .read .ensures)),
-    )
 
 pub read-spec : {M : Type 1} → statement M
 read-spec =
