@@ -1,6 +1,5 @@
 // account FILE: the account of a board's image (request #101), of 4 segments with 15 slots each, on standard output.
-use libc::STDERR_FILENO;
-use libc::STDOUT_FILENO;
+use libc::{STDERR_FILENO, STDOUT_FILENO};
 use model::Answer;
 
 fn usage() {

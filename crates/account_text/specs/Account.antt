@@ -1,17 +1,14 @@
 -- Request #101: the account of an image, line by line. Each line ends with byte 0A.
-use Prim.Native.Nat.{ℕ, zero, suc}
-use mathlib.Core.Bool.{Bool, true, cond}
-use mathlib.Core.List.{List, [], _∷_, _++_, flatMap, map}
-use lib.ListN.{length, getD, set}
-use lib.Dec.{leb, eqb}
-use Rattle·model.specs.Lists.{count}
-use Rattle·model.specs.Chip.{Image, rightSize}
-use Rattle·model.specs.Header.{erasePending}
-use Rattle·model.specs.Slot.{Slot, isEmpty, isReplaced, isCut, Entry, entryOf}
-use Rattle·model.specs.State.{Segment, blank, invalid, inUse, segmentsOf, topIndex, nextIndex, topSlots, usedCount, entries, conditions, caseA, caseB, caseC, caseD, State, clean, unfinished, damaged, stateOf}
-use Rattle·model.specs.Answers.{recover, workOn}
-use Rattle·text.specs.Text.{text}
-use Rattle·text.specs.Buffer.{labelled}
+use Rattle.std.specs.Prelude.{ℕ, zero, suc, Bool, true, cond, length, get_or, set, leb, eqb}
+use mathlib.Core.List.{List, [], ◌∷◌, ◌++◌, flat_map, map}
+use Rattle.model.specs.Lists.{count}
+use Rattle.model.specs.Chip.{Image, rightSize}
+use Rattle.model.specs.Header.{erasePending}
+use Rattle.model.specs.Slot.{Slot, is_empty, isReplaced, isCut, Entry, entry_of}
+use Rattle.model.specs.State.{Segment, blank, invalid, inUse, segmentsOf, topIndex, nextIndex, topSlots, usedCount, entries, conditions, caseA, caseB, caseC, caseD, State, clean, unfinished, damaged, state_of}
+use Rattle.model.specs.Answers.{recover, workOn}
+use Rattle.text.specs.Text.{text}
+use Rattle.text.specs.Buffer.{labelled}
 
 -- ---- the segments as they are shown
 
@@ -25,13 +22,13 @@ unseen (inUse ver st n ks) = invalid
 unfoldable pub shownIn : ℕ → List Segment → State → List Segment
 shownIn N l clean = l
 shownIn N l (unfinished caseA) = l
-shownIn N l (unfinished caseB) = set l (nextIndex N l) (unseen (getD l (nextIndex N l) blank))
+shownIn N l (unfinished caseB) = set l (nextIndex N l) (unseen (get_or l (nextIndex N l) blank))
 shownIn N l (unfinished caseC) = l
 shownIn N l (unfinished caseD) = l
 shownIn N l damaged = l
 
 unfoldable pub shown : ℕ → ℕ → List Segment → List Segment
-shown N B l = shownIn N l (stateOf N B l)
+shown N B l = shownIn N l (state_of N B l)
 
 -- ---- one line for each segment by index
 
@@ -40,7 +37,7 @@ useWord st = cond (eqb st erasePending) (text " owing") (text " used")
 
 -- torn and wrong slots are in no count; of the dead ones, those that a cut left are told apart (request #107)
 unfoldable pub slotCounts : List Slot → List ℕ
-slotCounts ks = labelled " live " (length (entries ks)) ++ (labelled " dead " (count isReplaced ks) ++ (labelled " cut " (count isCut ks) ++ labelled " empty " (count isEmpty ks)))
+slotCounts ks = labelled " live " (length (entries ks)) ++ (labelled " dead " (count isReplaced ks) ++ (labelled " cut " (count isCut ks) ++ labelled " empty " (count is_empty ks)))
 
 -- as "seg 0 used num 0 live 0 dead 0 cut 0 empty 15"
 unfoldable pub segmentLine : ℕ → Segment → List ℕ
@@ -62,25 +59,25 @@ pub record LiveSlot : Type 0 where
   pub slot : ℕ
 
 unfoldable pub liveAt : ℕ → ℕ → Entry → LiveSlot
-liveAt i j e = record { block = e .block; contents = e .contents; segment = i; slot = j }
+liveAt i j e = record { block = e.block; contents = e.contents; segment = i; slot = j }
 
 -- the live slots of segment i, from place j on
 unfoldable pub liveFrom : ℕ → ℕ → List Slot → List LiveSlot
 liveFrom i j [] = []
-liveFrom i j (k ∷ ks) = map (liveAt i j) (entryOf k) ++ liveFrom i (suc j) ks
+liveFrom i j (k ∷ ks) = map (liveAt i j) (entry_of k) ++ liveFrom i (suc j) ks
 
 -- those of u segments in use by rising segment number: the top's come last
-unfoldable pub liveIn : ℕ → ℕ → List Segment → List LiveSlot
-liveIn N zero l = []
-liveIn N (suc u) l = liveIn N u (set l (topIndex N l) blank) ++ liveFrom (topIndex N l) 1 (topSlots N l)
+unfoldable pub live_in : ℕ → ℕ → List Segment → List LiveSlot
+live_in N zero l = []
+live_in N (suc u) l = live_in N u (set l (topIndex N l) blank) ++ liveFrom (topIndex N l) 1 (topSlots N l)
 
 unfoldable pub liveSlots : ℕ → List Segment → List LiveSlot
-liveSlots N l = liveIn N (usedCount l) l
+liveSlots N l = live_in N (usedCount l) l
 
 -- sorted by block number; equal ones keep their order, which is by segment number, then slot
 unfoldable pub insert : LiveSlot → List LiveSlot → List LiveSlot
 insert e [] = e ∷ []
-insert e (x ∷ r) = cond (leb (e .block) (x .block)) (e ∷ x ∷ r) (x ∷ insert e r)
+insert e (x ∷ r) = cond (leb e.block x.block) (e ∷ x ∷ r) (x ∷ insert e r)
 
 unfoldable pub byBlock : List LiveSlot → List LiveSlot
 byBlock [] = []
@@ -90,11 +87,11 @@ byBlock (e ∷ r) = insert e (byBlock r)
 unfoldable pub blockText : ℕ → ℕ → ℕ → ℕ → List ℕ
 blockText b n i j = labelled "block " b ++ (labelled " len " n ++ (labelled " seg " i ++ labelled " slot " j))
 
-unfoldable pub blockLine : LiveSlot → List ℕ
-blockLine e = blockText (e .block) (length (e .contents)) (e .segment) (e .slot) ++ text "\n"
+unfoldable pub block_line : LiveSlot → List ℕ
+block_line e = blockText e.block (length e.contents) e.segment e.slot ++ text "\n"
 
-unfoldable pub blockLines : List LiveSlot → List ℕ
-blockLines r = flatMap blockLine r
+unfoldable pub block_lines : List LiveSlot → List ℕ
+block_lines r = flat_map block_line r
 
 -- ---- recovery's answer and step count; of a damaged image the first condition of Clean that fails
 
@@ -107,14 +104,14 @@ firstFailing k (t ∷ r) = cond t (firstFailing (suc k) r) k
 unfoldable pub lastLine : ℕ → ℕ → List Segment → List ℕ
 lastLine N B l =
     let w = workOn N B true l recover in
-    cond (eqb (w .code) 0)
-    (labelled "recover " (w .code) ++ (labelled " steps " (length (w .steps)) ++ text "\n"))
+    cond (eqb w.code 0)
+    (labelled "recover " w.code ++ (labelled " steps " (length w.steps) ++ text "\n"))
     (labelled "fails " (firstFailing 1 (conditions N B l)) ++ text "\n")
 
 -- ---- the account
 
 unfoldable pub accountOn : ℕ → ℕ → List Segment → List ℕ
-accountOn N B l = let x = shown N B l in segmentLines 0 x ++ (blockLines (byBlock (liveSlots N x)) ++ lastLine N B l)
+accountOn N B l = let x = shown N B l in segmentLines 0 x ++ (block_lines (byBlock (liveSlots N x)) ++ lastLine N B l)
 
 -- another size gives only this
 unfoldable pub wrongSize : List ℕ

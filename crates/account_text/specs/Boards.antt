@@ -1,11 +1,9 @@
 -- Boards with their accounts and their pictures: the sample texts, a fresh format, each unfinished case, and damage in each condition of Clean. Entries of one table (Samples).
-use Prim.Native.Nat.{ℕ, _%_}
+use Rattle.std.specs.Prelude.{ℕ, ◌%◌, List, [], ◌∷◌, ◌++◌, replicate}
 use Prim.Native.String.{String}
-use mathlib.Core.List.{List, [], _∷_, _++_}
-use lib.ListN.{replicate}
-use Rattle·model.specs.Chip.{Page, erased}
-use Rattle·model.specs.Header.{openingBegun, opened, erasePending, compacted, Version, version1, version2, newVersion, headerPage, oldIndex}
-use Rattle·model.specs.Slot.{slotPage}
+use Rattle.model.specs.Chip.{Page, erased}
+use Rattle.model.specs.Header.{openingBegun, opened, erasePending, compacted, Version, version1, version2, newVersion, headerPage, oldIndex}
+use Rattle.model.specs.Slot.{slotPage}
 
 -- N, B, the image's pages, the lines of its account, and the rows of its picture without the legend
 pub record Board : Type 0 where

@@ -1,16 +1,12 @@
 -- Request #101, for who would rather look than read: a picture of an image. One row for each segment by index, with its state and number, and one character for each slot of those in use.
-use Prim.Native.Nat.{ℕ, suc, _-_, _%_}
-use mathlib.Core.Bool.{Bool, false, cond, _&&_}
-use mathlib.Core.List.{List, [], _∷_, _++_}
-use lib.ListN.{length, replicate}
-use lib.Dec.{ltb, eqb}
-use Rattle·model.specs.Chip.{Image, rightSize}
-use Rattle·model.specs.Header.{erasePending}
-use Rattle·model.specs.Slot.{Slot, empty, torn, dead, cut, wrong, live}
-use Rattle·model.specs.State.{Segment, blank, invalid, inUse, segmentsOf, nextNumber}
-use Rattle·text.specs.Text.{text}
-use Rattle·text.specs.Decimal.{decimal}
-use Rattle·account_text·specs.specs.Account.{shown, wrongSize}
+use Rattle.std.specs.Prelude.{ℕ, suc, ◌-◌, ◌%◌, Bool, false, cond, ◌&&◌, List, [], ◌∷◌, ◌++◌, length, replicate, ltb, eqb}
+use Rattle.model.specs.Chip.{Image, rightSize}
+use Rattle.model.specs.Header.{erasePending}
+use Rattle.model.specs.Slot.{Slot, empty, torn, dead, cut, wrong, live}
+use Rattle.model.specs.State.{Segment, blank, invalid, inUse, segmentsOf, nextNumber}
+use Rattle.text.specs.Text.{text}
+use Rattle.text.specs.Decimal.{decimal}
+use Rattle.account_text.specs.Account.{shown, wrongSize}
 
 -- ---- the slots
 
@@ -66,11 +62,11 @@ mapRows next i [] = []
 mapRows next i (x ∷ l) = mapRow next i x ++ mapRows next (suc i) l
 
 -- of every segment as it is shown
-unfoldable pub allRows : ℕ → ℕ → List Segment → List ℕ
-allRows N B l = mapRows (nextNumber (shown N B l)) 0 (shown N B l)
+unfoldable pub all_rows : ℕ → ℕ → List Segment → List ℕ
+all_rows N B l = mapRows (nextNumber (shown N B l)) 0 (shown N B l)
 
 unfoldable pub mapOn : ℕ → ℕ → List Segment → List ℕ
-mapOn N B l = allRows N B l ++ legend
+mapOn N B l = all_rows N B l ++ legend
 
 unfoldable pub mapText : ℕ → ℕ → Image → List ℕ
 mapText N B s = cond (rightSize N B s) (mapOn N B (segmentsOf N B s)) wrongSize

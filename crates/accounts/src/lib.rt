@@ -1,27 +1,25 @@
 // The account of an image (request #101), and its picture, handed on from `pictures`, each in a lent buffer. Neither has a
 // `requires`: any bytes, any N and B. A text is put together twice, once where nothing holds it, so that its length is known
 // before its first byte is written.
+ghost use Rattle.std.specs.Prelude.{◌≡◌, map, ◌+◌, ◌≤◌, length, take};
+ghost use Rattle.model.specs.State.{segmentsOf};
+ghost use Rattle.flash.specs.Pages.{Sized};
+ghost use Rattle.text.specs.Buffer.{printed, printIn, Wrote, mostText};
+ghost use Rattle.account_text.specs.Account.{shown, accountOn, accountText};
+ghost use Rattle.index.specs.Shows.{shownOf};
+ghost use Rattle.index.specs.Tables.{tables, Indexed};
+ghost use Rattle.prognosis.specs.Foretold.{prognosisOf};
+ghost use Rattle.accounts.specs.Foretells.{foretold};
+
 use index::Shown;
 use model::MOST_SEGMENTS;
 pub use pictures::map;
 use prognosis::Prognosis;
 use text::Printed;
-ghost use mathlib.Core.Path.{_≡_};
-ghost use mathlib.Core.List.{map};
-ghost use Prim.Native.Nat.{_+_, _≤_};
-ghost use lib.ListN.{length, take};
-ghost use Rattle·model.specs.State.{segmentsOf};
-ghost use Rattle·flash.specs.Pages.{Sized};
-ghost use Rattle·text.specs.Buffer.{printed, printIn, Wrote, mostText};
-ghost use Rattle·account_text.specs.Account.{shown, accountOn, accountText};
-ghost use Rattle·index.specs.Shows.{shownOf};
-ghost use Rattle·index.specs.Tables.{tables, Indexed};
-ghost use Rattle·prognosis.specs.Foretold.{prognosisOf};
-ghost use Rattle·accounts·specs.specs.Foretells.{foretold};
 
 fn last_line(text: &mut [u8], at: usize, prognosis: Prognosis) -> usize
-    requires { ⌜ at + 80 ≤ mostText ⌝ }
-    ensures { λ r. ⌜ Wrote (foretold prognosis) (now (text .entry)) at (now (text .exit)) r × (r ≤ at + 80) ⌝ }
+    requires { at + 80 ≤ mostText }
+    ensures { Wrote (foretold prognosis) text.old at text.new result × (result ≤ at + 80) }
 {
     match prognosis {
         Prognosis::Recovers { steps } => printing::recover_line(text, at, steps),
@@ -41,19 +39,12 @@ fn compose(
     prognosis: Prognosis,
     text: &mut [u8],
 ) -> usize
-    requires { ⌜ Sized segments slots (length (now image)) × (take segments table ≡ map shownOf (shown segments slots (segmentsOf segments slots (now image)))) × Indexed segments slots (now image) (tables (now firsts) (now nexts) (now lengths)) × (prognosis ≡ prognosisOf segments slots (segmentsOf segments slots (now image))) ⌝ }
-    ensures { λ r. ⌜ Wrote (accountOn segments slots (segmentsOf segments slots (now (image .entry)))) (now (text .entry)) 0 (now (text .exit)) r × (r ≤ mostText) ⌝ }
+    requires { Sized segments slots (length image.now) × (take segments table ≡ map shownOf (shown segments slots (segmentsOf segments slots image.now))) × Indexed segments slots image.now (tables firsts.now nexts.now lengths.now) × (prognosis ≡ prognosisOf segments slots (segmentsOf segments slots image.now)) }
+    ensures { Wrote (accountOn segments slots (segmentsOf segments slots image.now)) text.old 0 text.new result × (result ≤ mostText) }
 {
     let listed = printing::segment_lines(text, 0, table, segments);
     let blocks = block_lines::block_lines(
-        image,
-        segments,
-        slots,
-        firsts,
-        nexts,
-        lengths,
-        text,
-        listed,
+        image, segments, slots, firsts, nexts, lengths, text, listed,
     );
     last_line(text, blocks, prognosis)
 }
@@ -61,7 +52,7 @@ fn compose(
 // The account of an image: one line for each segment by index and one for each live slot by rising block number, then what
 // recovery would answer, or the first condition that fails.
 pub fn account(image: &[u8], segments: usize, slots: usize, text: &mut [u8]) -> Printed
-    ensures { λ r. ⌜ (printed r (now (text .exit)) ≡ printIn (accountText segments slots (now (image .entry))) (now (text .entry))) × (r .length ≤ mostText) ⌝ }
+    ensures { (printed result text.new ≡ printIn (accountText segments slots image.now) text.old) × (result.length ≤ mostText) }
 {
     if !request::right_size(image.len(), segments, slots) {
         return printing::wrong_size(text);
@@ -83,28 +74,12 @@ pub fn account(image: &[u8], segments: usize, slots: usize, text: &mut [u8]) -> 
     // shorter than any text, so that nothing of it matters
     let mut none = [0u8; 1];
     let length = compose(
-        image,
-        segments,
-        slots,
-        table,
-        &firsts,
-        &nexts,
-        &lengths,
-        prognosis,
-        &mut none,
+        image, segments, slots, table, &firsts, &nexts, &lengths, prognosis, &mut none,
     );
     if length > text.len() {
         return text::short();
     }
     text::done(compose(
-        image,
-        segments,
-        slots,
-        table,
-        &firsts,
-        &nexts,
-        &lengths,
-        prognosis,
-        text,
+        image, segments, slots, table, &firsts, &nexts, &lengths, prognosis, text,
     ))
 }

@@ -1,10 +1,9 @@
 // The pages of live slots added to a fresh image one after the other (request #106).
-use model::SegmentNumber;
-use model::SlotPlace;
-ghost use mathlib.Core.Path.{_≡_};
-ghost use lib.ListN.{length};
-ghost use Rattle·model.specs.Slot.{slotOf, entryOf};
-ghost use Rattle·adding·specs.specs.Adding.{Going, LivePage, Opened, Added};
+ghost use Rattle.std.specs.Prelude.{◌≡◌, length};
+ghost use Rattle.model.specs.Slot.{slot_of, entry_of};
+ghost use Rattle.adding.specs.Adding.{Going, LivePage, Opened, Added};
+
+use model::{SegmentNumber, SlotPlace};
 
 // How many steps open a segment, and how many write a slot besides one for each byte of contents.
 pub const OPENING: u64 = 21;
@@ -13,6 +12,7 @@ const SLOT_STEPS: u64 = 5;
 
 // How far the writing has come: the top, how many of its slots are still empty, what is left of the budget, and how many steps
 // the list has so far. Those are counted though the budget covers none of them: only so is it known at the end that it was cut.
+#[derive(Drop)]
 pub struct Progress {
     pub top: SegmentNumber,
     pub free: usize,
@@ -21,7 +21,7 @@ pub struct Progress {
 }
 
 fn wide(x: u8) -> usize
-    ensures { λ r. ⌜ r ≡ x ⌝ }
+    ensures { result ≡ x }
 {
     x as usize
 }
@@ -29,8 +29,8 @@ fn wide(x: u8) -> usize
 // A top with an empty slot. The next segment is opened only here, where an entry needs it: no empty one is left at the end.
 // A fresh image has no recovery's erase to tell, so that the total is 0 whatever the source's is.
 fn next_slot(target: &mut [u8], segments: usize, slots: usize, at: Progress) -> Progress
-    requires { ⌜ Going segments slots at (length (now target)) ⌝ }
-    ensures { λ r. ⌜ Opened segments slots at r (now (target .entry)) (now (target .exit)) ⌝ }
+    requires { Going segments slots at (length target.old) }
+    ensures { Opened segments slots at result target.old target.new }
 {
     if at.free > 0 {
         return at;
@@ -55,8 +55,8 @@ pub fn add(
     page: &[u8],
     from: Progress,
 ) -> Progress
-    requires { ⌜ Going segments slots from (length (now target)) × LivePage (now page) ⌝ }
-    ensures { λ r. ⌜ Added segments slots (entryOf (slotOf (now (page .entry)))) from r (now (target .entry)) (now (target .exit)) ⌝ }
+    requires { Going segments slots from (length target.old) × LivePage page.now }
+    ensures { Added segments slots (entry_of (slot_of page.now)) from result target.old target.new }
 {
     let at = next_slot(target, segments, slots, from);
     let top = at.top;

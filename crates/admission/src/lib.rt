@@ -1,16 +1,14 @@
 // What a tenant's request is refused for before the image is looked at (request #110), and how its quota decides a put.
-use model::Answer;
-use model::BlockNumber;
-use model::Counted;
+ghost use Rattle.std.specs.Prelude.{◌≡◌, cond, ◌&&◌, not, leb};
+ghost use Rattle.model.specs.Answers.{code_of};
+ghost use Rattle.shares.specs.Layer.{beforeFull};
+ghost use Rattle.admission.specs.Admission.{Admits};
+
+use model::{Answer, BlockNumber, Counted};
 use share_list::Part;
-ghost use mathlib.Core.Path.{_≡_};
-ghost use mathlib.Core.Bool.{cond, _&&_, not};
-ghost use lib.Dec.{leb};
-ghost use Rattle·model.specs.Answers.{codeOf};
-ghost use Rattle·shares.specs.Layer.{beforeFull};
-ghost use Rattle·admission·specs.specs.Admission.{Admits};
 
 // The tenant's share, which the block is of; or why the request is refused.
+#[derive(Drop)]
 pub enum Admitted {
     Part(Part),
     Refused(Answer),
@@ -26,7 +24,7 @@ pub fn admit(
     tenant: u32,
     block: BlockNumber,
 ) -> Admitted
-    ensures { λ r. ⌜ Admits segments slots (now (shares .entry)) (now (image .entry)) tenant (block .0) r ⌝ }
+    ensures { Admits segments slots shares.now image.now tenant block.0 result }
 {
     if !request::right_size(image.len(), segments, slots) {
         return Admitted::Refused(Answer::Size);
@@ -45,7 +43,7 @@ pub fn admit(
 
 // Whether a put would store one block more than the quota allows. One that is stored already takes no place of the quota.
 pub fn quota_used(counted: Counted, quota: usize) -> bool
-    ensures { λ r. ⌜ r ≡ (not (counted .stored) && leb quota (counted .blocks)) ⌝ }
+    ensures { result ≡ (not counted.stored && leb quota counted.blocks) }
 {
     if counted.stored {
         return false;
@@ -55,7 +53,7 @@ pub fn quota_used(counted: Counted, quota: usize) -> bool
 
 // What a put is answered where the quota is used: what the store asks before its own room, or 7.
 pub fn before_full(answer: Answer) -> Answer
-    ensures { λ r. ⌜ codeOf r ≡ cond (beforeFull (codeOf answer)) (codeOf answer) 7 ⌝ }
+    ensures { code_of result ≡ cond (beforeFull (code_of answer)) (code_of answer) 7 }
 {
     match answer {
         Answer::Length => Answer::Length,

@@ -1,72 +1,72 @@
 -- Laws of the blank test: bytes joined by `&`; bytes split in two; groups of eight before the first that differs.
-use Prim.Native.Nat.{ℕ, zero, suc, _+_, _-_, _*_, _/_, _%_, _≤_, _<_, min}
-use mathlib.Core.Path.{_≡_, refl, sym, ap, _∙_}
-use mathlib.Core.Logic.{_⊎_, inl, inr, ⊎-elim}
-use mathlib.Core.Bool.{Bool, true, false, cond, _&&_, and-true, and-assoc, false≢true}
-use mathlib.Core.List.{List, [], _∷_, _++_}
-use native.Mathlib.Decide.{decLt}
-use native.Mathlib.Nat.{zero-add, add-comm, suc-mul, mod-eq-of-lt, min-eq-left, min-eq-right}
+use Prim.Native.Nat.{ℕ, zero, suc, ◌+◌, ◌-◌, ◌*◌, ◌/◌, ◌%◌, ◌≤◌, ◌<◌, min}
+use mathlib.Core.Path.{◌≡◌, refl, sym, ap, ◌∙◌}
+use mathlib.Core.Logic.{◌⊎◌, inl, inr, ⊎_elim}
+use mathlib.Core.Bool.{Bool, true, false, cond, ◌&&◌, and-true, and_assoc, false≢true}
+use mathlib.Core.List.{List, [], ◌∷◌, ◌++◌}
+use native.Mathlib.Decide.{dec_lt}
+use native.Mathlib.Nat.{zero-add, add_comm, suc-mul, mod-eq_of_lt, min-eq_left, min-eq_right}
 use native.Mathlib.Numerals.{add-one}
 use native.Mathlib.Omega.{arith}
-use lib.ListN.{length, getD, take, drop, take-append-drop, length-drop, drop-of-length-le}
-use lib.Bits.{bitAnd, and-comm, and-mask, and-le-l}
+use lib.ListN.{length, get_or, take, drop, take-append-drop, length-drop, drop_of_length-le}
+use lib.Bits.{bit_and, and_comm, and_mask, and_le_l}
 use lib.Dec.{eqb}
-use lib.Seq.{length-take-le, take-suc, take-all, take-append-le, drop-append-le, take-take, take-add, drop-drop}
-use borrow.Author.Tests.{eq-eqb, ne-eqb}
-use Rattle·model.specs.Lists.{same, chunk}
-use Rattle·model.specs.Laws.Lists.{and-left, and-right}
-use Rattle·model.specs.Laws.Chunk.{chunk-length}
-use Rattle·blank·specs.specs.Leading.{leadingBlank}
-use Rattle·model.specs.Chip.{erased}
-use Rattle·model.specs.Header.{isBlank}
-use Rattle·model.specs.Blank.{groupsOf, lookedAt, blankGroups}
+use lib.Seq.{length-take-le, take-suc, take_all, take-append-le, drop-append-le, take-take, take-add, drop-drop}
+use borrow.Author.Tests.{eq-eqb, ne_eqb}
+use Rattle.model.specs.Lists.{same, chunk}
+use Rattle.model.specs.Laws.Lists.{and_left, and_right}
+use Rattle.model.specs.Laws.Chunk.{chunk-length}
+use Rattle.blank.specs.Leading.{leadingBlank}
+use Rattle.model.specs.Chip.{erased}
+use Rattle.model.specs.Header.{isBlank}
+use Rattle.model.specs.Blank.{groups_of, lookedAt, blankGroups}
 
 -- ---- bytes joined by `&`
 
-and-255 : (a b : ℕ) → a < 256 → b < 256 → eqb (bitAnd a b) 255 ≡ (eqb a 255 && eqb b 255)
-and-255 a b h k = elim (decLt a 255) [ yes l ↦ less l | no l ↦ all (omega arith) ]
+and-255 : (a b : ℕ) → a < 256 → b < 256 → eqb (bit_and a b) 255 ≡ (eqb a 255 && eqb b 255)
+and-255 a b h k = elim (dec_lt a 255) [ yes l ↦ less l | no l ↦ all (omega arith) ]
   where
-    all : a ≡ 255 → eqb (bitAnd a b) 255 ≡ (eqb a 255 && eqb b 255)
+    all : a ≡ 255 → eqb (bit_and a b) 255 ≡ (eqb a 255 && eqb b 255)
     all e =
-        let f : bitAnd 255 b ≡ b = and-comm 255 b ∙ and-mask b 8 ∙ mod-eq-of-lt k in
+        let f : bit_and 255 b ≡ b = and_comm 255 b ∙ and_mask b 8 ∙ mod-eq_of_lt k in
         rw (e, f)
 
-    less : a < 255 → eqb (bitAnd a b) 255 ≡ (eqb a 255 && eqb b 255)
-    less l = rw (ne-eqb a 255 (λ q. omega arith), ne-eqb (bitAnd a b) 255 (λ q. omega (arith, and-le-l a b)))
+    less : a < 255 → eqb (bit_and a b) 255 ≡ (eqb a 255 && eqb b 255)
+    less l = rw (ne_eqb a 255 (λ q. omega arith), ne_eqb (bit_and a b) 255 (λ q. omega (arith, and_le_l a b)))
 
 blank-append : (s t : List ℕ) → isBlank (s ++ t) ≡ (isBlank s && isBlank t)
 unfolding isBlank
 blank-append [] t = refl
 blank-append (x ∷ s) t =
-    ap (λ (b : Bool). eqb x 255 && b) (blank-append s t) ∙ sym (and-assoc (eqb x 255) (isBlank s) (isBlank t))
+    ap (λ (b : Bool). eqb x 255 && b) (blank-append s t) ∙ sym (and_assoc (eqb x 255) (isBlank s) (isBlank t))
 
 -- one byte more of those that are joined
-pub joined-turn : (a i : ℕ) (s : List ℕ) → a < 256 → i < length s → getD s i 0 < 256 → eqb a 255 ≡ isBlank (take i s) → eqb (bitAnd a (getD s i 0)) 255 ≡ isBlank (take (i + 1) s)
+pub joined-turn : (a i : ℕ) (s : List ℕ) → a < 256 → i < length s → get_or s i 0 < 256 → eqb a 255 ≡ isBlank (take i s) → eqb (bit_and a (get_or s i 0)) 255 ≡ isBlank (take (i + 1) s)
 unfolding isBlank
 joined-turn a i s h k l e =
-    rw (add-one, take-suc s i 0 k, blank-append (take i s) (getD s i 0 ∷ []), ← e, and-true) (and-255 a (getD s i 0) h l)
+    rw (add-one, take-suc s i 0 k, blank-append (take i s) (get_or s i 0 ∷ []), ← e, and-true) (and-255 a (get_or s i 0) h l)
 
-pub joined-less : (a b : ℕ) → a < 256 → bitAnd a b < 256
-joined-less a b h = omega (arith, and-le-l a b)
+pub joined-less : (a b : ℕ) → a < 256 → bit_and a b < 256
+joined-less a b h = omega (arith, and_le_l a b)
 
 -- eight bytes
-pub group-joined : (s : List ℕ) → length s ≡ 8 → ((i : ℕ) → getD s i 0 < 256)
-    → eqb (bitAnd (bitAnd (bitAnd (bitAnd (bitAnd (bitAnd (bitAnd (getD s 0 0) (getD s 1 0)) (getD s 2 0)) (getD s 3 0)) (getD s 4 0)) (getD s 5 0)) (getD s 6 0)) (getD s 7 0)) 255 ≡ isBlank s
+pub group-joined : (s : List ℕ) → length s ≡ 8 → ((i : ℕ) → get_or s i 0 < 256)
+    → eqb (bit_and (bit_and (bit_and (bit_and (bit_and (bit_and (bit_and (get_or s 0 0) (get_or s 1 0)) (get_or s 2 0)) (get_or s 3 0)) (get_or s 4 0)) (get_or s 5 0)) (get_or s 6 0)) (get_or s 7 0)) 255 ≡ isBlank s
 unfolding isBlank
 group-joined s l known =
-    let e₁ : eqb (getD s 0 0) 255 ≡ isBlank (take 1 s) = rw (take-suc s 0 0 (omega arith)) (sym (and-true (eqb (getD s 0 0) 255))) in
+    let e₁ : eqb (get_or s 0 0) 255 ≡ isBlank (take 1 s) = rw (take-suc s 0 0 (omega arith)) (sym (and-true (eqb (get_or s 0 0) 255))) in
     let e₂ = joined-turn _ 1 s (known 0) (omega arith) (known 1) e₁ in
-    let a₂ = joined-less _ (getD s 1 0) (known 0) in
+    let a₂ = joined-less _ (get_or s 1 0) (known 0) in
     let e₃ = joined-turn _ 2 s a₂ (omega arith) (known 2) e₂ in
-    let a₃ = joined-less _ (getD s 2 0) a₂ in
+    let a₃ = joined-less _ (get_or s 2 0) a₂ in
     let e₄ = joined-turn _ 3 s a₃ (omega arith) (known 3) e₃ in
-    let a₄ = joined-less _ (getD s 3 0) a₃ in
+    let a₄ = joined-less _ (get_or s 3 0) a₃ in
     let e₅ = joined-turn _ 4 s a₄ (omega arith) (known 4) e₄ in
-    let a₅ = joined-less _ (getD s 4 0) a₄ in
+    let a₅ = joined-less _ (get_or s 4 0) a₄ in
     let e₆ = joined-turn _ 5 s a₅ (omega arith) (known 5) e₅ in
-    let a₆ = joined-less _ (getD s 5 0) a₅ in
+    let a₆ = joined-less _ (get_or s 5 0) a₅ in
     let e₇ = joined-turn _ 6 s a₆ (omega arith) (known 6) e₆ in
-    joined-turn _ 7 s (joined-less _ (getD s 6 0) a₆) (omega arith) (known 7) e₇ ∙ ap isBlank (take-all 8 s (omega arith))
+    joined-turn _ 7 s (joined-less _ (get_or s 6 0) a₆) (omega arith) (known 7) e₇ ∙ ap isBlank (take_all 8 s (omega arith))
 
 -- bytes compared with erased ones
 pub same-erased : (s : List ℕ) → same s (erased (length s)) ≡ isBlank s
@@ -89,12 +89,12 @@ blank-rest i s e = blank-split i s ∙ ap (λ (b : Bool). b && isBlank (drop i s
 blank-shorter : (i j : ℕ) (s : List ℕ) → i ≤ j → isBlank (take j s) ≡ true → isBlank (take i s) ≡ true
 blank-shorter i j s h e =
     let k : i + (j - i) ≡ j = omega arith in
-    and-left (isBlank (take i s)) (isBlank (take (j - i) (drop i s))) (sym (blank-two i (j - i) s) ∙ rw k e)
+    and_left (isBlank (take i s)) (isBlank (take (j - i) (drop i s))) (sym (blank-two i (j - i) s) ∙ rw k e)
 
 -- ---- groups
 
 groups-next : (s : List ℕ) → 0 < length s → blankGroups s ≡ suc (cond (isBlank (take 8 s)) (blankGroups (drop 8 s)) 0)
-unfolding blankGroups groupsOf lookedAt chunk
+unfolding blankGroups groups_of lookedAt chunk
 groups-next s h =
     let e : (length s + 7) / 8 ≡ suc ((length (drop 8 s) + 7) / 8) = rw length-drop (omega arith) in
     rw e
@@ -105,8 +105,8 @@ groups-behind zero s h e = sym (zero-add (blankGroups s))
 groups-behind (suc k) s h e =
     let l : suc k * 8 ≡ 8 + k * 8 = omega arith in
     let two : (isBlank (take 8 s) && isBlank (take (k * 8) (drop 8 s))) ≡ true = sym (blank-two 8 (k * 8) s) ∙ rw (← l) e in
-    let one : isBlank (take 8 s) ≡ true = and-left (isBlank (take 8 s)) (isBlank (take (k * 8) (drop 8 s))) two in
-    let more = groups-behind k (drop 8 s) (omega (arith, length-drop 8 s)) (and-right (isBlank (take 8 s)) (isBlank (take (k * 8) (drop 8 s))) two) in
+    let one : isBlank (take 8 s) ≡ true = and_left (isBlank (take 8 s)) (isBlank (take (k * 8) (drop 8 s))) two in
+    let more = groups-behind k (drop 8 s) (omega (arith, length-drop 8 s)) (and_right (isBlank (take 8 s)) (isBlank (take (k * 8) (drop 8 s))) two) in
     groups-next s (omega arith) ∙ rw (one, more, drop-drop, l) (omega arith)
 
 -- ---- parts before the first that differs
@@ -125,42 +125,42 @@ pub record Leading (z c : ℕ) (s : List ℕ) (k : ℕ) : Type 0 where
 abbrev pub Leads : ℕ → ℕ → List ℕ → ℕ → Type 0
 Leads z c s k = k ≡ leadingBlank (chunk c z s)
 
-pub no-part : (z : ℕ) (s : List ℕ) → isBlank (take (0 * z) s) ≡ true
+pub no_part : (z : ℕ) (s : List ℕ) → isBlank (take (0 * z) s) ≡ true
 unfolding isBlank
-no-part z s = let e : 0 * z ≡ 0 = omega arith in rw e
+no_part z s = let e : 0 * z ≡ 0 = omega arith in rw e
 
 -- the two say the same
 leading-is : (z c : ℕ) (s : List ℕ) (k : ℕ) → Leading z c s k → Leads z c s k
 unfolding leadingBlank chunk
-leading-is z zero s k d = omega (arith, d .within)
-leading-is z (suc c) s zero d = ⊎-elim (λ e. absurd (omega arith)) (λ e. rw (first e)) (d .stops)
+leading-is z zero s k d = omega (arith, d.within)
+leading-is z (suc c) s zero d = ⊎_elim (λ e. absurd (omega arith)) (λ e. rw (first e)) d.stops
   where
     first : isBlank (take z (drop (0 * z) s)) ≡ false → isBlank (take z s) ≡ false
     first e = let n : 0 * z ≡ 0 = omega arith in rw n at e
 leading-is z (suc c) s (suc k) d =
-    let n : suc k * z ≡ z + k * z = suc-mul k z ∙ add-comm (k * z) z in
-    let two : (isBlank (take z s) && isBlank (take (k * z) (drop z s))) ≡ true = sym (blank-two z (k * z) s) ∙ rw (← n) (d .blank) in
-    let one : isBlank (take z s) ≡ true = and-left (isBlank (take z s)) (isBlank (take (k * z) (drop z s))) two in
+    let n : suc k * z ≡ z + k * z = suc-mul k z ∙ add_comm (k * z) z in
+    let two : (isBlank (take z s) && isBlank (take (k * z) (drop z s))) ≡ true = sym (blank-two z (k * z) s) ∙ rw (← n) d.blank in
+    let one : isBlank (take z s) ≡ true = and_left (isBlank (take z s)) (isBlank (take (k * z) (drop z s))) two in
     let more : Leading z c (drop z s) k = record {
-      within = omega (arith, d .within);
-      blank = and-right (isBlank (take z s)) (isBlank (take (k * z) (drop z s))) two;
-      stops = ⊎-elim (λ e. inl (omega arith)) (λ e. inr (rw (drop-drop (k * z) z s, ← n) e)) (d .stops);
+      within = omega (arith, d.within);
+      blank = and_right (isBlank (take z s)) (isBlank (take (k * z) (drop z s))) two;
+      stops = ⊎_elim (λ e. inl (omega arith)) (λ e. inr (rw (drop-drop (k * z) z s, ← n) e)) d.stops;
     } in
     rw one (ap suc (leading-is z c (drop z s) k more))
 
 grow : (z c : ℕ) (s : List ℕ) (b : Bool) (r : ℕ) → isBlank (take z s) ≡ b → Leading z c (drop z s) r → Leading z (suc c) s (cond b (suc r) 0)
-grow z c s false r f d = let n : 0 * z ≡ 0 = omega arith in record { within = omega arith; blank = no-part z s; stops = inr (rw n f) }
+grow z c s false r f d = let n : 0 * z ≡ 0 = omega arith in record { within = omega arith; blank = no_part z s; stops = inr (rw n f) }
 grow z c s true r f d =
-    let n : suc r * z ≡ z + r * z = suc-mul r z ∙ add-comm (r * z) z in
+    let n : suc r * z ≡ z + r * z = suc-mul r z ∙ add_comm (r * z) z in
     record {
-      within = omega (arith, d .within);
-      blank = rw (n, blank-two z (r * z) s, f) (d .blank);
-      stops = ⊎-elim (λ e. inl (ap suc e)) (λ e. inr (rw (n, ← drop-drop (r * z) z s) e)) (d .stops);
+      within = omega (arith, d.within);
+      blank = rw (n, blank-two z (r * z) s, f) d.blank;
+      stops = ⊎_elim (λ e. inl (ap suc e)) (λ e. inr (rw (n, ← drop-drop (r * z) z s) e)) d.stops;
     }
 
 pub leads : (z c : ℕ) (s : List ℕ) (k : ℕ) → Leads z c s k → Leading z c s k
 unfolding leadingBlank chunk
-leads z zero s k e = rw e (record { within = omega arith; blank = no-part z s; stops = inl refl })
+leads z zero s k e = rw e (record { within = omega arith; blank = no_part z s; stops = inl refl })
 leads z (suc c) s k e = rw e (grow z c s (isBlank (take z s)) (leadingBlank (chunk c z (drop z s))) refl (leads z c (drop z s) (leadingBlank (chunk c z (drop z s))) refl))
 
 -- a loop over parts: a turn, and its ways out
@@ -173,14 +173,14 @@ module _ (z : ℕ) (s : List ℕ) (k : ℕ) (blank : isBlank (take (k * z) s) �
   pub part-differs : (c : ℕ) → k < c → isBlank (take (k * z + z - k * z) (drop (k * z) s)) ≡ false → Leads z c s k
   part-differs c h e = leading-is z c s k (record { within = omega arith; blank = blank; stops = inr (ap isBlank (sym (part-is (k * z) z s)) ∙ e) })
 
-  pub parts-whole : (c : ℕ) → k ≡ c → Leads z c s k
-  parts-whole c h = leading-is z c s k (record { within = omega arith; blank = blank; stops = inl h })
+  pub parts_whole : (c : ℕ) → k ≡ c → Leads z c s k
+  parts_whole c h = leading-is z c s k (record { within = omega arith; blank = blank; stops = inl h })
 
 -- a part that differs stops it among more parts too
 pub stops-among : (z c d : ℕ) (s : List ℕ) (k : ℕ) → Leads z c s k → k < c → c ≤ d → Leads z d s k
 stops-among z c d s k e h m =
     let l = leads z c s k e in
-    leading-is z d s k (record { within = omega arith; blank = l .blank; stops = ⊎-elim (λ q. absurd (omega arith)) inr (l .stops) })
+    leading-is z d s k (record { within = omega arith; blank = l.blank; stops = ⊎_elim (λ q. absurd (omega arith)) inr l.stops })
 
 -- ---- four groups at a time
 
@@ -204,49 +204,49 @@ module _ (s : List ℕ) (i k : ℕ) (blank : isBlank (take (i * 32) s) ≡ true)
   pub four-turn : Leads 8 4 four k → 4 ≤ k → isBlank (take ((i + 1) * 32) s) ≡ true
   four-turn t h =
       let d = leads 8 4 four k t in
-      let e : k * 8 ≡ 32 = omega (arith, d .within) in
+      let e : k * 8 ≡ 32 = omega (arith, d.within) in
       let f : four ≡ take 32 rest = part-is (i * 32) 32 s in
-      part-turn 32 s i blank (rw f (ap isBlank (sym (take-take 32 32 rest (omega arith))) ∙ (rw (f, e) at (d .blank))))
+      part-turn 32 s i blank (rw f (ap isBlank (sym (take-take 32 32 rest (omega arith))) ∙ (rw (f, e) at d.blank)))
 
   pub four-stops : Leads 8 4 four k → k < 4 → Leads 8 (4 * (length s / 32)) s (4 * i + k)
   four-stops t h =
       let d = leads 8 4 four k t in
       let n : (4 * i + k) * 8 ≡ i * 32 + k * 8 = omega arith in
       let f : four ≡ take 32 rest = part-is (i * 32) 32 s in
-      let b : isBlank (take (k * 8) rest) ≡ true = ap isBlank (sym (take-take (k * 8) 32 rest (omega arith))) ∙ (rw f at (d .blank)) in
+      let b : isBlank (take (k * 8) rest) ≡ true = ap isBlank (sym (take-take (k * 8) 32 rest (omega arith))) ∙ (rw f at d.blank) in
       leading-is 8 (4 * (length s / 32)) s (4 * i + k) (record {
         within = omega arith;
         blank = rw (n, blank-two (i * 32) (k * 8) s, blank) b;
-        stops = ⊎-elim (λ e. absurd (omega arith)) (λ e. inr (rw (n, ← drop-drop (k * 8) (i * 32) s, group-same h) (rw f at e))) (d .stops);
+        stops = ⊎_elim (λ e. absurd (omega arith)) (λ e. inr (rw (n, ← drop-drop (k * 8) (i * 32) s, group-same h) (rw f at e))) d.stops;
       })
 
 -- ---- with a shorter last group
 
 module _ (s : List ℕ) where
   abbrev Before : ℕ → Type 0
-  Before k = k ≡ leadingBlank (groupsOf s)
+  Before k = k ≡ leadingBlank (groups_of s)
 
   -- as many groups as there are
   abbrev all : ℕ
   all = (length s + 7) / 8
 
   before : (k : ℕ) → Leading 8 all s k → Before k
-  unfolding groupsOf
+  unfolding groups_of
   before k d = leading-is 8 all s k d
 
   pub before-whole : (k : ℕ) → length s % 8 ≡ 0 → Leads 8 (length s / 8) s k → Before k
-  unfolding groupsOf
+  unfolding groups_of
   before-whole k h e = let c : all ≡ length s / 8 = omega arith in rw c e
 
   -- one group, and no whole one
   pub before-one : (length s % 8 ≡ 0 → ⊥) → length s < 8 → isBlank s ≡ true → Before 1
-  before-one h l e = before 1 (record { within = omega arith; blank = rw (take-all 8 s (omega arith)) e; stops = inl (omega arith) })
+  before-one h l e = before 1 (record { within = omega arith; blank = rw (take_all 8 s (omega arith)) e; stops = inl (omega arith) })
 
   pub before-none : length s < 8 → isBlank s ≡ false → Before 0
-  before-none l e = before 0 (record { within = omega arith; blank = no-part 8 s; stops = inr (rw (take-all 8 s (omega arith)) e) })
+  before-none l e = before 0 (record { within = omega arith; blank = no_part 8 s; stops = inr (rw (take_all 8 s (omega arith)) e) })
 
   pub before-stops : (k : ℕ) → Leads 8 (length s / 8) s k → k < length s / 8 → Before k
-  unfolding groupsOf
+  unfolding groups_of
   before-stops k e h = stops-among 8 (length s / 8) all s k e h (omega arith)
 
   -- the last eight bytes decide, since those before are blank
@@ -259,18 +259,18 @@ module _ (s : List ℕ) where
 
     last-decides : isBlank Last ≡ isBlank s
     last-decides =
-        ap isBlank (take-all (length s - (length s - 8)) (drop (length s - 8) s) (omega (arith, length-drop (length s - 8) s)))
-        ∙ sym (blank-rest (length s - 8) s (blank-shorter (length s - 8) (k * 8) s (omega (arith, whole-leads .within)) (whole-leads .blank)))
+        ap isBlank (take_all (length s - (length s - 8)) (drop (length s - 8) s) (omega (arith, length-drop (length s - 8) s)))
+        ∙ sym (blank-rest (length s - 8) s (blank-shorter (length s - 8) (k * 8) s (omega (arith, whole-leads.within)) whole-leads.blank))
 
     pub before-all : (length s % 8 ≡ 0 → ⊥) → isBlank Last ≡ true → Before (k + 1)
     before-all h e =
-        let whole : take ((k + 1) * 8) s ≡ s = take-all ((k + 1) * 8) s (omega (arith, whole-leads .within)) in
-        before (k + 1) (record { within = omega (arith, whole-leads .within); blank = rw whole (sym last-decides ∙ e); stops = inl (omega (arith, whole-leads .within)) })
+        let whole : take ((k + 1) * 8) s ≡ s = take_all ((k + 1) * 8) s (omega (arith, whole-leads.within)) in
+        before (k + 1) (record { within = omega (arith, whole-leads.within); blank = rw whole (sym last-decides ∙ e); stops = inl (omega (arith, whole-leads.within)) })
 
     pub before-rest : isBlank Last ≡ false → Before k
     before-rest e =
-        let rest : take 8 (drop (k * 8) s) ≡ drop (k * 8) s = take-all 8 (drop (k * 8) s) (omega (arith, whole-leads .within, length-drop (k * 8) s)) in
-        before k (record { within = omega (arith, whole-leads .within); blank = whole-leads .blank; stops = inr (rw rest (sym (blank-rest (k * 8) s (whole-leads .blank)) ∙ (sym last-decides ∙ e))) })
+        let rest : take 8 (drop (k * 8) s) ≡ drop (k * 8) s = take_all 8 (drop (k * 8) s) (omega (arith, whole-leads.within, length-drop (k * 8) s)) in
+        before k (record { within = omega (arith, whole-leads.within); blank = whole-leads.blank; stops = inr (rw rest (sym (blank-rest (k * 8) s whole-leads.blank) ∙ (sym last-decides ∙ e))) })
 
 -- every group blank
 groups-all : (c : ℕ) (s : List ℕ) → isBlank s ≡ true → lookedAt (chunk c 8 s) ≡ c
@@ -278,10 +278,10 @@ unfolding lookedAt chunk
 groups-all zero s e = refl
 groups-all (suc c) s e =
     let two : (isBlank (take 8 s) && isBlank (drop 8 s)) ≡ true = sym (blank-split 8 s) ∙ e in
-    rw (and-left (isBlank (take 8 s)) (isBlank (drop 8 s)) two) (ap suc (groups-all c (drop 8 s) (and-right (isBlank (take 8 s)) (isBlank (drop 8 s)) two)))
+    rw (and_left (isBlank (take 8 s)) (isBlank (drop 8 s)) two) (ap suc (groups-all c (drop 8 s) (and_right (isBlank (take 8 s)) (isBlank (drop 8 s)) two)))
 
 -- what the groups before the first that differs tell
-module _ (s : List ℕ) (k : ℕ) (told : k ≡ leadingBlank (groupsOf s)) where
+module _ (s : List ℕ) (k : ℕ) (told : k ≡ leadingBlank (groups_of s)) where
   abbrev count : ℕ
   count = (length s + 7) / 8
 
@@ -289,34 +289,34 @@ module _ (s : List ℕ) (k : ℕ) (told : k ≡ leadingBlank (groupsOf s)) where
   Tested = (eqb k count ≡ isBlank s) × (min (k + 1) count ≡ blankGroups s)
 
   before-leads : Leading 8 count s k
-  unfolding groupsOf
+  unfolding groups_of
   before-leads = leads 8 count s k told
 
   pub before-within : k ≤ count
-  before-within = before-leads .within
+  before-within = before-leads.within
 
   none-differs : k ≡ count → Tested
-  unfolding blankGroups groupsOf
+  unfolding blankGroups groups_of
   none-differs e =
-      let whole : take (k * 8) s ≡ s = take-all (k * 8) s (omega arith) in
-      let blank : isBlank s ≡ true = rw whole at (before-leads .blank) in
-      (eq-eqb k count e ∙ sym blank, min-eq-right {n = count} {m = k + 1} (omega arith) ∙ sym (groups-all count s blank))
+      let whole : take (k * 8) s ≡ s = take_all (k * 8) s (omega arith) in
+      let blank : isBlank s ≡ true = rw whole at before-leads.blank in
+      (eq-eqb k count e ∙ sym blank, min-eq_right {n = count} {m = k + 1} (omega arith) ∙ sym (groups-all count s blank))
 
-  one-left : isBlank (take 8 (drop (k * 8) s)) ≡ false → k < count
+  one_left : isBlank (take 8 (drop (k * 8) s)) ≡ false → k < count
   unfolding isBlank
-  one-left e = elim (decLt k count) [ yes h ↦ h | no h ↦ absurd (none (omega (arith, before-leads .within))) ]
+  one_left e = elim (dec_lt k count) [ yes h ↦ h | no h ↦ absurd (none (omega (arith, before-leads.within))) ]
     where
       none : length s ≤ k * 8 → ⊥
-      none l = false≢true (sym e ∙ rw (drop-of-length-le s {i = k * 8} l))
+      none l = false≢true (sym e ∙ rw (drop_of_length-le s {i = k * 8} l))
 
   one-differs : isBlank (take 8 (drop (k * 8) s)) ≡ false → k < count → Tested
   one-differs e h = (
-    ne-eqb k count (λ q. omega arith) ∙ sym (blank-rest (k * 8) s (before-leads .blank) ∙ blank-split 8 (drop (k * 8) s) ∙ ap (λ (b : Bool). b && isBlank (drop 8 (drop (k * 8) s))) e),
-    min-eq-left {n = k + 1} {m = count} (omega arith) ∙ sym (groups-behind k s (omega arith) (before-leads .blank) ∙ ap (λ (n : ℕ). k + n) (groups-next (drop (k * 8) s) (omega (arith, length-drop (k * 8) s)) ∙ rw e)),
+    ne_eqb k count (λ q. omega arith) ∙ sym (blank-rest (k * 8) s before-leads.blank ∙ blank-split 8 (drop (k * 8) s) ∙ ap (λ (b : Bool). b && isBlank (drop 8 (drop (k * 8) s))) e),
+    min-eq_left {n = k + 1} {m = count} (omega arith) ∙ sym (groups-behind k s (omega arith) before-leads.blank ∙ ap (λ (n : ℕ). k + n) (groups-next (drop (k * 8) s) (omega (arith, length-drop (k * 8) s)) ∙ rw e)),
   )
 
   pub tested : Tested
-  tested = ⊎-elim none-differs (λ e. one-differs e (one-left e)) (before-leads .stops)
+  tested = ⊎_elim none-differs (λ e. one-differs e (one_left e)) before-leads.stops
 
 -- ---- how many groups there are at most
 
@@ -330,5 +330,5 @@ looked-most (g ∷ gs) = go (isBlank g) (looked-most gs)
     go false h = omega arith
 
 pub groups-most : (s : List ℕ) → blankGroups s ≤ (length s + 7) / 8
-unfolding blankGroups groupsOf
+unfolding blankGroups groups_of
 groups-most s = omega (arith, looked-most (chunk ((length s + 7) / 8) 8 s), chunk-length ((length s + 7) / 8) 8 s)

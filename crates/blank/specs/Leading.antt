@@ -1,8 +1,6 @@
 -- Parts of some bytes looked at in order, up to the first that differs.
-use Prim.Native.Nat.{ℕ, suc}
-use mathlib.Core.Bool.{cond}
-use mathlib.Core.List.{List, [], _∷_}
-use Rattle·model.specs.Header.{isBlank}
+use Rattle.std.specs.Prelude.{ℕ, suc, cond, List, [], ◌∷◌}
+use Rattle.model.specs.Header.{isBlank}
 
 -- how many parts come before the first that differs
 unfoldable pub leadingBlank : List (List ℕ) → ℕ

@@ -1,68 +1,68 @@
 -- Lines written one after the other: of a chain of pages, and of all blocks in turn.
-use Prim.Native.Nat.{ℕ, zero, suc, _+_, _*_, _/_, _%_, _≤_, _<_}
-use mathlib.Core.Path.{_≡_, refl, sym, ap, _∙_, subst}
+use Prim.Native.Nat.{ℕ, zero, suc, ◌+◌, ◌*◌, ◌/◌, ◌%◌, ◌≤◌, ◌<◌}
+use mathlib.Core.Path.{◌≡◌, refl, sym, ap, ◌∙◌, subst}
 use mathlib.Core.Bool.{false, cond}
-use mathlib.Core.List.{List, [], _∷_, _++_, flatMap, append-nil, append-assoc}
+use mathlib.Core.List.{List, [], ◌∷◌, ◌++◌, flat_map, append-nil, append_assoc}
 use native.Mathlib.Omega.{arith}
-use native.Mathlib.Nat.{suc-mul, div-eq-of-lt-le, div-add-mod'}
+use native.Mathlib.Nat.{suc-mul, div-eq_of_lt-le, div-add-mod'}
 use native.Mathlib.Numerals.{add-one}
-use lib.ListN.{length, getD, length-append}
+use lib.ListN.{length, get_or, length-append}
 use lib.Dec.{eqb}
-use borrow.Author.Tests.{eq-eqb, ne-eqb}
-use Rattle·flash.specs.Pages.{Sized}
-use Rattle·text.specs.Text.{text as ascii}
-use Rattle·text.specs.Buffer.{Wrote}
-use Rattle·text.proofs.Laws.{_then_, wrote-none, wrote-as}
-use Rattle·account_text.specs.Account.{LiveSlot, blockText, blockLine, blockLines, byBlock}
-use Rattle·index.specs.Chains.{page-few}
-use Rattle·index.specs.Tables.{mostPages, pageOf, ofBlock, Chain, Stands, AllStand, blocksBelow}
-use Rattle·index.specs.Sorted.{AllBelow, AllOf, below-few, sorted}
+use borrow.Author.Tests.{eq-eqb, ne_eqb}
+use Rattle.flash.specs.Pages.{Sized}
+use Rattle.text.specs.Text.{text as ascii}
+use Rattle.text.specs.Buffer.{Wrote}
+use Rattle.text.proofs.Laws.{◌then◌, wrote_none, wrote_as}
+use Rattle.account_text.specs.Account.{LiveSlot, blockText, block_line, block_lines, byBlock}
+use Rattle.index.specs.Chains.{page-few}
+use Rattle.index.specs.Tables.{mostPages, page_of, ofBlock, Chain, Stands, AllStand, blocksBelow}
+use Rattle.index.specs.Sorted.{AllBelow, AllOf, below-few, sorted}
 
 -- ---- a chain of pages
 
 -- how many pages there are from a page on, by the next of each; there are at most k
 unfoldable pub chainLength : ℕ → List ℕ → ℕ → ℕ
 chainLength zero nexts p = 0
-chainLength (suc k) nexts p = cond (eqb p 0) 0 (suc (chainLength k nexts (getD nexts p 0)))
+chainLength (suc k) nexts p = cond (eqb p 0) 0 (suc (chainLength k nexts (get_or nexts p 0)))
 
-pub chain-length : (k B : ℕ) (nexts lengths : List ℕ) (p : ℕ) (r : List LiveSlot) → Chain B nexts lengths p r → length r ≤ k → chainLength k nexts p ≡ length r
+pub chain_length : (k B : ℕ) (nexts lengths : List ℕ) (p : ℕ) (r : List LiveSlot) → Chain B nexts lengths p r → length r ≤ k → chainLength k nexts p ≡ length r
 unfolding chainLength
-chain-length zero B nexts lengths p [] c h = refl
-chain-length zero B nexts lengths p (e ∷ r) c h = absurd (omega arith)
-chain-length (suc k) B nexts lengths p [] c h = rw (eq-eqb p 0 c)
-chain-length (suc k) B nexts lengths p (e ∷ r) c h =
-    let n : eqb p 0 ≡ false = ne-eqb p 0 (λ q. let z = c .1 in omega arith) in
-    rw n (ap suc (chain-length k B nexts lengths (getD nexts p 0) r (c .2) (omega arith)))
+chain_length zero B nexts lengths p [] c h = refl
+chain_length zero B nexts lengths p (e ∷ r) c h = absurd (omega arith)
+chain_length (suc k) B nexts lengths p [] c h = rw (eq-eqb p 0 c)
+chain_length (suc k) B nexts lengths p (e ∷ r) c h =
+    let n : eqb p 0 ≡ false = ne_eqb p 0 (λ q. let z = c.1 in omega arith) in
+    rw n (ap suc (chain_length k B nexts lengths (get_or nexts p 0) r c.2 (omega arith)))
 
 -- the page of a live slot tells its segment and its place
-pub page-segment : (N B : ℕ) (e : LiveSlot) → Stands N B e → (pageOf B e / (B + 1) ≡ e .segment) × (pageOf B e % (B + 1) ≡ e .slot)
-unfolding pageOf
+pub page-segment : (N B : ℕ) (e : LiveSlot) → Stands N B e → (page_of B e / (B + 1) ≡ e.segment) × (page_of B e % (B + 1) ≡ e.slot)
+unfolding page_of
 page-segment N B e t =
-    let p = e .segment * (B + 1) + e .slot in
-    let q = t .slot in
-    let m = suc-mul (e .segment) (B + 1) in
-    let o = add-one (e .segment) in
-    let d : p / (B + 1) ≡ e .segment = div-eq-of-lt-le (B + 1) (omega arith) (rw o (omega arith)) in
+    let p = e.segment * (B + 1) + e.slot in
+    let q = t.slot in
+    let m = suc-mul e.segment (B + 1) in
+    let o = add-one e.segment in
+    let d : p / (B + 1) ≡ e.segment = div-eq_of_lt-le (B + 1) (omega arith) (rw o (omega arith)) in
     let a : p / (B + 1) * (B + 1) + p % (B + 1) ≡ p = div-add-mod' p (B + 1) in
-    let b : e .segment * (B + 1) + p % (B + 1) ≡ p = rw d at a in
+    let b : e.segment * (B + 1) + p % (B + 1) ≡ p = rw d at a in
     (d, omega arith)
 
 -- a chain from page 0 has no live slot
 pub chain-none : (B : ℕ) (nexts lengths : List ℕ) (p : ℕ) (r : List LiveSlot) → Chain B nexts lengths p r → p ≡ 0 → r ≡ []
 chain-none B nexts lengths p [] c h = refl
-chain-none B nexts lengths p (e ∷ r) c h = absurd (let z = c .1 in omega arith)
+chain-none B nexts lengths p (e ∷ r) c h = absurd (let z = c.1 in omega arith)
 
 chain-low : (N B : ℕ) (s nexts lengths : List ℕ) (p : ℕ) (r : List LiveSlot) → Sized N B (length s) → Chain B nexts lengths p r → AllStand N B r → p < mostPages
 chain-low N B s nexts lengths p [] z c t = omega arith
-chain-low N B s nexts lengths p (e ∷ r) z c t = let q = page-few N B e (z .segments) (z .slots) (t .0) in let f = c .0 in omega arith
+chain-low N B s nexts lengths p (e ∷ r) z c t = let q = page-few N B e z.segments z.slots t.0 in let f = c.0 in omega arith
 
-line-same : (e : LiveSlot) (b n i j : ℕ) → b ≡ e .block → n ≡ length (e .contents) → i ≡ e .segment → j ≡ e .slot → blockText b n i j ++ ascii "\n" ≡ blockLine e
-unfolding blockLine
-line-same e b n i j p q r t = rw (p, q, r, t)
+line_same : (e : LiveSlot) (b n i j : ℕ) → b ≡ e.block → n ≡ length e.contents → i ≡ e.segment → j ≡ e.slot → blockText b n i j ++ ascii "\n" ≡ block_line e
+unfolding block_line
+line_same e b n i j p q r t = rw (p, q, r, t)
 
-lines-cons : (e : LiveSlot) (r : List LiveSlot) → blockLines (e ∷ r) ≡ blockLine e ++ blockLines r
-unfolding blockLines flatMap
-lines-cons e r = refl
+lines_cons : (e : LiveSlot) (r : List LiveSlot) → block_lines (e ∷ r) ≡ block_line e ++ block_lines r
+unfolding block_lines flat_map
+lines_cons e r = refl
 
 -- how far the lines of a block's chain are written: those of the pages from here on are left
 pub record Walk (N B : ℕ) (s nexts lengths : List ℕ) (block : ℕ) (whole : List LiveSlot) (start : List ℕ) (at : ℕ) (text : List ℕ) (page end : ℕ) : Type 0 where
@@ -73,7 +73,7 @@ pub record Walk (N B : ℕ) (s nexts lengths : List ℕ) (block : ℕ) (whole : 
   pub same : AllOf block rest
   pub few : length rest ≤ mostPages
   pub wrote : Wrote lines start at text end
-  pub joined : lines ++ blockLines rest ≡ blockLines whole
+  pub joined : lines ++ block_lines rest ≡ block_lines whole
   pub near : end + 80 * length rest ≤ at + 80 * length whole
 
 -- where a live slot is left, the next one is on the page
@@ -81,119 +81,119 @@ pub record Next (N B : ℕ) (s nexts lengths : List ℕ) (block : ℕ) (rest : L
   pub slot : LiveSlot
   pub others : List LiveSlot
   pub split : rest ≡ slot ∷ others
-  pub here : page ≡ pageOf B slot
-  pub chain : Chain B nexts lengths (getD nexts page 0) others
-  pub length-is : getD lengths page 0 ≡ length (slot .contents)
+  pub here : page ≡ page_of B slot
+  pub chain : Chain B nexts lengths (get_or nexts page 0) others
+  pub length-is : get_or lengths page 0 ≡ length slot.contents
   pub stand : Stands N B slot
   pub stands : AllStand N B others
-  pub block-is : slot .block ≡ block
+  pub block-is : slot.block ≡ block
   pub same : AllOf block others
 
-some-next : (N B : ℕ) (s nexts lengths : List ℕ) (block : ℕ) (rest : List LiveSlot) (page : ℕ) → Chain B nexts lengths page rest → AllStand N B rest → AllOf block rest → (page ≡ 0 → ⊥) → Next N B s nexts lengths block rest page
-some-next N B s nexts lengths block [] page c t o h = absurd (h c)
-some-next N B s nexts lengths block (e ∷ r) page c t o h =
-    record { slot = e; others = r; split = refl; here = c .0; chain = c .2; length-is = c .3; stand = t .0; stands = t .1; block-is = o .0; same = o .1 }
+some_next : (N B : ℕ) (s nexts lengths : List ℕ) (block : ℕ) (rest : List LiveSlot) (page : ℕ) → Chain B nexts lengths page rest → AllStand N B rest → AllOf block rest → (page ≡ 0 → ⊥) → Next N B s nexts lengths block rest page
+some_next N B s nexts lengths block [] page c t o h = absurd (h c)
+some_next N B s nexts lengths block (e ∷ r) page c t o h =
+    record { slot = e; others = r; split = refl; here = c.0; chain = c.2; length-is = c.3; stand = t.0; stands = t.1; block-is = o.0; same = o.1 }
 
 module _ {N B : ℕ} {s nexts lengths : List ℕ} {block : ℕ} {whole : List LiveSlot} {start : List ℕ} {at : ℕ} where
-  pub walk-start : {page : ℕ} → Chain B nexts lengths page whole → AllStand N B whole → AllOf block whole → length whole ≤ mostPages → Walk N B s nexts lengths block whole start at start page at
-  walk-start c t o h =
-      record { rest = whole; lines = []; chain = c; stands = t; same = o; few = h; wrote = wrote-none start at; joined = refl; near = omega arith }
+  pub walk_start : {page : ℕ} → Chain B nexts lengths page whole → AllStand N B whole → AllOf block whole → length whole ≤ mostPages → Walk N B s nexts lengths block whole start at start page at
+  walk_start c t o h =
+      record { rest = whole; lines = []; chain = c; stands = t; same = o; few = h; wrote = wrote_none start at; joined = refl; near = omega arith }
 
-  pub walk-next : {text : List ℕ} {page end : ℕ} (w : Walk N B s nexts lengths block whole start at text page end) → (page ≡ 0 → ⊥) → Next N B s nexts lengths block (w .rest) page
-  walk-next {text} {page} {end} w h = some-next N B s nexts lengths block (w .rest) page (w .chain) (w .stands) (w .same) h
+  pub walk-next : {text : List ℕ} {page end : ℕ} (w : Walk N B s nexts lengths block whole start at text page end) → (page ≡ 0 → ⊥) → Next N B s nexts lengths block w.rest page
+  walk-next {text} {page} {end} w h = some_next N B s nexts lengths block w.rest page w.chain w.stands w.same h
 
   -- its page lies in the image, and there is room for its line
-  pub walk-inside : {text : List ℕ} {page end : ℕ} → Sized N B (length s) → Walk N B s nexts lengths block whole start at text page end → (page ≡ 0 → ⊥)
+  pub walk_inside : {text : List ℕ} {page end : ℕ} → Sized N B (length s) → Walk N B s nexts lengths block whole start at text page end → (page ≡ 0 → ⊥)
       → (page < mostPages) × (end + 80 ≤ at + 80 * length whole)
-  walk-inside {text} {page} {end} z w h =
+  walk_inside {text} {page} {end} z w h =
       let n = walk-next w h in
-      let p = page-few N B (n .slot) (z .segments) (z .slots) (n .stand) in
-      let l : length (w .rest) ≡ suc (length (n .others)) = ap length (n .split) in
-      (rw (n .here) (p .1), let q = w .near in omega arith)
+      let p = page-few N B n.slot z.segments z.slots n.stand in
+      let l : length w.rest ≡ suc (length n.others) = ap length n.split in
+      (rw n.here p.1, let q = w.near in omega arith)
 
-  pub walk-low : {text : List ℕ} {page end : ℕ} → Sized N B (length s) → Walk N B s nexts lengths block whole start at text page end → (page ≡ 0 → ⊥) → getD nexts page 0 < mostPages
-  walk-low {text} {page} {end} z w h = let n = walk-next w h in chain-low N B s nexts lengths (getD nexts page 0) (n .others) z (n .chain) (n .stands)
+  pub walk-low : {text : List ℕ} {page end : ℕ} → Sized N B (length s) → Walk N B s nexts lengths block whole start at text page end → (page ≡ 0 → ⊥) → get_or nexts page 0 < mostPages
+  walk-low {text} {page} {end} z w h = let n = walk-next w h in chain-low N B s nexts lengths (get_or nexts page 0) n.others z n.chain n.stands
 
-  pub walk-short : {text : List ℕ} {page end : ℕ} → Walk N B s nexts lengths block whole start at text page end → (page ≡ 0 → ⊥) → getD lengths page 0 < 256
-  walk-short {text} {page} {end} w h = let n = walk-next w h in let k = n .stand .length in let e = n .length-is in omega arith
+  pub walk-short : {text : List ℕ} {page end : ℕ} → Walk N B s nexts lengths block whole start at text page end → (page ≡ 0 → ⊥) → get_or lengths page 0 < 256
+  walk-short {text} {page} {end} w h = let n = walk-next w h in let k = n.stand.length in let e = n.length-is in omega arith
 
-  pub walk-less : {text : List ℕ} {page end : ℕ} → Walk N B s nexts lengths block whole start at text page end → (page ≡ 0 → ⊥) → chainLength mostPages nexts (getD nexts page 0) < chainLength mostPages nexts page
+  pub walk-less : {text : List ℕ} {page end : ℕ} → Walk N B s nexts lengths block whole start at text page end → (page ≡ 0 → ⊥) → chainLength mostPages nexts (get_or nexts page 0) < chainLength mostPages nexts page
   walk-less {text} {page} {end} w h =
       let n = walk-next w h in
-      let f = w .few in
-      let l : length (w .rest) ≡ suc (length (n .others)) = ap length (n .split) in
-      let a = chain-length mostPages B nexts lengths page (w .rest) (w .chain) f in
-      let b = chain-length mostPages B nexts lengths (getD nexts page 0) (n .others) (n .chain) (omega arith) in
+      let f = w.few in
+      let l : length w.rest ≡ suc (length n.others) = ap length n.split in
+      let a = chain_length mostPages B nexts lengths page w.rest w.chain f in
+      let b = chain_length mostPages B nexts lengths (get_or nexts page 0) n.others n.chain (omega arith) in
       omega arith
 
   -- its line written
-  pub walk-step : {text after : List ℕ} {page end then-end : ℕ} → Walk N B s nexts lengths block whole start at text page end → (page ≡ 0 → ⊥)
-      → Wrote (blockText block (getD lengths page 0) (page / (B + 1)) (page % (B + 1)) ++ ascii "\n") text end after then-end → then-end ≤ end + 80
-      → Walk N B s nexts lengths block whole start at after (getD nexts page 0) then-end
-  walk-step {text} {after} {page} {end} {then-end} w h wrote near =
+  pub walk_step : {text after : List ℕ} {page end then-end : ℕ} → Walk N B s nexts lengths block whole start at text page end → (page ≡ 0 → ⊥)
+      → Wrote (blockText block (get_or lengths page 0) (page / (B + 1)) (page % (B + 1)) ++ ascii "\n") text end after then-end → then-end ≤ end + 80
+      → Walk N B s nexts lengths block whole start at after (get_or nexts page 0) then-end
+  walk_step {text} {after} {page} {end} {then-end} w h wrote near =
       let n = walk-next w h in
-      let e = n .slot in
-      let f = w .few in
-      let l : length (w .rest) ≡ suc (length (n .others)) = ap length (n .split) in
-      let place = page-segment N B e (n .stand) in
-      let is : blockText block (getD lengths page 0) (page / (B + 1)) (page % (B + 1)) ++ ascii "\n" ≡ blockLine e =
-      line-same e block (getD lengths page 0) (page / (B + 1)) (page % (B + 1)) (sym (n .block-is))
-      (n .length-is) (ap (λ (p : ℕ). p / (B + 1)) (n .here) ∙ place .0) (ap (λ (p : ℕ). p % (B + 1)) (n .here) ∙ place .1) in
+      let e = n.slot in
+      let f = w.few in
+      let l : length w.rest ≡ suc (length n.others) = ap length n.split in
+      let place = page-segment N B e n.stand in
+      let is : blockText block (get_or lengths page 0) (page / (B + 1)) (page % (B + 1)) ++ ascii "\n" ≡ block_line e =
+      line_same e block (get_or lengths page 0) (page / (B + 1)) (page % (B + 1)) (sym n.block-is)
+      n.length-is (ap (λ (p : ℕ). p / (B + 1)) n.here ∙ place.0) (ap (λ (p : ℕ). p % (B + 1)) n.here ∙ place.1) in
       record {
-        rest = n .others;
-        lines = w .lines ++ blockLine e;
-        chain = n .chain;
-        stands = n .stands;
-        same = n .same;
+        rest = n.others;
+        lines = w.lines ++ block_line e;
+        chain = n.chain;
+        stands = n.stands;
+        same = n.same;
         few = omega arith;
-        wrote = w .wrote then wrote-as (blockLine e) is wrote;
-        joined = append-assoc (w .lines) (blockLine e) (blockLines (n .others))
-            ∙ (ap (λ (z : List ℕ). w .lines ++ z) (sym (lines-cons e (n .others)) ∙ ap blockLines (sym (n .split))) ∙ w .joined);
-        near = let q = w .near in omega arith;
+        wrote = w.wrote then wrote_as (block_line e) is wrote;
+        joined = append_assoc w.lines (block_line e) (block_lines n.others)
+            ∙ (ap (λ (z : List ℕ). w.lines ++ z) (sym (lines_cons e n.others) ∙ ap block_lines (sym n.split)) ∙ w.joined);
+        near = let q = w.near in omega arith;
       }
 
-  pub walk-end : {text : List ℕ} {page end : ℕ} → Walk N B s nexts lengths block whole start at text page end → page ≡ 0 → Wrote (blockLines whole) start at text end × (end ≤ at + 80 * length whole)
-  unfolding blockLines flatMap
-  walk-end {text} {page} {end} w h =
-      let none : w .rest ≡ [] = chain-none B nexts lengths page (w .rest) (w .chain) h in
-      let all : w .lines ++ blockLines [] ≡ blockLines whole = ap (λ (z : List LiveSlot). w .lines ++ blockLines z) (sym none) ∙ w .joined in
-      let q = w .near in
-      (wrote-as (blockLines whole) (sym (append-nil (w .lines)) ∙ all) (w .wrote), omega arith)
+  pub walk_end : {text : List ℕ} {page end : ℕ} → Walk N B s nexts lengths block whole start at text page end → page ≡ 0 → Wrote (block_lines whole) start at text end × (end ≤ at + 80 * length whole)
+  unfolding block_lines flat_map
+  walk_end {text} {page} {end} w h =
+      let none : w.rest ≡ [] = chain-none B nexts lengths page w.rest w.chain h in
+      let all : w.lines ++ block_lines [] ≡ block_lines whole = ap (λ (z : List LiveSlot). w.lines ++ block_lines z) (sym none) ∙ w.joined in
+      let q = w.near in
+      (wrote_as (block_lines whole) (sym (append-nil w.lines) ∙ all) w.wrote, omega arith)
 
 -- ---- all blocks in turn, each of their live slots with a line
 
-flat-append : (f : LiveSlot → List ℕ) (a b : List LiveSlot) → flatMap f (a ++ b) ≡ flatMap f a ++ flatMap f b
-unfolding flatMap
-flat-append f [] b = refl
-flat-append f (e ∷ a) b = ap (λ (z : List ℕ). f e ++ z) (flat-append f a b) ∙ sym (append-assoc (f e) (flatMap f a) (flatMap f b))
+flat_append : (f : LiveSlot → List ℕ) (a b : List LiveSlot) → flat_map f (a ++ b) ≡ flat_map f a ++ flat_map f b
+unfolding flat_map
+flat_append f [] b = refl
+flat_append f (e ∷ a) b = ap (λ (z : List ℕ). f e ++ z) (flat_append f a b) ∙ sym (append_assoc (f e) (flat_map f a) (flat_map f b))
 
 -- how far they are written: those of the block numbers below one
 pub record Blocks (f : LiveSlot → List ℕ) (r : List LiveSlot) (start : List ℕ) (at : ℕ) (text : List ℕ) (block end : ℕ) : Type 0 where
-  pub wrote : Wrote (flatMap f (blocksBelow block r)) start at text end
+  pub wrote : Wrote (flat_map f (blocksBelow block r)) start at text end
   pub near : end ≤ at + 80 * length (blocksBelow block r)
   pub upto : block ≤ mostPages
 
-pub blocks-start : (f : LiveSlot → List ℕ) (r : List LiveSlot) (start : List ℕ) (at : ℕ) → Blocks f r start at start 0 at
-unfolding blocksBelow flatMap
-blocks-start f r start at = record { wrote = wrote-none start at; near = omega arith; upto = omega arith }
+pub blocks_start : (f : LiveSlot → List ℕ) (r : List LiveSlot) (start : List ℕ) (at : ℕ) → Blocks f r start at start 0 at
+unfolding blocksBelow flat_map
+blocks_start f r start at = record { wrote = wrote_none start at; near = omega arith; upto = omega arith }
 
 module _ {f : LiveSlot → List ℕ} {r : List LiveSlot} {start : List ℕ} {at : ℕ} where
-  pub blocks-more : {text after : List ℕ} {block end then-end : ℕ} → Blocks f r start at text block end → block < mostPages
-      → Wrote (flatMap f (ofBlock block r)) text end after then-end → then-end ≤ end + 80 * length (ofBlock block r) → Blocks f r start at after (block + 1) then-end
+  pub blocks_more : {text after : List ℕ} {block end then-end : ℕ} → Blocks f r start at text block end → block < mostPages
+      → Wrote (flat_map f (ofBlock block r)) text end after then-end → then-end ≤ end + 80 * length (ofBlock block r) → Blocks f r start at after (block + 1) then-end
   unfolding blocksBelow
-  blocks-more {text} {after} {block} {end} {then-end} b h w n =
+  blocks_more {text} {after} {block} {end} {then-end} b h w n =
       let l = length-append (blocksBelow block r) (ofBlock block r) in
-      let q = b .near in
+      let q = b.near in
       rw (add-one block) record {
-        wrote = wrote-as (flatMap f (blocksBelow block r ++ ofBlock block r)) (sym (flat-append f (blocksBelow block r) (ofBlock block r))) (b .wrote then w);
+        wrote = wrote_as (flat_map f (blocksBelow block r ++ ofBlock block r)) (sym (flat_append f (blocksBelow block r) (ofBlock block r))) (b.wrote then w);
         near = omega arith;
         upto = omega arith;
       }
 
   -- a block without a live slot has no line
   pub blocks-none : {text : List ℕ} {block end : ℕ} → ofBlock block r ≡ [] → Blocks f r start at text block end → block < mostPages → Blocks f r start at text (block + 1) end
-  unfolding flatMap
-  blocks-none {text} {block} {end} none b h = blocks-more b h (wrote-as (flatMap f (ofBlock block r)) (ap (flatMap f) (sym none)) (wrote-none text end)) (omega arith)
+  unfolding flat_map
+  blocks-none {text} {block} {end} none b h = blocks_more b h (wrote_as (flat_map f (ofBlock block r)) (ap (flat_map f) (sym none)) (wrote_none text end)) (omega arith)
 
   -- the same text and offset by other names
   pub blocks-as : {text other : List ℕ} {block end behind : ℕ} → text ≡ other → end ≡ behind → Blocks f r start at other block behind → Blocks f r start at text block end
@@ -202,13 +202,13 @@ module _ {f : LiveSlot → List ℕ} {r : List LiveSlot} {start : List ℕ} {at 
 
   -- and there is room for the next
   pub blocks-room : {text : List ℕ} {block end : ℕ} → Blocks f r start at text block end → end ≤ at + 80 * length r
-  blocks-room {text} {block} {end} b = let q = b .near in let g = below-few block r in omega arith
+  blocks-room {text} {block} {end} b = let q = b.near in let g = below-few block r in omega arith
 
-  pub blocks-end : {text : List ℕ} {block end : ℕ} → AllBelow mostPages r → length r < mostPages → Blocks f r start at text block end → mostPages ≤ block
-      → Wrote (flatMap f (byBlock r)) start at text end × (end ≤ at + 80 * 65536)
-  blocks-end {text} {block} {end} t g b h =
-      let u = b .upto in
+  pub blocks_end : {text : List ℕ} {block end : ℕ} → AllBelow mostPages r → length r < mostPages → Blocks f r start at text block end → mostPages ≤ block
+      → Wrote (flat_map f (byBlock r)) start at text end × (end ≤ at + 80 * 65536)
+  blocks_end {text} {block} {end} t g b h =
+      let u = b.upto in
       let e : block ≡ mostPages = omega arith in
       let q = blocks-room b in
       let k : blocksBelow block r ≡ byBlock r = ap (λ (z : ℕ). blocksBelow z r) e ∙ sym (sorted mostPages r t) in
-      (wrote-as (flatMap f (byBlock r)) (ap (flatMap f) k) (b .wrote), omega arith)
+      (wrote_as (flat_map f (byBlock r)) (ap (flat_map f) k) b.wrote, omega arith)

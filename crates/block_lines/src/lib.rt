@@ -1,12 +1,10 @@
 // The lines of the blocks of an account, added to a text.
-ghost use mathlib.Core.List.{_++_};
-ghost use Prim.Native.Nat.{_+_, _*_, _<_, _≤_};
-ghost use lib.ListN.{length};
-ghost use Rattle·flash.specs.Pages.{Sized};
-ghost use Rattle·text.specs.Text.{text as ascii};
-ghost use Rattle·text.specs.Buffer.{Wrote, mostText};
-ghost use Rattle·account_text.specs.Account.{blockText, blockLines, byBlock};
-ghost use Rattle·index.specs.Tables.{tables, Chain, AllStand, ofBlock, listOf, Indexed};
+ghost use Rattle.std.specs.Prelude.{◌++◌, ◌+◌, ◌*◌, ◌<◌, ◌≤◌, length};
+ghost use Rattle.flash.specs.Pages.{Sized};
+ghost use Rattle.text.specs.Text.{text as ascii};
+ghost use Rattle.text.specs.Buffer.{Wrote, mostText};
+ghost use Rattle.account_text.specs.Account.{blockText, block_lines, byBlock};
+ghost use Rattle.index.specs.Tables.{tables, Chain, AllStand, ofBlock, list_of, Indexed};
 
 // Of a live slot, its line but for the end.
 pub fn block_text(
@@ -17,8 +15,8 @@ pub fn block_text(
     segment: u32,
     slot: u32,
 ) -> usize
-    requires { ⌜ at + 80 ≤ mostText ⌝ }
-    ensures { λ r. ⌜ Wrote (blockText block length segment slot) (now (text .entry)) at (now (text .exit)) r × (r ≤ at + 62) ⌝ }
+    requires { at + 80 ≤ mostText }
+    ensures { Wrote (blockText block length segment slot) text.old at text.new result × (result ≤ at + 62) }
 {
     let blocks = text::add_labelled(text, at, b"block ", block);
     let lengths = text::add_labelled(text, blocks, b" len ", length);
@@ -28,8 +26,8 @@ pub fn block_text(
 
 // The whole line, of an account.
 fn block_line(text: &mut [u8], at: usize, block: u32, length: u32, segment: u32, slot: u32) -> usize
-    requires { ⌜ at + 80 ≤ mostText ⌝ }
-    ensures { λ r. ⌜ Wrote (blockText block length segment slot ++ ascii "\n") (now (text .entry)) at (now (text .exit)) r × (r ≤ at + 80) ⌝ }
+    requires { at + 80 ≤ mostText }
+    ensures { Wrote (blockText block length segment slot ++ ascii "\n") text.old at text.new result × (result ≤ at + 80) }
 {
     let end = block_text(text, at, block, length, segment, slot);
     text::add(text, end, b"\n")
@@ -48,8 +46,8 @@ fn chain_lines(
     text: &mut [u8],
     at: usize,
 ) -> usize
-    requires { ⌜ Sized segments slots (length (now image)) × (block < 65536) × Chain slots (now nexts) (now lengths) first (ofBlock block (listOf segments slots (now image))) × AllStand segments slots (ofBlock block (listOf segments slots (now image))) × (length (ofBlock block (listOf segments slots (now image))) < 65536) × (at + 80 * (length (ofBlock block (listOf segments slots (now image))) + 1) ≤ mostText) ⌝ }
-    ensures { λ r. ⌜ Wrote (blockLines (ofBlock block (listOf segments slots (now (image .entry))))) (now (text .entry)) at (now (text .exit)) r × (r ≤ at + 80 * length (ofBlock block (listOf segments slots (now (image .entry))))) ⌝ }
+    requires { Sized segments slots (length image.now) × (block < 65536) × Chain slots nexts.now lengths.now first (ofBlock block (list_of segments slots image.now)) × AllStand segments slots (ofBlock block (list_of segments slots image.now)) × (length (ofBlock block (list_of segments slots image.now)) < 65536) × (at + 80 * (length (ofBlock block (list_of segments slots image.now)) + 1) ≤ mostText) }
+    ensures { Wrote (block_lines (ofBlock block (list_of segments slots image.now))) text.old at text.new result × (result ≤ at + 80 * length (ofBlock block (list_of segments slots image.now))) }
 {
     let pages = slots as u32 + 1;
     let mut page = first as usize;
@@ -76,8 +74,8 @@ pub fn block_lines(
     text: &mut [u8],
     at: usize,
 ) -> usize
-    requires { ⌜ Sized segments slots (length (now image)) × Indexed segments slots (now image) (tables (now firsts) (now nexts) (now lengths)) × (at ≤ 100000) ⌝ }
-    ensures { λ r. ⌜ Wrote (blockLines (byBlock (listOf segments slots (now (image .entry))))) (now (text .entry)) at (now (text .exit)) r × (r ≤ at + 80 * 65536) ⌝ }
+    requires { Sized segments slots (length image.now) × Indexed segments slots image.now (tables firsts.now nexts.now lengths.now) × (at ≤ 100000) }
+    ensures { Wrote (block_lines (byBlock (list_of segments slots image.now))) text.old at text.new result × (result ≤ at + 80 * 65536) }
 {
     let mut end = at;
     let mut block: usize = 0;

@@ -1,48 +1,43 @@
 -- What the tables tell of an image's candidates.
-use Prim.Native.Nat.{ℕ, _+_, _*_, _≤_, _<_}
-use mathlib.Core.Path.{_≡_}
-use mathlib.Core.Logic.{_⊎_}
-use mathlib.Core.Bool.{false, not}
-use mathlib.Core.List.{List, [], _∷_}
-use lib.ListN.{length, getD}
-use Rattle·model.specs.Chip.{Image}
-use Rattle·model.specs.Slot.{live, slotOf}
-use Rattle·model.specs.State.{segmentsOf}
-use Rattle·account_text.specs.Account.{LiveSlot}
-use Rattle·index.specs.Tables.{mostPages, pageOf, ofBlock, Stands}
-use Rattle·salvage.specs.Salvage.{candidates, given, agreed}
-use Rattle·meeting.specs.Sheet.{Sheet, pageAt, met}
+use Rattle.std.specs.Prelude.{ℕ, ◌+◌, ◌*◌, ◌≤◌, ◌<◌, ◌≡◌, ◌⊎◌, false, not, List, [], ◌∷◌, length, get_or}
+use Rattle.model.specs.Chip.{Image}
+use Rattle.model.specs.Slot.{live, slot_of}
+use Rattle.model.specs.State.{segmentsOf}
+use Rattle.account_text.specs.Account.{LiveSlot}
+use Rattle.index.specs.Tables.{mostPages, page_of, ofBlock, Stands}
+use Rattle.salvage.specs.Salvage.{candidates, given, agreed}
+use Rattle.meeting.specs.Sheet.{Sheet, pageAt, met}
 
 -- candidates met, the last one first
 unfoldable pub metAll : Image → ℕ → List LiveSlot → Sheet → Sheet
 metAll s B [] t = t
-metAll s B (e ∷ r) t = met s (pageOf B e * 256) (e .block) (length (e .contents)) (metAll s B r t)
+metAll s B (e ∷ r) t = met s (page_of B e * 256) e.block (length e.contents) (metAll s B r t)
 
 -- a candidate stands in the image: its page is in it, and is that of a live slot with its block and contents
 pub record Lies (N B : ℕ) (s : Image) (e : LiveSlot) : Type 0 where
   pub stands : Stands N B e
-  pub inside : pageOf B e * 256 + 256 ≤ length s
-  pub page : slotOf (pageAt s (pageOf B e * 256)) ≡ live (e .block) (e .contents)
+  pub inside : page_of B e * 256 + 256 ≤ length s
+  pub page : slot_of (pageAt s (page_of B e * 256)) ≡ live e.block e.contents
 
 -- of a block without a candidate there is no place
 pub record NoneOf (t : Sheet) (r : List LiveSlot) (b : ℕ) : Type 0 where
   pub none : ofBlock b (given r) ≡ []
-  pub place : getD (t .places) b 0 ≡ 0
-  pub differs : getD (t .differs) b false ≡ false
+  pub place : get_or t.places b 0 ≡ 0
+  pub differs : get_or t.differs b false ≡ false
 
 -- of one with some, those of the one given
 pub record OneOf (N B : ℕ) (s : Image) (t : Sheet) (r : List LiveSlot) (b : ℕ) : Type 0 where
   pub slot : LiveSlot
   pub one : ofBlock b (given r) ≡ slot ∷ []
-  pub block : slot .block ≡ b
+  pub block : slot.block ≡ b
   pub lies : Lies N B s slot
-  pub place : getD (t .places) b 0 ≡ pageOf B slot * 256
-  pub length : getD (t .lengths) b 0 ≡ length (slot .contents)
-  pub differs : getD (t .differs) b false ≡ not (agreed r slot)
+  pub place : get_or t.places b 0 ≡ page_of B slot * 256
+  pub length : get_or t.lengths b 0 ≡ length slot.contents
+  pub differs : get_or t.differs b false ≡ not (agreed r slot)
 
 abbrev pub Tells : ℕ → ℕ → Image → Sheet → List LiveSlot → ℕ → Type 0
 Tells N B s t r b = NoneOf t r b ⊎ OneOf N B s t r b
 
 pub record Gathered (N B : ℕ) (s : Image) (t : Sheet) : Type 0 where
   pub tells : (b : ℕ) → b < mostPages → Tells N B s t (candidates N (segmentsOf N B s)) b
-  pub long : length (t .places) ≡ mostPages
+  pub long : length t.places ≡ mostPages

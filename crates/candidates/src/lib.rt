@@ -1,14 +1,12 @@
 // The candidates of an image by block number (request #113), gathered in one walk over the segments that are looked at, from
 // the highest number down and in each from the last slot up.
-ghost use mathlib.Core.Path.{_≡_};
-ghost use mathlib.Core.Bool.{true, false};
-ghost use lib.ListN.{length, replicate};
-ghost use Rattle·model.specs.Chip.{rightSize};
-ghost use Rattle·model.specs.State.{segmentsOf};
-ghost use Rattle·flash.specs.Pages.{Sized};
-ghost use Rattle·salvage.specs.Salvage.{candidates};
-ghost use Rattle·meeting.specs.Sheet.{sheet, Within};
-ghost use Rattle·candidates·specs.specs.Gathered.{metAll, Gathered};
+ghost use Rattle.std.specs.Prelude.{◌≡◌, true, false, length, replicate};
+ghost use Rattle.model.specs.Chip.{rightSize};
+ghost use Rattle.model.specs.State.{segmentsOf};
+ghost use Rattle.flash.specs.Pages.{Sized};
+ghost use Rattle.salvage.specs.Salvage.{candidates};
+ghost use Rattle.meeting.specs.Sheet.{sheet, Within};
+ghost use Rattle.candidates.specs.Gathered.{metAll, Gathered};
 
 // The candidates met, from the last one on.
 fn walk(
@@ -19,8 +17,8 @@ fn walk(
     lengths: &mut [u8; 65536],
     differs: &mut [bool; 65536],
 )
-    requires { ⌜ Sized segments slots (length (now image)) × Within (now places) (length (now image)) ⌝ }
-    ensures { λ r. ⌜ sheet (now (places .exit)) (now (lengths .exit)) (now (differs .exit)) ≡ metAll (now (image .entry)) slots (candidates segments (segmentsOf segments slots (now (image .entry)))) (sheet (now (places .entry)) (now (lengths .entry)) (now (differs .entry))) ⌝ }
+    requires { Sized segments slots (length image.now) × Within places.old (length image.now) }
+    ensures { sheet places.new lengths.new differs.new ≡ metAll image.now slots (candidates segments (segmentsOf segments slots image.now)) (sheet places.old lengths.old differs.old) }
 {
     let mut left = regard::regarded(image, segments, slots);
     let mut top = descent::largest(&left, segments);
@@ -42,8 +40,8 @@ pub fn gather(
     lengths: &mut [u8; 65536],
     differs: &mut [bool; 65536],
 )
-    requires { ⌜ (rightSize segments slots (now image) ≡ true) × (now places ≡ replicate 65536 0) × (now lengths ≡ replicate 65536 0) × (now differs ≡ replicate 65536 false) ⌝ }
-    ensures { λ r. ⌜ Gathered segments slots (now (image .entry)) (sheet (now (places .exit)) (now (lengths .exit)) (now (differs .exit))) ⌝ }
+    requires { (rightSize segments slots image.now ≡ true) × (places.old ≡ replicate 65536 0) × (lengths.old ≡ replicate 65536 0) × (differs.old ≡ replicate 65536 false) }
+    ensures { Gathered segments slots image.now (sheet places.new lengths.new differs.new) }
 {
     walk(image, segments, slots, places, lengths, differs);
 }

@@ -1,15 +1,13 @@
 -- What the contracts of this crate say beside the definitions of the model.
-use Prim.Native.Nat.{ℕ, _%_}
-use mathlib.Core.Path.{_≡_}
-use mathlib.Core.List.{List, _∷_, _++_, append-assoc}
-use lib.ListN.{length}
-use Rattle·model.specs.Chip.{Image, erase}
-use Rattle·model.specs.Header.{Version, newVersion}
-use Rattle·model.specs.Slot.{Entry}
-use Rattle·model.specs.Steps.{copyEntries, compact, settle}
-use Rattle·flash.specs.Ran.{Ran}
-use Rattle·header_steps.specs.Parts.{beginCompaction, finishCopy, copy-out-parts}
-use Rattle·live_slots.specs.Live.{liveEntries}
+use Rattle.std.specs.Prelude.{ℕ, ◌%◌, ◌≡◌, List, ◌∷◌, ◌++◌, length}
+use Rattle.std.proofs.Common.{append_assoc}
+use Rattle.model.specs.Chip.{Image, erase}
+use Rattle.model.specs.Header.{Version, newVersion}
+use Rattle.model.specs.Slot.{Entry}
+use Rattle.model.specs.Steps.{copyEntries, compact, settle}
+use Rattle.flash.specs.Ran.{Ran}
+use Rattle.header_steps.specs.Parts.{beginCompaction, finishCopy, copy-out-parts}
+use Rattle.live_slots.specs.Live.{liveEntries}
 
 -- the whole compaction, whose target gets a new header with this total
 pub record Compaction (N B total o n budget left count : ℕ) (from to : Image) : Type 0 where
@@ -20,4 +18,4 @@ pub record Compaction (N B total o n budget left count : ℕ) (from to : Image) 
 pub compact-parts : (N B : ℕ) (e : Version) (o n : ℕ) (es : List Entry)
     → compact N B e o n es ≡ beginCompaction N B e o n ++ (copyEntries N B n 0 es ++ (finishCopy N B e o n ++ (erase (o % N) ∷ settle N B n)))
 unfolding compact
-compact-parts N B e o n es = rw (copy-out-parts N B e o n es) (simp append-assoc)
+compact-parts N B e o n es = rw (copy-out-parts N B e o n es) (simp append_assoc)

@@ -1,10 +1,11 @@
 // Compaction of one segment under a budget (document 01: tidying).
+ghost use Rattle.std.specs.Prelude.{length};
+ghost use Rattle.flash.specs.Pages.{Sized};
+ghost use Rattle.live_slots.specs.Live.{Apart};
+ghost use Rattle.compact.specs.Compaction.{Compaction};
+
 use copying::Compacted;
 use model::SegmentNumber;
-ghost use lib.ListN.{length};
-ghost use Rattle·flash.specs.Pages.{Sized};
-ghost use Rattle·live_slots.specs.Live.{Apart};
-ghost use Rattle·compact·specs.specs.Compaction.{Compaction};
 
 // Compacts an old segment into the one that a number belongs to: the target is begun, the live slots are copied, the
 // target is in use, with this total of recoveries' erases, and only then is the old segment erased.
@@ -17,8 +18,8 @@ pub fn compact_segment(
     number: SegmentNumber,
     budget: u64,
 ) -> Compacted
-    requires { ⌜ Sized segments slots (length (now image)) × Apart segments (old .0) (number .0) ⌝ }
-    ensures { λ r. ⌜ Compaction segments slots total (old .0) (number .0) budget (r .left) (r .copied) (now (image .entry)) (now (image .exit)) ⌝ }
+    requires { Sized segments slots (length image.old) × Apart segments old.0 number.0 }
+    ensures { Compaction segments slots total old.0 number.0 budget result.left result.copied image.old image.new }
 {
     let begun = header_steps::begin_compaction(image, segments, slots, total, old, number, budget);
     let copy = copying::copy_live(image, segments, slots, old, number, begun);

@@ -1,12 +1,12 @@
 // The live slots of one segment copied to another under a budget.
-use model::SegmentNumber;
-use model::SlotKind;
-use model::SlotPlace;
-ghost use lib.ListN.{length};
-ghost use Rattle·flash.specs.Pages.{Sized};
-ghost use Rattle·live_slots.specs.Live.{Apart, Copied};
+ghost use Rattle.std.specs.Prelude.{length};
+ghost use Rattle.flash.specs.Pages.{Sized};
+ghost use Rattle.live_slots.specs.Live.{Apart, Copied};
+
+use model::{SegmentNumber, SlotKind, SlotPlace};
 
 // What is left of the budget, and how many live slots the old segment has, copied or not for want of budget.
+#[derive(Drop)]
 pub struct Compacted {
     pub left: u64,
     pub copied: usize,
@@ -21,8 +21,8 @@ pub fn copy_live(
     number: SegmentNumber,
     budget: u64,
 ) -> Compacted
-    requires { ⌜ Sized segments slots (length (now image)) × Apart segments (old .0) (number .0) ⌝ }
-    ensures { λ r. ⌜ Copied segments slots (old .0) (number .0) budget (r .left) (r .copied) (now (image .entry)) (now (image .exit)) ⌝ }
+    requires { Sized segments slots (length image.old) × Apart segments old.0 number.0 }
+    ensures { Copied segments slots old.0 number.0 budget result.left result.copied image.old image.new }
 {
     let source = live_slots::index_of(segments, old);
     let target = live_slots::index_of(segments, number);

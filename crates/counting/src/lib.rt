@@ -1,17 +1,13 @@
 // How many blocks of a range of numbers a clean image stores, and whether it stores one block (request #110): one walk over the
 // slots in use, by their statuses and block numbers.
-use model::BlockNumber;
-use model::SegmentNumber;
-use model::SlotPlace;
-ghost use mathlib.Core.Path.{_≡_};
-ghost use mathlib.Core.Bool.{cond, _&&_};
-ghost use Prim.Native.Nat.{_+_, _*_, _≤_, _<_};
-ghost use lib.ListN.{length, drop};
-ghost use Rattle·model.specs.Lists.{chunk};
-ghost use Rattle·model.specs.State.{holds};
-ghost use Rattle·model.specs.Table.{liveBetween, tableOf};
-ghost use Rattle·places.specs.Places.{Fillable};
-ghost use Rattle·counting·specs.specs.Count.{mostMet, numbersIn, inRange, meet, meetAll};
+ghost use Rattle.std.specs.Prelude.{◌≡◌, cond, ◌&&◌, ◌+◌, ◌*◌, ◌≤◌, ◌<◌, length, drop};
+ghost use Rattle.model.specs.Lists.{chunk};
+ghost use Rattle.model.specs.State.{holds};
+ghost use Rattle.model.specs.Table.{liveBetween, table_of};
+ghost use Rattle.places.specs.Places.{Fillable};
+ghost use Rattle.counting.specs.Count.{mostMet, numbersIn, in_range, meet, meet_all};
+
+use model::{BlockNumber, SegmentNumber, SlotPlace};
 
 // The status of a live slot, and of one that nothing was written to.
 const WRITTEN: u8 = 0x3F;
@@ -20,6 +16,7 @@ const UNWRITTEN: u8 = 255;
 
 // What is looked for: the blocks of a range of numbers, its first and its last among them, and one block. Any numbers will do: a
 // range that ends before it begins has no block.
+#[derive(Drop)]
 pub struct Sought {
     pub first: BlockNumber,
     pub last: BlockNumber,
@@ -27,6 +24,7 @@ pub struct Sought {
 }
 
 // How many blocks of the range were met, and whether the one was.
+#[derive(Drop)]
 pub struct Met {
     pub blocks: usize,
     pub stored: bool,
@@ -34,7 +32,7 @@ pub struct Met {
 
 // Two bytes as a number, low byte first.
 fn word(low: u8, high: u8) -> u16
-    ensures { λ r. ⌜ r ≡ low + 256 * high ⌝ }
+    ensures { result ≡ low + 256 * high }
 {
     low as u16 + 256 * (high as u16)
 }
@@ -42,15 +40,15 @@ fn word(low: u8, high: u8) -> u16
 // Whether a slot counts: it is live, and its block number is in the range. Live and dead slots come in no order, nor do block numbers,
 // so that no branch on them could be guessed: here and in `meet` every test is made of every slot.
 fn counts(sought: Sought, live: bool, block: u16) -> bool
-    ensures { λ r. ⌜ r ≡ (live && inRange sought block) ⌝ }
+    ensures { result ≡ (live && in_range sought block) }
 {
     live & ((sought.first.0 <= block) & (block <= sought.last.0))
 }
 
 // One slot more, by its block number if it is live.
 fn meet(sought: Sought, met: Met, live: bool, block: u16) -> Met
-    requires { ⌜ met .blocks < mostMet ⌝ }
-    ensures { λ r. ⌜ r ≡ cond live (meet sought met block) met ⌝ }
+    requires { met.blocks < mostMet }
+    ensures { result ≡ cond live (meet sought met block) met }
 {
     let counted = counts(sought, live, block);
     let mut blocks = met.blocks;
@@ -65,8 +63,8 @@ fn meet(sought: Sought, met: Met, live: bool, block: u16) -> Met
 
 // The slots of one segment, from the first of them on, up to the first that nothing was written to. It looks at three bytes of each.
 fn meet_slots(image: &[u8], slots: usize, from: SlotPlace, sought: Sought, before: Met) -> Met
-    requires { ⌜ (from .0 + slots * 256 ≤ length (now image)) × (before .blocks + slots ≤ mostMet) ⌝ }
-    ensures { λ r. ⌜ (r ≡ meetAll sought before (numbersIn (chunk slots 256 (drop (from .0) (now (image .entry)))))) × (r .blocks ≤ before .blocks + slots) ⌝ }
+    requires { (from.0 + slots * 256 ≤ length image.now) × (before.blocks + slots ≤ mostMet) }
+    ensures { (result ≡ meet_all sought before (numbersIn (chunk slots 256 (drop from.0 image.now)))) × (result.blocks ≤ before.blocks + slots) }
 {
     let start = from.0;
     let mut met = before;
@@ -93,8 +91,8 @@ pub fn count_live(
     used: usize,
     sought: Sought,
 ) -> Met
-    requires { ⌜ Fillable segments slots (now image) (first .0) used ⌝ }
-    ensures { λ r. ⌜ (r .blocks ≡ liveBetween (sought .first .0) (sought .last .0) (tableOf segments slots (now (image .entry)))) × (r .stored ≡ holds (sought .block .0) (tableOf segments slots (now (image .entry)))) ⌝ }
+    requires { Fillable segments slots image.now first.0 used }
+    ensures { (result.blocks ≡ liveBetween sought.first.0 sought.last.0 (table_of segments slots image.now)) × (result.stored ≡ holds sought.block.0 (table_of segments slots image.now)) }
 {
     let mut met = Met {
         blocks: 0,

@@ -1,44 +1,40 @@
 -- Bench examples 7 and 8 as histories on the smallest store, computed, and demand 2 of each: a put cut by its allowance, a recovery, and a read.
 -- And a board of version 1 that lost its power while the former rules tidied.
-use Prim.Native.Nat.{ℕ, zero, suc}
-use mathlib.Core.Path.{_≡_, refl, _∙_}
-use mathlib.Core.Bool.{true, false}
-use mathlib.Core.List.{List, [], _∷_, _++_}
-use native.Mathlib.Omega.{arith}
-use lib.ListN.{replicate}
-use Rattle·model.specs.Chip.{Image, Bytes, rightSize, pagesOf, Step, withSegment, step, run}
-use Rattle·model.specs.Header.{version1}
-use Rattle·model.specs.Slot.{Entry}
-use Rattle·model.specs.State.{segmentsOf, unfinished, caseB, state, view}
-use Rattle·model.specs.Steps.{onPage, slotAt, markDead, openSegment, copyEntries, copyOut, eraseFirst}
-use Rattle·model.specs.Answers.{Request, format, put, read, recover, workOf, outcomeOf, contentsAt, readOutcome, pieceRead}
-use Rattle·model.specs.Histories.{bytesRead, replyOf, answered, Proper, wears, Event, History, recovered, shown}
-use Rattle·model.specs.Sequences.{Call, play}
-use Rattle·model.specs.Bench.{call, whole}
-use Rattle·model.specs.Laws.Bench.{evaluate}
-use Rattle·model.specs.Laws.Bytes.{run-bytes}
-use Rattle·model.specs.Laws.Chip.{run-size}
-use Rattle·crash·specs.specs.Machine.{Promise, interrupted, unknown, PlainRuns}
-use Rattle·crash·specs.specs.Demand2.{Keeps, board}
-use Rattle·crash·specs.specs.Sound.{Sound, formerShown}
-use Rattle·crash·specs.specs.Theorem.{demand2, from-former-left}
+use Rattle.std.specs.Prelude.{ℕ, zero, suc, ◌≡◌, refl, true, false, List, [], ◌∷◌, ◌++◌, replicate}
+use Rattle.std.proofs.Common.{◌∙◌, arith}
+use Rattle.model.specs.Chip.{Image, Bytes, rightSize, pagesOf, Step, withSegment, step, run}
+use Rattle.model.specs.Header.{version1}
+use Rattle.model.specs.Slot.{Entry}
+use Rattle.model.specs.State.{segmentsOf, unfinished, caseB, state, view}
+use Rattle.model.specs.Steps.{onPage, slot_at, markDead, openSegment, copyEntries, copyOut, eraseFirst}
+use Rattle.model.specs.Answers.{Request, format, put, read, recover, workOf, outcomeOf, contentsAt, readOutcome, pieceRead}
+use Rattle.model.specs.Histories.{bytesRead, replyOf, answered, Proper, wears, Event, History, recovered, shown}
+use Rattle.model.specs.Sequences.{Call, play}
+use Rattle.model.specs.Bench.{call, whole}
+use Rattle.model.specs.Laws.Bench.{evaluate}
+use Rattle.model.specs.Laws.Bytes.{run-bytes}
+use Rattle.model.specs.Laws.Chip.{run-size}
+use Rattle.crash.specs.Machine.{Promise, interrupted, unknown, PlainRuns}
+use Rattle.crash.specs.Demand2.{Keeps, board}
+use Rattle.crash.specs.Sound.{Sound, formerShown}
+use Rattle.crash.specs.Theorem.{demand2, from-former-left}
 
 -- ---- the history of some calls
 
 unfoldable events : ℕ → ℕ → Image → List Call → List Event
 events N B s [] = []
 events N B s (x ∷ xs) =
-    record { request = x .request; worn = wears N B s; seen = answered (replyOf N B s (x .allowance) (x .request)) }
-    ∷ events N B (outcomeOf N B s (x .allowance) (x .request) .image) xs
+    record { request = x.request; worn = wears N B s; seen = answered (replyOf N B s x.allowance x.request) }
+    ∷ events N B (outcomeOf N B s x.allowance x.request).image xs
 
 abbrev AllProper : List Call → Type 0
 AllProper [] = Unit {0}
-AllProper (x ∷ xs) = Proper (x .request) × AllProper xs
+AllProper (x ∷ xs) = Proper x.request × AllProper xs
 
 played : (N B : ℕ) (xs : List Call) (s : Image) → AllProper xs → History N B s (events N B s xs) (play N B s xs)
 unfolding events play
 played N B [] s p = refl
-played N B (x ∷ xs) s p = (p .0, refl, (outcomeOf N B s (x .allowance) (x .request) .image, (x .allowance, refl, refl), played N B xs (outcomeOf N B s (x .allowance) (x .request) .image) (p .1)))
+played N B (x ∷ xs) s p = (p.0, refl, ((outcomeOf N B s x.allowance x.request).image, (x.allowance, refl, refl), played N B xs (outcomeOf N B s x.allowance x.request).image p.1))
 
 -- ---- N = 2, B = 2: block 7 put with one byte, the last time cut; then a recovery and a read
 
@@ -127,7 +123,7 @@ abbrev formerSteps : List Step
 formerSteps = eraseFirst 2
     ++ (openSegment 2 2 version1 0
     ++ (copyEntries 2 2 0 0 (sevenWith 1 ∷ sevenWith 2 ∷ [])
-    ++ (onPage (slotAt 2 2 0 0) markDead
+    ++ (onPage (slot_at 2 2 0 0) markDead
     ++ copyOut 2 2 version1 0 1 (sevenWith 2 ∷ []))))
 
 abbrev pub formerLeft : Image

@@ -1,21 +1,19 @@
 -- The invariant of demand 2: how an image stands to what the machine promises of it, and what an event has to give.
-use Prim.Native.Nat.{ℕ}
-use mathlib.Core.Path.{_≡_}
-use mathlib.Core.Bool.{Bool, true}
-use Rattle·model.specs.Chip.{Image, Bytes, rightSize}
-use Rattle·model.specs.State.{distinct, clean}
-use Rattle·model.specs.Table.{Table, Agree, tableOf}
-use Rattle·model.specs.Answers.{Request}
-use Rattle·model.specs.Histories.{Seen, shown}
-use Rattle·crash·specs.specs.Machine.{Promise, settled, interrupted, unknown, Moves}
-use Rattle·crash·specs.specs.Demand2.{board}
-use Rattle·crash·specs.specs.Reading
-use Rattle·crash·specs.specs.Sound.{Sound, Clean, formerIn, formerShown}
+use Rattle.std.specs.Prelude.{ℕ, ◌≡◌, Bool, true}
+use Rattle.model.specs.Chip.{Image, Bytes, rightSize}
+use Rattle.model.specs.State.{distinct, clean}
+use Rattle.model.specs.Table.{Table, Agree, table_of}
+use Rattle.model.specs.Answers.{Request}
+use Rattle.model.specs.Histories.{Seen, shown}
+use Rattle.crash.specs.Machine.{Promise, settled, interrupted, unknown, Moves}
+use Rattle.crash.specs.Demand2.{board}
+use Rattle.crash.specs.Reading
+use Rattle.crash.specs.Sound.{Sound, Clean, formerIn, formerShown}
 
 pub record Stores (N B : ℕ) (f : Bool) (s : Image) (t : Table) : Type 0 where
   pub clean : Clean N B s
   pub version : formerIn N B s ≡ f
-  pub table : Agree (tableOf N B s) t
+  pub table : Agree (table_of N B s) t
   pub once : distinct t ≡ true
   pub bytes : Bytes s
 

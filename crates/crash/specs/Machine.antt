@@ -1,16 +1,10 @@
 -- A plain table, and all that the customer wants to know of the store: one machine over it.
-use Prim.Native.Nat.{ℕ, suc}
-use mathlib.Core.Path.{_≡_}
-use mathlib.Core.Logic.{_⊎_}
-use mathlib.Core.Bool.{Bool, cond, _||_}
-use mathlib.Core.List.{List, [], _∷_}
-use lib.ListN.{length}
-use lib.Dec.{ltb, eqb}
-use Rattle·model.specs.Slot.{numberOk}
-use Rattle·model.specs.State.{holds}
-use Rattle·model.specs.Table.{Table, lookup, without, store, contentsFound}
-use Rattle·model.specs.Answers.{Request, format, put, delete, read, readOr, recover, lengthOk}
-use Rattle·model.specs.Histories.{Reply, Seen, answered, lost, Event}
+use Rattle.std.specs.Prelude.{ℕ, suc, ◌≡◌, ◌⊎◌, Bool, cond, ◌||◌, List, [], ◌∷◌, length, ltb, eqb}
+use Rattle.model.specs.Slot.{numberOk}
+use Rattle.model.specs.State.{holds}
+use Rattle.model.specs.Table.{Table, lookup, without, store, contentsFound}
+use Rattle.model.specs.Answers.{Request, format, put, delete, read, readOr, recover, lengthOk}
+use Rattle.model.specs.Histories.{Reply, Seen, answered, lost, Event}
 
 -- the most blocks that a table holds; and whether the image has version 1, which takes no put (request #104)
 pub record Board : Type 0 where
@@ -31,7 +25,7 @@ malformed recover = 0
 -- a put on version 1: 11. A put of a block that is not stored while C are: 7. A worn chip: 8. A delete or a read of a block that is not stored: 6
 unfoldable pub codeOnTable : Board → Bool → Table → Request → ℕ
 codeOnTable C worn t format = 0
-codeOnTable C worn t (put b c) = cond (C .former) 11 (cond (holds b t || ltb (length t) (C .places)) (cond worn 8 0) 7)
+codeOnTable C worn t (put b c) = cond C.former 11 (cond (holds b t || ltb (length t) C.places) (cond worn 8 0) 7)
 codeOnTable C worn t (delete b) = cond (holds b t) 0 6
 codeOnTable C worn t (read b) = cond (holds b t) 0 6
 codeOnTable C worn t (readOr b f) = cond (holds b t) 0 6
@@ -125,9 +119,9 @@ pub data Moves (C : Board) (worn : Bool) (r : Request) (o : Seen) : Promise → 
 -- a history of the machine
 abbrev pub PlainRuns : Board → Promise → List Event → Promise → Type 0
 PlainRuns C x [] y = y ≡ x
-PlainRuns C x (e ∷ es) y = (z : Promise) × Moves C (e .worn) (e .request) (e .seen) x z × PlainRuns C z es y
+PlainRuns C x (e ∷ es) y = (z : Promise) × Moves C e.worn e.request e.seen x z × PlainRuns C z es y
 
 -- events without a format
 abbrev pub NoFormat : List Event → Type 0
 NoFormat [] = Unit {0}
-NoFormat (e ∷ es) = OnTable (e .request) × NoFormat es
+NoFormat (e ∷ es) = OnTable e.request × NoFormat es

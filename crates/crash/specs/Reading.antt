@@ -1,41 +1,35 @@
 -- The machine read back in the customer's sentences, so that the statement is seen not to be empty.
-use Prim.Native.Nat.{ℕ, suc, _≤_, _<_}
-use mathlib.Core.Path.{_≡_, refl, sym, ap, _∙_, subst}
-use mathlib.Core.Logic.{_⊎_, inl, inr, ⊎-elim, _≢_}
-use mathlib.Core.Bool.{Bool, true, false, cond, _||_, or-true}
-use mathlib.Core.List.{List, []}
-use native.Mathlib.Omega.{arith}
-use lib.ListN.{length}
-use lib.Dec.{ltb, eqb}
-use borrow.Author.Tests.{lt-ltb, le-ltb}
-use Rattle·model.specs.Slot.{numberOk}
-use Rattle·model.specs.State.{holds}
-use Rattle·model.specs.Table.{Table, present, lookup, contentsFound}
-use Rattle·model.specs.Answers.{Request, format, put, delete, read, readOr, recover}
-use Rattle·model.specs.Histories.{Reply, Seen, answered, lost}
-use Rattle·model.specs.Laws.Tables.{lookup-store-same}
-use Rattle·crash·specs.specs.Machine.{Board, malformed, codeOnTable, plainCode, plainBytes, plain, made, next, Promise, settled, interrupted, unknown, refused, IsCut, OnTable, WantsRecovery, Holds, Moves, answers, answers-again, asks-recovery, refuses-malformed, not-begun, wholly-done, formats, format-cut, no-promise}
-use Rattle·crash·specs.specs.Requests.{malformed-small}
+use Rattle.std.specs.Prelude.{ℕ, suc, ◌≤◌, ◌<◌, ◌≡◌, refl, ◌⊎◌, ◌≢◌, Bool, true, false, cond, ◌||◌, List, [], length, ltb, eqb}
+use Rattle.std.proofs.Common.{sym, ap, ◌∙◌, subst, inl, inr, ⊎_elim, arith, lt-ltb, le-ltb}
+use Rattle.std.proofs.Math.Bool.{or-true}
+use Rattle.model.specs.Slot.{numberOk}
+use Rattle.model.specs.State.{holds}
+use Rattle.model.specs.Table.{Table, present, lookup, contentsFound}
+use Rattle.model.specs.Answers.{Request, format, put, delete, read, readOr, recover}
+use Rattle.model.specs.Histories.{Reply, Seen, answered, lost}
+use Rattle.model.specs.Laws.Tables.{lookup-store-same}
+use Rattle.crash.specs.Machine.{Board, malformed, codeOnTable, plainCode, plainBytes, plain, made, next, Promise, settled, interrupted, unknown, refused, IsCut, OnTable, WantsRecovery, Holds, Moves, answers, answers-again, asks-recovery, refuses-malformed, not-begun, wholly-done, formats, format-cut, no-promise}
+use Rattle.crash.specs.Requests.{malformed-small}
 
 -- ---- what the table answers
 
 -- a stored block can always be rewritten, unless the chip is worn
-pub rewrite-always : (C : Board) (worn : Bool) (t : Table) (b : ℕ) (c : List ℕ) → C .former ≡ false → malformed (put b c) ≡ 0 → holds b t ≡ true → plainCode C worn t (put b c) ≡ cond worn 8 0
+pub rewrite-always : (C : Board) (worn : Bool) (t : Table) (b : ℕ) (c : List ℕ) → C.former ≡ false → malformed (put b c) ≡ 0 → holds b t ≡ true → plainCode C worn t (put b c) ≡ cond worn 8 0
 unfolding plainCode codeOnTable
 rewrite-always C worn t b c f m h = rw (f, m, h)
 
 -- and so can any block be stored below the capacity
-pub room-below-capacity : (C : Board) (worn : Bool) (t : Table) (b : ℕ) (c : List ℕ) → C .former ≡ false → malformed (put b c) ≡ 0 → length t < C .places → plainCode C worn t (put b c) ≡ cond worn 8 0
+pub room-below-capacity : (C : Board) (worn : Bool) (t : Table) (b : ℕ) (c : List ℕ) → C.former ≡ false → malformed (put b c) ≡ 0 → length t < C.places → plainCode C worn t (put b c) ≡ cond worn 8 0
 unfolding plainCode codeOnTable
-room-below-capacity C worn t b c f m h = rw (f, m, lt-ltb (length t) (C .places) h, or-true (holds b t))
+room-below-capacity C worn t b c f m h = rw (f, m, lt-ltb (length t) C.places h, or-true (holds b t))
 
 -- at the capacity a new block is refused as full
-pub full-at-capacity : (C : Board) (worn : Bool) (t : Table) (b : ℕ) (c : List ℕ) → C .former ≡ false → malformed (put b c) ≡ 0 → holds b t ≡ false → C .places ≤ length t → plainCode C worn t (put b c) ≡ 7
+pub full-at-capacity : (C : Board) (worn : Bool) (t : Table) (b : ℕ) (c : List ℕ) → C.former ≡ false → malformed (put b c) ≡ 0 → holds b t ≡ false → C.places ≤ length t → plainCode C worn t (put b c) ≡ 7
 unfolding plainCode codeOnTable
-full-at-capacity C worn t b c f m h k = rw (f, m, h, le-ltb (length t) (C .places) k)
+full-at-capacity C worn t b c f m h k = rw (f, m, h, le-ltb (length t) C.places k)
 
 -- request #104: an image of version 1 takes no put, and is refused as it stands
-pub former-takes-none : (C : Board) (worn : Bool) (t : Table) (b : ℕ) (c : List ℕ) → C .former ≡ true → malformed (put b c) ≡ 0 → plainCode C worn t (put b c) ≡ 11
+pub former-takes-none : (C : Board) (worn : Bool) (t : Table) (b : ℕ) (c : List ℕ) → C.former ≡ true → malformed (put b c) ≡ 0 → plainCode C worn t (put b c) ≡ 11
 unfolding plainCode codeOnTable
 former-takes-none C worn t b c f m = rw (f, m)
 
@@ -50,7 +44,7 @@ pub read-exact : (C : Board) (worn : Bool) (t : Table) (b : ℕ) → numberOk b 
 unfolding plain plainCode plainBytes codeOnTable malformed
 read-exact C worn t b m = rw m (go (holds b t))
   where
-    go : (x : Bool) → _≡_ {A = Reply} (record { code = cond x 0 6; bytes = cond (eqb (cond x 0 6) 0) (contentsFound (lookup b t)) [] })
+    go : (x : Bool) → ◌≡◌ {A = Reply} (record { code = cond x 0 6; bytes = cond (eqb (cond x 0 6) 0) (contentsFound (lookup b t)) [] })
         (cond x (record { code = 0; bytes = contentsFound (lookup b t) }) (record { code = 6; bytes = [] }))
     go true = refl
     go false = refl
@@ -61,7 +55,7 @@ pub readOr-exact : (C : Board) (worn : Bool) (t : Table) (b : ℕ) (f : List ℕ
 unfolding plain plainCode plainBytes codeOnTable malformed
 readOr-exact C worn t b f m = rw m (go (holds b t))
   where
-    go : (x : Bool) → _≡_ {A = Reply} (record { code = cond x 0 6; bytes = cond (eqb (cond x 0 6) 0) (contentsFound (lookup b t)) (cond (eqb (cond x 0 6) 6) f []) })
+    go : (x : Bool) → ◌≡◌ {A = Reply} (record { code = cond x 0 6; bytes = cond (eqb (cond x 0 6) 0) (contentsFound (lookup b t)) (cond (eqb (cond x 0 6) 6) f []) })
         (cond x (record { code = 0; bytes = contentsFound (lookup b t) }) (record { code = 6; bytes = f }))
     go true = refl
     go false = refl
@@ -75,7 +69,7 @@ put-read b c t = lookup-store-same b c t
 
 -- the code seen; no answer counts as 9
 abbrev pub codeSeen : Seen → ℕ
-codeSeen (answered a) = a .code
+codeSeen (answered a) = a.code
 codeSeen lost = 9
 
 pub cut-code : (o : Seen) → IsCut o → codeSeen o ≡ 9
@@ -86,29 +80,29 @@ pub not-format : (r : Request) → OnTable r → r ≡ format → ⊥
 not-format r o e = subst OnTable e o
 
 -- no table answers 9
-plain-not-nine : (C : Board) (worn : Bool) (t : Table) (r : Request) → _≢_ {A = ℕ} (plainCode C worn t r) 9
+plain-not-nine : (C : Board) (worn : Bool) (t : Table) (r : Request) → ◌≢◌ {A = ℕ} (plainCode C worn t r) 9
 unfolding plainCode codeOnTable
 plain-not-nine C worn t r = go (eqb (malformed r) 0) (malformed-small r) (on-table r)
   where
-    put-not : (f x w : Bool) → _≢_ {A = ℕ} (cond f 11 (cond x (cond w 8 0) 7)) 9
+    put-not : (f x w : Bool) → ◌≢◌ {A = ℕ} (cond f 11 (cond x (cond w 8 0) 7)) 9
     put-not true x w e = omega (arith, e)
     put-not false true true e = omega (arith, e)
     put-not false true false e = omega (arith, e)
     put-not false false w e = omega (arith, e)
 
-    absent-not : (x : Bool) → _≢_ {A = ℕ} (cond x 0 6) 9
+    absent-not : (x : Bool) → ◌≢◌ {A = ℕ} (cond x 0 6) 9
     absent-not true e = omega (arith, e)
     absent-not false e = omega (arith, e)
 
-    on-table : (a : Request) → _≢_ {A = ℕ} (codeOnTable C worn t a) 9
+    on-table : (a : Request) → ◌≢◌ {A = ℕ} (codeOnTable C worn t a) 9
     on-table format e = omega (arith, e)
-    on-table (put b c) e = put-not (C .former) (holds b t || ltb (length t) (C .places)) worn e
+    on-table (put b c) e = put-not C.former (holds b t || ltb (length t) C.places) worn e
     on-table (delete b) e = absent-not (holds b t) e
     on-table (read b) e = absent-not (holds b t) e
     on-table (readOr b f) e = absent-not (holds b t) e
     on-table recover e = omega (arith, e)
 
-    go : (x : Bool) → malformed r ≤ 3 → _≢_ {A = ℕ} (codeOnTable C worn t r) 9 → _≢_ {A = ℕ} (cond x (codeOnTable C worn t r) (malformed r)) 9
+    go : (x : Bool) → malformed r ≤ 3 → ◌≢◌ {A = ℕ} (codeOnTable C worn t r) 9 → ◌≢◌ {A = ℕ} (cond x (codeOnTable C worn t r) (malformed r)) 9
     go true p q e = q e
     go false p q e = omega (arith, e)
 
@@ -196,7 +190,7 @@ pub recovery-cut-keeps : {C : Board} {w : Bool} {r : Request} {o : Seen} {x y : 
     → y ≡ interrupted t
 unfolding plainCode codeOnTable malformed next made
 recovery-cut-keeps {C} {w} {x = x} m t s f n =
-    ⊎-elim (λ old. old) (λ new. new ∙ ap (λ (v : Request). interrupted (next C w t v)) f) (cut-old-or-new m t (held x s) (subst OnTable (sym f) tt) n)
+    ⊎_elim (λ old. old) (λ new. new ∙ ap (λ (v : Request). interrupted (next C w t v)) f) (cut-old-or-new m t (held x s) (subst OnTable (sym f) tt) n)
   where
     held : (v : Promise) → IsInterrupted v t → Holds v t
     held (settled u) h = absurd h

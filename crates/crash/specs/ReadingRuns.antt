@@ -1,24 +1,18 @@
 -- The customer's sentences over whole histories of the plain table: a block never shows contents that were not put under its number since the last format, or that have 0 bytes,
 -- and acknowledged contents are read back until the block is written or deleted, through every power cut.
-use Prim.Native.Nat.{ℕ, zero, suc, _<_}
-use mathlib.Core.Path.{_≡_, refl, sym, ap, ap₂, _∙_, subst}
-use mathlib.Core.Logic.{_⊎_, inl, inr, ⊎-elim, _≢_}
-use mathlib.Core.Bool.{Bool, true, false, cond}
-use mathlib.Core.List.{List, [], _∷_, _++_}
-use native.Mathlib.Omega.{arith}
-use native.Mathlib.Decide.{ℕ-discrete}
-use lib.ListN.{length}
-use lib.Dec.{eqb}
-use borrow.Author.Tests.{eqb-true, eqb-false, ne-eqb}
-use Rattle·model.specs.Slot.{numberOk}
-use Rattle·model.specs.State.{holds}
-use Rattle·model.specs.Table.{Table, Found, absent, present, lookup, contentsFound}
-use Rattle·model.specs.Answers.{Request, format, put, delete, read, readOr, recover, lengthOk}
-use Rattle·model.specs.Histories.{Reply, Seen, answered, Event}
-use Rattle·model.specs.Laws.Tables.{lookup-held, found-held, absent-free, lookup-without-same, lookup-without-other, lookup-store-same, lookup-store-other}
-use Rattle·bridge.specs.Accepted.{taken-some}
-use Rattle·crash·specs.specs.Machine.{Board, malformed, codeOnTable, plainCode, plainBytes, plain, made, next, Promise, settled, interrupted, unknown, refused, OnTable, Holds, Moves, answers, answers-again, asks-recovery, refuses-malformed, not-begun, wholly-done, formats, format-cut, no-promise, PlainRuns, NoFormat}
-use Rattle·crash·specs.specs.Reading.{codeSeen, cut-code, not-format, format-starts, read-exact, readOr-exact}
+use Rattle.std.specs.Prelude.{ℕ, zero, suc, ◌<◌, ◌≡◌, refl, ◌⊎◌, ◌≢◌, Bool, true, false, cond, List, [], ◌∷◌, ◌++◌, length, eqb}
+use Rattle.std.proofs.Common.{sym, ap, ap₂, ◌∙◌, subst, inl, inr, ⊎_elim, arith, eqb-true, ne_eqb}
+use Rattle.std.proofs.Math.Decide.{ℕ_discrete}
+use Rattle.std.proofs.lemmas.Bool.{eqb-false}
+use Rattle.model.specs.Slot.{numberOk}
+use Rattle.model.specs.State.{holds}
+use Rattle.model.specs.Table.{Table, Found, absent, present, lookup, contentsFound}
+use Rattle.model.specs.Answers.{Request, format, put, delete, read, readOr, recover, lengthOk}
+use Rattle.model.specs.Histories.{Reply, Seen, answered, Event}
+use Rattle.model.specs.Laws.Tables.{lookup-held, found-held, absent-free, lookup-without-same, lookup-without-other, lookup-store-same, lookup-store-other}
+use Rattle.bridge.specs.Accepted.{taken-some}
+use Rattle.crash.specs.Machine.{Board, malformed, codeOnTable, plainCode, plainBytes, plain, made, next, Promise, settled, interrupted, unknown, refused, OnTable, Holds, Moves, answers, answers-again, asks-recovery, refuses-malformed, not-begun, wholly-done, formats, format-cut, no-promise, PlainRuns, NoFormat}
+use Rattle.crash.specs.Reading.{codeSeen, cut-code, not-format, format-starts, read-exact, readOr-exact}
 
 -- what is lookup-held of a block, by a promise
 abbrev pub Shows : Promise → ℕ → Found → Type 0
@@ -32,23 +26,23 @@ Puts b c r o = (r ≡ put b c) × (malformed r ≡ 0) × ((codeSeen o ≡ 0) ⊎
 
 abbrev pub PutAmong : ℕ → List ℕ → List Event → Type 0
 PutAmong b c [] = ⊥
-PutAmong b c (e ∷ es) = Puts b c (e .request) (e .seen) ⊎ PutAmong b c es
+PutAmong b c (e ∷ es) = Puts b c e.request e.seen ⊎ PutAmong b c es
 
 -- ---- where shown contents come from
 
 never : (c : List ℕ) → absent ≡ present c → ⊥
-never c e = let y : _≡_ {A = ℕ} 0 1 = cc in omega arith
+never c e = let y : ◌≡◌ {A = ℕ} 0 1 = cc in omega arith
 
 made-from : (r : Request) (t : Table) (b : ℕ) (c : List ℕ) → lookup b (made t r) ≡ present c → (lookup b t ≡ present c) ⊎ (r ≡ put b c)
 unfolding made lookup
 made-from format t b c h = absurd (never c h)
 made-from (put a d) t b c h =
-    elim (ℕ-discrete b a) [
+    elim (ℕ_discrete b a) [
       | yes e ↦ inr (ap₂ put (sym e) (cc (lookup-store-same b d t, h, e)))
       | no n ↦ inl (sym (lookup-store-other b a d t n) ∙ h)
     ]
 made-from (delete a) t b c h =
-    elim (ℕ-discrete b a) [
+    elim (ℕ_discrete b a) [
       | yes e ↦ absurd (never c (sym (lookup-without-same b t) ∙ rw (← e) at h))
       | no n ↦ inl (sym (lookup-without-other b a t n) ∙ h)
     ]
@@ -70,7 +64,7 @@ unfolding next
 next-from C w t r b c h = go (eqb (plainCode C w t r) 0) refl h
   where
     go : (x : Bool) → eqb (plainCode C w t r) 0 ≡ x → lookup b (cond x (made t r) t) ≡ present c → (lookup b t ≡ present c) ⊎ ((r ≡ put b c) × (plainCode C w t r ≡ 0))
-    go true e k = ⊎-elim (λ old. inl old) (λ new. inr (new, eqb-true (plainCode C w t r) 0 e)) (made-from r t b c k)
+    go true e k = ⊎_elim (λ old. inl old) (λ new. inr (new, eqb-true (plainCode C w t r) 0 e)) (made-from r t b c k)
     go false e k = inl k
 
 held-shows : (x : Promise) (t : Table) (b : ℕ) (z : Found) → Holds x t → lookup b t ≡ z → Shows x b z
@@ -86,12 +80,12 @@ shows-held unknown t b z k h = absurd k
 -- in one event: they were shown before, or this event put them
 pub move-from : {C : Board} {w : Bool} {r : Request} {o : Seen} {x y : Promise} → Moves C w r o x y → (b : ℕ) (c : List ℕ) → Shows y b (present c) → Shows x b (present c) ⊎ Puts b c r o
 unfolding plain lookup
-move-from {C} {w} {r} (answers {t = t} k e) b c h = ⊎-elim (λ old. inl old) (λ new. inr (new .0, done-proper C w t r (new .1), inl (ap codeSeen e ∙ new .1))) (next-from C w t r b c h)
-move-from {C} {w} {r} (answers-again {t = t} k i e) b c h = ⊎-elim (λ old. inl old) (λ new. inr (new .0, done-proper C w t r (new .1), inl (ap codeSeen e ∙ new .1))) (next-from C w t r b c h)
+move-from {C} {w} {r} (answers {t = t} k e) b c h = ⊎_elim (λ old. inl old) (λ new. inr (new.0, done-proper C w t r new.1, inl (ap codeSeen e ∙ new.1))) (next-from C w t r b c h)
+move-from {C} {w} {r} (answers-again {t = t} k i e) b c h = ⊎_elim (λ old. inl old) (λ new. inr (new.0, done-proper C w t r new.1, inl (ap codeSeen e ∙ new.1))) (next-from C w t r b c h)
 move-from (asks-recovery k i e) b c h = inl h
 move-from (refuses-malformed n i e) b c h = inl h
 move-from {x = x} (not-begun t k i e) b c h = inl (held-shows x t b (present c) k h)
-move-from {C} {w} {r} {o} {x = x} (wholly-done t k i e) b c h = ⊎-elim (λ old. inl (held-shows x t b (present c) k old)) (λ new. inr (new .0, done-proper C w t r (new .1), inr (cut-code o e))) (next-from C w t r b c h)
+move-from {C} {w} {r} {o} {x = x} (wholly-done t k i e) b c h = ⊎_elim (λ old. inl (held-shows x t b (present c) k old)) (λ new. inr (new.0, done-proper C w t r new.1, inr (cut-code o e))) (next-from C w t r b c h)
 move-from (formats i e) b c h = absurd (never c h)
 move-from (format-cut i e) b c h = absurd h
 move-from (no-promise k) b c h = absurd h
@@ -100,19 +94,19 @@ move-from (no-promise k) b c h = absurd h
 pub runs-from : (C : Board) (es : List Event) (x y : Promise) → PlainRuns C x es y → (b : ℕ) (c : List ℕ) → Shows y b (present c) → Shows x b (present c) ⊎ PutAmong b c es
 runs-from C [] x y e b c h = inl (subst (λ (v : Promise). Shows v b (present c)) e h)
 runs-from C (e ∷ es) x y (z, m, rest) b c h =
-    ⊎-elim (λ k. ⊎-elim (λ old. inl old) (λ now. inr (inl now)) (move-from m b c k)) (λ later. inr (inr later)) (runs-from C es z y rest b c h)
+    ⊎_elim (λ k. ⊎_elim (λ old. inl old) (λ now. inr (inl now)) (move-from m b c k)) (λ later. inr (inr later)) (runs-from C es z y rest b c h)
 
 -- contents that were put have at least one byte
-pub put-some : (b : ℕ) (c : List ℕ) (es : List Event) → PutAmong b c es → 0 < length c
+pub put_some : (b : ℕ) (c : List ℕ) (es : List Event) → PutAmong b c es → 0 < length c
 unfolding malformed
-put-some b c [] h = absurd h
-put-some b c (e ∷ es) (inl now) = taken-some (length c) (taken (numberOk b) (lengthOk (length c)) (ap malformed (sym (now .0)) ∙ now .1))
+put_some b c [] h = absurd h
+put_some b c (e ∷ es) (inl now) = taken-some (length c) (taken (numberOk b) (lengthOk (length c)) (ap malformed (sym now.0) ∙ now.1))
   where
-    taken : (x y : Bool) → _≡_ {A = ℕ} (cond x (cond y 0 3) 2) 0 → y ≡ true
+    taken : (x y : Bool) → ◌≡◌ {A = ℕ} (cond x (cond y 0 3) 2) 0 → y ≡ true
     taken true true h = refl
     taken true false h = absurd (omega (arith, h))
     taken false y h = absurd (omega (arith, h))
-put-some b c (e ∷ es) (inr later) = put-some b c es later
+put_some b c (e ∷ es) (inr later) = put_some b c es later
 
 -- ---- a promise is known from a finished format on
 
@@ -122,8 +116,8 @@ Known (interrupted t) = Unit {0}
 Known unknown = ⊥
 
 pub record FinishedFormat (e : Event) : Type 0 where
-  pub request : e .request ≡ format
-  pub seen : e .seen ≡ refused 0
+  pub request : e.request ≡ format
+  pub seen : e.seen ≡ refused 0
 
 pub move-known : {C : Board} {w : Bool} {r : Request} {o : Seen} {x y : Promise} → Moves C w r o x y → OnTable r → Known x → Known y
 move-known (answers k e) f h = tt
@@ -138,11 +132,11 @@ move-known (no-promise k) f h = h
 
 pub runs-known : (C : Board) (es : List Event) (x y : Promise) → PlainRuns C x es y → NoFormat es → Known x → Known y
 runs-known C [] x y e f h = subst Known (sym e) h
-runs-known C (e ∷ es) x y (z, m, rest) f h = runs-known C es z y rest (f .1) (move-known m (f .0) h)
+runs-known C (e ∷ es) x y (z, m, rest) f h = runs-known C es z y rest f.1 (move-known m f.0 h)
 
-pub runs-append : (C : Board) (es ds : List Event) (x y : Promise) → PlainRuns C x (es ++ ds) y → (z : Promise) × PlainRuns C x es z × PlainRuns C z ds y
-runs-append C [] ds x y r = (x, refl, r)
-runs-append C (e ∷ es) ds x y (z, m, rest) = let a = runs-append C es ds z y rest in (a .0, (z, m, a .1), a .2)
+pub runs_append : (C : Board) (es ds : List Event) (x y : Promise) → PlainRuns C x (es ++ ds) y → (z : Promise) × PlainRuns C x es z × PlainRuns C z ds y
+runs_append C [] ds x y r = (x, refl, r)
+runs_append C (e ∷ es) ds x y (z, m, rest) = let a = runs_append C es ds z y rest in (a.0, (z, m, a.1), a.2)
 
 -- ---- reads
 
@@ -182,12 +176,12 @@ plain-gives C w t format b c q h = absurd q
 plain-gives C w t (put a d) b c q h = absurd q
 plain-gives C w t (delete a) b c q h = absurd q
 plain-gives C w t (read a) b c q h =
-    let code = ap (λ (v : Reply). v .code) h in
-    let bytes = ap (λ (v : Reply). v .bytes) h in
+    let code = ap (λ (v : Reply). v.code) h in
+    let bytes = ap (λ (v : Reply). v.bytes) h in
     rw (← q) (lookup-held a t (stored-if-done (cond (numberOk a) 0 2) (holds a t) code) ∙ ap present (rw code at bytes))
 plain-gives C w t (readOr a f) b c q h =
-    let code = ap (λ (v : Reply). v .code) h in
-    let bytes = ap (λ (v : Reply). v .bytes) h in
+    let code = ap (λ (v : Reply). v.code) h in
+    let bytes = ap (λ (v : Reply). v.bytes) h in
     rw (← q) (lookup-held a t (stored-if-done (cond (numberOk a) 0 2) (holds a t) code) ∙ ap present (rw code at bytes))
 plain-gives C w t recover b c q h = absurd q
 
@@ -205,14 +199,14 @@ read-shows (no-promise k) b c h q g = absurd h
 
 -- A block never shows contents that were not put under its number since the last format.
 pub shows-only-what-was-put : (C : Board) (x y : Promise) (past es : List Event) (f e : Event) (b : ℕ) (c : List ℕ) → PlainRuns C x (past ++ (f ∷ (es ++ (e ∷ [])))) y
-    → FinishedFormat f → NoFormat es → Reads b (e .request) → e .seen ≡ answered (gives c) → PutAmong b c es
+    → FinishedFormat f → NoFormat es → Reads b e.request → e.seen ≡ answered (gives c) → PutAmong b c es
 unfolding lookup
 shows-only-what-was-put C x y past es f e b c runs done none q g =
-    let (start, before, (fresh, formatting, rest)) = runs-append C past (f ∷ (es ++ (e ∷ []))) x y runs in
-    let (last, since, (end, reading, nothing)) = runs-append C es (e ∷ []) fresh y rest in
-    let empty : fresh ≡ settled [] = format-starts formatting (done .request) (done .seen) in
+    let (start, before, (fresh, formatting, rest)) = runs_append C past (f ∷ (es ++ (e ∷ []))) x y runs in
+    let (last, since, (end, reading, nothing)) = runs_append C es (e ∷ []) fresh y rest in
+    let empty : fresh ≡ settled [] = format-starts formatting done.request done.seen in
     let known : Known last = runs-known C es fresh last since none (subst Known (sym empty) tt) in
-    ⊎-elim (λ old. absurd (never c (subst (λ (v : Promise). Shows v b (present c)) empty old))) (λ new. new) (runs-from C es fresh last since b c (read-shows reading b c known q g))
+    ⊎_elim (λ old. absurd (never c (subst (λ (v : Promise). Shows v b (present c)) empty old))) (λ new. new) (runs-from C es fresh last since b c (read-shows reading b c known q g))
 
 -- ---- acknowledged contents stay
 
@@ -227,7 +221,7 @@ Spares b recover = Unit {0}
 
 abbrev pub AllSpare : ℕ → List Event → Type 0
 AllSpare b [] = Unit {0}
-AllSpare b (e ∷ es) = Spares b (e .request) × AllSpare b es
+AllSpare b (e ∷ es) = Spares b e.request × AllSpare b es
 
 next-keeps : (C : Board) (w : Bool) (t : Table) (r : Request) (b : ℕ) → Spares b r → lookup b (next C w t r) ≡ lookup b t
 unfolding next made
@@ -270,7 +264,7 @@ spares-on b recover q = tt
 pub runs-keep : (C : Board) (es : List Event) (x y : Promise) → PlainRuns C x es y → (b : ℕ) (z : Found) → AllSpare b es → Shows x b z → Shows y b z
 runs-keep C [] x y e b z q h = subst (λ (v : Promise). Shows v b z) (sym e) h
 runs-keep C (e ∷ es) x y (v, m, rest) b z q h =
-    runs-keep C es v y rest b z (q .1) (move-keeps m (spares-on b (e .request) (q .0)) b z (λ t. next-keeps C (e .worn) t (e .request) b (q .0)) h)
+    runs-keep C es v y rest b z q.1 (move-keeps m (spares-on b e.request q.0) b z (λ t. next-keeps C e.worn t e.request b q.0) h)
 
 -- on version 1 every put leaves the block alone too: only a delete of it does not, and no format may come
 abbrev pub Undeleted : ℕ → Request → Type 0
@@ -283,15 +277,15 @@ Undeleted b recover = Unit {0}
 
 abbrev pub AllUndeleted : ℕ → List Event → Type 0
 AllUndeleted b [] = Unit {0}
-AllUndeleted b (e ∷ es) = Undeleted b (e .request) × AllUndeleted b es
+AllUndeleted b (e ∷ es) = Undeleted b e.request × AllUndeleted b es
 
-former-keeps : (C : Board) (w : Bool) (t : Table) (r : Request) (b : ℕ) → C .former ≡ true → Undeleted b r → lookup b (next C w t r) ≡ lookup b t
+former-keeps : (C : Board) (w : Bool) (t : Table) (r : Request) (b : ℕ) → C.former ≡ true → Undeleted b r → lookup b (next C w t r) ≡ lookup b t
 former-keeps C w t format b f q = absurd q
 former-keeps C w t (put a c) b f q = ap (lookup b) refused-so
   where
     code : (m : ℕ) → eqb (cond (eqb m 0) 11 m) 0 ≡ false
     code zero = refl
-    code (suc m) = rw (ne-eqb (suc m) 0 (λ e. omega arith)) (ne-eqb (suc m) 0 (λ e. omega arith))
+    code (suc m) = rw (ne_eqb (suc m) 0 (λ e. omega arith)) (ne_eqb (suc m) 0 (λ e. omega arith))
 
     refused-so : next C w t (put a c) ≡ t
     refused-so = unfold next plainCode codeOnTable in (rw (f, code (malformed (put a c))))
@@ -310,31 +304,31 @@ undeleted-on b recover q = tt
 
 pub undeleted-none : (b : ℕ) (es : List Event) → AllUndeleted b es → NoFormat es
 undeleted-none b [] q = tt
-undeleted-none b (e ∷ es) q = (undeleted-on b (e .request) (q .0), undeleted-none b es (q .1))
+undeleted-none b (e ∷ es) q = (undeleted-on b e.request q.0, undeleted-none b es q.1)
 
 pub undeleted-front : (b : ℕ) (es ds : List Event) → AllUndeleted b (es ++ ds) → AllUndeleted b es
 undeleted-front b [] ds q = tt
-undeleted-front b (e ∷ es) ds q = (q .0, undeleted-front b es ds (q .1))
+undeleted-front b (e ∷ es) ds q = (q.0, undeleted-front b es ds q.1)
 
 pub none-front : (es ds : List Event) → NoFormat (es ++ ds) → NoFormat es
 none-front [] ds q = tt
-none-front (e ∷ es) ds q = (q .0, none-front es ds (q .1))
+none-front (e ∷ es) ds q = (q.0, none-front es ds q.1)
 
-pub former-runs-keep : (C : Board) (es : List Event) (x y : Promise) → C .former ≡ true → PlainRuns C x es y → (b : ℕ) (z : Found) → AllUndeleted b es → Shows x b z → Shows y b z
+pub former-runs-keep : (C : Board) (es : List Event) (x y : Promise) → C.former ≡ true → PlainRuns C x es y → (b : ℕ) (z : Found) → AllUndeleted b es → Shows x b z → Shows y b z
 former-runs-keep C [] x y f e b z q h = subst (λ (v : Promise). Shows v b z) (sym e) h
 former-runs-keep C (e ∷ es) x y f (v, m, rest) b z q h =
-    former-runs-keep C es v y f rest b z (q .1) (move-keeps m (undeleted-on b (e .request) (q .0)) b z (λ t. former-keeps C (e .worn) t (e .request) b f (q .0)) h)
+    former-runs-keep C es v y f rest b z q.1 (move-keeps m (undeleted-on b e.request q.0) b z (λ t. former-keeps C e.worn t e.request b f q.0) h)
 
-plain-done : (C : Board) (w : Bool) (t : Table) (r : Request) → plainCode C w t r ≡ 0 → next C w t r ≡ made t r
+plain_done : (C : Board) (w : Bool) (t : Table) (r : Request) → plainCode C w t r ≡ 0 → next C w t r ≡ made t r
 unfolding next
-plain-done C w t r e = rw e
+plain_done C w t r e = rw e
 
 -- an acknowledged request has made its table
 move-done : {C : Board} {w : Bool} {r : Request} {o : Seen} {x y : Promise} → Moves C w r o x y → (b : ℕ) (z : Found) → OnTable r → Known x → codeSeen o ≡ 0
     → ((t : Table) → lookup b (made t r) ≡ z) → Shows y b z
 unfolding plain
-move-done {C} {w} {r} (answers {t = t} k e) b z i h n makes = ap (λ (v : Table). lookup b v) (plain-done C w t r (sym (ap codeSeen e) ∙ n)) ∙ makes t
-move-done {C} {w} {r} (answers-again {t = t} k f e) b z i h n makes = ap (λ (v : Table). lookup b v) (plain-done C w t r (sym (ap codeSeen e) ∙ n)) ∙ makes t
+move-done {C} {w} {r} (answers {t = t} k e) b z i h n makes = ap (λ (v : Table). lookup b v) (plain_done C w t r (sym (ap codeSeen e) ∙ n)) ∙ makes t
+move-done {C} {w} {r} (answers-again {t = t} k f e) b z i h n makes = ap (λ (v : Table). lookup b v) (plain_done C w t r (sym (ap codeSeen e) ∙ n)) ∙ makes t
 move-done (asks-recovery k f e) b z i h n makes = absurd (let g : 5 ≡ 0 = sym (ap codeSeen e) ∙ n in omega arith)
 move-done (refuses-malformed m f e) b z i h n makes = absurd (let g : suc m ≡ 0 = sym (ap codeSeen e) ∙ n in omega arith)
 move-done {o = o} (not-begun t k f e) b z i h n makes = absurd (let g : 9 ≡ 0 = sym (cut-code o e) ∙ n in omega arith)
@@ -371,17 +365,17 @@ reads-proper (readOr a f) b q n = rw (q, n)
 reads-proper recover b q n = absurd q
 
 -- a read that is neither cut nor asks for a recovery gives what the promise shows
-pub read-back : {C : Board} {w : Bool} {r : Request} {o : Seen} {x y : Promise} → Moves C w r o x y → (b : ℕ) (z : Found) → Shows x b z → Reads b r → numberOk b ≡ true
+pub read_back : {C : Board} {w : Bool} {r : Request} {o : Seen} {x y : Promise} → Moves C w r o x y → (b : ℕ) (z : Found) → Shows x b z → Reads b r → numberOk b ≡ true
     → codeSeen o ≢ 9 → codeSeen o ≢ 5 → o ≡ answered (replied (factoryOf r) z)
-read-back {C} {w} {r} (answers {t = t} k e) b z h q n cut asks = e ∙ ap answered (plain-read C w t r b z q n h)
-read-back {C} {w} {r} (answers-again {t = t} k i e) b z h q n cut asks = e ∙ ap answered (plain-read C w t r b z q n h)
-read-back (asks-recovery k i e) b z h q n cut asks = absurd (asks (ap codeSeen e))
-read-back {r = r} (refuses-malformed m i e) b z h q n cut asks = absurd (let g : suc m ≡ 0 = sym i ∙ reads-proper r b q n in omega arith)
-read-back {o = o} (not-begun t k i e) b z h q n cut asks = absurd (cut (cut-code o e))
-read-back {o = o} (wholly-done t k i e) b z h q n cut asks = absurd (cut (cut-code o e))
-read-back (formats i e) b z h q n cut asks = absurd (subst (λ (v : Request). Reads b v) i q)
-read-back (format-cut i e) b z h q n cut asks = absurd (subst (λ (v : Request). Reads b v) i q)
-read-back (no-promise k) b z h q n cut asks = absurd h
+read_back {C} {w} {r} (answers {t = t} k e) b z h q n cut asks = e ∙ ap answered (plain-read C w t r b z q n h)
+read_back {C} {w} {r} (answers-again {t = t} k i e) b z h q n cut asks = e ∙ ap answered (plain-read C w t r b z q n h)
+read_back (asks-recovery k i e) b z h q n cut asks = absurd (asks (ap codeSeen e))
+read_back {r = r} (refuses-malformed m i e) b z h q n cut asks = absurd (let g : suc m ≡ 0 = sym i ∙ reads-proper r b q n in omega arith)
+read_back {o = o} (not-begun t k i e) b z h q n cut asks = absurd (cut (cut-code o e))
+read_back {o = o} (wholly-done t k i e) b z h q n cut asks = absurd (cut (cut-code o e))
+read_back (formats i e) b z h q n cut asks = absurd (subst (λ (v : Request). Reads b v) i q)
+read_back (format-cut i e) b z h q n cut asks = absurd (subst (λ (v : Request). Reads b v) i q)
+read_back (no-promise k) b z h q n cut asks = absurd h
 
 -- what an acknowledged put or delete leaves to be lookup-held
 abbrev pub Leaves : ℕ → Found → Request → Type 0
@@ -395,9 +389,9 @@ leaves-made b (present c) r e = rw e (tt, λ t. lookup-store-same b c t)
 
 -- Once acknowledged, a put or a delete is what every read of that block shows until the block is put or deleted again, through every power cut and recovery.
 pub acknowledged-stays : (C : Board) (x y : Promise) (es : List Event) (d e : Event) (b : ℕ) (z : Found) → PlainRuns C x (d ∷ (es ++ (e ∷ []))) y → Known x
-    → Leaves b z (d .request) → codeSeen (d .seen) ≡ 0 → AllSpare b es → Reads b (e .request) → numberOk b ≡ true
-    → codeSeen (e .seen) ≢ 9 → codeSeen (e .seen) ≢ 5 → e .seen ≡ answered (replied (factoryOf (e .request)) z)
+    → Leaves b z d.request → codeSeen d.seen ≡ 0 → AllSpare b es → Reads b e.request → numberOk b ≡ true
+    → codeSeen e.seen ≢ 9 → codeSeen e.seen ≢ 5 → e.seen ≡ answered (replied (factoryOf e.request) z)
 acknowledged-stays C x y es d e b z (v, doing, rest) known leaves done spare q n cut asks =
-    let (made-by, makes) = leaves-made b z (d .request) leaves in
-    let (last, since, (end, reading, nothing)) = runs-append C es (e ∷ []) v y rest in
-    read-back reading b z (runs-keep C es v last since b z spare (move-done doing b z made-by known done makes)) q n cut asks
+    let (made_by, makes) = leaves-made b z d.request leaves in
+    let (last, since, (end, reading, nothing)) = runs_append C es (e ∷ []) v y rest in
+    read_back reading b z (runs-keep C es v last since b z spare (move-done doing b z made_by known done makes)) q n cut asks

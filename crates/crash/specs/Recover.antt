@@ -1,24 +1,24 @@
 -- A finished recovery leaves a clean image. A cut one leaves an image that a recovery can be run on again, and that shows the same table.
-use Prim.Native.Nat.{ℕ}
-use mathlib.Core.Path.{_≡_, refl, sym, ap, _∙_, subst}
-use mathlib.Core.Bool.{true}
+use Rattle.std.specs.Prelude.{ℕ, ◌≡◌, refl, true}
+use Rattle.std.proofs.Common.{sym, ap, ◌∙◌}
+use Rattle.std.proofs.Math.Path.{subst}
 use mathlib.Core.List.{List}
-use Rattle·model.specs.Chip.{Image, rightSize}
-use Rattle·model.specs.Header.{isFormer}
-use Rattle·model.specs.State.{Segment, segmentsOf, topVersion, viewOf, Exception, caseA, caseB, caseC, caseD, State, clean, unfinished, damaged, state}
-use Rattle·model.specs.Steps.{mendSteps}
-use Rattle·model.specs.Answers.{recover, workOf}
-use Rattle·model.specs.Histories.{recovered}
-use Rattle·model.specs.Laws.Segments.{segments-length}
-use Rattle·model.specs.Laws.Counted.{SameRows}
-use Rattle·bridge.specs.Accepted.{recover-none}
-use Rattle·crash·specs.specs.Sound.{SoundAs, Sound, Clean, CutOf}
-use Rattle·crash·specs.specs.Requests.{recovered-clean, idle-cut}
-use Rattle·crash·specs.specs.States.{isCase, mended, state-case, recover-steps, recoveredView, SoundWith, Kept, kept-same, Mended, mended-rows, mended-former, done}
-use Rattle·crash·specs.specs.RecoverMarks.{mended-c, mended-d, cut-c, cut-d}
-use Rattle·crash·specs.specs.RecoverErase.{mended-a, cut-a}
-use Rattle·crash·specs.specs.RecoverOwing.{mended-b}
-use Rattle·crash·specs.specs.OwingCuts.{cut-b}
+use Rattle.model.specs.Chip.{Image, rightSize}
+use Rattle.model.specs.Header.{isFormer}
+use Rattle.model.specs.State.{Segment, segmentsOf, topVersion, view_of, Exception, caseA, caseB, caseC, caseD, State, clean, unfinished, damaged, state}
+use Rattle.model.specs.Steps.{mendSteps}
+use Rattle.model.specs.Answers.{recover, workOf}
+use Rattle.model.specs.Histories.{recovered}
+use Rattle.model.specs.Laws.Segments.{segments-length}
+use Rattle.model.specs.Laws.Counted.{SameRows}
+use Rattle.bridge.specs.Accepted.{recover-none}
+use Rattle.crash.specs.Sound.{SoundAs, Sound, Clean, CutOf}
+use Rattle.crash.specs.Requests.{recovered-clean, idle-cut}
+use Rattle.crash.specs.States.{isCase, mended, state-case, recover-steps, recoveredView, SoundWith, Kept, kept_same, Mended, mended-rows, mended-former, done}
+use Rattle.crash.specs.RecoverMarks.{mended-c, mended-d, cut-c, cut-d}
+use Rattle.crash.specs.RecoverErase.{mended-a, cut-a}
+use Rattle.crash.specs.RecoverOwing.{mended-b}
+use Rattle.crash.specs.OwingCuts.{cut-b}
 
 -- the steps of a recovery mend the segments
 pub recovery-mends : (N B : ℕ) (s : Image) → rightSize N B s ≡ true → (x : Exception) → state N B s ≡ unfinished x → Mended N B s x
@@ -33,15 +33,15 @@ module _ (N B : ℕ) (u : Image) (x : Exception) (z : rightSize N B u ≡ true) 
   unfolding state
   case-state = state-case N B (segmentsOf N B u) x (segments-length N B u) h
 
-  pub case-steps : workOf N B u recover .steps ≡ mendSteps N B (segmentsOf N B u) x
+  pub case-steps : (workOf N B u recover).steps ≡ mendSteps N B (segmentsOf N B u) x
   case-steps = recover-steps N B u x z case-state
 
-  pub case-shows : (m : List Segment) → mended N (segmentsOf N B u) x ≡ m → SoundAs N B u (segmentsOf N B u) (unfinished x) → SoundWith N B u (viewOf N m)
+  pub case-shows : (m : List Segment) → mended N (segmentsOf N B u) x ≡ m → SoundAs N B u (segmentsOf N B u) (unfinished x) → SoundWith N B u (view_of N m)
   case-shows m e k =
       let r = recovery-mends N B u z x case-state in
-      let version : isFormer (topVersion N m) ≡ isFormer (viewOf N m .version) = (unfold viewOf in refl) in (
+      let version : isFormer (topVersion N m) ≡ isFormer (view_of N m).version = (unfold view_of in refl) in (
         subst (λ y. SoundAs N B u (segmentsOf N B u) y) (sym case-state) k,
-        subst (λ (y : List Segment). SameRows (recoveredView N B u) (viewOf N y)) e (mended-rows N B u x z case-state r),
+        subst (λ (y : List Segment). SameRows (recoveredView N B u) (view_of N y)) e (mended-rows N B u x z case-state r),
         mended-former N B u x z case-state r ∙ (ap (λ y. isFormer (topVersion N y)) e ∙ version),
       )
 
@@ -63,6 +63,6 @@ recover-cut N B s u z h c = go (state N B s) refl h
     case caseD e = cut-d N B s z u e h c
 
     go : (x : State) → state N B s ≡ x → SoundAs N B s (segmentsOf N B s) x → Kept N B s u
-    go clean e k = kept-same N B s u h (idle-cut N B s u recover (recover-none N B s e) c)
+    go clean e k = kept_same N B s u h (idle-cut N B s u recover (recover-none N B s e) c)
     go (unfinished x) e k = case x e
     go damaged e k = absurd k

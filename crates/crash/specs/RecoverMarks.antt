@@ -1,36 +1,34 @@
 -- One slot marked: the recovery of (c) and of (d), and a delete. It is one step with no inside, so that a cut does it or not.
-use Prim.Native.Nat.{ℕ, suc, _+_, _-_, _*_, _%_, _<_}
-use mathlib.Core.Path.{_≡_, refl, sym, ap, _∙_, subst}
-use mathlib.Core.Logic.{_⊎_, ⊎-elim}
-use mathlib.Core.Bool.{true, _&&_, false≢true}
-use mathlib.Core.List.{List, [], _++_, flatten}
-use native.Mathlib.Omega.{arith}
-use native.Mathlib.Decide.{decLt}
-use lib.ListN.{length, getD, set, List·getD-eq-default}
-use lib.Dec.{ltb, eqb}
-use borrow.Author.Tests.{eqb-true, eq-eqb, lt-ltb}
-use Rattle·model.specs.Chip.{Image, Page, clear, run, rightSize, Cut}
-use Rattle·model.specs.Header.{Version}
-use Rattle·model.specs.Slot.{Slot, empty, torn, dead, cut, wrong, live, slotOf, isTorn, entryOf}
-use Rattle·model.specs.State.{Segment, blank, invalid, inUse, segmentsOf, slotsIn, nextNumber, topIndex, topSlots, usedCount, firstNumber, slotsFrom, viewOf, entries, entriesIn, holds, isClean, withSlot, lastSlot, lastKind, tornMarked, isC, Place, placeOf, lastBlock, copies, older, olderMarked, isD, Exception, caseC, caseD, unfinished, state}
-use Rattle·model.specs.Steps.{onPage, slotAt, markDead, markPlace, mendSteps}
-use Rattle·model.specs.Table.{present, lookup}
-use Rattle·model.specs.Answers.{recover}
-use Rattle·model.specs.Histories.{recovered}
-use Rattle·model.specs.Laws.Lists.{and-left, and-right}
-use Rattle·model.specs.Laws.Chip.{SizeFacts, size-facts}
-use Rattle·model.specs.Laws.Bytes.{OneBit}
-use Rattle·model.specs.Laws.SlotPage.{Markable, live-markable, torn-markable}
-use Rattle·model.specs.Laws.PageCuts.{one-bit-cut, mark-bit}
-use Rattle·model.specs.Laws.Tables.{holds-copies, lookup-append}
-use Rattle·model.specs.Laws.Segments.{partOf, page-byte}
-use Rattle·model.specs.Laws.Effects.{index, slot-kind, slot-count, mark-effect}
-use Rattle·model.specs.Laws.Ring.{slots-get, slots-length}
-use Rattle·bridge.specs.Views.Places.{Gap, earlier, later, fill-entries, fill-length, FirstLive, first-live, gap-slot}
-use Rattle·crash·specs.specs.Sound.{Sound, CutOf}
-use Rattle·crash·specs.specs.Alike.{Like, like-of}
-use Rattle·crash·specs.specs.Tops.{SameTop, same-image, same-slot}
-use Rattle·crash·specs.specs.States.{isCase, mended, case-of, recover-steps, recovered-run, Kept, kept-same, Mended, kept-clean}
+use Prim.Native.Nat.{ℕ, suc, ◌+◌, ◌-◌, ◌*◌, ◌%◌, ◌<◌}
+use Rattle.std.specs.Prelude.{◌≡◌, ◌⊎◌, true, ◌&&◌, length, set, ltb, eqb}
+use Rattle.std.proofs.Math.Path.{refl}
+use Rattle.std.proofs.Common.{sym, ap, ◌∙◌, subst, ⊎_elim, arith, eqb-true, eq-eqb, lt-ltb}
+use Rattle.std.proofs.lemmas.Bool.{false≢true}
+use mathlib.Core.List.{List, [], ◌++◌, flatten}
+use Rattle.std.proofs.Math.Decide.{dec_lt}
+use Rattle.std.proofs.Math.ListN.{get_or, get_or-eq_default}
+use Rattle.model.specs.Chip.{Image, Page, clear, run, rightSize, Cut}
+use Rattle.model.specs.Header.{Version}
+use Rattle.model.specs.Slot.{Slot, empty, torn, dead, cut, wrong, live, slot_of, isTorn, entry_of}
+use Rattle.model.specs.State.{Segment, blank, invalid, inUse, segmentsOf, slotsIn, nextNumber, topIndex, topSlots, usedCount, firstNumber, slotsFrom, view_of, entries, entriesIn, holds, isClean, withSlot, lastSlot, lastKind, tornMarked, isC, Place, place_of, lastBlock, copies, older, olderMarked, isD, Exception, caseC, caseD, unfinished, state}
+use Rattle.model.specs.Steps.{onPage, slot_at, markDead, markPlace, mendSteps}
+use Rattle.model.specs.Table.{present, lookup}
+use Rattle.model.specs.Answers.{recover}
+use Rattle.model.specs.Histories.{recovered}
+use Rattle.model.specs.Laws.Lists.{and_left, and_right}
+use Rattle.model.specs.Laws.Chip.{SizeFacts, size-facts}
+use Rattle.model.specs.Laws.Bytes.{OneBit}
+use Rattle.model.specs.Laws.SlotPage.{Markable, live-markable, torn-markable}
+use Rattle.model.specs.Laws.PageCuts.{one-bit-cut, mark-bit}
+use Rattle.model.specs.Laws.Tables.{holds-copies, lookup-append}
+use Rattle.model.specs.Laws.Segments.{part_of, page-byte}
+use Rattle.model.specs.Laws.Effects.{index, slot-kind, slot-count, mark-effect}
+use Rattle.model.specs.Laws.Ring.{slots_get, slots_length}
+use Rattle.bridge.specs.Views.Places.{Gap, earlier, later, fill-entries, fill-length, FirstLive, first_live, gap-slot}
+use Rattle.crash.specs.Sound.{Sound, CutOf}
+use Rattle.crash.specs.Alike.{Like, like-of}
+use Rattle.crash.specs.Tops.{SameTop, same-image, same-slot}
+use Rattle.crash.specs.States.{isCase, mended, case-of, recover-steps, recovered-run, Kept, kept_same, Mended, kept-clean}
 
 -- ---- slots that can be marked, and what they become
 
@@ -42,10 +40,10 @@ Marks cut x = ⊥
 Marks wrong x = ⊥
 Marks (live b c) x = x ≡ dead
 
-marks-page : (p : Page) (x : Slot) → Marks (slotOf p) x → Markable (getD p 0 0) x
-marks-page p x m = go (slotOf p) refl m
+marks-page : (p : Page) (x : Slot) → Marks (slot_of p) x → Markable (get_or p 0 0) x
+marks-page p x m = go (slot_of p) refl m
   where
-    go : (k : Slot) → slotOf p ≡ k → Marks k x → Markable (getD p 0 0) x
+    go : (k : Slot) → slot_of p ≡ k → Marks k x → Markable (get_or p 0 0) x
     go empty e h = absurd h
     go torn e h = rw h (torn-markable p e)
     go dead e h = absurd h
@@ -54,96 +52,96 @@ marks-page p x m = go (slotOf p) refl m
     go (live b c) e h = rw h (live-markable p b c e)
 
 -- a slot that can be marked is one of a segment in use
-marks-in-use : (x : Segment) (j : ℕ) (y : Slot) → Marks (getD (slotsIn x) j empty) y → (ver : Version) × (st : ℕ) × (n : ℕ) × (x ≡ inUse ver st n (slotsIn x))
+marks-in-use : (x : Segment) (j : ℕ) (y : Slot) → Marks (get_or (slotsIn x) j empty) y → (ver : Version) × (st : ℕ) × (n : ℕ) × (x ≡ inUse ver st n (slotsIn x))
 unfolding slotsIn
 marks-in-use blank j y m = absurd m
 marks-in-use invalid j y m = absurd m
 marks-in-use (inUse ver st n ks) j y m = (ver, st, n, refl)
 
-marks-inside : (ks : List Slot) (j : ℕ) (x : Slot) → Marks (getD ks j empty) x → j < length ks
-marks-inside ks j x m = elim (decLt j (length ks)) [ yes p ↦ p | no p ↦ absurd (subst (λ k. Marks k x) (List·getD-eq-default ks empty (omega arith)) m) ]
+marks-inside : (ks : List Slot) (j : ℕ) (x : Slot) → Marks (get_or ks j empty) x → j < length ks
+marks-inside ks j x m = elim (dec_lt j (length ks)) [ yes p ↦ p | no p ↦ absurd (subst (λ k. Marks k x) (get_or-eq_default ks empty (omega arith)) m) ]
 
-module _ (N B : ℕ) (s : Image) (z : rightSize N B s ≡ true) (k j : ℕ) (x : Slot) (m : Marks (getD (slotsIn (getD (segmentsOf N B s) (k % N) blank)) j empty) x) where
+module _ (N B : ℕ) (s : Image) (z : rightSize N B s ≡ true) (k j : ℕ) (x : Slot) (m : Marks (get_or (slotsIn (get_or (segmentsOf N B s) (k % N) blank)) j empty) x) where
   size : SizeFacts N B s
   size = size-facts N B s z
 
   abbrev row : List Slot
-  row = slotsIn (getD (segmentsOf N B s) (k % N) blank)
+  row = slotsIn (get_or (segmentsOf N B s) (k % N) blank)
 
-  used : (ver : Version) × (st : ℕ) × (n : ℕ) × (getD (segmentsOf N B s) (k % N) blank ≡ inUse ver st n row)
-  used = marks-in-use (getD (segmentsOf N B s) (k % N) blank) j x m
+  used : (ver : Version) × (st : ℕ) × (n : ℕ) × (get_or (segmentsOf N B s) (k % N) blank ≡ inUse ver st n row)
+  used = marks-in-use (get_or (segmentsOf N B s) (k % N) blank) j x m
 
   -- a segment in use has B slots, and this is one of them
   pub slot-inside : j < B
-  slot-inside = omega (arith, marks-inside row j x m, slot-count N B (size .two) s (size .whole) k 0 (used .0) (used .1) (used .2) row (omega (arith, size .slots)) (used .3))
+  slot-inside = omega (arith, marks-inside row j x m, slot-count N B size.two s size.whole k 0 used.0 used.1 used.2 row (omega (arith, size.slots)) used.3)
 
   -- its page has that kind
-  pub page-kind : slotOf (getD (partOf N B (k % N) s) (suc j) []) ≡ getD (slotsIn (getD (segmentsOf N B s) (k % N) blank)) j empty
-  page-kind = slot-kind N B (size .two) s (size .whole) k j (used .0) (used .1) (used .2) row slot-inside (used .3)
+  pub page-kind : slot_of (get_or (part_of N B (k % N) s) (suc j) []) ≡ get_or (slotsIn (get_or (segmentsOf N B s) (k % N) blank)) j empty
+  page-kind = slot-kind N B size.two s size.whole k j used.0 used.1 used.2 row slot-inside used.3
 
-  markable : Markable (getD (getD (partOf N B (k % N) s) (suc j) []) 0 0) x
-  markable = marks-page (getD (partOf N B (k % N) s) (suc j) []) x (subst (λ y. Marks y x) (sym page-kind) m)
+  markable : Markable (get_or (get_or (part_of N B (k % N) s) (suc j) []) 0 0) x
+  markable = marks-page (get_or (part_of N B (k % N) s) (suc j) []) x (subst (λ y. Marks y x) (sym page-kind) m)
 
-  pub mark-segments : segmentsOf N B (run B (markPlace N B (record { number = k; slot = j })) s) ≡ set (segmentsOf N B s) (k % N) (withSlot j x (getD (segmentsOf N B s) (k % N) blank))
+  pub mark-segments : segmentsOf N B (run B (markPlace N B (record { number = k; slot = j })) s) ≡ set (segmentsOf N B s) (k % N) (withSlot j x (get_or (segmentsOf N B s) (k % N) blank))
   unfolding markPlace
-  mark-segments = mark-effect N B (size .two) s (size .whole) k j (used .0) (used .1) (used .2) row slot-inside (used .3) x markable
+  mark-segments = mark-effect N B size.two s size.whole k j used.0 used.1 used.2 row slot-inside used.3 x markable
 
   pub mark-whole : (u : Image) → Cut B (markPlace N B (record { number = k; slot = j })) s u → (u ≡ s) ⊎ (u ≡ run B (markPlace N B (record { number = k; slot = j })) s)
-  unfolding markPlace onPage markDead slotAt
-  mark-whole u c = one-bit-cut B ((k % N * (B + 1) + suc j) * 256 + 0) 0xDF s u one-bit c
+  unfolding markPlace onPage markDead slot_at
+  mark-whole u c = one-bit-cut B ((k % N * (B + 1) + suc j) * 256 + 0) 0xDF s u one_bit c
     where
-      byte : getD (getD (partOf N B (k % N) s) (suc j) []) 0 0 ≡ getD s ((k % N * (B + 1) + suc j) * 256 + 0) 0
-      byte = page-byte N B (k % N) (suc j) 0 s (index N B (size .two) s (size .whole) k) (omega (arith, slot-inside)) (omega arith)
+      byte : get_or (get_or (part_of N B (k % N) s) (suc j) []) 0 0 ≡ get_or s ((k % N * (B + 1) + suc j) * 256 + 0) 0
+      byte = page-byte N B (k % N) (suc j) 0 s (index N B size.two s size.whole k) (omega (arith, slot-inside)) (omega arith)
 
-      one-bit : OneBit (clear (getD s ((k % N * (B + 1) + suc j) * 256 + 0) 0) 0xDF) (getD s ((k % N * (B + 1) + suc j) * 256 + 0) 0)
-      one-bit = mark-bit (getD s ((k % N * (B + 1) + suc j) * 256 + 0) 0) x (subst (λ y. Markable y x) byte markable)
+      one_bit : OneBit (clear (get_or s ((k % N * (B + 1) + suc j) * 256 + 0) 0) 0xDF) (get_or s ((k % N * (B + 1) + suc j) * 256 + 0) 0)
+      one_bit = mark-bit (get_or s ((k % N * (B + 1) + suc j) * 256 + 0) 0) x (subst (λ y. Markable y x) byte markable)
 
 -- ---- the first live slot of a block
 
 -- what stands at its place, and that this is what the table has
 pub record LivePlace (N : ℕ) (l : List Segment) (b : ℕ) : Type 0 where
   pub contents : List ℕ
-  pub slot : getD (slotsIn (getD l (placeOf b (viewOf N l) .number % N) blank)) (placeOf b (viewOf N l) .slot) empty ≡ live b contents
-  pub found : lookup b (entriesIn (viewOf N l)) ≡ present contents
+  pub slot : get_or (slotsIn (get_or l ((place_of b (view_of N l)).number % N) blank)) (place_of b (view_of N l)).slot empty ≡ live b contents
+  pub found : lookup b (entriesIn (view_of N l)) ≡ present contents
 
-pub live-place : (N : ℕ) (l : List Segment) (b : ℕ) → holds b (entriesIn (viewOf N l)) ≡ true → LivePlace N l b
-unfolding entriesIn placeOf viewOf
-live-place N l b h = record { contents = f .contents; slot = at; found = looked }
+pub live-place : (N : ℕ) (l : List Segment) (b : ℕ) → holds b (entriesIn (view_of N l)) ≡ true → LivePlace N l b
+unfolding entriesIn place_of view_of
+live-place N l b h = record { contents = f.contents; slot = at; found = looked }
   where
     rows : List (List Slot)
     rows = slotsFrom N l (usedCount l) (firstNumber l)
 
     f : FirstLive b (firstNumber l) rows
-    f = first-live b (firstNumber l) rows h
+    f = first_live b (firstNumber l) rows h
 
     g : Gap
-    g = f .gap
+    g = f.gap
 
-    row : getD rows (length (g .rowsBefore)) [] ≡ slotsIn (getD l ((firstNumber l + length (g .rowsBefore)) % N) blank)
+    row : get_or rows (length g.rowsBefore) [] ≡ slotsIn (get_or l ((firstNumber l + length g.rowsBefore) % N) blank)
     row =
-        let e : length rows ≡ length (g .rowsBefore) + suc (length (g .rowsAfter)) = ap length (f .split) ∙ fill-length g (live b (f .contents)) in
-        slots-get N l (usedCount l) (firstNumber l) (length (g .rowsBefore)) (omega (arith, e, slots-length N l (usedCount l) (firstNumber l)))
+        let e : length rows ≡ length g.rowsBefore + suc (length g.rowsAfter) = ap length f.split ∙ fill-length g (live b f.contents) in
+        slots_get N l (usedCount l) (firstNumber l) (length g.rowsBefore) (omega (arith, e, slots_length N l (usedCount l) (firstNumber l)))
 
-    at : getD (slotsIn (getD l (placeOf b (viewOf N l) .number % N) blank)) (placeOf b (viewOf N l) .slot) empty ≡ live b (f .contents)
-    at = ap (λ (p : Place). getD (slotsIn (getD l (p .number % N) blank)) (p .slot) empty) (f .place)
-        ∙ (ap (λ (y : List Slot). getD y (length (g .before)) empty) (sym row)
-        ∙ (ap (λ (y : List (List Slot)). getD (getD y (length (g .rowsBefore)) []) (length (g .before)) empty) (f .split) ∙ gap-slot g (live b (f .contents))))
+    at : get_or (slotsIn (get_or l ((place_of b (view_of N l)).number % N) blank)) (place_of b (view_of N l)).slot empty ≡ live b f.contents
+    at = ap (λ (p : Place). get_or (slotsIn (get_or l (p.number % N) blank)) p.slot empty) f.place
+        ∙ (ap (λ (y : List Slot). get_or y (length g.before) empty) (sym row)
+        ∙ (ap (λ (y : List (List Slot)). get_or (get_or y (length g.rowsBefore) []) (length g.before) empty) f.split ∙ gap-slot g (live b f.contents)))
 
-    looked : lookup b (entries (flatten rows)) ≡ present (f .contents)
-    looked = ap (λ (y : List (List Slot)). lookup b (entries (flatten y))) (f .split)
-        ∙ (ap (λ y. lookup b y) (fill-entries g (live b (f .contents)))
-        ∙ (lookup-append b (entries (earlier g)) (entryOf (live b (f .contents)) ++ entries (later g))
-        ∙ rw (f .first) (unfold lookup entryOf in (rw (eq-eqb b b refl)))))
+    looked : lookup b (entries (flatten rows)) ≡ present f.contents
+    looked = ap (λ (y : List (List Slot)). lookup b (entries (flatten y))) f.split
+        ∙ (ap (λ y. lookup b y) (fill-entries g (live b f.contents))
+        ∙ (lookup-append b (entries (earlier g)) (entry_of (live b f.contents) ++ entries (later g))
+        ∙ rw f.first (unfold lookup entry_of in (rw (eq-eqb b b refl)))))
 
-pub live-marks : {N : ℕ} {l : List Segment} {b : ℕ} (p : LivePlace N l b) → Marks (getD (slotsIn (getD l (placeOf b (viewOf N l) .number % N) blank)) (placeOf b (viewOf N l) .slot) empty) dead
-live-marks p = subst (λ k. Marks k dead) (sym (p .slot)) refl
+pub live-marks : {N : ℕ} {l : List Segment} {b : ℕ} (p : LivePlace N l b) → Marks (get_or (slotsIn (get_or l ((place_of b (view_of N l)).number % N) blank)) (place_of b (view_of N l)).slot empty) dead
+live-marks p = subst (λ k. Marks k dead) (sym p.slot) refl
 
 -- ---- (c) and (d)
 
 -- the slot that is marked is torn in (c), and live in (d)
-pub last-marks : (N B : ℕ) (l : List Segment) → isCase N B l caseC ≡ true → Marks (getD (slotsIn (getD l ((nextNumber l - 1) % N) blank)) (lastSlot N l) empty) cut
+pub last-marks : (N B : ℕ) (l : List Segment) → isCase N B l caseC ≡ true → Marks (get_or (slotsIn (get_or l ((nextNumber l - 1) % N) blank)) (lastSlot N l) empty) cut
 unfolding isCase isC lastKind topSlots topIndex
-last-marks N B l h = torn-marks (lastKind N l) (and-left (isTorn (lastKind N l)) (isClean N B (tornMarked N l)) h)
+last-marks N B l h = torn-marks (lastKind N l) (and_left (isTorn (lastKind N l)) (isClean N B (tornMarked N l)) h)
   where
     torn-marks : (k : Slot) → isTorn k ≡ true → Marks k cut
     torn-marks empty e = absurd (false≢true (unfold isTorn in e))
@@ -153,21 +151,21 @@ last-marks N B l h = torn-marks (lastKind N l) (and-left (isTorn (lastKind N l))
     torn-marks wrong e = absurd (false≢true (unfold isTorn in e))
     torn-marks (live b c) e = absurd (false≢true (unfold isTorn in e))
 
-pub older-marks : (N B : ℕ) (l : List Segment) → isCase N B l caseD ≡ true → Marks (getD (slotsIn (getD l (older N l .number % N) blank)) (older N l .slot) empty) dead
+pub older-marks : (N B : ℕ) (l : List Segment) → isCase N B l caseD ≡ true → Marks (get_or (slotsIn (get_or l ((older N l).number % N) blank)) (older N l).slot empty) dead
 unfolding isCase isD older
 older-marks N B l h =
     let b = lastBlock N l in
-    let q = and-right (ltb 0 b) (eqb (copies b (entriesIn (viewOf N l))) 2 && isClean N B (olderMarked N l)) h in
-    let c : copies b (entriesIn (viewOf N l)) ≡ 2 = eqb-true (copies b (entriesIn (viewOf N l))) 2 (and-left (eqb (copies b (entriesIn (viewOf N l))) 2) (isClean N B (olderMarked N l)) q) in
-    live-marks (live-place N l b (holds-copies b (entriesIn (viewOf N l)) ∙ lt-ltb 0 (copies b (entriesIn (viewOf N l))) (omega arith)))
+    let q = and_right (ltb 0 b) (eqb (copies b (entriesIn (view_of N l))) 2 && isClean N B (olderMarked N l)) h in
+    let c : copies b (entriesIn (view_of N l)) ≡ 2 = eqb-true (copies b (entriesIn (view_of N l))) 2 (and_left (eqb (copies b (entriesIn (view_of N l))) 2) (isClean N B (olderMarked N l)) q) in
+    live-marks (live-place N l b (holds-copies b (entriesIn (view_of N l)) ∙ lt-ltb 0 (copies b (entriesIn (view_of N l))) (omega arith)))
 
 -- the place that a recovery marks, and what the slot there becomes
 record OneMark (N B : ℕ) (l : List Segment) (x : Exception) : Type 0 where
   place : Place
   kind : Slot
-  marks : Marks (getD (slotsIn (getD l (place .number % N) blank)) (place .slot) empty) kind
+  marks : Marks (get_or (slotsIn (get_or l (place.number % N) blank)) place.slot empty) kind
   steps : mendSteps N B l x ≡ markPlace N B place
-  same : mended N l x ≡ set l (place .number % N) (withSlot (place .slot) kind (getD l (place .number % N) blank))
+  same : mended N l x ≡ set l (place.number % N) (withSlot place.slot kind (get_or l (place.number % N) blank))
 
 mark-c : (N B : ℕ) (l : List Segment) → isCase N B l caseC ≡ true → OneMark N B l caseC
 unfolding topIndex mended tornMarked mendSteps
@@ -178,21 +176,21 @@ unfolding olderMarked mended mendSteps
 mark-d N B l h = record { place = older N l; kind = dead; marks = older-marks N B l h; steps = refl; same = refl }
 
 module _ (N B : ℕ) (s : Image) (z : rightSize N B s ≡ true) (x : Exception) (e : state N B s ≡ unfinished x) (o : OneMark N B (segmentsOf N B s) x) where
-  one-recovered : recovered N B s ≡ run B (markPlace N B (o .place)) s
-  one-recovered = recovered-run N B s x z e ∙ ap (λ y. run B y s) (o .steps)
+  one-recovered : recovered N B s ≡ run B (markPlace N B o.place) s
+  one-recovered = recovered-run N B s x z e ∙ ap (λ y. run B y s) o.steps
 
   one-mended : Mended N B s x
   one-mended = like-of N (mended N (segmentsOf N B s) x) (segmentsOf N B (recovered N B s))
-      (ap (λ y. segmentsOf N B y) one-recovered ∙ (mark-segments N B s z (o .place .number) (o .place .slot) (o .kind) (o .marks) ∙ sym (o .same)))
+      (ap (λ y. segmentsOf N B y) one-recovered ∙ (mark-segments N B s z o.place.number o.place.slot o.kind o.marks ∙ sym o.same))
 
   one-cut : (u : Image) → Sound N B s → CutOf N B s recover u → Kept N B s u
-  one-cut u h c = ⊎-elim (λ q. kept-same N B s u h q) (λ q. kept-clean N B s x z e one-mended u (subst (λ (y : Image). Like N (mended N (segmentsOf N B s) x) (segmentsOf N B y)) (sym (q ∙ sym one-recovered)) one-mended))
-      (mark-whole N B s z (o .place .number) (o .place .slot) (o .kind) (o .marks) u (rw (recover-steps N B s x z e ∙ o .steps) at c))
+  one-cut u h c = ⊎_elim (λ q. kept_same N B s u h q) (λ q. kept-clean N B s x z e one-mended u (subst (λ (y : Image). Like N (mended N (segmentsOf N B s) x) (segmentsOf N B y)) (sym (q ∙ sym one-recovered)) one-mended))
+      (mark-whole N B s z o.place.number o.place.slot o.kind o.marks u (rw (recover-steps N B s x z e ∙ o.steps) at c))
 
   one-top : (u : Image) → CutOf N B s recover u → SameTop N B s u
-  one-top u c = ⊎-elim (λ q. same-image N B s u q)
-      (λ q. same-slot N B s u (o .place .number % N) (o .place .slot) (o .kind) (ap (λ y. segmentsOf N B y) q ∙ mark-segments N B s z (o .place .number) (o .place .slot) (o .kind) (o .marks)))
-      (mark-whole N B s z (o .place .number) (o .place .slot) (o .kind) (o .marks) u (rw (recover-steps N B s x z e ∙ o .steps) at c))
+  one-top u c = ⊎_elim (λ q. same-image N B s u q)
+      (λ q. same-slot N B s u (o.place.number % N) o.place.slot o.kind (ap (λ y. segmentsOf N B y) q ∙ mark-segments N B s z o.place.number o.place.slot o.kind o.marks))
+      (mark-whole N B s z o.place.number o.place.slot o.kind o.marks u (rw (recover-steps N B s x z e ∙ o.steps) at c))
 
 module _ (N B : ℕ) (s : Image) (z : rightSize N B s ≡ true) where
   the-c : state N B s ≡ unfinished caseC → OneMark N B (segmentsOf N B s) caseC

@@ -1,33 +1,28 @@
 -- What a request can do on an image as demand 2 knows it: nothing; or it is an accepted put or delete on a clean image, or a recovery on an unfinished one.
 -- Theorems over histories go by this, request by request.
-use Prim.Native.Nat.{ℕ, zero, suc}
-use mathlib.Core.Path.{_≡_, refl, _∙_}
-use mathlib.Core.Bool.{true, false, cond}
-use mathlib.Core.List.{List, []}
-use native.Mathlib.Omega.{arith}
-use lib.Dec.{eqb}
-use borrow.Author.Tests.{ne-eqb}
-use Rattle·model.specs.Chip.{Image, Bytes, rightSize}
-use Rattle·model.specs.State.{segmentsOf, Exception, State, clean, unfinished, damaged, state}
-use Rattle·model.specs.Answers.{Request, format, put, delete, read, readOr, recover, workOf}
-use Rattle·model.specs.Histories.{Proper}
-use Rattle·bridge.specs.Accepted.{recover-none}
-use Rattle·crash·specs.specs.Machine.{malformed, OnTable, WantsRecovery}
-use Rattle·crash·specs.specs.Sound.{SoundAs, Sound, Clean, Accepted, RequestLaws}
-use Rattle·crash·specs.specs.Requests.{refused-idle, read-idle, readOr-idle, Unfinished, code-unfinished}
-use Rattle·crash·specs.specs.Skeleton.{May}
+use Rattle.std.specs.Prelude.{ℕ, zero, suc, ◌≡◌, refl, true, false, cond, List, [], eqb}
+use Rattle.std.proofs.Common.{◌∙◌, arith, ne_eqb}
+use Rattle.model.specs.Chip.{Image, Bytes, rightSize}
+use Rattle.model.specs.State.{segmentsOf, Exception, State, clean, unfinished, damaged, state}
+use Rattle.model.specs.Answers.{Request, format, put, delete, read, readOr, recover, workOf}
+use Rattle.model.specs.Histories.{Proper}
+use Rattle.bridge.specs.Accepted.{recover-none}
+use Rattle.crash.specs.Machine.{malformed, OnTable, WantsRecovery}
+use Rattle.crash.specs.Sound.{SoundAs, Sound, Clean, Accepted, RequestLaws}
+use Rattle.crash.specs.Requests.{refused-idle, read-idle, readOr-idle, Unfinished, code-unfinished}
+use Rattle.crash.specs.Skeleton.{May}
 
 pub data Works (N B : ℕ) (s : Image) : Request → Type 0 where
-  idle : {r : Request} → workOf N B s r .steps ≡ [] → Works N B s r
+  idle : {r : Request} → (workOf N B s r).steps ≡ [] → Works N B s r
   puts : (b : ℕ) (c : List ℕ) → Clean N B s → Bytes c → Accepted N B s (put b c) → Works N B s (put b c)
   deletes : (b : ℕ) → Clean N B s → Accepted N B s (delete b) → Works N B s (delete b)
   recovers : (x : Exception) → state N B s ≡ unfinished x → Works N B s recover
 
 module _ (N B : ℕ) (s : Image) (z : rightSize N B s ≡ true) where
   on-clean : (r : Request) → OnTable r → Proper r → Clean N B s → Works N B s r
-  on-clean r o p h = go (workOf N B s r .code) refl
+  on-clean r o p h = go (workOf N B s r).code refl
     where
-      by-request : (a : Request) → OnTable a → Proper a → workOf N B s a .code ≡ 0 → Works N B s a
+      by-request : (a : Request) → OnTable a → Proper a → (workOf N B s a).code ≡ 0 → Works N B s a
       by-request format oa pa e = absurd oa
       by-request (put b v) oa pa e = puts b v h pa e
       by-request (delete b) oa pa e = deletes b h e
@@ -35,19 +30,19 @@ module _ (N B : ℕ) (s : Image) (z : rightSize N B s ≡ true) where
       by-request (readOr b f) oa pa e = idle (readOr-idle N B s b f)
       by-request recover oa pa e = idle (recover-none N B s h)
 
-      go : (n : ℕ) → workOf N B s r .code ≡ n → Works N B s r
+      go : (n : ℕ) → (workOf N B s r).code ≡ n → Works N B s r
       go zero e = by-request r o p e
       go (suc n) e = idle (refused-idle N B s r n e)
 
   on-unfinished : (r : Request) → OnTable r → Unfinished N B s → Works N B s r
   on-unfinished r o f = by-request r o
     where
-      asks : (a : Request) → WantsRecovery a → workOf N B s a .steps ≡ []
+      asks : (a : Request) → WantsRecovery a → (workOf N B s a).steps ≡ []
       asks a w = go (malformed a) (code-unfinished N B s z f a w)
         where
-          go : (n : ℕ) → workOf N B s a .code ≡ cond (eqb n 0) 5 n → workOf N B s a .steps ≡ []
+          go : (n : ℕ) → (workOf N B s a).code ≡ cond (eqb n 0) 5 n → (workOf N B s a).steps ≡ []
           go zero e = refused-idle N B s a 4 e
-          go (suc n) e = refused-idle N B s a n (e ∙ rw (ne-eqb (suc n) 0 (λ q. omega arith)))
+          go (suc n) e = refused-idle N B s a n (e ∙ rw (ne_eqb (suc n) 0 (λ q. omega arith)))
 
       by-request : (a : Request) → OnTable a → Works N B s a
       by-request format oa = absurd oa
@@ -55,7 +50,7 @@ module _ (N B : ℕ) (s : Image) (z : rightSize N B s ≡ true) where
       by-request (delete b) oa = idle (asks (delete b) tt)
       by-request (read b) oa = idle (asks (read b) tt)
       by-request (readOr b g) oa = idle (asks (readOr b g) tt)
-      by-request recover oa = recovers (f .0) (f .1)
+      by-request recover oa = recovers f.0 f.1
 
   pub works : (r : Request) → OnTable r → Proper r → Sound N B s → Works N B s r
   works r o p h = go (state N B s) refl h

@@ -1,18 +1,18 @@
 -- The largest of a table's numbers, one after the other.
-use Prim.Native.Nat.{ℕ, suc, _+_, _-_, _≤_, _<_, max}
-use mathlib.Core.Path.{_≡_}
+use Prim.Native.Nat.{ℕ, suc, ◌+◌, ◌-◌, ◌≤◌, ◌<◌, max}
+use mathlib.Core.Path.{◌≡◌}
 use mathlib.Core.List.{List}
 use native.Mathlib.Omega.{arith}
 use native.Mathlib.Numerals.{add-one}
 use native.Mathlib.Nat.{sub-zero}
-use lib.ListN.{length, getD, take, drop}
+use lib.ListN.{length, get_or, take, drop}
 use lib.Seq.{drop-cons}
-use Rattle·descent·specs.specs.Descent.{largest}
+use Rattle.descent.specs.Descent.{largest}
 
 pub largest-start : (n : ℕ) (left : List ℕ) → max 0 (largest (take (n - 0) (drop 0 left))) ≡ largest (take n left)
 largest-start n left = rw (sub-zero n) (omega arith)
 
-pub largest-more : (n i most : ℕ) (left : List ℕ) → i < n → i < length left → max (max most (getD left i 0)) (largest (take (n - (i + 1)) (drop (i + 1) left))) ≡ max most (largest (take (n - i) (drop i left)))
+pub largest-more : (n i most : ℕ) (left : List ℕ) → i < n → i < length left → max (max most (get_or left i 0)) (largest (take (n - (i + 1)) (drop (i + 1) left))) ≡ max most (largest (take (n - i) (drop i left)))
 largest-more n i most left h k =
     let d : n - i ≡ suc (n - (i + 1)) = omega arith in
     rw (d, drop-cons left i 0 k, add-one i) (unfold largest in (omega arith))

@@ -1,11 +1,10 @@
 -- What a walk from the top down goes by: the largest of some numbers, and what is left to walk over.
-use Prim.Native.Nat.{ℕ, max}
-use mathlib.Core.Path.{_≡_, refl, ap}
-use mathlib.Core.List.{List, [], _∷_, map}
-use lib.ListN.{length, take}
-use Rattle·model.specs.Chip.{Image, mostSegments}
-use Rattle·model.specs.State.{Segment, numberAfter, nextNumber}
-use Rattle·index.specs.Walks.{Held}
+use Rattle.std.specs.Prelude.{ℕ, max, ◌≡◌, refl, length, take}
+use Rattle.std.proofs.Common.{ap}
+use mathlib.Core.List.{List, [], ◌∷◌, map}
+use Rattle.model.specs.Chip.{Image, mostSegments}
+use Rattle.model.specs.State.{Segment, numberAfter, nextNumber}
+use Rattle.index.specs.Walks.{Held}
 
 -- 0 if there are none
 unfoldable pub largest : List ℕ → ℕ

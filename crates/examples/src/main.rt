@@ -1,11 +1,10 @@
 // Bench examples 2 to 11 of document 01, as requests #104 and #105 change them; recoveries until no bit is left; and what is
 // from before those requests, an image of version 1 and an empty record; run on the code. What comes out is held to the file
 // stdout.
+ghost use Rattle.std.specs.Prelude.{◌≡◌};
+
 use libc::STDOUT_FILENO;
-use model::BlockNumber;
-use model::Located;
-use model::Performed;
-ghost use mathlib.Core.Path.{_≡_};
+use model::{BlockNumber, Located, Performed};
 
 // Steps enough for any request here.
 const ENOUGH: u64 = 100000;
@@ -29,7 +28,7 @@ fn bytes(s: &[u8]) {
 }
 
 fn wide(x: u8) -> u64
-    ensures { λ r. ⌜ r ≡ x ⌝ }
+    ensures { result ≡ x }
 {
     x as u64
 }

@@ -1,22 +1,20 @@
 // The first of the eight conditions of Clean that an image fails (request #101: fails). Nothing is excused, and any bytes may
 // be in the image. Headers first; slots only where conditions 1 to 4 hold, since they say which segments are looked at.
-use judge::HeaderCounts;
-use judge::Summary;
+ghost use Rattle.std.specs.Prelude.{◌≡◌, true, not, ◌&&◌, ◌||◌, ◌+◌, ◌*◌, ◌<◌, ◌≤◌, length};
+ghost use Rattle.model.specs.Chip.{mostSegments, mostSlots, rightSize};
+ghost use Rattle.model.specs.State.{conditions, numbersFrom, segmentsOf};
+ghost use Rattle.flash.specs.Pages.{Sized};
+ghost use Rattle.judge.specs.Heads.{bare};
+ghost use Rattle.judge.specs.Parts.{rowsOn};
+ghost use Rattle.judge.specs.Rows.{kindsAt};
+ghost use Rattle.account_text.specs.Account.{firstFailing};
+ghost use Rattle.faults.specs.Tests.{testHead, headTests, headPlace, headsTold, wrote, nextRow, look, testSlot, testSlots, rowsTested, slotPlace};
+
+use judge::{HeaderCounts, Summary};
 use model::SlotKind;
-ghost use mathlib.Core.Path.{_≡_};
-ghost use mathlib.Core.Bool.{true, not, _&&_, _||_};
-ghost use Prim.Native.Nat.{_+_, _*_, _<_, _≤_};
-ghost use lib.ListN.{length};
-ghost use Rattle·model.specs.Chip.{mostSegments, mostSlots, rightSize};
-ghost use Rattle·model.specs.State.{conditions, numbersFrom, segmentsOf};
-ghost use Rattle·flash.specs.Pages.{Sized};
-ghost use Rattle·judge.specs.Heads.{bare};
-ghost use Rattle·judge.specs.Parts.{rowsOn};
-ghost use Rattle·judge.specs.Rows.{kindsAt};
-ghost use Rattle·account_text.specs.Account.{firstFailing};
-ghost use Rattle·faults·specs.specs.Tests.{testHead, headTests, headPlace, headsTold, wrote, nextRow, look, testSlot, testSlots, rowsTested, slotPlace};
 
 // The segments by their headers: counted, whether none is owing, and whether all that are not in use are blank.
+#[derive(Drop)]
 struct HeadTests {
     counts: HeaderCounts,
     none_owing: bool,
@@ -24,6 +22,7 @@ struct HeadTests {
 }
 
 // The smallest number in use, how many segments are, and the first of conditions 1 to 4 that fails, or 0.
+#[derive(Drop)]
 struct HeadsTold {
     first: usize,
     used: usize,
@@ -32,6 +31,7 @@ struct HeadsTold {
 
 // The slots so far, oldest segment first: whether none is wrong or torn; whether no block was met twice; whether empty ones
 // come last, and in the last segment only; whether that one has any; and how many are live.
+#[derive(Drop)]
 struct SlotTests {
     sound: bool,
     distinct: bool,
@@ -42,7 +42,7 @@ struct SlotTests {
 
 // Whether what held so far still holds.
 fn still(held: bool, broken: bool) -> bool
-    ensures { λ r. ⌜ r ≡ (held && not broken) ⌝ }
+    ensures { result ≡ (held && not broken) }
 {
     if broken {
         return false;
@@ -54,8 +54,8 @@ fn still(held: bool, broken: bool) -> bool
 
 // One segment more.
 fn test_head(tests: HeadTests, s: Summary) -> HeadTests
-    requires { ⌜ (tests .counts .used < mostSegments) × (tests .counts .next ≤ 4294967296) ⌝ }
-    ensures { λ r. ⌜ (r ≡ testHead tests (bare s)) × (r .counts .used ≤ tests .counts .used + 1) × (r .counts .next ≤ 4294967296) ⌝ }
+    requires { (tests.counts.used < mostSegments) × (tests.counts.next ≤ 4294967296) }
+    ensures { (result ≡ testHead tests (bare s)) × (result.counts.used ≤ tests.counts.used + 1) × (result.counts.next ≤ 4294967296) }
 {
     let counts = segments::count_one(tests.counts, s);
     let none_owing = still(tests.none_owing, summary::is_owing(s));
@@ -69,8 +69,8 @@ fn test_head(tests: HeadTests, s: Summary) -> HeadTests
 
 // Every segment.
 fn test_heads(image: &[u8], segments: usize, slots: usize) -> HeadTests
-    requires { ⌜ Sized segments slots (length (now image)) ⌝ }
-    ensures { λ r. ⌜ (r ≡ headTests (segmentsOf segments slots (now (image .entry)))) × (r .counts .used ≤ mostSegments) × (r .counts .next ≤ 4294967296) ⌝ }
+    requires { Sized segments slots (length image.now) }
+    ensures { (result ≡ headTests (segmentsOf segments slots image.now)) × (result.counts.used ≤ mostSegments) × (result.counts.next ≤ 4294967296) }
 {
     let mut tests = HeadTests {
         counts: segments::none_counted(),
@@ -89,8 +89,8 @@ fn test_heads(image: &[u8], segments: usize, slots: usize) -> HeadTests
 // Whether so many segments are in use with the numbers from the first on. Each is looked at once more where its number
 // puts it: one that is in use costs a header, and a table of them would be a copy for each hand-over.
 fn numbers_follow(image: &[u8], segments: usize, slots: usize, first: usize, used: usize) -> bool
-    requires { ⌜ Sized segments slots (length (now image)) × (first ≤ 4294967296) × (used ≤ mostSegments) ⌝ }
-    ensures { λ r. ⌜ r ≡ numbersFrom segments (segmentsOf segments slots (now (image .entry))) used first ⌝ }
+    requires { Sized segments slots (length image.now) × (first ≤ 4294967296) × (used ≤ mostSegments) }
+    ensures { result ≡ numbersFrom segments (segmentsOf segments slots image.now) used first }
 {
     let mut k: usize = 0;
     while k < used {
@@ -105,7 +105,7 @@ fn numbers_follow(image: &[u8], segments: usize, slots: usize, first: usize, use
 }
 
 fn one_version(counts: HeaderCounts) -> bool
-    ensures { λ r. ⌜ r ≡ (counts .«all_version_1» || counts .«all_version_2») ⌝ }
+    ensures { result ≡ (counts.all_version_1 || counts.all_version_2) }
 {
     if counts.all_version_1 {
         return true;
@@ -115,8 +115,8 @@ fn one_version(counts: HeaderCounts) -> bool
 
 // The first of conditions 1 to 4 that fails, or 0.
 fn head_place(tests: HeadTests, follow: bool, segments: usize) -> usize
-    requires { ⌜ 0 < segments ⌝ }
-    ensures { λ r. ⌜ r ≡ headPlace segments tests follow ⌝ }
+    requires { 0 < segments }
+    ensures { result ≡ headPlace segments tests follow }
 {
     let counts = tests.counts;
     if counts.used == 0 {
@@ -142,8 +142,8 @@ fn head_place(tests: HeadTests, follow: bool, segments: usize) -> usize
 
 // What the headers tell.
 fn see_heads(image: &[u8], segments: usize, slots: usize) -> HeadsTold
-    requires { ⌜ Sized segments slots (length (now image)) ⌝ }
-    ensures { λ r. ⌜ (r ≡ headsTold segments (segmentsOf segments slots (now (image .entry)))) × (r .first ≤ 4294967296) × (r .used ≤ mostSegments) ⌝ }
+    requires { Sized segments slots (length image.now) }
+    ensures { (result ≡ headsTold segments (segmentsOf segments slots image.now)) × (result.first ≤ 4294967296) × (result.used ≤ mostSegments) }
 {
     let tests = test_heads(image, segments, slots);
     let counts = tests.counts;
@@ -158,7 +158,7 @@ fn see_heads(image: &[u8], segments: usize, slots: usize) -> HeadsTold
 
 // A slot that is not empty follows, with what is true of the slots so far and how many are live.
 fn written(tests: SlotTests, sound: bool, distinct: bool, live: usize) -> SlotTests
-    ensures { λ r. ⌜ r ≡ wrote tests sound distinct live ⌝ }
+    ensures { result ≡ wrote tests sound distinct live }
 {
     let in_order = still(tests.in_order, tests.room);
     SlotTests {
@@ -172,8 +172,8 @@ fn written(tests: SlotTests, sound: bool, distinct: bool, live: usize) -> SlotTe
 
 // The next slot. The number of a live one is met, whatever came before.
 fn test_slot(tests: SlotTests, kind: SlotKind, seen: &mut [u64; 1024]) -> SlotTests
-    requires { ⌜ tests .live ≤ 1000000 ⌝ }
-    ensures { λ r. ⌜ look r (now (seen .exit)) ≡ testSlot kind (look tests (now (seen .entry))) ⌝ }
+    requires { tests.live ≤ 1000000 }
+    ensures { look result seen.new ≡ testSlot kind (look tests seen.old) }
 {
     let sound = tests.sound;
     let distinct = tests.distinct;
@@ -205,8 +205,8 @@ fn test_row(
     before: SlotTests,
     seen: &mut [u64; 1024],
 ) -> SlotTests
-    requires { ⌜ (at + slots * 256 ≤ length (now image)) × (slots ≤ mostSlots) × (before .live ≤ 100000) ⌝ }
-    ensures { λ r. ⌜ (look r (now (seen .exit)) ≡ testSlots (kindsAt (now (image .entry)) at slots) (look before (now (seen .entry)))) × (r .live ≤ before .live + slots) ⌝ }
+    requires { (at + slots * 256 ≤ length image.now) × (slots ≤ mostSlots) × (before.live ≤ 100000) }
+    ensures { (look result seen.new ≡ testSlots (kindsAt image.now at slots) (look before seen.old)) × (result.live ≤ before.live + slots) }
 {
     let mut tests = before;
     let mut i: usize = 0;
@@ -221,7 +221,7 @@ fn test_row(
 
 // A segment follows: those before may have no empty slot.
 fn next_row(tests: SlotTests) -> SlotTests
-    ensures { λ r. ⌜ r ≡ nextRow tests ⌝ }
+    ensures { result ≡ nextRow tests }
 {
     let full = still(tests.in_order, tests.room);
     SlotTests {
@@ -235,8 +235,8 @@ fn next_row(tests: SlotTests) -> SlotTests
 
 // The slots of so many segments, by number from the first on.
 fn test_rows(image: &[u8], segments: usize, slots: usize, first: usize, used: usize) -> SlotTests
-    requires { ⌜ Sized segments slots (length (now image)) × (first ≤ 4294967296) × (used ≤ mostSegments) ⌝ }
-    ensures { λ r. ⌜ r ≡ rowsTested (rowsOn (now (image .entry)) segments slots used first) ⌝ }
+    requires { Sized segments slots (length image.now) × (first ≤ 4294967296) × (used ≤ mostSegments) }
+    ensures { result ≡ rowsTested (rowsOn image.now segments slots used first) }
 {
     let mut seen = [0u64; 1024];
     let mut tests = SlotTests {
@@ -257,7 +257,7 @@ fn test_rows(image: &[u8], segments: usize, slots: usize, first: usize, used: us
 
 // The first of conditions 5 to 8 that fails, or 0.
 fn slot_place(tests: SlotTests, most: usize) -> usize
-    ensures { λ r. ⌜ r ≡ slotPlace most tests ⌝ }
+    ensures { result ≡ slotPlace most tests }
 {
     if !tests.sound {
         return 5;
@@ -276,8 +276,8 @@ fn slot_place(tests: SlotTests, most: usize) -> usize
 
 // The first condition of Clean that fails, or 0 if the image is clean.
 pub fn first_failing(image: &[u8], segments: usize, slots: usize) -> usize
-    requires { ⌜ rightSize segments slots (now image) ≡ true ⌝ }
-    ensures { λ r. ⌜ (r ≡ firstFailing 1 (conditions segments slots (segmentsOf segments slots (now (image .entry))))) × (r ≤ 8) ⌝ }
+    requires { rightSize segments slots image.now ≡ true }
+    ensures { (result ≡ firstFailing 1 (conditions segments slots (segmentsOf segments slots image.now))) × (result ≤ 8) }
 {
     let told = see_heads(image, segments, slots);
     if told.place > 0 {

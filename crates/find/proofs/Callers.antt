@@ -1,34 +1,34 @@
 -- What a caller knows of the result of a search: it lies inside the image, and for an image with a view it is by the view's entries and places.
-use Prim.Native.Nat.{ℕ, zero, suc, _+_, _*_, _%_, _≤_, _<_}
-use mathlib.Core.Path.{_≡_, refl, sym, ap, _∙_, subst}
+use Prim.Native.Nat.{ℕ, zero, suc, ◌+◌, ◌*◌, ◌%◌, ◌≤◌, ◌<◌}
+use mathlib.Core.Path.{◌≡◌, refl, sym, ap, ◌∙◌, subst}
 use mathlib.Core.Bool.{Bool, true, false, cond}
-use mathlib.Core.List.{List, _∷_, flatMap, flatten}
-use native.Mathlib.Nat.{mod-lt, mul-le-mul-right, suc-mul}
+use mathlib.Core.List.{List, ◌∷◌, flat_map, flatten}
+use native.Mathlib.Nat.{mod-lt, mul-le-mul_right, suc-mul}
 use native.Mathlib.Omega.{arith}
 use lib.ListN.{length}
 use lib.Dec.{eqb}
-use Rattle·model.specs.declared.SlotPlace.{SlotPlace}
-use Rattle·model.specs.Chip.{Image, Page}
-use Rattle·model.specs.Slot.{mostContents, Slot, empty, torn, dead, cut, wrong, live, slotOf, entryOf}
-use Rattle·model.specs.State.{View, entries, entriesIn, holds, placeOf}
-use Rattle·model.specs.Steps.{slotAt}
-use Rattle·model.specs.Table.{absent, present, lookup, contentsFound}
-use Rattle·model.specs.Laws.SlotPage.{live-facts}
-use Rattle·bridge.specs.Held.{Held}
-use Rattle·find·specs.specs.declared.Found.{Found}
-use Rattle·find·specs.specs.declared.Found.the-variants.{At, Nothing}
-use Rattle·find·specs.specs.Search.{rowsAt, foundIn, held-found}
-use Rattle·find·proofs.proofs.Laws.{foundFrom, row-enter, row-end, slot-next, slot-stop, slotsLeft, pageRead, left-next, left-end}
+use Rattle.model.specs.declared.SlotPlace.{SlotPlace}
+use Rattle.model.specs.Chip.{Image, Page}
+use Rattle.model.specs.Slot.{mostContents, Slot, empty, torn, dead, cut, wrong, live, slot_of, entry_of}
+use Rattle.model.specs.State.{View, entries, entriesIn, holds, place_of}
+use Rattle.model.specs.Steps.{slot_at}
+use Rattle.model.specs.Table.{absent, present, lookup, contentsFound}
+use Rattle.model.specs.Laws.SlotPage.{live_facts}
+use Rattle.bridge.specs.Held.{Held}
+use Rattle.find.specs.declared.Found.{Found}
+use Rattle.find.specs.declared.Found.TheVariants.{At, Nothing}
+use Rattle.find.specs.Search.{rows_at, foundIn, held_found}
+use Rattle.find.proofs.Laws.{found_from, row-enter, row-end, slot_next, slot-stop, slotsLeft, pageRead, left-next, left_end}
 
 -- ---- inside the image, whatever the image
 
 -- the slot's page is inside, and so are its contents
 abbrev pub Inside : ℕ → ℕ → Found → Type 0
-Inside N B (At p l) = (p .0 + 256 ≤ N * (B + 1) * 256) × (l ≤ 248)
+Inside N B (At p l) = (p.0 + 256 ≤ N * (B + 1) * 256) × (l ≤ 248)
 Inside N B Nothing = Unit {0}
 
-short : (b : ℕ) (p : Page) (k : Slot) → slotOf p ≡ k → length (contentsFound (lookup b (entryOf k))) ≤ 248
-unfolding entryOf lookup contentsFound
+short : (b : ℕ) (p : Page) (k : Slot) → slot_of p ≡ k → length (contentsFound (lookup b (entry_of k))) ≤ 248
+unfolding entry_of lookup contentsFound
 short b p empty e = omega arith
 short b p torn e = omega arith
 short b p dead e = omega arith
@@ -37,25 +37,25 @@ short b p wrong e = omega arith
 short b p (live n c) e = go (eqb b n)
   where
     go : (t : Bool) → length (contentsFound (cond t (present c) absent)) ≤ 248
-    go true = unfold mostContents in live-facts p n c e .short
+    go true = unfold mostContents in (live_facts p n c e).short
     go false = omega arith
 
-slot-inside : (N B n j : ℕ) → n % N < N → j < B → slotAt N B n j * 256 + 256 ≤ N * (B + 1) * 256
-unfolding slotAt
-slot-inside N B n j h k = omega (arith, mul-le-mul-right (B + 1) h, suc-mul (n % N) (B + 1))
+slot-inside : (N B n j : ℕ) → n % N < N → j < B → slot_at N B n j * 256 + 256 ≤ N * (B + 1) * 256
+unfolding slot_at
+slot-inside N B n j h k = omega (arith, mul-le-mul_right (B + 1) h, suc-mul (n % N) (B + 1))
 
 module _ (N B b : ℕ) (s : Image) (some : 0 < N) where
-  row-inside : (n : ℕ) (rows : List (List Slot)) → Inside N B (foundIn N B (suc n) rows b) → (d j : ℕ) → j + d ≡ B → Inside N B (foundFrom N B b n j (slotsLeft N B s n j) rows)
-  row-inside n rows i zero j e =
-      let g : foundFrom N B b n j (slotsLeft N B s n j) rows ≡ foundIn N B (suc n) rows b =
-      ap (λ (ks : List Slot). foundFrom N B b n j ks rows) (left-end N B s n j (mod-lt n {m = N} some) (omega arith)) ∙ row-end N B b n j rows in
+  row_inside : (n : ℕ) (rows : List (List Slot)) → Inside N B (foundIn N B (suc n) rows b) → (d j : ℕ) → j + d ≡ B → Inside N B (found_from N B b n j (slotsLeft N B s n j) rows)
+  row_inside n rows i zero j e =
+      let g : found_from N B b n j (slotsLeft N B s n j) rows ≡ foundIn N B (suc n) rows b =
+      ap (λ (ks : List Slot). found_from N B b n j ks rows) (left_end N B s n j (mod-lt n {m = N} some) (omega arith)) ∙ row-end N B b n j rows in
       subst (Inside N B) (sym g) i
-  row-inside n rows i (suc d) j e =
-      subst (λ (ks : List Slot). Inside N B (foundFrom N B b n j ks rows)) (sym (left-next N B s n j at (mod-lt n {m = N} some) (omega arith) refl))
-      (go (holds b (entryOf (slotOf page))) refl (row-inside n rows i d (j + 1) (omega arith)))
+  row_inside n rows i (suc d) j e =
+      subst (λ (ks : List Slot). Inside N B (found_from N B b n j ks rows)) (sym (left-next N B s n j at (mod-lt n {m = N} some) (omega arith) refl))
+      (go (holds b (entry_of (slot_of page))) refl (row_inside n rows i d (j + 1) (omega arith)))
     where
       at : ℕ
-      at = slotAt N B n 0 * 256 + j * 256
+      at = slot_at N B n 0 * 256 + j * 256
 
       page : Page
       page = pageRead s at
@@ -63,47 +63,47 @@ module _ (N B b : ℕ) (s : Image) (some : 0 < N) where
       later : List Slot
       later = slotsLeft N B s n (j + 1)
 
-      go : (t : Bool) → holds b (entryOf (slotOf page)) ≡ t → Inside N B (foundFrom N B b n (j + 1) later rows) → Inside N B (foundFrom N B b n j (slotOf page ∷ later) rows)
-      go true h m = subst (Inside N B) (sym (slot-stop N B b n j (slotOf page) later rows h)) (slot-inside N B n j (mod-lt n {m = N} some) (omega arith), short b page (slotOf page) refl)
-      go false h m = subst (Inside N B) (sym (slot-next N B b n j (slotOf page) later rows h)) m
+      go : (t : Bool) → holds b (entry_of (slot_of page)) ≡ t → Inside N B (found_from N B b n (j + 1) later rows) → Inside N B (found_from N B b n j (slot_of page ∷ later) rows)
+      go true h m = subst (Inside N B) (sym (slot-stop N B b n j (slot_of page) later rows h)) (slot-inside N B n j (mod-lt n {m = N} some) (omega arith), short b page (slot_of page) refl)
+      go false h m = subst (Inside N B) (sym (slot_next N B b n j (slot_of page) later rows h)) m
 
-  rows-inside : (u n : ℕ) → Inside N B (foundIn N B n (rowsAt N B s u n) b)
-  unfolding rowsAt
-  rows-inside zero n = unfold foundIn flatten entries flatMap holds in tt
-  rows-inside (suc u) n =
-      let rows = rowsAt N B s u (suc n) in
-      subst (Inside N B) (sym (row-enter N B b n (slotsLeft N B s n 0) rows)) (row-inside n rows (rows-inside u (suc n)) B 0 (omega arith))
+  rows_inside : (u n : ℕ) → Inside N B (foundIn N B n (rows_at N B s u n) b)
+  unfolding rows_at
+  rows_inside zero n = unfold foundIn flatten entries flat_map holds in tt
+  rows_inside (suc u) n =
+      let rows = rows_at N B s u (suc n) in
+      subst (Inside N B) (sym (row-enter N B b n (slotsLeft N B s n 0) rows)) (row_inside n rows (rows_inside u (suc n)) B 0 (omega arith))
 
-  pub found-inside : {r : Found} (u n : ℕ) → r ≡ foundIn N B n (rowsAt N B s u n) b → Inside N B r
-  found-inside u n e = subst (Inside N B) (sym e) (rows-inside u n)
+  pub found_inside : {r : Found} (u n : ℕ) → r ≡ foundIn N B n (rows_at N B s u n) b → Inside N B r
+  found_inside u n e = subst (Inside N B) (sym e) (rows_inside u n)
 
 -- ---- an image with a view
 
 pub record FoundAt (N B b : ℕ) (v : View) (p : SlotPlace) (l : ℕ) : Type 0 where
   pub held : holds b (entriesIn v) ≡ true
-  pub place : p .0 ≡ slotAt N B (placeOf b v .number) (placeOf b v .slot) * 256
+  pub place : p.0 ≡ slot_at N B (place_of b v).number (place_of b v).slot * 256
   pub long : l ≡ length (contentsFound (lookup b (entriesIn v)))
 
-module _ (N B b : ℕ) (s : Image) (v : View) (h : Held N B s v) {r : Found} {n u : ℕ} (f : n ≡ v .first) (g : u ≡ length (v .slots))
-    (e : r ≡ foundIn N B n (rowsAt N B s u n) b) where
+module _ (N B b : ℕ) (s : Image) (v : View) (h : Held N B s v) {r : Found} {n u : ℕ} (f : n ≡ v.first) (g : u ≡ length v.slots)
+    (e : r ≡ foundIn N B n (rows_at N B s u n) b) where
   abbrev answer : Bool → Found
-  answer t = cond t (At (record { 0 = slotAt N B (placeOf b v .number) (placeOf b v .slot) * 256 }) (length (contentsFound (lookup b (entriesIn v))))) Nothing
+  answer t = cond t (At (record { 0 = slot_at N B (place_of b v).number (place_of b v).slot * 256 }) (length (contentsFound (lookup b (entriesIn v))))) Nothing
 
   outcome : r ≡ answer (holds b (entriesIn v))
-  outcome = (rw (f, g) at e) ∙ held-found N B s v b h
+  outcome = (rw (f, g) at e) ∙ held_found N B s v b h
 
-  pub found-at : (p : SlotPlace) (l : ℕ) → r ≡ At p l → FoundAt N B b v p l
-  found-at p l a = go (holds b (entriesIn v)) refl (sym a ∙ outcome)
+  pub found_at : (p : SlotPlace) (l : ℕ) → r ≡ At p l → FoundAt N B b v p l
+  found_at p l a = go (holds b (entriesIn v)) refl (sym a ∙ outcome)
     where
       go : (t : Bool) → holds b (entriesIn v) ≡ t → At p l ≡ answer t → FoundAt N B b v p l
       go true t q =
-          let a : _≡_ {A = SlotPlace} p (record { 0 = slotAt N B (placeOf b v .number) (placeOf b v .slot) * 256 }) = cc in
-          record { held = t; place = ap (λ (x : SlotPlace). x .0) a; long = cc }
-      go false t q = absurd (let z : _≡_ {A = ℕ} 0 1 = cc in omega arith)
+          let a : ◌≡◌ {A = SlotPlace} p (record { 0 = slot_at N B (place_of b v).number (place_of b v).slot * 256 }) = cc in
+          record { held = t; place = ap (λ (x : SlotPlace). x.0) a; long = cc }
+      go false t q = absurd (let z : ◌≡◌ {A = ℕ} 0 1 = cc in omega arith)
 
-  pub found-nothing : r ≡ Nothing → holds b (entriesIn v) ≡ false
-  found-nothing a = go (holds b (entriesIn v)) refl (sym a ∙ outcome)
+  pub found_nothing : r ≡ Nothing → holds b (entriesIn v) ≡ false
+  found_nothing a = go (holds b (entriesIn v)) refl (sym a ∙ outcome)
     where
       go : (t : Bool) → holds b (entriesIn v) ≡ t → Nothing ≡ answer t → holds b (entriesIn v) ≡ false
-      go true t q = absurd (let z : _≡_ {A = ℕ} 0 1 = cc in omega arith)
+      go true t q = absurd (let z : ◌≡◌ {A = ℕ} 0 1 = cc in omega arith)
       go false t q = t

@@ -1,65 +1,60 @@
 -- What a search for a block finds: in rows of slots, and in the segments of an image with given numbers, whatever their headers say. For an image with a view
 -- the rows are the view's.
-use Prim.Native.Nat.{ℕ, zero, suc, _+_, _*_, _/_, _%_, _<_}
-use mathlib.Core.Path.{_≡_, refl, sym, ap₂, _∙_}
-use mathlib.Core.Bool.{Bool, cond, _&&_}
-use mathlib.Core.List.{List, [], _∷_, map, flatten}
-use native.Mathlib.Nat.{mod-lt}
-use native.Mathlib.Omega.{arith}
-use lib.ListN.{length, getD, drop}
-use lib.Dec.{eqb}
-use Rattle·model.specs.Chip.{Image, Page}
-use Rattle·model.specs.Slot.{Slot, slotOf, written}
-use Rattle·model.specs.State.{View, entries, entriesIn, holds, placeFrom, placeOf}
-use Rattle·model.specs.Steps.{slotAt}
-use Rattle·model.specs.Table.{lookup, contentsFound}
-use Rattle·model.specs.Laws.Segments.{partOf, segment-at}
-use Rattle·model.specs.Laws.Effects.{in-use-parts}
-use Rattle·bridge.specs.Held.{Held, held-row}
-use Rattle·model.specs.Laws.Chip.{size-facts}
-use Rattle·find·specs.specs.declared.Found.{Found}
-use Rattle·find·specs.specs.declared.Found.the-variants.{At, Nothing}
+use Rattle.std.specs.Prelude.{ℕ, zero, suc, ◌+◌, ◌*◌, ◌/◌, ◌%◌, ◌<◌, ◌≡◌, refl, Bool, cond, ◌&&◌, length, get_or, drop, eqb}
+use Rattle.std.proofs.Common.{sym, ap₂, ◌∙◌, mod-lt, arith}
+use mathlib.Core.List.{List, [], ◌∷◌, map, flatten}
+use Rattle.model.specs.Chip.{Image, Page}
+use Rattle.model.specs.Slot.{Slot, slot_of, written}
+use Rattle.model.specs.State.{View, entries, entriesIn, holds, placeFrom, place_of}
+use Rattle.model.specs.Steps.{slot_at}
+use Rattle.model.specs.Table.{lookup, contentsFound}
+use Rattle.model.specs.Laws.Segments.{part_of, segment-at}
+use Rattle.model.specs.Laws.Effects.{in-use-parts}
+use Rattle.bridge.specs.Held.{Held, held-row}
+use Rattle.model.specs.Laws.Chip.{size-facts}
+use Rattle.find.specs.declared.Found.{Found}
+use Rattle.find.specs.declared.Found.TheVariants.{At, Nothing}
 
 -- the status and the number in a slot are those of a live slot of block b
 unfoldable pub mayHold : Page → ℕ → Bool
-mayHold p b = eqb (getD p 0 0) written && (eqb (getD p 2 0) (b % 256) && eqb (getD p 3 0) (b / 256))
+mayHold p b = eqb (get_or p 0 0) written && (eqb (get_or p 2 0) (b % 256) && eqb (get_or p 3 0) (b / 256))
 
 -- the slots of the segments with the u numbers from n on, as they stand
-unfoldable pub rowsAt : ℕ → ℕ → Image → ℕ → ℕ → List (List Slot)
-rowsAt N B s zero n = []
-rowsAt N B s (suc u) n = map slotOf (drop 1 (partOf N B (n % N) s)) ∷ rowsAt N B s u (suc n)
+unfoldable pub rows_at : ℕ → ℕ → Image → ℕ → ℕ → List (List Slot)
+rows_at N B s zero n = []
+rows_at N B s (suc u) n = map slot_of (drop 1 (part_of N B (n % N) s)) ∷ rows_at N B s u (suc n)
 
 -- the first live slot of block b in rows whose numbers start at n: its offset in the image, and the length of its contents
 unfoldable pub foundIn : ℕ → ℕ → ℕ → List (List Slot) → ℕ → Found
 foundIn N B n rows b = let place = placeFrom b n rows in
     cond (holds b (entries (flatten rows)))
-    (At (record { 0 = slotAt N B (place .number) (place .slot) * 256 }) (length (contentsFound (lookup b (entries (flatten rows))))))
+    (At (record { 0 = slot_at N B place.number place.slot * 256 }) (length (contentsFound (lookup b (entries (flatten rows))))))
     Nothing
 
 -- ---- an image with a view
 
 -- the rows, if each is that of its number
-rows-same : (N B : ℕ) (s : Image) (rows : List (List Slot)) (n : ℕ)
-    → ((k : ℕ) → k < length rows → map slotOf (drop 1 (partOf N B ((n + k) % N) s)) ≡ getD rows k []) → rowsAt N B s (length rows) n ≡ rows
-unfolding rowsAt
-rows-same N B s [] n f = refl
-rows-same N B s (r ∷ rows) n f =
+rows_same : (N B : ℕ) (s : Image) (rows : List (List Slot)) (n : ℕ)
+    → ((k : ℕ) → k < length rows → map slot_of (drop 1 (part_of N B ((n + k) % N) s)) ≡ get_or rows k []) → rows_at N B s (length rows) n ≡ rows
+unfolding rows_at
+rows_same N B s [] n f = refl
+rows_same N B s (r ∷ rows) n f =
     let e : n + 0 ≡ n = omega arith in
-    ap₂ (λ x y. x ∷ y) (rw e at (f 0 (omega arith))) (rows-same N B s rows (suc n) (λ k h. let g : n + suc k ≡ suc n + k = omega arith in rw g at (f (suc k) (omega arith))))
+    ap₂ (λ x y. x ∷ y) (rw e at (f 0 (omega arith))) (rows_same N B s rows (suc n) (λ k h. let g : n + suc k ≡ suc n + k = omega arith in rw g at (f (suc k) (omega arith))))
 
-pub held-rows-at : (N B : ℕ) (s : Image) (v : View) → Held N B s v → rowsAt N B s (length (v .slots)) (v .first) ≡ v .slots
-held-rows-at N B s v h = rows-same N B s (v .slots) (v .first) row
+pub held-rows-at : (N B : ℕ) (s : Image) (v : View) → Held N B s v → rows_at N B s (length v.slots) v.first ≡ v.slots
+held-rows-at N B s v h = rows_same N B s v.slots v.first row
   where
-    row : (k : ℕ) → k < length (v .slots) → map slotOf (drop 1 (partOf N B ((v .first + k) % N) s)) ≡ getD (v .slots) k []
+    row : (k : ℕ) → k < length v.slots → map slot_of (drop 1 (part_of N B ((v.first + k) % N) s)) ≡ get_or v.slots k []
     row k b =
-        let n = v .first + k in
+        let n = v.first + k in
         let r = held-row N B s v h k b in
-        let i : n % N < N = mod-lt n {m = N} (omega (arith, size-facts N B s (h .size) .two)) in
-        in-use-parts N B (n % N) (partOf N B (n % N) s) (r .0) (r .1) n (getD (v .slots) k []) (sym (segment-at N B (n % N) s i) ∙ r .2) .slots
+        let i : n % N < N = mod-lt n {m = N} (omega (arith, (size-facts N B s h.size).two)) in
+        (in-use-parts N B (n % N) (part_of N B (n % N) s) r.0 r.1 n (get_or v.slots k []) (sym (segment-at N B (n % N) s i) ∙ r.2)).slots
 
 -- what the search finds is by the view's entries and places
-pub held-found : (N B : ℕ) (s : Image) (v : View) (b : ℕ) → Held N B s v
-    → foundIn N B (v .first) (rowsAt N B s (length (v .slots)) (v .first)) b
-    ≡ cond (holds b (entriesIn v)) (At (record { 0 = slotAt N B (placeOf b v .number) (placeOf b v .slot) * 256 }) (length (contentsFound (lookup b (entriesIn v))))) Nothing
-unfolding entriesIn placeOf foundIn
-held-found N B s v b h = rw (held-rows-at N B s v h)
+pub held_found : (N B : ℕ) (s : Image) (v : View) (b : ℕ) → Held N B s v
+    → foundIn N B v.first (rows_at N B s (length v.slots) v.first) b
+    ≡ cond (holds b (entriesIn v)) (At (record { 0 = slot_at N B (place_of b v).number (place_of b v).slot * 256 }) (length (contentsFound (lookup b (entriesIn v))))) Nothing
+unfolding entriesIn place_of foundIn
+held_found N B s v b h = rw (held-rows-at N B s v h)

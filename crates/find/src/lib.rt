@@ -1,19 +1,16 @@
 // The search for a block: segment by segment, oldest first, and slot by slot, up to the first live slot that holds it.
-use model::BlockNumber;
-use model::SegmentNumber;
-use model::SlotKind;
-use model::SlotPlace;
-ghost use mathlib.Core.Path.{_≡_};
-ghost use Prim.Native.Nat.{_+_, _*_, _<_, _≤_};
-ghost use lib.ListN.{length};
-ghost use Rattle·model.specs.Steps.{slotAt};
-ghost use Rattle·flash.specs.Pages.{Sized};
-ghost use Rattle·find·specs.specs.Search.{mayHold, rowsAt, foundIn};
+ghost use Rattle.std.specs.Prelude.{◌≡◌, ◌+◌, ◌*◌, ◌<◌, ◌≤◌, length};
+ghost use Rattle.model.specs.Steps.{slot_at};
+ghost use Rattle.flash.specs.Pages.{Sized};
+ghost use Rattle.find.specs.Search.{mayHold, rows_at, foundIn};
+
+use model::{BlockNumber, SegmentNumber, SlotKind, SlotPlace};
 
 // The status of a live slot.
 const WRITTEN: u8 = 0x3F;
 
 // Where a block's slot is, and the length of its contents.
+#[derive(Drop)]
 pub enum Found {
     At(SlotPlace, usize),
     Nothing,
@@ -21,8 +18,8 @@ pub enum Found {
 
 // The place of the first slot of the segment with a number.
 pub fn first_slot(segments: usize, slots: usize, number: SegmentNumber) -> SlotPlace
-    requires { ⌜ (0 < segments) × (segments ≤ 255) × (slots ≤ 255) ⌝ }
-    ensures { λ r. ⌜ r .0 ≡ slotAt segments slots (number .0) 0 * 256 ⌝ }
+    requires { (0 < segments) × (segments ≤ 255) × (slots ≤ 255) }
+    ensures { result.0 ≡ slot_at segments slots number.0 0 * 256 }
 {
     let index = number.0 as usize % segments;
     let at = (index * (slots + 1) + 1) * 256;
@@ -32,8 +29,8 @@ pub fn first_slot(segments: usize, slots: usize, number: SegmentNumber) -> SlotP
 // Whether the status and the number in a slot are those of a live slot of a block. Three bytes pass over most slots; the
 // others of a slot that passes may still not fit.
 fn may_hold(page: &[u8], block: BlockNumber) -> bool
-    requires { ⌜ length (now page) ≡ 256 ⌝ }
-    ensures { λ r. ⌜ r ≡ mayHold (now (page .entry)) (block .0) ⌝ }
+    requires { length page.now ≡ 256 }
+    ensures { result ≡ mayHold page.now block.0 }
 {
     if page[0] != WRITTEN {
         return false;
@@ -54,8 +51,8 @@ pub fn find(
     used: usize,
     block: BlockNumber,
 ) -> Found
-    requires { ⌜ Sized segments slots (length (now image)) × (first .0 + used ≤ 4294967296) ⌝ }
-    ensures { λ r. ⌜ r ≡ foundIn segments slots (first .0) (rowsAt segments slots (now (image .entry)) used (first .0)) (block .0) ⌝ }
+    requires { Sized segments slots (length image.now) × (first.0 + used ≤ 4294967296) }
+    ensures { result ≡ foundIn segments slots first.0 (rows_at segments slots image.now used first.0) block.0 }
 {
     let mut found = Found::Nothing;
     let mut turn = 0;

@@ -1,28 +1,28 @@
 -- Laws of steps under a budget: nothing, one step, one call after another, a budget that is spent; bytes programmed in a loop; a part of the image.
-use mathlib.Core.Path.{_≡_, refl, sym, ap, _∙_, subst}
-use Prim.Native.Nat.{ℕ, zero, suc, _+_, _-_, _*_, _≤_, _<_, min}
-use native.Mathlib.Nat.{sub-zero, le-of-eq, mul-assoc, add-zero, zero-add, suc-add, min-eq-left, min-eq-right, min-le-left}
+use mathlib.Core.Path.{◌≡◌, refl, sym, ap, ◌∙◌, subst}
+use Prim.Native.Nat.{ℕ, zero, suc, ◌+◌, ◌-◌, ◌*◌, ◌≤◌, ◌<◌, min}
+use native.Mathlib.Nat.{sub-zero, le_of_eq, mul_assoc, add-zero, zero-add, suc-add, min-eq_left, min-eq_right, min-le_left}
 use native.Mathlib.Numerals.{add-one}
-use native.Mathlib.Decide.{decLe}
+use native.Mathlib.Decide.{dec_le}
 use native.Mathlib.Omega.{arith}
 use mathlib.Core.Bool.{Bool, true, false, cond}
-use mathlib.Core.List.{List, [], _∷_, _++_, append-assoc}
-use lib.ListN.{length, getD, take, drop, set, replicate, length-append, length-set, length-take, length-drop, length-replicate, getD-replicate, take-append-drop, List·getD-append}
+use mathlib.Core.List.{List, [], ◌∷◌, ◌++◌, append_assoc}
+use lib.ListN.{length, get_or, take, drop, set, replicate, length-append, length-set, length-take, length-drop, length-replicate, get_or-replicate, take-append-drop, get_or-append}
 use lib.Dec.{leb}
-use lib.Bits.{bitAnd}
-use lib.Seq.{take-suc, take-length, paste, paste-suc, take-all, getD-append-add, set-append-left, length-take-le}
+use lib.Bits.{bit_and}
+use lib.Seq.{take-suc, take-length, paste, paste-suc, take_all, get_or-append-add, set-append_left, length-take-le}
 use borrow.Author.Tests.{le-leb, leb-true}
-use Rattle·model.specs.Chip.{Image, Step, program, erase, clear, erased, withSegment, step, run}
-use Rattle·model.specs.Steps.{programs, onPage}
-use Rattle·model.specs.Laws.Chip.{step-length, run-length, run-append, take-append}
-use Rattle·flash·specs.specs.Units.{withUnit, stepIn, runIn, Erases, segments, units, done}
-use Rattle·flash·specs.specs.Ran.{RanOn, Ran, RanIn, Programmed, shifted, Within}
+use Rattle.model.specs.Chip.{Image, Step, program, erase, clear, erased, withSegment, step, run}
+use Rattle.model.specs.Steps.{programs, onPage}
+use Rattle.model.specs.Laws.Chip.{step-length, run_length, run-append, take-append}
+use Rattle.flash.specs.Units.{withUnit, stepIn, runIn, Erases, segments, units, done}
+use Rattle.flash.specs.Ran.{RanOn, Ran, RanIn, Programmed, shifted, Within}
 
 -- ---- lists of steps, whatever an erase takes
 
 step-in-length : (S : ℕ) (x : Step) (s : Image) → length (stepIn S x s) ≡ length s
 unfolding stepIn withUnit erased
-step-in-length S (program at v) s = length-set s at (clear (getD s at 0) v)
+step-in-length S (program at v) s = length-set s at (clear (get_or s at 0) v)
 step-in-length S (erase i) s = go (leb (i * S + S) (length s)) refl
   where
     go : (t : Bool) → leb (i * S + S) (length s) ≡ t → length (cond t (take (i * S) s ++ (replicate S 255 ++ drop (i * S + S) s)) s) ≡ length s
@@ -31,7 +31,7 @@ step-in-length S (erase i) s = go (leb (i * S + S) (length s)) refl
 
 pub done-length : (chip : Erases) (xs : List Step) (s : Image) → length (done chip xs s) ≡ length s
 unfolding runIn
-done-length (segments B) xs s = run-length B xs s
+done-length (segments B) xs s = run_length B xs s
 done-length (units S) [] s = refl
 done-length (units S) (x ∷ xs) s = done-length (units S) xs (stepIn S x s) ∙ step-in-length S x s
 
@@ -41,51 +41,51 @@ done-append (segments B) xs ys s = run-append B xs ys s
 done-append (units S) [] ys s = refl
 done-append (units S) (x ∷ xs) ys s = done-append (units S) xs ys (stepIn S x s)
 
-done-none : (chip : Erases) (s : Image) → done chip [] s ≡ s
+done_none : (chip : Erases) (s : Image) → done chip [] s ≡ s
 unfolding run runIn
-done-none (segments B) s = refl
-done-none (units S) s = refl
+done_none (segments B) s = refl
+done_none (units S) s = refl
 
 -- nothing done
-pub on-none : (chip : Erases) (n : ℕ) (s : Image) → RanOn chip [] n n s s
-on-none chip zero s = record { image = sym (done-none chip s); rest = refl }
-on-none chip (suc n) s = record { image = sym (done-none chip s); rest = sym (sub-zero (suc n)) }
+pub on_none : (chip : Erases) (n : ℕ) (s : Image) → RanOn chip [] n n s s
+on_none chip zero s = record { image = sym (done_none chip s); rest = refl }
+on_none chip (suc n) s = record { image = sym (done_none chip s); rest = sym (sub-zero (suc n)) }
 
 -- one step that the budget covers
-on-one : (chip : Erases) (x : Step) (n : ℕ) (s : Image) → (n ≡ 0 → ⊥) → RanOn chip (x ∷ []) n (n - 1) s (done chip (x ∷ []) s)
-on-one chip x zero s h = absurd (h refl)
-on-one chip x (suc zero) s h = record { image = refl; rest = refl }
-on-one chip x (suc (suc n)) s h = record { image = refl; rest = refl }
+on_one : (chip : Erases) (x : Step) (n : ℕ) (s : Image) → (n ≡ 0 → ⊥) → RanOn chip (x ∷ []) n (n - 1) s (done chip (x ∷ []) s)
+on_one chip x zero s h = absurd (h refl)
+on_one chip x (suc zero) s h = record { image = refl; rest = refl }
+on_one chip x (suc (suc n)) s h = record { image = refl; rest = refl }
 
 -- a budget that is spent: nothing more is done
 pub on-spent : (chip : Erases) (xs : List Step) (n : ℕ) (s : Image) → n ≡ 0 → RanOn chip xs n 0 s s
-on-spent chip xs n s h = record { image = rw h (sym (done-none chip s)); rest = omega arith }
+on-spent chip xs n s h = record { image = rw h (sym (done_none chip s)); rest = omega arith }
 
 -- the budget does not grow
 pub ran-left : {chip : Erases} {xs : List Step} {n m : ℕ} {s t : Image} → RanOn chip xs n m s t → m ≤ n
-ran-left d = omega (arith, d .rest)
+ran-left d = omega (arith, d.rest)
 
 -- what is left of a budget says that all was done
-pub whole-run : {chip : Erases} {xs : List Step} {n m : ℕ} {s t : Image} → RanOn chip xs n m s t → 0 < m → t ≡ done chip xs s
-whole-run {chip} {xs} {n} {m} {s} {t} d h = d .image ∙ ap (λ (y : List Step). done chip y s) (take-all n xs (omega (arith, d .rest)))
+pub whole_run : {chip : Erases} {xs : List Step} {n m : ℕ} {s t : Image} → RanOn chip xs n m s t → 0 < m → t ≡ done chip xs s
+whole_run {chip} {xs} {n} {m} {s} {t} d h = d.image ∙ ap (λ (y : List Step). done chip y s) (take_all n xs (omega (arith, d.rest)))
 
 -- one call after another does the one list after the other
-pub _then_ : {chip : Erases} {xs ys : List Step} {n n₁ n₂ : ℕ} {s s₁ s₂ : Image} → RanOn chip xs n n₁ s s₁ → RanOn chip ys n₁ n₂ s₁ s₂ → RanOn chip (xs ++ ys) n n₂ s s₂
-_then_ {chip} {xs} {ys} {n} {n₁} {n₂} {s} {s₁} {s₂} d e =
+pub ◌then◌ : {chip : Erases} {xs ys : List Step} {n n₁ n₂ : ℕ} {s s₁ s₂ : Image} → RanOn chip xs n n₁ s s₁ → RanOn chip ys n₁ n₂ s₁ s₂ → RanOn chip (xs ++ ys) n n₂ s s₂
+◌then◌ {chip} {xs} {ys} {n} {n₁} {n₂} {s} {s₁} {s₂} d e =
     let a : done chip (take n (xs ++ ys)) s ≡ done chip (take (n - length xs) ys) (done chip (take n xs) s) = rw (take-append n xs ys) (done-append chip (take n xs) (take (n - length xs) ys) s) in
-    record { image = cc (a, d .image, d .rest, e .image); rest = omega (arith, d .rest, e .rest, length-append xs ys) }
+    record { image = cc (a, d.image, d.rest, e.image); rest = omega (arith, d.rest, e.rest, length-append xs ys) }
 
 -- an image keeps its length
 pub ran-length : {chip : Erases} {xs : List Step} {n r : ℕ} {s u : Image} → RanOn chip xs n r s u → length u ≡ length s
-ran-length {chip} {xs} {n} {r} {s} d = ap length (d .image) ∙ done-length chip (take n xs) s
+ran-length {chip} {xs} {n} {r} {s} d = ap length d.image ∙ done-length chip (take n xs) s
 
 -- on the store's chip
 pub ran-none : (B n : ℕ) (s : Image) → Ran [] B n n s s
-ran-none B n s = on-none (segments B) n s
+ran-none B n s = on_none (segments B) n s
 
 pub ran-one : (x : Step) (B n : ℕ) (s : Image) → (n ≡ 0 → ⊥) → Ran (x ∷ []) B n (n - 1) s (step B x s)
 unfolding run
-ran-one x B n s h = on-one (segments B) x n s h
+ran-one x B n s h = on_one (segments B) x n s h
 
 pub ran-spent : (xs : List Step) (B n : ℕ) (s : Image) → n ≡ 0 → Ran xs B n 0 s s
 ran-spent xs B n s h = on-spent (segments B) xs n s h
@@ -93,12 +93,12 @@ ran-spent xs B n s h = on-spent (segments B) xs n s h
 -- on one whose unit has S bytes
 pub ran-one-in : (x : Step) (S n : ℕ) (s : Image) → (n ≡ 0 → ⊥) → RanIn (x ∷ []) S n (n - 1) s (stepIn S x s)
 unfolding runIn
-ran-one-in x S n s h = on-one (units S) x n s h
+ran-one-in x S n s h = on_one (units S) x n s h
 
 -- ---- programming
 
 -- one byte
-pub programmed-one : (at v n : ℕ) (s : Image) → (n ≡ 0 → ⊥) → Programmed (program at v ∷ []) n (n - 1) s (set s at (bitAnd (getD s at 0) v))
+pub programmed-one : (at v n : ℕ) (s : Image) → (n ≡ 0 → ⊥) → Programmed (program at v ∷ []) n (n - 1) s (set s at (bit_and (get_or s at 0) v))
 unfolding step clear
 programmed-one at v n s h B = ran-one (program at v) B n s h
 
@@ -109,19 +109,19 @@ programs-append at (x ∷ xs) ys =
     ap (λ (l : List Step). program at x ∷ l) (programs-append (suc at) xs ys
     ∙ ap (λ (k : ℕ). programs (suc at) xs ++ programs k ys) (omega arith))
 
-programs-next : (at i : ℕ) (bs : List ℕ) → i < length bs → programs at (take (i + 1) bs) ≡ programs at (take i bs) ++ (program (at + i) (getD bs i 0) ∷ [])
+programs-next : (at i : ℕ) (bs : List ℕ) → i < length bs → programs at (take (i + 1) bs) ≡ programs at (take i bs) ++ (program (at + i) (get_or bs i 0) ∷ [])
 unfolding programs
 programs-next at i bs h =
-    rw (add-one, take-suc bs i 0 h, programs-append at (take i bs) (getD bs i 0 ∷ []), length-take-le i bs (omega arith))
+    rw (add-one, take-suc bs i 0 h, programs-append at (take i bs) (get_or bs i 0 ∷ []), length-take-le i bs (omega arith))
 
 -- a loop that programs bytes: the first i are programmed; a turn; and the end, where all are or the budget goes no further
 abbrev pub ProgrammedTo : ℕ → ℕ → List ℕ → Image → Image → Type 0
 ProgrammedTo at i bs s t = (B : ℕ) → t ≡ run B (programs at (take i bs)) s
 
-pub programs-turn : (at i : ℕ) (bs : List ℕ) (s t : Image) → i < length bs → ProgrammedTo at i bs s t → ProgrammedTo at (i + 1) bs s (set t (at + i) (bitAnd (getD t (at + i) 0) (getD bs i 0)))
+pub programs-turn : (at i : ℕ) (bs : List ℕ) (s t : Image) → i < length bs → ProgrammedTo at i bs s t → ProgrammedTo at (i + 1) bs s (set t (at + i) (bit_and (get_or t (at + i) 0) (get_or bs i 0)))
 unfolding run step clear
 programs-turn at i bs s t h e B =
-    let x : List Step = program (at + i) (getD bs i 0) ∷ [] in
+    let x : List Step = program (at + i) (get_or bs i 0) ∷ [] in
     ap (run B x) (e B) ∙ sym (run-append B (programs at (take i bs)) x s) ∙ ap (λ (l : List Step). run B l s) (sym (programs-next at i bs h))
 
 take-programs : (at n : ℕ) (bs : List ℕ) → take n (programs at bs) ≡ programs at (take n bs)
@@ -136,15 +136,15 @@ length-programs at [] = refl
 length-programs at (b ∷ bs) = ap suc (length-programs (suc at) bs)
 
 take-covered : (n : ℕ) (bs : List ℕ) → take (min n (length bs)) bs ≡ take n bs
-take-covered n bs = elim (decLe n (length bs)) [ yes h ↦ rw (min-eq-left h) | no h ↦ long (omega arith) ]
+take-covered n bs = elim (dec_le n (length bs)) [ yes h ↦ rw (min-eq_left h) | no h ↦ long (omega arith) ]
   where
     long : length bs ≤ n → take (min n (length bs)) bs ≡ take n bs
-    long h = rw (min-eq-right h, take-length bs) (sym (take-all n bs h))
+    long h = rw (min-eq_right h, take-length bs) (sym (take_all n bs h))
 
 pub programs-covered : (at n i : ℕ) (bs : List ℕ) (s t : Image) → i ≡ min n (length bs) → ProgrammedTo at i bs s t → Programmed (programs at bs) n (n - i) s t
 programs-covered at n i bs s t h e B = record {
   image = e B ∙ ap (λ (l : List Step). run B l s) (ap (programs at) (rw h (take-covered n bs)) ∙ sym (take-programs at n bs));
-  rest = omega (arith, length-programs at bs, min-le-left n (length bs));
+  rest = omega (arith, length-programs at bs, min-le_left n (length bs));
 }
 
 -- ---- erasing
@@ -156,7 +156,7 @@ erasing at n i s = paste s at (erased n) i
 pub erasing-next : (at n i : ℕ) (s : Image) → at + n ≤ length s → i < n → set (erasing at n i s) (at + i) 255 ≡ erasing at n (i + 1) s
 unfolding erased
 erasing-next at n i s h k =
-    ap (set (erasing at n i s) (at + i)) (sym (getD-replicate n i 255 0 k))
+    ap (set (erasing at n i s) (at + i)) (sym (get_or-replicate n i 255 0 k))
     ∙ paste-suc s at (replicate n 255) i 0 (omega arith) (rw length-replicate k)
     ∙ ap (λ (j : ℕ). erasing at n j s) (sym (add-one i))
 
@@ -164,22 +164,22 @@ pub erasing-end : (S i j : ℕ) (s : Image) → i * S + S ≤ length s → j ≡
 unfolding erased stepIn withUnit
 erasing-end S i j s h e =
     let u : List ℕ = replicate S 255 in
-    let w : take S u ≡ u = take-all S u (le-of-eq (length-replicate S 255)) in
-    rw (e, w, le-leb (i * S + S) (length s) h, append-assoc)
+    let w : take S u ≡ u = take_all S u (le_of_eq (length-replicate S 255)) in
+    rw (e, w, le-leb (i * S + S) (length s) h, append_assoc)
 
 -- a segment is a unit of B + 1 pages
 segment-is-unit : (B i : ℕ) (s : Image) → stepIn ((B + 1) * 256) (erase i) s ≡ step B (erase i) s
 unfolding stepIn withUnit step withSegment
 segment-is-unit B i s =
-    let from : i * ((B + 1) * 256) ≡ i * (B + 1) * 256 = omega (arith, mul-assoc i (B + 1) 256) in
+    let from : i * ((B + 1) * 256) ≡ i * (B + 1) * 256 = omega (arith, mul_assoc i (B + 1) 256) in
     let to : i * ((B + 1) * 256) + (B + 1) * 256 ≡ (i * (B + 1) + (B + 1)) * 256 = omega arith in
     rw (to, from)
 
 pub segment-erased : (B i n : ℕ) {m : ℕ} {s t : Image} → RanIn (erase i ∷ []) ((B + 1) * 256) n m s t → Ran (erase i ∷ []) B n m s t
 unfolding run runIn
-segment-erased B i zero d = record { image = d .image; rest = d .rest }
-segment-erased B i (suc zero) {m} {s} d = record { image = d .image ∙ segment-is-unit B i s; rest = d .rest }
-segment-erased B i (suc (suc n)) {m} {s} d = record { image = d .image ∙ segment-is-unit B i s; rest = d .rest }
+segment-erased B i zero d = record { image = d.image; rest = d.rest }
+segment-erased B i (suc zero) {m} {s} d = record { image = d.image ∙ segment-is-unit B i s; rest = d.rest }
+segment-erased B i (suc (suc n)) {m} {s} d = record { image = d.image ∙ segment-is-unit B i s; rest = d.rest }
 
 -- ---- a part of the image: steps on it are the shifted steps on the whole
 
@@ -187,11 +187,11 @@ set-append-add : (xs ys : List ℕ) (o v : ℕ) → set (xs ++ ys) (length xs + 
 set-append-add [] ys o v = rw zero-add
 set-append-add (x ∷ xs) ys o v = rw suc-add (ap (λ (l : List ℕ). x ∷ l) (set-append-add xs ys o v))
 
-step-part : (B at v : ℕ) (a p z : List ℕ) → at < length p → step B (program (length a + at) v) (a ++ (p ++ z)) ≡ a ++ (step B (program at v) p ++ z)
+step_part : (B at v : ℕ) (a p z : List ℕ) → at < length p → step B (program (length a + at) v) (a ++ (p ++ z)) ≡ a ++ (step B (program at v) p ++ z)
 unfolding step
-step-part B at v a p z h =
-    let g : getD (a ++ (p ++ z)) (length a + at) 0 ≡ getD p at 0 = getD-append-add a (p ++ z) at 0 ∙ List·getD-append p z 0 at h in
-    rw (g, set-append-add) (ap (λ (l : List ℕ). a ++ l) (set-append-left p z at (clear (getD p at 0) v) h))
+step_part B at v a p z h =
+    let g : get_or (a ++ (p ++ z)) (length a + at) 0 ≡ get_or p at 0 = get_or-append-add a (p ++ z) at 0 ∙ get_or-append p z 0 at h in
+    rw (g, set-append-add) (ap (λ (l : List ℕ). a ++ l) (set-append_left p z at (clear (get_or p at 0) v) h))
 
 run-part : (B n : ℕ) (a p z : List ℕ) (xs : List Step) → Within (length p) xs → run B (take n (shifted (length a) xs)) (a ++ (p ++ z)) ≡ a ++ (run B (take n xs) p ++ z)
 unfolding run shifted
@@ -200,8 +200,8 @@ run-part B (suc n) a p z [] h = refl
 run-part B n a p z (erase i ∷ xs) h = absurd h
 run-part B zero a p z (program at v ∷ xs) h = refl
 run-part B (suc n) a p z (program at v ∷ xs) h =
-    ap (λ (s : Image). run B (take n (shifted (length a) xs)) s) (step-part B at v a p z (h .0))
-    ∙ run-part B n a (step B (program at v) p) z xs (subst (λ (k : ℕ). Within k xs) (sym (step-length B (program at v) p)) (h .1))
+    ap (λ (s : Image). run B (take n (shifted (length a) xs)) s) (step_part B at v a p z h.0)
+    ∙ run-part B n a (step B (program at v) p) z xs (subst (λ (k : ℕ). Within k xs) (sym (step-length B (program at v) p)) h.1)
 
 shifted-length : (k : ℕ) (xs : List Step) → length (shifted k xs) ≡ length xs
 unfolding shifted
@@ -217,18 +217,18 @@ ran-part at c s xs {B} {n} h w d =
     let lp : length (take c (drop at s)) ≡ c = length-take-le c (drop at s) (omega (arith, length-drop at s)) in
     let e = run-part B n (take at s) (take c (drop at s)) (drop c (drop at s)) xs (subst (λ (k : ℕ). Within k xs) (sym lp) w) in
     let g : take at s ++ (take c (drop at s) ++ drop c (drop at s)) ≡ s = rw (take-append-drop c (drop at s)) (take-append-drop at s) in
-    record { image = rw (d .image) (sym (rw (la, g) at e)); rest = rw shifted-length (d .rest) }
+    record { image = rw d.image (sym (rw (la, g) at e)); rest = rw shifted-length d.rest }
 
 -- bytes programmed are so whatever an erase would take
 same-programmed : (S n c : ℕ) (xs : List Step) (s : Image) → Within c xs → runIn S (take n xs) s ≡ run 0 (take n xs) s
 unfolding run runIn step stepIn
 same-programmed S zero c xs s w = refl
 same-programmed S (suc n) c [] s w = refl
-same-programmed S (suc n) c (program at v ∷ xs) s w = same-programmed S n c xs (set s at (clear (getD s at 0) v)) (w .1)
+same-programmed S (suc n) c (program at v ∷ xs) s w = same-programmed S n c xs (set s at (clear (get_or s at 0) v)) w.1
 same-programmed S (suc n) c (erase i ∷ xs) s w = absurd w
 
 pub programmed-in : (S c : ℕ) {n m : ℕ} {xs : List Step} {s t : Image} → Within c xs → Programmed xs n m s t → RanIn xs S n m s t
-programmed-in S c {n} {m} {xs} {s} w d = record { image = d 0 .image ∙ sym (same-programmed S n c xs s w); rest = d 0 .rest }
+programmed-in S c {n} {m} {xs} {s} w d = record { image = (d 0).image ∙ sym (same-programmed S n c xs s w); rest = (d 0).rest }
 
 -- steps in a page are the steps shifted by the page's offset
 pub shifted-page : (p : ℕ) (xs : List Step) → shifted (p * 256) xs ≡ onPage p xs
@@ -248,7 +248,7 @@ page-shifted q p (erase i ∷ xs) = ap (λ (l : List Step). erase i ∷ l) (page
 
 pub within-append : (c : ℕ) (xs ys : List Step) → Within c xs → Within c ys → Within c (xs ++ ys)
 within-append c [] ys p q = q
-within-append c (program at v ∷ xs) ys p q = (p .0, within-append c xs ys (p .1) q)
+within-append c (program at v ∷ xs) ys p q = (p.0, within-append c xs ys p.1 q)
 within-append c (erase i ∷ xs) ys p q = p
 
 pub within-programs : (c at : ℕ) (bs : List ℕ) → at + length bs ≤ c → Within c (programs at bs)
@@ -259,7 +259,7 @@ within-programs c at (b ∷ bs) h = (omega arith, within-programs c (suc at) bs 
 within-page : (c p : ℕ) (xs : List Step) → p * 256 + 256 ≤ c → Within 256 xs → Within c (onPage p xs)
 unfolding onPage
 within-page c p [] h w = tt
-within-page c p (program at v ∷ xs) h w = (omega (arith, w .0), within-page c p xs h (w .1))
+within-page c p (program at v ∷ xs) h w = (omega (arith, w.0), within-page c p xs h w.1)
 within-page c p (erase i ∷ xs) h w = absurd w
 
 -- what a callee did in page p of the part of c bytes that begins with page q

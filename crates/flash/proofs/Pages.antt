@@ -1,19 +1,19 @@
 -- Laws of pages: bytes of a page that was made up, a page lent from the image, and an image of a right size.
-use Prim.Native.Nat.{ℕ, _+_, _-_, _*_, _%_, _≤_, _<_}
-use mathlib.Core.Path.{_≡_}
+use Prim.Native.Nat.{ℕ, ◌+◌, ◌-◌, ◌*◌, ◌%◌, ◌≤◌, ◌<◌}
+use mathlib.Core.Path.{◌≡◌}
 use mathlib.Core.Bool.{true}
-use mathlib.Core.List.{List, _++_}
-use native.Mathlib.Nat.{suc-mul, mul-le-mul-right, mod-lt}
+use mathlib.Core.List.{List, ◌++◌}
+use native.Mathlib.Nat.{suc-mul, mul-le-mul_right, mod-lt}
 use native.Mathlib.Omega.{arith}
 use lib.ListN.{length, take, drop, length-take}
 use lib.Dec.{leb, eqb}
 use borrow.Author.Tests.{leb-true, eqb-true}
-use Rattle·model.specs.Chip.{Image, Page, Step, mostSegments, inRange, imageLength, rightSize}
-use Rattle·model.specs.Steps.{programs, programPart, onPage, headerAt}
-use Rattle·model.specs.Laws.Lists.{and-left, and-right}
-use Rattle·flash·specs.specs.Ran.{Programmed, shifted, Within}
-use Rattle·flash·specs.specs.Pages.{OnPageAt, Sized}
-use Rattle·flash·proofs.proofs.Laws.{ran-part, shifted-page, within-programs}
+use Rattle.model.specs.Chip.{Image, Page, Step, mostSegments, in_range, imageLength, rightSize}
+use Rattle.model.specs.Steps.{programs, programPart, onPage, header_at}
+use Rattle.model.specs.Laws.Lists.{and_left, and_right}
+use Rattle.flash.specs.Ran.{Programmed, shifted, Within}
+use Rattle.flash.specs.Pages.{OnPageAt, Sized}
+use Rattle.flash.proofs.Laws.{ran-part, shifted-page, within-programs}
 
 -- ---- bytes of a page
 
@@ -39,20 +39,20 @@ in-page at p xs e d = let f : shifted at xs ≡ onPage p xs = rw e (shifted-page
 -- ---- an image of a right size
 
 pub sized : (N B : ℕ) (s : Image) → rightSize N B s ≡ true → Sized N B (length s)
-unfolding rightSize inRange imageLength
+unfolding rightSize in_range imageLength
 sized N B s e =
-    let range = and-left _ (eqb (length s) (N * (B + 1) * 256)) e in
-    let more = and-right (leb 2 N) _ range in
-    let most = and-right (leb N mostSegments) _ more in
+    let range = and_left _ (eqb (length s) (N * (B + 1) * 256)) e in
+    let more = and_right (leb 2 N) _ range in
+    let most = and_right (leb N mostSegments) _ more in
     record {
-      some = omega (arith, leb-true 2 N (and-left (leb 2 N) _ range));
-      segments = omega (arith, leb-true N mostSegments (and-left (leb N mostSegments) _ more));
-      slots = leb-true B 255 (and-right (leb 2 B) (leb B 255) most);
-      whole = eqb-true (length s) (N * (B + 1) * 256) (and-right (inRange N B) _ e);
+      some = omega (arith, leb-true 2 N (and_left (leb 2 N) _ range));
+      segments = omega (arith, leb-true N mostSegments (and_left (leb N mostSegments) _ more));
+      slots = leb-true B 255 (and_right (leb 2 B) (leb B 255) most);
+      whole = eqb-true (length s) (N * (B + 1) * 256) (and_right (in_range N B) _ e);
     }
 
 pub segment-inside : (N B i bytes : ℕ) → Sized N B bytes → i < N → (i * (B + 1) + (B + 1)) * 256 ≤ bytes
-segment-inside N B i bytes z h = omega (arith, z .whole, mul-le-mul-right (B + 1) h, suc-mul i (B + 1))
+segment-inside N B i bytes z h = omega (arith, z.whole, mul-le-mul_right (B + 1) h, suc-mul i (B + 1))
 
 pub index-small : (n N : ℕ) → 0 < N → N ≤ 255 → n % N < 255
 index-small n N z h = omega (arith, mod-lt n {m = N} z)
@@ -61,8 +61,8 @@ index-small n N z h = omega (arith, mod-lt n {m = N} z)
 pub header-small : (n N B : ℕ) → 0 < N → N ≤ 255 → B ≤ 255 → n % N * (B + 1) ≤ 65280
 header-small n N B z h k =
     let l : n % N ≤ 255 = omega (arith, index-small n N z h) in
-    omega (arith, mul-le-mul-right (B + 1) l)
+    omega (arith, mul-le-mul_right (B + 1) l)
 
-pub header-inside : (N B n bytes : ℕ) → Sized N B bytes → headerAt N B n * 256 + 256 ≤ bytes
-unfolding headerAt
-header-inside N B n bytes h = omega (arith, h .whole, suc-mul (n % N) (B + 1), mul-le-mul-right (B + 1) (mod-lt n {m = N} (h .some)))
+pub header-inside : (N B n bytes : ℕ) → Sized N B bytes → header_at N B n * 256 + 256 ≤ bytes
+unfolding header_at
+header-inside N B n bytes h = omega (arith, h.whole, suc-mul (n % N) (B + 1), mul-le-mul_right (B + 1) (mod-lt n {m = N} h.some))

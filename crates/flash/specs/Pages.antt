@@ -1,9 +1,7 @@
 -- Pages in an image: steps done in one of them, and an image of whole segments.
-use Prim.Native.Nat.{ℕ, _+_, _*_, _≤_, _<_}
-use mathlib.Core.Path.{_≡_}
-use mathlib.Core.List.{List}
-use Rattle·model.specs.Chip.{Image, Step, mostSegments, mostSlots}
-use Rattle·flash·specs.specs.Ran.{Programmed, shifted}
+use Rattle.std.specs.Prelude.{ℕ, ◌+◌, ◌*◌, ◌≤◌, ◌<◌, ◌≡◌, List}
+use Rattle.model.specs.Chip.{Image, Step, mostSegments, mostSlots}
+use Rattle.flash.specs.Ran.{Programmed, shifted}
 
 -- steps within a page that were done where it begins, at an offset of the image
 abbrev pub OnPageAt : ℕ → List Step → ℕ → ℕ → Image → Image → Type 0

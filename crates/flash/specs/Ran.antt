@@ -1,10 +1,7 @@
 -- The relation that every writer's contract states: a list of steps carried out under a budget.
-use Prim.Native.Nat.{ℕ, _+_, _-_, _<_}
-use mathlib.Core.Path.{_≡_}
-use mathlib.Core.List.{List, [], _∷_}
-use lib.ListN.{length, take}
-use Rattle·model.specs.Chip.{Image, Step, program, erase}
-use Rattle·flash·specs.specs.Units.{Erases, segments, units, done}
+use Rattle.std.specs.Prelude.{ℕ, ◌+◌, ◌-◌, ◌<◌, ◌≡◌, List, [], ◌∷◌, length, take}
+use Rattle.model.specs.Chip.{Image, Step, program, erase}
+use Rattle.flash.specs.Units.{Erases, segments, units, done}
 
 -- the image is that after as many of the steps as the budget covers, and each step done has taken one from the budget
 pub record RanOn (chip : Erases) (steps : List Step) (budget left : ℕ) (from to : Image) : Type 0 where

@@ -1,10 +1,6 @@
 -- A chip of which any number of bytes is one erase unit (request #109). Programming is as on the store's chip, whose unit is a segment of B + 1 pages.
-use Prim.Native.Nat.{ℕ, _+_, _*_}
-use mathlib.Core.Bool.{cond}
-use mathlib.Core.List.{List, [], _∷_, _++_}
-use lib.ListN.{length, getD, take, drop, set}
-use lib.Dec.{leb}
-use Rattle·model.specs.Chip.{Image, Step, program, erase, clear, erased, run}
+use Rattle.std.specs.Prelude.{ℕ, ◌+◌, ◌*◌, cond, List, [], ◌∷◌, ◌++◌, length, get_or, take, drop, set, leb}
+use Rattle.model.specs.Chip.{Image, Step, program, erase, clear, erased, run}
 
 -- the image with the S bytes of unit i replaced by these
 unfoldable pub withUnit : ℕ → ℕ → List ℕ → Image → Image
@@ -12,7 +8,7 @@ withUnit S i u s = take (i * S) s ++ (u ++ drop (i * S + S) s)
 
 -- outside the image a step does nothing
 unfoldable pub stepIn : ℕ → Step → Image → Image
-stepIn S (program at v) s = set s at (clear (getD s at 0) v)
+stepIn S (program at v) s = set s at (clear (get_or s at 0) v)
 stepIn S (erase i) s = cond (leb (i * S + S) (length s)) (withUnit S i (erased S) s) s
 
 unfoldable pub runIn : ℕ → List Step → Image → Image

@@ -1,16 +1,13 @@
 // Flash steps under a budget. Each function that writes takes the budget and returns what is left of it.
-ghost use mathlib.Core.Path.{_≡_};
-ghost use mathlib.Core.List.{[], _∷_};
-ghost use Prim.Native.Nat.{_+_, _*_, _<_, _≤_, min};
-ghost use lib.ListN.{length};
-ghost use Rattle·model.specs.Chip.{program, erase};
-ghost use Rattle·model.specs.Steps.{programs, programPart};
-ghost use Rattle·flash·specs.specs.Ran.{Ran, RanIn, Programmed};
+ghost use Rattle.std.specs.Prelude.{◌≡◌, [], ◌∷◌, ◌+◌, ◌*◌, ◌<◌, ◌≤◌, min, length};
+ghost use Rattle.model.specs.Chip.{program, erase};
+ghost use Rattle.model.specs.Steps.{programs, programPart};
+ghost use Rattle.flash.specs.Ran.{Ran, RanIn, Programmed};
 
 // Programs one byte.
 pub fn program_byte(image: &mut [u8], at: usize, value: u8, budget: u64) -> u64
-    requires { ⌜ at < length (now image) ⌝ }
-    ensures { λ r. ⌜ Programmed (program at value ∷ []) budget r (now (image .entry)) (now (image .exit)) ⌝ }
+    requires { at < length image.old }
+    ensures { Programmed (program at value ∷ []) budget result image.old image.new }
 {
     if budget == 0 {
         return 0;
@@ -20,7 +17,7 @@ pub fn program_byte(image: &mut [u8], at: usize, value: u8, budget: u64) -> u64
 }
 
 pub fn least(a: usize, b: usize) -> usize
-    ensures { λ r. ⌜ r ≡ min a b ⌝ }
+    ensures { result ≡ min a b }
 {
     if a < b { a } else { b }
 }
@@ -28,8 +25,8 @@ pub fn least(a: usize, b: usize) -> usize
 // Programs bytes one after the other. How far the budget goes is found out before, so that nothing in the loop keeps the
 // compiler from clearing many bytes at a time.
 pub fn program_run(image: &mut [u8], at: usize, bytes: &[u8], budget: u64) -> u64
-    requires { ⌜ at + length (now bytes) ≤ length (now image) ⌝ }
-    ensures { λ r. ⌜ Programmed (programs at (now (bytes .entry))) budget r (now (image .entry)) (now (image .exit)) ⌝ }
+    requires { at + length bytes.now ≤ length image.old }
+    ensures { Programmed (programs at bytes.now) budget result image.old image.new }
 {
     let covered = least(budget as usize, bytes.len());
     let mut left = budget;
@@ -45,8 +42,8 @@ pub fn program_run(image: &mut [u8], at: usize, bytes: &[u8], budget: u64) -> u6
 
 // Programs some bytes of a page that was made up, where they belong.
 pub fn program_part(page: &mut [u8], made: &[u8], at: usize, count: usize, budget: u64) -> u64
-    requires { ⌜ (at + count ≤ length (now made)) × (length (now made) ≡ length (now page)) ⌝ }
-    ensures { λ r. ⌜ Programmed (programPart (now (made .entry)) at count) budget r (now (page .entry)) (now (page .exit)) ⌝ }
+    requires { (at + count ≤ length made.now) × (length made.now ≡ length page.old) }
+    ensures { Programmed (programPart made.now at count) budget result page.old page.new }
 {
     let end = at + count;
     program_run(page, at, &made[at..end], budget)
@@ -54,8 +51,8 @@ pub fn program_part(page: &mut [u8], made: &[u8], at: usize, count: usize, budge
 
 // Erases a unit of so many bytes, as one step.
 pub fn erase_unit(image: &mut [u8], index: usize, bytes: usize, budget: u64) -> u64
-    requires { ⌜ index * bytes + bytes ≤ length (now image) ⌝ }
-    ensures { λ r. ⌜ RanIn (erase index ∷ []) bytes budget r (now (image .entry)) (now (image .exit)) ⌝ }
+    requires { index * bytes + bytes ≤ length image.old }
+    ensures { RanIn (erase index ∷ []) bytes budget result image.old image.new }
 {
     if budget == 0 {
         return 0;
@@ -71,8 +68,8 @@ pub fn erase_unit(image: &mut [u8], index: usize, bytes: usize, budget: u64) -> 
 
 // Erases the segment at an index, as one step.
 pub fn erase_segment(image: &mut [u8], index: usize, slots: usize, budget: u64) -> u64
-    requires { ⌜ (index * (slots + 1) + (slots + 1)) * 256 ≤ length (now image) ⌝ }
-    ensures { λ r. ⌜ Ran (erase index ∷ []) slots budget r (now (image .entry)) (now (image .exit)) ⌝ }
+    requires { (index * (slots + 1) + (slots + 1)) * 256 ≤ length image.old }
+    ensures { Ran (erase index ∷ []) slots budget result image.old image.new }
 {
     let bytes = (slots + 1) * 256;
     erase_unit(image, index, bytes, budget)

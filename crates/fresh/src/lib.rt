@@ -1,17 +1,14 @@
 // A fresh image built from the live slots that a table of places tells (request #106).
-use adding::OPENING;
-use adding::Progress;
-use model::Performed;
-use model::SegmentNumber;
+ghost use Rattle.std.specs.Prelude.{◌≡◌, true, ◌++◌};
+ghost use Rattle.model.specs.Chip.{rightSize};
+ghost use Rattle.model.specs.Steps.{formatSteps};
+ghost use Rattle.model.specs.Answers.{performed, worked};
+ghost use Rattle.moves.specs.Placed.{placed};
+ghost use Rattle.fresh.specs.Fresh.{listed, Pointing};
+
+use adding::{OPENING, Progress};
+use model::{Performed, SegmentNumber};
 use places::LEAST_PLACES;
-ghost use mathlib.Core.Path.{_≡_};
-ghost use mathlib.Core.Bool.{true};
-ghost use mathlib.Core.List.{_++_};
-ghost use Rattle·model.specs.Chip.{rightSize};
-ghost use Rattle·model.specs.Steps.{formatSteps};
-ghost use Rattle·model.specs.Answers.{performed, worked};
-ghost use Rattle·moves.specs.Placed.{placed};
-ghost use Rattle·fresh·specs.specs.Fresh.{listed, Pointing};
 
 // Builds a fresh image from the live slots of another that a table of places tells: formatted, then each written by rising
 // block number. Once the budget is used up the rest does nothing.
@@ -23,8 +20,8 @@ pub fn build(
     slots: usize,
     budget: u64,
 ) -> Performed
-    requires { ⌜ (rightSize segments slots (now target) ≡ true) × Pointing (now source) (now places) ⌝ }
-    ensures { λ r. ⌜ performed r (now (target .exit)) ≡ worked slots (record { code = 0; steps = formatSteps segments slots ++ placed segments slots 0 0 (listed (now (source .entry)) (now (places .entry)) 1 65535) }) (now (target .entry)) budget ⌝ }
+    requires { (rightSize segments slots target.old ≡ true) × Pointing source.now places.now }
+    ensures { performed result target.new ≡ worked slots (record { code = 0; steps = formatSteps segments slots ++ placed segments slots 0 0 (listed source.now places.now 1 65535) }) target.old budget }
 {
     let formatted = store::format(target, segments, slots, budget);
     let mut at = Progress {

@@ -1,10 +1,7 @@
 -- What the contracts of this crate say beside the definitions of the model.
-use Prim.Native.Nat.{ℕ}
-use mathlib.Core.Bool.{Bool, cond}
-use mathlib.Core.List.{_++_}
-use lib.ListN.{take, drop}
-use Rattle·model.specs.Chip.{Page, erased}
-use Rattle·model.specs.Header.{value, version1, newVersion, headerPage}
+use Rattle.std.specs.Prelude.{ℕ, Bool, cond, ◌++◌, take, drop}
+use Rattle.model.specs.Chip.{Page, erased}
+use Rattle.model.specs.Header.{value, version1, newVersion, headerPage}
 
 unfoldable pub headerTotal : Page → ℕ
 headerTotal h = value (take 4 (drop 17 h))

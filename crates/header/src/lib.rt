@@ -1,11 +1,10 @@
 // The fields of a header page taken apart, those that both versions have made up, and its place.
+ghost use Rattle.std.specs.Prelude.{◌≡◌, ◌+◌, ◌*◌, ◌%◌, ◌<◌, ◌≤◌, length};
+ghost use Rattle.model.specs.Header.{isFormer, headerNumber, headerVersion};
+ghost use Rattle.model.specs.Steps.{header_at};
+ghost use Rattle.header.specs.Parts.{headerTotal, headerFields};
+
 use model::SegmentNumber;
-ghost use mathlib.Core.Path.{_≡_};
-ghost use Prim.Native.Nat.{_+_, _*_, _%_, _<_, _≤_};
-ghost use lib.ListN.{length};
-ghost use Rattle·model.specs.Header.{isFormer, headerNumber, headerVersion};
-ghost use Rattle·model.specs.Steps.{headerAt};
-ghost use Rattle·header·specs.specs.Parts.{headerTotal, headerFields};
 
 // Status bytes, by the names of the model's definitions.
 pub const OPENED: u8 = 0x3F;
@@ -30,38 +29,38 @@ const VERSION_2: u8 = 2;
 // ---- taken apart
 
 pub fn low_byte(x: usize) -> u8
-    ensures { λ r. ⌜ r ≡ x % 256 ⌝ }
+    ensures { result ≡ x % 256 }
 {
     (x % 256) as u8
 }
 
 // Four bytes as a number, low byte first.
 fn long(a: u8, b: u8, c: u8, d: u8) -> u32
-    ensures { λ r. ⌜ r ≡ a + 256 * (b + 256 * (c + 256 * d)) ⌝ }
+    ensures { result ≡ a + 256 * (b + 256 * (c + 256 * d)) }
 {
     a as u32 + 256 * (b as u32 + 256 * (c as u32 + 256 * (d as u32)))
 }
 
 // The number in a header page, in use or not.
 pub fn header_number(page: &[u8]) -> SegmentNumber
-    requires { ⌜ length (now page) ≡ 256 ⌝ }
-    ensures { λ r. ⌜ r .0 ≡ headerNumber (now (page .entry)) ⌝ }
+    requires { length page.now ≡ 256 }
+    ensures { result.0 ≡ headerNumber page.now }
 {
     SegmentNumber(long(page[8], page[9], page[10], page[11]))
 }
 
 // The total in a header page, in use or not.
 pub fn header_total(page: &[u8]) -> usize
-    requires { ⌜ length (now page) ≡ 256 ⌝ }
-    ensures { λ r. ⌜ (r ≡ headerTotal (now (page .entry))) × (r < 4294967296) ⌝ }
+    requires { length page.now ≡ 256 }
+    ensures { (result ≡ headerTotal page.now) × (result < 4294967296) }
 {
     long(page[17], page[18], page[19], page[20]) as usize
 }
 
 // Whether a header page, in use or not, has version 1: what has not version 2 is taken for it.
 pub fn is_former(page: &[u8]) -> bool
-    requires { ⌜ length (now page) ≡ 256 ⌝ }
-    ensures { λ r. ⌜ r ≡ isFormer (headerVersion (now (page .entry))) ⌝ }
+    requires { length page.now ≡ 256 }
+    ensures { result ≡ isFormer (headerVersion page.now) }
 {
     page[3] != VERSION_2
 }
@@ -75,8 +74,8 @@ pub fn header_fields(
     number: SegmentNumber,
     old: u8,
 ) -> [u8; 256]
-    requires { ⌜ (segments ≤ 255) × (slots ≤ 255) ⌝ }
-    ensures { λ r. ⌜ r ≡ headerFields segments slots former status (number .0) old ⌝ }
+    requires { (segments ≤ 255) × (slots ≤ 255) }
+    ensures { result ≡ headerFields segments slots former status number.0 old }
 {
     let n = number.0 as usize;
     let mut page = [255u8; 256];
@@ -104,8 +103,8 @@ pub fn header_fields(
 
 // The offset of the header page of the segment with a number.
 pub fn header_place(segments: usize, slots: usize, number: SegmentNumber) -> usize
-    requires { ⌜ (0 < segments) × (segments ≤ 255) × (slots ≤ 255) ⌝ }
-    ensures { λ r. ⌜ r ≡ headerAt segments slots (number .0) * 256 ⌝ }
+    requires { (0 < segments) × (segments ≤ 255) × (slots ≤ 255) }
+    ensures { result ≡ header_at segments slots number.0 * 256 }
 {
     number.0 as usize % segments * (slots + 1) * 256
 }

@@ -1,13 +1,10 @@
 -- What a header page shows: what follows its fields, and the whole.
-use Prim.Native.Nat.{ℕ}
-use mathlib.Core.Bool.{Bool, cond, _&&_}
-use lib.ListN.{take, drop}
-use lib.Dec.{ltb}
-use Rattle·model.specs.Chip.{Page, eraseLimit}
-use Rattle·model.specs.Header.{isFormer, headerStatus, headerNumber, headerVersion, headerInUse, isBlank}
-use Rattle·header.specs.Parts.{headerTotal}
-use Rattle·header_seen·specs.specs.declared.HeaderSeen.{HeaderSeen}
-use Rattle·header_seen·specs.specs.declared.HeaderSeen.the-variants.{InUse, NotInUse}
+use Rattle.std.specs.Prelude.{ℕ, Bool, cond, ◌&&◌, take, drop, ltb}
+use Rattle.model.specs.Chip.{Page, eraseLimit}
+use Rattle.model.specs.Header.{isFormer, headerStatus, headerNumber, headerVersion, headerInUse, isBlank}
+use Rattle.header.specs.Parts.{headerTotal}
+use Rattle.header_seen.specs.declared.HeaderSeen.{HeaderSeen}
+use Rattle.header_seen.specs.declared.HeaderSeen.TheVariants.{InUse, NotInUse}
 
 -- the version, the status and the number of a segment in use
 unfoldable pub headerSeen : ℕ → ℕ → ℕ → Page → HeaderSeen

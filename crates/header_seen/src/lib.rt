@@ -1,21 +1,14 @@
 // Whether a header page is that of a segment in use, and what it says then.
-use header::BITS;
-use header::COMPACTED;
-use header::ERASE_PENDING;
-use header::FIELDS;
-use header::NO_OLD_SEGMENT;
-use header::OPENED;
-use header::TOTAL_END;
-use model::ERASE_LIMIT;
-use model::SegmentNumber;
-ghost use mathlib.Core.Path.{_≡_};
-ghost use Prim.Native.Nat.{_<_, _≤_};
-ghost use lib.ListN.{length};
-ghost use Rattle·model.specs.Lists.{same};
-ghost use Rattle·model.specs.Header.{headerInUse, oldIndex, statusInUse};
-ghost use Rattle·header_seen·specs.specs.Seen.{tallyFits, headerSeen};
+ghost use Rattle.std.specs.Prelude.{◌≡◌, ◌<◌, ◌≤◌, length};
+ghost use Rattle.model.specs.Lists.{same};
+ghost use Rattle.model.specs.Header.{headerInUse, oldIndex, statusInUse};
+ghost use Rattle.header_seen.specs.Seen.{tallyFits, headerSeen};
+
+use header::{BITS, COMPACTED, ERASE_PENDING, FIELDS, NO_OLD_SEGMENT, OPENED, TOTAL_END};
+use model::{ERASE_LIMIT, SegmentNumber};
 
 // A header page: of a segment in use, whether it has version 1, its status and its number.
+#[derive(Drop)]
 pub enum HeaderSeen {
     InUse {
         former: bool,
@@ -27,8 +20,8 @@ pub enum HeaderSeen {
 
 // Whether two runs of bytes are the same.
 fn same_bytes(a: &[u8], b: &[u8]) -> bool
-    requires { ⌜ length (now a) ≡ length (now b) ⌝ }
-    ensures { λ r. ⌜ r ≡ same (now (a .entry)) (now (b .entry)) ⌝ }
+    requires { length a.now ≡ length b.now }
+    ensures { result ≡ same a.now b.now }
 {
     let mut i = 0;
     while i < a.len() {
@@ -42,8 +35,8 @@ fn same_bytes(a: &[u8], b: &[u8]) -> bool
 
 // The index of the old segment in a header in use: the one after its own, or none.
 fn old_index(segments: usize, index: usize, status: u8) -> u8
-    requires { ⌜ (index < segments) × (segments ≤ 255) ⌝ }
-    ensures { λ r. ⌜ r ≡ oldIndex segments index status ⌝ }
+    requires { (index < segments) × (segments ≤ 255) }
+    ensures { result ≡ oldIndex segments index status }
 {
     if status == OPENED {
         return NO_OLD_SEGMENT;
@@ -52,7 +45,7 @@ fn old_index(segments: usize, index: usize, status: u8) -> u8
 }
 
 fn status_in_use(status: u8) -> bool
-    ensures { λ r. ⌜ r ≡ statusInUse status ⌝ }
+    ensures { result ≡ statusInUse status }
 {
     if status == OPENED {
         return true;
@@ -66,8 +59,8 @@ fn status_in_use(status: u8) -> bool
 // Whether what follows the fields that both versions have is as the header's version wants it. What stays erased is left to
 // the blank test, which looks at eight bytes at a time.
 fn tally_fits(page: &[u8]) -> bool
-    requires { ⌜ length (now page) ≡ 256 ⌝ }
-    ensures { λ r. ⌜ r ≡ tallyFits (now (page .entry)) ⌝ }
+    requires { length page.now ≡ 256 }
+    ensures { result ≡ tallyFits page.now }
 {
     if header::is_former(page) {
         let rest = blank::blank_test(&page[FIELDS..]);
@@ -82,8 +75,8 @@ fn tally_fits(page: &[u8]) -> bool
 
 // Whether a header is that of a segment in use at an index.
 pub fn header_in_use(page: &[u8], segments: usize, slots: usize, index: usize) -> bool
-    requires { ⌜ (length (now page) ≡ 256) × (0 < segments) × (segments ≤ 255) × (slots ≤ 255) ⌝ }
-    ensures { λ r. ⌜ r ≡ headerInUse segments slots index (now (page .entry)) ⌝ }
+    requires { (length page.now ≡ 256) × (0 < segments) × (segments ≤ 255) × (slots ≤ 255) }
+    ensures { result ≡ headerInUse segments slots index page.now }
 {
     let status = page[5];
     if !status_in_use(status) {
@@ -113,8 +106,8 @@ pub fn header_in_use(page: &[u8], segments: usize, slots: usize, index: usize) -
 
 // What the header of a segment in use says.
 pub fn see_header(page: &[u8], segments: usize, slots: usize, index: usize) -> HeaderSeen
-    requires { ⌜ (length (now page) ≡ 256) × (0 < segments) × (segments ≤ 255) × (slots ≤ 255) ⌝ }
-    ensures { λ r. ⌜ r ≡ headerSeen segments slots index (now (page .entry)) ⌝ }
+    requires { (length page.now ≡ 256) × (0 < segments) × (segments ≤ 255) × (slots ≤ 255) }
+    ensures { result ≡ headerSeen segments slots index page.now }
 {
     if header_in_use(page, segments, slots, index) {
         return HeaderSeen::InUse {

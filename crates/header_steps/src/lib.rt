@@ -1,19 +1,13 @@
 // A header page made up, and programmed under a budget.
-use header::COMPACTED;
-use header::ERASE_PENDING;
-use header::FIELDS;
-use header::NO_OLD_SEGMENT;
-use header::OPENED;
-use header::TOTAL_END;
+ghost use Rattle.std.specs.Prelude.{◌≡◌, ◌%◌, ◌<◌, ◌≤◌, length};
+ghost use Rattle.model.specs.Header.{erasePending, newVersion, headerPage};
+ghost use Rattle.model.specs.Steps.{openSegment, settle};
+ghost use Rattle.flash.specs.Ran.{Programmed};
+ghost use Rattle.flash.specs.Pages.{Sized};
+ghost use Rattle.header_steps.specs.Parts.{headerBegun, headerFinished, beginCompaction, finishCopy};
+
+use header::{COMPACTED, ERASE_PENDING, FIELDS, NO_OLD_SEGMENT, OPENED, TOTAL_END};
 use model::SegmentNumber;
-ghost use mathlib.Core.Path.{_≡_};
-ghost use Prim.Native.Nat.{_%_, _<_, _≤_};
-ghost use lib.ListN.{length};
-ghost use Rattle·model.specs.Header.{erasePending, newVersion, headerPage};
-ghost use Rattle·model.specs.Steps.{openSegment, settle};
-ghost use Rattle·flash.specs.Ran.{Programmed};
-ghost use Rattle·flash.specs.Pages.{Sized};
-ghost use Rattle·header_steps·specs.specs.Parts.{headerBegun, headerFinished, beginCompaction, finishCopy};
 
 // Status bytes of a segment that is not in use yet, by the names of the model's definitions.
 const OPENING_BEGUN: u8 = 0x7F;
@@ -29,8 +23,8 @@ fn header_page(
     number: SegmentNumber,
     old: u8,
 ) -> [u8; 256]
-    requires { ⌜ (segments ≤ 255) × (slots ≤ 255) ⌝ }
-    ensures { λ r. ⌜ r ≡ headerPage segments slots (newVersion total) status (number .0) old ⌝ }
+    requires { (segments ≤ 255) × (slots ≤ 255) }
+    ensures { result ≡ headerPage segments slots (newVersion total) status number.0 old }
 {
     let mut page = header::header_fields(segments, slots, false, status, number, old);
     page[17] = header::low_byte(total);
@@ -48,8 +42,8 @@ fn compaction_page(
     old: SegmentNumber,
     number: SegmentNumber,
 ) -> [u8; 256]
-    requires { ⌜ (0 < segments) × (segments ≤ 255) × (slots ≤ 255) ⌝ }
-    ensures { λ r. ⌜ r ≡ headerPage segments slots (newVersion total) erasePending (number .0) (old .0 % segments) ⌝ }
+    requires { (0 < segments) × (segments ≤ 255) × (slots ≤ 255) }
+    ensures { result ≡ headerPage segments slots (newVersion total) erasePending number.0 (old.0 % segments) }
 {
     let index = old.0 as usize % segments;
     header_page(segments, slots, total, ERASE_PENDING, number, index as u8)
@@ -57,8 +51,8 @@ fn compaction_page(
 
 // The first steps in a header: a status, then what every segment's header has.
 fn begin_header(header: &mut [u8], made: &[u8], status: u8, budget: u64) -> u64
-    requires { ⌜ (length (now header) ≡ 256) × (length (now made) ≡ 256) ⌝ }
-    ensures { λ r. ⌜ Programmed (headerBegun (now (made .entry)) status) budget r (now (header .entry)) (now (header .exit)) ⌝ }
+    requires { (length header.old ≡ 256) × (length made.now ≡ 256) }
+    ensures { Programmed (headerBegun made.now status) budget result header.old header.new }
 {
     let begun = flash::program_byte(header, 5, status, budget);
     let marked = flash::program_part(header, made, 0, 5, begun);
@@ -67,8 +61,8 @@ fn begin_header(header: &mut [u8], made: &[u8], status: u8, budget: u64) -> u64
 
 // The last steps in a header: the total, the number, then a status.
 fn finish_header(header: &mut [u8], made: &[u8], status: u8, budget: u64) -> u64
-    requires { ⌜ (length (now header) ≡ 256) × (length (now made) ≡ 256) ⌝ }
-    ensures { λ r. ⌜ Programmed (headerFinished (now (made .entry)) status) budget r (now (header .entry)) (now (header .exit)) ⌝ }
+    requires { (length header.old ≡ 256) × (length made.now ≡ 256) }
+    ensures { Programmed (headerFinished made.now status) budget result header.old header.new }
 {
     let tallied = flash::program_part(header, made, FIELDS, TOTAL_END - FIELDS, budget);
     let numbered = flash::program_part(header, made, 8, 8, tallied);
@@ -84,8 +78,8 @@ pub fn open_header(
     number: SegmentNumber,
     budget: u64,
 ) -> u64
-    requires { ⌜ Sized segments slots (length (now image)) ⌝ }
-    ensures { λ r. ⌜ Programmed (openSegment segments slots (newVersion total) (number .0)) budget r (now (image .entry)) (now (image .exit)) ⌝ }
+    requires { Sized segments slots (length image.old) }
+    ensures { Programmed (openSegment segments slots (newVersion total) number.0) budget result image.old image.new }
 {
     let made = header_page(segments, slots, total, OPENED, number, NO_OLD_SEGMENT);
     let at = header::header_place(segments, slots, number);
@@ -105,8 +99,8 @@ pub fn begin_compaction(
     number: SegmentNumber,
     budget: u64,
 ) -> u64
-    requires { ⌜ Sized segments slots (length (now image)) ⌝ }
-    ensures { λ r. ⌜ Programmed (beginCompaction segments slots (newVersion total) (old .0) (number .0)) budget r (now (image .entry)) (now (image .exit)) ⌝ }
+    requires { Sized segments slots (length image.old) }
+    ensures { Programmed (beginCompaction segments slots (newVersion total) old.0 number.0) budget result image.old image.new }
 {
     let made = compaction_page(segments, slots, total, old, number);
     let at = header::header_place(segments, slots, number);
@@ -126,8 +120,8 @@ pub fn finish_copy(
     number: SegmentNumber,
     budget: u64,
 ) -> u64
-    requires { ⌜ Sized segments slots (length (now image)) ⌝ }
-    ensures { λ r. ⌜ Programmed (finishCopy segments slots (newVersion total) (old .0) (number .0)) budget r (now (image .entry)) (now (image .exit)) ⌝ }
+    requires { Sized segments slots (length image.old) }
+    ensures { Programmed (finishCopy segments slots (newVersion total) old.0 number.0) budget result image.old image.new }
 {
     let made = compaction_page(segments, slots, total, old, number);
     let at = header::header_place(segments, slots, number);
@@ -143,8 +137,8 @@ pub fn settle(
     number: SegmentNumber,
     budget: u64,
 ) -> u64
-    requires { ⌜ Sized segments slots (length (now image)) ⌝ }
-    ensures { λ r. ⌜ Programmed (settle segments slots (number .0)) budget r (now (image .entry)) (now (image .exit)) ⌝ }
+    requires { Sized segments slots (length image.old) }
+    ensures { Programmed (settle segments slots number.0) budget result image.old image.new }
 {
     let at = header::header_place(segments, slots, number);
     flash::program_byte(image, at + 5, COMPACTED, budget)

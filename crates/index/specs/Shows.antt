@@ -1,17 +1,15 @@
 -- A segment as it is shown, and its line.
-use Prim.Native.Nat.{ℕ, suc}
-use mathlib.Core.List.{List, [], _∷_, _++_}
-use lib.ListN.{length}
-use Rattle·model.specs.Lists.{count}
-use Rattle·model.specs.Slot.{Slot, isEmpty, isReplaced, isCut}
-use Rattle·model.specs.State.{Segment, blank, invalid, inUse, entries}
-use Rattle·judge.specs.declared.SegmentState.{SegmentState}
-use Rattle·judge.specs.declared.SegmentState.the-variants.{Blank, Invalid, InUse, Owing}
-use Rattle·judge.specs.Heads.{stateSeen}
-use Rattle·text.specs.Text.{text}
-use Rattle·text.specs.Buffer.{labelled}
-use Rattle·index·specs.specs.declared.Counts.{Counts}
-use Rattle·index·specs.specs.declared.Shown.{Shown}
+use Rattle.std.specs.Prelude.{ℕ, suc, List, [], ◌∷◌, ◌++◌, length}
+use Rattle.model.specs.Lists.{count}
+use Rattle.model.specs.Slot.{Slot, is_empty, isReplaced, isCut}
+use Rattle.model.specs.State.{Segment, blank, invalid, inUse, entries}
+use Rattle.judge.specs.declared.SegmentState.{SegmentState}
+use Rattle.judge.specs.declared.SegmentState.TheVariants.{Blank, Invalid, InUse, Owing}
+use Rattle.judge.specs.Heads.{stateSeen}
+use Rattle.text.specs.Text.{text}
+use Rattle.text.specs.Buffer.{labelled}
+use Rattle.index.specs.declared.Counts.{Counts}
+use Rattle.index.specs.declared.Shown.{Shown}
 
 -- ---- counted
 
@@ -19,7 +17,7 @@ unfoldable pub noCounts : Counts
 noCounts = record { live = 0; dead = 0; cut = 0; empty = 0 }
 
 unfoldable pub countsOf : List Slot → Counts
-countsOf ks = record { live = length (entries ks); dead = count isReplaced ks; cut = count isCut ks; empty = count isEmpty ks }
+countsOf ks = record { live = length (entries ks); dead = count isReplaced ks; cut = count isCut ks; empty = count is_empty ks }
 
 -- ---- shown
 
@@ -40,7 +38,7 @@ uncounted (inUse ver st n ks) = shownAs (stateSeen st) n noCounts
 -- ---- its line
 
 unfoldable pub countsLine : Counts → List ℕ
-countsLine c = labelled " live " (c .live) ++ (labelled " dead " (c .dead) ++ (labelled " cut " (c .cut) ++ labelled " empty " (c .empty)))
+countsLine c = labelled " live " c.live ++ (labelled " dead " c.dead ++ (labelled " cut " c.cut ++ labelled " empty " c.empty))
 
 unfoldable pub lineBy : SegmentState → ℕ → ℕ → Counts → List ℕ
 lineBy Blank i n c = labelled "seg " i ++ text " blank\n"
@@ -49,7 +47,7 @@ lineBy InUse i n c = labelled "seg " i ++ (labelled " used num " n ++ (countsLin
 lineBy Owing i n c = labelled "seg " i ++ (labelled " owing num " n ++ (countsLine c ++ text "\n"))
 
 unfoldable pub shownLine : ℕ → Shown → List ℕ
-shownLine i x = lineBy (x .state) i (x .number .0) (x .counts)
+shownLine i x = lineBy x.state i x.number.0 x.counts
 
 unfoldable pub shownLines : ℕ → List Shown → List ℕ
 shownLines i [] = []
@@ -63,8 +61,8 @@ afterBy InUse n = suc n
 afterBy Owing n = suc n
 
 unfoldable pub afterShown : Shown → ℕ
-afterShown x = afterBy (x .state) (x .number .0)
+afterShown x = afterBy x.state x.number.0
 
 -- with its slots counted
 unfoldable pub counted : Counts → Shown → Shown
-counted c x = record { number = x .number; counts = c; state = x .state }
+counted c x = record { number = x.number; counts = c; state = x.state }

@@ -1,15 +1,10 @@
 -- The live slots of an image by block number, in three tables: the first page of each block number, and of each page the next of its block, where 0 is none, and the length of its contents.
-use Prim.Native.Nat.{ℕ, zero, suc, _+_, _*_, _≤_, _<_}
-use mathlib.Core.Path.{_≡_}
-use mathlib.Core.Bool.{cond}
-use mathlib.Core.List.{List, [], _∷_, _++_}
-use lib.ListN.{length, getD, set}
-use lib.Dec.{eqb}
-use Rattle·model.specs.declared.SlotKind.{SlotKind}
-use Rattle·model.specs.declared.SlotKind.the-variants.{Empty, Torn, Live, Dead, Cut, Wrong}
-use Rattle·model.specs.Chip.{Image}
-use Rattle·model.specs.State.{segmentsOf}
-use Rattle·account_text.specs.Account.{LiveSlot, shown, liveSlots}
+use Rattle.std.specs.Prelude.{ℕ, zero, suc, ◌+◌, ◌*◌, ◌≤◌, ◌<◌, ◌≡◌, cond, List, [], ◌∷◌, ◌++◌, length, get_or, set, eqb}
+use Rattle.model.specs.declared.SlotKind.{SlotKind}
+use Rattle.model.specs.declared.SlotKind.TheVariants.{Empty, Torn, Live, Dead, Cut, Wrong}
+use Rattle.model.specs.Chip.{Image}
+use Rattle.model.specs.State.{segmentsOf}
+use Rattle.account_text.specs.Account.{LiveSlot, shown, liveSlots}
 
 pub record Tables : Type 0 where
   pub firsts : List ℕ
@@ -27,12 +22,12 @@ mostPages = 65536
 
 -- a page put before those of its block
 unfoldable pub link : ℕ → ℕ → ℕ → Tables → Tables
-link p b n t = tables (set (t .firsts) b p) (set (t .nexts) p (getD (t .firsts) b 0)) (set (t .lengths) p n)
+link p b n t = tables (set t.firsts b p) (set t.nexts p (get_or t.firsts b 0)) (set t.lengths p n)
 
 unfoldable pub linkKind : ℕ → SlotKind → Tables → Tables
 linkKind p Empty t = t
 linkKind p Torn t = t
-linkKind p (Live n b) t = link p (b .0) n t
+linkKind p (Live n b) t = link p b.0 n t
 linkKind p Dead t = t
 linkKind p Cut t = t
 linkKind p Wrong t = t
@@ -52,36 +47,36 @@ linkRow p [] t = t
 linkRow p (k ∷ ks) t = linkKind p k (linkRow (suc p) ks t)
 
 -- the page of a live slot
-unfoldable pub pageOf : ℕ → LiveSlot → ℕ
-pageOf B e = e .segment * (B + 1) + e .slot
+unfoldable pub page_of : ℕ → LiveSlot → ℕ
+page_of B e = e.segment * (B + 1) + e.slot
 
 -- live slots, the last one first
 unfoldable pub linked : ℕ → List LiveSlot → Tables → Tables
 linked B [] t = t
-linked B (e ∷ r) t = link (pageOf B e) (e .block) (length (e .contents)) (linked B r t)
+linked B (e ∷ r) t = link (page_of B e) e.block (length e.contents) (linked B r t)
 
 -- ---- what they say
 
 -- those of a block
 unfoldable pub ofBlock : ℕ → List LiveSlot → List LiveSlot
 ofBlock b [] = []
-ofBlock b (e ∷ r) = cond (eqb b (e .block)) (e ∷ ofBlock b r) (ofBlock b r)
+ofBlock b (e ∷ r) = cond (eqb b e.block) (e ∷ ofBlock b r) (ofBlock b r)
 
 -- from page p on, by the next of each
 abbrev pub Chain : ℕ → List ℕ → List ℕ → ℕ → List LiveSlot → Type 0
 Chain B nexts lengths p [] = p ≡ 0
-Chain B nexts lengths p (e ∷ r) = (p ≡ pageOf B e) × (0 < p) × Chain B nexts lengths (getD nexts p 0) r × (getD lengths p 0 ≡ length (e .contents))
+Chain B nexts lengths p (e ∷ r) = (p ≡ page_of B e) × (0 < p) × Chain B nexts lengths (get_or nexts p 0) r × (get_or lengths p 0 ≡ length e.contents)
 
 abbrev pub Listed : ℕ → Tables → List LiveSlot → Type 0
-Listed B t r = (b : ℕ) → Chain B (t .nexts) (t .lengths) (getD (t .firsts) b 0) (ofBlock b r)
+Listed B t r = (b : ℕ) → Chain B t.nexts t.lengths (get_or t.firsts b 0) (ofBlock b r)
 
 -- a live slot stands at a place of one of N segments of B slots, with a block number and a length that fit the tables
 pub record Stands (N B : ℕ) (e : LiveSlot) : Type 0 where
-  pub block : e .block < mostPages
-  pub segment : e .segment < N
-  pub first : 1 ≤ e .slot
-  pub slot : e .slot ≤ B
-  pub length : length (e .contents) < 256
+  pub block : e.block < mostPages
+  pub segment : e.segment < N
+  pub first : 1 ≤ e.slot
+  pub slot : e.slot ≤ B
+  pub length : length e.contents < 256
 
 abbrev pub AllStand : ℕ → ℕ → List LiveSlot → Type 0
 AllStand N B [] = Unit {0}
@@ -97,11 +92,11 @@ blocksBelow (suc k) r = blocksBelow k r ++ ofBlock k r
 -- ---- of an image
 
 -- the live slots that an account of it has lines for, by segment number, then slot
-unfoldable pub listOf : ℕ → ℕ → Image → List LiveSlot
-listOf N B s = liveSlots N (shown N B (segmentsOf N B s))
+unfoldable pub list_of : ℕ → ℕ → Image → List LiveSlot
+list_of N B s = liveSlots N (shown N B (segmentsOf N B s))
 
 -- tables that list them
 pub record Indexed (N B : ℕ) (s : Image) (t : Tables) : Type 0 where
-  pub listed : Listed B t (listOf N B s)
-  pub stands : AllStand N B (listOf N B s)
-  pub few : length (listOf N B s) < mostPages
+  pub listed : Listed B t (list_of N B s)
+  pub stands : AllStand N B (list_of N B s)
+  pub few : length (list_of N B s) < mostPages

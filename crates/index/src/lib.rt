@@ -4,6 +4,7 @@ use judge::SegmentState;
 use model::SegmentNumber;
 
 // The slots of a segment by kind; torn and wrong ones are in no count. A segment has at most 255 slots.
+#[derive(Drop)]
 pub struct Counts {
     pub live: u8,
     pub dead: u8,
@@ -12,6 +13,7 @@ pub struct Counts {
 }
 
 // A segment as it is shown: its state, and of one in use the number and the counts.
+#[derive(Drop)]
 pub struct Shown {
     pub number: SegmentNumber,
     pub counts: Counts,

@@ -1,24 +1,21 @@
 -- Two tenants on small chips, computed: what each is told, where a run is cut because the chip is worn, and what it means that two lists of replies are the same as far as both go.
-use Prim.Native.Nat.{ℕ}
-use mathlib.Core.Path.{_≡_, refl, ap}
-use mathlib.Core.List.{List, [], _∷_, _++_}
-use native.Mathlib.Omega.{arith}
-use lib.ListN.{replicate, getD}
-use Rattle·model.specs.Chip.{Image, Step, rightSize, pagesOf, withSegment, step, run}
-use Rattle·model.specs.Header.{newVersion}
-use Rattle·model.specs.State.{segmentsOf, state, view}
-use Rattle·model.specs.Steps.{onPage, slotAt, writeSlot, openSegment, eraseFirst}
-use Rattle·model.specs.Table.{liveBetween, tableOf}
-use Rattle·model.specs.Answers.{workOf, outcomeOf}
-use Rattle·model.specs.Histories.{Reply}
-use Rattle·model.specs.Laws.Bench.{evaluate}
-use Rattle·shares.specs.Shares.{sharesOf, rangeOk, overlap, disjoint, quotaSum, sharesWithin, sharesOk, isTenant, shareOf, owns}
-use Rattle·shares.specs.Layer.{Asked, puts, deletes, reads, blockAsked, storeRequest, bounds, beforeFull, quotaUsed, rows, shareCode, shareWork, contentsAsked, shareOutcome}
-use Rattle·isolation·specs.specs.Law.{Call, served, replyTo, Told, told, beforeWorn, requestsOf, repliesTo, SameAsFar, formatted}
+use Rattle.std.specs.Prelude.{ℕ, ◌≡◌, refl, List, [], ◌∷◌, ◌++◌, replicate, get_or}
+use Rattle.std.proofs.Common.{ap, arith}
+use Rattle.model.specs.Chip.{Image, Step, rightSize, pagesOf, withSegment, step, run}
+use Rattle.model.specs.Header.{newVersion}
+use Rattle.model.specs.State.{segmentsOf, state, view}
+use Rattle.model.specs.Steps.{onPage, slot_at, writeSlot, openSegment, eraseFirst}
+use Rattle.model.specs.Table.{liveBetween, table_of}
+use Rattle.model.specs.Answers.{workOf, outcomeOf}
+use Rattle.model.specs.Histories.{Reply}
+use Rattle.model.specs.Laws.Bench.{evaluate}
+use Rattle.shares.specs.Shares.{shares_of, rangeOk, overlap, disjoint, quotaSum, sharesWithin, sharesOk, isTenant, share_of, owns}
+use Rattle.shares.specs.Layer.{Asked, puts, deletes, reads, blockAsked, storeRequest, bounds, beforeFull, quotaUsed, rows, shareCode, shareWork, contentsAsked, shareOutcome}
+use Rattle.isolation.specs.Law.{Call, served, replyTo, Told, told, beforeWorn, requestsOf, repliesTo, SameAsFar, formatted}
 
 -- every definition unfolds where this name does
 unfoldable computes : ℕ
-unfolding evaluate rightSize pagesOf withSegment step run segmentsOf state view liveBetween tableOf workOf outcomeOf sharesOf rangeOk overlap disjoint quotaSum sharesWithin sharesOk isTenant shareOf owns blockAsked storeRequest bounds beforeFull quotaUsed rows shareCode shareWork contentsAsked shareOutcome served replyTo told
+unfolding evaluate rightSize pagesOf withSegment step run segmentsOf state view liveBetween table_of workOf outcomeOf shares_of rangeOk overlap disjoint quotaSum sharesWithin sharesOk isTenant share_of owns blockAsked storeRequest bounds beforeFull quotaUsed rows shareCode shareWork contentsAsked shareOutcome served replyTo told
 computes = 0
 
 -- ---- a chip of 3 segments with 2 slots: tenant 1 has the numbers 1 to 5 and two blocks, tenant 2 has 6 to 9 and one block
@@ -60,9 +57,9 @@ unfolding computes
 alone-told = refl
 
 -- tenant 1 asks for the same in both, and gets the same
-same-asked : (requestsOf 1 mixed ≡ puts 3 (65 ∷ []) ∷ puts 6 (1 ∷ []) ∷ reads 3 1 ∷ reads 4 1 ∷ []) × (requestsOf 1 alone ≡ puts 3 (65 ∷ []) ∷ puts 6 (1 ∷ []) ∷ reads 3 1 ∷ reads 4 1 ∷ [])
+same_asked : (requestsOf 1 mixed ≡ puts 3 (65 ∷ []) ∷ puts 6 (1 ∷ []) ∷ reads 3 1 ∷ reads 4 1 ∷ []) × (requestsOf 1 alone ≡ puts 3 (65 ∷ []) ∷ puts 6 (1 ∷ []) ∷ reads 3 1 ∷ reads 4 1 ∷ [])
 unfolding requestsOf
-same-asked = (refl, refl)
+same_asked = (refl, refl)
 
 same-got : (repliesTo 1 (fresh mixed) ≡ says 0 [] ∷ says 12 [] ∷ says 0 (65 ∷ []) ∷ says 6 [] ∷ []) × (repliesTo 1 (fresh alone) ≡ says 0 [] ∷ says 12 [] ∷ says 0 (65 ∷ []) ∷ says 6 [] ∷ [])
 unfolding repliesTo
@@ -82,7 +79,7 @@ none-cut = rw mixed-told refl
 -- ---- a worn chip
 
 abbrev slot : ℕ → ℕ → ℕ → List ℕ → List Step
-slot n j b c = onPage (slotAt 3 2 n j) (writeSlot b c)
+slot n j b c = onPage (slot_at 3 2 n j) (writeSlot b c)
 
 -- blocks 3 and 6, and a put that needs a new segment is worn: it would give number 3, and the tally is 99,999
 unfoldable spent : Image
@@ -108,10 +105,10 @@ worn-got = rw worn-cut (refl, refl)
 -- ---- the same as far as both go: a code or contents that differ are seen, in the first reply and in the next; what only one list has is not
 
 code-seen : (p q : List Reply) → SameAsFar (says 0 [] ∷ p) (says 7 [] ∷ q) → ⊥
-code-seen p q h = omega (arith, ap (λ (o : Reply). o .code) (h .0))
+code-seen p q h = omega (arith, ap (λ (o : Reply). o.code) h.0)
 
 bytes-seen : (p q : List Reply) → SameAsFar (says 0 [] ∷ says 0 (65 ∷ []) ∷ p) (says 0 [] ∷ says 0 (66 ∷ []) ∷ q) → ⊥
-bytes-seen p q h = omega (arith, ap (λ (o : Reply). getD (o .bytes) 0 0) (h .1 .0))
+bytes-seen p q h = omega (arith, ap (λ (o : Reply). get_or o.bytes 0 0) h.1.0)
 
 as-far : SameAsFar (says 0 [] ∷ []) (says 0 [] ∷ says 7 [] ∷ []) × SameAsFar (says 0 [] ∷ says 7 [] ∷ []) (says 0 [] ∷ [])
 as-far = ((refl, tt), (refl, tt))

@@ -1,21 +1,16 @@
 -- Request #110, what tenants can rely on: isolation, a share that is guaranteed, foreign blocks out of reach, and power cuts. One N and B, one list of shares ns.
-use Prim.Native.Nat.{ℕ, _<_}
-use mathlib.Core.Path.{_≡_}
-use mathlib.Core.Logic.{_⊎_, _≢_}
-use mathlib.Core.Bool.{true, false, cond}
-use mathlib.Core.List.{List, [], _∷_}
-use lib.Dec.{eqb}
-use Rattle·model.specs.Chip.{Image, Bytes, Cut, rightSize}
-use Rattle·model.specs.Slot.{numberOk}
-use Rattle·model.specs.State.{holds}
-use Rattle·model.specs.Table.{lookup, liveBetween, tableOf}
-use Rattle·model.specs.Answers.{Request, format, put, delete, read, readOr, recover, firstOf, workOf, outcomeOf}
-use Rattle·model.specs.Sequences.{among}
-use Rattle·model.specs.Histories.{Reply, Seen, answered, lost, Proper, Does, wears, Event, History, shown}
-use Rattle·crash.specs.Machine.{Promise, unknown, PlainRuns}
-use Rattle·crash.specs.Demand2.{Keeps, board}
-use Rattle·shares.specs.Shares.{sharesOf, sharesOk, shareOf, owns}
-use Rattle·shares.specs.Layer.{Asked, puts, reads, blockAsked, storeRequest, bounds, beforeFull, quotaUsed, shareCode, shareWork, Shared, shareOutcome}
+use Rattle.std.specs.Prelude.{ℕ, ◌<◌, ◌≡◌, ◌⊎◌, ◌≢◌, true, false, cond, List, [], ◌∷◌, eqb}
+use Rattle.model.specs.Chip.{Image, Bytes, Cut, rightSize}
+use Rattle.model.specs.Slot.{numberOk}
+use Rattle.model.specs.State.{holds}
+use Rattle.model.specs.Table.{lookup, liveBetween, table_of}
+use Rattle.model.specs.Answers.{Request, format, put, delete, read, readOr, recover, first_of, workOf, outcomeOf}
+use Rattle.model.specs.Sequences.{among}
+use Rattle.model.specs.Histories.{Reply, Seen, answered, lost, Proper, Does, wears, Event, History, shown}
+use Rattle.crash.specs.Machine.{Promise, unknown, PlainRuns}
+use Rattle.crash.specs.Demand2.{Keeps, board}
+use Rattle.shares.specs.Shares.{shares_of, sharesOk, share_of, owns}
+use Rattle.shares.specs.Layer.{Asked, puts, reads, blockAsked, storeRequest, bounds, beforeFull, quotaUsed, shareCode, shareWork, Shared, shareOutcome}
 
 -- a tenant's request
 pub record Call : Type 0 where
@@ -24,11 +19,11 @@ pub record Call : Type 0 where
 
 -- what it does: the answer, the contents, and the image afterwards
 unfoldable pub served : ℕ → ℕ → List ℕ → Image → Call → Shared
-served N B ns s x = shareOutcome N B ns s (x .tenant) (x .asked)
+served N B ns s x = shareOutcome N B ns s x.tenant x.asked
 
 -- what the tenant gets of that
 unfoldable pub replyTo : ℕ → ℕ → List ℕ → Image → Call → Reply
-replyTo N B ns s x = record { code = served N B ns s x .code; bytes = served N B ns s x .given }
+replyTo N B ns s x = record { code = (served N B ns s x).code; bytes = (served N B ns s x).given }
 
 -- contents are bytes
 abbrev pub ProperAsked : Asked → Type 0
@@ -43,29 +38,29 @@ pub record Told : Type 0 where
 
 unfoldable pub told : ℕ → ℕ → List ℕ → Image → List Call → List Told
 told N B ns s [] = []
-told N B ns s (x ∷ xs) = record { tenant = x .tenant; reply = replyTo N B ns s x } ∷ told N B ns (served N B ns s x .image) xs
+told N B ns s (x ∷ xs) = record { tenant = x.tenant; reply = replyTo N B ns s x } ∷ told N B ns (served N B ns s x).image xs
 
 -- as long as nobody has been answered 8
 unfoldable pub beforeWorn : List Told → List Told
 beforeWorn [] = []
-beforeWorn (y ∷ ys) = cond (eqb (y .reply .code) 8) [] (y ∷ beforeWorn ys)
+beforeWorn (y ∷ ys) = cond (eqb y.reply.code 8) [] (y ∷ beforeWorn ys)
 
 abbrev pub NoneWorn : List Told → Type 0
 NoneWorn [] = Unit {0}
-NoneWorn (y ∷ ys) = (y .reply .code ≢ 8) × NoneWorn ys
+NoneWorn (y ∷ ys) = (y.reply.code ≢ 8) × NoneWorn ys
 
 -- one tenant's requests in order, and what it gets
 unfoldable pub requestsOf : ℕ → List Call → List Asked
 requestsOf a [] = []
-requestsOf a (x ∷ xs) = cond (eqb a (x .tenant)) (x .asked ∷ requestsOf a xs) (requestsOf a xs)
+requestsOf a (x ∷ xs) = cond (eqb a x.tenant) (x.asked ∷ requestsOf a xs) (requestsOf a xs)
 
 unfoldable pub repliesTo : ℕ → List Told → List Reply
 repliesTo a [] = []
-repliesTo a (y ∷ ys) = cond (eqb a (y .tenant)) (y .reply ∷ repliesTo a ys) (repliesTo a ys)
+repliesTo a (y ∷ ys) = cond (eqb a y.tenant) (y.reply ∷ repliesTo a ys) (repliesTo a ys)
 
 abbrev pub AllProper : List Call → Type 0
 AllProper [] = Unit {0}
-AllProper (x ∷ xs) = ProperAsked (x .asked) × AllProper xs
+AllProper (x ∷ xs) = ProperAsked x.asked × AllProper xs
 
 -- the same, request by request, as far as both go
 abbrev pub SameAsFar : List Reply → List Reply → Type 0
@@ -75,10 +70,10 @@ SameAsFar (x ∷ p) (y ∷ q) = (x ≡ y) × SameAsFar p q
 
 -- what a format leaves, under an allowance of steps
 abbrev pub formatted : ℕ → ℕ → Image → ℕ → Image
-formatted N B s allowance = outcomeOf N B s allowance format .image
+formatted N B s allowance = (outcomeOf N B s allowance format).image
 
 abbrev pub FinishedFormat : ℕ → ℕ → Image → ℕ → Type 0
-FinishedFormat N B s allowance = outcomeOf N B s allowance format .code ≡ 0
+FinishedFormat N B s allowance = (outcomeOf N B s allowance format).code ≡ 0
 
 -- Two runs from a finished format, with the same requests in order by tenant a and any requests by others, interleaved in any way: a gets the same contents and the same answers, request by request,
 -- as long as neither run has answered 8 to anybody.
@@ -101,14 +96,14 @@ pub data Turn : Type 0 where
   store : Event → Turn
 
 abbrev pub Serves : ℕ → ℕ → List ℕ → Call → Seen → Image → Image → Type 0
-Serves N B ns x (answered o) s m = (o ≡ replyTo N B ns s x) × (m ≡ served N B ns s x .image)
-Serves N B ns x lost s m = Cut B (shareWork N B ns s (x .tenant) (x .asked) .steps) s m
+Serves N B ns x (answered o) s m = (o ≡ replyTo N B ns s x) × (m ≡ (served N B ns s x).image)
+Serves N B ns x lost s m = Cut B (shareWork N B ns s x.tenant x.asked).steps s m
 
 -- each works on the image as the one before or a cut left it
 abbrev pub Through : ℕ → ℕ → List ℕ → Image → List Turn → Image → Type 0
 Through N B ns s [] u = u ≡ s
-Through N B ns s (tenant x o ∷ ts) u = ProperAsked (x .asked) × ((m : Image) × Serves N B ns x o s m × Through N B ns m ts u)
-Through N B ns s (store e ∷ ts) u = Proper (e .request) × (e .worn ≡ wears N B s) × ((m : Image) × Does N B (e .request) (e .seen) s m × Through N B ns m ts u)
+Through N B ns s (tenant x o ∷ ts) u = ProperAsked x.asked × ((m : Image) × Serves N B ns x o s m × Through N B ns m ts u)
+Through N B ns s (store e ∷ ts) u = Proper e.request × (e.worn ≡ wears N B s) × ((m : Image) × Does N B e.request e.seen s m × Through N B ns m ts u)
 
 -- the store itself is only recovered and read: the image is written only through this layer
 abbrev pub Unwritten : Request → Type 0
@@ -122,7 +117,7 @@ Unwritten recover = Unit {0}
 abbrev pub OnlyLayer : List Turn → Type 0
 OnlyLayer [] = Unit {0}
 OnlyLayer (tenant x o ∷ ts) = OnlyLayer ts
-OnlyLayer (store e ∷ ts) = Unwritten (e .request) × OnlyLayer ts
+OnlyLayer (store e ∷ ts) = Unwritten e.request × OnlyLayer ts
 
 -- an image written only through this layer, with one list, since a format
 abbrev pub OfLayer : ℕ → ℕ → List ℕ → List Turn → Image → Type 0
@@ -132,11 +127,11 @@ OfLayer N B ns ts u = (s : Image) × (k : ℕ) × FinishedFormat N B s k × Thro
 
 -- what is asked before 7 refuses nothing
 abbrev pub Reaches7 : ℕ → ℕ → List ℕ → Image → ℕ → ℕ → List ℕ → Type 0
-Reaches7 N B ns s a b c = (firstOf (bounds N B ns s a b) ≡ 0) × (beforeFull (workOf N B s (put b c) .code) ≡ false)
+Reaches7 N B ns s a b c = (first_of (bounds N B ns s a b) ≡ 0) × (beforeFull (workOf N B s (put b c)).code ≡ false)
 
 -- the block is not live, and this tenant's own quota is used
 abbrev pub OwnQuotaUsed : ℕ → ℕ → List ℕ → Image → ℕ → ℕ → Type 0
-OwnQuotaUsed N B ns s a b = (holds b (tableOf N B s) ≡ false) × (quotaUsed (shareOf (sharesOf ns) a) (tableOf N B s) ≡ true)
+OwnQuotaUsed N B ns s a b = (holds b (table_of N B s) ≡ false) × (quotaUsed (share_of (shares_of ns) a) (table_of N B s) ≡ true)
 
 -- A guaranteed share, through every power cut and recovery.
 abbrev pub GuaranteedShare : Type 0
@@ -147,35 +142,35 @@ GuaranteedShare = (N B : ℕ) (ns : List ℕ) (ts : List Turn) (u : Image) (a b 
 -- So a tenant below its quota is never refused a block with 7, whatever the others store.
 abbrev pub BelowQuota : Type 0
 BelowQuota = (N B : ℕ) (ns : List ℕ) (ts : List Turn) (u : Image) (a b : ℕ) (c : List ℕ) → OfLayer N B ns ts u
-    → let x = shareOf (sharesOf ns) a in liveBetween (x .first) (x .last) (tableOf N B u) < x .quota → shareCode N B ns u a (puts b c) ≢ 7
+    → let x = share_of (shares_of ns) a in liveBetween x.first x.last (table_of N B u) < x.quota → shareCode N B ns u a (puts b c) ≢ 7
 
 -- On any other image the store's 7 stands too, and nothing else answers 7.
 abbrev pub FullElsewhere : Type 0
 FullElsewhere = (N B : ℕ) (ns : List ℕ) (u : Image) (a b : ℕ) (c : List ℕ)
-    → (shareCode N B ns u a (puts b c) ≡ 7 → Reaches7 N B ns u a b c × (OwnQuotaUsed N B ns u a b ⊎ (workOf N B u (put b c) .code ≡ 7)))
-    × (Reaches7 N B ns u a b c → OwnQuotaUsed N B ns u a b ⊎ (workOf N B u (put b c) .code ≡ 7) → shareCode N B ns u a (puts b c) ≡ 7)
+    → (shareCode N B ns u a (puts b c) ≡ 7 → Reaches7 N B ns u a b c × (OwnQuotaUsed N B ns u a b ⊎ ((workOf N B u (put b c)).code ≡ 7)))
+    × (Reaches7 N B ns u a b c → OwnQuotaUsed N B ns u a b ⊎ ((workOf N B u (put b c)).code ≡ 7) → shareCode N B ns u a (puts b c) ≡ 7)
 
 -- ---- foreign blocks
 
 -- A foreign block can be neither read, written nor deleted: the answer is 12, no contents come back and no byte changes, whatever the image holds.
 abbrev pub ForeignRefused : Type 0
-ForeignRefused = (N B : ℕ) (ns : List ℕ) (s : Image) (x : Call) → rightSize N B s ≡ true → sharesOk N B ns ≡ true → numberOk (blockAsked (x .asked)) ≡ true
-    → owns (sharesOf ns) (x .tenant) (blockAsked (x .asked)) ≡ false → served N B ns s x ≡ record { code = 12; given = []; image = s }
+ForeignRefused = (N B : ℕ) (ns : List ℕ) (s : Image) (x : Call) → rightSize N B s ≡ true → sharesOk N B ns ≡ true → numberOk (blockAsked x.asked) ≡ true
+    → owns (shares_of ns) x.tenant (blockAsked x.asked) ≡ false → served N B ns s x ≡ record { code = 12; given = []; image = s }
 
 -- Whatever a tenant asks for on any image of bytes, clean or not, answered or cut anywhere: what a finished recovery shows of a block that is not its own stays as it was.
 abbrev pub OthersKept : Type 0
-OthersKept = (N B : ℕ) (ns : List ℕ) (s m : Image) (x : Call) (o : Seen) (b : ℕ) → Bytes s → ProperAsked (x .asked) → Serves N B ns x o s m
-    → owns (sharesOf ns) (x .tenant) b ≡ false → lookup b (shown N B m) ≡ lookup b (shown N B s)
+OthersKept = (N B : ℕ) (ns : List ℕ) (s m : Image) (x : Call) (o : Seen) (b : ℕ) → Bytes s → ProperAsked x.asked → Serves N B ns x o s m
+    → owns (shares_of ns) x.tenant b ≡ false → lookup b (shown N B m) ≡ lookup b (shown N B s)
 
 -- the layer did not refuse it: answered 0, or cut
 abbrev pub Begun : Seen → Type 0
-Begun (answered o) = o .code ≡ 0
+Begun (answered o) = o.code ≡ 0
 Begun lost = Unit {0}
 
 -- tenant a put these contents under this number, and was not refused
 abbrev pub PutBy : ℕ → ℕ → List ℕ → List Turn → Type 0
 PutBy a b c [] = ⊥
-PutBy a b c (tenant x o ∷ ts) = ((x .tenant ≡ a) × (x .asked ≡ puts b c) × Begun o) ⊎ PutBy a b c ts
+PutBy a b c (tenant x o ∷ ts) = ((x.tenant ≡ a) × (x.asked ≡ puts b c) × Begun o) ⊎ PutBy a b c ts
 PutBy a b c (store e ∷ ts) = PutBy a b c ts
 
 -- The accident of tenant 31: what a tenant reads it has put itself, under that number, through every power cut and recovery.
@@ -187,7 +182,7 @@ OwnContents = (N B : ℕ) (ns : List ℕ) (ts : List Turn) (u : Image) (a b size
 
 -- no answer came back, or one by which the layer itself refuses: its own quota (or a store that others filled), a foreign block, a wrong list, a short buffer
 abbrev pub ByLayer : Seen → Type 0
-ByLayer (answered o) = among (o .code) (7 ∷ 12 ∷ 13 ∷ 14 ∷ []) ≡ true
+ByLayer (answered o) = among o.code (7 ∷ 12 ∷ 13 ∷ 14 ∷ []) ≡ true
 ByLayer lost = Unit {0}
 
 -- The events at the store: each tenant's request as the store met it, its refusals too. Those answered 7, 12, 13 or 14 may be left out, and so may lost ones, where the history is one of the store without them
@@ -195,7 +190,7 @@ abbrev pub Passed : List Turn → List Event → Type 0
 Passed [] es = es ≡ []
 Passed (store e ∷ ts) es = (r : List Event) × (es ≡ e ∷ r) × Passed ts r
 Passed (tenant x o ∷ ts) es =
-    (ByLayer o × Passed ts es) ⊎ ((e : Event) × (r : List Event) × (es ≡ e ∷ r) × (e .request ≡ storeRequest (x .asked)) × (e .seen ≡ o) × Passed ts r)
+    (ByLayer o × Passed ts es) ⊎ ((e : Event) × (r : List Event) × (es ≡ e ∷ r) × (e.request ≡ storeRequest x.asked) × (e.seen ≡ o) × Passed ts r)
 
 -- Every history through this layer is one of the store, and so of the plain table: after a recovery each tenant's blocks are as demand 2 says.
 abbrev pub LayerDemand2 : Type 0

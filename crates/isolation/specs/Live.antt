@@ -1,71 +1,71 @@
 -- Laws of the count of live blocks in a range of numbers: by what a table shows in the range, with a block taken out, with a block stored.
-use Prim.Native.Nat.{ℕ, suc, _+_, _≤_}
-use mathlib.Core.Path.{_≡_, refl, sym, ap, _∙_}
-use mathlib.Core.Logic.{_≢_}
-use mathlib.Core.Bool.{Bool, true, false, cond, _&&_, not, true≢false, and-eq-true-iff}
-use mathlib.Core.List.{List, [], _∷_}
-use native.Mathlib.Omega.{arith}
-use native.Mathlib.Decide.{ℕ-discrete}
-use lib.Dec.{leb, eqb}
-use borrow.Author.Tests.{eqb-true, eq-eqb, ne-eqb, not-true}
-use Rattle·model.specs.Lists.{count}
-use Rattle·model.specs.Slot.{Entry}
-use Rattle·model.specs.State.{holds, distinct, copies}
-use Rattle·model.specs.Table.{Table, lookup, without, store, liveBetween}
-use Rattle·model.specs.Laws.Tables.{copies-cons, copies-none, distinct-copies, held-copies, lookup-absent, absent-free, found-held, lookup-without-same, lookup-without-other, distinct-without}
+use Prim.Native.Nat.{ℕ, suc, ◌+◌, ◌≤◌}
+use Rattle.std.specs.Prelude.{◌≡◌, ◌≢◌, Bool, cond, ◌&&◌, not, leb}
+use Rattle.std.proofs.Math.Path.{refl, sym}
+use Rattle.std.proofs.Common.{ap, ◌∙◌, arith}
+use Rattle.std.proofs.Math.Bool.{true, false, true≢false, and-eq-true_iff}
+use mathlib.Core.List.{List, [], ◌∷◌}
+use Rattle.std.proofs.Math.Decide.{ℕ_discrete}
+use Rattle.std.proofs.Math.Dec.{eqb}
+use borrow.Author.Tests.{eqb-true, eq-eqb, ne_eqb, not-true}
+use Rattle.model.specs.Lists.{count}
+use Rattle.model.specs.Slot.{Entry}
+use Rattle.model.specs.State.{holds, distinct, copies}
+use Rattle.model.specs.Table.{Table, lookup, without, store, liveBetween}
+use Rattle.model.specs.Laws.Tables.{copies-cons, copies-none, distinct-copies, held-copies, lookup_absent, absent-free, found-held, lookup-without-same, lookup-without-other, distinct_without}
 
 module _ (first last : ℕ) where
   -- a number of the range
-  abbrev pub inRange : ℕ → Bool
-  inRange b = leb first b && leb b last
+  abbrev pub in_range : ℕ → Bool
+  in_range b = leb first b && leb b last
 
   -- two tables show the same in the range
   abbrev pub SameIn : Table → Table → Type 0
-  SameIn t u = (b : ℕ) → inRange b ≡ true → lookup b t ≡ lookup b u
+  SameIn t u = (b : ℕ) → in_range b ≡ true → lookup b t ≡ lookup b u
 
   pub live-none : liveBetween first last [] ≡ 0
   unfolding liveBetween count
   live-none = refl
 
-  pub live-cons : (e : Entry) (t : Table) → liveBetween first last (e ∷ t) ≡ cond (inRange (e .block)) (suc (liveBetween first last t)) (liveBetween first last t)
+  pub live-cons : (e : Entry) (t : Table) → liveBetween first last (e ∷ t) ≡ cond (in_range e.block) (suc (liveBetween first last t)) (liveBetween first last t)
   unfolding liveBetween count
   live-cons e t = refl
 
-  live-more : (x : Bool) (e : Entry) (t : Table) → inRange (e .block) ≡ x → liveBetween first last (e ∷ t) ≡ cond x (suc (liveBetween first last t)) (liveBetween first last t)
-  live-more x e t h = live-cons e t ∙ rw h
+  live_more : (x : Bool) (e : Entry) (t : Table) → in_range e.block ≡ x → liveBetween first last (e ∷ t) ≡ cond x (suc (liveBetween first last t)) (liveBetween first last t)
+  live_more x e t h = live-cons e t ∙ rw h
 
   -- ---- a block taken out
 
   -- one of the range: as many fewer as it has entries
-  live-split : (b : ℕ) (t : Table) → inRange b ≡ true → liveBetween first last t ≡ copies b t + liveBetween first last (without b t)
+  live-split : (b : ℕ) (t : Table) → in_range b ≡ true → liveBetween first last t ≡ copies b t + liveBetween first last (without b t)
   unfolding without
   live-split b [] h = omega (arith, live-none, copies-none b)
-  live-split b (e ∷ t) h = go (eqb b (e .block)) refl (inRange (e .block)) refl (live-split b t h)
+  live-split b (e ∷ t) h = go (eqb b e.block) refl (in_range e.block) refl (live-split b t h)
     where
-      go : (x : Bool) → eqb b (e .block) ≡ x → (y : Bool) → inRange (e .block) ≡ y → liveBetween first last t ≡ copies b t + liveBetween first last (without b t)
+      go : (x : Bool) → eqb b e.block ≡ x → (y : Bool) → in_range e.block ≡ y → liveBetween first last t ≡ copies b t + liveBetween first last (without b t)
           → liveBetween first last (e ∷ t) ≡ copies b (e ∷ t) + liveBetween first last (cond x (without b t) (e ∷ without b t))
-      go true q true i ih = rw (live-more true e t i, copies-cons b e t, q) (omega (arith, ih))
-      go true q false i ih = absurd (true≢false (sym h ∙ (ap (λ (y : ℕ). inRange y) (eqb-true b (e .block) q) ∙ i)))
-      go false q true i ih = rw (live-more true e t i, live-more true e (without b t) i, copies-cons b e t, q) (omega (arith, ih))
-      go false q false i ih = rw (live-more false e t i, live-more false e (without b t) i, copies-cons b e t, q) ih
+      go true q true i ih = rw (live_more true e t i, copies-cons b e t, q) (omega (arith, ih))
+      go true q false i ih = absurd (true≢false (sym h ∙ (ap (λ (y : ℕ). in_range y) (eqb-true b e.block q) ∙ i)))
+      go false q true i ih = rw (live_more true e t i, live_more true e (without b t) i, copies-cons b e t, q) (omega (arith, ih))
+      go false q false i ih = rw (live_more false e t i, live_more false e (without b t) i, copies-cons b e t, q) ih
 
   -- one outside it: as many
-  pub live-outside : (b : ℕ) (t : Table) → inRange b ≡ false → liveBetween first last (without b t) ≡ liveBetween first last t
+  pub live-outside : (b : ℕ) (t : Table) → in_range b ≡ false → liveBetween first last (without b t) ≡ liveBetween first last t
   unfolding without
   live-outside b [] h = refl
-  live-outside b (e ∷ t) h = go (eqb b (e .block)) refl (live-outside b t h)
+  live-outside b (e ∷ t) h = go (eqb b e.block) refl (live-outside b t h)
     where
-      go : (x : Bool) → eqb b (e .block) ≡ x → liveBetween first last (without b t) ≡ liveBetween first last t → liveBetween first last (cond x (without b t) (e ∷ without b t)) ≡ liveBetween first last (e ∷ t)
-      go true q ih = ih ∙ sym (live-more false e t (ap (λ (y : ℕ). inRange y) (sym (eqb-true b (e .block) q)) ∙ h))
+      go : (x : Bool) → eqb b e.block ≡ x → liveBetween first last (without b t) ≡ liveBetween first last t → liveBetween first last (cond x (without b t) (e ∷ without b t)) ≡ liveBetween first last (e ∷ t)
+      go true q ih = ih ∙ sym (live_more false e t (ap (λ (y : ℕ). in_range y) (sym (eqb-true b e.block q)) ∙ h))
       go false q ih = live-cons e (without b t) ∙ (rw ih (sym (live-cons e t)))
 
-  pub live-held : (b : ℕ) (t : Table) → distinct t ≡ true → inRange b ≡ true → holds b t ≡ true → liveBetween first last t ≡ suc (liveBetween first last (without b t))
+  pub live-held : (b : ℕ) (t : Table) → distinct t ≡ true → in_range b ≡ true → holds b t ≡ true → liveBetween first last t ≡ suc (liveBetween first last (without b t))
   live-held b t d i h = omega (arith, live-split b t i, distinct-copies t d b, held-copies b t h)
 
   pub live-without : (b : ℕ) (t : Table) → liveBetween first last (without b t) ≤ liveBetween first last t
-  live-without b t = go (inRange b) refl
+  live-without b t = go (in_range b) refl
     where
-      go : (x : Bool) → inRange b ≡ x → liveBetween first last (without b t) ≤ liveBetween first last t
+      go : (x : Bool) → in_range b ≡ x → liveBetween first last (without b t) ≤ liveBetween first last t
       go true i = omega (arith, live-split b t i)
       go false i = omega (arith, live-outside b t i)
 
@@ -73,23 +73,23 @@ module _ (first last : ℕ) where
 
   pub live-rewritten : (b : ℕ) (c : List ℕ) (t : Table) → distinct t ≡ true → holds b t ≡ true → liveBetween first last (store b c t) ≤ liveBetween first last t
   unfolding store
-  live-rewritten b c t d h = go (inRange b) refl
+  live-rewritten b c t d h = go (in_range b) refl
     where
-      go : (x : Bool) → inRange b ≡ x → liveBetween first last (record { block = b; contents = c } ∷ without b t) ≤ liveBetween first last t
-      go true i = omega (arith, live-more true (record { block = b; contents = c }) (without b t) i, live-held b t d i h)
-      go false i = omega (arith, live-more false (record { block = b; contents = c }) (without b t) i, live-outside b t i)
+      go : (x : Bool) → in_range b ≡ x → liveBetween first last (record { block = b; contents = c } ∷ without b t) ≤ liveBetween first last t
+      go true i = omega (arith, live_more true (record { block = b; contents = c }) (without b t) i, live-held b t d i h)
+      go false i = omega (arith, live_more false (record { block = b; contents = c }) (without b t) i, live-outside b t i)
 
   pub live-added : (b : ℕ) (c : List ℕ) (t : Table) → liveBetween first last (store b c t) ≤ suc (liveBetween first last t)
   unfolding store
-  live-added b c t = go (inRange b) refl
+  live-added b c t = go (in_range b) refl
     where
-      go : (x : Bool) → inRange b ≡ x → liveBetween first last (record { block = b; contents = c } ∷ without b t) ≤ suc (liveBetween first last t)
-      go true i = omega (arith, live-more true (record { block = b; contents = c }) (without b t) i, live-without b t)
-      go false i = omega (arith, live-more false (record { block = b; contents = c }) (without b t) i, live-without b t)
+      go : (x : Bool) → in_range b ≡ x → liveBetween first last (record { block = b; contents = c } ∷ without b t) ≤ suc (liveBetween first last t)
+      go true i = omega (arith, live_more true (record { block = b; contents = c }) (without b t) i, live-without b t)
+      go false i = omega (arith, live_more false (record { block = b; contents = c }) (without b t) i, live-without b t)
 
-  pub live-elsewhere : (b : ℕ) (c : List ℕ) (t : Table) → inRange b ≡ false → liveBetween first last (store b c t) ≡ liveBetween first last t
+  pub live-elsewhere : (b : ℕ) (c : List ℕ) (t : Table) → in_range b ≡ false → liveBetween first last (store b c t) ≡ liveBetween first last t
   unfolding store
-  live-elsewhere b c t i = live-more false (record { block = b; contents = c }) (without b t) i ∙ live-outside b t i
+  live-elsewhere b c t i = live_more false (record { block = b; contents = c }) (without b t) i ∙ live-outside b t i
 
   -- ---- tables that show the same in the range
 
@@ -97,34 +97,34 @@ module _ (first last : ℕ) where
   live-empty : (u : Table) → SameIn [] u → liveBetween first last u ≡ 0
   unfolding lookup holds
   live-empty [] g = live-none
-  live-empty (e ∷ u) g = go (inRange (e .block)) refl (λ h. live-empty u h)
+  live-empty (e ∷ u) g = go (in_range e.block) refl (λ h. live-empty u h)
     where
-      go : (x : Bool) → inRange (e .block) ≡ x → (SameIn [] u → liveBetween first last u ≡ 0) → liveBetween first last (e ∷ u) ≡ 0
-      go true i ih = absurd (let k : eqb (e .block) (e .block) ≡ true = eq-eqb (e .block) (e .block) refl in true≢false (rw k at (absent-free (e .block) (e ∷ u) (sym (g (e .block) i)))))
-      go false i ih = live-more false e u i
-          ∙ ih (λ b h. g b h ∙ (let k : eqb b (e .block) ≡ false = ne-eqb b (e .block) (λ q. true≢false (sym h ∙ (ap (λ (y : ℕ). inRange y) q ∙ i))) in rw k))
+      go : (x : Bool) → in_range e.block ≡ x → (SameIn [] u → liveBetween first last u ≡ 0) → liveBetween first last (e ∷ u) ≡ 0
+      go true i ih = absurd (let k : eqb e.block e.block ≡ true = eq-eqb e.block e.block refl in true≢false (rw k at (absent-free e.block (e ∷ u) (sym (g e.block i)))))
+      go false i ih = live_more false e u i
+          ∙ ih (λ b h. g b h ∙ (let k : eqb b e.block ≡ false = ne_eqb b e.block (λ q. true≢false (sym h ∙ (ap (λ (y : ℕ). in_range y) q ∙ i))) in rw k))
 
-  pub live-same : (t u : Table) → distinct t ≡ true → distinct u ≡ true → SameIn t u → liveBetween first last t ≡ liveBetween first last u
+  pub live_same : (t u : Table) → distinct t ≡ true → distinct u ≡ true → SameIn t u → liveBetween first last t ≡ liveBetween first last u
   unfolding distinct lookup
-  live-same [] u p q g = live-none ∙ sym (live-empty u g)
-  live-same (e ∷ t) u p q g = go (inRange (e .block)) refl (λ v k h. live-same t v (tail .1) k h)
+  live_same [] u p q g = live-none ∙ sym (live-empty u g)
+  live_same (e ∷ t) u p q g = go (in_range e.block) refl (λ v k h. live_same t v tail.1 k h)
     where
-      tail : (not (holds (e .block) t) ≡ true) × (distinct t ≡ true)
-      tail = and-eq-true-iff (not (holds (e .block) t)) (distinct t) .0 p
+      tail : (not (holds e.block t) ≡ true) × (distinct t ≡ true)
+      tail = (and-eq-true_iff (not (holds e.block t)) (distinct t)).0 p
 
-      here : inRange (e .block) ≡ true → holds (e .block) u ≡ true
-      here i = found-held (e .block) u (e .contents) (sym (g (e .block) i) ∙ rw (eq-eqb (e .block) (e .block) refl))
+      here : in_range e.block ≡ true → holds e.block u ≡ true
+      here i = found-held e.block u e.contents (sym (g e.block i) ∙ rw (eq-eqb e.block e.block refl))
 
       -- another block of the range is found behind the first entry
-      behind : (b : ℕ) → inRange b ≡ true → b ≢ e .block → lookup b t ≡ lookup b u
-      behind b h n = let k : eqb b (e .block) ≡ false = ne-eqb b (e .block) n in rw k at (g b h)
+      behind : (b : ℕ) → in_range b ≡ true → b ≢ e.block → lookup b t ≡ lookup b u
+      behind b h n = let k : eqb b e.block ≡ false = ne_eqb b e.block n in rw k at (g b h)
 
-      rest : SameIn t (without (e .block) u)
-      rest b h = elim (ℕ-discrete b (e .block)) [
-        | yes i ↦ rw (i, lookup-without-same (e .block) u) (lookup-absent (e .block) t (not-true (holds (e .block) t) (tail .0)))
-        | no n ↦ behind b h n ∙ sym (lookup-without-other b (e .block) u n)
+      rest : SameIn t (without e.block u)
+      rest b h = elim (ℕ_discrete b e.block) [
+        | yes i ↦ rw (i, lookup-without-same e.block u) (lookup_absent e.block t (not-true (holds e.block t) tail.0))
+        | no n ↦ behind b h n ∙ sym (lookup-without-other b e.block u n)
       ]
 
-      go : (x : Bool) → inRange (e .block) ≡ x → ((v : Table) → distinct v ≡ true → SameIn t v → liveBetween first last t ≡ liveBetween first last v) → liveBetween first last (e ∷ t) ≡ liveBetween first last u
-      go true i ih = live-more true e t i ∙ (ap suc (ih (without (e .block) u) (distinct-without (e .block) u q) rest) ∙ sym (live-held (e .block) u q i (here i)))
-      go false i ih = live-more false e t i ∙ ih u q (λ b h. behind b h (λ z. true≢false (sym h ∙ (ap (λ (y : ℕ). inRange y) z ∙ i))))
+      go : (x : Bool) → in_range e.block ≡ x → ((v : Table) → distinct v ≡ true → SameIn t v → liveBetween first last t ≡ liveBetween first last v) → liveBetween first last (e ∷ t) ≡ liveBetween first last u
+      go true i ih = live_more true e t i ∙ (ap suc (ih (without e.block u) (distinct_without e.block u q) rest) ∙ sym (live-held e.block u q i (here i)))
+      go false i ih = live_more false e t i ∙ ih u q (λ b h. behind b h (λ z. true≢false (sym h ∙ (ap (λ (y : ℕ). in_range y) z ∙ i))))

@@ -1,95 +1,90 @@
 -- Laws of a list of shares: a block has one owner, and while each tenant keeps to its quota there are at most as many blocks as all quotas together.
-use Prim.Native.Nat.{ℕ, zero, suc, _+_, _-_, _%_, _≤_, _<_}
-use mathlib.Core.Path.{_≡_, refl, sym, ap, _∙_}
-use mathlib.Core.Bool.{Bool, true, false, cond, _||_, _&&_, not, true≢false}
-use mathlib.Core.List.{List, [], _∷_}
-use native.Mathlib.Omega.{arith}
-use lib.ListN.{length, getD}
-use lib.Dec.{ltb, leb, eqb}
-use borrow.Author.Tests.{ltb-true, leb-true, lt-ltb, le-leb, eq-eqb, not-true}
-use Rattle·model.specs.Lists.{all}
-use Rattle·model.specs.Slot.{Entry}
-use Rattle·model.specs.State.{holds, capacity}
-use Rattle·model.specs.Table.{Table, liveBetween}
-use Rattle·model.specs.Laws.Lists.{and-left, and-right, and-both, all-get}
-use Rattle·shares.specs.Shares.{Share, mostTenants, sharesOf, rangeOk, overlap, disjoint, quotaSum, sharesWithin, sharesOk, isTenant, shareOf, owns}
-use Rattle·isolation·specs.specs.Live.{inRange, live-cons}
+use Rattle.std.specs.Prelude.{ℕ, zero, suc, ◌+◌, ◌-◌, ◌%◌, ◌≤◌, ◌<◌, ◌≡◌, refl, Bool, true, false, cond, ◌||◌, ◌&&◌, not, List, [], ◌∷◌, length, get_or, ltb, leb, eqb}
+use Rattle.std.proofs.Common.{sym, ap, ◌∙◌, true≢false, arith, ltb-true, leb-true, lt-ltb, le-leb, eq-eqb}
+use Rattle.std.proofs.lemmas.Bool.{not-true}
+use Rattle.model.specs.Lists.{all}
+use Rattle.model.specs.Slot.{Entry}
+use Rattle.model.specs.State.{holds, capacity}
+use Rattle.model.specs.Table.{Table, liveBetween}
+use Rattle.model.specs.Laws.Lists.{and_left, and_right, and_both, all-get}
+use Rattle.shares.specs.Shares.{Share, mostTenants, shares_of, rangeOk, overlap, disjoint, quotaSum, sharesWithin, sharesOk, isTenant, share_of, owns}
+use Rattle.isolation.specs.Live.{in_range, live-cons}
 
 -- the share at a place, and what nobody asks for behind the last
 abbrev nobody : Share
 nobody = record { first = 0; last = 0; quota = 0 }
 
 abbrev at : List Share → ℕ → Share
-at xs i = getD xs i nobody
+at xs i = get_or xs i nobody
 
 -- a block of a share's range
 abbrev pub covers : Share → ℕ → Bool
-covers x b = inRange (x .first) (x .last) b
+covers x b = in_range x.first x.last b
 
 abbrev pub live : Share → Table → ℕ
-live x t = liveBetween (x .first) (x .last) t
+live x t = liveBetween x.first x.last t
 
 -- ---- a tenant is a place in the list
 
 place : (xs : List Share) (a : ℕ) → isTenant xs a ≡ true → (0 < a) × (a - 1 < length xs)
 unfolding isTenant
 place xs a h =
-    let p = ltb-true 0 a (and-left (ltb 0 a) (leb a (length xs)) h) in
-    let l = leb-true a (length xs) (and-right (ltb 0 a) (leb a (length xs)) h) in
+    let p = ltb-true 0 a (and_left (ltb 0 a) (leb a (length xs)) h) in
+    let l = leb-true a (length xs) (and_right (ltb 0 a) (leb a (length xs)) h) in
     (p, omega (arith, p, l))
 
 pub owner-tenant : (xs : List Share) (a b : ℕ) → owns xs a b ≡ true → isTenant xs a ≡ true
 unfolding owns
-owner-tenant xs a b h = and-left (isTenant xs a) (covers (shareOf xs a) b) h
+owner-tenant xs a b h = and_left (isTenant xs a) (covers (share_of xs a) b) h
 
-pub owner-covers : (xs : List Share) (a b : ℕ) → owns xs a b ≡ true → covers (shareOf xs a) b ≡ true
+pub owner-covers : (xs : List Share) (a b : ℕ) → owns xs a b ≡ true → covers (share_of xs a) b ≡ true
 unfolding owns
-owner-covers xs a b h = and-right (isTenant xs a) (covers (shareOf xs a) b) h
+owner-covers xs a b h = and_right (isTenant xs a) (covers (share_of xs a) b) h
 
-pub covers-owner : (xs : List Share) (a b : ℕ) → isTenant xs a ≡ true → covers (shareOf xs a) b ≡ true → owns xs a b ≡ true
+pub covers-owner : (xs : List Share) (a b : ℕ) → isTenant xs a ≡ true → covers (share_of xs a) b ≡ true → owns xs a b ≡ true
 unfolding owns
-covers-owner xs a b h k = and-both (isTenant xs a) (covers (shareOf xs a) b) h k
+covers-owner xs a b h k = and_both (isTenant xs a) (covers (share_of xs a) b) h k
 
 -- ---- one owner
 
 both-overlap : (x y : Share) (b : ℕ) → covers x b ≡ true → covers y b ≡ true → overlap x y ≡ true
 unfolding overlap
 both-overlap x y b p q =
-    let lx = leb-true (x .first) b (and-left (leb (x .first) b) (leb b (x .last)) p) in
-    let hx = leb-true b (x .last) (and-right (leb (x .first) b) (leb b (x .last)) p) in
-    let ly = leb-true (y .first) b (and-left (leb (y .first) b) (leb b (y .last)) q) in
-    let hy = leb-true b (y .last) (and-right (leb (y .first) b) (leb b (y .last)) q) in
-    and-both (leb (x .first) (y .last)) (leb (y .first) (x .last)) (le-leb (x .first) (y .last) (omega (arith, lx, hy))) (le-leb (y .first) (x .last) (omega (arith, ly, hx)))
+    let lx = leb-true x.first b (and_left (leb x.first b) (leb b x.last) p) in
+    let hx = leb-true b x.last (and_right (leb x.first b) (leb b x.last) p) in
+    let ly = leb-true y.first b (and_left (leb y.first b) (leb b y.last) q) in
+    let hy = leb-true b y.last (and_right (leb y.first b) (leb b y.last) q) in
+    and_both (leb x.first y.last) (leb y.first x.last) (le-leb x.first y.last (omega (arith, lx, hy))) (le-leb y.first x.last (omega (arith, ly, hx)))
 
-one-place : (xs : List Share) (b i j : ℕ) → disjoint xs ≡ true → i < length xs → j < length xs → covers (at xs i) b ≡ true → covers (at xs j) b ≡ true → i ≡ j
+one_place : (xs : List Share) (b i j : ℕ) → disjoint xs ≡ true → i < length xs → j < length xs → covers (at xs i) b ≡ true → covers (at xs j) b ≡ true → i ≡ j
 unfolding disjoint
-one-place [] b i j d p q h k = absurd (omega (arith, p))
-one-place (x ∷ xs) b zero zero d p q h k = refl
-one-place (x ∷ xs) b zero (suc j) d p q h k = absurd (true≢false (sym (both-overlap x (at xs j) b h k)
-    ∙ not-true (overlap x (at xs j)) (all-get (λ y. not (overlap x y)) xs j nobody (and-left (all (λ y. not (overlap x y)) xs) (disjoint xs) d) (omega (arith, q)))))
-one-place (x ∷ xs) b (suc i) zero d p q h k = absurd (true≢false (sym (both-overlap x (at xs i) b k h)
-    ∙ not-true (overlap x (at xs i)) (all-get (λ y. not (overlap x y)) xs i nobody (and-left (all (λ y. not (overlap x y)) xs) (disjoint xs) d) (omega (arith, p)))))
-one-place (x ∷ xs) b (suc i) (suc j) d p q h k =
-    ap suc (one-place xs b i j (and-right (all (λ y. not (overlap x y)) xs) (disjoint xs) d) (omega (arith, p)) (omega (arith, q)) h k)
+one_place [] b i j d p q h k = absurd (omega (arith, p))
+one_place (x ∷ xs) b zero zero d p q h k = refl
+one_place (x ∷ xs) b zero (suc j) d p q h k = absurd (true≢false (sym (both-overlap x (at xs j) b h k)
+    ∙ not-true (overlap x (at xs j)) (all-get (λ y. not (overlap x y)) xs j nobody (and_left (all (λ y. not (overlap x y)) xs) (disjoint xs) d) (omega (arith, q)))))
+one_place (x ∷ xs) b (suc i) zero d p q h k = absurd (true≢false (sym (both-overlap x (at xs i) b k h)
+    ∙ not-true (overlap x (at xs i)) (all-get (λ y. not (overlap x y)) xs i nobody (and_left (all (λ y. not (overlap x y)) xs) (disjoint xs) d) (omega (arith, p)))))
+one_place (x ∷ xs) b (suc i) (suc j) d p q h k =
+    ap suc (one_place xs b i j (and_right (all (λ y. not (overlap x y)) xs) (disjoint xs) d) (omega (arith, p)) (omega (arith, q)) h k)
 
-right-disjoint : (N B : ℕ) (ns : List ℕ) → sharesOk N B ns ≡ true → (disjoint (sharesOf ns) ≡ true) × (quotaSum (sharesOf ns) ≤ capacity N B)
+right-disjoint : (N B : ℕ) (ns : List ℕ) → sharesOk N B ns ≡ true → (disjoint (shares_of ns) ≡ true) × (quotaSum (shares_of ns) ≤ capacity N B)
 unfolding sharesOk sharesWithin
 right-disjoint N B ns h =
-    let xs = sharesOf ns in
+    let xs = shares_of ns in
     let fits = disjoint xs && leb (quotaSum xs) (capacity N B) in
-    let few = and-right (eqb (length ns % 3) 0) (leb (length xs) mostTenants && (all rangeOk xs && fits)) h in
-    let ranges = and-right (leb (length xs) mostTenants) (all rangeOk xs && fits) few in
-    let apart = and-right (all rangeOk xs) fits ranges in
-    (and-left (disjoint xs) (leb (quotaSum xs) (capacity N B)) apart, leb-true (quotaSum xs) (capacity N B) (and-right (disjoint xs) (leb (quotaSum xs) (capacity N B)) apart))
+    let few = and_right (eqb (length ns % 3) 0) (leb (length xs) mostTenants && (all rangeOk xs && fits)) h in
+    let ranges = and_right (leb (length xs) mostTenants) (all rangeOk xs && fits) few in
+    let apart = and_right (all rangeOk xs) fits ranges in
+    (and_left (disjoint xs) (leb (quotaSum xs) (capacity N B)) apart, leb-true (quotaSum xs) (capacity N B) (and_right (disjoint xs) (leb (quotaSum xs) (capacity N B)) apart))
 
-pub one-owner : (N B : ℕ) (ns : List ℕ) (a o b : ℕ) → sharesOk N B ns ≡ true → owns (sharesOf ns) a b ≡ true → owns (sharesOf ns) o b ≡ true → a ≡ o
-unfolding shareOf
+pub one-owner : (N B : ℕ) (ns : List ℕ) (a o b : ℕ) → sharesOk N B ns ≡ true → owns (shares_of ns) a b ≡ true → owns (shares_of ns) o b ≡ true → a ≡ o
+unfolding share_of
 one-owner N B ns a o b right h k =
-    let xs = sharesOf ns in
+    let xs = shares_of ns in
     let p = place xs a (owner-tenant xs a b h) in
     let q = place xs o (owner-tenant xs o b k) in
-    let e = one-place xs b (a - 1) (o - 1) (right-disjoint N B ns right .0) (p .1) (q .1) (owner-covers xs a b h) (owner-covers xs o b k) in
-    omega (arith, e, p .0, q .0)
+    let e = one_place xs b (a - 1) (o - 1) (right-disjoint N B ns right).0 p.1 q.1 (owner-covers xs a b h) (owner-covers xs o b k) in
+    omega (arith, e, p.0, q.0)
 
 -- ---- all quotas together
 
@@ -98,20 +93,20 @@ liveSum [] t = 0
 liveSum (x ∷ xs) t = live x t + liveSum xs t
 
 -- an entry more counts at least where it is covered
-sum-more : (xs : List Share) (e : Entry) (t : Table) → liveSum xs t ≤ liveSum xs (e ∷ t)
+sum_more : (xs : List Share) (e : Entry) (t : Table) → liveSum xs t ≤ liveSum xs (e ∷ t)
 unfolding liveSum
-sum-more [] e t = omega arith
-sum-more (x ∷ xs) e t = go (covers x (e .block)) (live-cons (x .first) (x .last) e t) (sum-more xs e t)
+sum_more [] e t = omega arith
+sum_more (x ∷ xs) e t = go (covers x e.block) (live-cons x.first x.last e t) (sum_more xs e t)
   where
     go : (y : Bool) → live x (e ∷ t) ≡ cond y (suc (live x t)) (live x t) → liveSum xs t ≤ liveSum xs (e ∷ t) → live x t + liveSum xs t ≤ live x (e ∷ t) + liveSum xs (e ∷ t)
     go true q ih = omega (arith, q, ih)
     go false q ih = omega (arith, q, ih)
 
-sum-covered : (xs : List Share) (i : ℕ) (e : Entry) (t : Table) → i < length xs → covers (at xs i) (e .block) ≡ true → suc (liveSum xs t) ≤ liveSum xs (e ∷ t)
+sum-covered : (xs : List Share) (i : ℕ) (e : Entry) (t : Table) → i < length xs → covers (at xs i) e.block ≡ true → suc (liveSum xs t) ≤ liveSum xs (e ∷ t)
 unfolding liveSum
 sum-covered [] i e t l h = absurd (omega (arith, l))
-sum-covered (x ∷ xs) zero e t l h = let one : live x (e ∷ t) ≡ suc (live x t) = live-cons (x .first) (x .last) e t ∙ rw h in omega (arith, one, sum-more xs e t)
-sum-covered (x ∷ xs) (suc i) e t l h = go (covers x (e .block)) (live-cons (x .first) (x .last) e t) (sum-covered xs i e t (omega (arith, l)) h)
+sum-covered (x ∷ xs) zero e t l h = let one : live x (e ∷ t) ≡ suc (live x t) = live-cons x.first x.last e t ∙ rw h in omega (arith, one, sum_more xs e t)
+sum-covered (x ∷ xs) (suc i) e t l h = go (covers x e.block) (live-cons x.first x.last e t) (sum-covered xs i e t (omega (arith, l)) h)
   where
     go : (y : Bool) → live x (e ∷ t) ≡ cond y (suc (live x t)) (live x t) → suc (liveSum xs t) ≤ liveSum xs (e ∷ t) → suc (live x t + liveSum xs t) ≤ live x (e ∷ t) + liveSum xs (e ∷ t)
     go true q ih = omega (arith, q, ih)
@@ -123,48 +118,48 @@ Owned xs t = (b : ℕ) → holds b t ≡ true → (a : ℕ) × (owns xs a b ≡ 
 
 -- and no tenant has more than its quota
 abbrev pub WithinQuotas : List Share → Table → Type 0
-WithinQuotas xs t = (a : ℕ) → isTenant xs a ≡ true → live (shareOf xs a) t ≤ shareOf xs a .quota
+WithinQuotas xs t = (a : ℕ) → isTenant xs a ≡ true → live (share_of xs a) t ≤ (share_of xs a).quota
 
 owned-sum : (xs : List Share) (t : Table) → Owned xs t → length t ≤ liveSum xs t
-unfolding holds shareOf
+unfolding holds share_of
 owned-sum xs [] o = omega arith
 owned-sum xs (e ∷ t) o =
-    let w = o (e .block) (rw (eq-eqb (e .block) (e .block) refl)) in
-    let p = place xs (w .0) (owner-tenant xs (w .0) (e .block) (w .1)) in
+    let w = o e.block (rw (eq-eqb e.block e.block refl)) in
+    let p = place xs w.0 (owner-tenant xs w.0 e.block w.1) in
     let ih = owned-sum xs t (λ b h. o b (later b h)) in
-    omega (arith, ih, sum-covered xs (w .0 - 1) e t (p .1) (owner-covers xs (w .0) (e .block) (w .1)))
+    omega (arith, ih, sum-covered xs (w.0 - 1) e t p.1 (owner-covers xs w.0 e.block w.1))
   where
-    later : (b : ℕ) → holds b t ≡ true → (eqb b (e .block) || holds b t) ≡ true
-    later b h = go (eqb b (e .block))
+    later : (b : ℕ) → holds b t ≡ true → (eqb b e.block || holds b t) ≡ true
+    later b h = go (eqb b e.block)
       where
         go : (x : Bool) → (x || holds b t) ≡ true
         go true = refl
         go false = h
 
-quota-sum : (xs : List Share) (t : Table) → ((i : ℕ) → i < length xs → live (at xs i) t ≤ at xs i .quota) → liveSum xs t ≤ quotaSum xs
+quota-sum : (xs : List Share) (t : Table) → ((i : ℕ) → i < length xs → live (at xs i) t ≤ (at xs i).quota) → liveSum xs t ≤ quotaSum xs
 unfolding liveSum quotaSum
 quota-sum [] t h = omega arith
 quota-sum (x ∷ xs) t h = omega (arith, h 0 (omega arith), quota-sum xs t (λ i l. h (suc i) (omega (arith, l))))
 
-below-sum : (xs : List Share) (j : ℕ) (t : Table) → j < length xs → ((i : ℕ) → i < length xs → live (at xs i) t ≤ at xs i .quota) → live (at xs j) t < at xs j .quota → liveSum xs t < quotaSum xs
+below-sum : (xs : List Share) (j : ℕ) (t : Table) → j < length xs → ((i : ℕ) → i < length xs → live (at xs i) t ≤ (at xs i).quota) → live (at xs j) t < (at xs j).quota → liveSum xs t < quotaSum xs
 unfolding liveSum quotaSum
 below-sum [] j t l h k = absurd (omega (arith, l))
 below-sum (x ∷ xs) zero t l h k = omega (arith, k, quota-sum xs t (λ i m. h (suc i) (omega (arith, m))))
 below-sum (x ∷ xs) (suc j) t l h k = omega (arith, h 0 (omega arith), below-sum xs j t (omega (arith, l)) (λ i m. h (suc i) (omega (arith, m))) k)
 
 -- tenants are counted from 1, places from 0
-share-next : (xs : List Share) (i : ℕ) → shareOf xs (suc i) ≡ at xs i
-unfolding shareOf
+share-next : (xs : List Share) (i : ℕ) → share_of xs (suc i) ≡ at xs i
+unfolding share_of
 share-next xs i = ap (λ (k : ℕ). at xs k) (omega arith)
 
 -- so a tenant below its quota finds room
-pub room-for-tenant : (N B : ℕ) (ns : List ℕ) (a : ℕ) (t : Table) → sharesOk N B ns ≡ true → Owned (sharesOf ns) t → WithinQuotas (sharesOf ns) t → isTenant (sharesOf ns) a ≡ true
-    → live (shareOf (sharesOf ns) a) t < shareOf (sharesOf ns) a .quota → length t < capacity N B
-unfolding shareOf isTenant
-room-for-tenant N B ns a t right o q h k = omega (arith, owned-sum xs t o, below-sum xs (a - 1) t (place xs a h .1) each k, right-disjoint N B ns right .1)
+pub room-for-tenant : (N B : ℕ) (ns : List ℕ) (a : ℕ) (t : Table) → sharesOk N B ns ≡ true → Owned (shares_of ns) t → WithinQuotas (shares_of ns) t → isTenant (shares_of ns) a ≡ true
+    → live (share_of (shares_of ns) a) t < (share_of (shares_of ns) a).quota → length t < capacity N B
+unfolding share_of isTenant
+room-for-tenant N B ns a t right o q h k = omega (arith, owned-sum xs t o, below-sum xs (a - 1) t (place xs a h).1 each k, (right-disjoint N B ns right).1)
   where
     xs : List Share
-    xs = sharesOf ns
+    xs = shares_of ns
 
-    each : (i : ℕ) → i < length xs → live (at xs i) t ≤ at xs i .quota
-    each i l = rw (← (share-next xs i)) (q (suc i) (and-both (ltb 0 (suc i)) (leb (suc i) (length xs)) (lt-ltb 0 (suc i) (omega arith)) (le-leb (suc i) (length xs) (omega (arith, l)))))
+    each : (i : ℕ) → i < length xs → live (at xs i) t ≤ (at xs i).quota
+    each i l = rw (← (share-next xs i)) (q (suc i) (and_both (ltb 0 (suc i)) (leb (suc i) (length xs)) (lt-ltb 0 (suc i) (omega arith)) (le-leb (suc i) (length xs) (omega (arith, l)))))

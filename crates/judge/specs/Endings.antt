@@ -1,10 +1,9 @@
 -- How slots looked at in order end, one slot more at a time.
-use mathlib.Core.Bool.{Bool, true, false, cond}
-use mathlib.Core.List.{List, [], _∷_, _++_}
-use Rattle·model.specs.Slot.{Slot, empty, torn, dead, cut, wrong, live, Entry, entryOf}
-use Rattle·model.specs.State.{entries, holds}
-use Rattle·judge·specs.specs.declared.Ending.{Ending}
-use Rattle·judge·specs.specs.declared.Ending.the-variants.{Full, Room, TornLast, TwinLast, Bad}
+use Rattle.std.specs.Prelude.{Bool, true, false, cond, List, [], ◌∷◌, ◌++◌}
+use Rattle.model.specs.Slot.{Slot, empty, torn, dead, cut, wrong, live, Entry, entry_of}
+use Rattle.model.specs.State.{entries, holds}
+use Rattle.judge.specs.declared.Ending.{Ending}
+use Rattle.judge.specs.declared.Ending.TheVariants.{Full, Room, TornLast, TwinLast, Bad}
 
 -- a written slot may follow written ones only
 unfoldable pub behind : Ending → Ending → Ending
@@ -34,7 +33,7 @@ turn e p (live b c) = behind e (cond (holds b p) TwinLast Full)
 -- a row of slots
 unfoldable pub judge : Ending → List Entry → List Slot → Ending
 judge e p [] = e
-judge e p (k ∷ ks) = judge (turn e p k) (p ++ entryOf k) ks
+judge e p (k ∷ ks) = judge (turn e p k) (p ++ entry_of k) ks
 
 -- rows, each behind those before
 unfoldable pub ring : Ending → List Entry → List (List Slot) → Ending

@@ -1,21 +1,18 @@
 -- What a summary tells of a segment's header: the segment without its slots and its tally. The frame needs no more.
-use Prim.Native.Nat.{ℕ, zero, suc, _+_, _-_, _%_, max}
-use mathlib.Core.Path.{_≡_, refl, sym, ap, ap₂, _∙_}
-use mathlib.Core.Bool.{Bool, true, false, cond, _||_, _&&_, not}
-use mathlib.Core.List.{List, [], _∷_, map}
-use lib.ListN.{getD, take, List·getD-map}
-use lib.Dec.{ltb, eqb}
-use Rattle·model.specs.Lists.{all, count}
-use Rattle·model.specs.Header.{erasePending, compacted, Version, version1, version2, versionNumber, isFormer}
-use Rattle·model.specs.State.{Segment, blank, invalid, inUse, isInUse, isInvalid, isOwing, numberAfter, ofVersion, nextNumber, topIndex, nextIndex, usedCount, firstNumber, someInUse, numbersFrom, consecutive, oneVersion, noneOwing, othersBlank, nextBlanked, settled, topSettled}
-use Rattle·model.specs.Laws.Lists.{map-set}
-use Rattle·judge·specs.specs.declared.SegmentState.{SegmentState}
-use Rattle·judge·specs.specs.declared.SegmentState.the-variants.{Blank, Invalid, InUse, Owing}
-use Rattle·judge·specs.specs.declared.Summary.{Summary}
-use Rattle·judge·specs.specs.declared.HeaderCounts.{HeaderCounts}
-use Rattle·judge·specs.specs.declared.Headers.{Headers}
-use Rattle·judge·specs.specs.declared.Frame.{Frame}
-use Rattle·judge·specs.specs.Cases.{frame}
+use Rattle.std.specs.Prelude.{ℕ, zero, suc, ◌+◌, ◌-◌, ◌%◌, max, ◌≡◌, refl, Bool, true, false, cond, ◌||◌, ◌&&◌, not, List, [], ◌∷◌, map, get_or, take, ltb, eqb}
+use Rattle.std.proofs.Common.{sym, ap, ap₂, ◌∙◌}
+use Rattle.std.proofs.Math.ListN.{get_or-map}
+use Rattle.model.specs.Lists.{all, count}
+use Rattle.model.specs.Header.{erasePending, compacted, Version, version1, version2, versionNumber, isFormer}
+use Rattle.model.specs.State.{Segment, blank, invalid, inUse, isInUse, isInvalid, isOwing, numberAfter, ofVersion, nextNumber, topIndex, nextIndex, usedCount, firstNumber, someInUse, numbersFrom, consecutive, oneVersion, noneOwing, othersBlank, nextBlanked, settled, topSettled}
+use Rattle.model.specs.Laws.Lists.{map-set}
+use Rattle.judge.specs.declared.SegmentState.{SegmentState}
+use Rattle.judge.specs.declared.SegmentState.TheVariants.{Blank, Invalid, InUse, Owing}
+use Rattle.judge.specs.declared.Summary.{Summary}
+use Rattle.judge.specs.declared.HeaderCounts.{HeaderCounts}
+use Rattle.judge.specs.declared.Headers.{Headers}
+use Rattle.judge.specs.declared.Frame.{Frame}
+use Rattle.judge.specs.Cases.{frame}
 
 -- a version without its tally
 unfoldable pub bareVersion : Bool → Version
@@ -30,7 +27,7 @@ bareOf InUse t n = inUse (bareVersion t) compacted n []
 bareOf Owing t n = inUse (bareVersion t) erasePending n []
 
 unfoldable pub bare : Summary → Segment
-bare s = bareOf (s .state) (s .former) (s .number .0)
+bare s = bareOf s.state s.former s.number.0
 
 -- a segment as a summary shows it
 unfoldable pub outline : Segment → Segment
@@ -81,33 +78,33 @@ outline-settled blank = refl
 outline-settled invalid = refl
 outline-settled (inUse ver st n ks) = refl
 
-pub outline-get : (l : List Segment) (i : ℕ) → getD (map outline l) i blank ≡ outline (getD l i blank)
+pub outline-get : (l : List Segment) (i : ℕ) → get_or (map outline l) i blank ≡ outline (get_or l i blank)
 unfolding outline
-outline-get l i = List·getD-map outline l i blank
+outline-get l i = get_or-map outline l i blank
 
 pub outline-next : (l : List Segment) → nextNumber (map outline l) ≡ nextNumber l
 unfolding nextNumber
 outline-next [] = refl
 outline-next (x ∷ l) = ap₂ (λ (a b : ℕ). max a b) (outline-number x) (outline-next l)
 
-count-map : {A : Type 0} (f : A → Bool) (g : A → A) → ((x : A) → f (g x) ≡ f x) → (l : List A) → count f (map g l) ≡ count f l
+count_map : {A : Type 0} (f : A → Bool) (g : A → A) → ((x : A) → f (g x) ≡ f x) → (l : List A) → count f (map g l) ≡ count f l
 unfolding count
-count-map f g h [] = refl
-count-map f g h (x ∷ l) = ap₂ (λ (t : Bool) (n : ℕ). cond t (suc n) n) (h x) (count-map f g h l)
+count_map f g h [] = refl
+count_map f g h (x ∷ l) = ap₂ (λ (t : Bool) (n : ℕ). cond t (suc n) n) (h x) (count_map f g h l)
 
-all-map : {A : Type 0} (f : A → Bool) (g : A → A) → ((x : A) → f (g x) ≡ f x) → (l : List A) → all f (map g l) ≡ all f l
+all_map : {A : Type 0} (f : A → Bool) (g : A → A) → ((x : A) → f (g x) ≡ f x) → (l : List A) → all f (map g l) ≡ all f l
 unfolding all
-all-map f g h [] = refl
-all-map f g h (x ∷ l) = ap₂ (λ (s t : Bool). s && t) (h x) (all-map f g h l)
+all_map f g h [] = refl
+all_map f g h (x ∷ l) = ap₂ (λ (s t : Bool). s && t) (h x) (all_map f g h l)
 
 pub outline-used : (l : List Segment) → usedCount (map outline l) ≡ usedCount l
 unfolding usedCount
-outline-used l = count-map isInUse outline outline-use l
+outline-used l = count_map isInUse outline outline-use l
 
 outline-numbers : (N : ℕ) (l : List Segment) (u n : ℕ) → numbersFrom N (map outline l) u n ≡ numbersFrom N l u n
 unfolding numbersFrom
 outline-numbers N l zero n = refl
-outline-numbers N l (suc u) n = ap₂ (λ (a : ℕ) (t : Bool). eqb a (suc n) && t) (ap numberAfter (outline-get l (n % N)) ∙ outline-number (getD l (n % N) blank)) (outline-numbers N l u (suc n))
+outline-numbers N l (suc u) n = ap₂ (λ (a : ℕ) (t : Bool). eqb a (suc n) && t) (ap numberAfter (outline-get l (n % N)) ∙ outline-number (get_or l (n % N) blank)) (outline-numbers N l u (suc n))
 
 pub outline-first : (l : List Segment) → firstNumber (map outline l) ≡ firstNumber l
 unfolding firstNumber
@@ -119,25 +116,25 @@ outline-frame N l = rw (
   outline-used l,
   outline-first l,
   outline-numbers N l (usedCount l) (firstNumber l),
-  all-map (λ x. ofVersion 1 x) outline (λ x. outline-of 1 x) l,
-  all-map (λ x. ofVersion 2 x) outline (λ x. outline-of 2 x) l,
-  all-map (λ x. not (isOwing x)) outline (λ x. ap not (outline-owing x)) l,
-  all-map (λ x. not (isInvalid x)) outline (λ x. ap not (outline-invalid x)) l,
+  all_map (λ x. ofVersion 1 x) outline (λ x. outline-of 1 x) l,
+  all_map (λ x. ofVersion 2 x) outline (λ x. outline-of 2 x) l,
+  all_map (λ x. not (isOwing x)) outline (λ x. ap not (outline-owing x)) l,
+  all_map (λ x. not (isInvalid x)) outline (λ x. ap not (outline-invalid x)) l,
 )
 
 -- ---- the top, and the segment after it
 
-pub outline-top : (N : ℕ) (l : List Segment) → isOwing (getD (map outline l) (topIndex N (map outline l)) blank) ≡ isOwing (getD l (topIndex N l) blank)
+pub outline-top : (N : ℕ) (l : List Segment) → isOwing (get_or (map outline l) (topIndex N (map outline l)) blank) ≡ isOwing (get_or l (topIndex N l) blank)
 unfolding topIndex
-outline-top N l = rw (outline-next l, outline-get l ((nextNumber l - 1) % N)) (outline-owing (getD l ((nextNumber l - 1) % N) blank))
+outline-top N l = rw (outline-next l, outline-get l ((nextNumber l - 1) % N)) (outline-owing (get_or l ((nextNumber l - 1) % N) blank))
 
-pub outline-after : (N : ℕ) (l : List Segment) → isInvalid (getD (map outline l) (nextIndex N (map outline l)) blank) ≡ isInvalid (getD l (nextIndex N l) blank)
+pub outline-after : (N : ℕ) (l : List Segment) → isInvalid (get_or (map outline l) (nextIndex N (map outline l)) blank) ≡ isInvalid (get_or l (nextIndex N l) blank)
 unfolding nextIndex
-outline-after N l = rw (outline-next l, outline-get l (nextNumber l % N)) (outline-invalid (getD l (nextNumber l % N) blank))
+outline-after N l = rw (outline-next l, outline-get l (nextNumber l % N)) (outline-invalid (get_or l (nextNumber l % N) blank))
 
-pub outline-after-use : (N : ℕ) (l : List Segment) → isInUse (getD (map outline l) (nextIndex N (map outline l)) blank) ≡ isInUse (getD l (nextIndex N l) blank)
+pub outline-after-use : (N : ℕ) (l : List Segment) → isInUse (get_or (map outline l) (nextIndex N (map outline l)) blank) ≡ isInUse (get_or l (nextIndex N l) blank)
 unfolding nextIndex
-outline-after-use N l = rw (outline-next l, outline-get l (nextNumber l % N)) (outline-use (getD l (nextNumber l % N) blank))
+outline-after-use N l = rw (outline-next l, outline-get l (nextNumber l % N)) (outline-use (get_or l (nextNumber l % N) blank))
 
 pub outline-blanked : (N : ℕ) (l : List Segment) → nextBlanked N (map outline l) ≡ map outline (nextBlanked N l)
 unfolding nextBlanked nextIndex outline
@@ -145,8 +142,8 @@ outline-blanked N l = rw (outline-next l) (sym (map-set outline l (nextNumber l 
 
 pub outline-settled-top : (N : ℕ) (l : List Segment) → topSettled N (map outline l) ≡ map outline (topSettled N l)
 unfolding topSettled topIndex
-outline-settled-top N l = rw (outline-blanked N l, outline-next l, outline-get l ((nextNumber l - 1) % N), outline-settled (getD l ((nextNumber l - 1) % N) blank))
-    (sym (map-set outline (nextBlanked N l) ((nextNumber l - 1) % N) (settled (getD l ((nextNumber l - 1) % N) blank))))
+outline-settled-top N l = rw (outline-blanked N l, outline-next l, outline-get l ((nextNumber l - 1) % N), outline-settled (get_or l ((nextNumber l - 1) % N) blank))
+    (sym (map-set outline (nextBlanked N l) ((nextNumber l - 1) % N) (settled (get_or l ((nextNumber l - 1) % N) blank))))
 
 -- ---- of a table of summaries
 
@@ -165,49 +162,49 @@ unfoldable pub allSettled : List Segment → Bool
 allSettled l = noneOwing l && othersBlank l
 
 unfoldable pub countsOf : List Segment → HeaderCounts
-countsOf l = record { next = nextNumber l; used = usedCount l; settled = allSettled l; «all_version_1» = all (λ x. ofVersion 1 x) l; «all_version_2» = all (λ x. ofVersion 2 x) l }
+countsOf l = record { next = nextNumber l; used = usedCount l; settled = allSettled l; all_version_1 = all (λ x. ofVersion 1 x) l; all_version_2 = all (λ x. ofVersion 2 x) l }
 
 unfoldable pub noCounts : HeaderCounts
-noCounts = record { next = 0; used = 0; settled = true; «all_version_1» = true; «all_version_2» = true }
+noCounts = record { next = 0; used = 0; settled = true; all_version_1 = true; all_version_2 = true }
 
 -- one segment more
 unfoldable pub countOne : HeaderCounts → Segment → HeaderCounts
 countOne c x = record {
-  next = max (c .next) (numberAfter x);
-  used = cond (isInUse x) (c .used + 1) (c .used);
-  settled = c .settled && (not (isOwing x) && not (isInvalid x));
-  «all_version_1» = c .«all_version_1» && ofVersion 1 x;
-  «all_version_2» = c .«all_version_2» && ofVersion 2 x;
+  next = max c.next (numberAfter x);
+  used = cond (isInUse x) (c.used + 1) c.used;
+  settled = c.settled && (not (isOwing x) && not (isInvalid x));
+  all_version_1 = c.all_version_1 && ofVersion 1 x;
+  all_version_2 = c.all_version_2 && ofVersion 2 x;
 }
 
 -- what conditions 1 to 4 ask of the counts: some in use, not all, of one version, none owing and all others blank
 unfoldable pub mayBeFine : ℕ → HeaderCounts → Bool
-mayBeFine N c = ltb 0 (c .used) && (ltb (c .used) N && ((c .«all_version_1» || c .«all_version_2») && c .settled))
+mayBeFine N c = ltb 0 c.used && (ltb c.used N && ((c.all_version_1 || c.all_version_2) && c.settled))
 
 -- the segments in use: the smallest number, how many, and whether conditions 1 to 4 hold
-unfoldable pub frameOf : ℕ → List Segment → Frame
-frameOf N l = record { first = firstNumber l; used = usedCount l; fine = frame N l }
+unfoldable pub frame_of : ℕ → List Segment → Frame
+frame_of N l = record { first = firstNumber l; used = usedCount l; fine = frame N l }
 
-outline-frame-of : (N : ℕ) (l : List Segment) → frameOf N (map outline l) ≡ frameOf N l
-unfolding frameOf
+outline-frame-of : (N : ℕ) (l : List Segment) → frame_of N (map outline l) ≡ frame_of N l
+unfolding frame_of
 outline-frame-of N l = rw (outline-first l, outline-used l, outline-frame N l)
 
 -- ---- all that the headers tell
 
 -- (b) or (a) mended, if the headers show it: an owing top settled and the segment after it taken for blank, or else a torn segment after the top
 unfoldable pub headsMended : ℕ → List Segment → List Segment
-headsMended N l = cond (isOwing (getD l (topIndex N l) blank)) (topSettled N l) (cond (isInvalid (getD l (nextIndex N l) blank)) (nextBlanked N l) l)
+headsMended N l = cond (isOwing (get_or l (topIndex N l) blank)) (topSettled N l) (cond (isInvalid (get_or l (nextIndex N l) blank)) (nextBlanked N l) l)
 
 -- of the number after the top's, the top, the segment after it, and the frame
 unfoldable pub headersBy : ℕ → Segment → Segment → Frame → Headers
 headersBy next top after f = record { next = next; owing = isOwing top; torn = isInvalid after; blank = not (isInUse after || isInvalid after); frame = f }
 
 unfoldable pub headersOf : ℕ → List Segment → Headers
-headersOf N l = headersBy (nextNumber l) (getD l (topIndex N l) blank) (getD l (nextIndex N l) blank) (frameOf N (headsMended N l))
+headersOf N l = headersBy (nextNumber l) (get_or l (topIndex N l) blank) (get_or l (nextIndex N l) blank) (frame_of N (headsMended N l))
 
 outline-mended : (N : ℕ) (l : List Segment) → headsMended N (map outline l) ≡ map outline (headsMended N l)
 unfolding headsMended
-outline-mended N l = rw (outline-top N l, outline-after N l, outline-settled-top N l, outline-blanked N l) (go (isOwing (getD l (topIndex N l) blank)) (isInvalid (getD l (nextIndex N l) blank)))
+outline-mended N l = rw (outline-top N l, outline-after N l, outline-settled-top N l, outline-blanked N l) (go (isOwing (get_or l (topIndex N l) blank)) (isInvalid (get_or l (nextIndex N l) blank)))
   where
     go : (s t : Bool) → cond s (map outline (topSettled N l)) (cond t (map outline (nextBlanked N l)) (map outline l)) ≡ map outline (cond s (topSettled N l) (cond t (nextBlanked N l) l))
     go true t = refl

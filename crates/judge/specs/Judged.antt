@@ -1,36 +1,36 @@
 -- What an ending says of the slots: all plain; or plain up to a slot that stops them, and empty ones after it.
-use Prim.Native.Nat.{_+_}
-use mathlib.Core.Path.{_≡_, refl, sym, ap, _∙_}
-use mathlib.Core.Logic.{_⊎_, inl, inr}
-use mathlib.Core.Bool.{Bool, true, false, cond, _||_, not, true≢false, false≢true, and-eq-true-iff}
-use mathlib.Core.List.{List, [], _∷_, _++_, flatMap, flatten, append-assoc, append-nil}
-use native.Mathlib.Omega.{arith}
-use Rattle·model.specs.Lists.{all}
-use Rattle·model.specs.Slot.{Slot, empty, torn, dead, cut, wrong, live, isEmpty, isTorn, isWrong, Entry, entryOf}
-use Rattle·model.specs.State.{entries, holds, distinct, copies}
-use Rattle·model.specs.Table.{Table}
-use Rattle·bridge.specs.Views.Slots.{full, sound, entries-append, entries-cons}
-use Rattle·judge·specs.specs.declared.Ending.{Ending}
-use Rattle·judge·specs.specs.declared.Ending.the-variants.{Full, Room, TornLast, TwinLast, Bad}
-use Rattle·judge·specs.specs.Endings.{behind, leaveRoom, turn, judge, ring, isFull, isBad}
-use Rattle·model.specs.Laws.Lists.{all-join, all-parts}
-use Rattle·model.specs.Laws.Tables.{copies-append, copies-cons-same, copies-cons-other, copies-none, absent-copies, copies-absent, distinct-copies, copies-distinct}
+use Rattle.std.specs.Prelude.{◌+◌, ◌≡◌, ◌⊎◌, Bool, true, cond, ◌||◌, not}
+use Rattle.std.proofs.Math.Path.{refl}
+use Rattle.std.proofs.Common.{sym, ap, ◌∙◌, inl, inr, true≢false, arith}
+use Rattle.std.proofs.Math.Bool.{false, and-eq-true_iff}
+use Rattle.std.proofs.lemmas.Bool.{false≢true}
+use mathlib.Core.List.{List, [], ◌∷◌, ◌++◌, flat_map, flatten, append_assoc, append-nil}
+use Rattle.model.specs.Lists.{all}
+use Rattle.model.specs.Slot.{Slot, empty, torn, dead, cut, wrong, live, is_empty, isTorn, isWrong, Entry, entry_of}
+use Rattle.model.specs.State.{entries, holds, distinct, copies}
+use Rattle.model.specs.Table.{Table}
+use Rattle.bridge.specs.Views.Slots.{full, sound, entries-append, entries-cons}
+use Rattle.judge.specs.declared.Ending.{Ending}
+use Rattle.judge.specs.declared.Ending.TheVariants.{Full, Room, TornLast, TwinLast, Bad}
+use Rattle.judge.specs.Endings.{behind, leaveRoom, turn, judge, ring, isFull, isBad}
+use Rattle.model.specs.Laws.Lists.{all_join, all-parts}
+use Rattle.model.specs.Laws.Tables.{copies-append, copies-cons-same, copies-cons-other, copies-none, absent-copies, copies-absent, distinct-copies, copies-distinct}
 
 -- ---- tables of distinct blocks
 
 pub distinct-front : (x y : Table) → distinct (x ++ y) ≡ true → distinct x ≡ true
 distinct-front x y h = copies-distinct x (λ b. omega (arith, copies-append b x y, distinct-copies (x ++ y) h b))
 
-fresh-before : (x : Table) (e : Entry) (y : Table) → distinct (x ++ (e ∷ y)) ≡ true → holds (e .block) x ≡ false
-fresh-before x e y h = copies-absent (e .block) x (omega (arith, copies-append (e .block) x (e ∷ y), copies-cons-same (e .block) e y refl, distinct-copies (x ++ (e ∷ y)) h (e .block)))
+fresh-before : (x : Table) (e : Entry) (y : Table) → distinct (x ++ (e ∷ y)) ≡ true → holds e.block x ≡ false
+fresh-before x e y h = copies-absent e.block x (omega (arith, copies-append e.block x (e ∷ y), copies-cons-same e.block e y refl, distinct-copies (x ++ (e ∷ y)) h e.block))
 
-distinct-more : (x : Table) (e : Entry) → distinct x ≡ true → holds (e .block) x ≡ false → distinct (x ++ (e ∷ [])) ≡ true
-distinct-more x e d h = copies-distinct (x ++ (e ∷ [])) (λ b.
+distinct_more : (x : Table) (e : Entry) → distinct x ≡ true → holds e.block x ≡ false → distinct (x ++ (e ∷ [])) ≡ true
+distinct_more x e d h = copies-distinct (x ++ (e ∷ [])) (λ b.
     let s = copies-append b x (e ∷ []) in
     let z = copies-none b in
     let k = distinct-copies x d b in
-    elim (native.Mathlib.Decide.ℕ-discrete b (e .block)) [
-      | yes q ↦ let a : copies b x ≡ 0 = rw q (absent-copies (e .block) x h) in omega (arith, copies-cons-same b e [] q)
+    elim (native.Mathlib.Decide.ℕ_discrete b e.block) [
+      | yes q ↦ let a : copies b x ≡ 0 = rw q (absent-copies e.block x h) in omega (arith, copies-cons-same b e [] q)
       | no q ↦ omega (arith, copies-cons-other b e [] q)
     ])
 
@@ -42,63 +42,63 @@ pub record Plain (p : List Entry) (s : List Slot) : Type 0 where
   pub once : distinct (p ++ entries s) ≡ true
 
 pub plain-none : (p : List Entry) → distinct p ≡ true → Plain p []
-unfolding all entries flatMap
+unfolding all entries flat_map
 plain-none p d = record { sound = refl; full = refl; once = ap distinct (append-nil p) ∙ d }
 
-grouped : (p : List Entry) (k : Slot) (s : List Slot) → p ++ entries (k ∷ s) ≡ p ++ entryOf k ++ entries s
-grouped p k s = ap (λ (y : List Entry). p ++ y) (entries-cons k s) ∙ sym (append-assoc p (entryOf k) (entries s))
+grouped : (p : List Entry) (k : Slot) (s : List Slot) → p ++ entries (k ∷ s) ≡ p ++ entry_of k ++ entries s
+grouped p k s = ap (λ (y : List Entry). p ++ y) (entries-cons k s) ∙ sym (append_assoc p (entry_of k) (entries s))
 
-plain-cons : (p : List Entry) (k : Slot) (s : List Slot) → not (isWrong k || isTorn k) ≡ true → isEmpty k ≡ false → Plain (p ++ entryOf k) s → Plain p (k ∷ s)
+plain-cons : (p : List Entry) (k : Slot) (s : List Slot) → not (isWrong k || isTorn k) ≡ true → is_empty k ≡ false → Plain (p ++ entry_of k) s → Plain p (k ∷ s)
 unfolding all
-plain-cons p k s a b h = record { sound = rw (a, h .sound); full = rw (b, h .full); once = rw (grouped p k s) (h .once) }
+plain-cons p k s a b h = record { sound = rw (a, h.sound); full = rw (b, h.full); once = rw (grouped p k s) h.once }
 
-plain-tail : (p : List Entry) (k : Slot) (s : List Slot) → Plain p (k ∷ s) → Plain (p ++ entryOf k) s
+plain-tail : (p : List Entry) (k : Slot) (s : List Slot) → Plain p (k ∷ s) → Plain (p ++ entry_of k) s
 unfolding all
 plain-tail p k s h = record {
-  sound = and-eq-true-iff (not (isWrong k || isTorn k)) (sound s) .0 (h .sound) .1;
-  full = and-eq-true-iff (not (isEmpty k)) (full s) .0 (h .full) .1;
-  once = rw (← (grouped p k s)) (h .once);
+  sound = ((and-eq-true_iff (not (isWrong k || isTorn k)) (sound s)).0 h.sound).1;
+  full = ((and-eq-true_iff (not (is_empty k)) (full s)).0 h.full).1;
+  once = rw (← (grouped p k s)) h.once;
 }
 
 pub plain-parts : (p : List Entry) (x y : List Slot) → Plain p (x ++ y) → Plain p x × Plain (p ++ entries x) y
 plain-parts p x y h =
-    let a = all-parts (λ k. not (isWrong k || isTorn k)) x y (h .sound) in
-    let b = all-parts (λ k. not (isEmpty k)) x y (h .full) in
-    let e : p ++ entries (x ++ y) ≡ p ++ entries x ++ entries y = ap (λ (z : List Entry). p ++ z) (entries-append x y) ∙ sym (append-assoc p (entries x) (entries y)) in
-    let d : distinct (p ++ entries x ++ entries y) ≡ true = rw (← e) (h .once) in (
-      record { sound = a .0; full = b .0; once = distinct-front (p ++ entries x) (entries y) d },
-      record { sound = a .1; full = b .1; once = d },
+    let a = all-parts (λ k. not (isWrong k || isTorn k)) x y h.sound in
+    let b = all-parts (λ k. not (is_empty k)) x y h.full in
+    let e : p ++ entries (x ++ y) ≡ p ++ entries x ++ entries y = ap (λ (z : List Entry). p ++ z) (entries-append x y) ∙ sym (append_assoc p (entries x) (entries y)) in
+    let d : distinct (p ++ entries x ++ entries y) ≡ true = rw (← e) h.once in (
+      record { sound = a.0; full = b.0; once = distinct-front (p ++ entries x) (entries y) d },
+      record { sound = a.1; full = b.1; once = d },
     )
 
 pub plain-join : (p : List Entry) (x y : List Slot) → Plain p x → Plain (p ++ entries x) y → Plain p (x ++ y)
 plain-join p x y g h =
-    let e : p ++ entries (x ++ y) ≡ p ++ entries x ++ entries y = ap (λ (z : List Entry). p ++ z) (entries-append x y) ∙ sym (append-assoc p (entries x) (entries y)) in
-    record { sound = all-join (λ k. not (isWrong k || isTorn k)) x y (g .sound) (h .sound); full = all-join (λ k. not (isEmpty k)) x y (g .full) (h .full); once = rw e (h .once) }
+    let e : p ++ entries (x ++ y) ≡ p ++ entries x ++ entries y = ap (λ (z : List Entry). p ++ z) (entries-append x y) ∙ sym (append_assoc p (entries x) (entries y)) in
+    record { sound = all_join (λ k. not (isWrong k || isTorn k)) x y g.sound h.sound; full = all_join (λ k. not (is_empty k)) x y g.full h.full; once = rw e h.once }
 
 -- ---- a row judged in two parts
 
 pub judge-append : (e : Ending) (p : List Entry) (x y : List Slot) → judge e p (x ++ y) ≡ judge (judge e p x) (p ++ entries x) y
-unfolding judge entries flatMap
+unfolding judge entries flat_map
 judge-append e p [] y = ap (λ (q : List Entry). judge e q y) (sym (append-nil p))
-judge-append e p (k ∷ x) y = judge-append (turn e p k) (p ++ entryOf k) x y ∙ ap (λ (q : List Entry). judge (judge (turn e p k) (p ++ entryOf k) x) q y) (sym (grouped p k x))
+judge-append e p (k ∷ x) y = judge-append (turn e p k) (p ++ entry_of k) x y ∙ ap (λ (q : List Entry). judge (judge (turn e p k) (p ++ entry_of k) x) q y) (sym (grouped p k x))
 
 judge-bad : (p : List Entry) (s : List Slot) → judge Bad p s ≡ Bad
 unfolding judge turn behind leaveRoom
 judge-bad p [] = refl
-judge-bad p (empty ∷ s) = judge-bad (p ++ entryOf empty) s
-judge-bad p (torn ∷ s) = judge-bad (p ++ entryOf torn) s
-judge-bad p (dead ∷ s) = judge-bad (p ++ entryOf dead) s
-judge-bad p (cut ∷ s) = judge-bad (p ++ entryOf cut) s
-judge-bad p (wrong ∷ s) = judge-bad (p ++ entryOf wrong) s
-judge-bad p (live b c ∷ s) = judge-bad (p ++ entryOf (live b c)) s
+judge-bad p (empty ∷ s) = judge-bad (p ++ entry_of empty) s
+judge-bad p (torn ∷ s) = judge-bad (p ++ entry_of torn) s
+judge-bad p (dead ∷ s) = judge-bad (p ++ entry_of dead) s
+judge-bad p (cut ∷ s) = judge-bad (p ++ entry_of cut) s
+judge-bad p (wrong ∷ s) = judge-bad (p ++ entry_of wrong) s
+judge-bad p (live b c ∷ s) = judge-bad (p ++ entry_of (live b c)) s
 
-pub not-full : (e : Ending) → isFull e ≡ false → (f : Ending) → behind e f ≡ Bad
+pub not_full : (e : Ending) → isFull e ≡ false → (f : Ending) → behind e f ≡ Bad
 unfolding behind isFull
-not-full Full h f = absurd (true≢false h)
-not-full Room h f = refl
-not-full TornLast h f = refl
-not-full TwinLast h f = refl
-not-full Bad h f = refl
+not_full Full h f = absurd (true≢false h)
+not_full Room h f = refl
+not_full TornLast h f = refl
+not_full TwinLast h f = refl
+not_full Bad h f = refl
 
 room-kept : (e : Ending) → isFull e ≡ false → leaveRoom e ≡ e
 unfolding leaveRoom isFull
@@ -109,10 +109,10 @@ room-kept TwinLast h = refl
 room-kept Bad h = refl
 
 -- once stopped, only empty slots may follow
-pub judge-empty : (e : Ending) → isFull e ≡ false → (p : List Entry) (s : List Slot) → all isEmpty s ≡ true → judge e p s ≡ e
-unfolding judge turn all isEmpty
+pub judge-empty : (e : Ending) → isFull e ≡ false → (p : List Entry) (s : List Slot) → all is_empty s ≡ true → judge e p s ≡ e
+unfolding judge turn all is_empty
 judge-empty e h p [] q = refl
-judge-empty e h p (empty ∷ s) q = rw (room-kept e h) (judge-empty e h (p ++ entryOf empty) s q)
+judge-empty e h p (empty ∷ s) q = rw (room-kept e h) (judge-empty e h (p ++ entry_of empty) s q)
 judge-empty e h p (torn ∷ s) q = absurd (false≢true q)
 judge-empty e h p (dead ∷ s) q = absurd (false≢true q)
 judge-empty e h p (cut ∷ s) q = absurd (false≢true q)
@@ -122,32 +122,32 @@ judge-empty e h p (live b c ∷ s) q = absurd (false≢true q)
 -- a written slot then is against the rules
 broken : (e f : Ending) → isFull e ≡ false → isBad f ≡ false → (g : Ending) (p : List Entry) (s : List Slot) → judge (behind e g) p s ≡ f → ⊥
 unfolding isBad
-broken e f h k g p s q = let z : f ≡ Bad = sym q ∙ (ap (λ (x : Ending). judge x p s) (not-full e h g) ∙ judge-bad p s) in false≢true (sym k ∙ ap isBad z)
+broken e f h k g p s q = let z : f ≡ Bad = sym q ∙ (ap (λ (x : Ending). judge x p s) (not_full e h g) ∙ judge-bad p s) in false≢true (sym k ∙ ap isBad z)
 
-stopped : (e f : Ending) → isFull e ≡ false → isBad f ≡ false → (p : List Entry) (s : List Slot) → judge e p s ≡ f → (f ≡ e) × (all isEmpty s ≡ true)
-unfolding judge turn all isEmpty
+stopped : (e f : Ending) → isFull e ≡ false → isBad f ≡ false → (p : List Entry) (s : List Slot) → judge e p s ≡ f → (f ≡ e) × (all is_empty s ≡ true)
+unfolding judge turn all is_empty
 stopped e f h k p [] q = (sym q, refl)
-stopped e f h k p (empty ∷ s) q = stopped e f h k (p ++ entryOf empty) s (rw (room-kept e h) at q)
-stopped e f h k p (torn ∷ s) q = absurd (broken e f h k TornLast (p ++ entryOf torn) s q)
-stopped e f h k p (dead ∷ s) q = absurd (broken e f h k Full (p ++ entryOf dead) s q)
-stopped e f h k p (cut ∷ s) q = absurd (broken e f h k Full (p ++ entryOf cut) s q)
-stopped e f h k p (wrong ∷ s) q = absurd (broken Bad f (unfold isFull in refl) k Full (p ++ entryOf wrong) s (unfold behind in q))
-stopped e f h k p (live b c ∷ s) q = absurd (broken e f h k (cond (holds b p) TwinLast Full) (p ++ entryOf (live b c)) s q)
+stopped e f h k p (empty ∷ s) q = stopped e f h k (p ++ entry_of empty) s (rw (room-kept e h) at q)
+stopped e f h k p (torn ∷ s) q = absurd (broken e f h k TornLast (p ++ entry_of torn) s q)
+stopped e f h k p (dead ∷ s) q = absurd (broken e f h k Full (p ++ entry_of dead) s q)
+stopped e f h k p (cut ∷ s) q = absurd (broken e f h k Full (p ++ entry_of cut) s q)
+stopped e f h k p (wrong ∷ s) q = absurd (broken Bad f (unfold isFull in refl) k Full (p ++ entry_of wrong) s (unfold behind in q))
+stopped e f h k p (live b c ∷ s) q = absurd (broken e f h k (cond (holds b p) TwinLast Full) (p ++ entry_of (live b c)) s q)
 
 -- ---- plain slots are all written, and only they
 
 pub plain-full : (p : List Entry) (s : List Slot) → Plain p s → judge Full p s ≡ Full
-unfolding judge turn behind all isEmpty isWrong isTorn
+unfolding judge turn behind all is_empty isWrong isTorn
 plain-full p [] h = refl
-plain-full p (empty ∷ s) h = absurd (false≢true (h .full))
-plain-full p (torn ∷ s) h = absurd (false≢true (h .sound))
-plain-full p (dead ∷ s) h = plain-full (p ++ entryOf dead) s (plain-tail p dead s h)
-plain-full p (cut ∷ s) h = plain-full (p ++ entryOf cut) s (plain-tail p cut s h)
-plain-full p (wrong ∷ s) h = absurd (false≢true (h .sound))
+plain-full p (empty ∷ s) h = absurd (false≢true h.full)
+plain-full p (torn ∷ s) h = absurd (false≢true h.sound)
+plain-full p (dead ∷ s) h = plain-full (p ++ entry_of dead) s (plain-tail p dead s h)
+plain-full p (cut ∷ s) h = plain-full (p ++ entry_of cut) s (plain-tail p cut s h)
+plain-full p (wrong ∷ s) h = absurd (false≢true h.sound)
 plain-full p (live b c ∷ s) h =
     let e : Entry = record { block = b; contents = c } in
-    let d : distinct (p ++ (e ∷ entries s)) ≡ true = (unfold entryOf in (ap (λ (y : List Entry). distinct (p ++ y)) (sym (entries-cons (live b c) s)) ∙ h .once)) in
-    rw (fresh-before p e (entries s) d) (plain-full (p ++ entryOf (live b c)) s (plain-tail p (live b c) s h))
+    let d : distinct (p ++ (e ∷ entries s)) ≡ true = (unfold entry_of in (ap (λ (y : List Entry). distinct (p ++ y)) (sym (entries-cons (live b c) s)) ∙ h.once)) in
+    rw (fresh-before p e (entries s) d) (plain-full (p ++ entry_of (live b c)) s (plain-tail p (live b c) s h))
 
 -- plain up to a slot that stops them
 pub record Stop (f : Ending) (p : List Entry) (s : List Slot) : Type 0 where
@@ -156,80 +156,80 @@ pub record Stop (f : Ending) (p : List Entry) (s : List Slot) : Type 0 where
   pub right : List Slot
   pub split : s ≡ left ++ (slot ∷ right)
   pub plain : Plain p left
-  pub rest : all isEmpty right ≡ true
+  pub rest : all is_empty right ≡ true
   pub ending : turn Full (p ++ entries left) slot ≡ f
   pub stops : isFull f ≡ false
 
 pub stop-judge : (f : Ending) (p : List Entry) (s : List Slot) → Stop f p s → judge Full p s ≡ f
 unfolding judge
 stop-judge f p s h =
-    ap (judge Full p) (h .split) ∙ (judge-append Full p (h .left) (h .slot ∷ h .right)
-    ∙ (ap (λ (e : Ending). judge e (p ++ entries (h .left)) (h .slot ∷ h .right)) (plain-full p (h .left) (h .plain))
-    ∙ (ap (λ (e : Ending). judge e (p ++ entries (h .left) ++ entryOf (h .slot)) (h .right)) (h .ending)
-    ∙ judge-empty f (h .stops) (p ++ entries (h .left) ++ entryOf (h .slot)) (h .right) (h .rest))))
+    ap (judge Full p) h.split ∙ (judge-append Full p h.left (h.slot ∷ h.right)
+    ∙ (ap (λ (e : Ending). judge e (p ++ entries h.left) (h.slot ∷ h.right)) (plain-full p h.left h.plain)
+    ∙ (ap (λ (e : Ending). judge e (p ++ entries h.left ++ entry_of h.slot) h.right) h.ending
+    ∙ judge-empty f h.stops (p ++ entries h.left ++ entry_of h.slot) h.right h.rest)))
 
 abbrev pub Judged : Ending → List Entry → List Slot → Type 0
 Judged f p s = ((f ≡ Full) × Plain p s) ⊎ Stop f p s
 
 -- the first slot stops them
 stop-here : (f e : Ending) (p : List Entry) (k : Slot) (s : List Slot) → distinct p ≡ true → isBad f ≡ false → turn Full p k ≡ e → isFull e ≡ false
-    → judge e (p ++ entryOf k) s ≡ f → Judged f p (k ∷ s)
-unfolding entries flatMap
+    → judge e (p ++ entry_of k) s ≡ f → Judged f p (k ∷ s)
+unfolding entries flat_map
 stop-here f e p k s d n t h q =
-    let r = stopped e f h n (p ++ entryOf k) s q in
+    let r = stopped e f h n (p ++ entry_of k) s q in
     inr (record {
       left = [];
       slot = k;
       right = s;
       split = refl;
       plain = plain-none p d;
-      rest = r .1;
-      ending = ap (λ (y : List Entry). turn Full y k) (append-nil p) ∙ (t ∙ sym (r .0));
-      stops = ap isFull (r .0) ∙ h;
+      rest = r.1;
+      ending = ap (λ (y : List Entry). turn Full y k) (append-nil p) ∙ (t ∙ sym r.0);
+      stops = ap isFull r.0 ∙ h;
     })
 
 -- the first slot is plain
-judged-cons : (f : Ending) (p : List Entry) (k : Slot) (s : List Slot) → not (isWrong k || isTorn k) ≡ true → isEmpty k ≡ false → Judged f (p ++ entryOf k) s → Judged f p (k ∷ s)
+judged-cons : (f : Ending) (p : List Entry) (k : Slot) (s : List Slot) → not (isWrong k || isTorn k) ≡ true → is_empty k ≡ false → Judged f (p ++ entry_of k) s → Judged f p (k ∷ s)
 judged-cons f p k s a b (inl (e, h)) = inl (e, plain-cons p k s a b h)
 judged-cons f p k s a b (inr h) = inr (record {
-  left = k ∷ h .left;
-  slot = h .slot;
-  right = h .right;
-  split = ap {B = List Slot} (λ y. k ∷ y) (h .split);
-  plain = plain-cons p k (h .left) a b (h .plain);
-  rest = h .rest;
-  ending = ap (λ (y : List Entry). turn Full y (h .slot)) (grouped p k (h .left)) ∙ h .ending;
-  stops = h .stops;
+  left = k ∷ h.left;
+  slot = h.slot;
+  right = h.right;
+  split = ap {B = List Slot} (λ y. k ∷ y) h.split;
+  plain = plain-cons p k h.left a b h.plain;
+  rest = h.rest;
+  ending = ap (λ (y : List Entry). turn Full y h.slot) (grouped p k h.left) ∙ h.ending;
+  stops = h.stops;
 })
 
 pub judged : (f : Ending) → isBad f ≡ false → (p : List Entry) → distinct p ≡ true → (s : List Slot) → judge Full p s ≡ f → Judged f p s
-unfolding judge turn behind leaveRoom isWrong isTorn isEmpty
+unfolding judge turn behind leaveRoom isWrong isTorn is_empty
 judged f n p d [] q = inl (sym q, plain-none p d)
 judged f n p d (empty ∷ s) q = stop-here f Room p empty s d n refl (unfold isFull in refl) q
 judged f n p d (torn ∷ s) q = stop-here f TornLast p torn s d n refl (unfold isFull in refl) q
-judged f n p d (wrong ∷ s) q = absurd (broken Bad f (unfold isFull in refl) n Full (p ++ entryOf wrong) s q)
-judged f n p d (dead ∷ s) q = judged-cons f p dead s refl refl (judged f n (p ++ entryOf dead) (unfold entryOf in (ap distinct (append-nil p) ∙ d)) s q)
-judged f n p d (cut ∷ s) q = judged-cons f p cut s refl refl (judged f n (p ++ entryOf cut) (unfold entryOf in (ap distinct (append-nil p) ∙ d)) s q)
-judged f n p d (live b c ∷ s) q = go (holds b p) refl q (λ k r. judged f n (p ++ entryOf (live b c)) k s r)
+judged f n p d (wrong ∷ s) q = absurd (broken Bad f (unfold isFull in refl) n Full (p ++ entry_of wrong) s q)
+judged f n p d (dead ∷ s) q = judged-cons f p dead s refl refl (judged f n (p ++ entry_of dead) (unfold entry_of in (ap distinct (append-nil p) ∙ d)) s q)
+judged f n p d (cut ∷ s) q = judged-cons f p cut s refl refl (judged f n (p ++ entry_of cut) (unfold entry_of in (ap distinct (append-nil p) ∙ d)) s q)
+judged f n p d (live b c ∷ s) q = go (holds b p) refl q (λ k r. judged f n (p ++ entry_of (live b c)) k s r)
   where
-    go : (t : Bool) → holds b p ≡ t → judge (cond t TwinLast Full) (p ++ entryOf (live b c)) s ≡ f
-        → (distinct (p ++ entryOf (live b c)) ≡ true → judge Full (p ++ entryOf (live b c)) s ≡ f → Judged f (p ++ entryOf (live b c)) s) → Judged f p (live b c ∷ s)
+    go : (t : Bool) → holds b p ≡ t → judge (cond t TwinLast Full) (p ++ entry_of (live b c)) s ≡ f
+        → (distinct (p ++ entry_of (live b c)) ≡ true → judge Full (p ++ entry_of (live b c)) s ≡ f → Judged f (p ++ entry_of (live b c)) s) → Judged f p (live b c ∷ s)
     go true e r ih = stop-here f TwinLast p (live b c) s d n (rw e) (unfold isFull in refl) r
-    go false e r ih = judged-cons f p (live b c) s refl refl (ih (unfold entryOf in distinct-more p (record { block = b; contents = c }) d e) r)
+    go false e r ih = judged-cons f p (live b c) s refl refl (ih (unfold entry_of in distinct_more p (record { block = b; contents = c }) d e) r)
 
 -- ---- rows
 
 pub ring-snoc : (e : Ending) (p : List Entry) (l : List (List Slot)) (t : List Slot) → ring e p (l ++ (t ∷ [])) ≡ behind (ring e p l) (judge Full (p ++ entries (flatten l)) t)
-unfolding ring flatten entries flatMap
+unfolding ring flatten entries flat_map
 ring-snoc e p [] t = ap (λ (q : List Entry). behind e (judge Full q t)) (sym (append-nil p))
 ring-snoc e p (r ∷ l) t = ring-snoc (behind e (judge Full p r)) (p ++ entries r) l t
-    ∙ ap (λ (q : List Entry). behind (ring (behind e (judge Full p r)) (p ++ entries r) l) (judge Full q t)) (append-assoc p (entries r) (entries (flatten l)) ∙ ap (λ (y : List Entry). p ++ y) (sym (entries-append r (flatten l))))
+    ∙ ap (λ (q : List Entry). behind (ring (behind e (judge Full p r)) (p ++ entries r) l) (judge Full q t)) (append_assoc p (entries r) (entries (flatten l)) ∙ ap (λ (y : List Entry). p ++ y) (sym (entries-append r (flatten l))))
 
 pub rows-full : (p : List Entry) (l : List (List Slot)) → Plain p (flatten l) → ring Full p l ≡ Full
 unfolding ring flatten behind
 rows-full p [] h = refl
 rows-full p (r ∷ l) h = let q = plain-parts p r (flatten l) h in
-    ap (λ (e : Ending). ring e (p ++ entries r) l) (plain-full p r (q .0)) ∙ rows-full (p ++ entries r) l (q .1)
+    ap (λ (e : Ending). ring e (p ++ entries r) l) (plain-full p r q.0) ∙ rows-full (p ++ entries r) l q.1
 
 ring-full : (e : Ending) (p : List Entry) (l : List (List Slot)) → ring e p l ≡ Full → e ≡ Full
 unfolding ring behind
@@ -252,8 +252,8 @@ full-rows p d [] h = plain-none p d
 full-rows p d (r ∷ l) h =
     let e = ring-full (judge Full p r) (p ++ entries r) l h in
     let g = here (judged Full (unfold isBad in refl) p d r e) in
-    plain-join p r (flatten l) g (full-rows (p ++ entries r) (g .once) l (ap (λ (x : Ending). ring x (p ++ entries r) l) (sym e) ∙ h))
+    plain-join p r (flatten l) g (full-rows (p ++ entries r) g.once l (ap (λ (x : Ending). ring x (p ++ entries r) l) (sym e) ∙ h))
   where
     here : Judged Full p r → Plain p r
     here (inl (e, g)) = g
-    here (inr g) = absurd (true≢false (unfold isFull in (g .stops)))
+    here (inr g) = absurd (true≢false (unfold isFull in g.stops))

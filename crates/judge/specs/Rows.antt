@@ -1,17 +1,14 @@
 -- The slots of one segment looked at in order: counts, how they end, and the set of block numbers met so far.
-use Prim.Native.Nat.{ℕ, _+_, _≤_}
-use mathlib.Core.Bool.{cond}
-use mathlib.Core.List.{List, [], _∷_, map}
-use lib.ListN.{drop}
-use Rattle·model.specs.Lists.{chunk}
-use Rattle·model.specs.Chip.{Image}
-use Rattle·model.specs.Slot.{Slot, slotOf, kindOf}
-use Rattle·model.specs.declared.SlotKind.{SlotKind}
-use Rattle·model.specs.declared.SlotKind.the-variants.{Empty, Torn, Live, Dead, Cut, Wrong}
-use Rattle·judge·specs.specs.declared.Ending.the-variants.{Full, TornLast, TwinLast, Bad}
-use Rattle·judge·specs.specs.declared.Row.{Row}
-use Rattle·judge·specs.specs.Endings.{behind, leaveRoom}
-use Rattle·judge·specs.specs.Bitmap.{inBits, putBit}
+use Rattle.std.specs.Prelude.{ℕ, ◌+◌, ◌≤◌, cond, List, [], ◌∷◌, map, drop}
+use Rattle.model.specs.Lists.{chunk}
+use Rattle.model.specs.Chip.{Image}
+use Rattle.model.specs.Slot.{Slot, slot_of, kind_of}
+use Rattle.model.specs.declared.SlotKind.{SlotKind}
+use Rattle.model.specs.declared.SlotKind.TheVariants.{Empty, Torn, Live, Dead, Cut, Wrong}
+use Rattle.judge.specs.declared.Ending.TheVariants.{Full, TornLast, TwinLast, Bad}
+use Rattle.judge.specs.declared.Row.{Row}
+use Rattle.judge.specs.Endings.{behind, leaveRoom}
+use Rattle.judge.specs.Bitmap.{inBits, put_bit}
 
 -- a row so far, and the block numbers met so far, in this row and in those before
 pub record Pass : Type 0 where
@@ -26,14 +23,14 @@ noRow = record { live = 0; dead = 0; cut = 0; ending = Full; block = record { 0 
 
 -- the next slot: it is counted and its number is met whatever came before
 unfoldable pub see : SlotKind → Pass → Pass
-see Empty p = pass (record { live = p .row .live; dead = p .row .dead; cut = p .row .cut; ending = leaveRoom (p .row .ending); block = p .row .block }) (p .seen)
-see Torn p = pass (record { live = p .row .live; dead = p .row .dead; cut = p .row .cut; ending = behind (p .row .ending) TornLast; block = p .row .block }) (p .seen)
+see Empty p = pass (record { live = p.row.live; dead = p.row.dead; cut = p.row.cut; ending = leaveRoom p.row.ending; block = p.row.block }) p.seen
+see Torn p = pass (record { live = p.row.live; dead = p.row.dead; cut = p.row.cut; ending = behind p.row.ending TornLast; block = p.row.block }) p.seen
 see (Live n b) p = pass
-    (record { live = p .row .live + 1; dead = p .row .dead; cut = p .row .cut; ending = behind (p .row .ending) (cond (inBits 64 (p .seen) (b .0)) TwinLast Full); block = b })
-    (putBit 64 (p .seen) (b .0))
-see Dead p = pass (record { live = p .row .live; dead = p .row .dead + 1; cut = p .row .cut; ending = behind (p .row .ending) Full; block = p .row .block }) (p .seen)
-see Cut p = pass (record { live = p .row .live; dead = p .row .dead; cut = p .row .cut + 1; ending = behind (p .row .ending) Full; block = p .row .block }) (p .seen)
-see Wrong p = pass (record { live = p .row .live; dead = p .row .dead; cut = p .row .cut; ending = Bad; block = p .row .block }) (p .seen)
+    (record { live = p.row.live + 1; dead = p.row.dead; cut = p.row.cut; ending = behind p.row.ending (cond (inBits 64 p.seen b.0) TwinLast Full); block = b })
+    (put_bit 64 p.seen b.0)
+see Dead p = pass (record { live = p.row.live; dead = p.row.dead + 1; cut = p.row.cut; ending = behind p.row.ending Full; block = p.row.block }) p.seen
+see Cut p = pass (record { live = p.row.live; dead = p.row.dead; cut = p.row.cut + 1; ending = behind p.row.ending Full; block = p.row.block }) p.seen
+see Wrong p = pass (record { live = p.row.live; dead = p.row.dead; cut = p.row.cut; ending = Bad; block = p.row.block }) p.seen
 
 unfoldable pub seeAll : List SlotKind → Pass → Pass
 seeAll [] p = p
@@ -41,13 +38,13 @@ seeAll (k ∷ ks) p = seeAll ks (see k p)
 
 -- counts of at most i slots
 pub record Small (r : Row) (i : ℕ) : Type 0 where
-  pub live : r .live ≤ i
-  pub dead : r .dead ≤ i
-  pub cut : r .cut ≤ i
+  pub live : r.live ≤ i
+  pub dead : r.dead ≤ i
+  pub cut : r.cut ≤ i
 
 -- the slots on c pages from an offset on, and their kinds
 unfoldable pub slotsAt : Image → ℕ → ℕ → List Slot
-slotsAt s o c = map slotOf (chunk c 256 (drop o s))
+slotsAt s o c = map slot_of (chunk c 256 (drop o s))
 
 unfoldable pub kindsAt : Image → ℕ → ℕ → List SlotKind
-kindsAt s o c = map kindOf (slotsAt s o c)
+kindsAt s o c = map kind_of (slotsAt s o c)

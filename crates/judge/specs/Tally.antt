@@ -1,20 +1,16 @@
 -- The rows of the segments in use, oldest first: each looked at behind those before, then added up.
-use Prim.Native.Nat.{ℕ, suc, _+_, _*_, _≤_}
-use mathlib.Core.Path.{_≡_, refl, ap}
-use mathlib.Core.Bool.{true, false, cond}
-use mathlib.Core.List.{List, [], _∷_, map}
-use lib.ListN.{replicate}
-use lib.Dec.{ltb}
-use Rattle·model.specs.Chip.{mostSegments, mostSlots}
-use Rattle·model.specs.Slot.{Slot, kindOf}
-use Rattle·judge·specs.specs.declared.Ending.the-variants.{Full, Bad}
-use Rattle·judge·specs.specs.declared.SegmentState.the-variants.{InUse}
-use Rattle·judge·specs.specs.declared.Row.{Row}
-use Rattle·judge·specs.specs.declared.Summary.{Summary}
-use Rattle·judge·specs.specs.declared.Sum.{Sum}
-use Rattle·judge·specs.specs.declared.Frame.{Frame}
-use Rattle·judge·specs.specs.Endings.{behind, endsTorn}
-use Rattle·judge·specs.specs.Rows.{pass, seeAll, noRow}
+use Rattle.std.specs.Prelude.{ℕ, suc, ◌+◌, ◌*◌, ◌≤◌, ◌≡◌, refl, true, false, cond, List, [], ◌∷◌, map, replicate, ltb}
+use Rattle.std.proofs.Common.{ap}
+use Rattle.model.specs.Chip.{mostSegments, mostSlots}
+use Rattle.model.specs.Slot.{Slot, kind_of}
+use Rattle.judge.specs.declared.Ending.TheVariants.{Full, Bad}
+use Rattle.judge.specs.declared.SegmentState.TheVariants.{InUse}
+use Rattle.judge.specs.declared.Row.{Row}
+use Rattle.judge.specs.declared.Summary.{Summary}
+use Rattle.judge.specs.declared.Sum.{Sum}
+use Rattle.judge.specs.declared.Frame.{Frame}
+use Rattle.judge.specs.Endings.{behind, endsTorn}
+use Rattle.judge.specs.Rows.{pass, seeAll, noRow}
 
 -- no block number met yet
 abbrev pub noneMet : List ℕ
@@ -22,7 +18,7 @@ noneMet = replicate 1024 0
 
 unfoldable pub tallies : List (List Slot) → List ℕ → List Row
 tallies [] s = []
-tallies (x ∷ r) s = seeAll (map kindOf x) (pass noRow s) .row ∷ tallies r (seeAll (map kindOf x) (pass noRow s) .seen)
+tallies (x ∷ r) s = (seeAll (map kind_of x) (pass noRow s)).row ∷ tallies r (seeAll (map kind_of x) (pass noRow s)).seen
 
 -- segments in use, by number from n, with these rows
 unfoldable pub summaryOf : ℕ → Row → Summary
@@ -32,17 +28,17 @@ unfoldable pub summariesOf : ℕ → List Row → List Summary
 summariesOf n [] = []
 summariesOf n (r ∷ rs) = summaryOf n r ∷ summariesOf (suc n) rs
 
-unfoldable pub rowOf : Summary → Row
-rowOf s = s .row
+unfoldable pub row_of : Summary → Row
+row_of s = s.row
 
-pub rows-kept : (n : ℕ) (rs : List Row) → map rowOf (summariesOf n rs) ≡ rs
-unfolding summariesOf summaryOf rowOf
+pub rows-kept : (n : ℕ) (rs : List Row) → map row_of (summariesOf n rs) ≡ rs
+unfolding summariesOf summaryOf row_of
 rows-kept n [] = refl
 rows-kept n (r ∷ rs) = ap {B = List Row} (λ y. r ∷ y) (rows-kept (suc n) rs)
 
 -- the slots that are not empty, of a row that does not end against the rules
 unfoldable pub writtenIn : Row → ℕ
-writtenIn r = r .live + r .dead + r .cut + cond (endsTorn (r .ending)) 1 0
+writtenIn r = r.live + r.dead + r.cut + cond (endsTorn r.ending) 1 0
 
 -- three counts and a torn slot
 abbrev pub mostWritten : ℕ
@@ -51,12 +47,12 @@ mostWritten = 3 * mostSlots + 1
 -- one row more. The count of compactions ends at the first row with a dead slot, replaced or cut
 unfoldable pub addRow : Sum → Row → Sum
 addRow f r = record {
-  live = f .live + r .live;
+  live = f.live + r.live;
   written = writtenIn r;
-  compactions = cond (f .dead) (f .compactions) (f .compactions + 1);
-  dead = cond (f .dead) true (ltb 0 (r .dead + r .cut));
-  ending = behind (f .ending) (r .ending);
-  block = r .block;
+  compactions = cond f.dead f.compactions (f.compactions + 1);
+  dead = cond f.dead true (ltb 0 (r.dead + r.cut));
+  ending = behind f.ending r.ending;
+  block = r.block;
 }
 
 unfoldable pub addRows : List Row → Sum → Sum
@@ -72,11 +68,11 @@ badSum = record { live = 0; written = 0; compactions = 0; dead = false; ending =
 
 -- sums of at most i rows
 pub record Few (f : Sum) (i : ℕ) : Type 0 where
-  pub live : f .live ≤ mostSlots * i
-  pub written : f .written ≤ mostWritten
-  pub compactions : f .compactions ≤ i
+  pub live : f.live ≤ mostSlots * i
+  pub written : f.written ≤ mostWritten
+  pub compactions : f.compactions ≤ i
 
 -- numbers of a frame fit
 pub record Ranged (f : Frame) : Type 0 where
-  pub whole : f .first + f .used ≤ 4294967296
-  pub used : f .used ≤ mostSegments
+  pub whole : f.first + f.used ≤ 4294967296
+  pub used : f.used ≤ mostSegments

@@ -1,17 +1,15 @@
 // The slots of one segment, the last one first: counted, and the live ones put before those of their block.
+ghost use Rattle.std.specs.Prelude.{◌≡◌, ◌+◌, ◌*◌, ◌<◌, ◌≤◌, length};
+ghost use Rattle.model.specs.Chip.{mostSlots};
+ghost use Rattle.judge.specs.Rows.{kindsAt};
+ghost use Rattle.linking.specs.Counts.{countKind, countRow, Few};
+ghost use Rattle.index.specs.Tables.{tables, mostPages, link, linkKind, linkRow, Brief};
+
 use index::Counts;
-use model::BlockNumber;
-use model::SlotKind;
-ghost use mathlib.Core.Path.{_≡_};
-ghost use Prim.Native.Nat.{_+_, _*_, _<_, _≤_};
-ghost use lib.ListN.{length};
-ghost use Rattle·model.specs.Chip.{mostSlots};
-ghost use Rattle·judge.specs.Rows.{kindsAt};
-ghost use Rattle·linking·specs.specs.Counts.{countKind, countRow, Few};
-ghost use Rattle·index.specs.Tables.{tables, mostPages, link, linkKind, linkRow, Brief};
+use model::{BlockNumber, SlotKind};
 
 fn wide(x: u16) -> usize
-    ensures { λ r. ⌜ r ≡ x ⌝ }
+    ensures { result ≡ x }
 {
     x as usize
 }
@@ -25,8 +23,8 @@ fn link(
     block: BlockNumber,
     length: usize,
 )
-    requires { ⌜ (page < mostPages) × (length < 256) ⌝ }
-    ensures { λ r. ⌜ tables (now (firsts .exit)) (now (nexts .exit)) (now (lengths .exit)) ≡ link page (block .0) length (tables (now (firsts .entry)) (now (nexts .entry)) (now (lengths .entry))) ⌝ }
+    requires { (page < mostPages) × (length < 256) }
+    ensures { tables firsts.new nexts.new lengths.new ≡ link page block.0 length (tables firsts.old nexts.old lengths.old) }
 {
     let b = wide(block.0);
     nexts[page] = firsts[b];
@@ -36,7 +34,7 @@ fn link(
 
 // So many slots of each kind.
 pub fn counts_of(live: u8, dead: u8, cut: u8, empty: u8) -> Counts
-    ensures { λ r. ⌜ r ≡ record { live = live; dead = dead; cut = cut; empty = empty } ⌝ }
+    ensures { result ≡ record { live = live; dead = dead; cut = cut; empty = empty } }
 {
     Counts {
         live,
@@ -55,8 +53,8 @@ fn list_slot(
     nexts: &mut [u16; 65536],
     lengths: &mut [u8; 65536],
 ) -> Counts
-    requires { ⌜ (page < mostPages) × Few counts 254 × Brief kind ⌝ }
-    ensures { λ r. ⌜ (r ≡ countKind kind counts) × (tables (now (firsts .exit)) (now (nexts .exit)) (now (lengths .exit)) ≡ linkKind page kind (tables (now (firsts .entry)) (now (nexts .entry)) (now (lengths .entry)))) ⌝ }
+    requires { (page < mostPages) × Few counts 254 × Brief kind }
+    ensures { (result ≡ countKind kind counts) × (tables firsts.new nexts.new lengths.new ≡ linkKind page kind (tables firsts.old nexts.old lengths.old)) }
 {
     let live = counts.live;
     let dead = counts.dead;
@@ -84,8 +82,8 @@ pub fn list_row(
     nexts: &mut [u16; 65536],
     lengths: &mut [u8; 65536],
 ) -> Counts
-    requires { ⌜ ((header + slots + 1) * 256 ≤ length (now image)) × (header + slots < mostPages) × (slots ≤ mostSlots) ⌝ }
-    ensures { λ r. ⌜ (r ≡ countRow (kindsAt (now (image .entry)) ((header + 1) * 256) slots)) × (tables (now (firsts .exit)) (now (nexts .exit)) (now (lengths .exit)) ≡ linkRow (header + 1) (kindsAt (now (image .entry)) ((header + 1) * 256) slots) (tables (now (firsts .entry)) (now (nexts .entry)) (now (lengths .entry)))) ⌝ }
+    requires { ((header + slots + 1) * 256 ≤ length image.now) × (header + slots < mostPages) × (slots ≤ mostSlots) }
+    ensures { (result ≡ countRow (kindsAt image.now ((header + 1) * 256) slots)) × (tables firsts.new nexts.new lengths.new ≡ linkRow (header + 1) (kindsAt image.now ((header + 1) * 256) slots) (tables firsts.old nexts.old lengths.old)) }
 {
     let mut counts = counts_of(0, 0, 0, 0);
     let mut left = slots;

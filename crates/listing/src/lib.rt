@@ -1,37 +1,31 @@
 // The segments of an image as an account shows them, and its live slots by block number, found in one walk over the
 // segments in use, from the top down.
-use index::Counts;
-use index::Shown;
-use judge::SegmentState;
-use judge::Summary;
-use model::MOST_SEGMENTS;
-use model::SegmentNumber;
+ghost use Rattle.std.specs.Prelude.{◌≡◌, true, map, ◌+◌, ◌%◌, ◌<◌, ◌≤◌, length, take, replicate};
+ghost use Rattle.model.specs.Chip.{mostSegments, rightSize};
+ghost use Rattle.model.specs.State.{segmentsOf};
+ghost use Rattle.flash.specs.Pages.{Sized};
+ghost use Rattle.judge.specs.Heads.{bare};
+ghost use Rattle.scan.specs.Surveys.{surveyOf};
+ghost use Rattle.account_text.specs.Account.{shown};
+ghost use Rattle.descent.specs.Descent.{largest};
+ghost use Rattle.index.specs.Shows.{noCounts, shownAs, shownOf, uncounted, counted, afterShown};
+ghost use Rattle.index.specs.Tables.{tables, linked, list_of, Indexed};
+ghost use Rattle.listing.specs.Walk.{hidden};
+
+use index::{Counts, Shown};
+use judge::{SegmentState, Summary};
+use model::{MOST_SEGMENTS, SegmentNumber};
 use scan::Surveyed;
-ghost use mathlib.Core.Path.{_≡_};
-ghost use mathlib.Core.Bool.{true};
-ghost use mathlib.Core.List.{map};
-ghost use Prim.Native.Nat.{_+_, _%_, _<_, _≤_};
-ghost use lib.ListN.{length, take, replicate};
-ghost use Rattle·model.specs.Chip.{mostSegments, rightSize};
-ghost use Rattle·model.specs.State.{segmentsOf};
-ghost use Rattle·flash.specs.Pages.{Sized};
-ghost use Rattle·judge.specs.Heads.{bare};
-ghost use Rattle·scan.specs.Surveys.{surveyOf};
-ghost use Rattle·account_text.specs.Account.{shown};
-ghost use Rattle·descent.specs.Descent.{largest};
-ghost use Rattle·index.specs.Shows.{noCounts, shownAs, shownOf, uncounted, counted, afterShown};
-ghost use Rattle·index.specs.Tables.{tables, linked, listOf, Indexed};
-ghost use Rattle·listing·specs.specs.Walk.{hidden};
 
 fn no_counts() -> Counts
-    ensures { λ r. ⌜ r ≡ noCounts ⌝ }
+    ensures { result ≡ noCounts }
 {
     linking::counts_of(0, 0, 0, 0)
 }
 
 // A segment before its slots are counted.
 fn plain(state: SegmentState, number: SegmentNumber) -> Shown
-    ensures { λ r. ⌜ r ≡ shownAs state (number .0) noCounts ⌝ }
+    ensures { result ≡ shownAs state number.0 noCounts }
 {
     let counts = no_counts();
     Shown {
@@ -43,7 +37,7 @@ fn plain(state: SegmentState, number: SegmentNumber) -> Shown
 
 // The same, of its summary.
 fn begin(s: Summary) -> Shown
-    ensures { λ r. ⌜ r ≡ uncounted (bare s) ⌝ }
+    ensures { result ≡ uncounted (bare s) }
 {
     let state = s.state;
     let number = s.number;
@@ -57,8 +51,8 @@ fn begin(s: Summary) -> Shown
 
 // The segments by index.
 fn see_all(image: &[u8], segments: usize, slots: usize) -> [Shown; MOST_SEGMENTS]
-    requires { ⌜ Sized segments slots (length (now image)) ⌝ }
-    ensures { λ r. ⌜ take segments r ≡ map uncounted (segmentsOf segments slots (now (image .entry))) ⌝ }
+    requires { Sized segments slots (length image.now) }
+    ensures { take segments result ≡ map uncounted (segmentsOf segments slots image.now) }
 {
     let none = plain(SegmentState::Blank, SegmentNumber(0));
     let mut table = [none; MOST_SEGMENTS];
@@ -74,8 +68,8 @@ fn see_all(image: &[u8], segments: usize, slots: usize) -> [Shown; MOST_SEGMENTS
 // Shows a table as an account does. In an image unfinished by (b) the segment after the top is not looked at: it is torn,
 // unless it is blank.
 fn hide(table: [Shown; MOST_SEGMENTS], segments: usize, survey: Surveyed) -> [Shown; MOST_SEGMENTS]
-    requires { ⌜ (0 < segments) × (segments ≤ mostSegments) ⌝ }
-    ensures { λ r. ⌜ r ≡ hidden survey segments table ⌝ }
+    requires { (0 < segments) × (segments ≤ mostSegments) }
+    ensures { result ≡ hidden survey segments table }
 {
     let mut shown = table;
     match survey {
@@ -103,7 +97,7 @@ fn hide(table: [Shown; MOST_SEGMENTS], segments: usize, survey: Surveyed) -> [Sh
 
 // One more than the number of a segment in use, or 0.
 fn number_after(x: Shown) -> usize
-    ensures { λ r. ⌜ r ≡ afterShown x ⌝ }
+    ensures { result ≡ afterShown x }
 {
     let state = x.state;
     let number = x.number;
@@ -117,8 +111,8 @@ fn number_after(x: Shown) -> usize
 
 // The numbers of the segments in use, one more each; 0 for the others.
 fn numbers(table: [Shown; MOST_SEGMENTS], segments: usize) -> [usize; MOST_SEGMENTS]
-    requires { ⌜ segments ≤ mostSegments ⌝ }
-    ensures { λ r. ⌜ (take segments r ≡ map afterShown (take segments table)) × (length r ≡ mostSegments) ⌝ }
+    requires { segments ≤ mostSegments }
+    ensures { (take segments result ≡ map afterShown (take segments table)) × (length result ≡ mostSegments) }
 {
     let mut left = [0usize; MOST_SEGMENTS];
     let mut i: usize = 0;
@@ -131,7 +125,7 @@ fn numbers(table: [Shown; MOST_SEGMENTS], segments: usize) -> [usize; MOST_SEGME
 }
 
 fn count(x: Shown, counts: Counts) -> Shown
-    ensures { λ r. ⌜ r ≡ counted counts x ⌝ }
+    ensures { result ≡ counted counts x }
 {
     let number = x.number;
     let state = x.state;
@@ -152,8 +146,8 @@ fn list_segments(
     nexts: &mut [u16; 65536],
     lengths: &mut [u8; 65536],
 ) -> [Shown; MOST_SEGMENTS]
-    requires { ⌜ Sized segments slots (length (now image)) × (take segments table ≡ map uncounted (shown segments slots (segmentsOf segments slots (now image)))) ⌝ }
-    ensures { λ r. ⌜ (take segments r ≡ map shownOf (shown segments slots (segmentsOf segments slots (now (image .entry))))) × (tables (now (firsts .exit)) (now (nexts .exit)) (now (lengths .exit)) ≡ linked slots (listOf segments slots (now (image .entry))) (tables (now (firsts .entry)) (now (nexts .entry)) (now (lengths .entry)))) ⌝ }
+    requires { Sized segments slots (length image.now) × (take segments table ≡ map uncounted (shown segments slots (segmentsOf segments slots image.now))) }
+    ensures { (take segments result ≡ map shownOf (shown segments slots (segmentsOf segments slots image.now))) × (tables firsts.new nexts.new lengths.new ≡ linked slots (list_of segments slots image.now) (tables firsts.old nexts.old lengths.old)) }
 {
     let mut shown = table;
     let mut left = numbers(table, segments);
@@ -171,16 +165,16 @@ fn list_segments(
 
 // The segments of an image as they are shown, before their slots are counted.
 pub fn see(image: &[u8], segments: usize, slots: usize, survey: Surveyed) -> [Shown; MOST_SEGMENTS]
-    requires { ⌜ (rightSize segments slots (now image) ≡ true) × (survey ≡ surveyOf segments slots (segmentsOf segments slots (now image))) ⌝ }
-    ensures { λ r. ⌜ take segments r ≡ map uncounted (shown segments slots (segmentsOf segments slots (now (image .entry)))) ⌝ }
+    requires { (rightSize segments slots image.now ≡ true) × (survey ≡ surveyOf segments slots (segmentsOf segments slots image.now)) }
+    ensures { take segments result ≡ map uncounted (shown segments slots (segmentsOf segments slots image.now)) }
 {
     hide(see_all(image, segments, slots), segments, survey)
 }
 
 // The number after the top's, or 0 if no segment of a table is in use.
 pub fn next_number(table: [Shown; MOST_SEGMENTS], segments: usize) -> usize
-    requires { ⌜ segments ≤ mostSegments ⌝ }
-    ensures { λ r. ⌜ r ≡ largest (map afterShown (take segments table)) ⌝ }
+    requires { segments ≤ mostSegments }
+    ensures { result ≡ largest (map afterShown (take segments table)) }
 {
     let left = numbers(table, segments);
     descent::largest(&left, segments)
@@ -196,8 +190,8 @@ pub fn list(
     nexts: &mut [u16; 65536],
     lengths: &mut [u8; 65536],
 ) -> [Shown; MOST_SEGMENTS]
-    requires { ⌜ (rightSize segments slots (now image) ≡ true) × (survey ≡ surveyOf segments slots (segmentsOf segments slots (now image))) × (now firsts ≡ replicate 65536 0) × (now nexts ≡ replicate 65536 0) × (now lengths ≡ replicate 65536 0) ⌝ }
-    ensures { λ r. ⌜ (take segments r ≡ map shownOf (shown segments slots (segmentsOf segments slots (now (image .entry))))) × Indexed segments slots (now (image .entry)) (tables (now (firsts .exit)) (now (nexts .exit)) (now (lengths .exit))) ⌝ }
+    requires { (rightSize segments slots image.now ≡ true) × (survey ≡ surveyOf segments slots (segmentsOf segments slots image.now)) × (firsts.old ≡ replicate 65536 0) × (nexts.old ≡ replicate 65536 0) × (lengths.old ≡ replicate 65536 0) }
+    ensures { (take segments result ≡ map shownOf (shown segments slots (segmentsOf segments slots image.now))) × Indexed segments slots image.now (tables firsts.new nexts.new lengths.new) }
 {
     let table = see(image, segments, slots, survey);
     list_segments(image, segments, slots, table, firsts, nexts, lengths)

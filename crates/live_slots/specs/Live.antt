@@ -1,22 +1,19 @@
 -- What the live slots of a segment hold, and that they were copied.
-use Prim.Native.Nat.{ℕ, _+_, _*_, _%_}
-use mathlib.Core.Path.{_≡_}
-use mathlib.Core.List.{List, map}
-use lib.ListN.{length, drop}
-use Rattle·model.specs.Chip.{Image}
-use Rattle·model.specs.Slot.{slotOf, Entry}
-use Rattle·model.specs.State.{entries}
-use Rattle·model.specs.Steps.{copyEntries}
-use Rattle·model.specs.Laws.Segments.{partOf}
-use Rattle·flash.specs.Ran.{Programmed}
+use Rattle.std.specs.Prelude.{ℕ, ◌+◌, ◌*◌, ◌%◌, ◌≡◌, List, map, length, drop}
+use Rattle.model.specs.Chip.{Image}
+use Rattle.model.specs.Slot.{slot_of, Entry}
+use Rattle.model.specs.State.{entries}
+use Rattle.model.specs.Steps.{copyEntries}
+use Rattle.model.specs.Laws.Segments.{part_of}
+use Rattle.flash.specs.Ran.{Programmed}
 
 -- what the live slots of the segment with number o hold
 unfoldable pub liveEntries : ℕ → ℕ → ℕ → Image → List Entry
-liveEntries N B o s = entries (map slotOf (drop 1 (partOf N B (o % N) s)))
+liveEntries N B o s = entries (map slot_of (drop 1 (part_of N B (o % N) s)))
 
 -- the page of the first slot of the segment at an index
-abbrev pub firstSlot : ℕ → ℕ → ℕ
-firstSlot B i = i * (B + 1) + 1
+abbrev pub first_slot : ℕ → ℕ → ℕ
+first_slot B i = i * (B + 1) + 1
 
 -- two numbers belong to different segments
 abbrev pub Apart : ℕ → ℕ → ℕ → Type 0

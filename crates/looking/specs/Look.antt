@@ -1,32 +1,28 @@
 -- A block looked for, by delete and by both forms of reading.
-use Prim.Native.Nat.{ℕ, _+_, _*_, _≤_}
-use mathlib.Core.Path.{_≡_}
-use mathlib.Core.Bool.{false}
-use lib.ListN.{length}
-use lib.Dec.{eqb}
-use Rattle·model.specs.Chip.{Image}
-use Rattle·model.specs.State.{entriesIn, placeOf, view}
-use Rattle·model.specs.Steps.{slotAt}
-use Rattle·model.specs.Table.{lookup, contentsFound}
-use Rattle·model.specs.Answers.{codeOf, read}
-use Rattle·model.specs.declared.Answer.{Answer}
-use Rattle·bridge.specs.Accepted.{refusal}
-use Rattle·looking·specs.specs.declared.Looked.{Looked}
-use Rattle·looking·specs.specs.declared.Looked.the-variants.{At, Refused}
+use Rattle.std.specs.Prelude.{ℕ, ◌+◌, ◌*◌, ◌≤◌, ◌≡◌, false, length, eqb}
+use Rattle.model.specs.Chip.{Image}
+use Rattle.model.specs.State.{entriesIn, place_of, view}
+use Rattle.model.specs.Steps.{slot_at}
+use Rattle.model.specs.Table.{lookup, contentsFound}
+use Rattle.model.specs.Answers.{code_of, read}
+use Rattle.model.specs.declared.Answer.{Answer}
+use Rattle.bridge.specs.Accepted.{refusal}
+use Rattle.looking.specs.declared.Looked.{Looked}
+use Rattle.looking.specs.declared.Looked.TheVariants.{At, Refused}
 
 -- nothing refuses a read of the block, and its slot is there
 pub record There (N B : ℕ) (s : Image) (b at size : ℕ) : Type 0 where
   pub code : refusal N B s (read b) ≡ 0
-  pub place : at ≡ slotAt N B (placeOf b (view N B s) .number) (placeOf b (view N B s) .slot) * 256
+  pub place : at ≡ slot_at N B (place_of b (view N B s)).number (place_of b (view N B s)).slot * 256
   pub count : size ≡ length (contentsFound (lookup b (entriesIn (view N B s))))
   pub inside : at + 256 ≤ length s
   pub short : size ≤ 248
 
 -- a read of the block is refused with an answer that is not 0
 pub record Kept (N B : ℕ) (s : Image) (b : ℕ) (a : Answer) : Type 0 where
-  pub code : refusal N B s (read b) ≡ codeOf a
-  pub some : eqb (codeOf a) 0 ≡ false
+  pub code : refusal N B s (read b) ≡ code_of a
+  pub some : eqb (code_of a) 0 ≡ false
 
 abbrev pub Looks : ℕ → ℕ → Image → ℕ → Looked → Type 0
-Looks N B s b (At p n) = There N B s b (p .0) n
+Looks N B s b (At p n) = There N B s b p.0 n
 Looks N B s b (Refused a) = Kept N B s b a

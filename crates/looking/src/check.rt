@@ -1,13 +1,14 @@
 // What a request is refused for by the state of the image.
+ghost use Rattle.std.specs.Prelude.{◌≡◌};
+ghost use Rattle.scan.specs.Surveys.{stateIn};
+ghost use Rattle.bridge.specs.Refusals.{answer_in};
+
 use model::Answer;
 use scan::Surveyed;
-ghost use mathlib.Core.Path.{_≡_};
-ghost use Rattle·scan.specs.Surveys.{stateIn};
-ghost use Rattle·bridge.specs.Refusals.{answerIn};
 
 // The answer of a request that wants a clean image.
 pub fn state_answer(survey: Surveyed) -> Answer
-    ensures { λ r. ⌜ r ≡ answerIn (stateIn survey) ⌝ }
+    ensures { result ≡ answer_in (stateIn survey) }
 {
     match survey {
         Surveyed::Clean {

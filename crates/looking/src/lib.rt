@@ -1,19 +1,18 @@
 // A block looked for, by delete and by both forms of reading.
 pub mod check;
 
+ghost use Rattle.std.specs.Prelude.{◌≡◌, true};
+ghost use Rattle.model.specs.Slot.{numberOk};
+ghost use Rattle.room.specs.Room.{Planned};
+ghost use Rattle.looking.specs.Look.{Looks};
+
 use find::Found;
-use model::Answer;
-use model::BlockNumber;
-use model::SlotPlace;
+use model::{Answer, BlockNumber, SlotPlace};
 use room::Plan;
 use scan::Surveyed;
-ghost use mathlib.Core.Path.{_≡_};
-ghost use mathlib.Core.Bool.{true};
-ghost use Rattle·model.specs.Slot.{numberOk};
-ghost use Rattle·room.specs.Room.{Planned};
-ghost use Rattle·looking·specs.specs.Look.{Looks};
 
 // The place of a block's live slot and the length of its contents; or why there is none.
+#[derive(Drop)]
 pub enum Looked {
     At(SlotPlace, usize),
     Refused(Answer),
@@ -21,8 +20,8 @@ pub enum Looked {
 
 // Looks for a block in a clean image.
 fn look_clean(image: &[u8], segments: usize, slots: usize, plan: Plan, block: BlockNumber) -> Looked
-    requires { ⌜ Planned segments slots plan (now image) × (numberOk (block .0) ≡ true) ⌝ }
-    ensures { λ r. ⌜ Looks segments slots (now (image .entry)) (block .0) r ⌝ }
+    requires { Planned segments slots plan image.now × (numberOk block.0 ≡ true) }
+    ensures { Looks segments slots image.now block.0 result }
 {
     let found = find::find(image, segments, slots, plan.first, plan.used, block);
     let Found::At(place, length) = found else {
@@ -33,7 +32,7 @@ fn look_clean(image: &[u8], segments: usize, slots: usize, plan: Plan, block: Bl
 
 // Looks for a block.
 pub fn look(image: &[u8], segments: usize, slots: usize, block: BlockNumber) -> Looked
-    ensures { λ r. ⌜ Looks segments slots (now (image .entry)) (block .0) r ⌝ }
+    ensures { Looks segments slots image.now block.0 result }
 {
     if !request::right_size(image.len(), segments, slots) {
         return Looked::Refused(Answer::Size);

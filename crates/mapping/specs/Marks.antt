@@ -1,11 +1,10 @@
 -- A segment by its state.
-use Prim.Native.Nat.{ℕ}
-use mathlib.Core.List.{List}
-use Rattle·model.specs.Header.{erasePending, compacted, version1}
-use Rattle·model.specs.Slot.{Slot}
-use Rattle·model.specs.State.{Segment, blank, invalid, inUse}
-use Rattle·judge.specs.declared.SegmentState.{SegmentState}
-use Rattle·judge.specs.declared.SegmentState.the-variants.{Blank, Invalid, InUse, Owing}
+use Rattle.std.specs.Prelude.{ℕ, List}
+use Rattle.model.specs.Header.{erasePending, compacted, version1}
+use Rattle.model.specs.Slot.{Slot}
+use Rattle.model.specs.State.{Segment, blank, invalid, inUse}
+use Rattle.judge.specs.declared.SegmentState.{SegmentState}
+use Rattle.judge.specs.declared.SegmentState.TheVariants.{Blank, Invalid, InUse, Owing}
 
 -- a segment in this state, with this number and these slots if it is in use; no row shows its version
 unfoldable pub segmentBy : SegmentState → ℕ → List Slot → Segment

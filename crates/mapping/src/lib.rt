@@ -1,18 +1,16 @@
 // The rows of a picture of an image, added to a text: one for each segment by index.
 mod row;
 
+ghost use Rattle.std.specs.Prelude.{◌≡◌, map, ◌+◌, ◌*◌, ◌≤◌, length, take};
+ghost use Rattle.model.specs.State.{segmentsOf, nextNumber};
+ghost use Rattle.flash.specs.Pages.{Sized};
+ghost use Rattle.text.specs.Buffer.{Wrote};
+ghost use Rattle.account_text.specs.Account.{shown};
+ghost use Rattle.account_text.specs.Map.{all_rows, legend};
+ghost use Rattle.index.specs.Shows.{uncounted};
+
 use index::Shown;
 use model::MOST_SEGMENTS;
-ghost use mathlib.Core.Path.{_≡_};
-ghost use mathlib.Core.List.{map};
-ghost use Prim.Native.Nat.{_+_, _*_, _≤_};
-ghost use lib.ListN.{length, take};
-ghost use Rattle·model.specs.State.{segmentsOf, nextNumber};
-ghost use Rattle·flash.specs.Pages.{Sized};
-ghost use Rattle·text.specs.Buffer.{Wrote};
-ghost use Rattle·account_text.specs.Account.{shown};
-ghost use Rattle·account_text.specs.Map.{allRows, legend};
-ghost use Rattle·index.specs.Shows.{uncounted};
 
 // The table has the segments as they are shown; their counts are not looked at. `next` is the number after the top's.
 pub fn map_rows(
@@ -24,8 +22,8 @@ pub fn map_rows(
     text: &mut [u8],
     at: usize,
 ) -> usize
-    requires { ⌜ Sized segments slots (length (now image)) × (take segments table ≡ map uncounted (shown segments slots (segmentsOf segments slots (now image)))) × (next ≡ nextNumber (shown segments slots (segmentsOf segments slots (now image)))) × (at ≤ 100) ⌝ }
-    ensures { λ r. ⌜ Wrote (allRows segments slots (segmentsOf segments slots (now (image .entry)))) (now (text .entry)) at (now (text .exit)) r × (r ≤ at + 6000 * segments) ⌝ }
+    requires { Sized segments slots (length image.now) × (take segments table ≡ map uncounted (shown segments slots (segmentsOf segments slots image.now))) × (next ≡ nextNumber (shown segments slots (segmentsOf segments slots image.now))) × (at ≤ 100) }
+    ensures { Wrote (all_rows segments slots (segmentsOf segments slots image.now)) text.old at text.new result × (result ≤ at + 6000 * segments) }
 {
     let mut end = at;
     let mut i: usize = 0;
@@ -39,8 +37,8 @@ pub fn map_rows(
 
 // What the characters mean.
 pub fn add_legend(text: &mut [u8], at: usize) -> usize
-    requires { ⌜ at ≤ 2000000 ⌝ }
-    ensures { λ r. ⌜ Wrote legend (now (text .entry)) at (now (text .exit)) r × (r ≤ at + 100) ⌝ }
+    requires { at ≤ 2000000 }
+    ensures { Wrote legend text.old at text.new result × (result ≤ at + 100) }
 {
     text::add(
         text,

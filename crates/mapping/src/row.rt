@@ -1,24 +1,22 @@
 // One row, put together piece by piece. The bounds on offsets are far above any row's end: they keep sums from wrapping.
+ghost use Rattle.std.specs.Prelude.{false, cond, ◌++◌, ◌+◌, ◌*◌, ◌<◌, ◌≤◌, length};
+ghost use Rattle.flash.specs.Pages.{Sized};
+ghost use Rattle.judge.specs.Rows.{slotsAt};
+ghost use Rattle.judge.specs.Parts.{slotsOffset};
+ghost use Rattle.text.specs.Text.{text as words};
+ghost use Rattle.text.specs.Buffer.{Wrote};
+ghost use Rattle.account_text.specs.Map.{marksFrom, padded, rowStart, mapRow};
+ghost use Rattle.mapping.specs.Marks.{segmentBy};
+
 use index::Shown;
 use judge::SegmentState;
-ghost use mathlib.Core.Bool.{false, cond};
-ghost use mathlib.Core.List.{_++_};
-ghost use Prim.Native.Nat.{_+_, _*_, _<_, _≤_};
-ghost use lib.ListN.{length};
-ghost use Rattle·flash.specs.Pages.{Sized};
-ghost use Rattle·judge.specs.Rows.{slotsAt};
-ghost use Rattle·judge.specs.Parts.{slotsOffset};
-ghost use Rattle·text.specs.Text.{text as words};
-ghost use Rattle·text.specs.Buffer.{Wrote};
-ghost use Rattle·account_text.specs.Map.{marksFrom, padded, rowStart, mapRow};
-ghost use Rattle·mapping·specs.specs.Marks.{segmentBy};
 
 // ---- what stands before its slots
 
 // A number with spaces before it.
 fn add_padded(text: &mut [u8], at: usize, n: u32, width: usize) -> usize
-    requires { ⌜ (at ≤ 3000000) × (width ≤ 9) ⌝ }
-    ensures { λ r. ⌜ Wrote (padded width n) (now (text .entry)) at (now (text .exit)) r × (r ≤ at + 20) ⌝ }
+    requires { (at ≤ 3000000) × (width ≤ 9) }
+    ensures { Wrote (padded width n) text.old at text.new result × (result ≤ at + 20) }
 {
     let digits = text::digit_count(n);
     if digits >= width {
@@ -32,8 +30,8 @@ fn add_padded(text: &mut [u8], at: usize, n: u32, width: usize) -> usize
 
 // The active segment's mark, or a space.
 fn add_active(text: &mut [u8], at: usize, active: bool) -> usize
-    requires { ⌜ at ≤ 3000000 ⌝ }
-    ensures { λ r. ⌜ Wrote (cond active (words ">") (words " ")) (now (text .entry)) at (now (text .exit)) r × (r ≤ at + 1) ⌝ }
+    requires { at ≤ 3000000 }
+    ensures { Wrote (cond active (words ">") (words " ")) text.old at text.new result × (result ≤ at + 1) }
 {
     if active {
         return text::add(text, at, b">");
@@ -43,8 +41,8 @@ fn add_active(text: &mut [u8], at: usize, active: bool) -> usize
 
 // That mark and the index.
 fn start_row(text: &mut [u8], at: usize, active: bool, index: u32) -> usize
-    requires { ⌜ at ≤ 2000000 ⌝ }
-    ensures { λ r. ⌜ Wrote (rowStart active index) (now (text .entry)) at (now (text .exit)) r × (r ≤ at + 21) ⌝ }
+    requires { at ≤ 2000000 }
+    ensures { Wrote (rowStart active index) text.old at text.new result × (result ≤ at + 21) }
 {
     let behind = add_active(text, at, active);
     add_padded(text, behind, index, 3)
@@ -52,8 +50,8 @@ fn start_row(text: &mut [u8], at: usize, active: bool, index: u32) -> usize
 
 // The state of a segment in use, as a word, and its number.
 fn add_state(text: &mut [u8], at: usize, word: &[u8], number: u32) -> usize
-    requires { ⌜ (at ≤ 2000000) × (length (now word) ≤ 10) ⌝ }
-    ensures { λ r. ⌜ Wrote (now (word .entry) ++ (padded 9 number ++ words " ")) (now (text .entry)) at (now (text .exit)) r × (r ≤ at + 31) ⌝ }
+    requires { (at ≤ 2000000) × (length word.now ≤ 10) }
+    ensures { Wrote (word.now ++ (padded 9 number ++ words " ")) text.old at text.new result × (result ≤ at + 31) }
 {
     let behind = text::add(text, at, word);
     let last = add_padded(text, behind, number, 9);
@@ -64,8 +62,8 @@ fn add_state(text: &mut [u8], at: usize, word: &[u8], number: u32) -> usize
 
 // A segment that is not in use.
 fn unused_row(text: &mut [u8], at: usize, index: u32, word: &[u8]) -> usize
-    requires { ⌜ (at ≤ 2000000) × (length (now word) ≤ 10) ⌝ }
-    ensures { λ r. ⌜ Wrote (rowStart false index ++ now (word .entry)) (now (text .entry)) at (now (text .exit)) r × (r ≤ at + 31) ⌝ }
+    requires { (at ≤ 2000000) × (length word.now ≤ 10) }
+    ensures { Wrote (rowStart false index ++ word.now) text.old at text.new result × (result ≤ at + 31) }
 {
     let behind = start_row(text, at, false, index);
     text::add(text, behind, word)
@@ -82,8 +80,8 @@ fn used_row(
     text: &mut [u8],
     at: usize,
 ) -> usize
-    requires { ⌜ (slotsOffset slots index + slots * 256 ≤ length (now image)) × (slots ≤ 255) × (index ≤ 255) × (at ≤ 1900000) × (length (now word) ≤ 10) ⌝ }
-    ensures { λ r. ⌜ Wrote (rowStart active index ++ (now (word .entry) ++ (padded 9 number ++ (words " " ++ (marksFrom 0 (slotsAt (now (image .entry)) (slotsOffset slots index) slots) ++ words "\n"))))) (now (text .entry)) at (now (text .exit)) r × (r ≤ at + 6000) ⌝ }
+    requires { (slotsOffset slots index + slots * 256 ≤ length image.now) × (slots ≤ 255) × (index ≤ 255) × (at ≤ 1900000) × (length word.now ≤ 10) }
+    ensures { Wrote (rowStart active index ++ (word.now ++ (padded 9 number ++ (words " " ++ (marksFrom 0 (slotsAt image.now (slotsOffset slots index) slots) ++ words "\n"))))) text.old at text.new result × (result ≤ at + 6000) }
 {
     let first = (index * (slots + 1) + 1) * 256;
     let start = start_row(text, at, active, index as u32);
@@ -103,8 +101,8 @@ pub fn map_row(
     text: &mut [u8],
     at: usize,
 ) -> usize
-    requires { ⌜ Sized segments slots (length (now image)) × (index < segments) × (at ≤ 1900000) ⌝ }
-    ensures { λ r. ⌜ Wrote (mapRow next index (segmentBy (shown .state) (shown .number .0) (slotsAt (now (image .entry)) (slotsOffset slots index) slots))) (now (text .entry)) at (now (text .exit)) r × (r ≤ at + 6000) ⌝ }
+    requires { Sized segments slots (length image.now) × (index < segments) × (at ≤ 1900000) }
+    ensures { Wrote (mapRow next index (segmentBy shown.state shown.number.0 (slotsAt image.now (slotsOffset slots index) slots))) text.old at text.new result × (result ≤ at + 6000) }
 {
     let state = shown.state;
     let number = shown.number;

@@ -1,22 +1,22 @@
 -- Pieces of a text one after the other, in a loop; and the marks that are left to add.
-use Prim.Native.Nat.{ℕ, suc, _+_, _-_, _*_, _%_, _≤_, _<_}
-use mathlib.Core.Path.{_≡_, refl, sym, _∙_}
+use Prim.Native.Nat.{ℕ, suc, ◌+◌, ◌-◌, ◌*◌, ◌%◌, ◌≤◌, ◌<◌}
+use mathlib.Core.Path.{◌≡◌, refl, sym, ◌∙◌}
 use mathlib.Core.Bool.{and-false}
-use mathlib.Core.List.{List, [], _∷_, _++_, append-assoc}
+use mathlib.Core.List.{List, [], ◌∷◌, ◌++◌, append_assoc}
 use native.Mathlib.Omega.{arith}
 use native.Mathlib.Numerals.{add-one}
 use lib.ListN.{take, drop}
 use lib.Dec.{ltb}
-use borrow.Author.Tests.{eq-eqb, ne-eqb, lt-ltb}
-use Rattle·model.specs.Lists.{chunk}
-use Rattle·model.specs.Chip.{Image}
-use Rattle·model.specs.Slot.{slotOf}
-use Rattle·judge.specs.Rows.{slotsAt}
-use Rattle·text.specs.Buffer.{Wrote}
-use Rattle·text.proofs.Laws.{_then_, wrote-none}
-use Rattle·account_text.specs.Map.{mark, mostMarks, margin, rowBreak, marksFrom}
-use Rattle·index.specs.Lives.{slots-next}
-use Rattle·marking·specs.specs.Finishes.{Finishes}
+use borrow.Author.Tests.{eq-eqb, ne_eqb, lt-ltb}
+use Rattle.model.specs.Lists.{chunk}
+use Rattle.model.specs.Chip.{Image}
+use Rattle.model.specs.Slot.{slot_of}
+use Rattle.judge.specs.Rows.{slotsAt}
+use Rattle.text.specs.Buffer.{Wrote}
+use Rattle.text.proofs.Laws.{◌then◌, wrote_none}
+use Rattle.account_text.specs.Map.{mark, mostMarks, margin, rowBreak, marksFrom}
+use Rattle.index.specs.Lives.{slots_next}
+use Rattle.marking.specs.Finishes.{Finishes}
 
 -- ---- pieces in a loop
 
@@ -24,10 +24,10 @@ pub finish-begin : (whole start : List ℕ) (at : ℕ) → Finishes whole whole 
 finish-begin whole start at = record { finish = λ later last w. w; kept = refl }
 
 pub finish-more : {x y rest whole start buffer later : List ℕ} {at end last : ℕ} → rest ≡ x ++ y → Finishes rest whole start at buffer end → Wrote x buffer end later last → Finishes y whole start at later last
-finish-more e f w = record { finish = λ b z v. f .finish b z (rw e (w then v)); kept = w .kept ∙ f .kept }
+finish-more e f w = record { finish = λ b z v. f.finish b z (rw e (w then v)); kept = w.kept ∙ f.kept }
 
 pub finish-end : {rest whole start buffer : List ℕ} {at end : ℕ} → rest ≡ [] → Finishes rest whole start at buffer end → Wrote whole start at buffer end
-finish-end {rest} {whole} {start} {buffer} {at} {end} e f = f .finish buffer end (rw e (wrote-none buffer end))
+finish-end {rest} {whole} {start} {buffer} {at} {end} e f = f.finish buffer end (rw e (wrote_none buffer end))
 
 -- ---- what stands before a mark
 
@@ -37,7 +37,7 @@ break-first j e = rw e
 
 pub break-none : (j : ℕ) → (j % mostMarks ≡ 0 → ⊥) → rowBreak j ≡ []
 unfolding rowBreak
-break-none j h = rw (ne-eqb (j % mostMarks) 0 h, and-false (ltb 0 j))
+break-none j h = rw (ne_eqb (j % mostMarks) 0 h, and-false (ltb 0 j))
 
 pub break-some : (j : ℕ) → (j ≡ 0 → ⊥) → j % mostMarks ≡ 0 → rowBreak j ≡ margin
 unfolding rowBreak
@@ -45,14 +45,14 @@ break-some j n e = rw (lt-ltb 0 j (omega (arith, n)), eq-eqb (j % mostMarks) 0 e
 
 -- ---- the slots of a segment
 
-pub marks-next : (s : Image) (first i slots m : ℕ) → i < slots → m ≡ mark (slotOf (take 256 (drop (first + i * 256) s)))
+pub marks-next : (s : Image) (first i slots m : ℕ) → i < slots → m ≡ mark (slot_of (take 256 (drop (first + i * 256) s)))
     → marksFrom i (slotsAt s (first + i * 256) (slots - i)) ≡ (rowBreak i ++ (m ∷ [])) ++ marksFrom (i + 1) (slotsAt s (first + (i + 1) * 256) (slots - (i + 1)))
 unfolding marksFrom
 marks-next s first i slots m h q =
     let d : slots - i ≡ suc (slots - (i + 1)) = omega arith in
     let e : first + i * 256 + 256 ≡ first + (i + 1) * 256 = omega arith in
     let r = marksFrom (suc i) (slotsAt s (first + suc i * 256) (slots - suc i)) in
-    rw (d, slots-next s (first + i * 256) (slots - (i + 1)), e, add-one i, ← q) (sym (append-assoc (rowBreak i) (m ∷ []) r))
+    rw (d, slots_next s (first + i * 256) (slots - (i + 1)), e, add-one i, ← q) (sym (append_assoc (rowBreak i) (m ∷ []) r))
 
 pub marks-end : (s : Image) (o i slots : ℕ) → slots ≤ i → marksFrom i (slotsAt s o (slots - i)) ≡ []
 unfolding marksFrom slotsAt chunk

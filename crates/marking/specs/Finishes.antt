@@ -1,9 +1,6 @@
 -- A text of many pieces, on its way into a buffer.
-use Prim.Native.Nat.{ℕ}
-use mathlib.Core.Path.{_≡_}
-use mathlib.Core.List.{List}
-use lib.ListN.{length}
-use Rattle·text.specs.Buffer.{Wrote}
+use Rattle.std.specs.Prelude.{ℕ, ◌≡◌, List, length}
+use Rattle.text.specs.Buffer.{Wrote}
 
 -- the text so far ends at an offset, and whatever adds the rest to it finishes the whole
 pub record Finishes (rest whole start : List ℕ) (at : ℕ) (buffer : List ℕ) (end : ℕ) : Type 0 where

@@ -1,11 +1,9 @@
 -- The character of a slot by its kind.
-use Prim.Native.Nat.{ℕ}
-use mathlib.Core.Path.{_≡_, refl}
-use mathlib.Core.List.{[]}
-use Rattle·model.specs.Slot.{Slot, empty, torn, dead, cut, wrong, live, kindOf}
-use Rattle·model.specs.declared.SlotKind.{SlotKind}
-use Rattle·model.specs.declared.SlotKind.the-variants.{Empty, Torn, Live, Dead, Cut, Wrong}
-use Rattle·account_text.specs.Map.{mark}
+use Rattle.std.specs.Prelude.{ℕ, ◌≡◌, refl, []}
+use Rattle.model.specs.Slot.{Slot, empty, torn, dead, cut, wrong, live, kind_of}
+use Rattle.model.specs.declared.SlotKind.{SlotKind}
+use Rattle.model.specs.declared.SlotKind.TheVariants.{Empty, Torn, Live, Dead, Cut, Wrong}
+use Rattle.account_text.specs.Map.{mark}
 
 unfoldable pub markKind : SlotKind → ℕ
 markKind Empty = mark empty
@@ -15,8 +13,8 @@ markKind Dead = mark dead
 markKind Cut = mark cut
 markKind Wrong = mark wrong
 
-pub mark-kind : (k : Slot) → markKind (kindOf k) ≡ mark k
-unfolding markKind kindOf mark
+pub mark-kind : (k : Slot) → markKind (kind_of k) ≡ mark k
+unfolding markKind kind_of mark
 mark-kind empty = refl
 mark-kind torn = refl
 mark-kind dead = refl

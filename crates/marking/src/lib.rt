@@ -1,18 +1,16 @@
 // The slots of a segment as characters of a picture's row, added to a text. The bounds on offsets are far above any row's
 // end: they keep sums from wrapping.
+ghost use Rattle.std.specs.Prelude.{◌≡◌, [], ◌∷◌, ◌++◌, ◌+◌, ◌*◌, ◌≤◌, length};
+ghost use Rattle.judge.specs.Rows.{slotsAt};
+ghost use Rattle.text.specs.Buffer.{Wrote};
+ghost use Rattle.account_text.specs.Map.{rowBreak, marksFrom};
+ghost use Rattle.marking.specs.Marks.{markKind};
+
 use model::SlotKind;
-ghost use mathlib.Core.Path.{_≡_};
-ghost use mathlib.Core.List.{[], _∷_, _++_};
-ghost use Prim.Native.Nat.{_+_, _*_, _≤_};
-ghost use lib.ListN.{length};
-ghost use Rattle·judge.specs.Rows.{slotsAt};
-ghost use Rattle·text.specs.Buffer.{Wrote};
-ghost use Rattle·account_text.specs.Map.{rowBreak, marksFrom};
-ghost use Rattle·marking·specs.specs.Marks.{markKind};
 
 // The character of a slot.
 fn mark_of(kind: SlotKind) -> u8
-    ensures { λ r. ⌜ r ≡ markKind kind ⌝ }
+    ensures { result ≡ markKind kind }
 {
     match kind {
         SlotKind::Empty => b'.',
@@ -32,8 +30,8 @@ const MOST_MARKS: usize = 64;
 
 // The end of a full row, and spaces up to below its first slot.
 fn add_break(text: &mut [u8], at: usize, slot: usize) -> usize
-    requires { ⌜ at ≤ 3000000 ⌝ }
-    ensures { λ r. ⌜ Wrote (rowBreak slot) (now (text .entry)) at (now (text .exit)) r × (r ≤ at + 21) ⌝ }
+    requires { at ≤ 3000000 }
+    ensures { Wrote (rowBreak slot) text.old at text.new result × (result ≤ at + 21) }
 {
     if slot == 0 {
         return at;
@@ -46,8 +44,8 @@ fn add_break(text: &mut [u8], at: usize, slot: usize) -> usize
 
 // A slot's mark, on a new row if the last one is full.
 fn add_mark(text: &mut [u8], at: usize, slot: usize, mark: u8) -> usize
-    requires { ⌜ at ≤ 3000000 ⌝ }
-    ensures { λ r. ⌜ Wrote (rowBreak slot ++ (mark ∷ [])) (now (text .entry)) at (now (text .exit)) r × (r ≤ at + 22) ⌝ }
+    requires { at ≤ 3000000 }
+    ensures { Wrote (rowBreak slot ++ (mark ∷ [])) text.old at text.new result × (result ≤ at + 22) }
 {
     let behind = add_break(text, at, slot);
     text::add(text, behind, &[mark])
@@ -55,8 +53,8 @@ fn add_mark(text: &mut [u8], at: usize, slot: usize, mark: u8) -> usize
 
 // The slots of a segment, from the offset of the first one.
 pub fn add_marks(image: &[u8], first: usize, slots: usize, text: &mut [u8], at: usize) -> usize
-    requires { ⌜ (first + slots * 256 ≤ length (now image)) × (slots ≤ 255) × (at ≤ 2000000) ⌝ }
-    ensures { λ r. ⌜ Wrote (marksFrom 0 (slotsAt (now (image .entry)) first slots)) (now (text .entry)) at (now (text .exit)) r × (r ≤ at + slots * 22) ⌝ }
+    requires { (first + slots * 256 ≤ length image.now) × (slots ≤ 255) × (at ≤ 2000000) }
+    ensures { Wrote (marksFrom 0 (slotsAt image.now first slots)) text.old at text.new result × (result ≤ at + slots * 22) }
 {
     let mut end = at;
     let mut i: usize = 0;

@@ -1,88 +1,88 @@
 -- Two pages compared byte by byte, and a row of slots from its end.
-use Prim.Native.Nat.{ℕ, zero, suc, _+_, _-_, _*_, _≤_, _<_}
-use mathlib.Core.Path.{_≡_, refl, sym, ap, _∙_, subst}
-use mathlib.Core.Logic.{_≢_}
-use mathlib.Core.Bool.{Bool, true, false, _&&_, not}
-use mathlib.Core.List.{List, [], _∷_}
+use Prim.Native.Nat.{ℕ, zero, suc, ◌+◌, ◌-◌, ◌*◌, ◌≤◌, ◌<◌}
+use mathlib.Core.Path.{◌≡◌, refl, sym, ap, ◌∙◌, subst}
+use mathlib.Core.Logic.{◌≢◌}
+use mathlib.Core.Bool.{Bool, true, false, ◌&&◌, not}
+use mathlib.Core.List.{List, [], ◌∷◌}
 use native.Mathlib.Numerals.{add-one}
 use native.Mathlib.Omega.{arith}
-use lib.ListN.{length, getD, take, drop, set}
-use lib.Seq.{getD-take, getD-drop}
+use lib.ListN.{length, get_or, take, drop, set}
+use lib.Seq.{get_or-take, get_or-drop}
 use lib.Dec.{eqb}
-use borrow.Author.Tests.{eq-eqb, ne-eqb, not-true, not-false}
-use Rattle·model.specs.Lists.{same, chunk}
-use Rattle·model.specs.Chip.{Image, Page}
-use Rattle·model.specs.Slot.{Slot, empty, torn, dead, cut, wrong, live, slotOf, kindOf, entryOf, written}
-use Rattle·model.specs.declared.SlotKind.{SlotKind}
-use Rattle·model.specs.declared.SlotKind.the-variants.{Live}
-use Rattle·model.specs.Laws.SlotPage.{live-status}
-use Rattle·model.specs.declared.BlockNumber.{BlockNumber}
-use Rattle·slot.proofs.Laws.Kinds.{Other, other-holds}
-use Rattle·index.specs.Tables.{Brief}
-use Rattle·index.specs.Lives.{brief}
-use Rattle·judge.specs.Rows.{kindsAt, slotsAt}
-use Rattle·rows.proofs.Laws.Rows.{kinds-next, page-part}
-use Rattle·meeting·specs.specs.Sheet.{Sheet, sheet, pageAt, met, metKind, metRow}
+use borrow.Author.Tests.{eq-eqb, ne_eqb, not-true, not-false}
+use Rattle.model.specs.Lists.{same, chunk}
+use Rattle.model.specs.Chip.{Image, Page}
+use Rattle.model.specs.Slot.{Slot, empty, torn, dead, cut, wrong, live, slot_of, kind_of, entry_of, written}
+use Rattle.model.specs.declared.SlotKind.{SlotKind}
+use Rattle.model.specs.declared.SlotKind.TheVariants.{Live}
+use Rattle.model.specs.Laws.SlotPage.{live-status}
+use Rattle.model.specs.declared.BlockNumber.{BlockNumber}
+use Rattle.slot.proofs.Laws.Kinds.{Other, other-holds}
+use Rattle.index.specs.Tables.{Brief}
+use Rattle.index.specs.Lives.{brief}
+use Rattle.judge.specs.Rows.{kindsAt, slotsAt}
+use Rattle.rows.proofs.Laws.Rows.{kinds-next, page-part}
+use Rattle.meeting.specs.Sheet.{Sheet, sheet, pageAt, met, metKind, metRow}
 
 -- ---- pages
 
-same-next : (a b : List ℕ) (i : ℕ) → i < length a → i < length b → same (take (suc i) a) (take (suc i) b) ≡ same (take i a) (take i b) && eqb (getD a i 0) (getD b i 0)
+same_next : (a b : List ℕ) (i : ℕ) → i < length a → i < length b → same (take (suc i) a) (take (suc i) b) ≡ same (take i a) (take i b) && eqb (get_or a i 0) (get_or b i 0)
 unfolding same
-same-next [] b i h k = absurd (omega arith)
-same-next (x ∷ a) [] i h k = absurd (omega arith)
-same-next (x ∷ a) (y ∷ b) zero h k = last (eqb x y)
+same_next [] b i h k = absurd (omega arith)
+same_next (x ∷ a) [] i h k = absurd (omega arith)
+same_next (x ∷ a) (y ∷ b) zero h k = last (eqb x y)
   where
     last : (t : Bool) → t && true ≡ t
     last true = refl
     last false = refl
-same-next (x ∷ a) (y ∷ b) (suc i) h k = tail (eqb x y) (same (take (suc i) a) (take (suc i) b)) (same (take i a) (take i b)) (eqb (getD a i 0) (getD b i 0)) (same-next a b i (omega arith) (omega arith))
+same_next (x ∷ a) (y ∷ b) (suc i) h k = tail (eqb x y) (same (take (suc i) a) (take (suc i) b)) (same (take i a) (take i b)) (eqb (get_or a i 0) (get_or b i 0)) (same_next a b i (omega arith) (omega arith))
   where
     tail : (t u w z : Bool) → u ≡ w && z → t && u ≡ (t && w) && z
     tail true u w z e = e
     tail false u w z e = refl
 
 -- one byte more
-pub same-more : (a b : List ℕ) (i : ℕ) → i < length a → i < length b → same (take (i + 1) a) (take (i + 1) b) ≡ same (take i a) (take i b) && eqb (getD a i 0) (getD b i 0)
-same-more a b i h k = rw (add-one i) (same-next a b i h k)
+pub same_more : (a b : List ℕ) (i : ℕ) → i < length a → i < length b → same (take (i + 1) a) (take (i + 1) b) ≡ same (take i a) (take i b) && eqb (get_or a i 0) (get_or b i 0)
+same_more a b i h k = rw (add-one i) (same_next a b i h k)
 
 -- they differ if they did before, or in this byte
-pub differ-here : (a b : List ℕ) (i : ℕ) → i < length a → i < length b → getD a i 0 ≢ getD b i 0 → true ≡ not (same (take (i + 1) a) (take (i + 1) b))
-differ-here a b i h k n = rw (same-more a b i h k, ne-eqb (getD a i 0) (getD b i 0) n) (go (same (take i a) (take i b)))
+pub differ-here : (a b : List ℕ) (i : ℕ) → i < length a → i < length b → get_or a i 0 ≢ get_or b i 0 → true ≡ not (same (take (i + 1) a) (take (i + 1) b))
+differ-here a b i h k n = rw (same_more a b i h k, ne_eqb (get_or a i 0) (get_or b i 0) n) (go (same (take i a) (take i b)))
   where
     go : (t : Bool) → true ≡ not (t && false)
     go true = refl
     go false = refl
 
-pub differ-before : (a b : List ℕ) (i : ℕ) → i < length a → i < length b → getD a i 0 ≡ getD b i 0 → not (same (take i a) (take i b)) ≡ not (same (take (i + 1) a) (take (i + 1) b))
-differ-before a b i h k e = rw (same-more a b i h k, eq-eqb (getD a i 0) (getD b i 0) e) (go (same (take i a) (take i b)))
+pub differ-before : (a b : List ℕ) (i : ℕ) → i < length a → i < length b → get_or a i 0 ≡ get_or b i 0 → not (same (take i a) (take i b)) ≡ not (same (take (i + 1) a) (take (i + 1) b))
+differ-before a b i h k e = rw (same_more a b i h k, eq-eqb (get_or a i 0) (get_or b i 0) e) (go (same (take i a) (take i b)))
   where
     go : (t : Bool) → not t ≡ not (t && true)
     go true = refl
     go false = refl
 
-pub same-none : (a b : List ℕ) → same (take 0 a) (take 0 b) ≡ true
+pub same_none : (a b : List ℕ) → same (take 0 a) (take 0 b) ≡ true
 unfolding same
-same-none a b = refl
+same_none a b = refl
 
 -- ---- a candidate met; w is its block
 
 module _ (s : Image) (at b n w : ℕ) (t : Sheet) (e : w ≡ b) where
-  pub met-first : getD (t .places) w 0 ≡ 0 → sheet (set (t .places) w at) (set (t .lengths) w n) (t .differs) ≡ met s at b n t
+  pub met-first : get_or t.places w 0 ≡ 0 → sheet (set t.places w at) (set t.lengths w n) t.differs ≡ met s at b n t
   unfolding met
-  met-first h = rw (← e, eq-eqb (getD (t .places) w 0) 0 h)
+  met-first h = rw (← e, eq-eqb (get_or t.places w 0) 0 h)
 
   -- another is given, and r tells whether the two pages differ
-  module _ (h : getD (t .places) w 0 ≢ 0) (r : Bool) (q : r ≡ not (same (take (getD (t .places) w 0 + 256 - getD (t .places) w 0) (drop (getD (t .places) w 0) s)) (take (at + 256 - at) (drop at s)))) where
-    pages : r ≡ not (same (pageAt s (getD (t .places) w 0)) (pageAt s at))
-    pages = q ∙ rw (page-part s (getD (t .places) w 0), page-part s at)
+  module _ (h : get_or t.places w 0 ≢ 0) (r : Bool) (q : r ≡ not (same (take (get_or t.places w 0 + 256 - get_or t.places w 0) (drop (get_or t.places w 0) s)) (take (at + 256 - at) (drop at s)))) where
+    pages : r ≡ not (same (pageAt s (get_or t.places w 0)) (pageAt s at))
+    pages = q ∙ rw (page-part s (get_or t.places w 0), page-part s at)
 
-    pub met-other : r ≡ true → sheet (t .places) (t .lengths) (set (t .differs) w true) ≡ met s at b n t
+    pub met-other : r ≡ true → sheet t.places t.lengths (set t.differs w true) ≡ met s at b n t
     unfolding met
-    met-other d = rw (← e, ne-eqb (getD (t .places) w 0) 0 h, not-true (same (pageAt s (getD (t .places) w 0)) (pageAt s at)) (sym pages ∙ d))
+    met-other d = rw (← e, ne_eqb (get_or t.places w 0) 0 h, not-true (same (pageAt s (get_or t.places w 0)) (pageAt s at)) (sym pages ∙ d))
 
     pub met-same : r ≡ false → t ≡ met s at b n t
     unfolding met
-    met-same d = rw (← e, ne-eqb (getD (t .places) w 0) 0 h, not-false (same (pageAt s (getD (t .places) w 0)) (pageAt s at)) (sym pages ∙ d))
+    met-same d = rw (← e, ne_eqb (get_or t.places w 0) 0 h, not-false (same (pageAt s (get_or t.places w 0)) (pageAt s at)) (sym pages ∙ d))
 
 -- ---- a slot by its status and kind
 
@@ -91,14 +91,14 @@ module _ (s : Image) (p : ℕ) (t : Sheet) where
   page = take 256 (drop (p * 256) s)
 
   -- without the status of a live slot it is none
-  pub not-written : getD s (p * 256) 0 ≢ written → t ≡ metKind s p (kindOf (slotOf (take 256 (drop (p * 256) s)))) t
-  unfolding metKind kindOf
-  not-written h = go (slotOf page) refl
+  pub not_written : get_or s (p * 256) 0 ≢ written → t ≡ metKind s p (kind_of (slot_of (take 256 (drop (p * 256) s)))) t
+  unfolding metKind kind_of
+  not_written h = go (slot_of page) refl
     where
-      first : getD page 0 0 ≡ getD s (p * 256) 0
-      first = let z : p * 256 + 0 ≡ p * 256 = omega arith in getD-take 256 (drop (p * 256) s) 0 0 (omega arith) ∙ rw z at (getD-drop (p * 256) s 0 0)
+      first : get_or page 0 0 ≡ get_or s (p * 256) 0
+      first = let z : p * 256 + 0 ≡ p * 256 = omega arith in get_or-take 256 (drop (p * 256) s) 0 0 (omega arith) ∙ rw z at (get_or-drop (p * 256) s 0 0)
 
-      go : (k : Slot) → slotOf page ≡ k → t ≡ metKind s p (kindOf k) t
+      go : (k : Slot) → slot_of page ≡ k → t ≡ metKind s p (kind_of k) t
       go empty e = refl
       go torn e = refl
       go dead e = refl
@@ -106,29 +106,29 @@ module _ (s : Image) (p : ℕ) (t : Sheet) where
       go wrong e = refl
       go (live b c) e = absurd (h (sym first ∙ live-status page b c e))
 
-  module _ (k : SlotKind) (e : k ≡ kindOf (slotOf (take (p * 256 + 256 - p * 256) (drop (p * 256) s)))) where
-    pub is-kind : k ≡ kindOf (slotOf (take 256 (drop (p * 256) s)))
-    is-kind = e ∙ ap (λ (x : Page). kindOf (slotOf x)) (page-part s (p * 256))
+  module _ (k : SlotKind) (e : k ≡ kind_of (slot_of (take (p * 256 + 256 - p * 256) (drop (p * 256) s)))) where
+    pub is-kind : k ≡ kind_of (slot_of (take 256 (drop (p * 256) s)))
+    is-kind = e ∙ ap (λ (x : Page). kind_of (slot_of x)) (page-part s (p * 256))
 
     -- of another kind than live it is none
-    pub not-live : Other k → t ≡ metKind s p (kindOf (slotOf (take 256 (drop (p * 256) s)))) t
-    unfolding metKind kindOf entryOf
-    not-live o = go (slotOf page) (other-holds (slotOf page) (subst Other is-kind o))
+    pub not_live : Other k → t ≡ metKind s p (kind_of (slot_of (take 256 (drop (p * 256) s)))) t
+    unfolding metKind kind_of entry_of
+    not_live o = go (slot_of page) (other-holds (slot_of page) (subst Other is-kind o))
       where
-        go : (x : Slot) → entryOf x ≡ [] → t ≡ metKind s p (kindOf x) t
+        go : (x : Slot) → entry_of x ≡ [] → t ≡ metKind s p (kind_of x) t
         go empty q = refl
         go torn q = refl
         go dead q = refl
         go cut q = refl
         go wrong q = refl
-        go (live b c) q = absurd (let z : _≡_ {A = ℕ} 0 1 = cc in omega arith)
+        go (live b c) q = absurd (let z : ◌≡◌ {A = ℕ} 0 1 = cc in omega arith)
 
     module _ (n : ℕ) (b : BlockNumber) (f : k ≡ Live n b) where
       pub is-short : n < 256
       is-short = subst Brief (sym is-kind ∙ f) (brief page)
 
-      pub is-live : met s (p * 256) (b .0) n t ≡ metKind s p (kindOf (slotOf (take 256 (drop (p * 256) s)))) t
-      is-live = let q : met s (p * 256) (b .0) n t ≡ metKind s p (Live n b) t = (unfold metKind in refl) in q ∙ ap (λ (x : SlotKind). metKind s p x t) (sym f ∙ is-kind)
+      pub is_live : met s (p * 256) b.0 n t ≡ metKind s p (kind_of (slot_of (take 256 (drop (p * 256) s)))) t
+      is_live = let q : met s (p * 256) b.0 n t ≡ metKind s p (Live n b) t = (unfold metKind in refl) in q ∙ ap (λ (x : SlotKind). metKind s p x t) (sym f ∙ is-kind)
 
 -- ---- the slots from a place on
 
@@ -137,14 +137,14 @@ unfolding kindsAt slotsAt chunk metRow
 row-none m o t p = refl
 
 -- with one slot more before them: left of the slots are to come
-pub row-more : (m : Image) (h left slots : ℕ) (t u : Sheet) → 0 < left → left ≤ slots → t ≡ metRow m (h + left + 1) (kindsAt m ((h + left + 1) * 256) (slots - left)) u
-    → metKind m (h + left) (kindOf (slotOf (take 256 (drop ((h + left) * 256) m)))) t ≡ metRow m (h + (left - 1) + 1) (kindsAt m ((h + (left - 1) + 1) * 256) (slots - (left - 1))) u
-row-more m h left slots t u p l f =
+pub row_more : (m : Image) (h left slots : ℕ) (t u : Sheet) → 0 < left → left ≤ slots → t ≡ metRow m (h + left + 1) (kindsAt m ((h + left + 1) * 256) (slots - left)) u
+    → metKind m (h + left) (kind_of (slot_of (take 256 (drop ((h + left) * 256) m)))) t ≡ metRow m (h + (left - 1) + 1) (kindsAt m ((h + (left - 1) + 1) * 256) (slots - (left - 1))) u
+row_more m h left slots t u p l f =
     let a : h + (left - 1) + 1 ≡ h + left = omega arith in
     let b : slots - (left - 1) ≡ suc (slots - left) = omega arith in
     let d : (h + left) * 256 + 256 ≡ (h + left + 1) * 256 = omega arith in
     let s : suc (h + left) ≡ h + left + 1 = omega arith in
-    rw (a, b, kinds-next m ((h + left) * 256) (slots - left), d, f) (next (kindOf (slotOf (take 256 (drop ((h + left) * 256) m)))) (kindsAt m ((h + left + 1) * 256) (slots - left)) s)
+    rw (a, b, kinds-next m ((h + left) * 256) (slots - left), d, f) (next (kind_of (slot_of (take 256 (drop ((h + left) * 256) m)))) (kindsAt m ((h + left + 1) * 256) (slots - left)) s)
   where
     next : (k : SlotKind) (ks : List SlotKind) → suc (h + left) ≡ h + left + 1 → metKind m (h + left) k (metRow m (h + left + 1) ks u) ≡ metRow m (h + left) (k ∷ ks) u
     next k ks s = unfold metRow in (ap (λ (z : ℕ). metKind m (h + left) k (metRow m z ks u)) (sym s))

@@ -1,15 +1,10 @@
 -- Candidates by block number, in three tables: the place of the one given, where 0 is none; the length of its contents; and whether another disagrees with it.
-use Prim.Native.Nat.{ℕ, zero, suc, _+_, _*_, _≤_}
-use mathlib.Core.Path.{_≡_}
-use mathlib.Core.Bool.{Bool, true, false, cond}
-use mathlib.Core.List.{List, [], _∷_}
-use native.Mathlib.Omega.{arith}
-use lib.ListN.{length, getD, take, drop, set}
-use lib.Dec.{eqb}
-use Rattle·model.specs.Lists.{same}
-use Rattle·model.specs.Chip.{Image, Page}
-use Rattle·model.specs.declared.SlotKind.{SlotKind}
-use Rattle·model.specs.declared.SlotKind.the-variants.{Empty, Torn, Live, Dead, Cut, Wrong}
+use Rattle.std.specs.Prelude.{ℕ, zero, suc, ◌+◌, ◌*◌, ◌≤◌, ◌≡◌, Bool, true, false, cond, List, [], ◌∷◌, length, get_or, take, drop, set, eqb}
+use Rattle.std.proofs.Common.{arith}
+use Rattle.model.specs.Lists.{same}
+use Rattle.model.specs.Chip.{Image, Page}
+use Rattle.model.specs.declared.SlotKind.{SlotKind}
+use Rattle.model.specs.declared.SlotKind.TheVariants.{Empty, Torn, Live, Dead, Cut, Wrong}
 
 pub record Sheet : Type 0 where
   pub places : List ℕ
@@ -25,14 +20,14 @@ pageAt s at = take 256 (drop at s)
 
 -- a candidate met at an offset, of block b with contents of n bytes: the first of its block is given, and another is compared with that one
 unfoldable pub met : Image → ℕ → ℕ → ℕ → Sheet → Sheet
-met s at b n t = let g = getD (t .places) b 0 in
-    cond (eqb g 0) (sheet (set (t .places) b at) (set (t .lengths) b n) (t .differs))
-    (cond (same (pageAt s g) (pageAt s at)) t (sheet (t .places) (t .lengths) (set (t .differs) b true)))
+met s at b n t = let g = get_or t.places b 0 in
+    cond (eqb g 0) (sheet (set t.places b at) (set t.lengths b n) t.differs)
+    (cond (same (pageAt s g) (pageAt s at)) t (sheet t.places t.lengths (set t.differs b true)))
 
 unfoldable pub metKind : Image → ℕ → SlotKind → Sheet → Sheet
 metKind s p Empty t = t
 metKind s p Torn t = t
-metKind s p (Live n b) t = met s (p * 256) (b .0) n t
+metKind s p (Live n b) t = met s (p * 256) b.0 n t
 metKind s p Dead t = t
 metKind s p Cut t = t
 metKind s p Wrong t = t
@@ -45,37 +40,37 @@ metRow s p (k ∷ ks) t = metKind s p k (metRow s (suc p) ks t)
 -- ---- the places are in the image
 
 pub record Within (places : List ℕ) (bytes : ℕ) : Type 0 where
-  pub page : (b : ℕ) → getD places b 0 + 256 ≤ bytes
+  pub page : (b : ℕ) → get_or places b 0 + 256 ≤ bytes
 
 set-within : (places : List ℕ) (b at bytes : ℕ) → at + 256 ≤ bytes → Within places bytes → Within (set places b at) bytes
-set-within places b at bytes h w = record { page = λ c. go places b c (λ k. w .page k) }
+set-within places b at bytes h w = record { page = λ c. go places b c (λ k. w.page k) }
   where
-    go : (p : List ℕ) (b c : ℕ) → ((k : ℕ) → getD p k 0 + 256 ≤ bytes) → getD (set p b at) c 0 + 256 ≤ bytes
+    go : (p : List ℕ) (b c : ℕ) → ((k : ℕ) → get_or p k 0 + 256 ≤ bytes) → get_or (set p b at) c 0 + 256 ≤ bytes
     go [] b c f = f c
     go (x ∷ p) zero zero f = h
     go (x ∷ p) zero (suc c) f = f (suc c)
     go (x ∷ p) (suc b) zero f = f 0
     go (x ∷ p) (suc b) (suc c) f = go p b c (λ k. f (suc k))
 
-pub met-within : (s : Image) (at b n : ℕ) (t : Sheet) (bytes : ℕ) → at + 256 ≤ bytes → Within (t .places) bytes → Within (met s at b n t .places) bytes
+pub met-within : (s : Image) (at b n : ℕ) (t : Sheet) (bytes : ℕ) → at + 256 ≤ bytes → Within t.places bytes → Within (met s at b n t).places bytes
 unfolding met
-met-within s at b n t bytes h w = go (eqb (getD (t .places) b 0) 0) (same (pageAt s (getD (t .places) b 0)) (pageAt s at))
+met-within s at b n t bytes h w = go (eqb (get_or t.places b 0) 0) (same (pageAt s (get_or t.places b 0)) (pageAt s at))
   where
-    go : (x y : Bool) → Within (cond x (sheet (set (t .places) b at) (set (t .lengths) b n) (t .differs)) (cond y t (sheet (t .places) (t .lengths) (set (t .differs) b true))) .places) bytes
-    go true y = set-within (t .places) b at bytes h w
+    go : (x y : Bool) → Within (cond x (sheet (set t.places b at) (set t.lengths b n) t.differs) (cond y t (sheet t.places t.lengths (set t.differs b true)))).places bytes
+    go true y = set-within t.places b at bytes h w
     go false true = w
     go false false = w
 
-pub kind-within : (s : Image) (p : ℕ) (k : SlotKind) (t : Sheet) (bytes : ℕ) → p * 256 + 256 ≤ bytes → Within (t .places) bytes → Within (metKind s p k t .places) bytes
+pub kind-within : (s : Image) (p : ℕ) (k : SlotKind) (t : Sheet) (bytes : ℕ) → p * 256 + 256 ≤ bytes → Within t.places bytes → Within (metKind s p k t).places bytes
 unfolding metKind
 kind-within s p Empty t bytes h w = w
 kind-within s p Torn t bytes h w = w
-kind-within s p (Live n b) t bytes h w = met-within s (p * 256) (b .0) n t bytes h w
+kind-within s p (Live n b) t bytes h w = met-within s (p * 256) b.0 n t bytes h w
 kind-within s p Dead t bytes h w = w
 kind-within s p Cut t bytes h w = w
 kind-within s p Wrong t bytes h w = w
 
-pub row-within : (s : Image) (p : ℕ) (ks : List SlotKind) (t : Sheet) (bytes : ℕ) → (p + length ks) * 256 ≤ bytes → Within (t .places) bytes → Within (metRow s p ks t .places) bytes
+pub row_within : (s : Image) (p : ℕ) (ks : List SlotKind) (t : Sheet) (bytes : ℕ) → (p + length ks) * 256 ≤ bytes → Within t.places bytes → Within (metRow s p ks t).places bytes
 unfolding metRow
-row-within s p [] t bytes h w = w
-row-within s p (k ∷ ks) t bytes h w = kind-within s p k (metRow s (suc p) ks t) bytes (omega arith) (row-within s (suc p) ks t bytes (let e : suc p + length ks ≡ p + suc (length ks) = omega arith in rw e h) w)
+row_within s p [] t bytes h w = w
+row_within s p (k ∷ ks) t bytes h w = kind-within s p k (metRow s (suc p) ks t) bytes (omega arith) (row_within s (suc p) ks t bytes (let e : suc p + length ks ≡ p + suc (length ks) = omega arith in rw e h) w)

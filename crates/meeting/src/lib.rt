@@ -1,27 +1,24 @@
 // The candidates of one segment, the last one first, met by a table by block number (request #113). The walk comes from the
 // highest number down, so that the first one met of a block is given, and those after it are only compared with it.
-use model::BlockNumber;
-use model::SlotKind;
-ghost use mathlib.Core.Path.{_≡_};
-ghost use mathlib.Core.Bool.{not};
-ghost use Prim.Native.Nat.{_+_, _*_, _<_, _≤_};
-ghost use lib.ListN.{length, take, drop};
-ghost use Rattle·model.specs.Lists.{same};
-ghost use Rattle·model.specs.Slot.{slotOf, kindOf};
-ghost use Rattle·judge.specs.Rows.{kindsAt};
-ghost use Rattle·index.specs.Tables.{mostPages};
-ghost use Rattle·meeting·specs.specs.Sheet.{sheet, met, metKind, metRow, Within};
+ghost use Rattle.std.specs.Prelude.{◌≡◌, not, ◌+◌, ◌*◌, ◌<◌, ◌≤◌, length, take, drop};
+ghost use Rattle.model.specs.Lists.{same};
+ghost use Rattle.model.specs.Slot.{slot_of, kind_of};
+ghost use Rattle.judge.specs.Rows.{kindsAt};
+ghost use Rattle.index.specs.Tables.{mostPages};
+ghost use Rattle.meeting.specs.Sheet.{sheet, met, metKind, metRow, Within};
+
+use model::{BlockNumber, SlotKind};
 
 fn wide(x: u16) -> usize
-    ensures { λ r. ⌜ r ≡ x ⌝ }
+    ensures { result ≡ x }
 {
     x as usize
 }
 
 // Whether two pages differ. All bytes are looked at: without a way out of it the loop takes sixteen at a time.
 fn pages_differ(a: &[u8], b: &[u8]) -> bool
-    requires { ⌜ (length (now a) ≡ 256) × (length (now b) ≡ 256) ⌝ }
-    ensures { λ r. ⌜ r ≡ not (same (now (a .entry)) (now (b .entry))) ⌝ }
+    requires { (length a.now ≡ 256) × (length b.now ≡ 256) }
+    ensures { result ≡ not (same a.now b.now) }
 {
     let mut differ = false;
     let mut i: usize = 0;
@@ -44,8 +41,8 @@ fn meet(
     lengths: &mut [u8; 65536],
     differs: &mut [bool; 65536],
 )
-    requires { ⌜ (place + 256 ≤ length (now image)) × (place < 4294967296) × (size < 256) × Within (now places) (length (now image)) ⌝ }
-    ensures { λ r. ⌜ sheet (now (places .exit)) (now (lengths .exit)) (now (differs .exit)) ≡ met (now (image .entry)) place (block .0) size (sheet (now (places .entry)) (now (lengths .entry)) (now (differs .entry))) ⌝ }
+    requires { (place + 256 ≤ length image.now) × (place < 4294967296) × (size < 256) × Within places.old (length image.now) }
+    ensures { sheet places.new lengths.new differs.new ≡ met image.now place block.0 size (sheet places.old lengths.old differs.old) }
 {
     let b = wide(block.0);
     let given = places[b] as usize;
@@ -69,8 +66,8 @@ fn meet_slot(
     lengths: &mut [u8; 65536],
     differs: &mut [bool; 65536],
 )
-    requires { ⌜ (page * 256 + 256 ≤ length (now image)) × (page < mostPages) × Within (now places) (length (now image)) ⌝ }
-    ensures { λ r. ⌜ sheet (now (places .exit)) (now (lengths .exit)) (now (differs .exit)) ≡ metKind (now (image .entry)) page (kindOf (slotOf (take 256 (drop (page * 256) (now (image .entry)))))) (sheet (now (places .entry)) (now (lengths .entry)) (now (differs .entry))) ⌝ }
+    requires { (page * 256 + 256 ≤ length image.now) × (page < mostPages) × Within places.old (length image.now) }
+    ensures { sheet places.new lengths.new differs.new ≡ metKind image.now page (kind_of (slot_of (take 256 (drop (page * 256) image.now)))) (sheet places.old lengths.old differs.old) }
 {
     let at = page * 256;
     if image[at] != slot::WRITTEN {
@@ -93,8 +90,8 @@ pub fn meet_row(
     lengths: &mut [u8; 65536],
     differs: &mut [bool; 65536],
 )
-    requires { ⌜ ((header + slots + 1) * 256 ≤ length (now image)) × (header + slots < mostPages) × Within (now places) (length (now image)) ⌝ }
-    ensures { λ r. ⌜ sheet (now (places .exit)) (now (lengths .exit)) (now (differs .exit)) ≡ metRow (now (image .entry)) (header + 1) (kindsAt (now (image .entry)) ((header + 1) * 256) slots) (sheet (now (places .entry)) (now (lengths .entry)) (now (differs .entry))) ⌝ }
+    requires { ((header + slots + 1) * 256 ≤ length image.now) × (header + slots < mostPages) × Within places.old (length image.now) }
+    ensures { sheet places.new lengths.new differs.new ≡ metRow image.now (header + 1) (kindsAt image.now ((header + 1) * 256) slots) (sheet places.old lengths.old differs.old) }
 {
     let mut left = slots;
     while left > 0 {

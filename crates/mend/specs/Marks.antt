@@ -1,11 +1,9 @@
 -- A page at an offset, and a slot marked in it.
-use Prim.Native.Nat.{ℕ, _*_, _<_}
-use mathlib.Core.Path.{_≡_}
-use mathlib.Core.List.{[]}
-use Rattle·model.specs.Chip.{Image}
-use Rattle·model.specs.Steps.{onPage, markDead}
-use Rattle·model.specs.declared.Performed.{Performed}
-use Rattle·request.specs.Request.{Carried}
+use Rattle.std.specs.Prelude.{ℕ, ◌*◌, ◌<◌, ◌≡◌, []}
+use Rattle.model.specs.Chip.{Image}
+use Rattle.model.specs.Steps.{onPage, markDead}
+use Rattle.model.specs.declared.Performed.{Performed}
+use Rattle.request.specs.Request.{Carried}
 
 -- the offset of a page inside the image
 pub record PageAt (at bytes : ℕ) : Type 0 where

@@ -1,29 +1,23 @@
 // The steps of a recovery; a delete has one of them too.
-use model::Answer;
-use model::Performed;
-use model::SegmentNumber;
-use model::SlotPlace;
+ghost use Rattle.std.specs.Prelude.{◌≡◌, true, cond, [], ◌∷◌, ◌+◌, ◌%◌, length};
+ghost use Rattle.model.specs.Chip.{erase, rightSize};
+ghost use Rattle.model.specs.State.{segmentsOf};
+ghost use Rattle.model.specs.Steps.{settle};
+ghost use Rattle.model.specs.Answers.{performed, outcomeOf, recover};
+ghost use Rattle.flash.specs.Ran.{Ran};
+ghost use Rattle.flash.specs.Pages.{Sized};
+ghost use Rattle.scan.specs.Surveys.{surveyOf};
+ghost use Rattle.request.specs.Request.{Carried};
+ghost use Rattle.mend.specs.Marks.{PageAt, MarkedAt};
+ghost use Rattle.mend.specs.Erasing.{counting, erasing};
+
+use model::{Answer, Performed, SegmentNumber, SlotPlace};
 use scan::Surveyed;
-ghost use mathlib.Core.Path.{_≡_};
-ghost use mathlib.Core.Bool.{true, cond};
-ghost use mathlib.Core.List.{[], _∷_};
-ghost use Prim.Native.Nat.{_+_, _%_};
-ghost use lib.ListN.{length};
-ghost use Rattle·model.specs.Chip.{erase, rightSize};
-ghost use Rattle·model.specs.State.{segmentsOf};
-ghost use Rattle·model.specs.Steps.{settle};
-ghost use Rattle·model.specs.Answers.{performed, outcomeOf, recover};
-ghost use Rattle·flash.specs.Ran.{Ran};
-ghost use Rattle·flash.specs.Pages.{Sized};
-ghost use Rattle·scan.specs.Surveys.{surveyOf};
-ghost use Rattle·request.specs.Request.{Carried};
-ghost use Rattle·mend·specs.specs.Marks.{PageAt, MarkedAt};
-ghost use Rattle·mend·specs.specs.Erasing.{counting, erasing};
 
 // Marks a slot: a torn one in (c), the older of two live ones in (d).
 pub fn mark_slot(image: &mut [u8], place: SlotPlace, budget: u64) -> Performed
-    requires { ⌜ PageAt (place .0) (length (now image)) ⌝ }
-    ensures { λ r. ⌜ MarkedAt (place .0) budget r (now (image .entry)) (now (image .exit)) ⌝ }
+    requires { PageAt place.0 (length image.old) }
+    ensures { MarkedAt place.0 budget result image.old image.new }
 {
     let left = slot::mark_dead(image, place, budget);
     request::finished(budget, left, budget, 1)
@@ -37,8 +31,8 @@ fn erase_after(
     top: SegmentNumber,
     budget: u64,
 ) -> u64
-    requires { ⌜ Sized segments slots (length (now image)) ⌝ }
-    ensures { λ r. ⌜ Ran (erase ((top .0 + 1) % segments) ∷ []) slots budget r (now (image .entry)) (now (image .exit)) ⌝ }
+    requires { Sized segments slots (length image.old) }
+    ensures { Ran (erase ((top.0 + 1) % segments) ∷ []) slots budget result image.old image.new }
 {
     let index = (top.0 as usize + 1) % segments;
     flash::erase_segment(image, index, slots, budget)
@@ -52,8 +46,8 @@ fn erase_torn(
     top: SegmentNumber,
     budget: u64,
 ) -> Performed
-    requires { ⌜ Sized segments slots (length (now image)) ⌝ }
-    ensures { λ r. ⌜ Carried (counting segments slots (top .0) (now (image .entry))) (erase ((top .0 + 1) % segments) ∷ []) slots budget r (now (image .entry)) (now (image .exit)) ⌝ }
+    requires { Sized segments slots (length image.old) }
+    ensures { Carried (counting segments slots top.0 image.old) (erase ((top.0 + 1) % segments) ∷ []) slots budget result image.old image.new }
 {
     let counted = tally::count_erase(image, segments, slots, top, budget);
     let left = erase_after(image, segments, slots, top, counted);
@@ -69,8 +63,8 @@ fn erase_old(
     blank: bool,
     budget: u64,
 ) -> u64
-    requires { ⌜ Sized segments slots (length (now image)) ⌝ }
-    ensures { λ r. ⌜ Ran (cond blank [] (erasing segments slots (top .0) (now (image .entry)))) slots budget r (now (image .entry)) (now (image .exit)) ⌝ }
+    requires { Sized segments slots (length image.old) }
+    ensures { Ran (cond blank [] (erasing segments slots top.0 image.old)) slots budget result image.old image.new }
 {
     if blank {
         return budget;
@@ -89,8 +83,8 @@ fn erase_pending(
     blank: bool,
     budget: u64,
 ) -> Performed
-    requires { ⌜ Sized segments slots (length (now image)) ⌝ }
-    ensures { λ r. ⌜ Carried (cond blank [] (erasing segments slots (top .0) (now (image .entry)))) (settle segments slots (top .0)) slots budget r (now (image .entry)) (now (image .exit)) ⌝ }
+    requires { Sized segments slots (length image.old) }
+    ensures { Carried (cond blank [] (erasing segments slots top.0 image.old)) (settle segments slots top.0) slots budget result image.old image.new }
 {
     let erased = erase_old(image, segments, slots, top, blank, budget);
     let left = header_steps::settle(image, segments, slots, top, erased);
@@ -105,8 +99,8 @@ pub fn mend(
     survey: Surveyed,
     budget: u64,
 ) -> Performed
-    requires { ⌜ (rightSize segments slots (now image) ≡ true) × (survey ≡ surveyOf segments slots (segmentsOf segments slots (now image))) ⌝ }
-    ensures { λ r. ⌜ performed r (now (image .exit)) ≡ outcomeOf segments slots (now (image .entry)) budget recover ⌝ }
+    requires { (rightSize segments slots image.old ≡ true) × (survey ≡ surveyOf segments slots (segmentsOf segments slots image.old)) }
+    ensures { performed result image.new ≡ outcomeOf segments slots image.old budget recover }
 {
     match survey {
         Surveyed::Clean {
@@ -118,12 +112,7 @@ pub fn mend(
         } => request::refused(Answer::Done),
         Surveyed::TornSegment { top } => erase_torn(image, segments, slots, top, budget),
         Surveyed::ErasePending { top, blank } => erase_pending(
-            image,
-            segments,
-            slots,
-            top,
-            blank,
-            budget,
+            image, segments, slots, top, blank, budget,
         ),
         Surveyed::TornSlot { place } => mark_slot(image, place, budget),
         Surveyed::OldSlot { place } => mark_slot(image, place, budget),

@@ -1,38 +1,34 @@
 -- Document 01, "What comes back": the answers in their order, the step list, and both under an allowance of steps.
-use Prim.Native.Nat.{ℕ, _+_, _*_}
-use mathlib.Core.Bool.{Bool, true, false, cond, _&&_, not}
-use mathlib.Core.List.{List, [], _∷_}
-use lib.ListN.{length, take, drop}
-use lib.Dec.{ltb, leb, eqb}
-use Rattle·model·specs.specs.Chip.{Image, Step, rightSize, run}
-use Rattle·model·specs.specs.Header.{isFormer}
-use Rattle·model·specs.specs.Slot.{mostContents, numberOk}
-use Rattle·model·specs.specs.State.{Segment, segmentsOf, View, viewOf, entriesIn, holds, capacity, Place, placeOf, State, clean, unfinished, damaged, stateOf, state, view}
-use Rattle·model·specs.specs.Steps.{slotAt, putSteps, deleteSteps, formatSteps, recoverSteps, isWorn}
-use Rattle·model·specs.specs.Table.{lookup, contentsFound, liveBetween, tableOf}
-use Rattle·model·specs.specs.declared.Answer.{Answer}
-use Rattle·model·specs.specs.declared.Performed.{Performed}
-use Rattle·model·specs.specs.declared.Located.{Located}
-use Rattle·model·specs.specs.declared.Counted.{Counted}
-use Rattle·model·specs.specs.declared.Answer.the-variants.{Done, Size, Number, Length, Damaged, Unfinished, Absent, Full, Worn, Cut, ShortTable, FormerVersion, Foreign, Shares, ShortBuffer}
+use Rattle.std.specs.Prelude.{ℕ, ◌+◌, ◌*◌, Bool, true, false, cond, ◌&&◌, not, List, [], ◌∷◌, length, take, drop, ltb, leb, eqb}
+use Rattle.model.specs.Chip.{Image, Step, rightSize, run}
+use Rattle.model.specs.Header.{isFormer}
+use Rattle.model.specs.Slot.{mostContents, numberOk}
+use Rattle.model.specs.State.{Segment, segmentsOf, View, view_of, entriesIn, holds, capacity, Place, place_of, State, clean, unfinished, damaged, state_of, state, view}
+use Rattle.model.specs.Steps.{slot_at, putSteps, deleteSteps, formatSteps, recoverSteps, isWorn}
+use Rattle.model.specs.Table.{lookup, contentsFound, liveBetween, table_of}
+use Rattle.model.specs.declared.Answer.{Answer}
+use Rattle.model.specs.declared.Performed.{Performed}
+use Rattle.model.specs.declared.Located.{Located}
+use Rattle.model.specs.declared.Counted.{Counted}
+use Rattle.model.specs.declared.Answer.TheVariants.{Done, Size, Number, Length, Damaged, Unfinished, Absent, Full, Worn, Cut, ShortTable, FormerVersion, Foreign, Shares, ShortBuffer}
 
 -- the paper's number of an answer
-unfoldable pub codeOf : Answer → ℕ
-codeOf Done = 0
-codeOf Size = 1
-codeOf Number = 2
-codeOf Length = 3
-codeOf Damaged = 4
-codeOf Unfinished = 5
-codeOf Absent = 6
-codeOf Full = 7
-codeOf Worn = 8
-codeOf Cut = 9
-codeOf ShortTable = 10
-codeOf FormerVersion = 11
-codeOf Foreign = 12
-codeOf Shares = 13
-codeOf ShortBuffer = 14
+unfoldable pub code_of : Answer → ℕ
+code_of Done = 0
+code_of Size = 1
+code_of Number = 2
+code_of Length = 3
+code_of Damaged = 4
+code_of Unfinished = 5
+code_of Absent = 6
+code_of Full = 7
+code_of Worn = 8
+code_of Cut = 9
+code_of ShortTable = 10
+code_of FormerVersion = 11
+code_of Foreign = 12
+code_of Shares = 13
+code_of ShortBuffer = 14
 
 pub data Request : Type 0 where
   format : Request
@@ -49,14 +45,14 @@ pub record Refusal : Type 0 where
   pub number : ℕ
   pub applies : Bool
 
-infix 5 _when_
-abbrev pub _when_ : ℕ → Bool → Refusal
+infix 5 ◌when◌
+abbrev pub ◌when◌ : ℕ → Bool → Refusal
 n when t = record { number = n; applies = t }
 
 -- the number of the first that applies, or 0
-unfoldable pub firstOf : List Refusal → ℕ
-firstOf [] = 0
-firstOf (x ∷ r) = cond (x .applies) (x .number) (firstOf r)
+unfoldable pub first_of : List Refusal → ℕ
+first_of [] = 0
+first_of (x ∷ r) = cond x.applies x.number (first_of r)
 
 unfoldable pub isDamaged : State → Bool
 isDamaged clean = false
@@ -78,41 +74,41 @@ isFull N B b v = not (holds b (entriesIn v)) && leb (capacity N B) (length (entr
 
 -- the rows of the table of answers for a delete or a read
 unfoldable pub absentRefusals : ℕ → ℕ → Bool → List Segment → ℕ → List Refusal
-absentRefusals N B sized l b = let st = stateOf N B l in
+absentRefusals N B sized l b = let st = state_of N B l in
     (1 when not sized)
     ∷ (2 when not (numberOk b))
     ∷ (4 when isDamaged st)
     ∷ (5 when isUnfinished st)
-    ∷ (6 when not (holds b (entriesIn (viewOf N l))))
+    ∷ (6 when not (holds b (entriesIn (view_of N l))))
     ∷ []
 
 -- each request's rows, on segments of an image that has a right size or not
 unfoldable pub refusals : ℕ → ℕ → Bool → List Segment → Request → List Refusal
 refusals N B sized l format = (1 when not sized) ∷ []
-refusals N B sized l (put b c) = let st = stateOf N B l in let v = viewOf N l in
+refusals N B sized l (put b c) = let st = state_of N B l in let v = view_of N l in
     (1 when not sized)
     ∷ (2 when not (numberOk b))
     ∷ (3 when not (lengthOk (length c)))
     ∷ (4 when isDamaged st)
     ∷ (5 when isUnfinished st)
-    ∷ (11 when isFormer (v .version))
+    ∷ (11 when isFormer v.version)
     ∷ (7 when isFull N B b v)
     ∷ (8 when isWorn N v)
     ∷ []
 refusals N B sized l (delete b) = absentRefusals N B sized l b
 refusals N B sized l (read b) = absentRefusals N B sized l b
 refusals N B sized l (readOr b f) = absentRefusals N B sized l b
-refusals N B sized l recover = (1 when not sized) ∷ (4 when isDamaged (stateOf N B l)) ∷ []
+refusals N B sized l recover = (1 when not sized) ∷ (4 when isDamaged (state_of N B l)) ∷ []
 
 -- ---- the work of a request: its code but for 9, and its step list
 
 unfoldable pub stepsFor : ℕ → ℕ → List Segment → Request → List Step
 stepsFor N B l format = formatSteps N B
-stepsFor N B l (put b c) = putSteps N B b c (viewOf N l)
-stepsFor N B l (delete b) = deleteSteps N B b (viewOf N l)
+stepsFor N B l (put b c) = putSteps N B b c (view_of N l)
+stepsFor N B l (delete b) = deleteSteps N B b (view_of N l)
 stepsFor N B l (read b) = []
 stepsFor N B l (readOr b f) = []
-stepsFor N B l recover = recoverSteps N B l (stateOf N B l)
+stepsFor N B l recover = recoverSteps N B l (state_of N B l)
 
 pub record Work : Type 0 where
   pub code : ℕ
@@ -121,7 +117,7 @@ pub record Work : Type 0 where
 -- codes but 0 take no step
 unfoldable pub workOn : ℕ → ℕ → Bool → List Segment → Request → Work
 workOn N B sized l r =
-    let code = firstOf (refusals N B sized l r) in
+    let code = first_of (refusals N B sized l r) in
     let steps = stepsFor N B l r in
     cond (eqb code 0) (record { code = 0; steps = steps }) (record { code = code; steps = [] })
 
@@ -132,7 +128,7 @@ workOf N B s r = workOn N B (rightSize N B s) (segmentsOf N B s) r
 
 -- 9: the allowance ended before the list did
 unfoldable pub codeUnder : ℕ → Work → ℕ
-codeUnder allowance w = cond (leb (length (w .steps)) allowance) (w .code) 9
+codeUnder allowance w = cond (leb (length w.steps) allowance) w.code 9
 
 -- what a request that writes gives: its answer, the count of steps done, and the image after them
 pub record Outcome : Type 0 where
@@ -142,11 +138,11 @@ pub record Outcome : Type 0 where
 
 -- what the code's answer says, with the image that it left
 unfoldable pub performed : Performed → Image → Outcome
-performed p s = record { code = codeOf (p .answer); count = p .steps; image = s }
+performed p s = record { code = code_of p.answer; count = p.steps; image = s }
 
 -- work on an image under an allowance
 abbrev pub worked : ℕ → Work → Image → ℕ → Outcome
-worked B w s allowance = let done = take allowance (w .steps) in
+worked B w s allowance = let done = take allowance w.steps in
     record { code = codeUnder allowance w; count = length done; image = run B done s }
 
 unfoldable pub outcomeOf : ℕ → ℕ → Image → ℕ → Request → Outcome
@@ -162,26 +158,26 @@ pub record ReadOutcome : Type 0 where
 
 -- what the code's answer says
 unfoldable pub located : Located → ReadOutcome
-located p = record { code = codeOf (p .answer); offset = p .offset; length = p .length }
+located p = record { code = code_of p.answer; offset = p.offset; length = p.length }
 
 unfoldable pub contentsAt : ℕ → ℕ → Place → ℕ
-contentsAt N B p = slotAt N B (p .number) (p .slot) * 256 + 8
+contentsAt N B p = slot_at N B p.number p.slot * 256 + 8
 
 unfoldable pub readOutcome : ℕ → ℕ → Image → ℕ → ReadOutcome
 readOutcome N B s b =
-    let code = workOf N B s (read b) .code in
+    let code = (workOf N B s (read b)).code in
     let v = view N B s in
     cond (eqb code 0)
-    (record { code = 0; offset = contentsAt N B (placeOf b v); length = length (contentsFound (lookup b (entriesIn v))) })
+    (record { code = 0; offset = contentsAt N B (place_of b v); length = length (contentsFound (lookup b (entriesIn v))) })
     (record { code = code; offset = 0; length = 0 })
 
 -- the piece of the image that a read tells of
 unfoldable pub pieceRead : ℕ → ℕ → Image → ℕ → List ℕ
-pieceRead N B s b = let o = readOutcome N B s b in take (o .length) (drop (o .offset) s)
+pieceRead N B s b = let o = readOutcome N B s b in take o.length (drop o.offset s)
 
 -- the second form: that piece; or for answer 6 the whole factory record; or for other refusals an empty piece
 unfoldable pub pieceOr : ℕ → ℕ → Image → ℕ → List ℕ → List ℕ
-pieceOr N B s b factory = cond (eqb (readOutcome N B s b .code) 6) factory (pieceRead N B s b)
+pieceOr N B s b factory = cond (eqb (readOutcome N B s b).code 6) factory (pieceRead N B s b)
 
 -- ---- counting (request #110)
 
@@ -193,7 +189,7 @@ pub record CountOutcome : Type 0 where
 
 -- what the code's answer says
 unfoldable pub counted : Counted → CountOutcome
-counted p = record { code = codeOf (p .answer); blocks = p .blocks; stored = p .stored }
+counted p = record { code = code_of p.answer; blocks = p.blocks; stored = p.stored }
 
 unfoldable pub countRefusals : ℕ → ℕ → Image → List Refusal
 countRefusals N B s = let st = state N B s in (1 when not (rightSize N B s)) ∷ (4 when isDamaged st) ∷ (5 when isUnfinished st) ∷ []
@@ -201,6 +197,6 @@ countRefusals N B s = let st = state N B s in (1 when not (rightSize N B s)) ∷
 -- any two numbers make a range, and any number is asked for: what is no block's is not live
 unfoldable pub countOutcome : ℕ → ℕ → Image → ℕ → ℕ → ℕ → CountOutcome
 countOutcome N B s first last b =
-    let code = firstOf (countRefusals N B s) in
-    let t = tableOf N B s in
+    let code = first_of (countRefusals N B s) in
+    let t = table_of N B s in
     cond (eqb code 0) (record { code = 0; blocks = liveBetween first last t; stored = holds b t }) (record { code = code; blocks = 0; stored = false })

@@ -1,19 +1,15 @@
 -- Document 01, "Bench examples": those marked "Proved", 1 to 8, the lengths of 10 with what request #105 keeps, the sizes of 11 with what request #108 takes, and what requests #104 and #107 add: entries of one table under one statement (Laws.Bench).
-use Prim.Native.Nat.{ℕ, zero, suc, _+_, _*_}
-use mathlib.Core.Bool.{Bool, true, cond, _||_, _&&_, not}
-use mathlib.Core.List.{List, [], _∷_, _++_}
-use lib.ListN.{length, getD, take, replicate}
-use lib.Dec.{eqb}
-use Rattle·model·specs.specs.Lists.{same}
-use Rattle·model·specs.specs.Chip.{Image, Page, Step, imageLength, pagesOf, run}
-use Rattle·model·specs.specs.Header
-use Rattle·model·specs.specs.Header.{erasePending, headerPage, Version, version1, version2, newVersion, oldIndex}
-use Rattle·model·specs.specs.Slot.{Entry}
-use Rattle·model·specs.specs.State.{segmentsOn, viewOf, entriesIn, capacity, stateOf}
-use Rattle·model·specs.specs.Steps.{programs, onPage, headerAt, openSegment, copyEntries, copyOut, eraseFirst}
-use Rattle·model·specs.specs.Answers.{Request, format, put, delete, recover, Work, workOf, codeUnder, isDamaged, isUnfinished, ReadOutcome, readOutcome}
-use Rattle·model·specs.specs.Table.{lookup, contentsFound}
-use Rattle·model·specs.specs.Sequences.{Call, play, observed, Observed, erasesIn, start, ledger, eraseCount}
+use Rattle.std.specs.Prelude.{ℕ, zero, suc, ◌+◌, ◌*◌, Bool, true, cond, ◌||◌, ◌&&◌, not, List, [], ◌∷◌, ◌++◌, length, get_or, take, replicate, eqb}
+use Rattle.model.specs.Lists.{same}
+use Rattle.model.specs.Chip.{Image, Page, Step, imageLength, pagesOf, run}
+use Rattle.model.specs.Header
+use Rattle.model.specs.Header.{erasePending, headerPage, Version, version1, version2, newVersion, oldIndex}
+use Rattle.model.specs.Slot.{Entry}
+use Rattle.model.specs.State.{segmentsOn, view_of, entriesIn, capacity, state_of}
+use Rattle.model.specs.Steps.{programs, onPage, header_at, openSegment, copyEntries, copyOut, eraseFirst}
+use Rattle.model.specs.Answers.{Request, format, put, delete, recover, Work, workOf, codeUnder, isDamaged, isUnfinished, ReadOutcome, readOutcome}
+use Rattle.model.specs.Table.{lookup, contentsFound}
+use Rattle.model.specs.Sequences.{Call, play, observed, Observed, erasesIn, start, ledger, eraseCount}
 
 -- ---- where an example begins
 
@@ -35,18 +31,18 @@ pub record Setup : Type 0 where
 abbrev pub after : ℕ → ℕ → List Call → Setup
 after N B xs = record { segments = N; slots = B; made = openSegment N B (newVersion 0) 0; calls = xs }
 
-abbrev pub andThen : Setup → List Call → Setup
-andThen u xs = record { segments = u .segments; slots = u .slots; made = u .made; calls = u .calls ++ xs }
+abbrev pub and_then : Setup → List Call → Setup
+and_then u xs = record { segments = u.segments; slots = u.slots; made = u.made; calls = u.calls ++ xs }
 
 unfoldable pub recording : Setup → List Step
-recording u = eraseFirst (u .segments) ++ u .made
+recording u = eraseFirst u.segments ++ u.made
 
 -- on a chip full of zero bytes
 unfoldable pub recorded : Setup → Image
-recorded u = run (u .slots) (recording u) (replicate (imageLength (u .segments) (u .slots)) 0)
+recorded u = run u.slots (recording u) (replicate (imageLength u.segments u.slots) 0)
 
 unfoldable pub left : Setup → Image
-left u = play (u .segments) (u .slots) (recorded u) (u .calls)
+left u = play u.segments u.slots (recorded u) u.calls
 
 -- what an example looks at: the image's pages, the work of the next request, a read, and what was observed of the calls
 pub record Bench : Type 0 where
@@ -57,10 +53,10 @@ pub record Bench : Type 0 where
 
 unfoldable pub bench : Bench
 bench = record {
-  pages = λ u. pagesOf (u .segments) (u .slots) (left u);
-  work = λ u r. workOf (u .segments) (u .slots) (left u) r;
-  found = λ u b. readOutcome (u .segments) (u .slots) (left u) b;
-  seen = λ u. observed (u .segments) (u .slots) (recorded u) (u .calls);
+  pages = λ u. pagesOf u.segments u.slots (left u);
+  work = λ u r. workOf u.segments u.slots (left u) r;
+  found = λ u b. readOutcome u.segments u.slots (left u) b;
+  seen = λ u. observed u.segments u.slots (recorded u) u.calls;
 }
 
 -- ---- what an example can say
@@ -82,32 +78,32 @@ pub data Example : Type 0 where
   cuts : Setup → Request → List ℕ → ℕ → ℕ → List ℕ → Example
 
 unfoldable pub contentsIn : ℕ → ℕ → ℕ → List Page → List ℕ
-contentsIn N B b ps = contentsFound (lookup b (entriesIn (viewOf N (segmentsOn N B ps))))
+contentsIn N B b ps = contentsFound (lookup b (entriesIn (view_of N (segmentsOn N B ps))))
 
 unfoldable pub isCleanIn : ℕ → ℕ → List Page → Bool
-isCleanIn N B ps = let st = stateOf N B (segmentsOn N B ps) in not (isDamaged st || isUnfinished st)
+isCleanIn N B ps = let st = state_of N B (segmentsOn N B ps) in not (isDamaged st || isUnfinished st)
 
 unfoldable pub cutHolds : Bench → Setup → Request → ℕ → ℕ → List ℕ → List ℕ → Bool
 cutHolds m u r count b bytes [] = true
 cutHolds m u r count b bytes (k ∷ ks) =
-    let cutOff = andThen u (call r k ∷ []) in
-    let mended = m .pages (andThen cutOff (whole recover ∷ [])) in
-    eqb (codeUnder k (m .work u r)) 9
-    && (eqb (length (m .work cutOff recover .steps)) count
-    && (isCleanIn (u .segments) (u .slots) mended
-    && (same (contentsIn (u .segments) (u .slots) b mended) bytes
+    let cutOff = and_then u (call r k ∷ []) in
+    let mended = m.pages (and_then cutOff (whole recover ∷ [])) in
+    eqb (codeUnder k (m.work u r)) 9
+    && (eqb (length (m.work cutOff recover).steps) count
+    && (isCleanIn u.segments u.slots mended
+    && (same (contentsIn u.segments u.slots b mended) bytes
     && cutHolds m u r count b bytes ks)))
 
 unfoldable pub exampleHolds : Bench → Example → Bool
 exampleHolds m (sizes N B len cap) = eqb (imageLength N B) len && eqb (capacity N B) cap
 exampleHolds m (olds N i old) = eqb (oldIndex N i erasePending) old && eqb (oldIndex N i Header.compacted) old
-exampleHolds m (begins u p bytes) = same (take (length bytes) (getD (m .pages u) p [])) bytes
-exampleHolds m (answers u r code count erases) = let w = m .work u r in
-    eqb (w .code) code && (eqb (length (w .steps)) count && eqb (length (erasesIn (w .steps))) erases)
-exampleHolds m (reads u b code offset len) = let o = m .found u b in
-    eqb (o .code) code && (eqb (o .offset) offset && eqb (o .length) len)
-exampleHolds m (counts u e r l) = let t = ledger (m .seen u) start in
-    eqb (eraseCount t) e && (eqb (t .replaced) r && eqb (t .largest) l)
+exampleHolds m (begins u p bytes) = same (take (length bytes) (get_or (m.pages u) p [])) bytes
+exampleHolds m (answers u r code count erases) = let w = m.work u r in
+    eqb w.code code && (eqb (length w.steps) count && eqb (length (erasesIn w.steps)) erases)
+exampleHolds m (reads u b code offset len) = let o = m.found u b in
+    eqb o.code code && (eqb o.offset offset && eqb o.length len)
+exampleHolds m (counts u e r l) = let t = ledger (m.seen u) start in
+    eqb (eraseCount t) e && (eqb t.replaced r && eqb t.largest l)
 exampleHolds m (cuts u r ks count b bytes) = cutHolds m u r count b bytes ks
 
 -- the places, from 0, of the examples that fail
@@ -118,9 +114,9 @@ failing m i (x ∷ xs) = cond (exampleHolds m x) (failing m (suc i) xs) (i ∷ f
 -- ---- the table
 
 -- k numbers from n
-unfoldable pub upFrom : ℕ → ℕ → List ℕ
-upFrom n zero = []
-upFrom n (suc k) = n ∷ upFrom (suc n) k
+unfoldable pub up_from : ℕ → ℕ → List ℕ
+up_from n zero = []
+up_from n (suc k) = n ∷ up_from (suc n) k
 
 -- each of these blocks put with one-byte contents
 unfoldable pub putEach : List ℕ → List Call
@@ -171,7 +167,7 @@ pair ver other = board 3 2 ver (copyEntries 3 2 0 1 (entry 8 [] ∷ []) ++ openS
 
 -- a chip of segments with two slots, whose first header has this number, total and bits
 abbrev aged : ℕ → ℕ → ℕ → List ℕ → List Call → Setup
-aged N n total bits xs = record { segments = N; slots = 2; made = openSegment N 2 (newVersion total) n ++ onPage (headerAt N 2 n) (programs 32 bits); calls = xs }
+aged N n total bits xs = record { segments = N; slots = 2; made = openSegment N 2 (newVersion total) n ++ onPage (header_at N 2 n) (programs 32 bits); calls = xs }
 
 -- of two segments, the first filled by block 7
 abbrev filled : ℕ → ℕ → List ℕ → List Call → Setup
@@ -215,10 +211,10 @@ examples =
     -- request #108: the largest image
     ∷ sizes 255 255 16711680 64769
     -- 2
-    ∷ begins (andThen (board 4 15 version1 []) (whole format ∷ [])) 0
+    ∷ begins (and_then (board 4 15 version1 []) (whole format ∷ [])) 0
     (0x53 ∷ 0x4C ∷ 0x54 ∷ 0x02 ∷ 0x00 ∷ 0x3F ∷ 0x0F ∷ 0x04 ∷ 0x00 ∷ 0x00 ∷ 0x00 ∷ 0x00 ∷ 0xFF ∷ 0xFF ∷ 0xFF ∷ 0xFF ∷ 0xFF ∷ 0x00 ∷ 0x00 ∷ 0x00 ∷ 0x00 ∷ replicate 235 0xFF)
     -- 3: three full segments of fifteen slots, and the put that tidies the first to segment 3
-    ∷ begins (after 4 15 (putEach (upFrom 1 44 ++ (1 ∷ 1 ∷ [])))) (3 * 16)
+    ∷ begins (after 4 15 (putEach (up_from 1 44 ++ (1 ∷ 1 ∷ [])))) (3 * 16)
     (0x53 ∷ 0x4C ∷ 0x54 ∷ 0x02 ∷ 0x00 ∷ 0x8F ∷ 0x0F ∷ 0x04 ∷ 0x03 ∷ 0x00 ∷ 0x00 ∷ 0x00 ∷ 0xFC ∷ 0xFF ∷ 0xFF ∷ 0xFF ∷ 0x00 ∷ 0x00 ∷ 0x00 ∷ 0x00 ∷ 0x00 ∷ replicate 235 0xFF)
     -- 4
     ∷ begins (after 4 15 (whole (put 7 (0x41 ∷ 0x31 ∷ [])) ∷ [])) 1 (0x3F ∷ 0x02 ∷ 0x07 ∷ 0x00 ∷ 0xFF ∷ 0xFF ∷ 0xFF ∷ 0xFF ∷ 0x41 ∷ 0x31 ∷ replicate 246 0xFF)
@@ -233,15 +229,15 @@ examples =
     ∷ answers (after 2 2 (sevens (1 ∷ 2 ∷ 3 ∷ []))) (put 8 (1 ∷ [])) 7 0 0
     -- 7: the second put, cut after each number of steps: a torn slot, and then the new one beside the old
     ∷ cuts (after 2 2 (sevens (1 ∷ []))) (seven 2) (0 ∷ []) 0 7 (1 ∷ [])
-    ∷ cuts (after 2 2 (sevens (1 ∷ []))) (seven 2) (upFrom 1 5) 1 7 (1 ∷ [])
+    ∷ cuts (after 2 2 (sevens (1 ∷ []))) (seven 2) (up_from 1 5) 1 7 (1 ∷ [])
     ∷ cuts (after 2 2 (sevens (1 ∷ []))) (seven 2) (6 ∷ []) 1 7 (2 ∷ [])
     -- 8: the third put, cut after each number of steps: before the owing mark; at it; after the erase; with the tidying done; then as in 7
     ∷ cuts (after 2 2 (sevens (1 ∷ 2 ∷ []))) (seven 3) (0 ∷ []) 0 7 (2 ∷ [])
-    ∷ cuts (after 2 2 (sevens (1 ∷ 2 ∷ []))) (seven 3) (upFrom 1 27) 2 7 (2 ∷ [])
+    ∷ cuts (after 2 2 (sevens (1 ∷ 2 ∷ []))) (seven 3) (up_from 1 27) 2 7 (2 ∷ [])
     ∷ cuts (after 2 2 (sevens (1 ∷ 2 ∷ []))) (seven 3) (28 ∷ []) 3 7 (2 ∷ [])
     ∷ cuts (after 2 2 (sevens (1 ∷ 2 ∷ []))) (seven 3) (29 ∷ []) 1 7 (2 ∷ [])
     ∷ cuts (after 2 2 (sevens (1 ∷ 2 ∷ []))) (seven 3) (30 ∷ []) 0 7 (2 ∷ [])
-    ∷ cuts (after 2 2 (sevens (1 ∷ 2 ∷ []))) (seven 3) (upFrom 31 5) 1 7 (2 ∷ [])
+    ∷ cuts (after 2 2 (sevens (1 ∷ 2 ∷ []))) (seven 3) (up_from 31 5) 1 7 (2 ∷ [])
     ∷ cuts (after 2 2 (sevens (1 ∷ 2 ∷ []))) (seven 3) (36 ∷ []) 1 7 (3 ∷ [])
     -- 10: contents of 1 and 248 bytes are taken, 0 (request #105) and 249 answer 3
     ∷ answers (after 4 15 []) (put 1 (1 ∷ [])) 0 6 0
@@ -274,7 +270,7 @@ examples =
     ∷ answers (board 2 2 version1 []) (put 8 []) 3 0 0
     ∷ reads (board 2 2 version1 []) 7 0 (1 * 256 + 8) 1
     ∷ answers (board 2 2 version1 []) (delete 7) 0 1 0
-    ∷ answers (andThen (board 2 2 version1 []) (whole format ∷ [])) (seven 2) 0 6 0
+    ∷ answers (and_then (board 2 2 version1 []) (whole format ∷ [])) (seven 2) 0 6 0
     -- after 4 and 5: damaged, and unfinished in (a) to (d), where recovery is as before
     ∷ answers (board 2 2 version1 (openSegment 2 2 version1 1)) (seven 2) 4 0 0
     ∷ answers (board 2 2 version1 (onPage 3 (programs 5 (0xDF ∷ [])))) (seven 2) 5 0 0

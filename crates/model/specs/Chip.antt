@@ -1,13 +1,7 @@
 -- Document 01, "The chip": the image and its size, the two flash steps, and what a power cut leaves.
-use Prim.Native.Nat.{ℕ, _+_, _*_, _<_}
-use mathlib.Core.Path.{_≡_}
-use mathlib.Core.Logic.{_⊎_}
-use mathlib.Core.Bool.{Bool, cond, _&&_}
-use mathlib.Core.List.{List, [], _∷_, _++_}
-use lib.ListN.{length, getD, take, drop, set, replicate}
-use lib.Bits.{bitAnd}
-use lib.Dec.{leb, eqb}
-use Rattle·model·specs.specs.Lists.{chunk}
+use Rattle.std.specs.Prelude.{ℕ, ◌+◌, ◌*◌, ◌<◌, ◌≡◌, ◌⊎◌, Bool, cond, ◌&&◌, List, [], ◌∷◌, ◌++◌, length, get_or, take, drop, set, replicate, leb, eqb}
+use Rattle.std.specs.Int.Bits.{bit_and}
+use Rattle.model.specs.Lists.{chunk}
 
 -- the chip's bytes
 abbrev pub Image : Type 0
@@ -51,12 +45,12 @@ unfoldable pub imageLength : ℕ → ℕ → ℕ
 imageLength N B = N * (B + 1) * 256
 
 -- N and B as above
-unfoldable pub inRange : ℕ → ℕ → Bool
-inRange N B = leb leastSegments N && (leb N mostSegments && (leb leastSlots B && leb B mostSlots))
+unfoldable pub in_range : ℕ → ℕ → Bool
+in_range N B = leb leastSegments N && (leb N mostSegments && (leb leastSlots B && leb B mostSlots))
 
 -- N, B and the image's length as above
 unfoldable pub rightSize : ℕ → ℕ → Image → Bool
-rightSize N B s = inRange N B && eqb (length s) (imageLength N B)
+rightSize N B s = in_range N B && eqb (length s) (imageLength N B)
 
 unfoldable pub pagesOf : ℕ → ℕ → Image → List Page
 pagesOf N B s = chunk (N * (B + 1)) 256 s
@@ -74,7 +68,7 @@ pub data Step : Type 0 where
 
 -- the byte that programming v leaves where a was
 unfoldable pub clear : ℕ → ℕ → ℕ
-clear a v = bitAnd a v
+clear a v = bit_and a v
 
 -- n erased bytes
 unfoldable pub erased : ℕ → List ℕ
@@ -90,7 +84,7 @@ segmentBytes B i s = take ((B + 1) * 256) (drop (i * (B + 1) * 256) s)
 
 -- outside the image a step does nothing
 unfoldable pub step : ℕ → Step → Image → Image
-step B (program at v) s = set s at (clear (getD s at 0) v)
+step B (program at v) s = set s at (clear (get_or s at 0) v)
 step B (erase i) s = cond (leb ((i * (B + 1) + (B + 1)) * 256) (length s)) (withSegment B i (erased ((B + 1) * 256)) s) s
 
 unfoldable pub run : ℕ → List Step → Image → Image
@@ -115,7 +109,7 @@ Raised (a ∷ s) (x ∷ t) = (Between a x 255) × Raised s t
 
 -- what a cut inside a step can leave. Programming: each bit that was to be cleared is cleared or not. Erasing: each bit of that segment is what it was, or 1
 abbrev pub Inside : ℕ → Step → Image → Image → Type 0
-Inside B (program at v) s t = (x : ℕ) × (Between (clear (getD s at 0) v) x (getD s at 0)) × (t ≡ set s at x)
+Inside B (program at v) s t = (x : ℕ) × (Between (clear (get_or s at 0) v) x (get_or s at 0)) × (t ≡ set s at x)
 Inside B (erase i) s t = (u : List ℕ) × Raised (segmentBytes B i s) u × (t ≡ withSegment B i u s)
 
 -- what a cut can leave of a list of steps: nothing done; inside the first; or the first done and a cut of the rest

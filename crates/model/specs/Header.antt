@@ -1,11 +1,7 @@
 -- Document 01, "Header page", in both versions (request #104): the page that given fields encode, and when a segment is in use or blank.
-use Prim.Native.Nat.{ℕ, _+_, _-_, _*_, _/_, _%_}
-use mathlib.Core.Bool.{Bool, true, false, cond, _||_, _&&_}
-use mathlib.Core.List.{List, [], _∷_, _++_}
-use lib.ListN.{getD, take, drop}
-use lib.Dec.{ltb, eqb}
-use Rattle·model·specs.specs.Lists.{same, all, count}
-use Rattle·model·specs.specs.Chip.{Page, erased, eraseLimit, numberLimit}
+use Rattle.std.specs.Prelude.{ℕ, ◌+◌, ◌-◌, ◌*◌, ◌/◌, ◌%◌, Bool, true, false, cond, ◌||◌, ◌&&◌, List, [], ◌∷◌, ◌++◌, get_or, take, drop, ltb, eqb}
+use Rattle.model.specs.Lists.{same, all, count}
+use Rattle.model.specs.Chip.{Page, erased, eraseLimit, numberLimit}
 
 -- a segment's number takes four bytes, low byte first
 unfoldable pub numberBytes : ℕ → List ℕ
@@ -81,9 +77,9 @@ clearedBits [] = 0
 clearedBits (x ∷ xs) = clearedIn x + clearedBits xs
 
 -- the tally: total and cleared bits
-unfoldable pub tallyOf : Version → ℕ
-tallyOf version1 = 0
-tallyOf (version2 total bits) = total + clearedBits bits
+unfoldable pub tally_of : Version → ℕ
+tally_of version1 = 0
+tally_of (version2 total bits) = total + clearedBits bits
 
 unfoldable pub noBitLeft : Version → Bool
 noBitLeft version1 = false
@@ -106,13 +102,13 @@ headerPage N B ver st n old =
     0x53 ∷ 0x4C ∷ 0x54 ∷ versionNumber ver ∷ 0 ∷ st ∷ B ∷ N ∷ (numberBytes n ++ (inverted (numberBytes n) ++ (old ∷ tallyBytes ver)))
 
 unfoldable pub headerStatus : Page → ℕ
-headerStatus h = getD h 5 0
+headerStatus h = get_or h 5 0
 
 unfoldable pub headerNumber : Page → ℕ
 headerNumber h = value (take 4 (drop 8 h))
 
 unfoldable pub headerVersion : Page → Version
-headerVersion h = cond (eqb (getD h 3 0) 2) (version2 (value (take 4 (drop 17 h))) (drop 32 h)) version1
+headerVersion h = cond (eqb (get_or h 3 0) 2) (version2 (value (take 4 (drop 17 h))) (drop 32 h)) version1
 
 -- what byte 16 of segment i must be: 255 if it was opened, otherwise the index after its own
 unfoldable pub oldIndex : ℕ → ℕ → ℕ → ℕ

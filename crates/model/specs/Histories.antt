@@ -1,13 +1,10 @@
 -- The histories of demand 2: any requests, each answered under some allowance, or cut by a loss of power anywhere.
-use Prim.Native.Nat.{ℕ}
-use mathlib.Core.Path.{_≡_}
-use mathlib.Core.Bool.{Bool}
-use mathlib.Core.List.{List, [], _∷_}
-use Rattle·model·specs.specs.Chip.{Image, Bytes, Cut, run}
-use Rattle·model·specs.specs.State.{view}
-use Rattle·model·specs.specs.Steps.{isWorn}
-use Rattle·model·specs.specs.Table.{Table, tableOf}
-use Rattle·model·specs.specs.Answers.{Request, format, put, delete, read, readOr, recover, workOf, outcomeOf, pieceRead, pieceOr}
+use Rattle.std.specs.Prelude.{ℕ, ◌≡◌, Bool, List, [], ◌∷◌}
+use Rattle.model.specs.Chip.{Image, Bytes, Cut, run}
+use Rattle.model.specs.State.{view}
+use Rattle.model.specs.Steps.{isWorn}
+use Rattle.model.specs.Table.{Table, table_of}
+use Rattle.model.specs.Answers.{Request, format, put, delete, read, readOr, recover, workOf, outcomeOf, pieceRead, pieceOr}
 
 -- ---- what a request shows: its code, and the bytes that come back
 
@@ -24,7 +21,7 @@ bytesRead N B s (readOr b f) = pieceOr N B s b f
 bytesRead N B s recover = []
 
 unfoldable pub replyOf : ℕ → ℕ → Image → ℕ → Request → Reply
-replyOf N B s allowance r = record { code = outcomeOf N B s allowance r .code; bytes = bytesRead N B s r }
+replyOf N B s allowance r = record { code = (outcomeOf N B s allowance r).code; bytes = bytesRead N B s r }
 
 -- an answer came back; or none did, since the power was lost
 pub data Seen : Type 0 where
@@ -44,8 +41,8 @@ Proper recover = Unit {0}
 
 -- a request on image s shows this and leaves image u: under some allowance, or with a cut between its steps or inside one
 abbrev pub Does : ℕ → ℕ → Request → Seen → Image → Image → Type 0
-Does N B r (answered o) s u = (allowance : ℕ) × (o ≡ replyOf N B s allowance r) × (u ≡ outcomeOf N B s allowance r .image)
-Does N B r lost s u = Cut B (workOf N B s r .steps) s u
+Does N B r (answered o) s u = (allowance : ℕ) × (o ≡ replyOf N B s allowance r) × (u ≡ (outcomeOf N B s allowance r).image)
+Does N B r lost s u = Cut B (workOf N B s r).steps s u
 
 -- a put on this image would wear the chip
 unfoldable pub wears : ℕ → ℕ → Image → Bool
@@ -63,13 +60,13 @@ pub record Event : Type 0 where
 abbrev pub History : ℕ → ℕ → Image → List Event → Image → Type 0
 History N B s [] u = u ≡ s
 History N B s (e ∷ es) u =
-    Proper (e .request) × (e .worn ≡ wears N B s) × ((m : Image) × Does N B (e .request) (e .seen) s m × History N B m es u)
+    Proper e.request × (e.worn ≡ wears N B s) × ((m : Image) × Does N B e.request e.seen s m × History N B m es u)
 
 -- ---- what an image shows
 
 -- the image that a finished recovery leaves, and the table that it shows
 unfoldable pub recovered : ℕ → ℕ → Image → Image
-recovered N B s = run B (workOf N B s recover .steps) s
+recovered N B s = run B (workOf N B s recover).steps s
 
 unfoldable pub shown : ℕ → ℕ → Image → Table
-shown N B s = tableOf N B (recovered N B s)
+shown N B s = table_of N B (recovered N B s)

@@ -1,9 +1,5 @@
 -- Tests on lists, and a list cut into parts.
-use Prim.Native.Nat.{ℕ, zero, suc}
-use mathlib.Core.Bool.{Bool, true, false, cond, _&&_}
-use mathlib.Core.List.{List, [], _∷_}
-use lib.ListN.{take, drop}
-use lib.Dec.{eqb}
+use Rattle.std.specs.Prelude.{ℕ, zero, suc, Bool, true, false, cond, ◌&&◌, List, [], ◌∷◌, take, drop, eqb}
 
 -- two lists of numbers are equal
 unfoldable pub same : List ℕ → List ℕ → Bool

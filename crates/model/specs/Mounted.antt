@@ -1,18 +1,12 @@
 -- Request #102, "Mount once": the table of places that a caller lends, what a mount makes of it, and what binds a mounted call.
-use Prim.Native.Nat.{ℕ, zero, suc, _+_, _*_, _≤_}
-use mathlib.Core.Path.{_≡_}
-use mathlib.Core.Logic.{_≢_}
-use mathlib.Core.Bool.{Bool, true, cond, _||_, not}
-use mathlib.Core.List.{List, [], _∷_, _++_}
-use lib.ListN.{length, getD, drop, set}
-use lib.Dec.{ltb, eqb}
-use Rattle·model·specs.specs.Chip.{Image, rightSize}
-use Rattle·model·specs.specs.Slot.{mostContents, numberOk}
-use Rattle·model·specs.specs.State.{View, entriesIn, holds, placeOf, state, view}
-use Rattle·model·specs.specs.Steps.{slotAt}
-use Rattle·model·specs.specs.declared.Answer.{Answer}
-use Rattle·model·specs.specs.Answers.{codeOf, Request, put, delete, Refusal, _when_, firstOf, lengthOk, isDamaged, isUnfinished, Outcome, outcomeOf, ReadOutcome, readOutcome}
-use Rattle·model·specs.specs.Sequences.{among}
+use Rattle.std.specs.Prelude.{ℕ, zero, suc, ◌+◌, ◌*◌, ◌≤◌, ◌≡◌, ◌≢◌, Bool, true, cond, ◌||◌, not, List, [], ◌∷◌, ◌++◌, length, get_or, drop, set, ltb, eqb}
+use Rattle.model.specs.Chip.{Image, rightSize}
+use Rattle.model.specs.Slot.{mostContents, numberOk}
+use Rattle.model.specs.State.{View, entriesIn, holds, place_of, state, view}
+use Rattle.model.specs.Steps.{slot_at}
+use Rattle.model.specs.declared.Answer.{Answer}
+use Rattle.model.specs.Answers.{code_of, Request, put, delete, Refusal, ◌when◌, first_of, lengthOk, isDamaged, isUnfinished, Outcome, outcomeOf, ReadOutcome, readOutcome}
+use Rattle.model.specs.Sequences.{among}
 
 -- ---- the table
 
@@ -26,7 +20,7 @@ leastPlaces = 65536
 
 -- entry k: the offset of block k's live slot, or 0
 unfoldable pub placeEntry : ℕ → ℕ → View → ℕ → ℕ
-placeEntry N B v k = let p = placeOf k v in cond (holds k (entriesIn v)) (slotAt N B (p .number) (p .slot) * 256) 0
+placeEntry N B v k = let p = place_of k v in cond (holds k (entriesIn v)) (slot_at N B p.number p.slot * 256) 0
 
 -- c entries, from entry k on
 unfoldable pub placesFrom : ℕ → ℕ → View → ℕ → ℕ → Places
@@ -49,7 +43,7 @@ pub record MountOutcome : Type 0 where
 
 -- what the code's answer says, with the table that it left
 unfoldable pub mountedAs : Answer → Places → MountOutcome
-mountedAs a t = record { code = codeOf a; places = t }
+mountedAs a t = record { code = code_of a; places = t }
 
 -- what is asked first, of a mount and of every mounted call: the image's size, and then the table's
 abbrev lent : ℕ → ℕ → Image → Places → List Refusal → List Refusal
@@ -60,7 +54,7 @@ mountRefusals N B s t = let st = state N B s in lent N B s t ((4 when isDamaged 
 
 -- 1 and 10 don't touch the table, 4 and 5 mark it unusable
 unfoldable pub mountOutcome : ℕ → ℕ → Image → Places → MountOutcome
-mountOutcome N B s t = let code = firstOf (mountRefusals N B s t) in
+mountOutcome N B s t = let code = first_of (mountRefusals N B s t) in
     record { code = code; places = cond (eqb code 0) (filledPlaces N B (view N B s) t) (cond (eqb code 4 || eqb code 5) (unusable t) t) }
 
 -- image and table are in step: a mount would answer 0 and leave the table as it is
@@ -71,24 +65,24 @@ InStep N B s t = mountOutcome N B s t ≡ record { code = 0; places = t }
 
 -- the refusals that bind every mounted call, with their exact conditions; 5 here is for a table that is not usable
 unfoldable pub mountedRefusals : ℕ → ℕ → Image → Places → ℕ → Bool → List Refusal
-mountedRefusals N B s t b taken = lent N B s t ((2 when not (numberOk b)) ∷ (3 when not taken) ∷ (5 when not (eqb (getD t 0 0) 1)) ∷ [])
+mountedRefusals N B s t b taken = lent N B s t ((2 when not (numberOk b)) ∷ (3 when not taken) ∷ (5 when not (eqb (get_or t 0 0) 1)) ∷ [])
 
 unfoldable pub mountedRefusal : ℕ → ℕ → Image → Places → ℕ → Bool → ℕ
-mountedRefusal N B s t b taken = firstOf (mountedRefusals N B s t b taken)
+mountedRefusal N B s t b taken = first_of (mountedRefusals N B s t b taken)
 
 -- A mounted put or delete of block b, on image s with table t, gives outcome o and leaves table u.
 -- Out of step only the first six hold: they leave open which of the codes an accepted call gives, its count of steps up to the allowance, image and table where it answers 0 or 9.
 pub record Writes (N B b : ℕ) (taken : Bool) (codes : List ℕ) (r : Request) (allowance : ℕ) (o : Outcome) (s : Image) (t u : Places) : Type 0 where
-  pub bound : mountedRefusal N B s t b taken ≢ 0 → o .code ≡ mountedRefusal N B s t b taken
-  pub listed : mountedRefusal N B s t b taken ≡ 0 → among (o .code) codes ≡ true
+  pub bound : mountedRefusal N B s t b taken ≢ 0 → o.code ≡ mountedRefusal N B s t b taken
+  pub listed : mountedRefusal N B s t b taken ≡ 0 → among o.code codes ≡ true
   -- a refusal takes no step and touches neither image nor table
-  pub refused : o .code ≢ 0 → o .code ≢ 9 → (o .count ≡ 0) × (o .image ≡ s) × (u ≡ t)
-  pub cut : o .code ≡ 9 → getD u 0 0 ≡ 0
+  pub refused : o.code ≢ 0 → o.code ≢ 9 → (o.count ≡ 0) × (o.image ≡ s) × (u ≡ t)
+  pub cut : o.code ≡ 9 → get_or u 0 0 ≡ 0
   pub past : drop leastPlaces u ≡ drop leastPlaces t
-  pub few : o .count ≤ allowance
+  pub few : o.count ≤ allowance
   -- in step: the unmounted request, and in step again unless it answers 9
   pub same : InStep N B s t → o ≡ outcomeOf N B s allowance r
-  pub kept : InStep N B s t → o .code ≡ 0 → InStep N B (o .image) u
+  pub kept : InStep N B s t → o.code ≡ 0 → InStep N B o.image u
 
 abbrev pub MountedPut : ℕ → ℕ → ℕ → List ℕ → ℕ → Outcome → Image → Places → Places → Type 0
 MountedPut N B b c allowance o s t u = Writes N B b (lengthOk (length c)) (0 ∷ 4 ∷ 5 ∷ 7 ∷ 8 ∷ 9 ∷ 11 ∷ []) (put b c) allowance o s t u
@@ -98,8 +92,8 @@ MountedDelete N B b allowance o s t u = Writes N B b true (0 ∷ 4 ∷ 5 ∷ 6 �
 
 -- A mounted read of block b gives o. Out of step only the first four hold: they leave open which of the codes comes, and where in the image up to 248 bytes of contents are.
 pub record MountedRead (N B b : ℕ) (o : ReadOutcome) (s : Image) (t : Places) : Type 0 where
-  pub bound : mountedRefusal N B s t b true ≢ 0 → o .code ≡ mountedRefusal N B s t b true
-  pub listed : mountedRefusal N B s t b true ≡ 0 → among (o .code) (0 ∷ 4 ∷ 5 ∷ 6 ∷ []) ≡ true
-  pub refused : o .code ≢ 0 → (o .offset ≡ 0) × (o .length ≡ 0)
-  pub inside : (o .offset + o .length ≤ length s) × (o .length ≤ mostContents)
+  pub bound : mountedRefusal N B s t b true ≢ 0 → o.code ≡ mountedRefusal N B s t b true
+  pub listed : mountedRefusal N B s t b true ≡ 0 → among o.code (0 ∷ 4 ∷ 5 ∷ 6 ∷ []) ≡ true
+  pub refused : o.code ≢ 0 → (o.offset ≡ 0) × (o.length ≡ 0)
+  pub inside : (o.offset + o.length ≤ length s) × (o.length ≤ mostContents)
   pub same : InStep N B s t → o ≡ readOutcome N B s b

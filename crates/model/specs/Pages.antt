@@ -1,16 +1,12 @@
 -- The same steps on an image's pages: what the bench table is computed with. Law: the pages of a run are the run of the pages (Laws.Pages).
-use Prim.Native.Nat.{ℕ, _+_, _*_, _/_, _%_}
-use mathlib.Core.Bool.{cond}
-use mathlib.Core.List.{List, [], _∷_, _++_}
-use lib.ListN.{length, getD, take, drop, set, replicate}
-use lib.Dec.{leb}
-use Rattle·model·specs.specs.Chip.{Page, Step, program, erase, clear, erased}
+use Rattle.std.specs.Prelude.{ℕ, ◌+◌, ◌*◌, ◌/◌, ◌%◌, cond, List, [], ◌∷◌, ◌++◌, length, get_or, take, drop, set, replicate, leb}
+use Rattle.model.specs.Chip.{Page, Step, program, erase, clear, erased}
 
 unfoldable pub programPage : ℕ → ℕ → Page → Page
-programPage at v p = set p at (clear (getD p at 0) v)
+programPage at v p = set p at (clear (get_or p at 0) v)
 
 unfoldable pub stepPages : ℕ → Step → List Page → List Page
-stepPages B (program at v) ps = set ps (at / 256) (programPage (at % 256) v (getD ps (at / 256) []))
+stepPages B (program at v) ps = set ps (at / 256) (programPage (at % 256) v (get_or ps (at / 256) []))
 stepPages B (erase i) ps =
     cond (leb (i * (B + 1) + (B + 1)) (length ps)) (take (i * (B + 1)) ps ++ (replicate (B + 1) (erased 256) ++ drop (i * (B + 1) + (B + 1)) ps)) ps
 

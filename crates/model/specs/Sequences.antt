@@ -1,13 +1,8 @@
 -- Document 01, "The sequences of demand 3": what is counted, by the answers and the step lists.
-use Prim.Native.Nat.{ℕ, _+_, max}
-use mathlib.Core.Logic.{_≢_}
-use mathlib.Core.Bool.{Bool, false, cond, _||_}
-use mathlib.Core.List.{List, [], _∷_, _++_}
-use lib.ListN.{length}
-use lib.Dec.{eqb}
-use Rattle·model·specs.specs.Lists.{count}
-use Rattle·model·specs.specs.Chip.{Image, Step, program, erase, Bytes}
-use Rattle·model·specs.specs.Answers.{Request, format, put, delete, read, readOr, recover, workOf, outcomeOf}
+use Rattle.std.specs.Prelude.{ℕ, ◌+◌, max, ◌≢◌, Bool, false, cond, ◌||◌, List, [], ◌∷◌, ◌++◌, length, eqb}
+use Rattle.model.specs.Lists.{count}
+use Rattle.model.specs.Chip.{Image, Step, program, erase, Bytes}
+use Rattle.model.specs.Answers.{Request, format, put, delete, read, readOr, recover, workOf, outcomeOf}
 
 -- a request with its allowance of steps
 pub record Call : Type 0 where
@@ -17,7 +12,7 @@ pub record Call : Type 0 where
 -- the image as the calls leave it, each working on what the one before left
 unfoldable pub play : ℕ → ℕ → Image → List Call → Image
 play N B s [] = s
-play N B s (x ∷ xs) = play N B (outcomeOf N B s (x .allowance) (x .request) .image) xs
+play N B s (x ∷ xs) = play N B (outcomeOf N B s x.allowance x.request).image xs
 
 -- ---- what is observed of a call: its answer and its erases
 
@@ -34,14 +29,14 @@ pub record Observed : Type 0 where
 
 unfoldable pub observe : ℕ → ℕ → Image → Call → Observed
 observe N B s x = record {
-  request = x .request;
-  code = outcomeOf N B s (x .allowance) (x .request) .code;
-  erases = erasesIn (workOf N B s (x .request) .steps);
+  request = x.request;
+  code = (outcomeOf N B s x.allowance x.request).code;
+  erases = erasesIn (workOf N B s x.request).steps;
 }
 
 unfoldable pub observed : ℕ → ℕ → Image → List Call → List Observed
 observed N B s [] = []
-observed N B s (x ∷ xs) = observe N B s x ∷ observed N B (outcomeOf N B s (x .allowance) (x .request) .image) xs
+observed N B s (x ∷ xs) = observe N B s x ∷ observed N B (outcomeOf N B s x.allowance x.request).image xs
 
 -- put, delete, read of either form or recover, with any arguments; contents are bytes
 abbrev pub InSequence : Request → Type 0
@@ -55,7 +50,7 @@ InSequence recover = Unit {0}
 -- a sequence: no format, and no cut, that is, none answers 9
 abbrev pub Uncut : List Observed → Type 0
 Uncut [] = Unit {0}
-Uncut (o ∷ os) = InSequence (o .request) × (o .code ≢ 9) × Uncut os
+Uncut (o ∷ os) = InSequence o.request × (o.code ≢ 9) × Uncut os
 
 -- ---- L, E and R
 
@@ -104,11 +99,11 @@ start = record { stored = []; largest = 0; replaced = 0; erased = [] }
 
 unfoldable pub noted : Observed → Ledger → Ledger
 noted o t =
-    let stored = cond (eqb (o .code) 0) (storedAfter (o .request) (t .stored)) (t .stored) in record {
+    let stored = cond (eqb o.code 0) (storedAfter o.request t.stored) t.stored in record {
       stored = stored;
-      largest = max (t .largest) (length stored);
-      replaced = t .replaced + cond (eqb (o .code) 0) (replaces (o .request) (t .stored)) 0;
-      erased = t .erased ++ o .erases;
+      largest = max t.largest (length stored);
+      replaced = t.replaced + cond (eqb o.code 0) (replaces o.request t.stored) 0;
+      erased = t.erased ++ o.erases;
     }
 
 unfoldable pub ledger : List Observed → Ledger → Ledger
@@ -117,8 +112,8 @@ ledger (o ∷ os) t = ledger os (noted o t)
 
 -- E
 unfoldable pub eraseCount : Ledger → ℕ
-eraseCount t = length (t .erased)
+eraseCount t = length t.erased
 
 -- the erases of the segment at an index
 unfoldable pub erasesOf : ℕ → Ledger → ℕ
-erasesOf i t = count (λ x. eqb i x) (t .erased)
+erasesOf i t = count (λ x. eqb i x) t.erased

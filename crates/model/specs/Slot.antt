@@ -1,14 +1,10 @@
 -- Document 01, "Slot page": the page that a block and its contents encode, and the kinds of slot; request #107 tells the two of dead apart.
-use Prim.Native.Nat.{ℕ, _+_, _-_, _*_, _/_, _%_}
-use mathlib.Core.Bool.{Bool, true, false, cond, _&&_, not}
-use mathlib.Core.List.{List, [], _∷_, _++_}
-use lib.ListN.{length, getD, take, drop}
-use lib.Dec.{ltb, leb, eqb}
-use Rattle·model·specs.specs.Lists.{same}
-use Rattle·model·specs.specs.Chip.{Page, erased}
-use Rattle·model·specs.specs.Header.{isBlank}
-use Rattle·model·specs.specs.declared.SlotKind.{SlotKind}
-use Rattle·model·specs.specs.declared.SlotKind.the-variants.{Empty, Torn, Live, Dead, Cut, Wrong}
+use Rattle.std.specs.Prelude.{ℕ, ◌+◌, ◌-◌, ◌*◌, ◌/◌, ◌%◌, Bool, true, false, cond, ◌&&◌, not, List, [], ◌∷◌, ◌++◌, length, get_or, take, drop, ltb, leb, eqb}
+use Rattle.model.specs.Lists.{same}
+use Rattle.model.specs.Chip.{Page, erased}
+use Rattle.model.specs.Header.{isBlank}
+use Rattle.model.specs.declared.SlotKind.{SlotKind}
+use Rattle.model.specs.declared.SlotKind.TheVariants.{Empty, Torn, Live, Dead, Cut, Wrong}
 
 -- ---- the page
 
@@ -32,14 +28,14 @@ unfoldable pub slotPage : ℕ → List ℕ → Page
 slotPage b c = written ∷ length c ∷ b % 256 ∷ b / 256 ∷ 255 ∷ 255 ∷ 255 ∷ 255 ∷ (c ++ erased (mostContents - length c))
 
 unfoldable pub pageBlock : Page → ℕ
-pageBlock p = getD p 2 0 + 256 * getD p 3 0
+pageBlock p = get_or p 2 0 + 256 * get_or p 3 0
 
 unfoldable pub pageContents : Page → List ℕ
-pageContents p = take (getD p 1 0) (drop 8 p)
+pageContents p = take (get_or p 1 0) (drop 8 p)
 
 -- the other bytes of a live slot fit
 unfoldable pub slotFits : Page → Bool
-slotFits p = leb (getD p 1 0) mostContents && (numberOk (pageBlock p) && same p (slotPage (pageBlock p) (pageContents p)))
+slotFits p = leb (get_or p 1 0) mostContents && (numberOk (pageBlock p) && same p (slotPage (pageBlock p) (pageContents p)))
 
 -- ---- kinds
 
@@ -48,8 +44,8 @@ pub data Slot : Type 0 where
   empty torn dead cut wrong : Slot
   live : ℕ → List ℕ → Slot
 
-unfoldable pub slotOf : Page → Slot
-slotOf p = let st = getD p 0 0 in
+unfoldable pub slot_of : Page → Slot
+slot_of p = let st = get_or p 0 0 in
     cond (eqb st written) (cond (slotFits p) (live (pageBlock p) (pageContents p)) wrong)
     (cond (eqb st writeBegun) torn
     (cond (eqb st 0x1F) dead
@@ -57,23 +53,23 @@ slotOf p = let st = getD p 0 0 in
     (cond (isBlank p) empty wrong))))
 
 -- what the code says of a slot: the kind, with the length and number of a live one
-unfoldable pub kindOf : Slot → SlotKind
-kindOf empty = Empty
-kindOf torn = Torn
-kindOf dead = Dead
-kindOf cut = Cut
-kindOf wrong = Wrong
-kindOf (live b c) = Live (length c) (record { 0 = b })
+unfoldable pub kind_of : Slot → SlotKind
+kind_of empty = Empty
+kind_of torn = Torn
+kind_of dead = Dead
+kind_of cut = Cut
+kind_of wrong = Wrong
+kind_of (live b c) = Live (length c) (record { 0 = b })
 
 -- ---- the tests on kinds that everything else goes by
 
-unfoldable pub isEmpty : Slot → Bool
-isEmpty empty = true
-isEmpty torn = false
-isEmpty dead = false
-isEmpty cut = false
-isEmpty wrong = false
-isEmpty (live b c) = false
+unfoldable pub is_empty : Slot → Bool
+is_empty empty = true
+is_empty torn = false
+is_empty dead = false
+is_empty cut = false
+is_empty wrong = false
+is_empty (live b c) = false
 
 unfoldable pub isTorn : Slot → Bool
 isTorn empty = false
@@ -118,14 +114,14 @@ pub record Entry : Type 0 where
   pub contents : List ℕ
 
 -- what a live slot holds; other slots hold nothing
-unfoldable pub entryOf : Slot → List Entry
-entryOf empty = []
-entryOf torn = []
-entryOf dead = []
-entryOf cut = []
-entryOf wrong = []
-entryOf (live b c) = record { block = b; contents = c } ∷ []
+unfoldable pub entry_of : Slot → List Entry
+entry_of empty = []
+entry_of torn = []
+entry_of dead = []
+entry_of cut = []
+entry_of wrong = []
+entry_of (live b c) = record { block = b; contents = c } ∷ []
 
 -- the live slot that holds an entry
 unfoldable pub holding : Entry → Slot
-holding e = live (e .block) (e .contents)
+holding e = live e.block e.contents

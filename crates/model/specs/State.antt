@@ -1,13 +1,10 @@
 -- Document 01, "When an image is clean, unfinished or damaged".
-use Prim.Native.Nat.{ℕ, zero, suc, _-_, _*_, _%_, max}
-use mathlib.Core.Bool.{Bool, true, false, cond, _||_, _&&_, not}
-use mathlib.Core.List.{List, [], _∷_, flatMap, flatten, map}
-use lib.ListN.{length, getD, drop, set}
-use lib.Dec.{ltb, leb, eqb}
-use Rattle·model·specs.specs.Lists.{all, count}
-use Rattle·model·specs.specs.Chip.{Image, Page, pagesOf, bySegment}
-use Rattle·model·specs.specs.Header.{erasePending, compacted, Version, version1, versionNumber, headerVersion, headerStatus, headerNumber, headerInUse, allBlank}
-use Rattle·model·specs.specs.Slot.{Slot, empty, dead, cut, slotOf, isEmpty, isTorn, isWrong, Entry, entryOf}
+use Rattle.std.specs.Prelude.{ℕ, zero, suc, ◌-◌, ◌*◌, ◌%◌, max, Bool, true, false, cond, ◌||◌, ◌&&◌, not, length, get_or, drop, set, ltb, leb, eqb}
+use mathlib.Core.List.{List, [], ◌∷◌, flat_map, flatten, map}
+use Rattle.model.specs.Lists.{all, count}
+use Rattle.model.specs.Chip.{Image, Page, pagesOf, bySegment}
+use Rattle.model.specs.Header.{erasePending, compacted, Version, version1, versionNumber, headerVersion, headerStatus, headerNumber, headerInUse, allBlank}
+use Rattle.model.specs.Slot.{Slot, empty, dead, cut, slot_of, is_empty, isTorn, isWrong, Entry, entry_of}
 
 -- ---- segments
 
@@ -18,8 +15,8 @@ pub data Segment : Type 0 where
 
 -- the segment at index i, of its pages
 unfoldable pub segmentOf : ℕ → ℕ → ℕ → List Page → Segment
-segmentOf N B i ps = let h = getD ps 0 [] in
-    cond (headerInUse N B i h) (inUse (headerVersion h) (headerStatus h) (headerNumber h) (map slotOf (drop 1 ps)))
+segmentOf N B i ps = let h = get_or ps 0 [] in
+    cond (headerInUse N B i h) (inUse (headerVersion h) (headerStatus h) (headerNumber h) (map slot_of (drop 1 ps)))
     (cond (allBlank ps) blank invalid)
 
 unfoldable pub segmentsFrom : ℕ → ℕ → ℕ → List (List Page) → List Segment
@@ -86,10 +83,10 @@ unfoldable pub nextIndex : ℕ → List Segment → ℕ
 nextIndex N l = nextNumber l % N
 
 unfoldable pub topSlots : ℕ → List Segment → List Slot
-topSlots N l = slotsIn (getD l (topIndex N l) blank)
+topSlots N l = slotsIn (get_or l (topIndex N l) blank)
 
 unfoldable pub topVersion : ℕ → List Segment → Version
-topVersion N l = versionIn (getD l (topIndex N l) blank)
+topVersion N l = versionIn (get_or l (topIndex N l) blank)
 
 -- ---- the segments in use, oldest first
 
@@ -103,7 +100,7 @@ firstNumber l = nextNumber l - usedCount l
 -- the slots of u segments, by number from n
 unfoldable pub slotsFrom : ℕ → List Segment → ℕ → ℕ → List (List Slot)
 slotsFrom N l zero n = []
-slotsFrom N l (suc u) n = slotsIn (getD l (n % N) blank) ∷ slotsFrom N l u (suc n)
+slotsFrom N l (suc u) n = slotsIn (get_or l (n % N) blank) ∷ slotsFrom N l u (suc n)
 
 -- what the segments in use hold: the smallest number; their slots, oldest first, so that the top's come last; and the top's version, with the image's tally
 pub record View : Type 0 where
@@ -111,15 +108,15 @@ pub record View : Type 0 where
   pub slots : List (List Slot)
   pub version : Version
 
-unfoldable pub viewOf : ℕ → List Segment → View
-viewOf N l = record { first = firstNumber l; slots = slotsFrom N l (usedCount l) (firstNumber l); version = topVersion N l }
+unfoldable pub view_of : ℕ → List Segment → View
+view_of N l = record { first = firstNumber l; slots = slotsFrom N l (usedCount l) (firstNumber l); version = topVersion N l }
 
 -- what their live slots hold
 unfoldable pub entries : List Slot → List Entry
-entries ks = flatMap entryOf ks
+entries ks = flat_map entry_of ks
 
 unfoldable pub entriesIn : View → List Entry
-entriesIn v = entries (flatten (v .slots))
+entriesIn v = entries (flatten v.slots)
 
 -- ---- the eight conditions of Clean, in the paper's order
 
@@ -130,7 +127,7 @@ someInUse N l = leb 1 (usedCount l) && leb (usedCount l) (N - 1)
 -- 2. their numbers consecutive: u numbers from n are each in use; and (request #104) one version
 unfoldable pub numbersFrom : ℕ → List Segment → ℕ → ℕ → Bool
 numbersFrom N l zero n = true
-numbersFrom N l (suc u) n = eqb (numberAfter (getD l (n % N) blank)) (suc n) && numbersFrom N l u (suc n)
+numbersFrom N l (suc u) n = eqb (numberAfter (get_or l (n % N) blank)) (suc n) && numbersFrom N l u (suc n)
 
 unfoldable pub consecutive : ℕ → List Segment → Bool
 consecutive N l = numbersFrom N l (usedCount l) (firstNumber l)
@@ -148,16 +145,16 @@ othersBlank l = all (λ x. not (isInvalid x)) l
 
 -- 5. no wrong or torn slot
 unfoldable pub noneWrongOrTorn : View → Bool
-noneWrongOrTorn v = all (λ k. not (isWrong k || isTorn k)) (flatten (v .slots))
+noneWrongOrTorn v = all (λ k. not (isWrong k || isTorn k)) (flatten v.slots)
 
 -- 6. no two live slots with one block number
 unfoldable pub holds : ℕ → List Entry → Bool
 holds b [] = false
-holds b (e ∷ t) = eqb b (e .block) || holds b t
+holds b (e ∷ t) = eqb b e.block || holds b t
 
 unfoldable pub distinct : List Entry → Bool
 distinct [] = true
-distinct (e ∷ t) = not (holds (e .block) t) && distinct t
+distinct (e ∷ t) = not (holds e.block t) && distinct t
 
 unfoldable pub blocksDistinct : View → Bool
 blocksDistinct v = distinct (entriesIn v)
@@ -165,15 +162,15 @@ blocksDistinct v = distinct (entriesIn v)
 -- 7. in each segment empty slots come last, and only the top has any
 unfoldable pub emptyLast : List Slot → Bool
 emptyLast [] = true
-emptyLast (k ∷ ks) = cond (isEmpty k) (all isEmpty ks) (emptyLast ks)
+emptyLast (k ∷ ks) = cond (is_empty k) (all is_empty ks) (emptyLast ks)
 
 unfoldable pub onlyTopEmpty : List (List Slot) → Bool
 onlyTopEmpty [] = true
 onlyTopEmpty (t ∷ []) = emptyLast t
-onlyTopEmpty (s ∷ t ∷ r) = all (λ k. not (isEmpty k)) s && onlyTopEmpty (t ∷ r)
+onlyTopEmpty (s ∷ t ∷ r) = all (λ k. not (is_empty k)) s && onlyTopEmpty (t ∷ r)
 
 unfoldable pub emptySlotsLast : View → Bool
-emptySlotsLast v = onlyTopEmpty (v .slots)
+emptySlotsLast v = onlyTopEmpty v.slots
 
 -- 8. at most C live slots
 unfoldable pub capacity : ℕ → ℕ → ℕ
@@ -184,7 +181,7 @@ withinCapacity N B v = leb (length (entriesIn v)) (capacity N B)
 
 -- conditions 5 to 8 look at the slots of the segments in use only
 unfoldable pub conditions : ℕ → ℕ → List Segment → List Bool
-conditions N B l = let v = viewOf N l in
+conditions N B l = let v = view_of N l in
     someInUse N l ∷ (consecutive N l && oneVersion l) ∷ noneOwing l ∷ othersBlank l
     ∷ noneWrongOrTorn v ∷ blocksDistinct v ∷ emptySlotsLast v ∷ withinCapacity N B v ∷ []
 
@@ -197,8 +194,8 @@ isClean N B l = all (λ t. t) (conditions N B l)
 unfoldable pub nextBlanked : ℕ → List Segment → List Segment
 nextBlanked N l = set l (nextIndex N l) blank
 
-unfoldable pub isA : ℕ → ℕ → List Segment → Bool
-isA N B l = isInvalid (getD l (nextIndex N l) blank) && isClean N B (nextBlanked N l)
+unfoldable pub is_a : ℕ → ℕ → List Segment → Bool
+is_a N B l = isInvalid (get_or l (nextIndex N l) blank) && isClean N B (nextBlanked N l)
 
 -- (b) the top is owing. Clean with its old segment erased, which is the one after the top and is not looked at; and then N-1 are in use
 unfoldable pub settled : Segment → Segment
@@ -207,10 +204,10 @@ settled invalid = invalid
 settled (inUse ver st n ks) = inUse ver compacted n ks
 
 unfoldable pub topSettled : ℕ → List Segment → List Segment
-topSettled N l = set (nextBlanked N l) (topIndex N l) (settled (getD l (topIndex N l) blank))
+topSettled N l = set (nextBlanked N l) (topIndex N l) (settled (get_or l (topIndex N l) blank))
 
-unfoldable pub isB : ℕ → ℕ → List Segment → Bool
-isB N B l = isOwing (getD l (topIndex N l) blank) && (eqb (usedCount (topSettled N l)) (N - 1) && isClean N B (topSettled N l))
+unfoldable pub is_b : ℕ → ℕ → List Segment → Bool
+is_b N B l = isOwing (get_or l (topIndex N l) blank) && (eqb (usedCount (topSettled N l)) (N - 1) && isClean N B (topSettled N l))
 
 -- a slot of a segment in use changed
 unfoldable pub withSlot : ℕ → Slot → Segment → Segment
@@ -221,17 +218,17 @@ withSlot j k (inUse ver st n ks) = inUse ver st n (set ks j k)
 -- how many slots there are up to the last that is not empty, and that slot's place
 unfoldable pub filled : List Slot → ℕ
 filled [] = 0
-filled (k ∷ ks) = cond (all isEmpty (k ∷ ks)) 0 (suc (filled ks))
+filled (k ∷ ks) = cond (all is_empty (k ∷ ks)) 0 (suc (filled ks))
 
 unfoldable pub lastSlot : ℕ → List Segment → ℕ
 lastSlot N l = filled (topSlots N l) - 1
 
 unfoldable pub lastKind : ℕ → List Segment → Slot
-lastKind N l = getD (topSlots N l) (lastSlot N l) empty
+lastKind N l = get_or (topSlots N l) (lastSlot N l) empty
 
 -- (c) the last non-empty slot of the top is torn. Clean with it cut, which is dead
 unfoldable pub tornMarked : ℕ → List Segment → List Segment
-tornMarked N l = set l (topIndex N l) (withSlot (lastSlot N l) cut (getD l (topIndex N l) blank))
+tornMarked N l = set l (topIndex N l) (withSlot (lastSlot N l) cut (get_or l (topIndex N l) blank))
 
 unfoldable pub isC : ℕ → ℕ → List Segment → Bool
 isC N B l = isTorn (lastKind N l) && isClean N B (tornMarked N l)
@@ -243,36 +240,36 @@ pub record Place : Type 0 where
 
 unfoldable pub slotFrom : ℕ → ℕ → List Slot → ℕ
 slotFrom b j [] = j
-slotFrom b j (k ∷ ks) = cond (holds b (entryOf k)) j (slotFrom b (suc j) ks)
+slotFrom b j (k ∷ ks) = cond (holds b (entry_of k)) j (slotFrom b (suc j) ks)
 
 unfoldable pub placeFrom : ℕ → ℕ → List (List Slot) → Place
 placeFrom b n [] = record { number = n; slot = 0 }
 placeFrom b n (s ∷ r) = let later = placeFrom b (suc n) r in cond (holds b (entries s)) (record { number = n; slot = slotFrom b 0 s }) later
 
-unfoldable pub placeOf : ℕ → View → Place
-placeOf b v = placeFrom b (v .first) (v .slots)
+unfoldable pub place_of : ℕ → View → Place
+place_of b v = placeFrom b v.first v.slots
 
 -- (d) the last non-empty slot of the top is live and one other live slot has its block number. Clean with the other, older one dead, so that C counts that block once
 
 -- the block of the last non-empty slot of the top, or 0 if that is not live
 unfoldable pub blockIn : List Entry → ℕ
 blockIn [] = 0
-blockIn (e ∷ t) = e .block
+blockIn (e ∷ t) = e.block
 
 unfoldable pub lastBlock : ℕ → List Segment → ℕ
-lastBlock N l = blockIn (entryOf (lastKind N l))
+lastBlock N l = blockIn (entry_of (lastKind N l))
 
 unfoldable pub copies : ℕ → List Entry → ℕ
-copies b t = count (λ e. eqb b (e .block)) t
+copies b t = count (λ e. eqb b e.block) t
 
 unfoldable pub older : ℕ → List Segment → Place
-older N l = placeOf (lastBlock N l) (viewOf N l)
+older N l = place_of (lastBlock N l) (view_of N l)
 
 unfoldable pub olderMarked : ℕ → List Segment → List Segment
-olderMarked N l = let i = older N l .number % N in set l i (withSlot (older N l .slot) dead (getD l i blank))
+olderMarked N l = let i = (older N l).number % N in set l i (withSlot (older N l).slot dead (get_or l i blank))
 
 unfoldable pub isD : ℕ → ℕ → List Segment → Bool
-isD N B l = ltb 0 (lastBlock N l) && (eqb (copies (lastBlock N l) (entriesIn (viewOf N l))) 2 && isClean N B (olderMarked N l))
+isD N B l = ltb 0 (lastBlock N l) && (eqb (copies (lastBlock N l) (entriesIn (view_of N l))) 2 && isClean N B (olderMarked N l))
 
 -- ---- the state
 
@@ -284,18 +281,18 @@ pub data State : Type 0 where
   unfinished : Exception → State
   damaged : State
 
-unfoldable pub stateOf : ℕ → ℕ → List Segment → State
-stateOf N B l =
+unfoldable pub state_of : ℕ → ℕ → List Segment → State
+state_of N B l =
     cond (isClean N B l) clean
-    (cond (isA N B l) (unfinished caseA)
-    (cond (isB N B l) (unfinished caseB)
+    (cond (is_a N B l) (unfinished caseA)
+    (cond (is_b N B l) (unfinished caseB)
     (cond (isC N B l) (unfinished caseC)
     (cond (isD N B l) (unfinished caseD) damaged))))
 
 -- ---- of an image
 
 unfoldable pub state : ℕ → ℕ → Image → State
-state N B s = stateOf N B (segmentsOf N B s)
+state N B s = state_of N B (segmentsOf N B s)
 
 unfoldable pub view : ℕ → ℕ → Image → View
-view N B s = viewOf N (segmentsOf N B s)
+view N B s = view_of N (segmentsOf N B s)

@@ -1,13 +1,9 @@
 -- The plain table of demand 2: from block number to contents.
-use Prim.Native.Nat.{ℕ}
-use mathlib.Core.Path.{_≡_}
-use mathlib.Core.Bool.{cond, _&&_}
-use mathlib.Core.List.{List, [], _∷_}
-use lib.Dec.{leb, eqb}
-use Rattle·model·specs.specs.Lists.{count}
-use Rattle·model·specs.specs.Chip.{Image}
-use Rattle·model·specs.specs.Slot.{Entry}
-use Rattle·model·specs.specs.State.{entriesIn, view}
+use Rattle.std.specs.Prelude.{ℕ, ◌≡◌, cond, ◌&&◌, List, [], ◌∷◌, leb, eqb}
+use Rattle.model.specs.Lists.{count}
+use Rattle.model.specs.Chip.{Image}
+use Rattle.model.specs.Slot.{Entry}
+use Rattle.model.specs.State.{entriesIn, view}
 
 abbrev pub Table : Type 0
 Table = List Entry
@@ -19,11 +15,11 @@ pub data Found : Type 0 where
 
 unfoldable pub lookup : ℕ → Table → Found
 lookup b [] = absent
-lookup b (e ∷ t) = cond (eqb b (e .block)) (present (e .contents)) (lookup b t)
+lookup b (e ∷ t) = cond (eqb b e.block) (present e.contents) (lookup b t)
 
 unfoldable pub without : ℕ → Table → Table
 without b [] = []
-without b (e ∷ t) = cond (eqb b (e .block)) (without b t) (e ∷ without b t)
+without b (e ∷ t) = cond (eqb b e.block) (without b t) (e ∷ without b t)
 
 unfoldable pub store : ℕ → List ℕ → Table → Table
 store b c t = record { block = b; contents = c } ∷ without b t
@@ -31,7 +27,7 @@ store b c t = record { block = b; contents = c } ∷ without b t
 -- its block numbers
 unfoldable pub blocks : Table → List ℕ
 blocks [] = []
-blocks (e ∷ t) = e .block ∷ blocks t
+blocks (e ∷ t) = e.block ∷ blocks t
 
 -- the same contents for every block number at once
 abbrev pub Agree : Table → Table → Type 0
@@ -44,8 +40,8 @@ contentsFound (present c) = c
 
 -- request #110: how many of its blocks have a number from first to last
 unfoldable pub liveBetween : ℕ → ℕ → Table → ℕ
-liveBetween first last t = count (λ e. leb first (e .block) && leb (e .block) last) t
+liveBetween first last t = count (λ e. leb first e.block && leb e.block last) t
 
 -- the table that a clean image holds
-unfoldable pub tableOf : ℕ → ℕ → Image → Table
-tableOf N B s = entriesIn (view N B s)
+unfoldable pub table_of : ℕ → ℕ → Image → Table
+table_of N B s = entriesIn (view N B s)

@@ -3,22 +3,20 @@
 // the image's stands in its contract.
 //
 // The form that document 01 names for it: a `&mut [u32]` kept equal to the scan's answers by put and delete.
+ghost use Rattle.std.specs.Prelude.{◌≡◌, length};
+ghost use Rattle.model.specs.Answers.{performed};
+ghost use Rattle.model.specs.Mounted.{MountedPut, MountedDelete};
+ghost use Rattle.mounted.specs.Puts.{noneFound, Puts};
+ghost use Rattle.mounted.specs.Marks.{EntryInside, MarkedEntry};
+
 use find::Found;
-use model::Answer;
-use model::BlockNumber;
-use model::Performed;
+use model::{Answer, BlockNumber, Performed};
 use mounted_plan::Decision;
 use places::Entry;
-ghost use mathlib.Core.Path.{_≡_};
-ghost use lib.ListN.{length};
-ghost use Rattle·model.specs.Answers.{performed};
-ghost use Rattle·model.specs.Mounted.{MountedPut, MountedDelete};
-ghost use Rattle·mounted·specs.specs.Puts.{noneFound, Puts};
-ghost use Rattle·mounted·specs.specs.Marks.{EntryInside, MarkedEntry};
 
 // Whether a block has no slot.
 fn is_absent(old: Found) -> bool
-    ensures { λ r. ⌜ r ≡ noneFound old ⌝ }
+    ensures { result ≡ noneFound old }
 {
     let Found::Nothing = old else {
         return false;
@@ -37,23 +35,14 @@ fn put_block(
     contents: &[u8],
     budget: u64,
 ) -> Performed
-    requires { ⌜ Puts segments slots old (block .0) (now contents) (now image) (now places) ⌝ }
-    ensures { λ r. ⌜ MountedPut segments slots (block .0) (now (contents .entry)) budget (performed r (now (image .exit))) (now (image .entry)) (now (places .entry)) (now (places .exit)) ⌝ }
+    requires { Puts segments slots old block.0 contents.now image.old places.old }
+    ensures { MountedPut segments slots block.0 contents.now budget (performed result image.new) image.old places.old places.new }
 {
     let decision = mounted_plan::decide(&image[..], segments, slots, is_absent(old));
     match decision {
         Decision::Refused(answer) => request::refused(answer),
         Decision::Accepted { plan, total } => mounted_put::perform(
-            image,
-            segments,
-            slots,
-            places,
-            plan,
-            total,
-            old,
-            block,
-            contents,
-            budget,
+            image, segments, slots, places, plan, total, old, block, contents, budget,
         ),
     }
 }
@@ -69,7 +58,7 @@ pub fn put(
     contents: &[u8],
     budget: u64,
 ) -> Performed
-    ensures { λ r. ⌜ MountedPut segments slots (block .0) (now (contents .entry)) budget (performed r (now (image .exit))) (now (image .entry)) (now (places .entry)) (now (places .exit)) ⌝ }
+    ensures { MountedPut segments slots block.0 contents.now budget (performed result image.new) image.old places.old places.new }
 {
     let taken = request::length_ok(contents.len());
     let refused = mounted_read::refusal(&image[..], segments, slots, &places[..], block, taken);
@@ -86,8 +75,8 @@ pub fn put(
 
 // Marks the slot that an entry tells of.
 fn mark_entry(image: &mut [u8], entry: Entry, budget: u64) -> Performed
-    requires { ⌜ EntryInside entry (length (now image)) ⌝ }
-    ensures { λ r. ⌜ MarkedEntry entry budget r (now (image .entry)) (now (image .exit)) ⌝ }
+    requires { EntryInside entry (length image.old) }
+    ensures { MarkedEntry entry budget result image.old image.new }
 {
     match entry {
         Entry::At(place, _) => mend::mark_slot(image, place, budget),
@@ -105,7 +94,7 @@ pub fn delete(
     block: BlockNumber,
     budget: u64,
 ) -> Performed
-    ensures { λ r. ⌜ MountedDelete segments slots (block .0) budget (performed r (now (image .exit))) (now (image .entry)) (now (places .entry)) (now (places .exit)) ⌝ }
+    ensures { MountedDelete segments slots block.0 budget (performed result image.new) image.old places.old places.new }
 {
     let refused = mounted_read::refusal(&image[..], segments, slots, &places[..], block, true);
     let Answer::Done = refused else {

@@ -1,21 +1,19 @@
 // A put decided before its first step, on any image of a right size, from as few bytes as can be (request #102): whether it
 // is refused, and otherwise how room is made.
-use model::Answer;
-use model::SegmentNumber;
+ghost use Rattle.std.specs.Prelude.{◌≡◌, true, ◌+◌, ◌-◌, ◌≤◌, length};
+ghost use Rattle.model.specs.Chip.{mostSegments, rightSize};
+ghost use Rattle.model.specs.Header.{isFormer, headerVersion};
+ghost use Rattle.flash.specs.Pages.{Sized};
+ghost use Rattle.tally.specs.Seen.{headerIn};
+ghost use Rattle.room.specs.Room.{Plannable};
+ghost use Rattle.mounted_plan.specs.Decided.{fullSeen, planSeen, headerDecision, Decides};
+
+use model::{Answer, SegmentNumber};
 use ring::Ring;
 use room::Plan;
-ghost use mathlib.Core.Path.{_≡_};
-ghost use mathlib.Core.Bool.{true};
-ghost use Prim.Native.Nat.{_+_, _-_, _≤_};
-ghost use lib.ListN.{length};
-ghost use Rattle·model.specs.Chip.{mostSegments, rightSize};
-ghost use Rattle·model.specs.Header.{isFormer, headerVersion};
-ghost use Rattle·flash.specs.Pages.{Sized};
-ghost use Rattle·tally.specs.Seen.{headerIn};
-ghost use Rattle·room.specs.Room.{Plannable};
-ghost use Rattle·mounted_plan·specs.specs.Decided.{fullSeen, planSeen, headerDecision, Decides};
 
 // A put decided before its first step: refused; or a plan, and the total that a new header carries on.
+#[derive(Drop)]
 pub enum Decision {
     Refused(Answer),
     Accepted { plan: Plan, total: usize },
@@ -23,16 +21,16 @@ pub enum Decision {
 
 // The number of the top.
 fn top_number(first: SegmentNumber, used: usize) -> SegmentNumber
-    requires { ⌜ (1 ≤ used) × (used ≤ mostSegments) × (first .0 + used ≤ 4294967296) ⌝ }
-    ensures { λ r. ⌜ r .0 ≡ first .0 + used - 1 ⌝ }
+    requires { (1 ≤ used) × (used ≤ mostSegments) × (first.0 + used ≤ 4294967296) }
+    ensures { result.0 ≡ first.0 + used - 1 }
 {
     SegmentNumber((first.0 as usize + used - 1) as u32)
 }
 
 // Whether the header of the segment with a number has version 1: one byte tells, and the tally is not counted.
 fn is_former_in(image: &[u8], segments: usize, slots: usize, number: SegmentNumber) -> bool
-    requires { ⌜ Sized segments slots (length (now image)) ⌝ }
-    ensures { λ r. ⌜ r ≡ isFormer (headerVersion (headerIn segments slots (number .0) (now (image .entry)))) ⌝ }
+    requires { Sized segments slots (length image.now) }
+    ensures { result ≡ isFormer (headerVersion (headerIn segments slots number.0 image.now)) }
 {
     let at = header::header_place(segments, slots, number);
     let end = at + 256;
@@ -42,8 +40,8 @@ fn is_former_in(image: &[u8], segments: usize, slots: usize, number: SegmentNumb
 // Whether a put finds as many slots live as may be; it matters only for a block that has none. With fewer segments in use
 // than may be, or with two empty slots in the top, that cannot be, and no status is looked at.
 fn is_full(image: &[u8], segments: usize, slots: usize, plan: Plan, absent: bool) -> bool
-    requires { ⌜ Plannable segments slots plan (length (now image)) × (plan .slot ≤ slots) ⌝ }
-    ensures { λ r. ⌜ r ≡ fullSeen segments slots absent plan (now (image .entry)) ⌝ }
+    requires { Plannable segments slots plan (length image.now) × (plan.slot ≤ slots) }
+    ensures { result ≡ fullSeen segments slots absent plan image.now }
 {
     if !absent {
         return false;
@@ -61,8 +59,8 @@ fn is_full(image: &[u8], segments: usize, slots: usize, plan: Plan, absent: bool
 
 // A plan with its compactions counted, where there will be some.
 fn count_compactions(image: &[u8], segments: usize, slots: usize, plan: Plan) -> Plan
-    requires { ⌜ Plannable segments slots plan (length (now image)) ⌝ }
-    ensures { λ r. ⌜ r ≡ planSeen segments slots plan (now (image .entry)) ⌝ }
+    requires { Plannable segments slots plan (length image.now) }
+    ensures { result ≡ planSeen segments slots plan image.now }
 {
     let first = plan.first;
     let used = plan.used;
@@ -81,8 +79,8 @@ fn count_compactions(image: &[u8], segments: usize, slots: usize, plan: Plan) ->
 
 // A put that needs a new header: only now the top's tally is counted.
 fn decide_header(image: &[u8], segments: usize, slots: usize, plan: Plan) -> Decision
-    requires { ⌜ (rightSize segments slots (now image) ≡ true) × Plannable segments slots plan (length (now image)) ⌝ }
-    ensures { λ r. ⌜ r ≡ headerDecision segments slots plan (now (image .entry)) ⌝ }
+    requires { (rightSize segments slots image.now ≡ true) × Plannable segments slots plan (length image.now) }
+    ensures { result ≡ headerDecision segments slots plan image.now }
 {
     let counted = count_compactions(image, segments, slots, plan);
     let top = top_number(plan.first, plan.used);
@@ -100,8 +98,8 @@ fn decide_header(image: &[u8], segments: usize, slots: usize, plan: Plan) -> Dec
 
 // Decides a put of a block that has no slot yet (absent), or has one.
 pub fn decide(image: &[u8], segments: usize, slots: usize, absent: bool) -> Decision
-    requires { ⌜ rightSize segments slots (now image) ≡ true ⌝ }
-    ensures { λ r. ⌜ Decides segments slots absent (now (image .entry)) r ⌝ }
+    requires { rightSize segments slots image.now ≡ true }
+    ensures { Decides segments slots absent image.now result }
 {
     let ring = ring::see_ring(image, segments, slots);
     let Ring::InUse { first, used } = ring else {

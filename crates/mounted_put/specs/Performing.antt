@@ -1,24 +1,20 @@
 -- A mounted put performed on any image with any table, with what it is on an image and a table in step.
-use Prim.Native.Nat.{ℕ, _≤_}
-use mathlib.Core.Path.{_≡_}
-use mathlib.Core.Logic.{_⊎_}
-use mathlib.Core.List.{List}
-use lib.ListN.{getD, drop}
-use Rattle·model.specs.Chip.{Image}
-use Rattle·model.specs.Answers.{codeOf, put, performed, outcomeOf}
-use Rattle·model.specs.Mounted.{Places, leastPlaces}
-use Rattle·model.specs.declared.Performed.{Performed}
-use Rattle·find.specs.declared.Found.{Found}
-use Rattle·bridge.specs.Mounting.{Kept}
-use Rattle·room.specs.declared.Plan.{Plan}
-use Rattle·put.specs.Writing.{Accepted}
+use Rattle.std.specs.Prelude.{ℕ, ◌≤◌, ◌≡◌, ◌⊎◌, List, get_or, drop}
+use Rattle.model.specs.Chip.{Image}
+use Rattle.model.specs.Answers.{code_of, put, performed, outcomeOf}
+use Rattle.model.specs.Mounted.{Places, leastPlaces}
+use Rattle.model.specs.declared.Performed.{Performed}
+use Rattle.find.specs.declared.Found.{Found}
+use Rattle.bridge.specs.Mounting.{Kept}
+use Rattle.room.specs.declared.Plan.{Plan}
+use Rattle.put.specs.Writing.{Accepted}
 
 -- A put of block b by a plan, on image s with table t, leaves image u and table w. Out of step only the first four hold.
 pub record Performs (N B : ℕ) (p : Plan) (total b : ℕ) (c : List ℕ) (budget : ℕ) (q : Performed) (s u : Image) (t w : Places) : Type 0 where
-  pub codes : (codeOf (q .answer) ≡ 0) ⊎ (codeOf (q .answer) ≡ 9)
-  pub cut : codeOf (q .answer) ≡ 9 → getD w 0 0 ≡ 0
+  pub codes : (code_of q.answer ≡ 0) ⊎ (code_of q.answer ≡ 9)
+  pub cut : code_of q.answer ≡ 9 → get_or w 0 0 ≡ 0
   -- the entries past the block numbers stay
   pub past : drop leastPlaces w ≡ drop leastPlaces t
-  pub few : q .steps ≤ budget
+  pub few : q.steps ≤ budget
   -- in step, where nothing refuses it: the put of the definition, and in step again unless it answers 9
-  pub exact : Kept N B s t → (f : Found) → Accepted N B p total f b c s → (performed q u ≡ outcomeOf N B s budget (put b c)) × (codeOf (q .answer) ≡ 0 → Kept N B u w)
+  pub exact : Kept N B s t → (f : Found) → Accepted N B p total f b c s → (performed q u ≡ outcomeOf N B s budget (put b c)) × (code_of q.answer ≡ 0 → Kept N B u w)

@@ -1,18 +1,15 @@
 // A mounted put performed (request #102): room made by a plan, the table mended where compaction has moved blocks, and the
 // slot written. It holds on any image of the plan's length, with any table of places that is long enough.
+ghost use Rattle.std.specs.Prelude.{◌≡◌, ◌≤◌, length, get_or};
+ghost use Rattle.model.specs.Mounted.{leastPlaces};
+ghost use Rattle.places.specs.Places.{entrySeen};
+ghost use Rattle.room.specs.Room.{Plannable};
+ghost use Rattle.mounted_write.specs.Continuing.{entryFor};
+ghost use Rattle.mounted_put.specs.Performing.{Performs};
+
 use find::Found;
-use model::BlockNumber;
-use model::Performed;
-use room::Plan;
-use room::Room;
-ghost use mathlib.Core.Path.{_≡_};
-ghost use Prim.Native.Nat.{_≤_};
-ghost use lib.ListN.{length, getD};
-ghost use Rattle·model.specs.Mounted.{leastPlaces};
-ghost use Rattle·places.specs.Places.{entrySeen};
-ghost use Rattle·room.specs.Room.{Plannable};
-ghost use Rattle·mounted_write.specs.Continuing.{entryFor};
-ghost use Rattle·mounted_put·specs.specs.Performing.{Performs};
+use model::{BlockNumber, Performed};
+use room::{Plan, Room};
 
 // Makes room, mends the table where compaction has moved blocks, and writes the slot.
 fn perform_moving(
@@ -26,8 +23,8 @@ fn perform_moving(
     contents: &[u8],
     budget: u64,
 ) -> Performed
-    requires { ⌜ Plannable segments slots plan (length (now image)) × (leastPlaces ≤ length (now places)) × (length (now contents) ≤ 248) ⌝ }
-    ensures { λ r. ⌜ Performs segments slots plan total (block .0) (now (contents .entry)) budget r (now (image .entry)) (now (image .exit)) (now (places .entry)) (now (places .exit)) ⌝ }
+    requires { Plannable segments slots plan (length image.old) × (leastPlaces ≤ length places.old) × (length contents.now ≤ 248) }
+    ensures { Performs segments slots plan total block.0 contents.now budget result image.old image.new places.old places.new }
 {
     let room = room::make_room(image, segments, slots, plan, total, budget);
     if room.left == 0 {
@@ -35,14 +32,7 @@ fn perform_moving(
     }
     mounted_write::enter_new(&image[..], segments, slots, places, plan, room);
     mounted_write::write_found(
-        image,
-        segments,
-        slots,
-        places,
-        room,
-        block,
-        contents,
-        budget,
+        image, segments, slots, places, room, block, contents, budget,
     )
 }
 
@@ -60,8 +50,8 @@ pub fn perform(
     contents: &[u8],
     budget: u64,
 ) -> Performed
-    requires { ⌜ Plannable segments slots plan (length (now image)) × (leastPlaces ≤ length (now places)) × (length (now contents) ≤ 248) × (entrySeen slots (now image) (getD (now places) (block .0) 0) ≡ entryFor old) ⌝ }
-    ensures { λ r. ⌜ Performs segments slots plan total (block .0) (now (contents .entry)) budget r (now (image .entry)) (now (image .exit)) (now (places .entry)) (now (places .exit)) ⌝ }
+    requires { Plannable segments slots plan (length image.old) × (leastPlaces ≤ length places.old) × (length contents.now ≤ 248) × (entrySeen slots image.old (get_or places.old block.0 0) ≡ entryFor old) }
+    ensures { Performs segments slots plan total block.0 contents.now budget result image.old image.new places.old places.new }
 {
     let first = plan.first;
     let slot = plan.slot;
@@ -74,27 +64,11 @@ pub fn perform(
                 left: budget,
             };
             return mounted_write::write_noted(
-                image,
-                segments,
-                slots,
-                places,
-                room,
-                old,
-                block,
-                contents,
-                budget,
+                image, segments, slots, places, room, old, block, contents, budget,
             );
         }
     }
     perform_moving(
-        image,
-        segments,
-        slots,
-        places,
-        plan,
-        total,
-        block,
-        contents,
-        budget,
+        image, segments, slots, places, plan, total, block, contents, budget,
     )
 }

@@ -1,12 +1,10 @@
 // The mounted form of read (request #102), and what refuses every mounted call. Nothing is required of a caller.
-use model::Answer;
-use model::BlockNumber;
-use model::Located;
-use places::Entry;
-use places::LEAST_PLACES;
-ghost use mathlib.Core.Path.{_≡_};
-ghost use Rattle·model.specs.Answers.{codeOf, located};
-ghost use Rattle·model.specs.Mounted.{mountedRefusal, MountedRead};
+ghost use Rattle.std.specs.Prelude.{◌≡◌};
+ghost use Rattle.model.specs.Answers.{code_of, located};
+ghost use Rattle.model.specs.Mounted.{mountedRefusal, MountedRead};
+
+use model::{Answer, BlockNumber, Located};
+use places::{Entry, LEAST_PLACES};
 
 // What refuses a mounted call whatever the table says of the image: 1, 10, 2, 3, and 5 for a table that is not usable.
 pub fn refusal(
@@ -17,7 +15,7 @@ pub fn refusal(
     block: BlockNumber,
     taken: bool,
 ) -> Answer
-    ensures { λ r. ⌜ codeOf r ≡ mountedRefusal segments slots (now (image .entry)) (now (places .entry)) (block .0) taken ⌝ }
+    ensures { code_of result ≡ mountedRefusal segments slots image.now places.now block.0 taken }
 {
     if !request::right_size(image.len(), segments, slots) {
         return Answer::Size;
@@ -45,7 +43,7 @@ pub fn read(
     places: &[u32],
     block: BlockNumber,
 ) -> Located
-    ensures { λ r. ⌜ MountedRead segments slots (block .0) (located r) (now (image .entry)) (now (places .entry)) ⌝ }
+    ensures { MountedRead segments slots block.0 (located result) image.now places.now }
 {
     let refused = refusal(image, segments, slots, places, block, true);
     let Answer::Done = refused else {
@@ -65,7 +63,7 @@ pub fn read(
 
 // A read that is refused tells no place.
 fn nowhere(answer: Answer) -> Located
-    ensures { λ r. ⌜ (r .answer ≡ answer) × (r .offset ≡ 0) × (r .length ≡ 0) ⌝ }
+    ensures { (result.answer ≡ answer) × (result.offset ≡ 0) × (result.length ≡ 0) }
 {
     Located {
         answer,

@@ -1,31 +1,27 @@
 -- A mounted put once room was made: its parts on any image with any table.
-use Prim.Native.Nat.{ℕ, _+_, _-_, _*_, _≤_}
-use mathlib.Core.Path.{_≡_}
-use mathlib.Core.Logic.{_⊎_}
-use mathlib.Core.List.{List}
-use lib.ListN.{length, getD}
-use Rattle·model.specs.Chip.{Image, mostSegments}
-use Rattle·model.specs.Steps.{slotAt}
-use Rattle·model.specs.Answers.{codeOf}
-use Rattle·model.specs.Mounted.{Places, unusable}
-use Rattle·model.specs.declared.Performed.{Performed}
-use Rattle·flash.specs.Pages.{Sized}
-use Rattle·find.specs.declared.Found.{Found}
-use Rattle·find.specs.declared.Found.the-variants.{At, Nothing}
-use Rattle·request.specs.Request.{Finished}
-use Rattle·places.specs.declared.Entry.{Entry}
-use Rattle·places.specs.declared.Entry.the-variants as entries
-use Rattle·places.specs.Places.{entrySeen, noted}
-use Rattle·room.specs.declared.Room.{Room}
-use Rattle·put.specs.Writing.{Wrote}
+use Rattle.std.specs.Prelude.{ℕ, ◌+◌, ◌-◌, ◌*◌, ◌≤◌, ◌≡◌, ◌⊎◌, List, length, get_or}
+use Rattle.model.specs.Chip.{Image, mostSegments}
+use Rattle.model.specs.Steps.{slot_at}
+use Rattle.model.specs.Answers.{code_of}
+use Rattle.model.specs.Mounted.{Places, unusable}
+use Rattle.model.specs.declared.Performed.{Performed}
+use Rattle.flash.specs.Pages.{Sized}
+use Rattle.find.specs.declared.Found.{Found}
+use Rattle.find.specs.declared.Found.TheVariants.{At, Nothing}
+use Rattle.request.specs.Request.{Finished}
+use Rattle.places.specs.declared.Entry.{Entry}
+use Rattle.places.specs.declared.Entry.TheVariants as entries
+use Rattle.places.specs.Places.{entrySeen, noted}
+use Rattle.room.specs.declared.Room.{Room}
+use Rattle.put.specs.Writing.{Wrote}
 
 -- what is known of the numbers, whatever the image
 pub record RoomMade (N B : ℕ) (r : Room) (c : List ℕ) (budget bytes : ℕ) : Type 0 where
   pub sized : Sized N B bytes
-  pub some : 1 ≤ r .used
-  pub few : r .used ≤ mostSegments
+  pub some : 1 ≤ r.used
+  pub few : r.used ≤ mostSegments
   pub short : length c ≤ 248
-  pub left : r .left ≤ budget
+  pub left : r.left ≤ budget
 
 -- an old slot, or that there is none, as an entry says it
 unfoldable pub entryFor : Found → Entry
@@ -40,15 +36,15 @@ foundFor entries.Stale = Nothing
 
 -- the slot was written, the old one marked where the entry says it is, and the new place noted
 pub record Written (N B : ℕ) (r : Room) (f : Found) (b : ℕ) (c : List ℕ) (budget : ℕ) (q : Performed) (s u : Image) (t w : Places) : Type 0 where
-  pub seen : entrySeen B s (getD t b 0) ≡ entryFor f
+  pub seen : entrySeen B s (get_or t b 0) ≡ entryFor f
   pub wrote : Wrote N B r f b c budget q s u
-  pub table : w ≡ noted t b (slotAt N B (r .first .0 + r .used - 1) (r .slot) * 256) (codeOf (q .answer))
+  pub table : w ≡ noted t b (slot_at N B (r.first.0 + r.used - 1) r.slot * 256) (code_of q.answer)
 
 -- nothing was written: there is no free slot, or the entry cannot be; both tell that the table is not that of the image
 pub record Stopped (B : ℕ) (r : Room) (b budget : ℕ) (q : Performed) (s u : Image) (t w : Places) : Type 0 where
-  pub why : (B ≤ r .slot) ⊎ (entrySeen B s (getD t b 0) ≡ entries.Stale)
+  pub why : (B ≤ r.slot) ⊎ (entrySeen B s (get_or t b 0) ≡ entries.Stale)
   pub image : u ≡ s
-  pub finished : Finished budget (r .left) 0 1 q
+  pub finished : Finished budget r.left 0 1 q
   pub table : w ≡ unusable t
 
 abbrev pub Continued : (N B : ℕ) (r : Room) (b : ℕ) (c : List ℕ) (budget : ℕ) (q : Performed) (s u : Image) (t w : Places) → Type 0

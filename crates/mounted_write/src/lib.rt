@@ -1,28 +1,24 @@
 // The parts of a mounted put (request #102) once room was made: the table mended, the slot written, and its place noted. They
 // hold on any image of the plan's length, with any table of places that is long enough.
+ghost use Rattle.std.specs.Prelude.{◌≡◌, ◌+◌, ◌-◌, ◌*◌, ◌≤◌, length};
+ghost use Rattle.model.specs.Steps.{slot_at};
+ghost use Rattle.model.specs.Answers.{code_of};
+ghost use Rattle.model.specs.Mounted.{leastPlaces, unusable};
+ghost use Rattle.flash.specs.Pages.{Sized};
+ghost use Rattle.request.specs.Request.{Finished};
+ghost use Rattle.places.specs.Places.{enteredFrom, noted};
+ghost use Rattle.put.specs.Writing.{Placed, Wrote};
+ghost use Rattle.mounted_write.specs.Continuing.{RoomMade, foundFor, Continued};
+
 use find::Found;
-use model::BlockNumber;
-use model::Performed;
-use model::SegmentNumber;
+use model::{BlockNumber, Performed, SegmentNumber};
 use places::Entry;
-use room::Plan;
-use room::Room;
-ghost use mathlib.Core.Path.{_≡_};
-ghost use Prim.Native.Nat.{_+_, _-_, _*_, _≤_};
-ghost use lib.ListN.{length};
-ghost use Rattle·model.specs.Steps.{slotAt};
-ghost use Rattle·model.specs.Answers.{codeOf};
-ghost use Rattle·model.specs.Mounted.{leastPlaces, unusable};
-ghost use Rattle·flash.specs.Pages.{Sized};
-ghost use Rattle·request.specs.Request.{Finished};
-ghost use Rattle·places.specs.Places.{enteredFrom, noted};
-ghost use Rattle·put.specs.Writing.{Placed, Wrote};
-ghost use Rattle·mounted_write·specs.specs.Continuing.{RoomMade, foundFor, Continued};
+use room::{Plan, Room};
 
 // Steps were taken, and no more are: the table is not usable, and the answer is 9.
 pub fn stop(places: &mut [u32], budget: u64, left: u64) -> Performed
-    requires { ⌜ (leastPlaces ≤ length (now places)) × (left ≤ budget) ⌝ }
-    ensures { λ r. ⌜ Finished budget left 0 1 r × (now (places .exit) ≡ unusable (now (places .entry))) ⌝ }
+    requires { (leastPlaces ≤ length places.old) × (left ≤ budget) }
+    ensures { Finished budget left 0 1 result × (places.new ≡ unusable places.old) }
 {
     places[0] = 0;
     request::finished(budget, left, 0, 1)
@@ -38,8 +34,8 @@ pub fn enter_new(
     plan: Plan,
     room: Room,
 )
-    requires { ⌜ Sized segments slots (length (now image)) × (leastPlaces ≤ length (now places)) × (plan .first .0 + plan .used ≤ room .first .0 + room .used) × (room .first .0 + room .used ≤ 4294967295) ⌝ }
-    ensures { λ _. ⌜ now (places .exit) ≡ enteredFrom segments slots (now (image .entry)) (room .first .0 + room .used - (plan .first .0 + plan .used)) (plan .first .0 + plan .used) (now (places .entry)) ⌝ }
+    requires { Sized segments slots (length image.now) × (leastPlaces ≤ length places.old) × (plan.first.0 + plan.used ≤ room.first.0 + room.used) × (room.first.0 + room.used ≤ 4294967295) }
+    ensures { places.new ≡ enteredFrom segments slots image.now (room.first.0 + room.used - (plan.first.0 + plan.used)) (plan.first.0 + plan.used) places.old }
 {
     let next = plan.first.0 as usize + plan.used;
     let count = room.first.0 as usize + room.used - next;
@@ -65,8 +61,8 @@ pub fn write_noted(
     contents: &[u8],
     budget: u64,
 ) -> Performed
-    requires { ⌜ Placed segments slots room old (now contents) budget (length (now image)) × (leastPlaces ≤ length (now places)) ⌝ }
-    ensures { λ r. ⌜ Wrote segments slots room old (block .0) (now (contents .entry)) budget r (now (image .entry)) (now (image .exit)) × (now (places .exit) ≡ noted (now (places .entry)) (block .0) (slotAt segments slots (room .first .0 + room .used - 1) (room .slot) * 256) (codeOf (r .answer))) ⌝ }
+    requires { Placed segments slots room old contents.now budget (length image.old) × (leastPlaces ≤ length places.old) }
+    ensures { Wrote segments slots room old block.0 contents.now budget result image.old image.new × (places.new ≡ noted places.old block.0 (slot_at segments slots (room.first.0 + room.used - 1) room.slot * 256) (code_of result.answer)) }
 {
     let done = put::write_block(image, segments, slots, room, old, block, contents, budget);
     let place = put::free_place(segments, slots, room);
@@ -78,7 +74,7 @@ pub fn write_noted(
 
 // The slot that an entry tells of, if any.
 pub fn old_slot(entry: Entry) -> Found
-    ensures { λ r. ⌜ r ≡ foundFor entry ⌝ }
+    ensures { result ≡ foundFor entry }
 {
     match entry {
         Entry::At(place, length) => Found::At(place, length),
@@ -99,8 +95,8 @@ pub fn write_found(
     contents: &[u8],
     budget: u64,
 ) -> Performed
-    requires { ⌜ RoomMade segments slots room (now contents) budget (length (now image)) × (leastPlaces ≤ length (now places)) ⌝ }
-    ensures { λ r. ⌜ Continued segments slots room (block .0) (now (contents .entry)) budget r (now (image .entry)) (now (image .exit)) (now (places .entry)) (now (places .exit)) ⌝ }
+    requires { RoomMade segments slots room contents.now budget (length image.old) × (leastPlaces ≤ length places.old) }
+    ensures { Continued segments slots room block.0 contents.now budget result image.old image.new places.old places.new }
 {
     let left = room.left;
     if room.slot >= slots {
@@ -110,15 +106,7 @@ pub fn write_found(
     let Entry::Stale = entry else {
         let old = old_slot(entry);
         return write_noted(
-            image,
-            segments,
-            slots,
-            places,
-            room,
-            old,
-            block,
-            contents,
-            budget,
+            image, segments, slots, places, room, old, block, contents, budget,
         );
     };
     stop(places, budget, left)

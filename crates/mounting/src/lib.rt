@@ -1,13 +1,14 @@
 // The mount (request #102): a table of places, lent by the caller, filled from a clean image. Nothing is required of a caller.
+ghost use Rattle.std.specs.Prelude.{◌≡◌};
+ghost use Rattle.model.specs.Mounted.{mountedAs, mountOutcome};
+
 use model::Answer;
 use places::LEAST_PLACES;
 use scan::Surveyed;
-ghost use mathlib.Core.Path.{_≡_};
-ghost use Rattle·model.specs.Mounted.{mountedAs, mountOutcome};
 
 // Fills a table of places from a clean image.
 pub fn mount(image: &[u8], segments: usize, slots: usize, places: &mut [u32]) -> Answer
-    ensures { λ r. ⌜ mountedAs r (now (places .exit)) ≡ mountOutcome segments slots (now (image .entry)) (now (places .entry)) ⌝ }
+    ensures { mountedAs result places.new ≡ mountOutcome segments slots image.now places.old }
 {
     if !request::right_size(image.len(), segments, slots) {
         return Answer::Size;

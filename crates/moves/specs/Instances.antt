@@ -1,23 +1,19 @@
 -- Moves on small chips, computed: what the definitions give, and so which wrong ones they are not.
-use Prim.Native.Nat.{ℕ}
-use mathlib.Core.Path.{_≡_, refl}
-use mathlib.Core.Bool.{true}
-use mathlib.Core.List.{List, [], _∷_, _++_}
-use lib.ListN.{replicate}
-use Rattle·model.specs.Lists.{same}
-use Rattle·model.specs.Chip.{Image, Step, program, rightSize, pagesOf, imageLength, withSegment, step, run}
-use Rattle·model.specs.Header.{version1, newVersion}
-use Rattle·model.specs.State.{segmentsOf, State, clean, state, view}
-use Rattle·model.specs.Steps.{onPage, slotAt, writeSlot, markDead, openSegment, eraseFirst}
-use Rattle·model.specs.Table.{Table, tableOf}
-use Rattle·model.specs.Answers.{Outcome}
-use Rattle·model.specs.Laws.Bench.{evaluate}
-use Rattle·moves·specs.specs.Moves.{insert, byNumber, putEach, freshSteps, freshWork, moveRefusals, moveWork, moveOutcome}
+use Rattle.std.specs.Prelude.{ℕ, ◌≡◌, refl, true, List, [], ◌∷◌, ◌++◌, replicate}
+use Rattle.model.specs.Lists.{same}
+use Rattle.model.specs.Chip.{Image, Step, program, rightSize, pagesOf, imageLength, withSegment, step, run}
+use Rattle.model.specs.Header.{version1, newVersion}
+use Rattle.model.specs.State.{segmentsOf, State, clean, state, view}
+use Rattle.model.specs.Steps.{onPage, slot_at, writeSlot, markDead, openSegment, eraseFirst}
+use Rattle.model.specs.Table.{Table, table_of}
+use Rattle.model.specs.Answers.{Outcome}
+use Rattle.model.specs.Laws.Bench.{evaluate}
+use Rattle.moves.specs.Moves.{insert, byNumber, putEach, freshSteps, freshWork, moveRefusals, moveWork, moveOutcome}
 
 -- ---- sources
 
 abbrev slot : ℕ → ℕ → ℕ → ℕ → ℕ → List ℕ → List Step
-slot N B n j b c = onPage (slotAt N B n j) (writeSlot b c)
+slot N B n j b c = onPage (slot_at N B n j) (writeSlot b c)
 
 -- blocks 9, 4, which is empty, and 300, in that order in two segments; a chip of 3 segments with 2 slots
 unfoldable pub first : Image
@@ -25,7 +21,7 @@ first = run 2 (eraseFirst 3 ++ (openSegment 3 2 (newVersion 7) 0 ++ (slot 3 2 0 
 
 -- the same blocks in another order on a board of version 1 with 4 segments of 2 slots, numbers 3 to 5 so that the ring has wrapped, with a dead slot
 unfoldable pub second : Image
-second = run 2 (eraseFirst 4 ++ (openSegment 4 2 version1 3 ++ (slot 4 2 3 0 300 (66 ∷ 67 ∷ []) ++ (slot 4 2 3 1 9 (64 ∷ []) ++ (openSegment 4 2 version1 4 ++ (slot 4 2 4 0 4 [] ++ (slot 4 2 4 1 9 (65 ∷ []) ++ onPage (slotAt 4 2 3 1) markDead))))))) (replicate 3072 0)
+second = run 2 (eraseFirst 4 ++ (openSegment 4 2 version1 3 ++ (slot 4 2 3 0 300 (66 ∷ 67 ∷ []) ++ (slot 4 2 3 1 9 (64 ∷ []) ++ (openSegment 4 2 version1 4 ++ (slot 4 2 4 0 4 [] ++ (slot 4 2 4 1 9 (65 ∷ []) ++ onPage (slot_at 4 2 3 1) markDead))))))) (replicate 3072 0)
 
 -- what comes of a move to a chip that held zeros
 abbrev moves : ℕ → ℕ → Image → ℕ → ℕ → ℕ → Outcome
@@ -37,45 +33,45 @@ pub record Result : Type 0 where
   pub state : State
   pub table : Table
 
-abbrev resultOf : ℕ → ℕ → Outcome → Result
-resultOf M D o = record { code = o .code; count = o .count; state = state M D (o .image); table = tableOf M D (o .image) }
+abbrev result_of : ℕ → ℕ → Outcome → Result
+result_of M D o = record { code = o.code; count = o.count; state = state M D o.image; table = table_of M D o.image }
 
 abbrev blocks : Table
 blocks = record { block = 4; contents = [] } ∷ record { block = 9; contents = 65 ∷ [] } ∷ record { block = 300; contents = 66 ∷ 67 ∷ [] } ∷ []
 
 -- every definition unfolds where this name does
 unfoldable computes : ℕ
-unfolding evaluate first second rightSize pagesOf withSegment step run segmentsOf state view tableOf insert byNumber putEach freshSteps freshWork moveRefusals moveWork moveOutcome
+unfolding evaluate first second rightSize pagesOf withSegment step run segmentsOf state view table_of insert byNumber putEach freshSteps freshWork moveRefusals moveWork moveOutcome
 computes = 0
 
 -- three blocks fill C = 3, in one segment: 2 erases, 21 and 18 steps; empty records are carried
-pub just-fits : resultOf 2 4 (moves 3 2 first 2 4 1000) ≡ record { code = 0; count = 41; state = clean; table = blocks }
+pub just-fits : result_of 2 4 (moves 3 2 first 2 4 1000) ≡ record { code = 0; count = 41; state = clean; table = blocks }
 unfolding computes
 just-fits = refl
 
 -- with two slots to a segment the third block opens another, and an allowance of one step less is a cut
-two-segments : resultOf 3 2 (moves 3 2 first 3 2 63) ≡ record { code = 0; count = 63; state = clean; table = blocks }
+two-segments : result_of 3 2 (moves 3 2 first 3 2 63) ≡ record { code = 0; count = 63; state = clean; table = blocks }
 unfolding computes
 two-segments = refl
 
-one-short : (moves 3 2 first 3 2 62 .code ≡ 9) × (moves 3 2 first 3 2 62 .count ≡ 62) × (moves 3 2 first 3 2 0 .count ≡ 0)
+one-short : ((moves 3 2 first 3 2 62).code ≡ 9) × ((moves 3 2 first 3 2 62).count ≡ 62) × ((moves 3 2 first 3 2 0).count ≡ 0)
 unfolding computes
 one-short = (refl, refl, refl)
 
 -- C = 2 takes no three blocks, and nothing is erased
-too-small : moves 3 2 first 2 3 1000 ≡ record { code = 7; count = 0; image = replicate 2048 0 }
+too_small : moves 3 2 first 2 3 1000 ≡ record { code = 7; count = 0; image = replicate 2048 0 }
 unfolding computes
-too-small = refl
+too_small = refl
 
 -- the board of version 1 holds the same table, and gives the same bytes
-same-bytes : same (moves 4 2 second 3 2 1000 .image) (moves 3 2 first 3 2 1000 .image) ≡ true
+same_bytes : same (moves 4 2 second 3 2 1000).image (moves 3 2 first 3 2 1000).image ≡ true
 unfolding computes
-same-bytes = refl
+same_bytes = refl
 
 -- 1 for either image, 4 and 5 for the source
 wrong : List ℕ
-wrong = moves 4 2 first 3 2 1000 .code ∷ moveOutcome 3 2 first 3 2 (replicate 2303 0) 1000 .code ∷ moves 3 2 (replicate 2304 0) 3 2 1000 .code
-    ∷ moves 3 2 (step 2 (program 1280 0x7F) first) 3 2 1000 .code ∷ []
+wrong = (moves 4 2 first 3 2 1000).code ∷ (moveOutcome 3 2 first 3 2 (replicate 2303 0) 1000).code ∷ (moves 3 2 (replicate 2304 0) 3 2 1000).code
+    ∷ (moves 3 2 (step 2 (program 1280 0x7F) first) 3 2 1000).code ∷ []
 
 refused : wrong ≡ 1 ∷ 1 ∷ 4 ∷ 5 ∷ []
 unfolding computes wrong

@@ -1,14 +1,13 @@
 // Moving to another chip (request #106): from a clean image a fresh one of another geometry with the same table of blocks is built
 // in a second buffer. The source is only read. Nothing is required of a caller.
-use model::Answer;
-use model::Performed;
-use model::SegmentNumber;
+ghost use Rattle.std.specs.Prelude.{◌≡◌};
+ghost use Rattle.model.specs.Answers.{performed};
+ghost use Rattle.moves.specs.Moves.{moveOutcome};
+ghost use Rattle.moving.specs.Moving.{Carriable};
+
+use model::{Answer, Performed, SegmentNumber};
 use places::LEAST_PLACES;
 use scan::Surveyed;
-ghost use mathlib.Core.Path.{_≡_};
-ghost use Rattle·model.specs.Answers.{performed};
-ghost use Rattle·moves.specs.Moves.{moveOutcome};
-ghost use Rattle·moving·specs.specs.Moving.{Carriable};
 
 // Builds the target, which holds as many blocks as the source has. The table of places is 256 KiB of stack: with it each slot of
 // the source is met once, and each block number once, whatever their order.
@@ -23,8 +22,8 @@ fn carry(
     target_slots: usize,
     budget: u64,
 ) -> Performed
-    requires { ⌜ Carriable segments slots (now source) (first .0) used «target_segments» «target_slots» (now target) ⌝ }
-    ensures { λ r. ⌜ performed r (now (target .exit)) ≡ moveOutcome segments slots (now (source .entry)) «target_segments» «target_slots» (now (target .entry)) budget ⌝ }
+    requires { Carriable segments slots source.now first.0 used target_segments target_slots target.old }
+    ensures { performed result target.new ≡ moveOutcome segments slots source.now target_segments target_slots target.old budget }
 {
     let mut places = [0u32; LEAST_PLACES];
     places::fill(source, segments, slots, first, used, &mut places);
@@ -49,7 +48,7 @@ pub fn move_to(
     target_slots: usize,
     budget: u64,
 ) -> Performed
-    ensures { λ r. ⌜ performed r (now (target .exit)) ≡ moveOutcome segments slots (now (source .entry)) «target_segments» «target_slots» (now (target .entry)) budget ⌝ }
+    ensures { performed result target.new ≡ moveOutcome segments slots source.now target_segments target_slots target.old budget }
 {
     if !request::right_size(source.len(), segments, slots) {
         return request::refused(Answer::Size);

@@ -1,27 +1,22 @@
 -- Two histories on the smallest store, computed. In the first a put is cut and a recovery marks its slot. In the second a recovery loses the power inside its erase, and a dead slot of the segment that it erases looks cut.
-use Prim.Native.Nat.{ℕ, zero, suc, _+_}
-use mathlib.Core.Path.{_≡_, refl, _∙_, subst}
-use mathlib.Core.Logic.{inl, inr}
-use mathlib.Core.Bool.{true}
-use mathlib.Core.List.{List, [], _∷_, _++_}
-use native.Mathlib.Omega.{arith}
-use native.Mathlib.Nat.{mod-eq-of-lt}
-use lib.ListN.{getD, set, replicate, take, drop}
-use lib.Bits.{and-self, and-mask}
-use Rattle·model.specs.Chip.{Image, Bytes, rightSize, pagesOf, program, erase, clear, withSegment, segmentBytes, step, run, Between, Raised}
-use Rattle·model.specs.Slot.{empty, torn, cut, isCut}
-use Rattle·model.specs.State.{blank, segmentsOf, nextNumber, slotsIn, Place, view}
-use Rattle·model.specs.Steps.{formatSteps}
-use Rattle·model.specs.Answers.{Request, put, recover, workOf, outcomeOf}
-use Rattle·model.specs.Histories.{lost, Event, History, wears}
-use Rattle·model.specs.Sequences.{Call, play}
-use Rattle·model.specs.Bench.{call, whole}
-use Rattle·model.specs.Laws.Bench.{evaluate}
-use Rattle·model.specs.Laws.Bytes.{bytes-take, bytes-drop, step-bytes, run-bytes}
-use Rattle·bridge.specs.Format.{format-bytes}
-use Rattle·origins·specs.specs.Law.{inForce, readAt, slotIn, slotOn, lastPlace, CutIn}
-use Rattle·origins·specs.specs.Theorem.{cut-tells}
-use Rattle·origins·specs.specs.Uncut.{eventsOf, Plain, played}
+use Rattle.std.specs.Prelude.{ℕ, zero, suc, ◌+◌, ◌≡◌, refl, true, List, [], ◌∷◌, ◌++◌, get_or, set, replicate, take, drop}
+use Rattle.std.proofs.Common.{◌∙◌, subst, inl, inr, arith, mod-eq_of_lt}
+use Rattle.std.specs.Int.Bits.{and_self}
+use Rattle.std.proofs.lemmas.Nat.{and_mask}
+use Rattle.model.specs.Chip.{Image, Bytes, rightSize, pagesOf, program, erase, clear, withSegment, segmentBytes, step, run, Between, Raised}
+use Rattle.model.specs.Slot.{empty, torn, cut, isCut}
+use Rattle.model.specs.State.{blank, segmentsOf, nextNumber, slotsIn, Place, view}
+use Rattle.model.specs.Steps.{formatSteps}
+use Rattle.model.specs.Answers.{Request, put, recover, workOf, outcomeOf}
+use Rattle.model.specs.Histories.{lost, Event, History, wears}
+use Rattle.model.specs.Sequences.{Call, play}
+use Rattle.model.specs.Bench.{call, whole}
+use Rattle.model.specs.Laws.Bench.{evaluate}
+use Rattle.model.specs.Laws.Bytes.{bytes_take, bytes_drop, step-bytes, run-bytes}
+use Rattle.bridge.specs.Format.{format-bytes}
+use Rattle.origins.specs.Law.{inForce, readAt, slotIn, slotOn, lastPlace, CutIn}
+use Rattle.origins.specs.Theorem.{cut-tells}
+use Rattle.origins.specs.Uncut.{eventsOf, Plain, played}
 
 -- N = 2, B = 2
 abbrev zeros : Image
@@ -70,7 +65,7 @@ pub marked-plain : Plain marked
 marked-plain = ((omega arith, tt), ((omega arith, tt), (tt, tt)))
 
 -- what the theorem says of it
-pub told : CutIn 2 2 formatted (eventsOf 2 2 formatted marked) (left marked) (played 2 2 marked formatted marked-plain .0) second
+pub told : CutIn 2 2 formatted (eventsOf 2 2 formatted marked) (left marked) (played 2 2 marked formatted marked-plain).0 second
 told = let (runs, none) = played 2 2 marked formatted marked-plain in cut-tells 2 2 zeros (left marked) (eventsOf 2 2 formatted marked) right-size runs none second cut-then
 
 -- it stays cut when another segment is the top
@@ -101,7 +96,7 @@ abbrev pub lostImage : Image
 lostImage = withSegment 2 0 (raisedBytes counted) counted
 
 -- read as it stands, that slot looks cut; but it is in a segment that is being erased, and no slot in use is cut
-pub looks-cut : (getD (slotsIn (getD (segmentsOf 2 2 lostImage) 0 blank)) 0 empty ≡ cut) × (slotOn 2 2 lostImage first ≡ empty)
+pub looks-cut : (get_or (slotsIn (get_or (segmentsOf 2 2 lostImage) 0 blank)) 0 empty ≡ cut) × (slotOn 2 2 lostImage first ≡ empty)
 unfolding evaluateSlots
 looks-cut = (refl, refl)
 
@@ -110,37 +105,37 @@ looks-cut = (refl, refl)
 raised-same : (s : List ℕ) → Bytes s → Raised s s
 unfolding clear
 raised-same [] y = refl
-raised-same (a ∷ s) y = ((and-self a, and-mask a 8 ∙ mod-eq-of-lt (y .0)), raised-same s (y .1))
+raised-same (a ∷ s) y = ((and_self a, and_mask a 8 ∙ mod-eq_of_lt y.0), raised-same s y.1)
 
-raised-one : (s : List ℕ) (at x : ℕ) → Bytes s → Between (getD s at 0) x 255 → Raised s (set s at x)
+raised-one : (s : List ℕ) (at x : ℕ) → Bytes s → Between (get_or s at 0) x 255 → Raised s (set s at x)
 raised-one [] at x y b = refl
-raised-one (a ∷ s) zero x y b = (b, raised-same s (y .1))
-raised-one (a ∷ s) (suc at) x y b = (raised-same (a ∷ s) y .0, raised-one s at x (y .1) b)
+raised-one (a ∷ s) zero x y b = (b, raised-same s y.1)
+raised-one (a ∷ s) (suc at) x y b = ((raised-same (a ∷ s) y).0, raised-one s at x y.1 b)
 
 played-bytes : (N B : ℕ) (xs : List Call) (s : Image) → Bytes s → Bytes (play N B s xs)
 unfolding play outcomeOf
 played-bytes N B [] s y = y
-played-bytes N B (x ∷ xs) s y = played-bytes N B xs (outcomeOf N B s (x .allowance) (x .request) .image) (run-bytes B (take (x .allowance) (workOf N B s (x .request) .steps)) s y)
+played-bytes N B (x ∷ xs) s y = played-bytes N B xs (outcomeOf N B s x.allowance x.request).image (run-bytes B (take x.allowance (workOf N B s x.request).steps) s y)
 
 history-append : (N B : ℕ) (es fs : List Event) (s m u : Image) → History N B s es m → History N B m fs u → History N B s (es ++ fs) u
 history-append N B [] fs s m u h k = subst (λ (y : Image). History N B y fs u) h k
 history-append N B (e ∷ es) fs s m u (p, w, (n, d, rest)) k = (p, w, (n, d, history-append N B es fs n m u rest k))
 
-recovery-steps : workOf 2 2 (left owing) recover .steps ≡ program 800 127 ∷ erase 0 ∷ drop 2 (workOf 2 2 (left owing) recover .steps)
+recovery-steps : (workOf 2 2 (left owing) recover).steps ≡ program 800 127 ∷ erase 0 ∷ drop 2 (workOf 2 2 (left owing) recover).steps
 unfolding evaluateSlots
 recovery-steps = refl
 
-first-byte : getD (segmentBytes 2 0 counted) 256 0 ≡ 0x1F
+first_byte : get_or (segmentBytes 2 0 counted) 256 0 ≡ 0x1F
 unfolding evaluateSlots
-first-byte = refl
+first_byte = refl
 
 counted-bytes : Bytes (segmentBytes 2 0 counted)
 unfolding segmentBytes
-counted-bytes = bytes-take 768 (drop 0 counted) (bytes-drop 0 counted (step-bytes 2 (program 800 127) (left owing) (played-bytes 2 2 owing formatted (format-bytes 2 2 zeros right-size))))
+counted-bytes = bytes_take 768 (drop 0 counted) (bytes_drop 0 counted (step-bytes 2 (program 800 127) (left owing) (played-bytes 2 2 owing formatted (format-bytes 2 2 zeros right-size))))
 
 one-raised : Raised (segmentBytes 2 0 counted) (raisedBytes counted)
 unfolding clear
-one-raised = raised-one (segmentBytes 2 0 counted) 256 0x5F counted-bytes (rw first-byte (refl, refl))
+one-raised = raised-one (segmentBytes 2 0 counted) 256 0x5F counted-bytes (rw first_byte (refl, refl))
 
 owing-plain : Plain owing
 owing-plain = ((omega arith, tt), ((omega arith, tt), ((omega arith, tt), tt)))
@@ -149,5 +144,5 @@ abbrev pub lostEvents : List Event
 lostEvents = eventsOf 2 2 formatted owing ++ (record { request = recover; worn = wears 2 2 (left owing); seen = lost } ∷ [])
 
 pub lost-runs : History 2 2 formatted lostEvents lostImage
-lost-runs = history-append 2 2 (eventsOf 2 2 formatted owing) (record { request = recover; worn = wears 2 2 (left owing); seen = lost } ∷ []) formatted (left owing) lostImage (played 2 2 owing formatted owing-plain .0)
+lost-runs = history-append 2 2 (eventsOf 2 2 formatted owing) (record { request = recover; worn = wears 2 2 (left owing); seen = lost } ∷ []) formatted (left owing) lostImage (played 2 2 owing formatted owing-plain).0
     (tt, refl, (lostImage, rw recovery-steps (inr (inr (inr (inl (raisedBytes counted, one-raised, refl))))), refl))

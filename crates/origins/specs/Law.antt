@@ -1,34 +1,28 @@
 -- Request #107, "5F came from a cut, 1F from a rewrite or delete", as statements over histories of any length, with cuts anywhere.
-use Prim.Native.Nat.{ℕ, suc, _-_, _%_}
-use mathlib.Core.Path.{_≡_}
-use mathlib.Core.Logic.{_⊎_, _≢_}
-use mathlib.Core.Bool.{true, cond}
-use mathlib.Core.List.{List, [], _∷_}
-use lib.ListN.{getD}
-use lib.Dec.{eqb}
-use Rattle·model.specs.Chip.{Image, rightSize, run}
-use Rattle·model.specs.Slot.{Slot, empty, torn, dead, cut}
-use Rattle·model.specs.State.{Segment, blank, isOwing, segmentsOf, numberAfter, slotsIn, nextNumber, topIndex, nextBlanked, lastSlot, holds, Place, caseC, caseD, unfinished, state}
-use Rattle·model.specs.Steps.{formatSteps}
-use Rattle·model.specs.Table.{tableOf}
-use Rattle·model.specs.Answers.{Request, put, delete, recover}
-use Rattle·model.specs.Histories.{Seen, Proper, Does, Event, History, recovered}
-use Rattle·model.specs.Sequences.{Call, play, observed, Uncut}
-use Rattle·crash.specs.Machine.{OnTable, IsCut}
+use Rattle.std.specs.Prelude.{ℕ, suc, ◌-◌, ◌%◌, ◌≡◌, ◌⊎◌, ◌≢◌, true, cond, List, [], ◌∷◌, get_or, eqb}
+use Rattle.model.specs.Chip.{Image, rightSize, run}
+use Rattle.model.specs.Slot.{Slot, empty, torn, dead, cut}
+use Rattle.model.specs.State.{Segment, blank, isOwing, segmentsOf, numberAfter, slotsIn, nextNumber, topIndex, nextBlanked, lastSlot, holds, Place, caseC, caseD, unfinished, state}
+use Rattle.model.specs.Steps.{formatSteps}
+use Rattle.model.specs.Table.{table_of}
+use Rattle.model.specs.Answers.{Request, put, delete, recover}
+use Rattle.model.specs.Histories.{Seen, Proper, Does, Event, History, recovered}
+use Rattle.model.specs.Sequences.{Call, play, observed, Uncut}
+use Rattle.crash.specs.Machine.{OnTable, IsCut}
 
 -- ---- the slots in use
 
 -- the segments in use; where the top is owing, the erase of the one after it is owed and may have begun, and that one is left aside
 unfoldable pub inForce : ℕ → List Segment → List Segment
-inForce N l = cond (isOwing (getD l (topIndex N l) blank)) (nextBlanked N l) l
+inForce N l = cond (isOwing (get_or l (topIndex N l) blank)) (nextBlanked N l) l
 
 -- what a segment has at a place: nothing, if it has another number
 unfoldable pub readAt : Segment → Place → Slot
-readAt x p = cond (eqb (numberAfter x) (suc (p .number))) (getD (slotsIn x) (p .slot) empty) empty
+readAt x p = cond (eqb (numberAfter x) (suc p.number)) (get_or (slotsIn x) p.slot empty) empty
 
 -- the slot at a place, by its segment's number; empty if no segment in use has that number
 unfoldable pub slotIn : ℕ → List Segment → Place → Slot
-slotIn N l p = readAt (getD (inForce N l) (p .number % N) blank) p
+slotIn N l p = readAt (get_or (inForce N l) (p.number % N) blank) p
 
 unfoldable pub slotOn : ℕ → ℕ → Image → Place → Slot
 slotOn N B s p = slotIn N (segmentsOf N B s) p
@@ -41,14 +35,14 @@ lastPlace N B s = let l = segmentsOf N B s in record { number = nextNumber l - 1
 
 abbrev pub Unformatted : List Event → Type 0
 Unformatted [] = Unit {0}
-Unformatted (e ∷ es) = OnTable (e .request) × Unformatted es
+Unformatted (e ∷ es) = OnTable e.request × Unformatted es
 
 abbrev pub IsPut : Request → Type 0
 IsPut r = (b : ℕ) × (c : List ℕ) × (r ≡ put b c)
 
 -- a put of a block that is stored
 abbrev pub IsRewrite : ℕ → ℕ → Image → Request → Type 0
-IsRewrite N B s r = (b : ℕ) × (c : List ℕ) × (r ≡ put b c) × (holds b (tableOf N B s) ≡ true)
+IsRewrite N B s r = (b : ℕ) × (c : List ℕ) × (r ≡ put b c) × (holds b (table_of N B s) ≡ true)
 
 abbrev pub IsDelete : Request → Type 0
 IsDelete r = (b : ℕ) × (r ≡ delete b)
@@ -57,15 +51,15 @@ IsDelete r = (b : ℕ) × (r ≡ delete b)
 
 -- an event that leads from image s to image m: a put that a loss of power, or its allowance, cut. No slot was torn before, and it left this one torn, and no other
 pub record Tore (N B : ℕ) (s m : Image) (e : Event) (p : Place) : Type 0 where
-  pub puts : IsPut (e .request)
-  pub cuts : IsCut (e .seen)
+  pub puts : IsPut e.request
+  pub cuts : IsCut e.seen
   pub untorn : (q : Place) → slotOn N B s q ≢ torn
   pub left : slotOn N B m p ≡ torn
   pub only : (q : Place) → slotOn N B m q ≡ torn → q ≡ p
 
 -- a recovery that found it torn, in an image unfinished by (c), and marked it
 pub record Marked (N B : ℕ) (s m : Image) (e : Event) (p : Place) : Type 0 where
-  pub recovers : e .request ≡ recover
+  pub recovers : e.request ≡ recover
   pub case : state N B s ≡ unfinished caseC
   pub found : slotOn N B s p ≡ torn
   pub marks : slotOn N B m p ≡ cut
@@ -104,7 +98,7 @@ NothingElse = (N B : ℕ) (s u m : Image) (es : List Event) (r : Request) (o : S
 
 -- a rewrite, a delete, or a recovery of (d), where a block has two live slots: the slot did not read 1F before, and does after it
 pub record Replaced (N B : ℕ) (s m : Image) (e : Event) (p : Place) : Type 0 where
-  pub replaces : IsRewrite N B s (e .request) ⊎ (IsDelete (e .request) ⊎ ((e .request ≡ recover) × (state N B s ≡ unfinished caseD)))
+  pub replaces : IsRewrite N B s e.request ⊎ (IsDelete e.request ⊎ ((e.request ≡ recover) × (state N B s ≡ unfinished caseD)))
   pub undead : slotOn N B s p ≢ dead
   pub marks : slotOn N B m p ≡ dead
 

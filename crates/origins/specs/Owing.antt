@@ -1,24 +1,23 @@
 -- An owing top, as a compaction and a cut recovery leave it. The segment after it is left aside, so that a cut erase of it makes nothing; and settling the top keeps what it reads.
-use Prim.Native.Nat.{ℕ, _-_, _%_, _≤_}
-use mathlib.Core.Path.{_≡_, sym, ap, _∙_}
-use mathlib.Core.Logic.{⊎-elim}
-use mathlib.Core.Bool.{true}
-use mathlib.Core.List.{List, [], _∷_}
-use lib.ListN.{getD, set, length-set}
-use lib.Seq.{set-set, getD-set-other}
-use Rattle·model.specs.Chip.{Image, erase, rightSize, step, run, Cut}
-use Rattle·model.specs.Slot.{Slot}
-use Rattle·model.specs.State.{Segment, blank, isOwing, segmentsOf, numberAfter, nextNumber, topIndex, nextIndex, nextBlanked, settled, topSettled, caseB, unfinished, state}
-use Rattle·model.specs.Steps.{settle}
-use Rattle·model.specs.Laws.Chip.{cut-append, whole-cut}
-use Rattle·model.specs.Laws.Segments.{segments-length}
-use Rattle·crash.specs.Sound.{Sound}
-use Rattle·crash.specs.States.{mended, mended-clean, case-of}
-use Rattle·crash.specs.RecoverOwing.{apart, replaced-next, replaced-top, settle-whole, settled-there, wiped-segments, wiped-size}
-use Rattle·crash.specs.OwingCuts.{erasing-left}
-use Rattle·origins·specs.specs.Law.{readAt, inForce}
-use Rattle·origins·specs.specs.Fewer.{fewer-same, fewer-set, owing-force, clean-force, NoNew, no-new-image, no-new-trans}
-use Rattle·origins·specs.specs.Torn.{settled-reads, owing-b}
+use Rattle.std.specs.Prelude.{ℕ, ◌-◌, ◌%◌, ◌≤◌, ◌≡◌, true, List, [], ◌∷◌}
+use Rattle.std.proofs.Math.Path.{sym, ap}
+use Rattle.std.proofs.Common.{◌∙◌, length-set, set-set}
+use Rattle.std.proofs.Math.Logic.{⊎_elim}
+use Rattle.std.proofs.Math.ListN.{get_or, set}
+use Rattle.std.proofs.Math.Seq.{get_or-set_other}
+use Rattle.model.specs.Chip.{Image, erase, rightSize, step, run, Cut}
+use Rattle.model.specs.Slot.{Slot}
+use Rattle.model.specs.State.{Segment, blank, isOwing, segmentsOf, numberAfter, nextNumber, topIndex, nextIndex, nextBlanked, settled, topSettled, caseB, unfinished, state}
+use Rattle.model.specs.Steps.{settle}
+use Rattle.model.specs.Laws.Chip.{cut-append, whole-cut}
+use Rattle.model.specs.Laws.Segments.{segments-length}
+use Rattle.crash.specs.Sound.{Sound}
+use Rattle.crash.specs.States.{mended, mended-clean, case-of}
+use Rattle.crash.specs.RecoverOwing.{apart, replaced-next, replaced-top, settle-whole, settled-there, wiped-segments, wiped-size}
+use Rattle.crash.specs.OwingCuts.{erasing-left}
+use Rattle.origins.specs.Law.{readAt, inForce}
+use Rattle.origins.specs.Fewer.{fewer-same, fewer-set, owing-force, clean-force, NoNew, no-new-image, no-new-trans}
+use Rattle.origins.specs.Torn.{settled-reads, owing-b}
 
 module _ (k : Slot) (N B : ℕ) (s : Image) (z : rightSize N B s ≡ true) (e : state N B s ≡ unfinished caseB) where
   abbrev l : List Segment
@@ -40,8 +39,8 @@ module _ (k : Slot) (N B : ℕ) (s : Image) (z : rightSize N B s ≡ true) (e : 
   settling u q =
       let old = set l i blank in
       let t = (nextNumber l - 1) % N in
-      let x = getD l t blank in
-      let here : getD old t blank ≡ x = getD-set-other l i t blank blank (apart N B s z e) in
+      let x = get_or l t blank in
+      let here : get_or old t blank ≡ x = get_or-set_other l i t blank blank (apart N B s z e) in
       let force : inForce N (segmentsOf N B u) ≡ set old t (settled x) =
       ap (λ y. inForce N y) q ∙ clean-force N B (set old t (settled x)) (length-set old t (settled x) ∙ (length-set l i blank ∙ segments-length N B s)) (mended-clean N B l caseB (case-of N B l caseB e)) in
       rw (owing-force N l (owing-b N B s z e), force) (fewer-set k old t (settled x) (λ p h. ap (λ y. readAt y p) here ∙ (sym (settled-reads x p) ∙ h)))
@@ -49,14 +48,14 @@ module _ (k : Slot) (N B : ℕ) (s : Image) (z : rightSize N B s ≡ true) (e : 
   -- the erase and the status, cut anywhere
   module _ (sound : Sound N B s) where
     erasing : (u : Image) → Cut B (erase (nextNumber (segmentsOf N B s) % N) ∷ []) s u → NoNew k N B s u
-    erasing u c = ⊎-elim (λ q. no-new-image k N B s u q) (λ q. replaced-aside u (q .0) (q .1) (q .2)) (erasing-left N B s z e sound u c)
+    erasing u c = ⊎_elim (λ q. no-new-image k N B s u q) (λ q. replaced-aside u q.0 q.1 q.2) (erasing-left N B s z e sound u c)
 
     pub ending : (u : Image) → Cut B (erase (nextNumber (segmentsOf N B s) % N) ∷ settle N B (nextNumber (segmentsOf N B s) - 1)) s u → NoNew k N B s u
     unfolding run
     ending u c =
         let t = step B (erase i) s in
-        ⊎-elim (λ d. erasing u d)
-        (λ d. ⊎-elim (λ q. no-new-trans k N B s t u (erasing t (whole-cut B (erase i ∷ []) s)) (no-new-image k N B t u q))
+        ⊎_elim (λ d. erasing u d)
+        (λ d. ⊎_elim (λ q. no-new-trans k N B s t u (erasing t (whole-cut B (erase i ∷ []) s)) (no-new-image k N B t u q))
         (λ q. settling u (ap (λ y. segmentsOf N B y) q ∙ settled-there N B s z e t (wiped-size N B s z e) (wiped-segments N B s z e)))
         (settle-whole N B s z e t (wiped-size N B s z e) (wiped-segments N B s z e) u d))
         (cut-append B (erase i ∷ []) (settle N B (nextNumber l - 1)) s u c)

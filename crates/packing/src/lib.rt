@@ -1,20 +1,18 @@
 // What the exports give, packed into one number: an answer with a count, a place or a length.
+ghost use Rattle.std.specs.Prelude.{◌≡◌, cond, ◌+◌, ◌*◌, ◌%◌, ◌≤◌};
+ghost use Rattle.model.specs.Chip.{largestImage};
+ghost use Rattle.model.specs.Answers.{code_of};
+ghost use Rattle.text.specs.Buffer.{mostText};
+ghost use Rattle.packing.specs.Counts.{counts};
+
 use blank::BlankTest;
-use model::Located;
-use model::Performed;
+use model::{Located, Performed};
 use text::Printed;
-ghost use mathlib.Core.Path.{_≡_};
-ghost use mathlib.Core.Bool.{cond};
-ghost use Prim.Native.Nat.{_+_, _*_, _%_, _≤_};
-ghost use Rattle·model.specs.Chip.{largestImage};
-ghost use Rattle·model.specs.Answers.{codeOf};
-ghost use Rattle·text.specs.Buffer.{mostText};
-ghost use Rattle·packing·specs.specs.Counts.{counts};
 
 // The answer, and 256 times the steps done: a list never has more than some sixteen million.
 pub fn packed(p: Performed) -> u64
-    requires { ⌜ p .steps ≤ largestImage ⌝ }
-    ensures { λ r. ⌜ r ≡ codeOf (p .answer) + 256 * p .steps ⌝ }
+    requires { p.steps ≤ largestImage }
+    ensures { result ≡ code_of p.answer + 256 * p.steps }
 {
     let answer = p.answer;
     request::number_of(answer) + 256 * p.steps
@@ -22,8 +20,8 @@ pub fn packed(p: Performed) -> u64
 
 // The answer, 256 times the length and 65,536 times the offset.
 pub fn packed_read(p: Located) -> u64
-    requires { ⌜ (p .offset ≤ largestImage) × (p .length ≤ 248) ⌝ }
-    ensures { λ r. ⌜ r ≡ codeOf (p .answer) + 256 * p .length + 65536 * p .offset ⌝ }
+    requires { (p.offset ≤ largestImage) × (p.length ≤ 248) }
+    ensures { result ≡ code_of p.answer + 256 * p.length + 65536 * p.offset }
 {
     let answer = p.answer;
     let length = p.length as u64;
@@ -34,7 +32,7 @@ pub fn packed_read(p: Located) -> u64
 // The same of a mounted call, of whose list of steps nothing is known if the table is not the image's. In step it is told
 // whole.
 pub fn packed_mounted(p: Performed) -> u64
-    ensures { λ r. ⌜ r ≡ codeOf (p .answer) + 256 * (p .steps % counts) ⌝ }
+    ensures { result ≡ code_of p.answer + 256 * (p.steps % counts) }
 {
     let answer = p.answer;
     request::number_of(answer) + 256 * (p.steps % COUNTS)
@@ -45,7 +43,7 @@ const COUNTS: u64 = 72057594037927936;
 
 // 1 if all are 255, otherwise 0, and 256 times the groups looked at.
 pub fn packed_blank(t: BlankTest) -> u64
-    ensures { λ r. ⌜ r ≡ cond (t .blank) 1 0 + 256 * (t .groups % counts) ⌝ }
+    ensures { result ≡ cond t.blank 1 0 + 256 * (t.groups % counts) }
 {
     let groups = t.groups as u64 % COUNTS;
     if t.blank {
@@ -56,8 +54,8 @@ pub fn packed_blank(t: BlankTest) -> u64
 
 // The answer, and 256 times the length of a text.
 pub fn packed_print(p: Printed) -> u64
-    requires { ⌜ p .length ≤ mostText ⌝ }
-    ensures { λ r. ⌜ r ≡ codeOf (p .answer) + 256 * p .length ⌝ }
+    requires { p.length ≤ mostText }
+    ensures { result ≡ code_of p.answer + 256 * p.length }
 {
     let answer = p.answer;
     let bytes = p.length as u64;

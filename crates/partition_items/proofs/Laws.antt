@@ -1,26 +1,26 @@
 -- Laws of items and partitions: one item's bytes tested and copied; what steps in one partition leave in another.
-use Prim.Native.Nat.{ℕ, zero, suc, _+_, _-_, _*_, _≤_, _<_}
-use mathlib.Core.Path.{_≡_, refl, sym, ap, _∙_}
-use mathlib.Core.Logic.{_⊎_, inl, inr, ⊎-elim}
+use Prim.Native.Nat.{ℕ, zero, suc, ◌+◌, ◌-◌, ◌*◌, ◌≤◌, ◌<◌}
+use mathlib.Core.Path.{◌≡◌, refl, sym, ap, ◌∙◌}
+use mathlib.Core.Logic.{◌⊎◌, inl, inr, ⊎_elim}
 use mathlib.Core.Bool.{Bool, true, false, cond}
-use mathlib.Core.List.{List, [], _∷_, _++_}
-use native.Mathlib.Nat.{suc-mul, mul-le-mul-right}
-use native.Mathlib.Decide.{decLe}
+use mathlib.Core.List.{List, [], ◌∷◌, ◌++◌}
+use native.Mathlib.Nat.{suc-mul, mul-le-mul_right}
+use native.Mathlib.Decide.{dec_le}
 use native.Mathlib.Omega.{arith}
-use lib.ListN.{length, getD, take, drop, set, replicate, length-take, length-drop, length-replicate, List·getD-append}
+use lib.ListN.{length, get_or, take, drop, set, replicate, length-take, length-drop, length-replicate, get_or-append}
 use lib.Dec.{leb}
-use lib.Bits.{bitAnd}
-use lib.Seq.{getD-take, getD-drop, getD-set-other, getD-append-add, length-take-le, ext-getD}
+use lib.Bits.{bit_and}
+use lib.Seq.{get_or-take, get_or-drop, get_or-set_other, get_or-append-add, length-take-le, ext_get_or}
 use borrow.Author.Tests.{leb-true}
-use Rattle·model.specs.Chip.{Image, Step, program, erase, clear, erased}
-use Rattle·model.specs.Header.{isBlank}
-use Rattle·model.specs.Steps.{programs}
-use Rattle·flash.specs.Units.{withUnit, stepIn, runIn}
-use Rattle·model.specs.Laws.Programs.{Outside, spares-programs, spared-run}
-use Rattle·flash.specs.Ran.{RanIn, Within}
-use Rattle·flash.proofs.Laws.{ProgrammedTo, programs-turn}
-use Rattle·partitions.specs.Writes.{itemSteps}
-use Rattle·partition_items·specs.specs.Carrying.{Disjoint}
+use Rattle.model.specs.Chip.{Image, Step, program, erase, clear, erased}
+use Rattle.model.specs.Header.{isBlank}
+use Rattle.model.specs.Steps.{programs}
+use Rattle.flash.specs.Units.{withUnit, stepIn, runIn}
+use Rattle.model.specs.Laws.Programs.{Outside, spares-programs, spared-run}
+use Rattle.flash.specs.Ran.{RanIn, Within}
+use Rattle.flash.proofs.Laws.{ProgrammedTo, programs-turn}
+use Rattle.partitions.specs.Writes.{itemSteps}
+use Rattle.partition_items.specs.Carrying.{Disjoint}
 
 -- ---- one item's bytes
 
@@ -29,24 +29,24 @@ pub part-blank : (s : Image) (at size : ℕ) {t : Bool} → t ≡ isBlank (take 
 part-blank s at size e = let f : at + 1 + size - at ≡ 1 + size = omega arith in rw f at e
 
 -- a byte that is still to be copied is as it was: those programmed so far are others
-copied-next : (from to size i : ℕ) (s t : Image) → from + size ≤ length s → Disjoint from to size → i < size → ProgrammedTo to i (take size (drop from s)) s t
-    → getD t (from + i) 0 ≡ getD (take size (drop from s)) i 0
-copied-next from to size i s t b a h e =
+copied_next : (from to size i : ℕ) (s t : Image) → from + size ≤ length s → Disjoint from to size → i < size → ProgrammedTo to i (take size (drop from s)) s t
+    → get_or t (from + i) 0 ≡ get_or (take size (drop from s)) i 0
+copied_next from to size i s t b a h e =
     let bs : List ℕ = take size (drop from s) in
     let few = length-take i bs in
-    let outside : Outside (from + i) to (length (take i bs)) = ⊎-elim (λ l. inl (omega arith)) (λ l. inr (omega arith)) a in
-    ap (λ (y : Image). getD y (from + i) 0) (e 0)
+    let outside : Outside (from + i) to (length (take i bs)) = ⊎_elim (λ l. inl (omega arith)) (λ l. inr (omega arith)) a in
+    ap (λ (y : Image). get_or y (from + i) 0) (e 0)
     ∙ (spared-run 0 (from + i) (programs to (take i bs)) s (spares-programs (from + i) to (take i bs) outside)
-    ∙ (sym (getD-drop from s i 0) ∙ sym (getD-take size (drop from s) i 0 h)))
+    ∙ (sym (get_or-drop from s i 0) ∙ sym (get_or-take size (drop from s) i 0 h)))
 
 pub copied-length : (from size : ℕ) (s : Image) → from + size ≤ length s → length (take size (drop from s)) ≡ size
 copied-length from size s b = length-take-le size (drop from s) (omega (arith, length-drop from s))
 
 -- one byte more
 pub copied-turn : (from to size i : ℕ) (s t : Image) → from + size ≤ length s → Disjoint from to size → i < size → ProgrammedTo to i (take size (drop from s)) s t
-    → ProgrammedTo to (i + 1) (take size (drop from s)) s (set t (to + i) (bitAnd (getD t (to + i) 0) (getD t (from + i) 0)))
+    → ProgrammedTo to (i + 1) (take size (drop from s)) s (set t (to + i) (bit_and (get_or t (to + i) 0) (get_or t (from + i) 0)))
 copied-turn from to size i s t b a h e =
-    rw (copied-next from to size i s t b a h e) (programs-turn to i (take size (drop from s)) s t (omega (arith, copied-length from size s b)) e)
+    rw (copied_next from to size i s t b a h e) (programs-turn to i (take size (drop from s)) s t (omega (arith, copied-length from size s b)) e)
 
 -- ---- steps in one partition, and the bytes of another
 
@@ -58,12 +58,12 @@ Inside S p (erase i ∷ xs) = ⊥
 
 pub inside-within : (S p : ℕ) (xs : List Step) → Inside S p xs → Within (p * S + S) xs
 inside-within S p [] w = tt
-inside-within S p (program at v ∷ xs) w = (w .1, inside-within S p xs (w .2))
+inside-within S p (program at v ∷ xs) w = (w.1, inside-within S p xs w.2)
 inside-within S p (erase i ∷ xs) w = w
 
 inside-append : (S p : ℕ) (xs ys : List Step) → Inside S p xs → Inside S p ys → Inside S p (xs ++ ys)
 inside-append S p [] ys v w = w
-inside-append S p (program at b ∷ xs) ys v w = (v .0, v .1, inside-append S p xs ys (v .2) w)
+inside-append S p (program at b ∷ xs) ys v w = (v.0, v.1, inside-append S p xs ys v.2 w)
 inside-append S p (erase i ∷ xs) ys v w = v
 
 inside-programs : (S p at : ℕ) (bs : List ℕ) → p * S ≤ at → at + length bs ≤ p * S + S → Inside S p (programs at bs)
@@ -76,20 +76,20 @@ inside-item S p at item bs h k = inside-append S p (programs (at + 1) bs) (progr
 
 -- two images have the same bytes in partition p
 abbrev pub Same : ℕ → ℕ → Image → Image → Type 0
-Same S p s t = (k : ℕ) → k < S → getD s (p * S + k) 0 ≡ getD t (p * S + k) 0
+Same S p s t = (k : ℕ) → k < S → get_or s (p * S + k) 0 ≡ get_or t (p * S + k) 0
 
 apart : (S p q : ℕ) → (q ≡ p → ⊥) → (q * S + S ≤ p * S) ⊎ (p * S + S ≤ q * S)
-apart S p q n = elim (decLe p q) [ yes l ↦ inr (before p q (omega arith)) | no l ↦ inl (before q p (omega arith)) ]
+apart S p q n = elim (dec_le p q) [ yes l ↦ inr (before p q (omega arith)) | no l ↦ inl (before q p (omega arith)) ]
   where
     before : (i j : ℕ) → i < j → i * S + S ≤ j * S
-    before i j l = omega (arith, mul-le-mul-right S l, suc-mul i S)
+    before i j l = omega (arith, mul-le-mul_right S l, suc-mul i S)
 
 elsewhere : (S p q k : ℕ) → (q ≡ p → ⊥) → k < S → (q * S + k < p * S) ⊎ (p * S + S ≤ q * S + k)
-elsewhere S p q k n h = ⊎-elim (λ l. inl (omega arith)) (λ l. inr (omega arith)) (apart S p q n)
+elsewhere S p q k n h = ⊎_elim (λ l. inl (omega arith)) (λ l. inr (omega arith)) (apart S p q n)
 
 -- the same place of two partitions
 pub places-disjoint : (S from to at n : ℕ) → (from ≡ to → ⊥) → at + n ≤ S → Disjoint (from * S + at) (to * S + at) n
-places-disjoint S from to at n d h = ⊎-elim (λ l. inl (omega arith)) (λ l. inr (omega arith)) (apart S to from d)
+places-disjoint S from to at n d h = ⊎_elim (λ l. inl (omega arith)) (λ l. inr (omega arith)) (apart S to from d)
 
 -- programs in one partition, as far as a budget goes
 programs-kept : (S p q n : ℕ) (xs : List Step) (s : Image) → (q ≡ p → ⊥) → Inside S p xs → Same S q (runIn S (take n xs) s) s
@@ -97,19 +97,19 @@ unfolding runIn stepIn
 programs-kept S p q zero xs s a w k h = refl
 programs-kept S p q (suc n) [] s a w k h = refl
 programs-kept S p q (suc n) (program at v ∷ xs) s a w k h =
-    programs-kept S p q n xs (set s at (clear (getD s at 0) v)) a (w .2) k h
-    ∙ getD-set-other s at (q * S + k) (clear (getD s at 0) v) 0 (λ e. ⊎-elim (λ l. omega (arith, w .0)) (λ l. omega (arith, w .1)) (elsewhere S p q k a h))
+    programs-kept S p q n xs (set s at (clear (get_or s at 0) v)) a w.2 k h
+    ∙ get_or-set_other s at (q * S + k) (clear (get_or s at 0) v) 0 (λ e. ⊎_elim (λ l. omega (arith, w.0)) (λ l. omega (arith, w.1)) (elsewhere S p q k a h))
 programs-kept S p q (suc n) (erase i ∷ xs) s a w k h = absurd w
 
 pub ran-kept : (S p q : ℕ) {xs : List Step} {n m : ℕ} {s t : Image} → (q ≡ p → ⊥) → Inside S p xs → RanIn xs S n m s t → Same S q t s
-ran-kept S p q {xs} {n} {m} {s} a w d k h = ap (λ (y : Image). getD y (q * S + k) 0) (d .image) ∙ programs-kept S p q n xs s a w k h
+ran-kept S p q {xs} {n} {m} {s} a w d k h = ap (λ (y : Image). get_or y (q * S + k) 0) d.image ∙ programs-kept S p q n xs s a w k h
 
 -- an erase of one partition
-erase-elsewhere : (S p j : ℕ) (s : Image) → p * S + S ≤ length s → (j < p * S) ⊎ (p * S + S ≤ j) → getD (withUnit S p (erased S) s) j 0 ≡ getD s j 0
+erase-elsewhere : (S p j : ℕ) (s : Image) → p * S + S ≤ length s → (j < p * S) ⊎ (p * S + S ≤ j) → get_or (withUnit S p (erased S) s) j 0 ≡ get_or s j 0
 unfolding withUnit erased
 erase-elsewhere S p j s b (inl l) =
     let la : length (take (p * S) s) ≡ p * S = length-take-le (p * S) s (omega arith) in
-    List·getD-append (take (p * S) s) _ 0 j (omega arith) ∙ getD-take (p * S) s j 0 l
+    get_or-append (take (p * S) s) _ 0 j (omega arith) ∙ get_or-take (p * S) s j 0 l
 erase-elsewhere S p j s b (inr l) =
     let front : List ℕ = take (p * S) s in
     let blank : List ℕ = replicate S 255 in
@@ -117,30 +117,30 @@ erase-elsewhere S p j s b (inr l) =
     let m : ℕ = j - (p * S + S) in
     let one : j ≡ length front + (length blank + m) = omega (arith, length-take-le (p * S) s (omega arith), length-replicate {A = ℕ} S 255) in
     let two : p * S + S + m ≡ j = omega arith in
-    ap (λ (i : ℕ). getD (front ++ (blank ++ back)) i 0) one
-    ∙ (getD-append-add front (blank ++ back) (length blank + m) 0
-    ∙ (getD-append-add blank back m 0
-    ∙ (getD-drop (p * S + S) s m 0 ∙ ap (λ (i : ℕ). getD s i 0) two)))
+    ap (λ (i : ℕ). get_or (front ++ (blank ++ back)) i 0) one
+    ∙ (get_or-append-add front (blank ++ back) (length blank + m) 0
+    ∙ (get_or-append-add blank back m 0
+    ∙ (get_or-drop (p * S + S) s m 0 ∙ ap (λ (i : ℕ). get_or s i 0) two)))
 
-erase-step : (S p q k : ℕ) (s : Image) → (q ≡ p → ⊥) → k < S → getD (stepIn S (erase p) s) (q * S + k) 0 ≡ getD s (q * S + k) 0
+erase-step : (S p q k : ℕ) (s : Image) → (q ≡ p → ⊥) → k < S → get_or (stepIn S (erase p) s) (q * S + k) 0 ≡ get_or s (q * S + k) 0
 unfolding stepIn
 erase-step S p q k s a h = go (leb (p * S + S) (length s)) refl
   where
-    go : (t : Bool) → leb (p * S + S) (length s) ≡ t → getD (cond t (withUnit S p (erased S) s) s) (q * S + k) 0 ≡ getD s (q * S + k) 0
+    go : (t : Bool) → leb (p * S + S) (length s) ≡ t → get_or (cond t (withUnit S p (erased S) s) s) (q * S + k) 0 ≡ get_or s (q * S + k) 0
     go true e = erase-elsewhere S p (q * S + k) s (leb-true (p * S + S) (length s) e) (elsewhere S p q k a h)
     go false e = refl
 
 pub erase-kept : (S p q n : ℕ) {m : ℕ} {s t : Image} → (q ≡ p → ⊥) → RanIn (erase p ∷ []) S n m s t → Same S q t s
 unfolding runIn
-erase-kept S p q zero a d k h = ap (λ (y : Image). getD y (q * S + k) 0) (d .image)
-erase-kept S p q (suc zero) {m} {s} a d k h = ap (λ (y : Image). getD y (q * S + k) 0) (d .image) ∙ erase-step S p q k s a h
-erase-kept S p q (suc (suc n)) {m} {s} a d k h = ap (λ (y : Image). getD y (q * S + k) 0) (d .image) ∙ erase-step S p q k s a h
+erase-kept S p q zero a d k h = ap (λ (y : Image). get_or y (q * S + k) 0) d.image
+erase-kept S p q (suc zero) {m} {s} a d k h = ap (λ (y : Image). get_or y (q * S + k) 0) d.image ∙ erase-step S p q k s a h
+erase-kept S p q (suc (suc n)) {m} {s} a d k h = ap (λ (y : Image). get_or y (q * S + k) 0) d.image ∙ erase-step S p q k s a h
 
 -- bytes of a partition that are the same, as a piece
-pub piece-same : (at n : ℕ) (s t : Image) → length s ≡ length t → ((k : ℕ) → k < n → getD s (at + k) 0 ≡ getD t (at + k) 0) → take n (drop at s) ≡ take n (drop at t)
+pub piece-same : (at n : ℕ) (s t : Image) → length s ≡ length t → ((k : ℕ) → k < n → get_or s (at + k) 0 ≡ get_or t (at + k) 0) → take n (drop at s) ≡ take n (drop at t)
 piece-same at n s t l h =
     let same : length (take n (drop at s)) ≡ length (take n (drop at t)) = simp (length-take, length-drop) (omega arith) in
-    ext-getD 0 (take n (drop at s)) (take n (drop at t)) same (λ k b. each k (omega (arith, length-take n (drop at s))))
+    ext_get_or 0 (take n (drop at s)) (take n (drop at t)) same (λ k b. each k (omega (arith, length-take n (drop at s))))
   where
-    each : (k : ℕ) → k < n → getD (take n (drop at s)) k 0 ≡ getD (take n (drop at t)) k 0
-    each k b = getD-take n (drop at s) k 0 b ∙ (getD-drop at s k 0 ∙ (h k b ∙ (sym (getD-drop at t k 0) ∙ sym (getD-take n (drop at t) k 0 b))))
+    each : (k : ℕ) → k < n → get_or (take n (drop at s)) k 0 ≡ get_or (take n (drop at t)) k 0
+    each k b = get_or-take n (drop at s) k 0 b ∙ (get_or-drop at s k 0 ∙ (h k b ∙ (sym (get_or-drop at t k 0) ∙ sym (get_or-take n (drop at t) k 0 b))))

@@ -1,23 +1,20 @@
 // The items of a partition (request #109), programmed, tested, and carried to another partition under a budget.
-ghost use mathlib.Core.Path.{_≡_};
-ghost use mathlib.Core.List.{[], _∷_, _++_};
-ghost use Prim.Native.Nat.{_+_, _≤_};
-ghost use lib.ListN.{length, take, drop};
-ghost use Rattle·model.specs.Chip.{program};
-ghost use Rattle·model.specs.Header.{isBlank};
-ghost use Rattle·model.specs.Steps.{programs};
-ghost use Rattle·flash.specs.Ran.{RanIn, Programmed};
-ghost use Rattle·partitions.specs.Layout.{itemsOf};
-ghost use Rattle·partitions.specs.Writes.{writeItems, carried, entryFor};
-ghost use Rattle·partition_items·specs.specs.Carrying.{carrySteps, Disjoint, CarryOne, Carry};
+ghost use Rattle.std.specs.Prelude.{◌≡◌, [], ◌∷◌, ◌++◌, ◌+◌, ◌≤◌, length, take, drop};
+ghost use Rattle.model.specs.Chip.{program};
+ghost use Rattle.model.specs.Header.{isBlank};
+ghost use Rattle.model.specs.Steps.{programs};
+ghost use Rattle.flash.specs.Ran.{RanIn, Programmed};
+ghost use Rattle.partitions.specs.Layout.{items_of};
+ghost use Rattle.partitions.specs.Writes.{writeItems, carried, entryFor};
+ghost use Rattle.partition_items.specs.Carrying.{carrySteps, Disjoint, CarryOne, Carry};
 
 // ---- one item
 
 // Programs an item whose identifier byte stands at an offset: the data first, so that the byte which makes them count is the
 // last step.
 pub fn write_item(image: &mut [u8], at: usize, item: u8, contents: &[u8], budget: u64) -> u64
-    requires { ⌜ at + 1 + length (now contents) ≤ length (now image) ⌝ }
-    ensures { λ r. ⌜ Programmed (programs (at + 1) (now (contents .entry)) ++ (program at item ∷ [])) budget r (now (image .entry)) (now (image .exit)) ⌝ }
+    requires { at + 1 + length contents.now ≤ length image.old }
+    ensures { Programmed (programs (at + 1) contents.now ++ (program at item ∷ [])) budget result image.old image.new }
 {
     let left = flash::program_run(image, at + 1, contents, budget);
     flash::program_byte(image, at, item, left)
@@ -25,8 +22,8 @@ pub fn write_item(image: &mut [u8], at: usize, item: u8, contents: &[u8], budget
 
 // Whether its identifier byte and its data are all 255.
 pub fn item_erased(image: &[u8], at: usize, size: usize) -> bool
-    requires { ⌜ at + 1 + size ≤ length (now image) ⌝ }
-    ensures { λ r. ⌜ r ≡ isBlank (take (1 + size) (drop at (now (image .entry)))) ⌝ }
+    requires { at + 1 + size ≤ length image.now }
+    ensures { result ≡ isBlank (take (1 + size) (drop at image.now)) }
 {
     let end = at + 1 + size;
     let test = blank::blank_test(&image[at..end]);
@@ -35,8 +32,8 @@ pub fn item_erased(image: &[u8], at: usize, size: usize) -> bool
 
 // Programs bytes that stand elsewhere in the image, as `flash::program_run` does.
 fn copy_data(image: &mut [u8], from: usize, to: usize, size: usize, budget: u64) -> u64
-    requires { ⌜ (from + size ≤ length (now image)) × (to + size ≤ length (now image)) × Disjoint from to size ⌝ }
-    ensures { λ r. ⌜ Programmed (programs to (take size (drop from (now (image .entry))))) budget r (now (image .entry)) (now (image .exit)) ⌝ }
+    requires { (from + size ≤ length image.old) × (to + size ≤ length image.old) × Disjoint from to size }
+    ensures { Programmed (programs to (take size (drop from image.old))) budget result image.old image.new }
 {
     let covered = flash::least(budget as usize, size);
     let mut left = budget;
@@ -54,7 +51,7 @@ fn copy_data(image: &mut [u8], from: usize, to: usize, size: usize, budget: u64)
 
 // A byte of the table as a length.
 fn wide(byte: u8) -> usize
-    ensures { λ r. ⌜ (r ≡ byte) × (r ≤ 255) ⌝ }
+    ensures { (result ≡ byte) × (result ≤ 255) }
 {
     byte as usize
 }
@@ -71,8 +68,8 @@ fn carry_item(
     contents: &[u8],
     budget: u64,
 ) -> u64
-    requires { ⌜ CarryOne from to identifier size item (now contents) (length (now image)) ⌝ }
-    ensures { λ r. ⌜ Programmed (carrySteps (now (image .entry)) from to identifier size item (now (contents .entry))) budget r (now (image .entry)) (now (image .exit)) ⌝ }
+    requires { CarryOne from to identifier size item contents.now (length image.old) }
+    ensures { Programmed (carrySteps image.old from to identifier size item contents.now) budget result image.old image.new }
 {
     if identifier == item {
         return write_item(image, to, identifier, contents, budget);
@@ -95,8 +92,8 @@ pub fn carry_items(
     contents: &[u8],
     budget: u64,
 ) -> u64
-    requires { ⌜ Carry size from to (now layout) item (now contents) (length (now image)) ⌝ }
-    ensures { λ r. ⌜ RanIn (writeItems size to (carried size (now (image .entry)) from (entryFor (now (layout .entry)) item (now (contents .entry))) (itemsOf (now (layout .entry))))) size budget r (now (image .entry)) (now (image .exit)) ⌝ }
+    requires { Carry size from to layout.now item contents.now (length image.old) }
+    ensures { RanIn (writeItems size to (carried size image.old from (entryFor layout.now item contents.now) (items_of layout.now))) size budget result image.old image.new }
 {
     let source = from * size;
     let target = to * size;

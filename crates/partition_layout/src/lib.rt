@@ -1,10 +1,8 @@
 // The layout table of a board with the older partition format (request #109), tested and searched. Nothing is required of who
 // made the table: it is tested at every request.
-ghost use mathlib.Core.Path.{_≡_};
-ghost use Prim.Native.Nat.{_%_, _≤_};
-ghost use lib.ListN.{length};
-ghost use Rattle·partitions.specs.Layout.{itemsOf, bytesUsed, layoutOk};
-ghost use Rattle·partition_layout·specs.specs.Places.{Placed};
+ghost use Rattle.std.specs.Prelude.{◌≡◌, ◌%◌, ◌≤◌, length};
+ghost use Rattle.partitions.specs.Layout.{items_of, bytesUsed, layoutOk};
+ghost use Rattle.partition_layout.specs.Places.{Placed};
 
 // An item's identifier byte before the item is written, and so no identifier.
 const NO_IDENTIFIER: usize = 255;
@@ -13,6 +11,7 @@ const NO_IDENTIFIER: usize = 255;
 const STATUS_BYTES: usize = 1;
 
 // Where an item stands in a partition, and the length of its data; or the table has none with the identifier.
+#[derive(Drop)]
 pub enum Place {
     At(usize, usize),
     Nowhere,
@@ -21,7 +20,7 @@ pub enum Place {
 // Whether a table is right, for partitions of so many bytes. What the items leave of a partition is counted down: all of their
 // bytes may be more than a number holds.
 pub fn layout_ok(layout: &[u8], size: usize) -> bool
-    ensures { λ r. ⌜ r ≡ layoutOk size (now (layout .entry)) ⌝ }
+    ensures { result ≡ layoutOk size layout.now }
 {
     if layout.len() % 2 != 0 {
         return false;
@@ -57,8 +56,8 @@ pub fn layout_ok(layout: &[u8], size: usize) -> bool
 
 // Where the item with an identifier stands.
 pub fn find_item(layout: &[u8], item: u8) -> Place
-    requires { ⌜ (length (now layout) % 2 ≡ 0) × (bytesUsed (itemsOf (now layout)) ≤ 18446744073709551615) ⌝ }
-    ensures { λ r. ⌜ Placed (now (layout .entry)) item r ⌝ }
+    requires { (length layout.now % 2 ≡ 0) × (bytesUsed (items_of layout.now) ≤ 18446744073709551615) }
+    ensures { Placed layout.now item result }
 {
     let mut offset = STATUS_BYTES;
     let mut at = 0;

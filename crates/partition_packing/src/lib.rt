@@ -1,18 +1,17 @@
 // What the exports of the older partition format (request #109) give, packed into one number.
-use partitions::Spot;
-use partitions::Written;
-ghost use mathlib.Core.Path.{_≡_};
-ghost use Prim.Native.Nat.{_+_, _*_, _%_, _≤_};
-ghost use Rattle·partitions.specs.Answers.{numberOf};
-ghost use Rattle·partition_packing·specs.specs.Offsets.{offsets};
+ghost use Rattle.std.specs.Prelude.{◌≡◌, ◌+◌, ◌*◌, ◌%◌, ◌≤◌};
+ghost use Rattle.partitions.specs.Answers.{number_of};
+ghost use Rattle.partition_packing.specs.Offsets.{offsets};
+
+use partitions::{Spot, Written};
 
 // How many offsets the bits above the lowest sixteen can tell: all of an image of 256 TiB.
 const OFFSETS: usize = 281474976710656;
 
 // The answer, and 256 times the steps done: no list has more than 65,538.
 pub fn packed_write(p: Written) -> u64
-    requires { ⌜ p .steps ≤ 65538 ⌝ }
-    ensures { λ r. ⌜ r ≡ numberOf (p .answer) + 256 * p .steps ⌝ }
+    requires { p.steps ≤ 65538 }
+    ensures { result ≡ number_of p.answer + 256 * p.steps }
 {
     let answer = p.answer;
     partition_store::number_of(answer) + 256 * p.steps
@@ -20,8 +19,8 @@ pub fn packed_write(p: Written) -> u64
 
 // The answer, 256 times the length and 65,536 times the offset.
 pub fn packed_spot(p: Spot) -> u64
-    requires { ⌜ p .length ≤ 255 ⌝ }
-    ensures { λ r. ⌜ r ≡ numberOf (p .answer) + 256 * p .length + 65536 * (p .offset % offsets) ⌝ }
+    requires { p.length ≤ 255 }
+    ensures { result ≡ number_of p.answer + 256 * p.length + 65536 * (p.offset % offsets) }
 {
     let answer = p.answer;
     let length = p.length as u64;

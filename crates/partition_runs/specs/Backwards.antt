@@ -1,17 +1,17 @@
 -- From the one partition where a run ends, backwards: the statuses fall by one up to the first partition that has none, and from there on none has.
-use Prim.Native.Nat.{ℕ, zero, suc, _+_, _-_, _%_, _≤_, _<_}
-use mathlib.Core.Path.{_≡_, sym, ap, _∙_}
-use mathlib.Core.Logic.{_⊎_, inl, inr, ⊎-elim, _≢_}
-use mathlib.Core.Bool.{false}
+use Prim.Native.Nat.{ℕ, zero, suc, ◌+◌, ◌-◌, ◌%◌, ◌≤◌, ◌<◌}
+use Rattle.std.specs.Prelude.{◌≡◌, ◌⊎◌, ◌≢◌, false}
+use Rattle.std.proofs.Common.{sym, ◌∙◌, inl, inr, ⊎_elim, mod-lt, mod-eq_of_lt}
+use Rattle.std.proofs.Math.Path.{ap}
 use native.Mathlib.Omega.{arith}
-use native.Mathlib.Nat.{sub-zero, mod-lt, mod-eq-of-lt, add-mod-right}
-use native.Mathlib.Decide.{ℕ-discrete}
-use Rattle·model.specs.Chip.{Image, Bytes}
-use Rattle·model.specs.Laws.Bytes.{bytes-get}
-use Rattle·partitions.specs.Partitions.{noStatus, nextStatus, statusOf, nextPartition, endsRun, newest, newestIn}
-use Rattle·partition_runs·specs.specs.Law.{EndsAt}
-use Rattle·partition_runs·specs.specs.Rotation.{same-turn, next-turn, status-small, Only}
-use Rattle·partition_runs·specs.specs.Runs.{has-status, followed, newest-ends}
+use Rattle.std.proofs.Math.Nat.{sub-zero, add-mod_right}
+use Rattle.std.proofs.Math.Decide.{ℕ_discrete}
+use Rattle.model.specs.Chip.{Image, Bytes}
+use Rattle.model.specs.Laws.Bytes.{bytes-get}
+use Rattle.partitions.specs.Partitions.{noStatus, nextStatus, statusOf, nextPartition, endsRun, newest, newestIn}
+use Rattle.partition_runs.specs.Law.{EndsAt}
+use Rattle.partition_runs.specs.Rotation.{same_turn, next-turn, status-small, Only}
+use Rattle.partition_runs.specs.Runs.{has-status, followed, newest-ends}
 
 module _ (P S : ℕ) (s : Image) (bytes : Bytes s) (small : P ≤ 128) (q : ℕ) (o : Only (endsRun P S s) P q) where
   -- the partition d before the last
@@ -22,18 +22,18 @@ module _ (P S : ℕ) (s : Image) (bytes : Bytes s) (small : P ≤ 128) (q : ℕ)
   at d = statusOf S s (back d)
 
   last : back 0 ≡ q
-  last = ap (λ (y : ℕ). (q + y) % P) (sub-zero P) ∙ add-mod-right q P ∙ mod-eq-of-lt (o .inside)
+  last = ap (λ (y : ℕ). (q + y) % P) (sub-zero P) ∙ add-mod_right q P ∙ mod-eq_of_lt o.inside
 
   comes-after : (d : ℕ) → suc d < P → nextPartition P (back (suc d)) ≡ back d
   comes-after d h = next-turn P q (P - suc d) ∙ ap (λ (y : ℕ). (q + y) % P) (omega arith)
 
   earlier : (d : ℕ) → suc d < P → endsRun P S s (back (suc d)) ≡ false
-  earlier d h = o .others (back (suc d)) (mod-lt (q + (P - suc d)) {m = P} (omega (arith, o .inside))) other
+  earlier d h = o.others (back (suc d)) (mod-lt (q + (P - suc d)) {m = P} (omega (arith, o.inside))) other
     where
       other : back (suc d) ≢ q
       other e =
-          let w : (q + (P - suc d)) % P ≡ (q + 0) % P = e ∙ sym (mod-eq-of-lt (o .inside)) ∙ ap (λ (y : ℕ). y % P) (omega arith) in
-          omega (arith, same-turn P q (P - suc d) 0 (omega arith) (omega (arith, o .inside)) w)
+          let w : (q + (P - suc d)) % P ≡ (q + 0) % P = e ∙ sym (mod-eq_of_lt o.inside) ∙ ap (λ (y : ℕ). y % P) (omega arith) in
+          omega (arith, same_turn P q (P - suc d) 0 (omega arith) (omega (arith, o.inside)) w)
 
   -- ---- as far as statuses go
 
@@ -41,8 +41,8 @@ module _ (P S : ℕ) (s : Image) (bytes : Bytes s) (small : P ≤ 128) (q : ℕ)
   unfolding statusOf
   byte p = bytes-get s _ bytes
 
-  one-less : (u w d : ℕ) → d < 254 → w < 255 → (u + (255 - d)) % 255 ≡ (w + 1) % 255 → w ≡ (u + (255 - suc d)) % 255
-  one-less u w d h k e = omega arith
+  one_less : (u w d : ℕ) → d < 254 → w < 255 → (u + (255 - d)) % 255 ≡ (w + 1) % 255 → w ≡ (u + (255 - suc d)) % 255
+  one_less u w d h k e = omega arith
 
   falls : (d : ℕ) → d < P → ((c : ℕ) → c ≤ d → at c ≢ noStatus) → at d ≡ (statusOf S s q + (255 - d)) % 255
   unfolding nextStatus
@@ -52,18 +52,18 @@ module _ (P S : ℕ) (s : Image) (bytes : Bytes s) (small : P ≤ 128) (q : ℕ)
   falls (suc d) h some =
       let before = falls d (omega arith) (λ c l. some c (omega arith)) in
       let e : at d ≡ nextStatus (at (suc d)) = ap (statusOf S s) (sym (comes-after d h)) ∙ followed P S s (back (suc d)) (earlier d h) (some (suc d) (omega arith)) in
-      one-less (statusOf S s q) (at (suc d)) d (omega arith) (below (at (suc d)) (byte (back (suc d))) (some (suc d) (omega arith))) (sym before ∙ e)
+      one_less (statusOf S s q) (at (suc d)) d (omega arith) (below (at (suc d)) (byte (back (suc d))) (some (suc d) (omega arith))) (sym before ∙ e)
     where
       below : (x : ℕ) → x < 256 → x ≢ noStatus → x < 255
-      below x l n = elim (ℕ-discrete x 255) [ yes e ↦ absurd (n e) | no e ↦ omega arith ]
+      below x l n = elim (ℕ_discrete x 255) [ yes e ↦ absurd (n e) | no e ↦ omega arith ]
 
   -- once there is none, there is none before it
   stays-none : (d n : ℕ) → n ≤ d → d < P → at n ≡ noStatus → at d ≡ noStatus
   unfolding nextStatus
   stays-none zero n l h e = ap at (omega arith) ∙ e
-  stays-none (suc d) n l h e = elim (ℕ-discrete n (suc d)) [
+  stays-none (suc d) n l h e = elim (ℕ_discrete n (suc d)) [
     | yes c ↦ ap at (sym c) ∙ e
-    | no c ↦ elim (ℕ-discrete (at (suc d)) noStatus) [
+    | no c ↦ elim (ℕ_discrete (at (suc d)) noStatus) [
       | yes w ↦ w
       | no w ↦ absurd (clash (sym (stays-none d n (omega arith) (omega arith) e) ∙ ap (statusOf S s) (sym (comes-after d h)) ∙ followed P S s (back (suc d)) (earlier d h) w))
     ]
@@ -81,18 +81,18 @@ module _ (P S : ℕ) (s : Image) (bytes : Bytes s) (small : P ≤ 128) (q : ℕ)
 
   search-back : (k : ℕ) → ((c : ℕ) → c < k → at c ≢ noStatus) ⊎ Stops k
   search-back zero = inl (λ c l. absurd (omega arith))
-  search-back (suc k) = ⊎-elim next (λ w. inr (record { n = w .n; within = omega (arith, w .within); none = w .none; some = w .some })) (search-back k)
+  search-back (suc k) = ⊎_elim next (λ w. inr (record { n = w.n; within = omega (arith, w.within); none = w.none; some = w.some })) (search-back k)
     where
       next : ((c : ℕ) → c < k → at c ≢ noStatus) → ((c : ℕ) → c < suc k → at c ≢ noStatus) ⊎ Stops (suc k)
-      next w = elim (ℕ-discrete (at k) noStatus) [
+      next w = elim (ℕ_discrete (at k) noStatus) [
         | yes e ↦ inr (record { n = k; within = omega arith; none = e; some = w })
-        | no e ↦ inl (λ c l. elim (ℕ-discrete c k) [ yes d ↦ rw d e | no d ↦ w c (omega arith) ])
+        | no e ↦ inl (λ c l. elim (ℕ_discrete c k) [ yes d ↦ rw d e | no d ↦ w c (omega arith) ])
       ]
 
   -- ---- the run
 
-  run-of : (b : ℕ) → b < P → ((c : ℕ) → c ≤ b → at c ≢ noStatus) → ((d : ℕ) → b < d → d < P → at d ≡ noStatus) → EndsAt P S s q
-  run-of b h some none = record {
+  run_of : (b : ℕ) → b < P → ((c : ℕ) → c ≤ b → at c ≢ noStatus) → ((d : ℕ) → b < d → d < P → at d ≡ noStatus) → EndsAt P S s q
+  run_of b h some none = record {
     start = q + (P - b);
     status = statusOf S s q + (255 - b);
     before = b;
@@ -109,21 +109,21 @@ module _ (P S : ℕ) (s : Image) (bytes : Bytes s) (small : P ≤ 128) (q : ℕ)
       rest : (j : ℕ) → suc b ≤ j → j < P → statusOf S s ((q + (P - b) + j) % P) ≡ noStatus
       rest j l w =
           let e : q + (P - b) + j ≡ q + (P - (P - (j - b))) + P = omega arith in
-          ap (statusOf S s) (ap (λ (y : ℕ). y % P) e ∙ add-mod-right (q + (P - (P - (j - b)))) P) ∙ none (P - (j - b)) (omega arith) (omega arith)
+          ap (statusOf S s) (ap (λ (y : ℕ). y % P) e ∙ add-mod_right (q + (P - (P - (j - b)))) P) ∙ none (P - (j - b)) (omega arith) (omega arith)
 
-  ends-at : EndsAt P S s q
-  ends-at = ⊎-elim full part (search-back P)
+  ends_at : EndsAt P S s q
+  ends_at = ⊎_elim full part (search-back P)
     where
       full : ((c : ℕ) → c < P → at c ≢ noStatus) → EndsAt P S s q
-      full w = run-of (P - 1) (omega (arith, o .inside)) (λ c l. w c (omega (arith, o .inside))) (λ d l k. absurd (omega arith))
+      full w = run_of (P - 1) (omega (arith, o.inside)) (λ c l. w c (omega (arith, o.inside))) (λ d l k. absurd (omega arith))
 
       part : Stops P → EndsAt P S s q
-      part w = go (w .n) (w .within) (w .none) (w .some)
+      part w = go w.n w.within w.none w.some
         where
           go : (n : ℕ) → n < P → at n ≡ noStatus → ((c : ℕ) → c < n → at c ≢ noStatus) → EndsAt P S s q
-          go zero l none some = absurd (has-status P S s q (o .holds) (ap (statusOf S s) (sym last) ∙ none))
-          go (suc b) l none some = run-of b (omega arith) (λ c k. some c (omega arith)) (λ d k m. stays-none d (suc b) k m none)
+          go zero l none some = absurd (has-status P S s q o.holds (ap (statusOf S s) (sym last) ∙ none))
+          go (suc b) l none some = run_of b (omega arith) (λ c k. some c (omega arith)) (λ d k m. stays-none d (suc b) k m none)
 
 -- what is newest is the last of a single run
 pub newest-run : (P S : ℕ) (s : Image) → Bytes s → P ≤ 128 → (q : ℕ) → newestIn P S s ≡ newest q → EndsAt P S s q
-newest-run P S s bytes small q e = ends-at P S s bytes small q (newest-ends P S s q e)
+newest-run P S s bytes small q e = ends_at P S s bytes small q (newest-ends P S s q e)

@@ -1,51 +1,47 @@
 -- One write: whether it is taken, which list it has, and what becomes of the run of statuses.
-use Prim.Native.Nat.{ℕ, zero, suc, _+_, _-_, _%_, _≤_}
-use mathlib.Core.Path.{_≡_, refl, sym, ap, _∙_, subst}
-use mathlib.Core.Logic.{_≢_}
-use mathlib.Core.Bool.{Bool, true, false, cond, _&&_, not}
-use mathlib.Core.List.{List, [], _∷_}
-use native.Mathlib.Omega.{arith}
-use native.Mathlib.Nat.{zero-mod, mod-add-mod}
-use lib.ListN.{length}
-use lib.Dec.{eqb}
-use borrow.Author.Tests.{eqb-true, eqb-false}
-use Rattle·model.specs.Chip.{Image, Step}
-use Rattle·model.specs.Answers.{Work, firstOf}
-use Rattle·model.specs.Laws.Lists.{and-left, and-right}
-use Rattle·partitions.specs.Layout.{Item, itemsOf, layoutOk, hasItem, itemOf}
-use Rattle·partitions.specs.Partitions.{imageOk, partitionSize, statusOf, nextStatus, nextPartition, newestIn, newestOf}
-use Rattle·partitions.specs.Items.{isErased}
-use Rattle·partitions.specs.Writes.{Entry, entryFor, writeItem, fill, carried, writeSteps}
-use Rattle·partitions.specs.Answers.{isNoRun, refusals, itemFits, writeWork}
-use Rattle·partition_runs·specs.specs.Reach.{Reaches, pointed, reach-newest, reach-status}
+use Rattle.std.specs.Prelude.{ℕ, zero, suc, ◌+◌, ◌-◌, ◌%◌, ◌≤◌, ◌≡◌, ◌≢◌, Bool, cond, ◌&&◌, not, List, [], ◌∷◌, length, eqb}
+use Rattle.std.proofs.Math.Path.{refl, ap}
+use Rattle.std.proofs.Common.{sym, ◌∙◌, subst, arith, eqb-true}
+use Rattle.std.proofs.Math.Bool.{true, false}
+use Rattle.std.proofs.Math.Nat.{zero-mod, mod-add-mod}
+use Rattle.std.proofs.lemmas.Bool.{eqb-false}
+use Rattle.model.specs.Chip.{Image, Step}
+use Rattle.model.specs.Answers.{Work, first_of}
+use Rattle.model.specs.Laws.Lists.{and_left, and_right}
+use Rattle.partitions.specs.Layout.{Item, items_of, layoutOk, hasItem, item_of}
+use Rattle.partitions.specs.Partitions.{imageOk, partitionSize, statusOf, nextStatus, nextPartition, newestIn, newestOf}
+use Rattle.partitions.specs.Items.{isErased}
+use Rattle.partitions.specs.Writes.{Entry, entryFor, writeItem, fill, carried, writeSteps}
+use Rattle.partitions.specs.Answers.{isNoRun, refusals, itemFits, writeWork}
+use Rattle.partition_runs.specs.Reach.{Reaches, pointed, reach-newest, reach-status}
 
 -- ---- taken or refused
 
 pub record Taken (P : ℕ) (layout : List ℕ) (s : Image) (i : ℕ) (d : List ℕ) : Type 0 where
   pub right : imageOk P s ≡ true
   pub table : layoutOk (partitionSize P s) layout ≡ true
-  pub known : hasItem i (itemsOf layout) ≡ true
-  pub whole : length d ≡ itemOf i (itemsOf layout) .size
+  pub known : hasItem i (items_of layout) ≡ true
+  pub whole : length d ≡ (item_of i (items_of layout)).size
   pub single : isNoRun (newestOf P s) ≡ false
 
 -- its list
-abbrev pub listOf : ℕ → List ℕ → Image → ℕ → List ℕ → List Step
-listOf P layout s i d = writeSteps P (partitionSize P s) (itemsOf layout) s (newestOf P s) (entryFor layout i d)
+abbrev pub list_of : ℕ → List ℕ → Image → ℕ → List ℕ → List Step
+list_of P layout s i d = writeSteps P (partitionSize P s) (items_of layout) s (newestOf P s) (entryFor layout i d)
 
 pub data Verdict (P : ℕ) (layout : List ℕ) (s : Image) (i : ℕ) (d : List ℕ) : Work → Type 0 where
-  taken : Taken P layout s i d → Verdict P layout s i d (record { code = 0; steps = listOf P layout s i d })
+  taken : Taken P layout s i d → Verdict P layout s i d (record { code = 0; steps = list_of P layout s i d })
   refused : (k : ℕ) → k ≢ 0 → k ≢ 9 → (k ≡ 4 → isNoRun (newestOf P s) ≡ true) → Verdict P layout s i d (record { code = k; steps = [] })
 
 -- the first of the four that applies
 abbrev first-of : Bool → Bool → Bool → Bool → ℕ
 first-of a b c n = cond (not a) 1 (cond (not b) 2 (cond (not c) 3 (cond n 4 0)))
 
-all-pass : (a b c n : Bool) → first-of a b c n ≡ 0 → (a ≡ true) × (b ≡ true) × (c ≡ true) × (n ≡ false)
-all-pass true true true true e = absurd (omega arith)
-all-pass true true true false e = (refl, refl, refl, refl)
-all-pass true true false n e = absurd (omega arith)
-all-pass true false c n e = absurd (omega arith)
-all-pass false b c n e = absurd (omega arith)
+all_pass : (a b c n : Bool) → first-of a b c n ≡ 0 → (a ≡ true) × (b ≡ true) × (c ≡ true) × (n ≡ false)
+all_pass true true true true e = absurd (omega arith)
+all_pass true true true false e = (refl, refl, refl, refl)
+all_pass true true false n e = absurd (omega arith)
+all_pass true false c n e = absurd (omega arith)
+all_pass false b c n e = absurd (omega arith)
 
 below-nine : (a b c n : Bool) → first-of a b c n ≢ 9
 below-nine true true true true e = omega arith
@@ -54,37 +50,37 @@ below-nine true true false n e = omega arith
 below-nine true false c n e = omega arith
 below-nine false b c n e = omega arith
 
-no-run : (a b c n : Bool) → first-of a b c n ≡ 4 → n ≡ true
-no-run true true true true e = refl
-no-run true true true false e = absurd (omega arith)
-no-run true true false n e = absurd (omega arith)
-no-run true false c n e = absurd (omega arith)
-no-run false b c n e = absurd (omega arith)
+no_run : (a b c n : Bool) → first-of a b c n ≡ 4 → n ≡ true
+no_run true true true true e = refl
+no_run true true true false e = absurd (omega arith)
+no_run true true false n e = absurd (omega arith)
+no_run true false c n e = absurd (omega arith)
+no_run false b c n e = absurd (omega arith)
 
 pub verdict : (P : ℕ) (layout : List ℕ) (s : Image) (i : ℕ) (d : List ℕ) → Verdict P layout s i d (writeWork P layout s i d)
-unfolding writeWork refusals firstOf itemFits
+unfolding writeWork refusals first_of itemFits
 verdict P layout s i d = go (eqb code 0) refl
   where
     size : ℕ
     size = partitionSize P s
 
     fits : Bool
-    fits = hasItem i (itemsOf layout) && eqb (length d) (itemOf i (itemsOf layout) .size)
+    fits = hasItem i (items_of layout) && eqb (length d) (item_of i (items_of layout)).size
 
     code : ℕ
     code = first-of (imageOk P s) (layoutOk size layout) fits (isNoRun (newestOf P s))
 
-    go : (t : Bool) → eqb code 0 ≡ t → Verdict P layout s i d (cond t (record { code = 0; steps = listOf P layout s i d }) (record { code = code; steps = [] }))
+    go : (t : Bool) → eqb code 0 ≡ t → Verdict P layout s i d (cond t (record { code = 0; steps = list_of P layout s i d }) (record { code = code; steps = [] }))
     go true e =
-        let w = all-pass (imageOk P s) (layoutOk size layout) fits (isNoRun (newestOf P s)) (eqb-true code 0 e) in
+        let w = all_pass (imageOk P s) (layoutOk size layout) fits (isNoRun (newestOf P s)) (eqb-true code 0 e) in
         taken (record {
-          right = w .0;
-          table = w .1;
-          known = and-left (hasItem i (itemsOf layout)) (eqb (length d) (itemOf i (itemsOf layout) .size)) (w .2);
-          whole = eqb-true (length d) (itemOf i (itemsOf layout) .size) (and-right (hasItem i (itemsOf layout)) (eqb (length d) (itemOf i (itemsOf layout) .size)) (w .2));
-          single = w .3;
+          right = w.0;
+          table = w.1;
+          known = and_left (hasItem i (items_of layout)) (eqb (length d) (item_of i (items_of layout)).size) w.2;
+          whole = eqb-true (length d) (item_of i (items_of layout)).size (and_right (hasItem i (items_of layout)) (eqb (length d) (item_of i (items_of layout)).size) w.2);
+          single = w.3;
         })
-    go false e = refused code (eqb-false code 0 e) (below-nine (imageOk P s) (layoutOk size layout) fits (isNoRun (newestOf P s))) (no-run (imageOk P s) (layoutOk size layout) fits (isNoRun (newestOf P s)))
+    go false e = refused code (eqb-false code 0 e) (below-nine (imageOk P s) (layoutOk size layout) fits (isNoRun (newestOf P s))) (no_run (imageOk P s) (layoutOk size layout) fits (isNoRun (newestOf P s)))
 
 -- ---- the list, by the reach of the run
 
@@ -96,18 +92,18 @@ entriesFor P S xs s (suc k) e = carried S s (k % P) e xs
 module _ (P S : ℕ) (two : 2 ≤ P) (most : P ≤ 128) (s : Image) (xs : List Item) (e : Entry) where
   pub data Plan (A W : ℕ) : List Step → Type 0 where
     filling : Plan A W (fill S (A % P) (entriesFor P S xs s A e) (W % 255))
-    placing : (k : ℕ) → A ≡ suc k → isErased S s (k % P) (e .item) ≡ true → Plan A W (writeItem S (k % P) e)
+    placing : (k : ℕ) → A ≡ suc k → isErased S s (k % P) e.item ≡ true → Plan A W (writeItem S (k % P) e)
 
   -- without a run all is 0
-  none-yet : (W : ℕ) → Reaches P S s 0 W → W ≡ 0
-  none-yet W r = r .begun (omega (arith, r .index)) .1
+  none_yet : (W : ℕ) → Reaches P S s 0 W → W ≡ 0
+  none_yet W r = (r.begun (omega (arith, r.index))).1
 
   -- with one, the status is some number's after another
   some-yet : (k W : ℕ) → Reaches P S s (suc k) W → W ≡ suc (W - 1)
-  some-yet k W r = go (r .count) (r .value) (r .begun)
+  some-yet k W r = go r.count r.value r.begun
     where
-      go : (n : ℕ) → r .status + n ≡ W → (n ≡ 0 → (suc k ≡ 0) × (W ≡ 0)) → W ≡ suc (W - 1)
-      go zero e z = absurd (omega (arith, z refl .0))
+      go : (n : ℕ) → r.status + n ≡ W → (n ≡ 0 → (suc k ≡ 0) × (W ≡ 0)) → W ≡ suc (W - 1)
+      go zero e z = absurd (omega (arith, (z refl).0))
       go (suc n) e z = omega arith
 
   follows : (k w : ℕ) → Reaches P S s (suc k) (suc w) → (nextPartition P (k % P) ≡ suc k % P) × (nextStatus (statusOf S s (k % P)) ≡ suc w % 255)
@@ -121,16 +117,16 @@ module _ (P S : ℕ) (two : 2 ≤ P) (most : P ≤ 128) (s : Image) (xs : List I
   unfolding pointed writeSteps entriesFor
   plan A W r = rw (reach-newest P S two most s A W r) (go A W r)
     where
-      again : (k w : ℕ) → Reaches P S s (suc k) (suc w) → (t : Bool) → isErased S s (k % P) (e .item) ≡ t
+      again : (k w : ℕ) → Reaches P S s (suc k) (suc w) → (t : Bool) → isErased S s (k % P) e.item ≡ t
           → Plan (suc k) (suc w) (cond t (writeItem S (k % P) e) (fill S (nextPartition P (k % P)) (carried S s (k % P) e xs) (nextStatus (statusOf S s (k % P)))))
       again k w r true h = placing k refl h
-      again k w r false h = rw (follows k w r .0, follows k w r .1) filling
+      again k w r false h = rw ((follows k w r).0, (follows k w r).1) filling
 
       go : (A W : ℕ) → Reaches P S s A W → Plan A W (writeSteps P S xs s (pointed P A) e)
       go zero W r =
           let f : Plan 0 W (fill S (0 % P) (e ∷ []) (W % 255)) = filling in
-          let z : W % 255 ≡ 0 = ap (λ (y : ℕ). y % 255) (none-yet W r) in
+          let z : W % 255 ≡ 0 = ap (λ (y : ℕ). y % 255) (none_yet W r) in
           rw (zero-mod P, z) at f
       go (suc k) W r =
-          let g : Reaches P S s (suc k) (suc (W - 1)) → Plan (suc k) (suc (W - 1)) (writeSteps P S xs s (pointed P (suc k)) e) = λ r. again k (W - 1) r (isErased S s (k % P) (e .item)) refl in
+          let g : Reaches P S s (suc k) (suc (W - 1)) → Plan (suc k) (suc (W - 1)) (writeSteps P S xs s (pointed P (suc k)) e) = λ r. again k (W - 1) r (isErased S s (k % P) e.item) refl in
           subst (λ (y : ℕ). Reaches P S s (suc k) y → Plan (suc k) y (writeSteps P S xs s (pointed P (suc k)) e)) (sym (some-yet k W r)) g r

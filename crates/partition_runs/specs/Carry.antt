@@ -1,49 +1,48 @@
 -- The items of one partition carried to an erased one: there each item holds what it held, and the written one its new data.
-use Prim.Native.Nat.{ℕ, _+_, _-_, _*_, _≤_, _<_}
-use mathlib.Core.Path.{_≡_, refl, sym, ap, _∙_, subst}
-use mathlib.Core.Logic.{_⊎_, inl, inr, _≢_}
-use mathlib.Core.Bool.{Bool, true, false, cond, _||_, _&&_, not, false≢true}
-use mathlib.Core.List.{List, [], _∷_, _++_, append-assoc, append-nil}
-use native.Mathlib.Omega.{arith}
-use lib.ListN.{length, getD, drop, length-drop}
-use lib.Seq.{length-take-le}
-use lib.Dec.{eqb}
+use Rattle.std.specs.Prelude.{ℕ, ◌+◌, ◌-◌, ◌*◌, ◌≤◌, ◌<◌, ◌≡◌, ◌⊎◌, ◌≢◌, Bool, ◌||◌, ◌&&◌, length, drop}
+use Rattle.std.proofs.Math.Path.{refl, ap}
+use Rattle.std.proofs.Common.{sym, ◌∙◌, subst, inl, inr, arith}
+use Rattle.std.proofs.Math.Bool.{true, false, cond, not, false≢true}
+use mathlib.Core.List.{List, [], ◌∷◌, ◌++◌, append_assoc, append-nil}
+use Rattle.std.proofs.Math.ListN.{get_or, length-drop}
+use Rattle.std.proofs.Math.Seq.{length-take-le}
+use Rattle.std.proofs.Math.Dec.{eqb}
 use borrow.Author.Tests.{eqb-true, eqb-false, eq-eqb, not-true}
-use Rattle·model.specs.Lists.{all}
-use Rattle·model.specs.Chip.{Image, Step, Bytes}
-use Rattle·model.specs.Table.{Found, absent, present}
-use Rattle·model.specs.Laws.Lists.{and-left, and-right}
-use Rattle·model.specs.Laws.Bytes.{bytes-take, bytes-drop}
-use Rattle·flash.specs.Units.{runIn}
-use Rattle·partitions.specs.Layout.{Item, itemsFrom, itemsOf, distinct, bytesUsed, hasItem, itemOf}
-use Rattle·partitions.specs.Items.{identifierAt, dataAt, dataIn, isWritten}
-use Rattle·partitions.specs.Writes.{Entry, writeItem, writeItems, carried}
-use Rattle·partitions.specs.Laws.{RightLayout, item-lies, used-some}
-use Rattle·partition_runs·specs.specs.Effects.{run-append, run-length, Leaves, left-alone, leaves-append}
-use Rattle·partition_runs·specs.specs.Inside.{Within, within-append, item-within}
-use Rattle·partition_runs·specs.specs.Values.{valueAt, same-value, absent-value, item-leaves, item-written}
+use Rattle.model.specs.Lists.{all}
+use Rattle.model.specs.Chip.{Image, Step, Bytes}
+use Rattle.model.specs.Table.{Found, absent, present}
+use Rattle.model.specs.Laws.Lists.{and_left, and_right}
+use Rattle.model.specs.Laws.Bytes.{bytes_take, bytes_drop}
+use Rattle.flash.specs.Units.{runIn}
+use Rattle.partitions.specs.Layout.{Item, itemsFrom, items_of, distinct, bytesUsed, hasItem, item_of}
+use Rattle.partitions.specs.Items.{identifierAt, dataAt, dataIn, is_written}
+use Rattle.partitions.specs.Writes.{Entry, writeItem, writeItems, carried}
+use Rattle.partitions.specs.Laws.{RightLayout, item-lies, used-some}
+use Rattle.partition_runs.specs.Effects.{run-append, run_length, Leaves, left_alone, leaves-append}
+use Rattle.partition_runs.specs.Inside.{Within, within-append, item-within}
+use Rattle.partition_runs.specs.Values.{value_at, same-value, absent-value, item-leaves, item-written}
 
 carried-bytes : (S : ℕ) (s : Image) (p : ℕ) (x : Item) → Bytes s → Bytes (dataIn S s p x)
 unfolding dataIn
-carried-bytes S s p x b = bytes-take (x .size) (drop (dataAt S p x) s) (bytes-drop (dataAt S p x) s b)
+carried-bytes S s p x b = bytes_take x.size (drop (dataAt S p x) s) (bytes_drop (dataAt S p x) s b)
 
-value-is : (S : ℕ) (s : Image) (p : ℕ) (x : Item) → valueAt S s p x ≡ cond (isWritten S s p x) (present (dataIn S s p x)) absent
-unfolding valueAt
+value-is : (S : ℕ) (s : Image) (p : ℕ) (x : Item) → value_at S s p x ≡ cond (is_written S s p x) (present (dataIn S s p x)) absent
+unfolding value_at
 value-is S s p x = refl
 
 -- from partition p of the image s to partition q, with entry e
 module _ (S : ℕ) (s : Image) (p q : ℕ) (e : Entry) where
   -- what an item is to hold
   unfoldable pub wanted : Item → Found
-  wanted y = cond (eqb (y .identifier) (e .item .identifier)) (present (e .contents)) (valueAt S s p y)
+  wanted y = cond (eqb y.identifier e.item.identifier) (present e.contents) (value_at S s p y)
 
   -- the entry of one item, or none
-  unfoldable pub headOf : Item → List Entry
-  headOf y = cond (eqb (y .identifier) (e .item .identifier)) (e ∷ []) (cond (isWritten S s p y) (record { item = y; contents = dataIn S s p y } ∷ []) [])
+  unfoldable pub head_of : Item → List Entry
+  head_of y = cond (eqb y.identifier e.item.identifier) (e ∷ []) (cond (is_written S s p y) (record { item = y; contents = dataIn S s p y } ∷ []) [])
 
-  pub carried-next : (y : Item) (ys : List Item) → carried S s p e (y ∷ ys) ≡ headOf y ++ carried S s p e ys
-  unfolding carried headOf
-  carried-next y ys = go (eqb (y .identifier) (e .item .identifier)) (isWritten S s p y)
+  pub carried-next : (y : Item) (ys : List Item) → carried S s p e (y ∷ ys) ≡ head_of y ++ carried S s p e ys
+  unfolding carried head_of
+  carried-next y ys = go (eqb y.identifier e.item.identifier) (is_written S s p y)
     where
       go : (t u : Bool) → cond t (e ∷ carried S s p e ys) (cond u (record { item = y; contents = dataIn S s p y } ∷ carried S s p e ys) (carried S s p e ys))
           ≡ cond t (e ∷ []) (cond u (record { item = y; contents = dataIn S s p y } ∷ []) []) ++ carried S s p e ys
@@ -54,47 +53,47 @@ module _ (S : ℕ) (s : Image) (p q : ℕ) (e : Entry) where
   writes-append : (es fs : List Entry) → writeItems S q (es ++ fs) ≡ writeItems S q es ++ writeItems S q fs
   unfolding writeItems
   writes-append [] fs = refl
-  writes-append (x ∷ es) fs = rw (writes-append es fs) (sym (append-assoc (writeItem S q x) (writeItems S q es) (writeItems S q fs)))
+  writes-append (x ∷ es) fs = rw (writes-append es fs) (sym (append_assoc (writeItem S q x) (writeItems S q es) (writeItems S q fs)))
 
-  steps-next : (y : Item) (ys : List Item) → writeItems S q (carried S s p e (y ∷ ys)) ≡ writeItems S q (headOf y) ++ writeItems S q (carried S s p e ys)
-  steps-next y ys = ap (writeItems S q) (carried-next y ys) ∙ writes-append (headOf y) (carried S s p e ys)
+  steps_next : (y : Item) (ys : List Item) → writeItems S q (carried S s p e (y ∷ ys)) ≡ writeItems S q (head_of y) ++ writeItems S q (carried S s p e ys)
+  steps_next y ys = ap (writeItems S q) (carried-next y ys) ∙ writes-append (head_of y) (carried S s p e ys)
 
-  module _ (sized : length (e .contents) ≡ e .item .size) (inside : p * S + S ≤ length s) where
+  module _ (sized : length e.contents ≡ e.item.size) (inside : p * S + S ≤ length s) where
     -- an item of the table
     pub record Fine (y : Item) : Type 0 where
-      pub first : 1 ≤ y .at
-      pub end : y .at + 1 + y .size ≤ S
-      pub real : y .identifier ≢ 255
-      pub same : y .identifier ≡ e .item .identifier → y ≡ e .item
+      pub first : 1 ≤ y.at
+      pub end : y.at + 1 + y.size ≤ S
+      pub real : y.identifier ≢ 255
+      pub same : y.identifier ≡ e.item.identifier → y ≡ e.item
 
-    data-length : (y : Item) → Fine y → length (dataIn S s p y) ≡ y .size
+    data-length : (y : Item) → Fine y → length (dataIn S s p y) ≡ y.size
     unfolding dataIn dataAt identifierAt
-    data-length y f = length-take-le (y .size) (drop (p * S + y .at + 1) s) (omega (arith, length-drop (p * S + y .at + 1) s, f .end))
+    data-length y f = length-take-le y.size (drop (p * S + y.at + 1) s) (omega (arith, length-drop (p * S + y.at + 1) s, f.end))
 
     -- ---- one item
 
-    head-leaves : (y : Item) → Fine y → (i : ℕ) → (i < q * S + y .at) ⊎ (q * S + y .at + (1 + y .size) ≤ i) → Leaves S i (writeItems S q (headOf y))
-    unfolding headOf writeItems
-    head-leaves y f i o = go (eqb (y .identifier) (e .item .identifier)) refl (isWritten S s p y)
+    head-leaves : (y : Item) → Fine y → (i : ℕ) → (i < q * S + y.at) ⊎ (q * S + y.at + (1 + y.size) ≤ i) → Leaves S i (writeItems S q (head_of y))
+    unfolding head_of writeItems
+    head-leaves y f i o = go (eqb y.identifier e.item.identifier) refl (is_written S s p y)
       where
-        go : (t : Bool) → eqb (y .identifier) (e .item .identifier) ≡ t → (u : Bool)
+        go : (t : Bool) → eqb y.identifier e.item.identifier ≡ t → (u : Bool)
             → Leaves S i (writeItems S q (cond t (e ∷ []) (cond u (record { item = y; contents = dataIn S s p y } ∷ []) [])))
         go true w u =
-            let z = f .same (eqb-true (y .identifier) (e .item .identifier) w) in
-            rw append-nil (item-leaves S q (e .item) (e .contents) i sized (rw z at o))
+            let z = f.same (eqb-true y.identifier e.item.identifier w) in
+            rw append-nil (item-leaves S q e.item e.contents i sized (rw z at o))
         go false w true = rw append-nil (item-leaves S q y (dataIn S s p y) i (data-length y f) o)
         go false w false = tt
 
-    head-within : (y : Item) → Fine y → Within S q (writeItems S q (headOf y))
-    unfolding headOf writeItems
-    head-within y f = go (eqb (y .identifier) (e .item .identifier)) refl (isWritten S s p y)
+    head-within : (y : Item) → Fine y → Within S q (writeItems S q (head_of y))
+    unfolding head_of writeItems
+    head-within y f = go (eqb y.identifier e.item.identifier) refl (is_written S s p y)
       where
-        go : (t : Bool) → eqb (y .identifier) (e .item .identifier) ≡ t → (u : Bool)
+        go : (t : Bool) → eqb y.identifier e.item.identifier ≡ t → (u : Bool)
             → Within S q (writeItems S q (cond t (e ∷ []) (cond u (record { item = y; contents = dataIn S s p y } ∷ []) [])))
         go true w u =
-            let z = f .same (eqb-true (y .identifier) (e .item .identifier) w) in
-            rw append-nil (item-within S q e sized (omega (arith, ap (λ (x : Item). x .at) z, f .first)) (rw z at (f .end)))
-        go false w true = rw append-nil (item-within S q (record { item = y; contents = dataIn S s p y }) (data-length y f) (f .first) (f .end))
+            let z = f.same (eqb-true y.identifier e.item.identifier w) in
+            rw append-nil (item-within S q e sized (omega (arith, ap (λ (x : Item). x.at) z, f.first)) (rw z at f.end))
+        go false w true = rw append-nil (item-within S q (record { item = y; contents = dataIn S s p y }) (data-length y f) f.first f.end)
         go false w false = tt
 
     -- ---- the table, from an offset on
@@ -102,16 +101,16 @@ module _ (S : ℕ) (s : Image) (p q : ℕ) (e : Entry) where
     pub record Suits (o : ℕ) (r : List ℕ) : Type 0 where
       pub first : 1 ≤ o
       pub fit : o + bytesUsed (itemsFrom o r) ≤ S + 1
-      pub real : all (λ x. not (eqb (x .identifier) 255)) (itemsFrom o r) ≡ true
+      pub real : all (λ x. not (eqb x.identifier 255)) (itemsFrom o r) ≡ true
       pub once : distinct (itemsFrom o r) ≡ true
-      pub same : hasItem (e .item .identifier) (itemsFrom o r) ≡ true → itemOf (e .item .identifier) (itemsFrom o r) ≡ e .item
+      pub same : hasItem e.item.identifier (itemsFrom o r) ≡ true → item_of e.item.identifier (itemsFrom o r) ≡ e.item
 
-    not-among : (a : ℕ) (xs : List Item) → all (λ y. not (eqb a (y .identifier))) xs ≡ true → hasItem a xs ≡ true → ⊥
+    not-among : (a : ℕ) (xs : List Item) → all (λ y. not (eqb a y.identifier)) xs ≡ true → hasItem a xs ≡ true → ⊥
     unfolding all hasItem
     not-among a [] h k = false≢true k
-    not-among a (x ∷ xs) h k = go (eqb a (x .identifier)) h k (λ w. not-among a xs w)
+    not-among a (x ∷ xs) h k = go (eqb a x.identifier) h k (λ w. not-among a xs w)
       where
-        go : (t : Bool) → not t && all (λ y. not (eqb a (y .identifier))) xs ≡ true → t || hasItem a xs ≡ true → (all (λ y. not (eqb a (y .identifier))) xs ≡ true → hasItem a xs ≡ true → ⊥) → ⊥
+        go : (t : Bool) → not t && all (λ y. not (eqb a y.identifier)) xs ≡ true → t || hasItem a xs ≡ true → (all (λ y. not (eqb a y.identifier)) xs ≡ true → hasItem a xs ≡ true → ⊥) → ⊥
         go true w v ih = false≢true w
         go false w v ih = ih w v
 
@@ -122,28 +121,28 @@ module _ (S : ℕ) (s : Image) (p q : ℕ) (e : Entry) where
       abbrev later : List Item
       later = itemsFrom (o + 1 + b) r
 
-      first-fine : Fine item
-      unfolding itemsFrom bytesUsed all hasItem itemOf
-      first-fine = record {
-        first = w .first;
-        end = omega (arith, w .fit, used-some later);
-        real = eqb-false a 255 (not-true (eqb a 255) (and-left (not (eqb a 255)) (all (λ x. not (eqb (x .identifier) 255)) later) (w .real)));
-        same = λ z. rw (eq-eqb (e .item .identifier) a (sym z)) at (w .same) refl;
+      first_fine : Fine item
+      unfolding itemsFrom bytesUsed all hasItem item_of
+      first_fine = record {
+        first = w.first;
+        end = omega (arith, w.fit, used-some later);
+        real = eqb-false a 255 (not-true (eqb a 255) (and_left (not (eqb a 255)) (all (λ x. not (eqb x.identifier 255)) later) w.real));
+        same = λ z. rw (eq-eqb e.item.identifier a (sym z)) at w.same refl;
       }
 
       rest-suits : Suits (o + 1 + b) r
-      unfolding itemsFrom bytesUsed all distinct hasItem itemOf
+      unfolding itemsFrom bytesUsed all distinct hasItem item_of
       rest-suits = record {
         first = omega arith;
-        fit = omega (arith, w .fit);
-        real = and-right (not (eqb a 255)) (all (λ x. not (eqb (x .identifier) 255)) later) (w .real);
-        once = and-right (all (λ y. not (eqb a (y .identifier))) later) (distinct later) (w .once);
-        same = λ h. go (eqb (e .item .identifier) a) refl h (w .same);
+        fit = omega (arith, w.fit);
+        real = and_right (not (eqb a 255)) (all (λ x. not (eqb x.identifier 255)) later) w.real;
+        once = and_right (all (λ y. not (eqb a y.identifier)) later) (distinct later) w.once;
+        same = λ h. go (eqb e.item.identifier a) refl h w.same;
       }
         where
-          go : (t : Bool) → eqb (e .item .identifier) a ≡ t → hasItem (e .item .identifier) later ≡ true
-              → (t || hasItem (e .item .identifier) later ≡ true → cond t item (itemOf (e .item .identifier) later) ≡ e .item) → itemOf (e .item .identifier) later ≡ e .item
-          go true z h k = absurd (not-among a later (and-left (all (λ y. not (eqb a (y .identifier))) later) (distinct later) (w .once)) (rw (eqb-true (e .item .identifier) a z) at h))
+          go : (t : Bool) → eqb e.item.identifier a ≡ t → hasItem e.item.identifier later ≡ true
+              → (t || hasItem e.item.identifier later ≡ true → cond t item (item_of e.item.identifier later) ≡ e.item) → item_of e.item.identifier later ≡ e.item
+          go true z h k = absurd (not-among a later (and_left (all (λ y. not (eqb a y.identifier)) later) (distinct later) w.once) (rw (eqb-true e.item.identifier a z) at h))
           go false z h k = k h
 
     pub carried-within : (o : ℕ) (r : List ℕ) → Suits o r → Within S q (writeItems S q (carried S s p e (itemsFrom o r)))
@@ -151,8 +150,8 @@ module _ (S : ℕ) (s : Image) (p q : ℕ) (e : Entry) where
     carried-within o [] w = tt
     carried-within o (a ∷ []) w = tt
     carried-within o (a ∷ b ∷ r) w =
-        rw (steps-next (item o a b r w) (later o a b r w))
-        (within-append S q (writeItems S q (headOf (item o a b r w))) (writeItems S q (carried S s p e (later o a b r w))) (head-within (item o a b r w) (first-fine o a b r w)) (carried-within (o + 1 + b) r (rest-suits o a b r w)))
+        rw (steps_next (item o a b r w) (later o a b r w))
+        (within-append S q (writeItems S q (head_of (item o a b r w))) (writeItems S q (carried S s p e (later o a b r w))) (head-within (item o a b r w) (first_fine o a b r w)) (carried-within (o + 1 + b) r (rest-suits o a b r w)))
 
     -- what comes before these items is left alone
     later-leaves : (o : ℕ) (r : List ℕ) → Suits o r → (i : ℕ) → i < q * S + o → Leaves S i (writeItems S q (carried S s p e (itemsFrom o r)))
@@ -160,45 +159,45 @@ module _ (S : ℕ) (s : Image) (p q : ℕ) (e : Entry) where
     later-leaves o [] w i h = tt
     later-leaves o (a ∷ []) w i h = tt
     later-leaves o (a ∷ b ∷ r) w i h =
-        rw (steps-next (item o a b r w) (later o a b r w))
-        (leaves-append S i (writeItems S q (headOf (item o a b r w))) (writeItems S q (carried S s p e (later o a b r w))) (head-leaves (item o a b r w) (first-fine o a b r w) i (inl h)) (later-leaves (o + 1 + b) r (rest-suits o a b r w) i (omega arith)))
+        rw (steps_next (item o a b r w) (later o a b r w))
+        (leaves-append S i (writeItems S q (head_of (item o a b r w))) (writeItems S q (carried S s p e (later o a b r w))) (head-leaves (item o a b r w) (first_fine o a b r w) i (inl h)) (later-leaves (o + 1 + b) r (rest-suits o a b r w) i (omega arith)))
 
-    module _ (bytes : Bytes s) (new : Bytes (e .contents)) where
-      head-holds : (y : Item) → Fine y → y .identifier < 256 → (t : Image) → length t ≡ length s → q * S + S ≤ length s → ((k : ℕ) → k ≤ y .size → getD t (q * S + (y .at + k)) 0 ≡ 255)
-          → valueAt S (runIn S (writeItems S q (headOf y)) t) q y ≡ wanted y
-      unfolding headOf writeItems wanted runIn
-      head-holds y f small t l h blank = go (eqb (y .identifier) (e .item .identifier)) refl
+    module _ (bytes : Bytes s) (new : Bytes e.contents) where
+      head-holds : (y : Item) → Fine y → y.identifier < 256 → (t : Image) → length t ≡ length s → q * S + S ≤ length s → ((k : ℕ) → k ≤ y.size → get_or t (q * S + (y.at + k)) 0 ≡ 255)
+          → value_at S (runIn S (writeItems S q (head_of y)) t) q y ≡ wanted y
+      unfolding head_of writeItems wanted runIn
+      head-holds y f small t l h blank = go (eqb y.identifier e.item.identifier) refl
         where
-          empty : getD t (q * S + y .at) 0 ≡ 255
-          empty = ap (λ (z : ℕ). getD t z 0) (omega arith) ∙ blank 0 (omega arith)
+          empty : get_or t (q * S + y.at) 0 ≡ 255
+          empty = ap (λ (z : ℕ). get_or t z 0) (omega arith) ∙ blank 0 (omega arith)
 
           -- it keeps what it held, if it held something
-          old : (u : Bool) → isWritten S s p y ≡ u
-              → valueAt S (runIn S (writeItems S q (cond u (record { item = y; contents = dataIn S s p y } ∷ []) [])) t) q y ≡ cond u (present (dataIn S s p y)) absent
-          old true w = rw append-nil (item-written S q y (dataIn S s p y) t (data-length y f) (carried-bytes S s p y bytes) small (omega (arith, f .end)) blank)
-          old false w = absent-value S q y t (λ z. f .real (sym z ∙ empty))
+          old : (u : Bool) → is_written S s p y ≡ u
+              → value_at S (runIn S (writeItems S q (cond u (record { item = y; contents = dataIn S s p y } ∷ []) [])) t) q y ≡ cond u (present (dataIn S s p y)) absent
+          old true w = rw append-nil (item-written S q y (dataIn S s p y) t (data-length y f) (carried-bytes S s p y bytes) small (omega (arith, f.end)) blank)
+          old false w = absent-value S q y t (λ z. f.real (sym z ∙ empty))
 
-          go : (b : Bool) → eqb (y .identifier) (e .item .identifier) ≡ b
-              → valueAt S (runIn S (writeItems S q (cond b (e ∷ []) (cond (isWritten S s p y) (record { item = y; contents = dataIn S s p y } ∷ []) []))) t) q y
-              ≡ cond b (present (e .contents)) (valueAt S s p y)
+          go : (b : Bool) → eqb y.identifier e.item.identifier ≡ b
+              → value_at S (runIn S (writeItems S q (cond b (e ∷ []) (cond (is_written S s p y) (record { item = y; contents = dataIn S s p y } ∷ []) []))) t) q y
+              ≡ cond b (present e.contents) (value_at S s p y)
           go true w =
-              let z = f .same (eqb-true (y .identifier) (e .item .identifier) w) in
-              rw append-nil (subst (λ (x : Item). valueAt S (runIn S (writeItem S q e) t) q x ≡ present (e .contents)) (sym z)
-              (item-written S q (e .item) (e .contents) t sized new (rw z at small) (omega (arith, rw z at (f .end))) (rw z at blank)))
-          go false w = unfolded (old (isWritten S s p y) refl)
+              let z = f.same (eqb-true y.identifier e.item.identifier w) in
+              rw append-nil (subst (λ (x : Item). value_at S (runIn S (writeItem S q e) t) q x ≡ present e.contents) (sym z)
+              (item-written S q e.item e.contents t sized new (rw z at small) (omega (arith, rw z at f.end)) (rw z at blank)))
+          go false w = unfolded (old (is_written S s p y) refl)
             where
-              unfolded : valueAt S (runIn S (writeItems S q (cond (isWritten S s p y) (record { item = y; contents = dataIn S s p y } ∷ []) [])) t) q y ≡ cond (isWritten S s p y) (present (dataIn S s p y)) absent
-                  → valueAt S (runIn S (writeItems S q (cond (isWritten S s p y) (record { item = y; contents = dataIn S s p y } ∷ []) [])) t) q y ≡ valueAt S s p y
+              unfolded : value_at S (runIn S (writeItems S q (cond (is_written S s p y) (record { item = y; contents = dataIn S s p y } ∷ []) [])) t) q y ≡ cond (is_written S s p y) (present (dataIn S s p y)) absent
+                  → value_at S (runIn S (writeItems S q (cond (is_written S s p y) (record { item = y; contents = dataIn S s p y } ∷ []) [])) t) q y ≡ value_at S s p y
               unfolded w = w ∙ sym (value-is S s p y)
 
       -- each item of the table
-      pub carries : (o : ℕ) (r : List ℕ) → Suits o r → Bytes r → (t : Image) → length t ≡ length s → q * S + S ≤ length s → ((k : ℕ) → o ≤ k → k < S → getD t (q * S + k) 0 ≡ 255)
-          → (j : ℕ) → hasItem j (itemsFrom o r) ≡ true → valueAt S (runIn S (writeItems S q (carried S s p e (itemsFrom o r))) t) q (itemOf j (itemsFrom o r)) ≡ wanted (itemOf j (itemsFrom o r))
-      unfolding itemsFrom hasItem itemOf
+      pub carries : (o : ℕ) (r : List ℕ) → Suits o r → Bytes r → (t : Image) → length t ≡ length s → q * S + S ≤ length s → ((k : ℕ) → o ≤ k → k < S → get_or t (q * S + k) 0 ≡ 255)
+          → (j : ℕ) → hasItem j (itemsFrom o r) ≡ true → value_at S (runIn S (writeItems S q (carried S s p e (itemsFrom o r))) t) q (item_of j (itemsFrom o r)) ≡ wanted (item_of j (itemsFrom o r))
+      unfolding itemsFrom hasItem item_of
       carries o [] w c t l h blank j k = absurd (false≢true k)
       carries o (a ∷ []) w c t l h blank j k = absurd (false≢true k)
       carries o (a ∷ b ∷ r) w c t l h blank j k =
-          rw (steps-next y ys, run-append S front back t) (go (eqb j a) k (carries (o + 1 + b) r (rest-suits o a b r w) (c .1 .1) t₁ length₁ h blank₁ j))
+          rw (steps_next y ys, run-append S front back t) (go (eqb j a) k (carries (o + 1 + b) r (rest-suits o a b r w) c.1.1 t₁ length₁ h blank₁ j))
         where
           y : Item
           y = item o a b r w
@@ -207,10 +206,10 @@ module _ (S : ℕ) (s : Image) (p q : ℕ) (e : Entry) where
           ys = later o a b r w
 
           fine : Fine y
-          fine = first-fine o a b r w
+          fine = first_fine o a b r w
 
           front : List Step
-          front = writeItems S q (headOf y)
+          front = writeItems S q (head_of y)
 
           back : List Step
           back = writeItems S q (carried S s p e ys)
@@ -219,29 +218,29 @@ module _ (S : ℕ) (s : Image) (p q : ℕ) (e : Entry) where
           t₁ = runIn S front t
 
           length₁ : length t₁ ≡ length s
-          length₁ = run-length S front t ∙ l
+          length₁ = run_length S front t ∙ l
 
-          blank₁ : (i : ℕ) → o + 1 + b ≤ i → i < S → getD t₁ (q * S + i) 0 ≡ 255
-          blank₁ i m n = left-alone S (q * S + i) front t (head-leaves y fine (q * S + i) (inr (omega arith))) ∙ blank i (omega arith) n
+          blank₁ : (i : ℕ) → o + 1 + b ≤ i → i < S → get_or t₁ (q * S + i) 0 ≡ 255
+          blank₁ i m n = left_alone S (q * S + i) front t (head-leaves y fine (q * S + i) (inr (omega arith))) ∙ blank i (omega arith) n
 
-          first : valueAt S (runIn S back t₁) q y ≡ wanted y
-          first = same-value S q y t₁ (runIn S back t₁) (omega (arith, length₁, fine .end)) (run-length S back t₁)
-              (λ i m. left-alone S (q * S + (o + i)) back t₁ (later-leaves (o + 1 + b) r (rest-suits o a b r w) (q * S + (o + i)) (omega arith)))
-              ∙ head-holds y fine (c .0) t l h (λ i m. blank (o + i) (omega arith) (omega (arith, fine .end)))
+          first : value_at S (runIn S back t₁) q y ≡ wanted y
+          first = same-value S q y t₁ (runIn S back t₁) (omega (arith, length₁, fine.end)) (run_length S back t₁)
+              (λ i m. left_alone S (q * S + (o + i)) back t₁ (later-leaves (o + 1 + b) r (rest-suits o a b r w) (q * S + (o + i)) (omega arith)))
+              ∙ head-holds y fine c.0 t l h (λ i m. blank (o + i) (omega arith) (omega (arith, fine.end)))
 
-          go : (u : Bool) → u || hasItem j ys ≡ true → (hasItem j ys ≡ true → valueAt S (runIn S back t₁) q (itemOf j ys) ≡ wanted (itemOf j ys))
-              → valueAt S (runIn S back t₁) q (cond u y (itemOf j ys)) ≡ wanted (cond u y (itemOf j ys))
+          go : (u : Bool) → u || hasItem j ys ≡ true → (hasItem j ys ≡ true → value_at S (runIn S back t₁) q (item_of j ys) ≡ wanted (item_of j ys))
+              → value_at S (runIn S back t₁) q (cond u y (item_of j ys)) ≡ wanted (cond u y (item_of j ys))
           go true z ih = first
           go false z ih = ih z
 
 -- a right table suits the entry of one of its items
-pub table-suits : (S : ℕ) (s : Image) (p q : ℕ) (layout : List ℕ) (i : ℕ) (d : List ℕ) (sized : length d ≡ itemOf i (itemsOf layout) .size) (inside : p * S + S ≤ length s)
-    → RightLayout S layout → hasItem i (itemsOf layout) ≡ true → Suits S s p q (record { item = itemOf i (itemsOf layout); contents = d }) sized inside 1 layout
-unfolding itemsOf
+pub table-suits : (S : ℕ) (s : Image) (p q : ℕ) (layout : List ℕ) (i : ℕ) (d : List ℕ) (sized : length d ≡ (item_of i (items_of layout)).size) (inside : p * S + S ≤ length s)
+    → RightLayout S layout → hasItem i (items_of layout) ≡ true → Suits S s p q (record { item = item_of i (items_of layout); contents = d }) sized inside 1 layout
+unfolding items_of
 table-suits S s p q layout i d sized inside r h = record {
   first = omega arith;
-  fit = omega (arith, r .fit);
-  real = r .real;
-  once = r .once;
-  same = λ k. ap (λ (y : ℕ). itemOf y (itemsFrom 1 layout)) (item-lies S i layout (r .fit) h .named);
+  fit = omega (arith, r.fit);
+  real = r.real;
+  once = r.once;
+  same = λ k. ap (λ (y : ℕ). item_of y (itemsFrom 1 layout)) (item-lies S i layout r.fit h).named;
 }

@@ -1,41 +1,34 @@
 -- Steps on the items of one partition: they leave every status and every other partition alone. And a partition filled, as far as a cut lets it.
-use Prim.Native.Nat.{ℕ, zero, suc, _+_, _-_, _*_, _/_, _%_, _≤_, _<_}
-use mathlib.Core.Path.{_≡_, refl, ap, _∙_}
-use mathlib.Core.Logic.{_⊎_, inl, inr, ⊎-elim, _≢_}
-use mathlib.Core.Bool.{Bool, true, false, cond}
-use mathlib.Core.List.{List, [], _∷_, _++_}
-use native.Mathlib.Omega.{arith}
-use native.Mathlib.Nat.{suc-mul, mul-le-mul-right, mul-add-mod-self-right, mod-eq-of-lt}
-use native.Mathlib.Decide.{decLt, decLe, ℕ-discrete}
-use lib.ListN.{length, take, length-append}
-use lib.Seq.{take-all, take-append-le}
-use lib.Dec.{eqb}
-use borrow.Author.Tests.{ne-eqb}
-use Rattle·model.specs.Chip.{Step, program, erase}
-use Rattle·model.specs.Steps.{programs}
-use Rattle·model.specs.Laws.Programs.{Outside}
-use Rattle·partitions.specs.Items.{identifierAt}
-use Rattle·partitions.specs.Writes.{Entry, writeItem, writeItems, fill}
-use Rattle·partition_runs·specs.specs.Law.{statusesSet}
-use Rattle·partition_runs·specs.specs.Effects.{Leaves}
+use Rattle.std.specs.Prelude.{ℕ, zero, suc, ◌+◌, ◌-◌, ◌*◌, ◌/◌, ◌%◌, ◌≤◌, ◌<◌, ◌≡◌, refl, ◌⊎◌, ◌≢◌, Bool, true, false, cond, List, [], ◌∷◌, ◌++◌, length, take, eqb}
+use Rattle.std.proofs.Common.{ap, ◌∙◌, inl, inr, ⊎_elim, arith, suc-mul, mul-le-mul_right, mod-eq_of_lt, length-append, take_all, ne_eqb}
+use Rattle.std.proofs.Math.Nat.{mul-add-mod_self_right}
+use Rattle.std.proofs.Math.Decide.{dec_lt, dec_le, ℕ_discrete}
+use Rattle.std.proofs.lemmas.List.{take-append-le}
+use Rattle.model.specs.Chip.{Step, program, erase}
+use Rattle.model.specs.Steps.{programs}
+use Rattle.model.specs.Laws.Programs.{Outside}
+use Rattle.partitions.specs.Items.{identifierAt}
+use Rattle.partitions.specs.Writes.{Entry, writeItem, writeItems, fill}
+use Rattle.partition_runs.specs.Law.{statusesSet}
+use Rattle.partition_runs.specs.Effects.{Leaves}
 
 -- ---- partitions apart
 
 -- a byte of partition r is no byte of partition q
 pub apart : (S r q k : ℕ) → r ≢ q → k < S → Outside (r * S + k) (q * S) S
-apart S r q k n h = elim (decLt r q) [
-  | yes l ↦ inl (omega (arith, suc-mul r S, mul-le-mul-right S l))
-  | no l ↦ inr (omega (arith, suc-mul q S, mul-le-mul-right S (above l)))
+apart S r q k n h = elim (dec_lt r q) [
+  | yes l ↦ inl (omega (arith, suc-mul r S, mul-le-mul_right S l))
+  | no l ↦ inr (omega (arith, suc-mul q S, mul-le-mul_right S (above l)))
 ]
   where
     above : (r < q → ⊥) → suc q ≤ r
-    above l = elim (ℕ-discrete r q) [ yes e ↦ absurd (n e) | no e ↦ omega arith ]
+    above l = elim (ℕ_discrete r q) [ yes e ↦ absurd (n e) | no e ↦ omega arith ]
 
 -- the first byte of no partition is behind the first and before the end of another
 status-apart : (S r q i : ℕ) → q * S < i → i < q * S + S → r * S ≢ i
-status-apart S r q i l h e = elim (decLe r q) [
-  | yes k ↦ omega (arith, mul-le-mul-right S k)
-  | no k ↦ omega (arith, suc-mul q S, mul-le-mul-right S (above k))
+status-apart S r q i l h e = elim (dec_le r q) [
+  | yes k ↦ omega (arith, mul-le-mul_right S k)
+  | no k ↦ omega (arith, suc-mul q S, mul-le-mul_right S (above k))
 ]
   where
     above : (r ≤ q → ⊥) → suc q ≤ r
@@ -51,13 +44,13 @@ Within S q (erase p ∷ xs) = ⊥
 
 pub within-append : (S q : ℕ) (xs ys : List Step) → Within S q xs → Within S q ys → Within S q (xs ++ ys)
 within-append S q [] ys h k = k
-within-append S q (program at v ∷ xs) ys h k = (h .0, h .1, within-append S q xs ys (h .2) k)
+within-append S q (program at v ∷ xs) ys h k = (h.0, h.1, within-append S q xs ys h.2 k)
 within-append S q (erase p ∷ xs) ys h k = h
 
 pub within-take : (S q n : ℕ) (xs : List Step) → Within S q xs → Within S q (take n xs)
 within-take S q zero xs h = tt
 within-take S q (suc n) [] h = tt
-within-take S q (suc n) (program at v ∷ xs) h = (h .0, h .1, within-take S q n xs (h .2))
+within-take S q (suc n) (program at v ∷ xs) h = (h.0, h.1, within-take S q n xs h.2)
 within-take S q (suc n) (erase p ∷ xs) h = absurd h
 
 pub within-programs : (S q at : ℕ) (vs : List ℕ) → q * S < at → at + length vs ≤ q * S + S → Within S q (programs at vs)
@@ -66,21 +59,21 @@ within-programs S q at [] l h = tt
 within-programs S q at (v ∷ vs) l h = (l, omega arith, within-programs S q (suc at) vs (omega arith) (omega arith))
 
 -- an item of the partition
-pub item-within : (S q : ℕ) (e : Entry) → length (e .contents) ≡ e .item .size → 1 ≤ e .item .at → e .item .at + 1 + e .item .size ≤ S → Within S q (writeItem S q e)
+pub item-within : (S q : ℕ) (e : Entry) → length e.contents ≡ e.item.size → 1 ≤ e.item.at → e.item.at + 1 + e.item.size ≤ S → Within S q (writeItem S q e)
 unfolding writeItem identifierAt
-item-within S q e l a b = within-append S q (programs (q * S + e .item .at + 1) (e .contents)) (program (q * S + e .item .at) (e .item .identifier) ∷ [])
-    (within-programs S q (q * S + e .item .at + 1) (e .contents) (omega arith) (omega arith))
+item-within S q e l a b = within-append S q (programs (q * S + e.item.at + 1) e.contents) (program (q * S + e.item.at) e.item.identifier ∷ [])
+    (within-programs S q (q * S + e.item.at + 1) e.contents (omega arith) (omega arith))
     (omega arith, omega arith, tt)
 
 pub within-leaves : (S q i : ℕ) (xs : List Step) → Within S q xs → Outside i (q * S) S → Leaves S i xs
 within-leaves S q i [] h o = tt
-within-leaves S q i (program at v ∷ xs) h o = (⊎-elim (λ l e. omega (arith, h .0, l, e)) (λ l e. omega (arith, h .1, l, e)) o, within-leaves S q i xs (h .2) o)
+within-leaves S q i (program at v ∷ xs) h o = (⊎_elim (λ l e. omega (arith, h.0, l, e)) (λ l e. omega (arith, h.1, l, e)) o, within-leaves S q i xs h.2 o)
 within-leaves S q i (erase p ∷ xs) h o = absurd h
 
 -- the status of every partition, its own too
 pub within-status : (S q r : ℕ) (xs : List Step) → Within S q xs → Leaves S (r * S) xs
 within-status S q r [] h = tt
-within-status S q r (program at v ∷ xs) h = (status-apart S r q at (h .0) (h .1), within-status S q r xs (h .2))
+within-status S q r (program at v ∷ xs) h = (status-apart S r q at h.0 h.1, within-status S q r xs h.2)
 within-status S q r (erase p ∷ xs) h = absurd h
 
 pub within-sets : (S q : ℕ) (xs : List Step) → Within S q xs → statusesSet S xs ≡ []
@@ -88,9 +81,9 @@ unfolding statusesSet
 within-sets S q [] h = refl
 within-sets S q (program at v ∷ xs) h =
     let k = at - q * S in
-    let e : at ≡ q * S + k = omega (arith, h .0) in
-    let m : at % S ≡ k = ap (λ (y : ℕ). y % S) e ∙ mul-add-mod-self-right q S k ∙ mod-eq-of-lt (omega (arith, h .0, h .1)) in
-    rw (ne-eqb (at % S) 0 (λ z. omega (arith, h .0, m, z))) (within-sets S q xs (h .2))
+    let e : at ≡ q * S + k = omega (arith, h.0) in
+    let m : at % S ≡ k = ap (λ (y : ℕ). y % S) e ∙ mul-add-mod_self_right q S k ∙ mod-eq_of_lt (omega (arith, h.0, h.1)) in
+    rw (ne_eqb (at % S) 0 (λ z. omega (arith, h.0, m, z))) (within-sets S q xs h.2)
 within-sets S q (erase p ∷ xs) h = absurd h
 
 pub sets-append : (S : ℕ) (xs ys : List Step) → statusesSet S (xs ++ ys) ≡ statusesSet S xs ++ statusesSet S ys
@@ -112,10 +105,10 @@ pub data Part (S q v : ℕ) (es : List Entry) (n : ℕ) : List Step → Type 0 w
   some : (k : ℕ) → k ≤ length (writeItems S q es) → n < length (fill S q es v) → Part S q v es n (erase q ∷ take k (writeItems S q es))
   whole : length (fill S q es v) ≤ n → Part S q v es n (fill S q es v)
 
-pub part-of : (S q v : ℕ) (es : List Entry) (n : ℕ) → Part S q v es n (take n (fill S q es v))
+pub part_of : (S q v : ℕ) (es : List Entry) (n : ℕ) → Part S q v es n (take n (fill S q es v))
 unfolding fill
-part-of S q v es zero = none (omega arith)
-part-of S q v es (suc k) = elim (decLe k (length (writeItems S q es))) [ yes h ↦ cut h | no h ↦ full (omega arith) ]
+part_of S q v es zero = none (omega arith)
+part_of S q v es (suc k) = elim (dec_le k (length (writeItems S q es))) [ yes h ↦ cut h | no h ↦ full (omega arith) ]
   where
     cut : k ≤ length (writeItems S q es) → Part S q v es (suc k) (erase q ∷ take k (writeItems S q es ++ (program (q * S) v ∷ [])))
     cut h = rw (take-append-le k (writeItems S q es) (program (q * S) v ∷ []) h) (some k h (omega (arith, length-append (writeItems S q es) (program (q * S) v ∷ []))))
@@ -123,4 +116,4 @@ part-of S q v es (suc k) = elim (decLe k (length (writeItems S q es))) [ yes h �
     full : length (writeItems S q es) < k → Part S q v es (suc k) (erase q ∷ take k (writeItems S q es ++ (program (q * S) v ∷ [])))
     full h =
         let l = length-append (writeItems S q es) (program (q * S) v ∷ []) in
-        rw (take-all k (writeItems S q es ++ (program (q * S) v ∷ [])) (omega (arith, l))) (whole (omega (arith, l)))
+        rw (take_all k (writeItems S q es ++ (program (q * S) v ∷ [])) (omega (arith, l))) (whole (omega (arith, l)))

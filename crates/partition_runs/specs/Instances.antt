@@ -1,17 +1,14 @@
 -- A board's life, computed: five writes on two partitions, two of them cut. What the definitions of histories give, and so which wrong ones they are not.
-use Prim.Native.Nat.{ℕ}
-use mathlib.Core.Path.{_≡_, refl}
-use mathlib.Core.List.{List, [], _∷_, _++_, map}
-use lib.ListN.{length, take}
-use Rattle·model.specs.Chip.{Image, erased}
-use Rattle·model.specs.Histories.{Reply}
-use Rattle·partitions.specs.Partitions.{nothing, newest, newestOf}
-use Rattle·partitions.specs.Instances.{computes, two}
-use Rattle·partition_runs·specs.specs.Law.{Call, outcomeOf, play, answers, stepsDone, statusesSet, lastOf, replyTo, mapOf, found, replyOf, stored, storedAll}
+use Rattle.std.specs.Prelude.{ℕ, ◌≡◌, refl, List, [], ◌∷◌, ◌++◌, map, length, take}
+use Rattle.model.specs.Chip.{Image, erased}
+use Rattle.model.specs.Histories.{Reply}
+use Rattle.partitions.specs.Partitions.{nothing, newest, newestOf}
+use Rattle.partitions.specs.Instances.{computes, two}
+use Rattle.partition_runs.specs.Law.{Call, outcomeOf, play, answers, stepsDone, statusesSet, last_of, replyTo, mapOf, found, replyOf, stored, storedAll}
 
 -- every definition unfolds where this name does
 unfoldable lived : ℕ
-unfolding computes outcomeOf play answers stepsDone statusesSet lastOf replyTo mapOf found replyOf stored storedAll
+unfolding computes outcomeOf play answers stepsDone statusesSet last_of replyTo mapOf found replyOf stored storedAll
 lived = 0
 
 abbrev call : ℕ → List ℕ → ℕ → Call
@@ -29,13 +26,13 @@ unfolding lived board writes
 answered = refl
 
 -- statuses 0, 1 and 2, in partitions 0, 1 and 0
-ends-so : play 2 board writes ≡ (2 ∷ 1 ∷ 12 ∷ 13 ∷ 7 ∷ 6 ∷ []) ++ (1 ∷ 1 ∷ 12 ∷ 13 ∷ 7 ∷ 5 ∷ [])
+ends_so : play 2 board writes ≡ (2 ∷ 1 ∷ 12 ∷ 13 ∷ 7 ∷ 6 ∷ []) ++ (1 ∷ 1 ∷ 12 ∷ 13 ∷ 7 ∷ 5 ∷ [])
 unfolding lived board writes
-ends-so = refl
+ends_so = refl
 
-set-so : (statusesSet 6 (stepsDone 2 board writes) ≡ 0 ∷ 1 ∷ 0 ∷ []) × (lastOf (0 ∷ 1 ∷ 0 ∷ []) ≡ newest 0) × (lastOf (0 ∷ 1 ∷ []) ≡ newest 1) × (lastOf [] ≡ nothing) × (length (stepsDone 2 board writes) ≡ 26)
+set_so : (statusesSet 6 (stepsDone 2 board writes) ≡ 0 ∷ 1 ∷ 0 ∷ []) × (last_of (0 ∷ 1 ∷ 0 ∷ []) ≡ newest 0) × (last_of (0 ∷ 1 ∷ []) ≡ newest 1) × (last_of [] ≡ nothing) × (length (stepsDone 2 board writes) ≡ 26)
 unfolding lived board writes
-set-so = (refl, refl, refl, refl, refl)
+set_so = (refl, refl, refl, refl, refl)
 
 -- the newest, after none and after each of them
 newest-so : map (λ n. newestOf 2 (play 2 board (take n writes))) (0 ∷ 1 ∷ 2 ∷ 3 ∷ 4 ∷ 5 ∷ []) ≡ nothing ∷ newest 0 ∷ newest 0 ∷ newest 1 ∷ newest 1 ∷ newest 0 ∷ []

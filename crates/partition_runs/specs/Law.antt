@@ -1,18 +1,12 @@
 -- Request #109, what its reader and writer can be relied on for, over writes one after the other. Cuts fall between steps only: a write that is cut is one whose allowance ends before its list, and the next works on what it left.
-use Prim.Native.Nat.{ℕ, suc, _+_, _-_, _/_, _%_, _≤_, _<_}
-use mathlib.Core.Path.{_≡_}
-use mathlib.Core.Logic.{_≢_}
-use mathlib.Core.Bool.{true, cond, _&&_}
-use mathlib.Core.List.{List, [], _∷_, _++_}
-use lib.ListN.{length, take}
-use lib.Dec.{eqb}
-use Rattle·model.specs.Chip.{Image, Step, program, erase, Bytes}
-use Rattle·model.specs.Table.{Found, absent, present}
-use Rattle·model.specs.Answers.{Outcome}
-use Rattle·model.specs.Histories.{Reply}
-use Rattle·partitions.specs.Layout.{itemsOf, layoutOk, hasItem}
-use Rattle·partitions.specs.Partitions.{imageOk, partitionSize, noStatus, statusOf, Newest, nothing, newest, noRun, newestOf}
-use Rattle·partitions.specs.Answers.{writeWork, writeOutcome, readOutcome, pieceRead}
+use Rattle.std.specs.Prelude.{ℕ, suc, ◌+◌, ◌-◌, ◌/◌, ◌%◌, ◌≤◌, ◌<◌, ◌≡◌, ◌≢◌, true, cond, ◌&&◌, List, [], ◌∷◌, ◌++◌, length, take, eqb}
+use Rattle.model.specs.Chip.{Image, Step, program, erase, Bytes}
+use Rattle.model.specs.Table.{Found, absent, present}
+use Rattle.model.specs.Answers.{Outcome}
+use Rattle.model.specs.Histories.{Reply}
+use Rattle.partitions.specs.Layout.{items_of, layoutOk, hasItem}
+use Rattle.partitions.specs.Partitions.{imageOk, partitionSize, noStatus, statusOf, Newest, nothing, newest, no_run, newestOf}
+use Rattle.partitions.specs.Answers.{writeWork, writeOutcome, readOutcome, pieceRead}
 
 -- ---- writes one after the other
 
@@ -24,22 +18,22 @@ pub record Call : Type 0 where
   pub allowance : ℕ
 
 unfoldable pub outcomeOf : ℕ → Image → Call → Outcome
-outcomeOf P s x = writeOutcome P (x .layout) s (x .item) (x .contents) (x .allowance)
+outcomeOf P s x = writeOutcome P x.layout s x.item x.contents x.allowance
 
 -- the image as they leave it
 unfoldable pub play : ℕ → Image → List Call → Image
 play P s [] = s
-play P s (x ∷ xs) = play P (outcomeOf P s x .image) xs
+play P s (x ∷ xs) = play P (outcomeOf P s x).image xs
 
 -- the answers
 unfoldable pub answers : ℕ → Image → List Call → List ℕ
 answers P s [] = []
-answers P s (x ∷ xs) = outcomeOf P s x .code ∷ answers P (outcomeOf P s x .image) xs
+answers P s (x ∷ xs) = (outcomeOf P s x).code ∷ answers P (outcomeOf P s x).image xs
 
 -- every step that was done, in order
 unfoldable pub stepsDone : ℕ → Image → List Call → List Step
 stepsDone P s [] = []
-stepsDone P s (x ∷ xs) = take (x .allowance) (writeWork P (x .layout) s (x .item) (x .contents) .steps) ++ stepsDone P (outcomeOf P s x .image) xs
+stepsDone P s (x ∷ xs) = take x.allowance (writeWork P x.layout s x.item x.contents).steps ++ stepsDone P (outcomeOf P s x).image xs
 
 -- ---- statuses
 
@@ -50,10 +44,10 @@ statusesSet S (program at v ∷ xs) = cond (eqb (at % S) 0) (at / S ∷ statuses
 statusesSet S (erase p ∷ xs) = statusesSet S xs
 
 -- the last of them
-unfoldable pub lastOf : List ℕ → Newest
-lastOf [] = nothing
-lastOf (p ∷ []) = newest p
-lastOf (p ∷ q ∷ r) = lastOf (q ∷ r)
+unfoldable pub last_of : List ℕ → Newest
+last_of [] = nothing
+last_of (p ∷ []) = newest p
+last_of (p ∷ q ∷ r) = last_of (q ∷ r)
 
 -- "from all statuses 255 on with one P and only this writer": an image that P divides, without a status
 pub record Unwritten (P : ℕ) (s : Image) : Type 0 where
@@ -62,7 +56,7 @@ pub record Unwritten (P : ℕ) (s : Image) : Type 0 where
 
 -- "The newest is the run's last: prove for every P and every point of the cycle .. that its status was set last." Writes by any layout tables, cut anywhere.
 abbrev pub SetLast : Type 0
-SetLast = (P : ℕ) (s : Image) (xs : List Call) → Unwritten P s → newestOf P (play P s xs) ≡ lastOf (statusesSet (partitionSize P s) (stepsDone P s xs))
+SetLast = (P : ℕ) (s : Image) (xs : List Call) → Unwritten P s → newestOf P (play P s xs) ≡ last_of (statusesSet (partitionSize P s) (stepsDone P s xs))
 
 -- And the point of the cycle: after k statuses were set, the last in partition (k-1) modulo P, where the status is (k-1) modulo 255.
 pub record AtPoint (P : ℕ) (s : Image) (k : ℕ) : Type 0 where
@@ -103,13 +97,13 @@ SingleRun = (P : ℕ) (s : Image) → imageOk P s ≡ true → Bytes s → Reads
 
 -- what a read gives: its answer, and the data
 unfoldable pub replyTo : ℕ → List ℕ → Image → ℕ → Reply
-replyTo P layout s i = record { code = readOutcome P layout s i .code; bytes = pieceRead P layout s i }
+replyTo P layout s i = record { code = (readOutcome P layout s i).code; bytes = pieceRead P layout s i }
 
 -- an image of bytes whose reads are answered, but for identifiers that are not in the table and items that are not written
 pub record Accepted (P : ℕ) (layout : List ℕ) (s : Image) : Type 0 where
   pub right : imageOk P s ≡ true
   pub layout-right : layoutOk (partitionSize P s) layout ≡ true
-  pub single : newestOf P s ≢ noRun
+  pub single : newestOf P s ≢ no_run
   pub bytes : Bytes layout
   pub image : Bytes s
 
@@ -118,7 +112,7 @@ Map = ℕ → Found
 
 -- what reads of an image find
 unfoldable pub mapOf : ℕ → List ℕ → Image → Map
-mapOf P layout s i = let o = readOutcome P layout s i in cond (eqb (o .code) 0) (present (pieceRead P layout s i)) absent
+mapOf P layout s i = let o = readOutcome P layout s i in cond (eqb o.code 0) (present (pieceRead P layout s i)) absent
 
 -- what a read of a plain map is told
 unfoldable pub found : Found → Reply
@@ -126,7 +120,7 @@ found absent = record { code = 5; bytes = [] }
 found (present d) = record { code = 0; bytes = d }
 
 unfoldable pub replyOf : List ℕ → Map → ℕ → Reply
-replyOf layout m i = cond (hasItem i (itemsOf layout)) (found (m i)) (record { code = 3; bytes = [] })
+replyOf layout m i = cond (hasItem i (items_of layout)) (found (m i)) (record { code = 3; bytes = [] })
 
 -- a write that answered 0 has stored its data, and any other, cut or refused, has changed nothing
 unfoldable pub stored : ℕ → List ℕ → ℕ → Map → Map
@@ -135,12 +129,12 @@ stored i d code m j = cond (eqb code 0 && eqb j i) (present d) (m j)
 unfoldable pub storedAll : List Call → List ℕ → Map → Map
 storedAll [] ks m = m
 storedAll (x ∷ xs) [] m = m
-storedAll (x ∷ xs) (k ∷ ks) m = storedAll xs ks (stored (x .item) (x .contents) k m)
+storedAll (x ∷ xs) (k ∷ ks) m = storedAll xs ks (stored x.item x.contents k m)
 
 -- writes by one layout table, of bytes
 abbrev pub ByTable : List ℕ → List Call → Type 0
 ByTable layout [] = Unit {0}
-ByTable layout (x ∷ xs) = (x .layout ≡ layout) × Bytes (x .contents) × ByTable layout xs
+ByTable layout (x ∷ xs) = (x.layout ≡ layout) × Bytes x.contents × ByTable layout xs
 
 -- "Its cuts fall between steps only: afterwards each item reads as before the cut write, or the written one as new." Over histories of any length, from any accepted image, whoever wrote it: reads answer by the plain map that the image held,
 -- with the data of the finished writes stored in it, and of no others.
@@ -150,13 +144,13 @@ PlainMap = (P : ℕ) (layout : List ℕ) (s : Image) (xs : List Call) → Accept
 
 -- So after a cut every item reads as before the cut write, the written one too; and after a finished write the written one reads as new, and every other as before.
 abbrev pub CutChangesNothing : Type 0
-CutChangesNothing = (P : ℕ) (s : Image) (x : Call) → Accepted P (x .layout) s → Bytes (x .contents) → outcomeOf P s x .code ≡ 9
-    → (i : ℕ) → replyTo P (x .layout) (outcomeOf P s x .image) i ≡ replyTo P (x .layout) s i
+CutChangesNothing = (P : ℕ) (s : Image) (x : Call) → Accepted P x.layout s → Bytes x.contents → (outcomeOf P s x).code ≡ 9
+    → (i : ℕ) → replyTo P x.layout (outcomeOf P s x).image i ≡ replyTo P x.layout s i
 
 abbrev pub FinishedIsNew : Type 0
-FinishedIsNew = (P : ℕ) (s : Image) (x : Call) → Accepted P (x .layout) s → Bytes (x .contents) → outcomeOf P s x .code ≡ 0
-    → (replyTo P (x .layout) (outcomeOf P s x .image) (x .item) ≡ record { code = 0; bytes = x .contents })
-    × ((i : ℕ) → i ≢ x .item → replyTo P (x .layout) (outcomeOf P s x .image) i ≡ replyTo P (x .layout) s i)
+FinishedIsNew = (P : ℕ) (s : Image) (x : Call) → Accepted P x.layout s → Bytes x.contents → (outcomeOf P s x).code ≡ 0
+    → (replyTo P x.layout (outcomeOf P s x).image x.item ≡ record { code = 0; bytes = x.contents })
+    × ((i : ℕ) → i ≢ x.item → replyTo P x.layout (outcomeOf P s x).image i ≡ replyTo P x.layout s i)
 
 -- The run of statuses stays single under every history of this writer, by any tables,
 abbrev pub StaysSingle : Type 0
@@ -164,4 +158,4 @@ StaysSingle = (P : ℕ) (layout : List ℕ) (s : Image) (xs : List Call) → Acc
 
 -- so that no write on an image that it has left answers 4. (That no read does stands in `PlainMap`.)
 abbrev pub NeverNoRun : Type 0
-NeverNoRun = (P : ℕ) (layout : List ℕ) (s : Image) (xs : List Call) → Accepted P layout s → (x : Call) → outcomeOf P (play P s xs) x .code ≢ 4
+NeverNoRun = (P : ℕ) (layout : List ℕ) (s : Image) (xs : List Call) → Accepted P layout s → (x : Call) → (outcomeOf P (play P s xs) x).code ≢ 4

@@ -1,15 +1,14 @@
 -- How far a run of statuses reaches: the partition that is filled next, and the status that it gets. An erase of that partition leaves the reach, whether it had no status or was the first of a full ring; its status set moves the reach on by one.
-use Prim.Native.Nat.{ℕ, zero, suc, _+_, _-_, _%_, _≤_, _<_}
-use mathlib.Core.Path.{_≡_, refl, sym, ap, _∙_}
-use mathlib.Core.Logic.{_≢_}
+use Prim.Native.Nat.{ℕ, zero, suc, ◌+◌, ◌-◌, ◌%◌, ◌≤◌, ◌<◌}
+use Rattle.std.specs.Prelude.{◌≡◌, refl, ◌≢◌}
+use Rattle.std.proofs.Common.{sym, ap, ◌∙◌, mod-lt}
 use native.Mathlib.Omega.{arith}
-use native.Mathlib.Nat.{mod-lt}
-use native.Mathlib.Decide.{decLt, ℕ-discrete}
-use Rattle·model.specs.Chip.{Image}
-use Rattle·partitions.specs.Partitions.{noStatus, statusOf, Newest, nothing, newest, newestIn}
-use Rattle·partition_runs·specs.specs.Law.{Run, EndsAt}
-use Rattle·partition_runs·specs.specs.Rotation.{rotate, same-turn, whole-turn}
-use Rattle·partition_runs·specs.specs.Runs.{nothing-newest, run-newest}
+use Rattle.std.proofs.Math.Decide.{dec_lt, ℕ_discrete}
+use Rattle.model.specs.Chip.{Image}
+use Rattle.partitions.specs.Partitions.{noStatus, statusOf, Newest, nothing, newest, newestIn}
+use Rattle.partition_runs.specs.Law.{Run, EndsAt}
+use Rattle.partition_runs.specs.Rotation.{rotate, same_turn, whole-turn}
+use Rattle.partition_runs.specs.Runs.{nothing-newest, run-newest}
 
 -- the next partition is A modulo P, and its status W modulo 255; without a run both are 0
 pub record Reaches (P S : ℕ) (s : Image) (A W : ℕ) : Type 0 where
@@ -24,7 +23,7 @@ pub record Reaches (P S : ℕ) (s : Image) (A W : ℕ) : Type 0 where
 -- the same with a partition that is no part of the run
 pub record Free (P S : ℕ) (s : Image) (A W : ℕ) : Type 0 where
   pub reach : Reaches P S s A W
-  pub free : reach .count < P
+  pub free : reach.count < P
 
 -- the partition before the next one
 unfoldable pub pointed : ℕ → ℕ → Newest
@@ -36,39 +35,39 @@ abbrev pub Others : ℕ → ℕ → ℕ → Image → Image → Type 0
 Others P S q s t = (r : ℕ) → r < P → r ≢ q → statusOf S t r ≡ statusOf S s r
 
 module _ (P S : ℕ) (two : 2 ≤ P) (most : P ≤ 128) where
-  none-of : (s : Image) (a v : ℕ) → Run P S s a v 0 → (p : ℕ) → p < P → statusOf S s p ≡ noStatus
-  none-of s a v r p l = let (j, h, e) = rotate P a p l in ap (statusOf S s) (sym e) ∙ r .none j (omega arith) h
+  none_of : (s : Image) (a v : ℕ) → Run P S s a v 0 → (p : ℕ) → p < P → statusOf S s p ≡ noStatus
+  none_of s a v r p l = let (j, h, e) = rotate P a p l in ap (statusOf S s) (sym e) ∙ r.none j (omega arith) h
 
   pub reach-newest : (s : Image) (A W : ℕ) → Reaches P S s A W → newestIn P S s ≡ pointed P A
   unfolding pointed
-  reach-newest s A W r = go (r .start) (r .status) (r .count) (r .run) (r .index) (r .begun)
+  reach-newest s A W r = go r.start r.status r.count r.run r.index r.begun
     where
       go : (a v n : ℕ) → Run P S s a v n → a + n ≡ A → (n ≡ 0 → (A ≡ 0) × (W ≡ 0)) → newestIn P S s ≡ pointed P A
-      go a v zero w e z = rw (z refl .0) (nothing-newest P S s (none-of s a v w))
+      go a v zero w e z = rw (z refl).0 (nothing-newest P S s (none_of s a v w))
       go a v (suc b) w e z = let k : A ≡ suc (a + b) = omega arith in rw k (run-newest P S s a v b (omega arith) (omega arith) w)
 
   -- the status of the newest
   pub reach-status : (s : Image) (k w : ℕ) → Reaches P S s (suc k) (suc w) → statusOf S s (k % P) ≡ w % 255
-  reach-status s k w r = go (r .start) (r .status) (r .count) (r .run) (r .index) (r .value) (r .begun)
+  reach-status s k w r = go r.start r.status r.count r.run r.index r.value r.begun
     where
       go : (a v n : ℕ) → Run P S s a v n → a + n ≡ suc k → v + n ≡ suc w → (n ≡ 0 → (suc k ≡ 0) × (suc w ≡ 0)) → statusOf S s (k % P) ≡ w % 255
-      go a v zero x e f z = absurd (omega (arith, z refl .0))
+      go a v zero x e f z = absurd (omega (arith, (z refl).0))
       go a v (suc b) x e f z =
           let i : k ≡ a + b = omega arith in
           let j : w ≡ v + b = omega arith in
-          rw (i, j) (x .has b (omega arith))
+          rw (i, j) (x.has b (omega arith))
 
   -- ---- statuses that are the same, or one partition's changed
 
   pub reach-same : (s t : Image) (A W : ℕ) → Reaches P S s A W → ((r : ℕ) → statusOf S t r ≡ statusOf S s r) → Reaches P S t A W
   reach-same s t A W r e = record {
-    start = r .start;
-    status = r .status;
-    count = r .count;
-    run = record { most = r .run .most; has = λ j l. e ((r .start + j) % P) ∙ r .run .has j l; none = λ j l w. e ((r .start + j) % P) ∙ r .run .none j l w };
-    index = r .index;
-    value = r .value;
-    begun = r .begun;
+    start = r.start;
+    status = r.status;
+    count = r.count;
+    run = record { most = r.run.most; has = λ j l. e ((r.start + j) % P) ∙ r.run.has j l; none = λ j l w. e ((r.start + j) % P) ∙ r.run.none j l w };
+    index = r.index;
+    value = r.value;
+    begun = r.begun;
   }
 
   turn : (A j : ℕ) → j < P → (A + j) % P < P
@@ -76,51 +75,51 @@ module _ (P S : ℕ) (two : 2 ≤ P) (most : P ≤ 128) where
 
   -- the next partition erased
   pub reach-erased : (s t : Image) (A W : ℕ) → Reaches P S s A W → Others P S (A % P) s t → statusOf S t (A % P) ≡ noStatus → Free P S t A W
-  reach-erased s t A W r others gone = elim (decLt (r .count) P) [ yes h ↦ unused h | no h ↦ first (omega (arith, r .run .most)) ]
+  reach-erased s t A W r others gone = elim (dec_lt r.count P) [ yes h ↦ unused h | no h ↦ first (omega (arith, r.run.most)) ]
     where
       a : ℕ
-      a = r .start
+      a = r.start
 
       v : ℕ
-      v = r .status
+      v = r.status
 
       n : ℕ
-      n = r .count
+      n = r.count
 
       -- it had no status
       unused : n < P → Free P S t A W
-      unused h = record { reach = record { start = a; status = v; count = n; run = record { most = r .run .most; has = has; none = none }; index = r .index; value = r .value; begun = r .begun }; free = h }
+      unused h = record { reach = record { start = a; status = v; count = n; run = record { most = r.run.most; has = has; none = none }; index = r.index; value = r.value; begun = r.begun }; free = h }
         where
           same : (j : ℕ) → j < P → j ≢ n → statusOf S t ((a + j) % P) ≡ statusOf S s ((a + j) % P)
-          same j l d = others ((a + j) % P) (turn a j l) (λ e. d (same-turn P a j n l h (e ∙ ap (λ (y : ℕ). y % P) (sym (r .index)))))
+          same j l d = others ((a + j) % P) (turn a j l) (λ e. d (same_turn P a j n l h (e ∙ ap (λ (y : ℕ). y % P) (sym r.index))))
 
           has : (j : ℕ) → j < n → statusOf S t ((a + j) % P) ≡ (v + j) % 255
-          has j l = same j (omega arith) (λ e. omega arith) ∙ r .run .has j l
+          has j l = same j (omega arith) (λ e. omega arith) ∙ r.run.has j l
 
           none : (j : ℕ) → n ≤ j → j < P → statusOf S t ((a + j) % P) ≡ noStatus
-          none j l w = elim (ℕ-discrete j n) [
-            | yes e ↦ ap (λ (y : ℕ). statusOf S t (y % P)) (omega (arith, r .index)) ∙ gone
-            | no e ↦ same j w e ∙ r .run .none j l w
+          none j l w = elim (ℕ_discrete j n) [
+            | yes e ↦ ap (λ (y : ℕ). statusOf S t (y % P)) (omega (arith, r.index)) ∙ gone
+            | no e ↦ same j w e ∙ r.run.none j l w
           ]
 
       -- it was the first of a full ring
       first : n ≡ P → Free P S t A W
       first c = record {
-        reach = record { start = suc a; status = suc v; count = P - 1; run = record { most = omega arith; has = has; none = none }; index = omega (arith, r .index); value = omega (arith, r .value); begun = λ z. absurd (omega arith) };
+        reach = record { start = suc a; status = suc v; count = P - 1; run = record { most = omega arith; has = has; none = none }; index = omega (arith, r.index); value = omega (arith, r.value); begun = λ z. absurd (omega arith) };
         free = omega arith;
       }
         where
           here : A % P ≡ (a + 0) % P
-          here = ap (λ (y : ℕ). y % P) (sym (r .index) ∙ ap (λ (y : ℕ). a + y) c) ∙ whole-turn P a
+          here = ap (λ (y : ℕ). y % P) (sym r.index ∙ ap (λ (y : ℕ). a + y) c) ∙ whole-turn P a
 
           has : (j : ℕ) → j < P - 1 → statusOf S t ((suc a + j) % P) ≡ (suc v + j) % 255
           has j l =
               let e : suc a + j ≡ a + suc j = omega arith in
               let f : suc v + j ≡ v + suc j = omega arith in
-              rw (e, f) (others ((a + suc j) % P) (turn a (suc j) (omega arith)) (λ d. omega (arith, same-turn P a (suc j) 0 (omega arith) (omega arith) (d ∙ here))) ∙ r .run .has (suc j) (omega arith))
+              rw (e, f) (others ((a + suc j) % P) (turn a (suc j) (omega arith)) (λ d. omega (arith, same_turn P a (suc j) 0 (omega arith) (omega arith) (d ∙ here))) ∙ r.run.has (suc j) (omega arith))
 
           none : (j : ℕ) → P - 1 ≤ j → j < P → statusOf S t ((suc a + j) % P) ≡ noStatus
-          none j l w = ap (λ (y : ℕ). statusOf S t (y % P)) (omega (arith, r .index)) ∙ gone
+          none j l w = ap (λ (y : ℕ). statusOf S t (y % P)) (omega (arith, r.index)) ∙ gone
 
   -- its status set
   pub reach-set : (s t : Image) (A W : ℕ) → Free P S s A W → Others P S (A % P) s t → statusOf S t (A % P) ≡ W % 255 → Reaches P S t (suc A) (suc W)
@@ -128,35 +127,35 @@ module _ (P S : ℕ) (two : 2 ≤ P) (most : P ≤ 128) where
     start = a;
     status = v;
     count = suc n;
-    run = record { most = f .free; has = has; none = none };
-    index = omega (arith, r .index);
-    value = omega (arith, r .value);
+    run = record { most = f.free; has = has; none = none };
+    index = omega (arith, r.index);
+    value = omega (arith, r.value);
     begun = λ z. absurd (omega arith);
   }
     where
       r : Reaches P S s A W
-      r = f .reach
+      r = f.reach
 
       a : ℕ
-      a = r .start
+      a = r.start
 
       v : ℕ
-      v = r .status
+      v = r.status
 
       n : ℕ
-      n = r .count
+      n = r.count
 
       same : (j : ℕ) → j < P → j ≢ n → statusOf S t ((a + j) % P) ≡ statusOf S s ((a + j) % P)
-      same j l d = others ((a + j) % P) (turn a j l) (λ e. d (same-turn P a j n l (f .free) (e ∙ ap (λ (y : ℕ). y % P) (sym (r .index)))))
+      same j l d = others ((a + j) % P) (turn a j l) (λ e. d (same_turn P a j n l f.free (e ∙ ap (λ (y : ℕ). y % P) (sym r.index))))
 
       has : (j : ℕ) → j < suc n → statusOf S t ((a + j) % P) ≡ (v + j) % 255
-      has j l = elim (ℕ-discrete j n) [
-        | yes e ↦ ap (λ (y : ℕ). statusOf S t (y % P)) (omega (arith, r .index)) ∙ set ∙ ap (λ (y : ℕ). y % 255) (omega (arith, r .value))
-        | no e ↦ same j (omega (arith, f .free)) e ∙ r .run .has j (omega arith)
+      has j l = elim (ℕ_discrete j n) [
+        | yes e ↦ ap (λ (y : ℕ). statusOf S t (y % P)) (omega (arith, r.index)) ∙ set ∙ ap (λ (y : ℕ). y % 255) (omega (arith, r.value))
+        | no e ↦ same j (omega (arith, f.free)) e ∙ r.run.has j (omega arith)
       ]
 
       none : (j : ℕ) → suc n ≤ j → j < P → statusOf S t ((a + j) % P) ≡ noStatus
-      none j l w = same j w (λ e. omega arith) ∙ r .run .none j (omega arith) w
+      none j l w = same j w (λ e. omega arith) ∙ r.run.none j (omega arith) w
 
   -- ---- where histories start
 
@@ -171,12 +170,12 @@ module _ (P S : ℕ) (two : 2 ≤ P) (most : P ≤ 128) where
     begun = λ z. (refl, refl);
   }
 
-  pub reach-run : (s : Image) (p : ℕ) (w : EndsAt P S s p) → Reaches P S s (suc (w .start + w .before)) (suc (w .status + w .before))
+  pub reach-run : (s : Image) (p : ℕ) (w : EndsAt P S s p) → Reaches P S s (suc (w.start + w.before)) (suc (w.status + w.before))
   reach-run s p w = record {
-    start = w .start;
-    status = w .status;
-    count = suc (w .before);
-    run = w .single;
+    start = w.start;
+    status = w.status;
+    count = suc w.before;
+    run = w.single;
     index = omega arith;
     value = omega arith;
     begun = λ z. absurd (omega arith);

@@ -1,17 +1,13 @@
 -- Numbers going round: partitions modulo P, statuses modulo 255, and the partitions of which a test holds.
-use Prim.Native.Nat.{ℕ, zero, suc, _+_, _-_, _*_, _/_, _%_, _<_}
-use mathlib.Core.Path.{_≡_, refl, sym, ap, _∙_}
-use mathlib.Core.Logic.{_≢_}
-use mathlib.Core.Bool.{Bool, true, false, cond, _&&_}
-use mathlib.Core.List.{List, [], _∷_, _++_, append-nil}
-use native.Mathlib.Omega.{arith}
-use native.Mathlib.Nat.{mod-lt, mod-eq-of-lt, mod-add-mod, add-mod-mod, add-mod-right, div-add-mod', suc-mul, add-mul-mod-self-right}
-use native.Mathlib.Decide.{decLe, ℕ-discrete}
-use Rattle·model.specs.Lists.{all}
-use Rattle·model.specs.Laws.Lists.{mod-inj, all-append, and-left, and-right}
-use Rattle·partitions.specs.Laws.{kept-append}
-use Rattle·partition_runs·specs.specs.Instances.{board}
-use Rattle·partitions.specs.Partitions.{indices, kept, nextStatus, nextPartition, newest, onlyOne}
+use Rattle.std.specs.Prelude.{ℕ, zero, suc, ◌+◌, ◌-◌, ◌*◌, ◌/◌, ◌%◌, ◌<◌, ◌≡◌, refl, ◌≢◌, Bool, true, false, cond, ◌&&◌, List, [], ◌∷◌, ◌++◌}
+use Rattle.std.proofs.Common.{sym, ap, ◌∙◌, append-nil, arith, mod-lt, mod-eq_of_lt, div-add-mod', suc-mul}
+use Rattle.std.proofs.Math.Nat.{mod-add-mod, add-mod-mod, add-mod_right, add-mul-mod_self_right}
+use Rattle.std.proofs.Math.Decide.{dec_le, ℕ_discrete}
+use Rattle.model.specs.Lists.{all}
+use Rattle.model.specs.Laws.Lists.{mod-inj, all_append, and_left, and_right}
+use Rattle.partitions.specs.Laws.{kept_append}
+use Rattle.partition_runs.specs.Instances.{board}
+use Rattle.partitions.specs.Partitions.{indices, kept, nextStatus, nextPartition, newest, onlyOne}
 
 -- ---- partitions
 
@@ -21,11 +17,11 @@ rotate P a p h =
     let r : a % P < P = mod-lt a {m = P} (omega arith) in
     let j = (p + (P - a % P)) % P in
     let e : a + (p + (P - a % P)) ≡ p + suc (a / P) * P = omega (arith, div-add-mod' a P, suc-mul (a / P) P) in
-    (j, mod-lt (p + (P - a % P)) {m = P} (omega arith), add-mod-mod a (p + (P - a % P)) P ∙ ap (λ (y : ℕ). y % P) e ∙ add-mul-mod-self-right p (suc (a / P)) P ∙ mod-eq-of-lt h)
+    (j, mod-lt (p + (P - a % P)) {m = P} (omega arith), add-mod-mod a (p + (P - a % P)) P ∙ ap (λ (y : ℕ). y % P) e ∙ add-mul-mod_self_right p (suc (a / P)) P ∙ mod-eq_of_lt h)
 
 -- and only of one
-pub same-turn : (P a i j : ℕ) → i < P → j < P → (a + i) % P ≡ (a + j) % P → i ≡ j
-same-turn P a i j h k e = elim (decLe i j) [
+pub same_turn : (P a i j : ℕ) → i < P → j < P → (a + i) % P ≡ (a + j) % P → i ≡ j
+same_turn P a i j h k e = elim (dec_le i j) [
   | yes l ↦ omega (arith, mod-inj P (a + i) (a + j) (omega arith) (omega arith) e)
   | no l ↦ omega (arith, mod-inj P (a + j) (a + i) (omega arith) (omega arith) (sym e))
 ]
@@ -35,7 +31,7 @@ unfolding nextPartition
 next-turn P a j = mod-add-mod (a + j) P 1 ∙ ap (λ (y : ℕ). y % P) (omega arith)
 
 pub whole-turn : (P a : ℕ) → (a + P) % P ≡ (a + 0) % P
-whole-turn P a = add-mod-right a P ∙ ap (λ (y : ℕ). y % P) (omega arith)
+whole-turn P a = add-mod_right a P ∙ ap (λ (y : ℕ). y % P) (omega arith)
 
 -- ---- statuses
 
@@ -55,46 +51,46 @@ never-closes v P h k e = omega (arith, mod-inj 255 (v + 0) (v + P) (omega arith)
 pub all-indices : (f : ℕ → Bool) (k : ℕ) → ((p : ℕ) → p < k → f p ≡ true) → all f (indices k) ≡ true
 unfolding all indices
 all-indices f zero h = refl
-all-indices f (suc k) h = all-append f (indices k) (k ∷ []) ∙ rw (all-indices f k (λ p l. h p (omega arith)), h k (omega arith))
+all-indices f (suc k) h = all_append f (indices k) (k ∷ []) ∙ rw (all-indices f k (λ p l. h p (omega arith)), h k (omega arith))
 
 pub indices-all : (f : ℕ → Bool) (k p : ℕ) → all f (indices k) ≡ true → p < k → f p ≡ true
 unfolding all indices
 indices-all f zero p h l = absurd (omega arith)
 indices-all f (suc k) p h l =
-    let parts = sym (all-append f (indices k) (k ∷ [])) ∙ h in
-    elim (ℕ-discrete p k) [
-      | yes e ↦ rw e (and-left (f k) true (and-right (all f (indices k)) (f k && true) parts))
-      | no e ↦ indices-all f k p (and-left (all f (indices k)) (f k && true) parts) (omega arith)
+    let parts = sym (all_append f (indices k) (k ∷ [])) ∙ h in
+    elim (ℕ_discrete p k) [
+      | yes e ↦ rw e (and_left (f k) true (and_right (all f (indices k)) (f k && true) parts))
+      | no e ↦ indices-all f k p (and_left (all f (indices k)) (f k && true) parts) (omega arith)
     ]
 
-kept-next : (f : ℕ → Bool) (k : ℕ) → kept f (indices (suc k)) ≡ kept f (indices k) ++ cond (f k) (k ∷ []) []
+kept_next : (f : ℕ → Bool) (k : ℕ) → kept f (indices (suc k)) ≡ kept f (indices k) ++ cond (f k) (k ∷ []) []
 unfolding indices kept
-kept-next f k = kept-append f (indices k) (k ∷ [])
+kept_next f k = kept_append f (indices k) (k ∷ [])
 
-none-kept : (f : ℕ → Bool) (k : ℕ) → ((p : ℕ) → p < k → f p ≡ false) → kept f (indices k) ≡ []
+none_kept : (f : ℕ → Bool) (k : ℕ) → ((p : ℕ) → p < k → f p ≡ false) → kept f (indices k) ≡ []
 unfolding indices kept
-none-kept f zero h = refl
-none-kept f (suc k) h = kept-next f k ∙ rw (none-kept f k (λ p l. h p (omega arith)), h k (omega arith))
+none_kept f zero h = refl
+none_kept f (suc k) h = kept_next f k ∙ rw (none_kept f k (λ p l. h p (omega arith)), h k (omega arith))
 
 -- a test that holds of q alone
-pub one-kept : (f : ℕ → Bool) (k q : ℕ) → q < k → f q ≡ true → ((p : ℕ) → p < k → p ≢ q → f p ≡ false) → kept f (indices k) ≡ q ∷ []
-one-kept f zero q l t h = absurd (omega arith)
-one-kept f (suc k) q l t h = elim (ℕ-discrete q k) [
-  | yes e ↦ kept-next f k ∙ rw (none-kept f k (λ p w. h p (omega arith) (λ d. omega arith)), ← e, t)
-  | no e ↦ kept-next f k ∙ rw (h k (omega arith) (λ d. e (sym d)), one-kept f k q (omega arith) t (λ p w d. h p (omega arith) d))
+pub one_kept : (f : ℕ → Bool) (k q : ℕ) → q < k → f q ≡ true → ((p : ℕ) → p < k → p ≢ q → f p ≡ false) → kept f (indices k) ≡ q ∷ []
+one_kept f zero q l t h = absurd (omega arith)
+one_kept f (suc k) q l t h = elim (ℕ_discrete q k) [
+  | yes e ↦ kept_next f k ∙ rw (none_kept f k (λ p w. h p (omega arith) (λ d. omega arith)), ← e, t)
+  | no e ↦ kept_next f k ∙ rw (h k (omega arith) (λ d. e (sym d)), one_kept f k q (omega arith) t (λ p w d. h p (omega arith) d))
 ]
 
 snoc-some : (xs : List ℕ) (y : ℕ) → xs ++ (y ∷ []) ≡ [] → ⊥
-snoc-some [] y e = let z : _≡_ {A = ℕ} 0 1 = cc in omega arith
-snoc-some (x ∷ xs) y e = let z : _≡_ {A = ℕ} 0 1 = cc in omega arith
+snoc-some [] y e = let z : ◌≡◌ {A = ℕ} 0 1 = cc in omega arith
+snoc-some (x ∷ xs) y e = let z : ◌≡◌ {A = ℕ} 0 1 = cc in omega arith
 
 kept-none : (f : ℕ → Bool) (k p : ℕ) → kept f (indices k) ≡ [] → p < k → f p ≡ false
 kept-none f zero p e l = absurd (omega arith)
-kept-none f (suc k) p e l = go (f k) refl (sym (kept-next f k) ∙ e) (λ w m. kept-none f k p w m)
+kept-none f (suc k) p e l = go (f k) refl (sym (kept_next f k) ∙ e) (λ w m. kept-none f k p w m)
   where
     go : (t : Bool) → f k ≡ t → kept f (indices k) ++ cond t (k ∷ []) [] ≡ [] → (kept f (indices k) ≡ [] → p < k → f p ≡ false) → f p ≡ false
     go true d w ih = absurd (snoc-some (kept f (indices k)) k w)
-    go false d w ih = elim (ℕ-discrete p k) [ yes q ↦ rw q d | no q ↦ ih (sym (append-nil (kept f (indices k))) ∙ w) (omega arith) ]
+    go false d w ih = elim (ℕ_discrete p k) [ yes q ↦ rw q d | no q ↦ ih (sym (append-nil (kept f (indices k))) ∙ w) (omega arith) ]
 
 -- what is known of a test that keeps one
 pub record Only (f : ℕ → Bool) (k q : ℕ) : Type 0 where
@@ -104,28 +100,28 @@ pub record Only (f : ℕ → Bool) (k q : ℕ) : Type 0 where
 
 snoc-one : (xs : List ℕ) (y q : ℕ) → xs ++ (y ∷ []) ≡ q ∷ [] → (xs ≡ []) × (y ≡ q)
 snoc-one [] y q e = (refl, cc)
-snoc-one (x ∷ []) y q e = absurd (let z : _≡_ {A = ℕ} 0 1 = cc in omega arith)
-snoc-one (x ∷ w ∷ xs) y q e = absurd (let z : _≡_ {A = ℕ} 0 1 = cc in omega arith)
+snoc-one (x ∷ []) y q e = absurd (let z : ◌≡◌ {A = ℕ} 0 1 = cc in omega arith)
+snoc-one (x ∷ w ∷ xs) y q e = absurd (let z : ◌≡◌ {A = ℕ} 0 1 = cc in omega arith)
 
 pub kept-one : (f : ℕ → Bool) (k q : ℕ) → kept f (indices k) ≡ q ∷ [] → Only f k q
 unfolding indices kept
-kept-one f zero q e = absurd (let z : _≡_ {A = ℕ} 0 1 = cc in omega arith)
-kept-one f (suc k) q e = go (f k) refl (sym (kept-next f k) ∙ e) (λ w. kept-one f k q w)
+kept-one f zero q e = absurd (let z : ◌≡◌ {A = ℕ} 0 1 = cc in omega arith)
+kept-one f (suc k) q e = go (f k) refl (sym (kept_next f k) ∙ e) (λ w. kept-one f k q w)
   where
     go : (t : Bool) → f k ≡ t → kept f (indices k) ++ cond t (k ∷ []) [] ≡ q ∷ [] → (kept f (indices k) ≡ q ∷ [] → Only f k q) → Only f (suc k) q
     go true d w ih = let two = snoc-one (kept f (indices k)) k q w in record {
-      inside = omega (arith, two .1);
-      holds = rw (← (two .1)) d;
-      others = λ p l n. elim (ℕ-discrete p k) [ yes c ↦ absurd (n (c ∙ two .1)) | no c ↦ kept-none f k p (two .0) (omega arith) ];
+      inside = omega (arith, two.1);
+      holds = rw (← two.1) d;
+      others = λ p l n. elim (ℕ_discrete p k) [ yes c ↦ absurd (n (c ∙ two.1)) | no c ↦ kept-none f k p two.0 (omega arith) ];
     }
     go false d w ih = let o = ih (sym (append-nil (kept f (indices k))) ∙ w) in record {
-      inside = omega (arith, o .inside);
-      holds = o .holds;
-      others = λ p l n. elim (ℕ-discrete p k) [ yes c ↦ rw c d | no c ↦ o .others p (omega arith) n ];
+      inside = omega (arith, o.inside);
+      holds = o.holds;
+      others = λ p l n. elim (ℕ_discrete p k) [ yes c ↦ rw c d | no c ↦ o.others p (omega arith) n ];
     }
 
-pub only-one : (l : List ℕ) (p : ℕ) → onlyOne l ≡ newest p → l ≡ p ∷ []
+pub only_one : (l : List ℕ) (p : ℕ) → onlyOne l ≡ newest p → l ≡ p ∷ []
 unfolding onlyOne
-only-one [] p e = absurd (let z : _≡_ {A = ℕ} 0 1 = cc in omega arith)
-only-one (x ∷ []) p e = cc
-only-one (x ∷ y ∷ l) p e = absurd (let z : _≡_ {A = ℕ} 0 1 = cc in omega arith)
+only_one [] p e = absurd (let z : ◌≡◌ {A = ℕ} 0 1 = cc in omega arith)
+only_one (x ∷ []) p e = cc
+only_one (x ∷ y ∷ l) p e = absurd (let z : ◌≡◌ {A = ℕ} 0 1 = cc in omega arith)

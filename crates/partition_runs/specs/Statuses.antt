@@ -1,63 +1,57 @@
 -- Histories of writes: the status set last is the newest partition's, at every point of the cycle, and the run stays single.
-use Prim.Native.Nat.{ℕ, zero, suc, _+_, _-_, _*_, _%_, _<_}
-use mathlib.Core.Path.{_≡_, refl, sym, ap, _∙_, subst}
-use mathlib.Core.Logic.{_≢_}
-use mathlib.Core.Bool.{true}
-use mathlib.Core.List.{List, [], _∷_, _++_}
-use native.Mathlib.Omega.{arith}
-use native.Mathlib.Nat.{mod-lt, add-zero}
-use lib.ListN.{length, take}
-use lib.Seq.{take-nil}
-use Rattle·model.specs.Chip.{Image, Step, Bytes}
-use Rattle·model.specs.Answers.{Work}
-use Rattle·flash.specs.Units.{runIn}
-use Rattle·partitions.specs.Layout.{Item, itemsOf, layoutOk}
-use Rattle·partitions.specs.Partitions.{imageOk, partitionSize, statusOf, Newest, nothing, newest, noRun, newestIn, newestOf}
-use Rattle·partitions.specs.Writes.{Entry, entryFor, writeItem, writeItems, fill, writeSteps}
-use Rattle·partitions.specs.Answers.{writeWork, workedIn, writeOutcome}
-use Rattle·partitions.specs.Laws.{right-layout, used-some, item-lies}
-use Rattle·partition_runs·specs.specs.Law.{Call, outcomeOf, play, stepsDone, statusesSet, lastOf, SetLast, AtPoint, Cycle, SingleRun, StaysSingle}
-use Rattle·partition_runs·specs.specs.Runs.{nothing-newest, newest-none, run-newest}
-use Rattle·partition_runs·specs.specs.Backwards.{newest-run}
-use Rattle·partition_runs·specs.specs.Effects.{run-length, left-alone, run-bytes}
-use Rattle·partition_runs·specs.specs.Inside.{Within, within-append, within-take, within-status, within-sets, sets-append, item-within}
-use Rattle·partition_runs·specs.specs.Reach.{Reaches, pointed, reach-newest, reach-status, reach-same, reach-none, reach-run}
-use Rattle·partition_runs·specs.specs.Carry.{carried-within, table-suits}
-use Rattle·partition_runs·specs.specs.Filling.{Sized, sized, partition-inside, Filled, cut, filled, fills}
-use Rattle·partition_runs·specs.specs.Calls.{Taken, listOf, Verdict, taken, refused, verdict, entriesFor, Plan, filling, placing, plan}
+use Rattle.std.specs.Prelude.{ℕ, zero, suc, ◌+◌, ◌-◌, ◌*◌, ◌%◌, ◌<◌, ◌≡◌, refl, ◌≢◌, true, List, [], ◌∷◌, ◌++◌, length, take}
+use Rattle.std.proofs.Common.{sym, ap, ◌∙◌, subst, arith, mod-lt, add-zero}
+use Rattle.std.proofs.Math.Seq.{take-nil}
+use Rattle.model.specs.Chip.{Image, Step, Bytes}
+use Rattle.model.specs.Answers.{Work}
+use Rattle.flash.specs.Units.{runIn}
+use Rattle.partitions.specs.Layout.{Item, items_of, layoutOk}
+use Rattle.partitions.specs.Partitions.{imageOk, partitionSize, statusOf, Newest, nothing, newest, no_run, newestIn, newestOf}
+use Rattle.partitions.specs.Writes.{Entry, entryFor, writeItem, writeItems, fill, writeSteps}
+use Rattle.partitions.specs.Answers.{writeWork, workedIn, writeOutcome}
+use Rattle.partitions.specs.Laws.{right-layout, used-some, item-lies}
+use Rattle.partition_runs.specs.Law.{Call, outcomeOf, play, stepsDone, statusesSet, last_of, SetLast, AtPoint, Cycle, SingleRun, StaysSingle}
+use Rattle.partition_runs.specs.Runs.{nothing-newest, newest-none, run-newest}
+use Rattle.partition_runs.specs.Backwards.{newest-run}
+use Rattle.partition_runs.specs.Effects.{run_length, left_alone, run-bytes}
+use Rattle.partition_runs.specs.Inside.{Within, within-append, within-take, within-status, within-sets, sets-append, item-within}
+use Rattle.partition_runs.specs.Reach.{Reaches, pointed, reach-newest, reach-status, reach-same, reach-none, reach-run}
+use Rattle.partition_runs.specs.Carry.{carried-within, table-suits}
+use Rattle.partition_runs.specs.Filling.{Sized, sized, partition-inside, Filled, cut, filled, fills}
+use Rattle.partition_runs.specs.Calls.{Taken, list_of, Verdict, taken, refused, verdict, entriesFor, Plan, filling, placing, plan}
 
 -- ---- one write
 
 -- a right table leaves room for a status
 pub some-room : (S : ℕ) (layout : List ℕ) → layoutOk S layout ≡ true → 0 < S
-some-room S layout e = omega (arith, right-layout S layout e .fit, used-some (itemsOf layout))
+some-room S layout e = omega (arith, (right-layout S layout e).fit, used-some (items_of layout))
 
 -- the steps of its items are within the partition that is filled
 pub entries-within : (P : ℕ) (layout : List ℕ) (s : Image) (i : ℕ) (d : List ℕ) → Taken P layout s i d → (A : ℕ)
-    → Within (partitionSize P s) (A % P) (writeItems (partitionSize P s) (A % P) (entriesFor P (partitionSize P s) (itemsOf layout) s A (entryFor layout i d)))
-unfolding entriesFor writeItems itemsOf
+    → Within (partitionSize P s) (A % P) (writeItems (partitionSize P s) (A % P) (entriesFor P (partitionSize P s) (items_of layout) s A (entryFor layout i d)))
+unfolding entriesFor writeItems items_of
 entries-within P layout s i d t zero =
     let S = partitionSize P s in
-    let x = item-lies S i layout (right-layout S layout (t .table) .fit) (t .known) in
-    within-append S (0 % P) (writeItem S (0 % P) (entryFor layout i d)) [] (item-within S (0 % P) (entryFor layout i d) (t .whole) (x .behind) (x .inside)) tt
+    let x = item-lies S i layout (right-layout S layout t.table).fit t.known in
+    within-append S (0 % P) (writeItem S (0 % P) (entryFor layout i d)) [] (item-within S (0 % P) (entryFor layout i d) t.whole x.behind x.inside) tt
 entries-within P layout s i d t (suc k) =
     let S = partitionSize P s in
-    let z = sized P s (t .right) in
-    let p = partition-inside P S (length s) (k % P) z (mod-lt k {m = P} (omega (arith, z .two))) in
-    carried-within S s (k % P) (suc k % P) (entryFor layout i d) (t .whole) p 1 layout (table-suits S s (k % P) (suc k % P) layout i d (t .whole) p (right-layout S layout (t .table)) (t .known))
+    let z = sized P s t.right in
+    let p = partition-inside P S (length s) (k % P) z (mod-lt k {m = P} (omega (arith, z.two))) in
+    carried-within S s (k % P) (suc k % P) (entryFor layout i d) t.whole p 1 layout (table-suits S s (k % P) (suc k % P) layout i d t.whole p (right-layout S layout t.table) t.known)
 
 -- the steps done, and the image that they leave
 abbrev done : ℕ → Image → Call → List Step
-done P s x = take (x .allowance) (writeWork P (x .layout) s (x .item) (x .contents) .steps)
+done P s x = take x.allowance (writeWork P x.layout s x.item x.contents).steps
 
 status-left : (S p q : ℕ) (xs : List Step) (s : Image) → Within S q xs → statusOf S (runIn S xs s) p ≡ statusOf S s p
 unfolding statusOf
-status-left S p q xs s w = left-alone S (p * S) xs s (within-status S q p xs w)
+status-left S p q xs s w = left_alone S (p * S) xs s (within-status S q p xs w)
 
 pub plan-at : (P : ℕ) (s : Image) (xs : List Item) (e : Entry) (z : Sized P (partitionSize P s) (length s)) (A W : ℕ) → Reaches P (partitionSize P s) s A W
-    → Plan P (partitionSize P s) (z .two) (z .most) s xs e A W (writeSteps P (partitionSize P s) xs s (newestOf P s) e)
+    → Plan P (partitionSize P s) z.two z.most s xs e A W (writeSteps P (partitionSize P s) xs s (newestOf P s) e)
 unfolding newestOf
-plan-at P s xs e z A W r = plan P (partitionSize P s) (z .two) (z .most) s xs e A W r
+plan-at P s xs e z A W r = plan P (partitionSize P s) z.two z.most s xs e A W r
 
 -- an item written in place, or some of it: no status is set, and the run is the same
 module _ (P : ℕ) (layout : List ℕ) (s : Image) (i : ℕ) (d : List ℕ) (t : Taken P layout s i d) where
@@ -65,17 +59,17 @@ module _ (P : ℕ) (layout : List ℕ) (s : Image) (i : ℕ) (d : List ℕ) (t :
   size = partitionSize P s
 
   placed-within : (p n : ℕ) → Within size p (take n (writeItem size p (entryFor layout i d)))
-  placed-within p n = let y = item-lies size i layout (right-layout size layout (t .table) .fit) (t .known) in
-      within-take size p n (writeItem size p (entryFor layout i d)) (item-within size p (entryFor layout i d) (t .whole) (y .behind) (y .inside))
+  placed-within p n = let y = item-lies size i layout (right-layout size layout t.table).fit t.known in
+      within-take size p n (writeItem size p (entryFor layout i d)) (item-within size p (entryFor layout i d) t.whole y.behind y.inside)
 
   placed-sets : (p n : ℕ) → statusesSet size (take n (writeItem size p (entryFor layout i d))) ≡ []
   placed-sets p n = within-sets size p (take n (writeItem size p (entryFor layout i d))) (placed-within p n)
 
   pub placed-reach : (A W : ℕ) → Reaches P size s A W → (p n : ℕ) → Reaches P size (runIn size (take n (writeItem size p (entryFor layout i d))) s) A W
   placed-reach A W r p n =
-      let z = sized P s (t .right) in
+      let z = sized P s t.right in
       let xs = take n (writeItem size p (entryFor layout i d)) in
-      reach-same P size (z .two) (z .most) s (runIn size xs s) A W r (λ q. status-left size q p xs s (placed-within p n))
+      reach-same P size z.two z.most s (runIn size xs s) A W r (λ q. status-left size q p xs s (placed-within p n))
 
 -- no status was set, and the run is the same; or the next one was
 pub data Went (P : ℕ) (s : Image) (A W : ℕ) (xs : List Step) : Type 0 where
@@ -84,61 +78,61 @@ pub data Went (P : ℕ) (s : Image) (A W : ℕ) (xs : List Step) : Type 0 where
 
 pub goes : (P : ℕ) (s : Image) (x : Call) (A W : ℕ) → imageOk P s ≡ true → Reaches P (partitionSize P s) s A W → Went P s A W (done P s x)
 unfolding runIn statusesSet
-goes P s x A W ok r = go (writeWork P (x .layout) s (x .item) (x .contents)) (verdict P (x .layout) s (x .item) (x .contents))
+goes P s x A W ok r = go (writeWork P x.layout s x.item x.contents) (verdict P x.layout s x.item x.contents)
   where
     S : ℕ
     S = partitionSize P s
 
     n : ℕ
-    n = x .allowance
+    n = x.allowance
 
     z : Sized P S (length s)
     z = sized P s ok
 
     e : Entry
-    e = entryFor (x .layout) (x .item) (x .contents)
+    e = entryFor x.layout x.item x.contents
 
     nothing-done : (xs : List Step) → xs ≡ [] → Went P s A W xs
     nothing-done xs h = rw h (stayed refl r)
 
-    planned : Taken P (x .layout) s (x .item) (x .contents) → (xs : List Step) → Plan P S (z .two) (z .most) s (itemsOf (x .layout)) e A W xs → Went P s A W (take n xs)
-    planned t xs filling = ended (fills P S s z (some-room S (x .layout) (t .table)) A W r (entriesFor P S (itemsOf (x .layout)) s A e) (entries-within P (x .layout) s (x .item) (x .contents) t A) n)
+    planned : Taken P x.layout s x.item x.contents → (xs : List Step) → Plan P S z.two z.most s (items_of x.layout) e A W xs → Went P s A W (take n xs)
+    planned t xs filling = ended (fills P S s z (some-room S x.layout t.table) A W r (entriesFor P S (items_of x.layout) s A e) (entries-within P x.layout s x.item x.contents t A) n)
       where
-        ended : Filled P S s z (some-room S (x .layout) (t .table)) A W r (entriesFor P S (itemsOf (x .layout)) s A e) (entries-within P (x .layout) s (x .item) (x .contents) t A) n
-            (take n (fill S (A % P) (entriesFor P S (itemsOf (x .layout)) s A e) (W % 255)))
-            → Went P s A W (take n (fill S (A % P) (entriesFor P S (itemsOf (x .layout)) s A e) (W % 255)))
+        ended : Filled P S s z (some-room S x.layout t.table) A W r (entriesFor P S (items_of x.layout) s A e) (entries-within P x.layout s x.item x.contents t A) n
+            (take n (fill S (A % P) (entriesFor P S (items_of x.layout) s A e) (W % 255)))
+            → Went P s A W (take n (fill S (A % P) (entriesFor P S (items_of x.layout) s A e) (W % 255)))
         ended (cut a b c l) = stayed a b
         ended (filled a b c l) = moved a b
-    planned t xs (placing k h b) = stayed (placed-sets P (x .layout) s (x .item) (x .contents) t (k % P) n) (placed-reach P (x .layout) s (x .item) (x .contents) t A W r (k % P) n)
+    planned t xs (placing k h b) = stayed (placed-sets P x.layout s x.item x.contents t (k % P) n) (placed-reach P x.layout s x.item x.contents t A W r (k % P) n)
 
-    go : (w : Work) → Verdict P (x .layout) s (x .item) (x .contents) w → Went P s A W (take n (w .steps))
-    go w (taken t) = planned t (listOf P (x .layout) s (x .item) (x .contents)) (plan-at P s (itemsOf (x .layout)) e z A W r)
+    go : (w : Work) → Verdict P x.layout s x.item x.contents w → Went P s A W (take n w.steps)
+    go w (taken t) = planned t (list_of P x.layout s x.item x.contents) (plan-at P s (items_of x.layout) e z A W r)
     go w (refused k a b e) = nothing-done (take n []) (take-nil n)
 
 -- ---- the image afterwards
 
-pub after : (P : ℕ) (s : Image) (x : Call) → outcomeOf P s x .image ≡ runIn (partitionSize P s) (done P s x) s
+pub after : (P : ℕ) (s : Image) (x : Call) → (outcomeOf P s x).image ≡ runIn (partitionSize P s) (done P s x) s
 unfolding outcomeOf writeOutcome workedIn
 after P s x = refl
 
-length-after : (P : ℕ) (s : Image) (x : Call) → length (outcomeOf P s x .image) ≡ length s
-length-after P s x = ap length (after P s x) ∙ run-length (partitionSize P s) (done P s x) s
+length-after : (P : ℕ) (s : Image) (x : Call) → length (outcomeOf P s x).image ≡ length s
+length-after P s x = ap length (after P s x) ∙ run_length (partitionSize P s) (done P s x) s
 
-pub size-after : (P : ℕ) (s : Image) (x : Call) → partitionSize P (outcomeOf P s x .image) ≡ partitionSize P s
+pub size-after : (P : ℕ) (s : Image) (x : Call) → partitionSize P (outcomeOf P s x).image ≡ partitionSize P s
 unfolding partitionSize
 size-after P s x = rw (length-after P s x)
 
-pub right-after : (P : ℕ) (s : Image) (x : Call) → imageOk P (outcomeOf P s x .image) ≡ imageOk P s
+pub right-after : (P : ℕ) (s : Image) (x : Call) → imageOk P (outcomeOf P s x).image ≡ imageOk P s
 unfolding imageOk
 right-after P s x = rw (length-after P s x)
 
-pub bytes-after : (P : ℕ) (s : Image) (x : Call) → Bytes s → Bytes (outcomeOf P s x .image)
-bytes-after P s x b = rw (after P s x) (run-bytes (partitionSize P s) (done P s x) s b)
+pub bytes_after : (P : ℕ) (s : Image) (x : Call) → Bytes s → Bytes (outcomeOf P s x).image
+bytes_after P s x b = rw (after P s x) (run-bytes (partitionSize P s) (done P s x) s b)
 
 play-bytes : (P : ℕ) (s : Image) (xs : List Call) → Bytes s → Bytes (play P s xs)
 unfolding play
 play-bytes P s [] b = b
-play-bytes P s (x ∷ xs) b = play-bytes P (outcomeOf P s x .image) xs (bytes-after P s x b)
+play-bytes P s (x ∷ xs) b = play-bytes P (outcomeOf P s x).image xs (bytes_after P s x b)
 
 -- ---- histories
 
@@ -146,8 +140,8 @@ lastFrom : Newest → List ℕ → Newest
 lastFrom n [] = n
 lastFrom n (p ∷ ps) = lastFrom (newest p) ps
 
-last-from : (ps : List ℕ) → lastOf ps ≡ lastFrom nothing ps
-unfolding lastOf lastFrom
+last-from : (ps : List ℕ) → last_of ps ≡ lastFrom nothing ps
+unfolding last_of lastFrom
 last-from [] = refl
 last-from (p ∷ []) = refl
 last-from (p ∷ q ∷ r) = last-from (q ∷ r)
@@ -159,13 +153,13 @@ record Went-on (P S : ℕ) (s : Image) (xs : List Call) (A W : ℕ) : Type 0 whe
   right : imageOk P (play P s xs) ≡ true
   size : partitionSize P (play P s xs) ≡ S
 
-goes-on : (P S : ℕ) (s : Image) (xs : List Call) (A W : ℕ) → imageOk P s ≡ true → partitionSize P s ≡ S → Reaches P S s A W → Went-on P S s xs A W
+goes_on : (P S : ℕ) (s : Image) (xs : List Call) (A W : ℕ) → imageOk P s ≡ true → partitionSize P s ≡ S → Reaches P S s A W → Went-on P S s xs A W
 unfolding play stepsDone statusesSet lastFrom pointed
-goes-on P S s [] A W ok e r = record { reach = rw (add-zero A, add-zero W) r; last = rw (add-zero A); right = ok; size = e }
-goes-on P S s (x ∷ xs) A W ok e r = go (goes P s x A W ok (subst (λ (y : ℕ). Reaches P y s A W) (sym e) r)) (λ B U w. goes-on P S next xs B U (right-after P s x ∙ ok) (size-after P s x ∙ e) w)
+goes_on P S s [] A W ok e r = record { reach = rw (add-zero A, add-zero W) r; last = rw (add-zero A); right = ok; size = e }
+goes_on P S s (x ∷ xs) A W ok e r = go (goes P s x A W ok (subst (λ (y : ℕ). Reaches P y s A W) (sym e) r)) (λ B U w. goes_on P S next xs B U (right-after P s x ∙ ok) (size-after P s x ∙ e) w)
   where
     next : Image
-    next = outcomeOf P s x .image
+    next = (outcomeOf P s x).image
 
     rest : List ℕ
     rest = statusesSet S (stepsDone P next xs)
@@ -178,13 +172,13 @@ goes-on P S s (x ∷ xs) A W ok e r = go (goes P s x A W ok (subst (λ (y : ℕ)
 
     go : Went P s A W (done P s x) → ((B U : ℕ) → Reaches P S next B U → Went-on P S next xs B U) → Went-on P S s (x ∷ xs) A W
     go (stayed a b) ih = let w = ih A W (reached A W b) in
-        record { reach = rw (sets [] a) (w .reach); last = rw (sets [] a) (w .last); right = w .right; size = w .size }
+        record { reach = rw (sets [] a) w.reach; last = rw (sets [] a) w.last; right = w.right; size = w.size }
     go (moved a b) ih =
         let w = ih (suc A) (suc W) (reached (suc A) (suc W) b) in
         let l = sets (A % P ∷ []) a in
         let f : A + suc (length rest) ≡ suc A + length rest = omega arith in
         let g : W + suc (length rest) ≡ suc W + length rest = omega arith in
-        record { reach = rw (l, f, g) (w .reach); last = rw (l, f) (w .last); right = w .right; size = w .size }
+        record { reach = rw (l, f, g) w.reach; last = rw (l, f) w.last; right = w.right; size = w.size }
 
 -- ---- the theorems
 
@@ -193,18 +187,18 @@ newest-after : (P : ℕ) (s : Image) (xs : List Call) (A W : ℕ) → imageOk P 
     → newestOf P (play P s xs) ≡ pointed P (A + length (statusesSet (partitionSize P s) (stepsDone P s xs)))
 unfolding newestOf
 newest-after P s xs A W ok r =
-    let w = goes-on P (partitionSize P s) s xs A W ok refl r in
+    let w = goes_on P (partitionSize P s) s xs A W ok refl r in
     let z = sized P s ok in
     let k = length (statusesSet (partitionSize P s) (stepsDone P s xs)) in
-    rw (w .size) (reach-newest P (partitionSize P s) (z .two) (z .most) (play P s xs) (A + k) (W + k) (w .reach))
+    rw w.size (reach-newest P (partitionSize P s) z.two z.most (play P s xs) (A + k) (W + k) w.reach)
 
-pub set-last : SetLast
+pub set_last : SetLast
 unfolding pointed
-set-last P s xs u =
-    let z = sized P s (u .right) in
-    let r = reach-none P (partitionSize P s) (z .two) (z .most) s (u .none) in
-    newest-after P s xs 0 0 (u .right) r
-    ∙ sym (last-from (statusesSet (partitionSize P s) (stepsDone P s xs)) ∙ goes-on P (partitionSize P s) s xs 0 0 (u .right) refl r .last)
+set_last P s xs u =
+    let z = sized P s u.right in
+    let r = reach-none P (partitionSize P s) z.two z.most s u.none in
+    newest-after P s xs 0 0 u.right r
+    ∙ sym (last-from (statusesSet (partitionSize P s) (stepsDone P s xs)) ∙ (goes_on P (partitionSize P s) s xs 0 0 u.right refl r).last)
 
 pub cycle : Cycle
 unfolding pointed
@@ -214,13 +208,13 @@ cycle P s xs u = go (length (statusesSet (partitionSize P s) (stepsDone P s xs))
     S = partitionSize P s
 
     z : Sized P S (length s)
-    z = sized P s (u .right)
+    z = sized P s u.right
 
     r : Reaches P S s 0 0
-    r = reach-none P S (z .two) (z .most) s (u .none)
+    r = reach-none P S z.two z.most s u.none
 
     w : Went-on P S s xs 0 0
-    w = goes-on P S s xs 0 0 (u .right) refl r
+    w = goes_on P S s xs 0 0 u.right refl r
 
     go : (k : ℕ) → length (statusesSet S (stepsDone P s xs)) ≡ k → 0 < k → AtPoint P (play P s xs) k
     go zero e h = absurd (omega arith)
@@ -228,8 +222,8 @@ cycle P s xs u = go (length (statusesSet (partitionSize P s) (stepsDone P s xs))
         let i : 0 + length (statusesSet S (stepsDone P s xs)) ≡ suc k = omega arith in
         let j : suc k - 1 ≡ k = omega arith in
         record {
-          at = subst (λ (y : ℕ). newestOf P (play P s xs) ≡ newest (y % P)) (sym j) (rw i at (newest-after P s xs 0 0 (u .right) r));
-          status = rw (j, w .size) (reach-status P S (z .two) (z .most) (play P s xs) k k (rw i at (w .reach)));
+          at = subst (λ (y : ℕ). newestOf P (play P s xs) ≡ newest (y % P)) (sym j) (rw i at (newest-after P s xs 0 0 u.right r));
+          status = rw (j, w.size) (reach-status P S z.two z.most (play P s xs) k k (rw i at w.reach));
         }
 
 -- an image that is not refused with 4 has a reach
@@ -238,7 +232,7 @@ pub record Reached (P : ℕ) (s : Image) : Type 0 where
   pub W : ℕ
   pub reach : Reaches P (partitionSize P s) s A W
 
-pub reached : (P : ℕ) (s : Image) → imageOk P s ≡ true → Bytes s → newestOf P s ≢ noRun → Reached P s
+pub reached : (P : ℕ) (s : Image) → imageOk P s ≡ true → Bytes s → newestOf P s ≢ no_run → Reached P s
 unfolding newestOf
 reached P s ok bytes single = go (newestIn P S s) refl
   where
@@ -249,11 +243,11 @@ reached P s ok bytes single = go (newestIn P S s) refl
     z = sized P s ok
 
     go : (n : Newest) → newestIn P S s ≡ n → Reached P s
-    go nothing e = record { A = 0; W = 0; reach = reach-none P S (z .two) (z .most) s (newest-none P S s e) }
+    go nothing e = record { A = 0; W = 0; reach = reach-none P S z.two z.most s (newest-none P S s e) }
     go (newest p) e =
-        let w = newest-run P S s bytes (z .most) p e in
-        record { A = suc (w .start + w .before); W = suc (w .status + w .before); reach = reach-run P S (z .two) (z .most) s p w }
-    go noRun e = absurd (single e)
+        let w = newest-run P S s bytes z.most p e in
+        record { A = suc (w.start + w.before); W = suc (w.status + w.before); reach = reach-run P S z.two z.most s p w }
+    go no_run e = absurd (single e)
 
 pub single-run : SingleRun
 unfolding newestOf
@@ -261,25 +255,25 @@ single-run P s ok bytes =
     let S = partitionSize P s in
     let z = sized P s ok in
     record {
-      ends = λ p e. newest-run P S s bytes (z .most) p e;
-      found = λ p w. run-newest P S s (w .start) (w .status) (w .before) (omega (arith, z .two)) (omega (arith, z .most)) (w .single) ∙ ap newest (w .last);
+      ends = λ p e. newest-run P S s bytes z.most p e;
+      found = λ p w. run-newest P S s w.start w.status w.before (omega (arith, z.two)) (omega (arith, z.most)) w.single ∙ ap newest w.last;
       none = λ e. record { right = ok; none = newest-none P S s e };
-      blank = λ u. nothing-newest P S s (u .none);
+      blank = λ u. nothing-newest P S s u.none;
     }
 
-pointed-runs : (P k : ℕ) → pointed P k ≢ noRun
+pointed-runs : (P k : ℕ) → pointed P k ≢ no_run
 unfolding pointed
-pointed-runs P zero e = let z : _≡_ {A = ℕ} 0 1 = cc in omega arith
-pointed-runs P (suc k) e = let z : _≡_ {A = ℕ} 0 1 = cc in omega arith
+pointed-runs P zero e = let z : ◌≡◌ {A = ℕ} 0 1 = cc in omega arith
+pointed-runs P (suc k) e = let z : ◌≡◌ {A = ℕ} 0 1 = cc in omega arith
 
 pub stays-single : StaysSingle
 stays-single P layout s xs a =
-    let r = reached P s (a .right) (a .image) (a .single) in
-    let w = goes-on P (partitionSize P s) s xs (r .A) (r .W) (a .right) refl (r .reach) in
+    let r = reached P s a.right a.image a.single in
+    let w = goes_on P (partitionSize P s) s xs r.A r.W a.right refl r.reach in
     record {
-      right = w .right;
-      layout-right = rw (w .size) (a .layout-right);
-      single = λ e. pointed-runs P (r .A + length (statusesSet (partitionSize P s) (stepsDone P s xs))) (sym (newest-after P s xs (r .A) (r .W) (a .right) (r .reach)) ∙ e);
-      bytes = a .bytes;
-      image = play-bytes P s xs (a .image);
+      right = w.right;
+      layout-right = rw w.size a.layout-right;
+      single = λ e. pointed-runs P (r.A + length (statusesSet (partitionSize P s) (stepsDone P s xs))) (sym (newest-after P s xs r.A r.W a.right r.reach) ∙ e);
+      bytes = a.bytes;
+      image = play-bytes P s xs a.image;
     }

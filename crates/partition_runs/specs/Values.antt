@@ -1,59 +1,56 @@
 -- What an item of a partition holds, from its bytes; and an item that is written where all its bytes are 255.
-use Prim.Native.Nat.{ℕ, suc, _+_, _-_, _*_, _≤_, _<_}
-use mathlib.Core.Path.{_≡_, sym, ap, _∙_}
-use mathlib.Core.Logic.{_⊎_, inl, inr, ⊎-elim, _≢_}
-use mathlib.Core.Bool.{cond}
-use mathlib.Core.List.{List, [], _∷_}
-use native.Mathlib.Omega.{arith}
-use lib.ListN.{length, getD, take, drop, length-drop}
-use lib.Seq.{ext-getD, getD-take, getD-drop, length-take-le}
-use borrow.Author.Tests.{eq-eqb, ne-eqb}
-use Rattle·model.specs.Chip.{Image, Step, program, Bytes}
-use Rattle·model.specs.Table.{Found, absent, present}
-use Rattle·model.specs.Steps.{programs}
-use Rattle·model.specs.Laws.Programs.{Outside}
-use Rattle·flash.specs.Units.{stepIn, runIn}
-use Rattle·partitions.specs.Layout.{Item}
-use Rattle·partitions.specs.Items.{identifierAt, dataAt, dataIn, isWritten}
-use Rattle·partitions.specs.Writes.{Entry, writeItem}
-use Rattle·partition_runs·specs.specs.Effects.{run-append, run-length, Leaves, left-alone, leaves-append, leaves-programs, program-erased, programs-erased}
+use Prim.Native.Nat.{ℕ, suc, ◌+◌, ◌-◌, ◌*◌, ◌≤◌, ◌<◌}
+use Rattle.std.specs.Prelude.{◌≡◌, ◌⊎◌, ◌≢◌, cond, List, [], ◌∷◌, length, drop}
+use Rattle.std.proofs.Common.{sym, ◌∙◌, ⊎_elim, arith, length-drop, ext_get_or, get_or-take, get_or-drop, length-take-le, eq-eqb, ne_eqb}
+use Rattle.std.proofs.Math.Path.{ap}
+use Rattle.std.proofs.Math.Logic.{inl, inr}
+use Rattle.std.proofs.Math.ListN.{get_or, take}
+use Rattle.model.specs.Chip.{Image, Step, program, Bytes}
+use Rattle.model.specs.Table.{Found, absent, present}
+use Rattle.model.specs.Steps.{programs}
+use Rattle.model.specs.Laws.Programs.{Outside}
+use Rattle.flash.specs.Units.{stepIn, runIn}
+use Rattle.partitions.specs.Layout.{Item}
+use Rattle.partitions.specs.Items.{identifierAt, dataAt, dataIn, is_written}
+use Rattle.partitions.specs.Writes.{Entry, writeItem}
+use Rattle.partition_runs.specs.Effects.{run-append, run_length, Leaves, left_alone, leaves-append, leaves-programs, program-erased, programs-erased}
 
 -- the data of an item of partition p, if it is written there
-unfoldable pub valueAt : ℕ → Image → ℕ → Item → Found
-valueAt S s p x = cond (isWritten S s p x) (present (dataIn S s p x)) absent
+unfoldable pub value_at : ℕ → Image → ℕ → Item → Found
+value_at S s p x = cond (is_written S s p x) (present (dataIn S s p x)) absent
 
 -- ---- by its bytes
 
-part-is : (at : ℕ) (d t : List ℕ) → at + length d ≤ length t → ((k : ℕ) → k < length d → getD t (at + k) 0 ≡ getD d k 0) → take (length d) (drop at t) ≡ d
+part-is : (at : ℕ) (d t : List ℕ) → at + length d ≤ length t → ((k : ℕ) → k < length d → get_or t (at + k) 0 ≡ get_or d k 0) → take (length d) (drop at t) ≡ d
 part-is at d t h e =
     let l : length (take (length d) (drop at t)) ≡ length d = length-take-le (length d) (drop at t) (omega (arith, length-drop at t)) in
-    ext-getD 0 (take (length d) (drop at t)) d l (λ k w. getD-take (length d) (drop at t) k 0 (omega arith) ∙ getD-drop at t k 0 ∙ e k (omega arith))
+    ext_get_or 0 (take (length d) (drop at t)) d l (λ k w. get_or-take (length d) (drop at t) k 0 (omega arith) ∙ get_or-drop at t k 0 ∙ e k (omega arith))
 
-part-same : (at n : ℕ) (s t : List ℕ) → at + n ≤ length s → length t ≡ length s → ((k : ℕ) → k < n → getD t (at + k) 0 ≡ getD s (at + k) 0) → take n (drop at t) ≡ take n (drop at s)
-part-same at n s t h l e =
+part_same : (at n : ℕ) (s t : List ℕ) → at + n ≤ length s → length t ≡ length s → ((k : ℕ) → k < n → get_or t (at + k) 0 ≡ get_or s (at + k) 0) → take n (drop at t) ≡ take n (drop at s)
+part_same at n s t h l e =
     let a : length (take n (drop at s)) ≡ n = length-take-le n (drop at s) (omega (arith, length-drop at s)) in
     let b : length (take n (drop at t)) ≡ n = length-take-le n (drop at t) (omega (arith, length-drop at t)) in
-    ext-getD 0 (take n (drop at t)) (take n (drop at s)) (b ∙ sym a) (λ k w.
-    getD-take n (drop at t) k 0 (omega arith) ∙ getD-drop at t k 0 ∙ e k (omega arith) ∙ sym (getD-take n (drop at s) k 0 (omega arith) ∙ getD-drop at s k 0))
+    ext_get_or 0 (take n (drop at t)) (take n (drop at s)) (b ∙ sym a) (λ k w.
+    get_or-take n (drop at t) k 0 (omega arith) ∙ get_or-drop at t k 0 ∙ e k (omega arith) ∙ sym (get_or-take n (drop at s) k 0 (omega arith) ∙ get_or-drop at s k 0))
 
 module _ (S p : ℕ) (x : Item) where
-  pub same-value : (s t : Image) → p * S + x .at + 1 + x .size ≤ length s → length t ≡ length s
-      → ((k : ℕ) → k ≤ x .size → getD t (p * S + (x .at + k)) 0 ≡ getD s (p * S + (x .at + k)) 0) → valueAt S t p x ≡ valueAt S s p x
-  unfolding valueAt isWritten dataIn dataAt identifierAt
+  pub same-value : (s t : Image) → p * S + x.at + 1 + x.size ≤ length s → length t ≡ length s
+      → ((k : ℕ) → k ≤ x.size → get_or t (p * S + (x.at + k)) 0 ≡ get_or s (p * S + (x.at + k)) 0) → value_at S t p x ≡ value_at S s p x
+  unfolding value_at is_written dataIn dataAt identifierAt
   same-value s t h l e =
-      let i : getD t (p * S + x .at) 0 ≡ getD s (p * S + x .at) 0 = ap (λ (y : ℕ). getD t y 0) (omega arith) ∙ e 0 (omega arith) ∙ ap (λ (y : ℕ). getD s y 0) (omega arith) in
-      let d : take (x .size) (drop (p * S + x .at + 1) t) ≡ take (x .size) (drop (p * S + x .at + 1) s) =
-      part-same (p * S + x .at + 1) (x .size) s t h l (λ k w. ap (λ (y : ℕ). getD t y 0) (omega arith) ∙ e (suc k) (omega arith) ∙ ap (λ (y : ℕ). getD s y 0) (omega arith)) in
+      let i : get_or t (p * S + x.at) 0 ≡ get_or s (p * S + x.at) 0 = ap (λ (y : ℕ). get_or t y 0) (omega arith) ∙ e 0 (omega arith) ∙ ap (λ (y : ℕ). get_or s y 0) (omega arith) in
+      let d : take x.size (drop (p * S + x.at + 1) t) ≡ take x.size (drop (p * S + x.at + 1) s) =
+      part_same (p * S + x.at + 1) x.size s t h l (λ k w. ap (λ (y : ℕ). get_or t y 0) (omega arith) ∙ e (suc k) (omega arith) ∙ ap (λ (y : ℕ). get_or s y 0) (omega arith)) in
       rw (i, d)
 
-  pub written-value : (t : Image) (d : List ℕ) → length d ≡ x .size → p * S + x .at + 1 + x .size ≤ length t → getD t (p * S + x .at) 0 ≡ x .identifier
-      → ((k : ℕ) → k < length d → getD t (p * S + x .at + 1 + k) 0 ≡ getD d k 0) → valueAt S t p x ≡ present d
-  unfolding valueAt isWritten dataIn dataAt identifierAt
-  written-value t d l h i e = rw (eq-eqb (getD t (p * S + x .at) 0) (x .identifier) i, ← l) (ap present (part-is (p * S + x .at + 1) d t (omega arith) e))
+  pub written-value : (t : Image) (d : List ℕ) → length d ≡ x.size → p * S + x.at + 1 + x.size ≤ length t → get_or t (p * S + x.at) 0 ≡ x.identifier
+      → ((k : ℕ) → k < length d → get_or t (p * S + x.at + 1 + k) 0 ≡ get_or d k 0) → value_at S t p x ≡ present d
+  unfolding value_at is_written dataIn dataAt identifierAt
+  written-value t d l h i e = rw (eq-eqb (get_or t (p * S + x.at) 0) x.identifier i, ← l) (ap present (part-is (p * S + x.at + 1) d t (omega arith) e))
 
-  pub absent-value : (t : Image) → getD t (p * S + x .at) 0 ≢ x .identifier → valueAt S t p x ≡ absent
-  unfolding valueAt isWritten identifierAt
-  absent-value t n = rw (ne-eqb (getD t (p * S + x .at) 0) (x .identifier) n)
+  pub absent-value : (t : Image) → get_or t (p * S + x.at) 0 ≢ x.identifier → value_at S t p x ≡ absent
+  unfolding value_at is_written identifierAt
+  absent-value t n = rw (ne_eqb (get_or t (p * S + x.at) 0) x.identifier n)
 
 -- ---- an item written
 
@@ -62,42 +59,42 @@ module _ (S q : ℕ) (x : Item) (d : List ℕ) where
   entry = record { item = x; contents = d }
 
   -- its steps leave all bytes but its own
-  pub item-leaves : (i : ℕ) → length d ≡ x .size → Outside i (q * S + x .at) (1 + x .size) → Leaves S i (writeItem S q entry)
+  pub item-leaves : (i : ℕ) → length d ≡ x.size → Outside i (q * S + x.at) (1 + x.size) → Leaves S i (writeItem S q entry)
   unfolding writeItem identifierAt
-  item-leaves i l o = leaves-append S i (programs (q * S + x .at + 1) d) (program (q * S + x .at) (x .identifier) ∷ [])
-      (leaves-programs S i (q * S + x .at + 1) d (⊎-elim (λ h. inl (omega arith)) (λ h. inr (omega arith)) o))
-      ((⊎-elim (λ h e. omega (arith, h, e)) (λ h e. omega (arith, h, e)) o), tt)
+  item-leaves i l o = leaves-append S i (programs (q * S + x.at + 1) d) (program (q * S + x.at) x.identifier ∷ [])
+      (leaves-programs S i (q * S + x.at + 1) d (⊎_elim (λ h. inl (omega arith)) (λ h. inr (omega arith)) o))
+      ((⊎_elim (λ h e. omega (arith, h, e)) (λ h e. omega (arith, h, e)) o), tt)
 
   -- and over 255 they write it
-  pub item-written : (s : Image) → length d ≡ x .size → Bytes d → x .identifier < 256 → q * S + x .at + 1 + x .size ≤ length s
-      → ((k : ℕ) → k ≤ x .size → getD s (q * S + (x .at + k)) 0 ≡ 255) → valueAt S (runIn S (writeItem S q entry) s) q x ≡ present d
+  pub item-written : (s : Image) → length d ≡ x.size → Bytes d → x.identifier < 256 → q * S + x.at + 1 + x.size ≤ length s
+      → ((k : ℕ) → k ≤ x.size → get_or s (q * S + (x.at + k)) 0 ≡ 255) → value_at S (runIn S (writeItem S q entry) s) q x ≡ present d
   unfolding writeItem identifierAt runIn
-  item-written s l b i h e = rw (run-append S body last s) (written-value S q x (stepIn S (program at (x .identifier)) t) d l (omega (arith, length-u)) identifier contents)
+  item-written s l b i h e = rw (run-append S body last s) (written-value S q x (stepIn S (program at x.identifier) t) d l (omega (arith, length-u)) identifier contents)
     where
       at : ℕ
-      at = q * S + x .at
+      at = q * S + x.at
 
       body : List Step
       body = programs (at + 1) d
 
       last : List Step
-      last = program at (x .identifier) ∷ []
+      last = program at x.identifier ∷ []
 
       t : Image
       t = runIn S body s
 
       length-t : length t ≡ length s
-      length-t = run-length S body s
+      length-t = run_length S body s
 
-      length-u : length (stepIn S (program at (x .identifier)) t) ≡ length s
-      length-u = run-length S last t ∙ length-t
+      length-u : length (stepIn S (program at x.identifier) t) ≡ length s
+      length-u = run_length S last t ∙ length-t
 
-      blank : getD t at 0 ≡ 255
-      blank = left-alone S at body s (leaves-programs S at (at + 1) d (inl (omega arith))) ∙ ap (λ (y : ℕ). getD s y 0) (omega arith) ∙ e 0 (omega arith)
+      blank : get_or t at 0 ≡ 255
+      blank = left_alone S at body s (leaves-programs S at (at + 1) d (inl (omega arith))) ∙ ap (λ (y : ℕ). get_or s y 0) (omega arith) ∙ e 0 (omega arith)
 
-      identifier : getD (stepIn S (program at (x .identifier)) t) at 0 ≡ x .identifier
-      identifier = program-erased S at (x .identifier) t (omega (arith, length-t)) i blank
+      identifier : get_or (stepIn S (program at x.identifier) t) at 0 ≡ x.identifier
+      identifier = program-erased S at x.identifier t (omega (arith, length-t)) i blank
 
-      contents : (k : ℕ) → k < length d → getD (stepIn S (program at (x .identifier)) t) (at + 1 + k) 0 ≡ getD d k 0
-      contents k w = left-alone S (at + 1 + k) last t ((λ z. omega arith), tt)
-          ∙ programs-erased S (at + 1) k d s b (omega arith) (λ j v. ap (λ (y : ℕ). getD s y 0) (omega arith) ∙ e (suc j) (omega arith)) w
+      contents : (k : ℕ) → k < length d → get_or (stepIn S (program at x.identifier) t) (at + 1 + k) 0 ≡ get_or d k 0
+      contents k w = left_alone S (at + 1 + k) last t ((λ z. omega arith), tt)
+          ∙ programs-erased S (at + 1) k d s b (omega arith) (λ j v. ap (λ (y : ℕ). get_or s y 0) (omega arith) ∙ e (suc j) (omega arith)) w

@@ -1,23 +1,23 @@
 -- The statuses of an image, one partition after the other: how many there may be, what follows what, and the ends of runs.
-use Prim.Native.Nat.{ℕ, zero, suc, _+_, _-_, _*_, _%_, _≤_, _<_}
-use mathlib.Core.Path.{_≡_, refl, sym, ap, _∙_}
+use Prim.Native.Nat.{ℕ, zero, suc, ◌+◌, ◌-◌, ◌*◌, ◌%◌, ◌≤◌, ◌<◌}
+use mathlib.Core.Path.{◌≡◌, refl, sym, ap, ◌∙◌}
 use mathlib.Core.Logic.{inl, inr}
-use mathlib.Core.Bool.{Bool, true, false, cond, _&&_, not, and-true, and-false, true≢false}
-use mathlib.Core.List.{List, [], _∷_, _++_, append-nil}
+use mathlib.Core.Bool.{Bool, true, false, cond, ◌&&◌, not, and-true, and-false, true≢false}
+use mathlib.Core.List.{List, [], ◌∷◌, ◌++◌, append-nil}
 use native.Mathlib.Omega.{arith}
 use native.Mathlib.Numerals.{add-one}
-use native.Mathlib.Nat.{zero-mul, suc-mul, mul-le-mul-right, mod-lt, mod-eq-of-lt, mod-self, mul-lt-mul-of-pos-right}
-use native.Mathlib.Decide.{decLe}
-use lib.ListN.{length, getD, length-append}
+use native.Mathlib.Nat.{zero-mul, suc-mul, mul-le-mul_right, mod-lt, mod-eq_of_lt, mod_self, mul-lt-mul_of_pos_right}
+use native.Mathlib.Decide.{dec_le}
+use lib.ListN.{length, get_or, length-append}
 use lib.Dec.{eqb}
 use types.Run.{OneOf}
-use borrow.Author.Tests.{eqb-true, eq-eqb, ne-eqb, not-true}
-use Rattle·model.specs.Lists.{all}
-use Rattle·model.specs.Laws.Lists.{and-left, all-append}
-use Rattle·model.specs.Chip.{Image}
-use Rattle·model.specs.Sequences.{among}
-use Rattle·partitions.specs.Laws.{kept-append}
-use Rattle·partitions.specs.Partitions.{partitionsOk, noStatus, nextStatus, statusOf, nextPartition, endsRun, indices, kept, nothing, newest, noRun, onlyOne, newestIn}
+use borrow.Author.Tests.{eqb-true, eq-eqb, ne_eqb, not-true}
+use Rattle.model.specs.Lists.{all}
+use Rattle.model.specs.Laws.Lists.{and_left, all_append}
+use Rattle.model.specs.Chip.{Image}
+use Rattle.model.specs.Sequences.{among}
+use Rattle.partitions.specs.Laws.{kept_append}
+use Rattle.partitions.specs.Partitions.{partitionsOk, noStatus, nextStatus, statusOf, nextPartition, endsRun, indices, kept, nothing, newest, no_run, onlyOne, newestIn}
 
 -- ---- how many partitions
 
@@ -27,14 +27,14 @@ accepted e h = rw e (sym h)
 -- none of a list of numbers
 pub unlisted : (x k : ℕ) (ks : List ℕ) → (OneOf (k ∷ ks) x → ⊥) → false ≡ among x (k ∷ ks)
 unfolding among
-unlisted x k [] n = rw (ne-eqb x k n)
-unlisted x k (j ∷ ks) n = rw (ne-eqb x k (λ e. n (inl e))) (unlisted x j ks (λ r. n (inr r)))
+unlisted x k [] n = rw (ne_eqb x k n)
+unlisted x k (j ∷ ks) n = rw (ne_eqb x k (λ e. n (inl e))) (unlisted x j ks (λ r. n (inr r)))
 
 -- ---- the partitions' places, and the next one
 
 -- a partition's first byte is one of the image
 pub inside : (P S p n : ℕ) → p < P → 0 < S → P * S ≤ n → p * S < n
-inside P S p n h k f = omega (arith, mul-lt-mul-of-pos-right h k)
+inside P S p n h k f = omega (arith, mul-lt-mul_of_pos_right h k)
 
 module _ (P p : ℕ) where
   pub next-below : p < P → nextPartition P p < P
@@ -43,11 +43,11 @@ module _ (P p : ℕ) where
 
   pub next-first : p + 1 ≡ P → 0 ≡ nextPartition P p
   unfolding nextPartition
-  next-first e = rw e (sym (mod-self P))
+  next-first e = rw e (sym (mod_self P))
 
   pub next-inner : p + 1 < P → p + 1 ≡ nextPartition P p
   unfolding nextPartition
-  next-inner h = sym (mod-eq-of-lt h)
+  next-inner h = sym (mod-eq_of_lt h)
 
 -- ---- where a run ends
 
@@ -55,8 +55,8 @@ module _ (v u : ℕ) where
   pub ends-none : v ≡ noStatus → false ≡ not (eqb v noStatus) && not (eqb u (nextStatus v))
   ends-none k = rw (eq-eqb v noStatus k)
 
-  pub ends-some : (v ≡ noStatus → ⊥) → (w : ℕ) → w ≡ nextStatus v → not (eqb u w) ≡ not (eqb v noStatus) && not (eqb u (nextStatus v))
-  ends-some n w e = rw (ne-eqb v noStatus n, ← e)
+  pub ends_some : (v ≡ noStatus → ⊥) → (w : ℕ) → w ≡ nextStatus v → not (eqb u w) ≡ not (eqb v noStatus) && not (eqb u (nextStatus v))
+  ends_some n w e = rw (ne_eqb v noStatus n, ← e)
 
 -- a partition has no status
 abbrev pub none : ℕ → Image → ℕ → Bool
@@ -72,27 +72,27 @@ follows-none v u e = go (eqb v noStatus)
 
     go : (t : Bool) → not t && not (eqb u ((v + 1) % 255)) ≡ false → t ≡ true
     go true h = refl
-    go false h = absurd (true≢false (rw (ne-eqb u ((v + 1) % 255) (λ f. omega (arith, byte))) at h))
+    go false h = absurd (true≢false (rw (ne_eqb u ((v + 1) % 255) (λ f. omega (arith, byte))) at h))
 
 -- ---- all partitions, one more at a time
 
 module _ (f : ℕ → Bool) (k : ℕ) where
   all-next : all f (indices (k + 1)) ≡ all f (indices k) && f k
   unfolding indices all
-  all-next = rw (add-one k, all-append f (indices k) (k ∷ []), and-true (f k))
+  all-next = rw (add-one k, all_append f (indices k) (k ∷ []), and-true (f k))
 
   kept-one : f k ≡ true → kept f (indices (k + 1)) ≡ kept f (indices k) ++ (k ∷ [])
   unfolding indices kept
-  kept-one e = rw (add-one k, kept-append f (indices k) (k ∷ []), e)
+  kept-one e = rw (add-one k, kept_append f (indices k) (k ∷ []), e)
 
   kept-none : f k ≡ false → kept f (indices (k + 1)) ≡ kept f (indices k)
   unfolding indices kept
-  kept-none e = rw (add-one k, kept-append f (indices k) (k ∷ []), e) (append-nil (kept f (indices k)))
+  kept-none e = rw (add-one k, kept_append f (indices k) (k ∷ []), e) (append-nil (kept f (indices k)))
 
 -- a test that fails of one fails of all
 all-fails : (f : ℕ → Bool) (k P : ℕ) → k < P → f k ≡ false → all f (indices P) ≡ false
 all-fails f k zero h e = absurd (omega arith)
-all-fails f k (suc P) h e = rw (← add-one P) (all-next f P ∙ elim (decLe P k) [ yes l ↦ here (omega arith) | no l ↦ rw (all-fails f k P (omega arith) e) ])
+all-fails f k (suc P) h e = rw (← add-one P) (all-next f P ∙ elim (dec_le P k) [ yes l ↦ here (omega arith) | no l ↦ rw (all-fails f k P (omega arith) e) ])
   where
     here : k ≡ P → all f (indices P) && f P ≡ false
     here q = rw (← q, e) (and-false (all f (indices k)))
@@ -101,12 +101,12 @@ all-fails f k (suc P) h e = rw (← add-one P) (all-next f P ∙ elim (decLe P k
 kept-grows : (f : ℕ → Bool) (k P : ℕ) → k ≤ P → length (kept f (indices k)) ≤ length (kept f (indices P))
 unfolding indices
 kept-grows f k zero h = let e : k ≡ zero = omega arith in rw e (omega arith)
-kept-grows f k (suc P) h = elim (decLe k P) [ yes l ↦ rw (kept-append f (indices P) (P ∷ [])) (omega (arith, kept-grows f k P l, length-append (kept f (indices P)) (kept f (P ∷ [])))) | no l ↦ whole (omega arith) ]
+kept-grows f k (suc P) h = elim (dec_le k P) [ yes l ↦ rw (kept_append f (indices P) (P ∷ [])) (omega (arith, kept-grows f k P l, length-append (kept f (indices P)) (kept f (P ∷ [])))) | no l ↦ whole (omega arith) ]
   where
     whole : k ≡ suc P → length (kept f (indices k)) ≤ length (kept f (indices P ++ (P ∷ [])))
     whole e = rw e (omega arith)
 
-several : (xs : List ℕ) → (length xs ≡ 1 → ⊥) → onlyOne xs ≡ noRun
+several : (xs : List ℕ) → (length xs ≡ 1 → ⊥) → onlyOne xs ≡ no_run
 unfolding onlyOne
 several [] n = refl
 several (x ∷ []) n = absurd (n refl)
@@ -125,10 +125,10 @@ pub record Looked (P S : ℕ) (s : Image) (ends last status at k : ℕ) : Type 0
   pub written : 0 < ends → all (none S s) (indices k) ≡ false
   pub unwritten : ends ≡ 0 → status ≡ noStatus → all (none S s) (indices k) ≡ true
 
-pub looked-none : (P S : ℕ) (s : Image) → 0 < P → Looked P S s 0 0 (getD s 0 0) 0 0
+pub looked-none : (P S : ℕ) (s : Image) → 0 < P → Looked P S s 0 0 (get_or s 0 0) 0 0
 unfolding indices all kept statusOf
 looked-none P S s h =
-    let e : 0 % P ≡ 0 = mod-eq-of-lt h in
+    let e : 0 % P ≡ 0 = mod-eq_of_lt h in
     record {
       within = omega arith;
       here = rw (e, zero-mul);
@@ -149,10 +149,10 @@ module _ {P S : ℕ} {s : Image} {ends last status at k : ℕ} (v : Looked P S s
   module _ (h : k < P) where
     -- where it stands, and ends
     stands : at ≡ k * S
-    stands = v .place ∙ ap (λ (i : ℕ). i * S) (mod-eq-of-lt h)
+    stands = v.place ∙ ap (λ (i : ℕ). i * S) (mod-eq_of_lt h)
 
-    pub goes-on : at + S ≤ P * S
-    goes-on = omega (arith, mul-le-mul-right S h, suc-mul k S, stands)
+    pub goes_on : at + S ≤ P * S
+    goes_on = omega (arith, mul-le-mul_right S h, suc-mul k S, stands)
 
     -- where the next one stands
     pub place-first : {b : ℕ} → k ≡ P - 1 → b ≡ 0 → b ≡ nextPartition P k * S
@@ -161,77 +161,77 @@ module _ {P S : ℕ} {s : Image} {ends last status at k : ℕ} (v : Looked P S s
     pub place-inner : {b : ℕ} → (k ≡ P - 1 → ⊥) → b ≡ at + S → b ≡ nextPartition P k * S
     place-inner n f = rw (← (next-inner P k (omega (arith, n)))) (omega (arith, f, stands))
 
-    module _ {b : ℕ} (p : b ≡ nextPartition P k * S) {t : Bool} (r : t ≡ not (eqb status noStatus) && not (eqb (getD s b 0) (nextStatus status))) where
-      next-here : getD s b 0 ≡ statusOf S s (nextPartition P k)
+    module _ {b : ℕ} (p : b ≡ nextPartition P k * S) {t : Bool} (r : t ≡ not (eqb status noStatus) && not (eqb (get_or s b 0) (nextStatus status))) where
+      next_here : get_or s b 0 ≡ statusOf S s (nextPartition P k)
       unfolding statusOf
-      next-here = rw p
+      next_here = rw p
 
       own : status ≡ statusOf S s k
-      own = v .here ∙ ap (statusOf S s) (mod-eq-of-lt h)
+      own = v.here ∙ ap (statusOf S s) (mod-eq_of_lt h)
 
       test : t ≡ endsRun P S s k
       unfolding endsRun
-      test = rw (← own, ← next-here) r
+      test = rw (← own, ← next_here) r
 
       has-status : t ≡ true → none S s k ≡ false
-      has-status e = rw (← own) (not-true (eqb status noStatus) (and-left (not (eqb status noStatus)) _ (sym r ∙ e)))
+      has-status e = rw (← own) (not-true (eqb status noStatus) (and_left (not (eqb status noStatus)) _ (sym r ∙ e)))
 
-      pub looked-end : {e l : ℕ} → t ≡ true → (0 < ends → ⊥) → e ≡ 1 → l ≡ k → Looked P S s e l (getD s b 0) b (k + 1)
+      pub looked-end : {e l : ℕ} → t ≡ true → (0 < ends → ⊥) → e ≡ 1 → l ≡ k → Looked P S s e l (get_or s b 0) b (k + 1)
       unfolding nextPartition
       looked-end q o a c = record {
         within = omega arith;
-        here = next-here;
+        here = next_here;
         place = p;
         unended = λ z. absurd (omega arith);
-        ended = λ z. kept-one (endsRun P S s) k (sym test ∙ q) ∙ rw (v .unended (omega arith), c);
+        ended = λ z. kept-one (endsRun P S s) k (sym test ∙ q) ∙ rw (v.unended (omega arith), c);
         written = λ z. all-fails (none S s) k (k + 1) (omega arith) (has-status q);
         unwritten = λ z. absurd (omega arith);
       }
 
-      pub looked-inner : {e l : ℕ} → t ≡ false → e ≡ ends → l ≡ last → Looked P S s e l (getD s b 0) b (k + 1)
+      pub looked-inner : {e l : ℕ} → t ≡ false → e ≡ ends → l ≡ last → Looked P S s e l (get_or s b 0) b (k + 1)
       unfolding nextPartition
       looked-inner q a c =
           let same = kept-none (endsRun P S s) k (sym test ∙ q) in
           record {
             within = omega arith;
-            here = next-here;
+            here = next_here;
             place = p;
-            unended = λ z. same ∙ v .unended (omega arith);
-            ended = λ z. same ∙ rw c (v .ended (omega arith));
-            written = λ z. all-next (none S s) k ∙ rw (v .written (omega arith));
+            unended = λ z. same ∙ v.unended (omega arith);
+            ended = λ z. same ∙ rw c (v.ended (omega arith));
+            written = λ z. all-next (none S s) k ∙ rw (v.written (omega arith));
             unwritten = λ z n.
-                let blank : eqb status noStatus ≡ true = follows-none status (getD s b 0) n (sym r ∙ q) in
-                all-next (none S s) k ∙ rw (← own, blank, v .unwritten (omega arith) (eqb-true status noStatus blank));
+                let blank : eqb status noStatus ≡ true = follows-none status (get_or s b 0) n (sym r ∙ q) in
+                all-next (none S s) k ∙ rw (← own, blank, v.unwritten (omega arith) (eqb-true status noStatus blank));
           }
 
       -- a second end
-      pub found-second : t ≡ true → 0 < ends → noRun ≡ newestIn P S s
+      pub found-second : t ≡ true → 0 < ends → no_run ≡ newestIn P S s
       unfolding newestIn
       found-second q o =
           let f = endsRun P S s in
-          let two : kept f (indices (k + 1)) ≡ last ∷ k ∷ [] = kept-one f k (sym test ∙ q) ∙ rw (v .ended o) in
+          let two : kept f (indices (k + 1)) ≡ last ∷ k ∷ [] = kept-one f k (sym test ∙ q) ∙ rw (v.ended o) in
           let more = kept-grows f (k + 1) P (omega arith) in
           sym (rw (all-fails (none S s) k P h (has-status q)) (several (kept f (indices P)) (λ z. omega (arith, ap length two))))
 
   -- all are looked at
   module _ (h : P ≤ k) (some : 0 < P) where
     whole : k ≡ P
-    whole = omega (arith, v .within)
+    whole = omega (arith, v.within)
 
     found : {t : Bool} → all (none S s) (indices k) ≡ t → newestIn P S s ≡ cond t nothing (onlyOne (kept (endsRun P S s) (indices k)))
     unfolding newestIn
     found e = rw (← whole, e)
 
     first : status ≡ statusOf S s 0
-    first = v .here ∙ rw (whole, mod-self P)
+    first = v.here ∙ rw (whole, mod_self P)
 
     pub found-one : 0 < ends → newest last ≡ newestIn P S s
     unfolding onlyOne
-    found-one o = sym (found (v .written o) ∙ rw (v .ended o))
+    found-one o = sym (found (v.written o) ∙ rw (v.ended o))
 
-    pub found-ring : (0 < ends → ⊥) → (status ≡ noStatus → ⊥) → noRun ≡ newestIn P S s
+    pub found-ring : (0 < ends → ⊥) → (status ≡ noStatus → ⊥) → no_run ≡ newestIn P S s
     unfolding onlyOne
-    found-ring o n = sym (found (all-fails (none S s) 0 k (omega arith) (rw (← first) (ne-eqb status noStatus n))) ∙ rw (v .unended (omega arith)))
+    found-ring o n = sym (found (all-fails (none S s) 0 k (omega arith) (rw (← first) (ne_eqb status noStatus n))) ∙ rw (v.unended (omega arith)))
 
-    pub found-nothing : (0 < ends → ⊥) → status ≡ noStatus → nothing ≡ newestIn P S s
-    found-nothing o n = sym (found (v .unwritten (omega arith) n))
+    pub found_nothing : (0 < ends → ⊥) → status ≡ noStatus → nothing ≡ newestIn P S s
+    found_nothing o n = sym (found (v.unwritten (omega arith) n))

@@ -1,11 +1,7 @@
 // The partitions of a board with the older partition format (request #109): how many there may be, and which is the newest.
-ghost use mathlib.Core.Path.{_≡_};
-ghost use mathlib.Core.Bool.{_&&_, not};
-ghost use Prim.Native.Nat.{_*_, _≤_, _<_};
-ghost use lib.ListN.{length};
-ghost use lib.Dec.{eqb};
-ghost use Rattle·partitions.specs.Partitions.{partitionsOk, noStatus, nextStatus, statusOf, nextPartition, newestIn};
-ghost use Rattle·partition_status·specs.specs.Said.{said};
+ghost use Rattle.std.specs.Prelude.{◌≡◌, ◌&&◌, not, ◌*◌, ◌≤◌, ◌<◌, length, eqb};
+ghost use Rattle.partitions.specs.Partitions.{partitionsOk, noStatus, nextStatus, statusOf, nextPartition, newestIn};
+ghost use Rattle.partition_status.specs.Said.{said};
 
 // The status byte of a partition that has none yet.
 const NO_STATUS: u8 = 255;
@@ -14,6 +10,7 @@ const NO_STATUS: u8 = 255;
 const STATUSES: u16 = 255;
 
 // No partition has a status; the last partition of the run of statuses; or the statuses are no single run.
+#[derive(Drop)]
 pub enum Newest {
     Nothing,
     At(usize),
@@ -22,7 +19,7 @@ pub enum Newest {
 
 // Whether a board may have so many partitions.
 pub fn partitions_ok(partitions: usize) -> bool
-    ensures { λ r. ⌜ r ≡ partitionsOk partitions ⌝ }
+    ensures { result ≡ partitionsOk partitions }
 {
     match partitions {
         2 | 4 | 8 | 16 | 32 | 64 | 128 => true,
@@ -32,15 +29,15 @@ pub fn partitions_ok(partitions: usize) -> bool
 
 // The status that follows another. It is found in 16 bits: one more than a byte may be no byte.
 pub fn next_status(status: u8) -> u8
-    ensures { λ r. ⌜ r ≡ nextStatus status ⌝ }
+    ensures { result ≡ nextStatus status }
 {
     ((status as u16 + 1) % STATUSES) as u8
 }
 
 // The partition that follows another, the first following the last.
 pub fn next_partition(partitions: usize, partition: usize) -> usize
-    requires { ⌜ partition < partitions ⌝ }
-    ensures { λ r. ⌜ r ≡ nextPartition partitions partition ⌝ }
+    requires { partition < partitions }
+    ensures { result ≡ nextPartition partitions partition }
 {
     let next = partition + 1;
     if next == partitions {
@@ -51,15 +48,15 @@ pub fn next_partition(partitions: usize, partition: usize) -> usize
 
 // The status of a partition of so many bytes, which is its first byte.
 pub fn status_of(image: &[u8], size: usize, partition: usize) -> u8
-    requires { ⌜ partition * size < length (now image) ⌝ }
-    ensures { λ r. ⌜ r ≡ statusOf size (now (image .entry)) partition ⌝ }
+    requires { partition * size < length image.now }
+    ensures { result ≡ statusOf size image.now partition }
 {
     image[partition * size]
 }
 
 // Whether a run of statuses ends with a partition: it has one, and the next partition's does not follow it.
 fn ends_run(status: u8, next: u8) -> bool
-    ensures { λ r. ⌜ r ≡ not (eqb status noStatus) && not (eqb next (nextStatus status)) ⌝ }
+    ensures { result ≡ not (eqb status noStatus) && not (eqb next (nextStatus status)) }
 {
     if status == NO_STATUS {
         return false;
@@ -71,8 +68,8 @@ fn ends_run(status: u8, next: u8) -> bool
 // partitions have a status or none has: then the first tells, which is the last to be looked at. That the offset goes round
 // inside the loop is for speed: with 128 partitions 4 KiB apart, as measured, loads that follow each other closer take longer.
 pub fn find_newest(image: &[u8], partitions: usize, size: usize) -> Newest
-    requires { ⌜ (0 < size) × (partitions * size ≤ length (now image)) ⌝ }
-    ensures { λ r. ⌜ said r ≡ newestIn partitions size (now (image .entry)) ⌝ }
+    requires { (0 < size) × (partitions * size ≤ length image.now) }
+    ensures { said result ≡ newestIn partitions size image.now }
 {
     if partitions == 0 {
         return Newest::Nothing;

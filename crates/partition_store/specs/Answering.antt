@@ -1,24 +1,19 @@
 -- What comes back of a request that P, its table and its item do not refuse.
-use Prim.Native.Nat.{ℕ, _-_}
-use mathlib.Core.Path.{_≡_}
-use mathlib.Core.Bool.{cond, not}
-use mathlib.Core.List.{List, [], _∷_}
-use lib.ListN.{length}
-use lib.Dec.{ltb, eqb}
-use Rattle·model.specs.Chip.{Image, Step}
-use Rattle·model.specs.Answers.{_when_, firstOf, Work, ReadOutcome}
-use Rattle·partitions.specs.declared.Written.{Written}
-use Rattle·partitions.specs.Layout.{Item}
-use Rattle·partitions.specs.Partitions.{Newest}
-use Rattle·partitions.specs.Writes.{Entry, writeSteps}
-use Rattle·partitions.specs.Answers.{numberOf, isNoRun, workedIn, wrote, isStored, offsetOf}
+use Rattle.std.specs.Prelude.{ℕ, ◌-◌, ◌≡◌, cond, not, List, [], ◌∷◌, length, ltb, eqb}
+use Rattle.model.specs.Chip.{Image, Step}
+use Rattle.model.specs.Answers.{◌when◌, first_of, Work, ReadOutcome}
+use Rattle.partitions.specs.declared.Written.{Written}
+use Rattle.partitions.specs.Layout.{Item}
+use Rattle.partitions.specs.Partitions.{Newest}
+use Rattle.partitions.specs.Writes.{Entry, writeSteps}
+use Rattle.partitions.specs.Answers.{number_of, isNoRun, workedIn, wrote, isStored, offset_of}
 
 -- ---- writing
 
 -- the last part of the list has `last` steps, and `before` is what was left of the budget before it
 pub record Finished (budget left before last : ℕ) (w : Written) : Type 0 where
-  pub code : numberOf (w .answer) ≡ cond (ltb before last) 9 0
-  pub count : w .steps ≡ budget - left
+  pub code : number_of w.answer ≡ cond (ltb before last) 9 0
+  pub count : w.steps ≡ budget - left
 
 -- a list of steps, and no refusal
 abbrev pub accepted : List Step → Work
@@ -33,13 +28,13 @@ unfoldable pub writeOn : ℕ → ℕ → List Item → Image → Newest → Entr
 writeOn P S xs s n e = cond (isNoRun n) (record { code = 4; steps = [] }) (accepted (writeSteps P S xs s n e))
 
 -- an item at an offset of a partition, with its data
-abbrev pub entryAt : ℕ → ℕ → List ℕ → Entry
-entryAt at item contents = record { item = record { identifier = item; size = length contents; at = at }; contents = contents }
+abbrev pub entry_at : ℕ → ℕ → List ℕ → Entry
+entry_at at item contents = record { item = record { identifier = item; size = length contents; at = at }; contents = contents }
 
 -- ---- reading
 
 -- what a read gives by the newest partition alone
-unfoldable pub readOn : ℕ → Image → Newest → Item → ReadOutcome
-readOn S s n x =
-    let code = firstOf ((4 when isNoRun n) ∷ (5 when not (isStored S s n x)) ∷ []) in
-    cond (eqb code 0) (record { code = 0; offset = offsetOf S n x; length = x .size }) (record { code = code; offset = 0; length = 0 })
+unfoldable pub read_on : ℕ → Image → Newest → Item → ReadOutcome
+read_on S s n x =
+    let code = first_of ((4 when isNoRun n) ∷ (5 when not (isStored S s n x)) ∷ []) in
+    cond (eqb code 0) (record { code = 0; offset = offset_of S n x; length = x.size }) (record { code = code; offset = 0; length = 0 })

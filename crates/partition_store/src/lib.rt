@@ -1,25 +1,22 @@
 // Reader and writer of a board with the older partition format (request #109). Nothing is required of image, table and item:
 // they are tested at every request.
+ghost use Rattle.std.specs.Prelude.{◌≡◌, [], ◌∷◌, ℕ, ◌+◌, ◌/◌, ◌≤◌, ◌<◌, length};
+ghost use Rattle.partitions.specs.Layout.{items_of};
+ghost use Rattle.partitions.specs.Partitions as board;
+ghost use Rattle.partitions.specs.Writes.{fill, carried, writeSteps, itemSteps, entryFor};
+ghost use Rattle.partitions.specs.Answers.{workedIn, number_of, writeOutcome, wrote, readOutcome, told};
+ghost use Rattle.partition_items.specs.Carrying.{Carry};
+ghost use Rattle.partition_store.specs.Asking.{Known, Asks, Stands};
+ghost use Rattle.partition_store.specs.Answering.{Finished, Performs, writeOn, entry_at, read_on};
+
 use partition_layout::Place;
 use partition_status::Newest;
-use partitions::Reply;
-use partitions::Spot;
-use partitions::Written;
-ghost use mathlib.Core.Path.{_≡_};
-ghost use mathlib.Core.List.{[], _∷_};
-ghost use Prim.Native.Nat.{ℕ, _+_, _/_, _≤_, _<_};
-ghost use lib.ListN.{length};
-ghost use Rattle·partitions.specs.Layout.{itemsOf};
-ghost use Rattle·partitions.specs.Partitions as board;
-ghost use Rattle·partitions.specs.Writes.{fill, carried, writeSteps, itemSteps, entryFor};
-ghost use Rattle·partitions.specs.Answers.{workedIn, numberOf, writeOutcome, wrote, readOutcome, told};
-ghost use Rattle·partition_items.specs.Carrying.{Carry};
-ghost use Rattle·partition_store·specs.specs.Asking.{Known, Asks, Stands};
-ghost use Rattle·partition_store·specs.specs.Answering.{Finished, Performs, writeOn, entryAt, readOn};
+use partitions::{Reply, Spot, Written};
 
 // ---- what a request asks for
 
 // It is refused; or its item's identifier byte stands at this offset of a partition, with so many bytes of data.
+#[derive(Drop)]
 enum Asked {
     Refused(Reply),
     Item(usize, usize),
@@ -27,7 +24,7 @@ enum Asked {
 
 // Tests everything but the data's length and the statuses, in the order of the refusals.
 fn find(image: &[u8], partitions: usize, layout: &[u8], item: u8) -> Asked
-    ensures { λ r. ⌜ Asks partitions (now (layout .entry)) (now (image .entry)) item r ⌝ }
+    ensures { Asks partitions layout.now image.now item result }
 {
     if !partition_status::partitions_ok(partitions) {
         return Asked::Refused(Reply::Partitions);
@@ -47,7 +44,7 @@ fn find(image: &[u8], partitions: usize, layout: &[u8], item: u8) -> Asked
 
 // The number of an answer, to reckon with.
 pub fn number_of(answer: Reply) -> u64
-    ensures { λ r. ⌜ (r ≡ numberOf answer) × (r ≤ 255) ⌝ }
+    ensures { (result ≡ number_of answer) × (result ≤ 255) }
 {
     match answer {
         Reply::Done => 0,
@@ -64,7 +61,7 @@ pub fn number_of(answer: Reply) -> u64
 
 // A refused read tells no place.
 fn unread(answer: Reply) -> Spot
-    ensures { λ r. ⌜ r ≡ record { answer = answer; offset = 0; length = 0 } ⌝ }
+    ensures { result ≡ record { answer = answer; offset = 0; length = 0 } }
 {
     Spot {
         answer,
@@ -75,8 +72,8 @@ fn unread(answer: Reply) -> Spot
 
 // Reads by the newest partition.
 fn read_found(image: &[u8], partitions: usize, item: u8, at: usize, bytes: usize) -> Spot
-    requires { ⌜ Stands partitions at bytes (length (now image)) ⌝ }
-    ensures { λ r. ⌜ (told r ≡ readOn (length (now (image .entry)) / partitions) (now (image .entry)) (board.newestIn partitions (length (now (image .entry)) / partitions) (now (image .entry))) (record { identifier = item; size = bytes; at = at })) × (r .length ≤ 255) ⌝ }
+    requires { Stands partitions at bytes (length image.now) }
+    ensures { (told result ≡ read_on (length image.now / partitions) image.now (board.newestIn partitions (length image.now / partitions) image.now) (record { identifier = item; size = bytes; at = at })) × (result.length ≤ 255) }
 {
     let size = image.len() / partitions;
     let newest = partition_status::find_newest(image, partitions, size);
@@ -99,7 +96,7 @@ fn read_found(image: &[u8], partitions: usize, item: u8, at: usize, bytes: usize
 
 // The place of an item's data, which are at most 255 bytes.
 pub fn read(image: &[u8], partitions: usize, layout: &[u8], item: u8) -> Spot
-    ensures { λ r. ⌜ (told r ≡ readOutcome partitions (now (layout .entry)) (now (image .entry)) item) × (r .length ≤ 255) ⌝ }
+    ensures { (told result ≡ readOutcome partitions layout.now image.now item) × (result.length ≤ 255) }
 {
     let asked = find(image, partitions, layout, item);
     match asked {
@@ -112,7 +109,7 @@ pub fn read(image: &[u8], partitions: usize, layout: &[u8], item: u8) -> Spot
 
 // A refusal takes no step.
 fn refused(answer: Reply) -> Written
-    ensures { λ r. ⌜ r ≡ record { answer = answer; steps = 0 } ⌝ }
+    ensures { result ≡ record { answer = answer; steps = 0 } }
 {
     Written { answer, steps: 0 }
 }
@@ -120,8 +117,8 @@ fn refused(answer: Reply) -> Written
 // A list of steps was performed, as far as the budget went. It was cut short just if what was left before its last part, of
 // one step at least, does not cover that part.
 fn finished(budget: u64, left: u64, before: u64, last: u64) -> Written
-    requires { ⌜ left ≤ budget ⌝ }
-    ensures { λ r. ⌜ Finished budget left before last r ⌝ }
+    requires { left ≤ budget }
+    ensures { Finished budget left before last result }
 {
     if before < last {
         return Written {
@@ -144,8 +141,8 @@ fn write_first(
     contents: &[u8],
     budget: u64,
 ) -> Written
-    requires { ⌜ (at + 1 + length (now contents) ≤ size) × (size ≤ length (now image)) ⌝ }
-    ensures { λ r. ⌜ Performs (fill size 0 (entryAt at item (now (contents .entry)) ∷ []) 0) size budget r (now (image .entry)) (now (image .exit)) ⌝ }
+    requires { (at + 1 + length contents.now ≤ size) × (size ≤ length image.old) }
+    ensures { Performs (fill size 0 (entry_at at item contents.now ∷ []) 0) size budget result image.old image.new }
 {
     let blank = flash::erase_unit(image, 0, size, budget);
     let filled = partition_items::write_item(image, at, item, contents, blank);
@@ -155,8 +152,8 @@ fn write_first(
 
 // A write to bytes that are all 255: the identifier is the step that counts.
 fn write_in_place(image: &mut [u8], at: usize, item: u8, contents: &[u8], budget: u64) -> Written
-    requires { ⌜ at + 1 + length (now contents) ≤ length (now image) ⌝ }
-    ensures { λ r. ⌜ ((S : ℕ) → Performs (itemSteps at item (now (contents .entry))) S budget r (now (image .entry)) (now (image .exit))) ⌝ }
+    requires { at + 1 + length contents.now ≤ length image.old }
+    ensures { (S : ℕ) → Performs (itemSteps at item contents.now) S budget result image.old image.new }
 {
     let left = partition_items::write_item(image, at, item, contents, budget);
     finished(budget, left, budget, contents.len() as u64 + 1)
@@ -174,8 +171,8 @@ fn write_next(
     contents: &[u8],
     budget: u64,
 ) -> Written
-    requires { ⌜ Carry size from to (now layout) item (now contents) (length (now image)) ⌝ }
-    ensures { λ r. ⌜ Performs (fill size to (carried size (now (image .entry)) from (entryFor (now (layout .entry)) item (now (contents .entry))) (itemsOf (now (layout .entry)))) (board.nextStatus (board.statusOf size (now (image .entry)) from))) size budget r (now (image .entry)) (now (image .exit)) ⌝ }
+    requires { Carry size from to layout.now item contents.now (length image.old) }
+    ensures { Performs (fill size to (carried size image.old from (entryFor layout.now item contents.now) (items_of layout.now)) (board.nextStatus (board.statusOf size image.old from))) size budget result image.old image.new }
 {
     let status = image[from * size];
     let following = partition_status::next_status(status);
@@ -196,8 +193,8 @@ fn write_newest(
     contents: &[u8],
     budget: u64,
 ) -> Written
-    requires { ⌜ Known partitions (now layout) (now image) item at (length (now contents)) × (partition < partitions) ⌝ }
-    ensures { λ r. ⌜ Performs (writeSteps partitions (length (now (image .entry)) / partitions) (itemsOf (now (layout .entry))) (now (image .entry)) (board.newest partition) (entryFor (now (layout .entry)) item (now (contents .entry)))) (length (now (image .entry)) / partitions) budget r (now (image .entry)) (now (image .exit)) ⌝ }
+    requires { Known partitions layout.now image.old item at (length contents.now) × (partition < partitions) }
+    ensures { Performs (writeSteps partitions (length image.old / partitions) (items_of layout.now) image.old (board.newest partition) (entryFor layout.now item contents.now)) (length image.old / partitions) budget result image.old image.new }
 {
     let size = image.len() / partitions;
     let place = partition * size + at;
@@ -218,22 +215,15 @@ fn write_found(
     contents: &[u8],
     budget: u64,
 ) -> Written
-    requires { ⌜ Known partitions (now layout) (now image) item at (length (now contents)) ⌝ }
-    ensures { λ r. ⌜ wrote r (now (image .exit)) ≡ workedIn (length (now (image .entry)) / partitions) (writeOn partitions (length (now (image .entry)) / partitions) (itemsOf (now (layout .entry))) (now (image .entry)) (board.newestIn partitions (length (now (image .entry)) / partitions) (now (image .entry))) (entryFor (now (layout .entry)) item (now (contents .entry)))) (now (image .entry)) budget ⌝ }
+    requires { Known partitions layout.now image.old item at (length contents.now) }
+    ensures { wrote result image.new ≡ workedIn (length image.old / partitions) (writeOn partitions (length image.old / partitions) (items_of layout.now) image.old (board.newestIn partitions (length image.old / partitions) image.old) (entryFor layout.now item contents.now)) image.old budget }
 {
     let size = image.len() / partitions;
     let newest = partition_status::find_newest(image, partitions, size);
     match newest {
         Newest::Nothing => write_first(image, size, at, item, contents, budget),
         Newest::At(partition) => write_newest(
-            image,
-            partitions,
-            partition,
-            layout,
-            at,
-            item,
-            contents,
-            budget,
+            image, partitions, partition, layout, at, item, contents, budget,
         ),
         Newest::NoRun => refused(Reply::Statuses),
     }
@@ -248,7 +238,7 @@ pub fn write(
     contents: &[u8],
     budget: u64,
 ) -> Written
-    ensures { λ r. ⌜ wrote r (now (image .exit)) ≡ writeOutcome partitions (now (layout .entry)) (now (image .entry)) item (now (contents .entry)) budget ⌝ }
+    ensures { wrote result image.new ≡ writeOutcome partitions layout.now image.old item contents.now budget }
 {
     let asked = find(image, partitions, layout, item);
     match asked {

@@ -1,25 +1,21 @@
 -- Layouts, statuses and writes on small boards, computed: what the definitions give, and so which wrong ones they are not.
-use Prim.Native.Nat.{ℕ}
-use mathlib.Core.Path.{_≡_, refl}
-use mathlib.Core.Bool.{true, false}
-use mathlib.Core.List.{List, [], _∷_, _++_, map}
-use lib.ListN.{replicate}
-use Rattle·model.specs.Lists.{all}
-use Rattle·model.specs.Chip.{Image, Step, program, erase, clear, erased}
-use Rattle·model.specs.Sequences.{among}
-use Rattle·model.specs.Header.{isBlank}
-use Rattle·model.specs.Steps.{programs}
-use Rattle·model.specs.Answers.{firstOf, codeUnder}
-use Rattle·flash.specs.Units.{withUnit, stepIn, runIn}
-use Rattle·partitions·specs.specs.Layout.{itemsFrom, itemsOf, distinct, bytesUsed, layoutOk, hasItem, itemOf}
-use Rattle·partitions·specs.specs.Partitions.{partitionsOk, imageOk, partitionSize, nextStatus, statusOf, nextPartition, endsRun, indices, kept, onlyOne, Newest, nothing, newest, noRun, newestIn, newestOf}
-use Rattle·partitions·specs.specs.Items.{identifierAt, dataAt, dataIn, isWritten, isErased}
-use Rattle·partitions·specs.specs.Writes.{writeItem, writeItems, fill, carried, writeSteps}
-use Rattle·partitions·specs.specs.Answers.{isNoRun, refusals, itemFits, writeWork, workedIn, writeOutcome, isStored, offsetOf, readOutcome, pieceRead}
+use Rattle.std.specs.Prelude.{ℕ, ◌≡◌, refl, true, false, List, [], ◌∷◌, ◌++◌, map, replicate}
+use Rattle.model.specs.Lists.{all}
+use Rattle.model.specs.Chip.{Image, Step, program, erase, clear, erased}
+use Rattle.model.specs.Sequences.{among}
+use Rattle.model.specs.Header.{isBlank}
+use Rattle.model.specs.Steps.{programs}
+use Rattle.model.specs.Answers.{first_of, codeUnder}
+use Rattle.flash.specs.Units.{withUnit, stepIn, runIn}
+use Rattle.partitions.specs.Layout.{itemsFrom, items_of, distinct, bytesUsed, layoutOk, hasItem, item_of}
+use Rattle.partitions.specs.Partitions.{partitionsOk, imageOk, partitionSize, nextStatus, statusOf, nextPartition, endsRun, indices, kept, onlyOne, Newest, nothing, newest, no_run, newestIn, newestOf}
+use Rattle.partitions.specs.Items.{identifierAt, dataAt, dataIn, is_written, isErased}
+use Rattle.partitions.specs.Writes.{writeItem, writeItems, fill, carried, writeSteps}
+use Rattle.partitions.specs.Answers.{isNoRun, refusals, itemFits, writeWork, workedIn, writeOutcome, isStored, offset_of, readOutcome, pieceRead}
 
 -- every definition unfolds where this name does
 unfoldable pub computes : ℕ
-unfolding all clear erased among isBlank programs firstOf codeUnder withUnit stepIn runIn itemsFrom itemsOf distinct bytesUsed layoutOk hasItem itemOf partitionsOk imageOk partitionSize nextStatus statusOf nextPartition endsRun indices kept onlyOne newestIn newestOf identifierAt dataAt dataIn isWritten isErased writeItem writeItems fill carried writeSteps isNoRun refusals itemFits writeWork workedIn writeOutcome isStored offsetOf readOutcome pieceRead
+unfolding all clear erased among isBlank programs first_of codeUnder withUnit stepIn runIn itemsFrom items_of distinct bytesUsed layoutOk hasItem item_of partitionsOk imageOk partitionSize nextStatus statusOf nextPartition endsRun indices kept onlyOne newestIn newestOf identifierAt dataAt dataIn is_written isErased writeItem writeItems fill carried writeSteps isNoRun refusals itemFits writeWork workedIn writeOutcome isStored offset_of readOutcome pieceRead
 computes = 0
 
 -- ---- the layout table
@@ -28,7 +24,7 @@ computes = 0
 abbrev pub two : List ℕ
 two = 1 ∷ 2 ∷ 7 ∷ 1 ∷ []
 
-items : itemsOf two ≡ record { identifier = 1; size = 2; at = 1 } ∷ record { identifier = 7; size = 1; at = 4 } ∷ []
+items : items_of two ≡ record { identifier = 1; size = 2; at = 1 } ∷ record { identifier = 7; size = 1; at = 4 } ∷ []
 unfolding computes
 items = refl
 
@@ -56,7 +52,7 @@ ring P s = newestIn P 1 s
 
 -- two partitions: the later one, whichever it is; one alone; equal, or one that is two ahead
 pairs : map (ring 2) ((255 ∷ 255 ∷ []) ∷ (3 ∷ 4 ∷ []) ∷ (4 ∷ 3 ∷ []) ∷ (3 ∷ 255 ∷ []) ∷ (255 ∷ 3 ∷ []) ∷ (254 ∷ 0 ∷ []) ∷ (0 ∷ 254 ∷ []) ∷ (3 ∷ 3 ∷ []) ∷ (3 ∷ 5 ∷ []) ∷ [])
-    ≡ nothing ∷ newest 1 ∷ newest 0 ∷ newest 0 ∷ newest 1 ∷ newest 1 ∷ newest 0 ∷ noRun ∷ noRun ∷ []
+    ≡ nothing ∷ newest 1 ∷ newest 0 ∷ newest 0 ∷ newest 1 ∷ newest 1 ∷ newest 0 ∷ no_run ∷ no_run ∷ []
 unfolding computes
 pairs = refl
 
@@ -65,7 +61,7 @@ fours : map (ring 4) (
     (0 ∷ 255 ∷ 255 ∷ 255 ∷ []) ∷ (255 ∷ 9 ∷ 10 ∷ 255 ∷ []) ∷ (8 ∷ 255 ∷ 6 ∷ 7 ∷ []) ∷ (253 ∷ 254 ∷ 0 ∷ 1 ∷ []) ∷ (0 ∷ 1 ∷ 253 ∷ 254 ∷ [])
     ∷ (4 ∷ 5 ∷ 2 ∷ 3 ∷ []) ∷ (255 ∷ 255 ∷ 255 ∷ 200 ∷ [])
     ∷ (3 ∷ 255 ∷ 7 ∷ 255 ∷ []) ∷ (3 ∷ 255 ∷ 5 ∷ 6 ∷ []) ∷ (1 ∷ 2 ∷ 4 ∷ 5 ∷ []) ∷ (4 ∷ 3 ∷ 2 ∷ 1 ∷ []) ∷ (5 ∷ 5 ∷ 255 ∷ 255 ∷ []) ∷ (254 ∷ 255 ∷ 0 ∷ 255 ∷ []) ∷ [])
-    ≡ newest 0 ∷ newest 2 ∷ newest 0 ∷ newest 3 ∷ newest 1 ∷ newest 1 ∷ newest 3 ∷ replicate 6 noRun
+    ≡ newest 0 ∷ newest 2 ∷ newest 0 ∷ newest 3 ∷ newest 1 ∷ newest 1 ∷ newest 3 ∷ replicate 6 no_run
 unfolding computes
 fours = refl
 
@@ -83,7 +79,7 @@ halved : Image
 halved = erased 7 ++ (254 ∷ 2 ∷ 10 ∷ 11 ∷ 255 ∷ 20 ∷ 99 ∷ [])
 
 writes : Image → ℕ → List ℕ → List Step
-writes s i d = writeWork 2 two s i d .steps
+writes s i d = (writeWork 2 two s i d).steps
 
 -- the first write: erase, data, identifier, status 0
 first-steps : writes blank 1 (30 ∷ 31 ∷ []) ≡ erase 0 ∷ program 2 30 ∷ program 3 31 ∷ program 1 1 ∷ program 0 0 ∷ []
@@ -120,12 +116,12 @@ zeroed-so = (refl, refl, refl, refl)
 -- in place in partition 1; data 255 that is written is not blank; an identifier that is not in the table, with no data
 place-later : (writes (erased 7 ++ (3 ∷ 1 ∷ 10 ∷ 11 ∷ 255 ∷ 255 ∷ 99 ∷ [])) 7 (21 ∷ []) ≡ program 12 21 ∷ program 11 7 ∷ [])
     × (writes (erased 7 ++ (3 ∷ 255 ∷ 255 ∷ 255 ∷ 7 ∷ 255 ∷ 99 ∷ [])) 7 (21 ∷ []) ≡ erase 0 ∷ program 5 21 ∷ program 4 7 ∷ program 0 4 ∷ [])
-    × (writeWork 2 two blank 2 [] .code ≡ 3)
+    × ((writeWork 2 two blank 2 []).code ≡ 3)
 unfolding computes blank writes
 place-later = (refl, refl, refl)
 
 -- under an allowance: 9 and as many steps, or all
-allowed : map {A = ℕ} {B = List ℕ} (λ k. let o = writeOutcome 2 two blank 7 (5 ∷ []) k in o .code ∷ o .count ∷ []) (0 ∷ 1 ∷ 3 ∷ 4 ∷ 9 ∷ [])
+allowed : map {A = ℕ} {B = List ℕ} (λ k. let o = writeOutcome 2 two blank 7 (5 ∷ []) k in o.code ∷ o.count ∷ []) (0 ∷ 1 ∷ 3 ∷ 4 ∷ 9 ∷ [])
     ≡ (9 ∷ 0 ∷ []) ∷ (9 ∷ 1 ∷ []) ∷ (9 ∷ 3 ∷ []) ∷ (0 ∷ 4 ∷ []) ∷ (0 ∷ 4 ∷ []) ∷ []
 unfolding computes blank
 allowed = refl
@@ -137,7 +133,7 @@ moved = refl
 -- ---- answers
 
 codes : ℕ → List ℕ → Image → List (List ℕ) → List ℕ
-codes P layout s ds = map (λ d. writeWork P layout s 7 d .code) ds
+codes P layout s ds = map (λ d. (writeWork P layout s 7 d).code) ds
 
 abbrev mixed : Image
 mixed = 3 ∷ 255 ∷ 255 ∷ 255 ∷ 255 ∷ 255 ∷ 3 ∷ 255 ∷ 255 ∷ 255 ∷ 255 ∷ 255 ∷ []
@@ -150,8 +146,8 @@ refused = refl
 
 -- reading: the data's place; 5 if it is not written, or nothing is; 3 before 4, and 4 before 5
 read-full : (readOutcome 2 two full 1 ≡ record { code = 0; offset = 2; length = 2 }) × (readOutcome 2 two full 7 ≡ record { code = 0; offset = 5; length = 1 })
-    × (pieceRead 2 two full 1 ≡ 10 ∷ 11 ∷ []) × (map (λ i. readOutcome 2 two halved i .code) (1 ∷ 7 ∷ 2 ∷ 255 ∷ []) ≡ 5 ∷ 5 ∷ 3 ∷ 3 ∷ [])
-    × (map (λ i. readOutcome 2 two blank i .code) (1 ∷ 7 ∷ 2 ∷ []) ≡ 5 ∷ 5 ∷ 3 ∷ []) × (map (λ i. readOutcome 2 two mixed i .code) (1 ∷ 2 ∷ []) ≡ 4 ∷ 3 ∷ [])
+    × (pieceRead 2 two full 1 ≡ 10 ∷ 11 ∷ []) × (map (λ i. (readOutcome 2 two halved i).code) (1 ∷ 7 ∷ 2 ∷ 255 ∷ []) ≡ 5 ∷ 5 ∷ 3 ∷ 3 ∷ [])
+    × (map (λ i. (readOutcome 2 two blank i).code) (1 ∷ 7 ∷ 2 ∷ []) ≡ 5 ∷ 5 ∷ 3 ∷ []) × (map (λ i. (readOutcome 2 two mixed i).code) (1 ∷ 2 ∷ []) ≡ 4 ∷ 3 ∷ [])
 unfolding computes full halved blank
 read-full = (refl, refl, refl, refl, refl, refl)
 

@@ -1,39 +1,33 @@
 -- Laws of the definitions, for whoever proves code or histories: what a right layout table tells, where its items lie, and tests over all partitions.
-use Prim.Native.Nat.{ℕ, _+_, _-_, _%_, _≤_}
-use mathlib.Core.Path.{_≡_, refl, sym, ap, _∙_}
-use mathlib.Core.Logic.{_⊎_, inl, inr, _≢_}
-use mathlib.Core.Bool.{Bool, true, false, cond, _||_, not, false≢true}
-use mathlib.Core.List.{List, [], _∷_, _++_}
-use native.Mathlib.Omega.{arith}
-use lib.ListN.{length}
-use lib.Dec.{leb, eqb}
-use borrow.Author.Tests.{leb-true, eqb-true, eqb-false, not-true}
-use Rattle·model.specs.Lists.{all}
-use Rattle·model.specs.Laws.Lists.{and-left, and-right}
-use Rattle·partitions·specs.specs.Layout.{Item, itemsFrom, itemsOf, distinct, bytesUsed, layoutOk, hasItem, itemOf}
-use Rattle·partitions·specs.specs.Partitions.{kept}
-use Rattle·partitions·specs.specs.Instances.{two}
+use Rattle.std.specs.Prelude.{ℕ, ◌+◌, ◌-◌, ◌%◌, ◌≤◌, ◌≡◌, refl, ◌⊎◌, ◌≢◌, Bool, true, false, cond, ◌||◌, not, List, [], ◌∷◌, ◌++◌, length, leb, eqb}
+use Rattle.std.proofs.Common.{sym, ap, ◌∙◌, inl, inr, arith, leb-true, eqb-true}
+use Rattle.std.proofs.lemmas.Bool.{false≢true, eqb-false, not-true}
+use Rattle.model.specs.Lists.{all}
+use Rattle.model.specs.Laws.Lists.{and_left, and_right}
+use Rattle.partitions.specs.Layout.{Item, itemsFrom, items_of, distinct, bytesUsed, layoutOk, hasItem, item_of}
+use Rattle.partitions.specs.Partitions.{kept}
+use Rattle.partitions.specs.Instances.{two}
 
 -- ---- a right table
 
 pub record RightLayout (S : ℕ) (ns : List ℕ) : Type 0 where
   pub even : length ns % 2 ≡ 0
-  pub real : all (λ x. not (eqb (x .identifier) 255)) (itemsOf ns) ≡ true
-  pub once : distinct (itemsOf ns) ≡ true
-  pub fit : bytesUsed (itemsOf ns) ≤ S
+  pub real : all (λ x. not (eqb x.identifier 255)) (items_of ns) ≡ true
+  pub once : distinct (items_of ns) ≡ true
+  pub fit : bytesUsed (items_of ns) ≤ S
 
 pub right-layout : (S : ℕ) (ns : List ℕ) → layoutOk S ns ≡ true → RightLayout S ns
 unfolding layoutOk
 right-layout S ns e =
-    let xs = itemsOf ns in
-    let a = and-right (eqb (length ns % 2) 0) _ e in
-    let b = and-right (all (λ x. not (eqb (x .identifier) 255)) xs) _ a in
-    let c = and-right (distinct xs) _ b in
+    let xs = items_of ns in
+    let a = and_right (eqb (length ns % 2) 0) _ e in
+    let b = and_right (all (λ x. not (eqb x.identifier 255)) xs) _ a in
+    let c = and_right (distinct xs) _ b in
     record {
-      even = eqb-true (length ns % 2) 0 (and-left (eqb (length ns % 2) 0) _ e);
-      real = and-left (all (λ x. not (eqb (x .identifier) 255)) xs) _ a;
-      once = and-left (distinct xs) _ b;
-      fit = leb-true (bytesUsed xs) S (and-right (all (λ x. not (eqb (x .size) 0)) xs) (leb (bytesUsed xs) S) c);
+      even = eqb-true (length ns % 2) 0 (and_left (eqb (length ns % 2) 0) _ e);
+      real = and_left (all (λ x. not (eqb x.identifier 255)) xs) _ a;
+      once = and_left (distinct xs) _ b;
+      fit = leb-true (bytesUsed xs) S (and_right (all (λ x. not (eqb x.size 0)) xs) (leb (bytesUsed xs) S) c);
     }
 
 -- the status byte is always there
@@ -43,47 +37,47 @@ used-some [] = omega arith
 used-some (x ∷ xs) = let e = used-some xs in omega arith
 
 -- identifier 255 is no item's
-pub item-real : (i : ℕ) (xs : List Item) → all (λ x. not (eqb (x .identifier) 255)) xs ≡ true → hasItem i xs ≡ true → i ≢ 255
+pub item-real : (i : ℕ) (xs : List Item) → all (λ x. not (eqb x.identifier 255)) xs ≡ true → hasItem i xs ≡ true → i ≢ 255
 unfolding all hasItem
 item-real i [] a h e = false≢true h
-item-real i (x ∷ xs) a h e = go (eqb i (x .identifier)) refl h (λ w. item-real i xs (and-right (not (eqb (x .identifier) 255)) (all (λ y. not (eqb (y .identifier) 255)) xs) a) w e)
+item-real i (x ∷ xs) a h e = go (eqb i x.identifier) refl h (λ w. item-real i xs (and_right (not (eqb x.identifier 255)) (all (λ y. not (eqb y.identifier 255)) xs) a) w e)
   where
-    go : (t : Bool) → eqb i (x .identifier) ≡ t → (t || hasItem i xs) ≡ true → (hasItem i xs ≡ true → ⊥) → ⊥
-    go true d w rest = eqb-false (x .identifier) 255 (not-true (eqb (x .identifier) 255) (and-left (not (eqb (x .identifier) 255)) (all (λ y. not (eqb (y .identifier) 255)) xs) a)) (sym (eqb-true i (x .identifier) d) ∙ e)
+    go : (t : Bool) → eqb i x.identifier ≡ t → (t || hasItem i xs) ≡ true → (hasItem i xs ≡ true → ⊥) → ⊥
+    go true d w rest = eqb-false x.identifier 255 (not-true (eqb x.identifier 255) (and_left (not (eqb x.identifier 255)) (all (λ y. not (eqb y.identifier 255)) xs) a)) (sym (eqb-true i x.identifier d) ∙ e)
     go false d w rest = rest w
 
 -- ---- where items lie
 
 -- an item has identifier i, and its bytes are some of a partition's, from an offset on
 pub record Lies (i from end : ℕ) (x : Item) : Type 0 where
-  pub named : x .identifier ≡ i
-  pub behind : from ≤ x .at
-  pub inside : x .at + 1 + x .size ≤ end
+  pub named : x.identifier ≡ i
+  pub behind : from ≤ x.at
+  pub inside : x.at + 1 + x.size ≤ end
 
 -- the bytes used count the status byte, which lies before the first item
-lies : (i o : ℕ) (ns : List ℕ) → hasItem i (itemsFrom o ns) ≡ true → Lies i o (o + bytesUsed (itemsFrom o ns) - 1) (itemOf i (itemsFrom o ns))
-unfolding itemsFrom bytesUsed hasItem itemOf
+lies : (i o : ℕ) (ns : List ℕ) → hasItem i (itemsFrom o ns) ≡ true → Lies i o (o + bytesUsed (itemsFrom o ns) - 1) (item_of i (itemsFrom o ns))
+unfolding itemsFrom bytesUsed hasItem item_of
 lies i o [] h = absurd (false≢true h)
 lies i o (k ∷ []) h = absurd (false≢true h)
 lies i o (k ∷ n ∷ r) h = go (eqb i k) refl h (lies i (o + 1 + n) r)
   where
     go : (t : Bool) → eqb i k ≡ t → t || hasItem i (itemsFrom (o + 1 + n) r) ≡ true
-        → (hasItem i (itemsFrom (o + 1 + n) r) ≡ true → Lies i (o + 1 + n) (o + 1 + n + bytesUsed (itemsFrom (o + 1 + n) r) - 1) (itemOf i (itemsFrom (o + 1 + n) r)))
-        → Lies i o (o + (1 + n + bytesUsed (itemsFrom (o + 1 + n) r)) - 1) (cond t (record { identifier = k; size = n; at = o }) (itemOf i (itemsFrom (o + 1 + n) r)))
+        → (hasItem i (itemsFrom (o + 1 + n) r) ≡ true → Lies i (o + 1 + n) (o + 1 + n + bytesUsed (itemsFrom (o + 1 + n) r) - 1) (item_of i (itemsFrom (o + 1 + n) r)))
+        → Lies i o (o + (1 + n + bytesUsed (itemsFrom (o + 1 + n) r)) - 1) (cond t (record { identifier = k; size = n; at = o }) (item_of i (itemsFrom (o + 1 + n) r)))
     go true e q rest = record { named = sym (eqb-true i k e); behind = omega arith; inside = omega (arith, used-some (itemsFrom (o + 1 + n) r)) }
-    go false e q rest = let x = rest q in record { named = x .named; behind = omega (arith, x .behind); inside = omega (arith, x .inside) }
+    go false e q rest = let x = rest q in record { named = x.named; behind = omega (arith, x.behind); inside = omega (arith, x.inside) }
 
 -- an item of a table whose items fit
-pub item-lies : (S i : ℕ) (ns : List ℕ) → bytesUsed (itemsOf ns) ≤ S → hasItem i (itemsOf ns) ≡ true → Lies i 1 S (itemOf i (itemsOf ns))
-unfolding itemsOf
-item-lies S i ns f h = let x = lies i 1 ns h in record { named = x .named; behind = x .behind; inside = omega (arith, x .inside) }
+pub item-lies : (S i : ℕ) (ns : List ℕ) → bytesUsed (items_of ns) ≤ S → hasItem i (items_of ns) ≡ true → Lies i 1 S (item_of i (items_of ns))
+unfolding items_of
+item-lies S i ns f h = let x = lies i 1 ns h in record { named = x.named; behind = x.behind; inside = omega (arith, x.inside) }
 
 -- two items have no byte in common
 abbrev pub Apart : Item → Item → Type 0
-Apart x y = (x .at + 1 + x .size ≤ y .at) ⊎ (y .at + 1 + y .size ≤ x .at)
+Apart x y = (x.at + 1 + x.size ≤ y.at) ⊎ (y.at + 1 + y.size ≤ x.at)
 
-pub items-apart : (i j o : ℕ) (ns : List ℕ) → i ≢ j → hasItem i (itemsFrom o ns) ≡ true → hasItem j (itemsFrom o ns) ≡ true → Apart (itemOf i (itemsFrom o ns)) (itemOf j (itemsFrom o ns))
-unfolding itemsFrom hasItem itemOf
+pub items-apart : (i j o : ℕ) (ns : List ℕ) → i ≢ j → hasItem i (itemsFrom o ns) ≡ true → hasItem j (itemsFrom o ns) ≡ true → Apart (item_of i (itemsFrom o ns)) (item_of j (itemsFrom o ns))
+unfolding itemsFrom hasItem item_of
 items-apart i j o [] n h k = absurd (false≢true h)
 items-apart i j o (a ∷ []) n h k = absurd (false≢true h)
 items-apart i j o (a ∷ b ∷ r) n h k = go (eqb i a) (eqb j a) refl refl h k (lies i (o + 1 + b) r) (lies j (o + 1 + b) r) (items-apart i j (o + 1 + b) r n)
@@ -98,20 +92,20 @@ items-apart i j o (a ∷ b ∷ r) n h k = go (eqb i a) (eqb j a) refl refl h k (
     first = record { identifier = a; size = b; at = o }
 
     go : (t u : Bool) → eqb i a ≡ t → eqb j a ≡ u → t || hasItem i rest ≡ true → u || hasItem j rest ≡ true
-        → (hasItem i rest ≡ true → Lies i (o + 1 + b) end (itemOf i rest)) → (hasItem j rest ≡ true → Lies j (o + 1 + b) end (itemOf j rest))
-        → (hasItem i rest ≡ true → hasItem j rest ≡ true → Apart (itemOf i rest) (itemOf j rest))
-        → Apart (cond t first (itemOf i rest)) (cond u first (itemOf j rest))
+        → (hasItem i rest ≡ true → Lies i (o + 1 + b) end (item_of i rest)) → (hasItem j rest ≡ true → Lies j (o + 1 + b) end (item_of j rest))
+        → (hasItem i rest ≡ true → hasItem j rest ≡ true → Apart (item_of i rest) (item_of j rest))
+        → Apart (cond t first (item_of i rest)) (cond u first (item_of j rest))
     go true true e f p q x y z = absurd (n (eqb-true i a e ∙ sym (eqb-true j a f)))
-    go true false e f p q x y z = inl (y q .behind)
-    go false true e f p q x y z = inr (x p .behind)
+    go true false e f p q x y z = inl (y q).behind
+    go false true e f p q x y z = inr (x p).behind
     go false false e f p q x y z = z p q
 
 -- ---- tests over all partitions
 
-pub kept-append : (f : ℕ → Bool) (xs ys : List ℕ) → kept f (xs ++ ys) ≡ kept f xs ++ kept f ys
+pub kept_append : (f : ℕ → Bool) (xs ys : List ℕ) → kept f (xs ++ ys) ≡ kept f xs ++ kept f ys
 unfolding kept
-kept-append f [] ys = refl
-kept-append f (x ∷ xs) ys = go (f x) (kept-append f xs ys)
+kept_append f [] ys = refl
+kept_append f (x ∷ xs) ys = go (f x) (kept_append f xs ys)
   where
     go : (t : Bool) → kept f (xs ++ ys) ≡ kept f xs ++ kept f ys → cond t (x ∷ kept f (xs ++ ys)) (kept f (xs ++ ys)) ≡ cond t (x ∷ kept f xs) (kept f xs) ++ kept f ys
     go true e = ap (λ (l : List ℕ). x ∷ l) e

@@ -1,10 +1,6 @@
 -- Request #109, the layout table: which items a partition has, and where.
-use Prim.Native.Nat.{ℕ, _+_, _%_}
-use mathlib.Core.Bool.{Bool, true, false, cond, _||_, _&&_, not}
-use mathlib.Core.List.{List, [], _∷_}
-use lib.ListN.{length}
-use lib.Dec.{leb, eqb}
-use Rattle·model.specs.Lists.{all}
+use Rattle.std.specs.Prelude.{ℕ, ◌+◌, ◌%◌, Bool, true, false, cond, ◌||◌, ◌&&◌, not, List, [], ◌∷◌, length, leb, eqb}
+use Rattle.model.specs.Lists.{all}
 
 -- "fixed items, each an identifier byte and data of fixed length": the identifier, the length, and where in a partition the identifier byte stands, with the data right behind it
 pub record Item : Type 0 where
@@ -19,36 +15,36 @@ itemsFrom at (i ∷ []) = []
 itemsFrom at (i ∷ n ∷ r) = record { identifier = i; size = n; at = at } ∷ itemsFrom (at + 1 + n) r
 
 -- "each with a status byte and then fixed items"
-unfoldable pub itemsOf : List ℕ → List Item
-itemsOf layout = itemsFrom 1 layout
+unfoldable pub items_of : List ℕ → List Item
+items_of layout = itemsFrom 1 layout
 
 -- ---- a table that is right; one that is not answers 2
 
 unfoldable pub distinct : List Item → Bool
 distinct [] = true
-distinct (x ∷ xs) = all (λ y. not (eqb (x .identifier) (y .identifier))) xs && distinct xs
+distinct (x ∷ xs) = all (λ y. not (eqb x.identifier y.identifier)) xs && distinct xs
 
 -- the bytes of the status and the items
 unfoldable pub bytesUsed : List Item → ℕ
 bytesUsed [] = 1
-bytesUsed (x ∷ xs) = 1 + x .size + bytesUsed xs
+bytesUsed (x ∷ xs) = 1 + x.size + bytesUsed xs
 
 -- "refused exactly if a byte is left over, an identifier is 255 or comes twice, a length is 0, or status and items don't fit a partition", which has S bytes
 unfoldable pub layoutOk : ℕ → List ℕ → Bool
-layoutOk S layout = let xs = itemsOf layout in
+layoutOk S layout = let xs = items_of layout in
     eqb (length layout % 2) 0
-    && (all (λ x. not (eqb (x .identifier) 255)) xs
+    && (all (λ x. not (eqb x.identifier 255)) xs
     && (distinct xs
-    && (all (λ x. not (eqb (x .size) 0)) xs
+    && (all (λ x. not (eqb x.size 0)) xs
     && leb (bytesUsed xs) S)))
 
 -- ---- the item with an identifier
 
 unfoldable pub hasItem : ℕ → List Item → Bool
 hasItem i [] = false
-hasItem i (x ∷ xs) = eqb i (x .identifier) || hasItem i xs
+hasItem i (x ∷ xs) = eqb i x.identifier || hasItem i xs
 
 -- an identifier that is not in the table has no item: it is refused before this one counts
-unfoldable pub itemOf : ℕ → List Item → Item
-itemOf i [] = record { identifier = i; size = 0; at = 0 }
-itemOf i (x ∷ xs) = cond (eqb i (x .identifier)) x (itemOf i xs)
+unfoldable pub item_of : ℕ → List Item → Item
+item_of i [] = record { identifier = i; size = 0; at = 0 }
+item_of i (x ∷ xs) = cond (eqb i x.identifier) x (item_of i xs)

@@ -1,12 +1,8 @@
 -- Request #109, the partitions of an image: their size, the status bytes, and the newest. "Here one partition is one erase unit": flash steps are those of `flash`, Units, at S.
-use Prim.Native.Nat.{ℕ, zero, suc, _+_, _*_, _/_, _%_}
-use mathlib.Core.Bool.{Bool, cond, _&&_, not}
-use mathlib.Core.List.{List, [], _∷_, _++_}
-use lib.ListN.{length, getD}
-use lib.Dec.{eqb}
-use Rattle·model.specs.Lists.{all}
-use Rattle·model.specs.Chip.{Image}
-use Rattle·model.specs.Sequences.{among}
+use Rattle.std.specs.Prelude.{ℕ, zero, suc, ◌+◌, ◌*◌, ◌/◌, ◌%◌, Bool, cond, ◌&&◌, not, List, [], ◌∷◌, ◌++◌, length, get_or, eqb}
+use Rattle.model.specs.Lists.{all}
+use Rattle.model.specs.Chip.{Image}
+use Rattle.model.specs.Sequences.{among}
 
 -- ---- size: P partitions of S bytes
 
@@ -32,7 +28,7 @@ unfoldable pub nextStatus : ℕ → ℕ
 nextStatus v = (v + 1) % 255
 
 unfoldable pub statusOf : ℕ → Image → ℕ → ℕ
-statusOf S s p = getD s (p * S) 0
+statusOf S s p = get_or s (p * S) 0
 
 -- "in partition order, the first following the last"
 unfoldable pub nextPartition : ℕ → ℕ → ℕ
@@ -53,7 +49,7 @@ indices (suc k) = indices k ++ (k ∷ [])
 pub data Newest : Type 0 where
   nothing : Newest
   newest : ℕ → Newest
-  noRun : Newest
+  no_run : Newest
 
 -- those of which a test holds
 unfoldable pub kept : (ℕ → Bool) → List ℕ → List ℕ
@@ -61,9 +57,9 @@ kept f [] = []
 kept f (p ∷ ps) = cond (f p) (p ∷ kept f ps) (kept f ps)
 
 unfoldable pub onlyOne : List ℕ → Newest
-onlyOne [] = noRun
+onlyOne [] = no_run
 onlyOne (p ∷ []) = newest p
-onlyOne (p ∷ q ∷ r) = noRun
+onlyOne (p ∷ q ∷ r) = no_run
 
 unfoldable pub newestIn : ℕ → ℕ → Image → Newest
 newestIn P S s = let ps = indices P in

@@ -1,13 +1,10 @@
 -- Request #109, the step lists of a write. The order of steps is fixed, and one byte is one step even if it changes nothing.
-use Prim.Native.Nat.{ℕ, _+_, _*_}
-use mathlib.Core.Bool.{cond}
-use mathlib.Core.List.{List, [], _∷_, _++_}
-use lib.Dec.{eqb}
-use Rattle·model.specs.Chip.{Image, Step, program, erase}
-use Rattle·model.specs.Steps.{programs}
-use Rattle·partitions·specs.specs.Layout.{Item, itemsOf, itemOf}
-use Rattle·partitions·specs.specs.Partitions.{statusOf, nextStatus, nextPartition, Newest, nothing, newest, noRun}
-use Rattle·partitions·specs.specs.Items.{identifierAt, dataIn, isWritten, isErased}
+use Rattle.std.specs.Prelude.{ℕ, ◌+◌, ◌*◌, cond, List, [], ◌∷◌, ◌++◌, eqb}
+use Rattle.model.specs.Chip.{Image, Step, program, erase}
+use Rattle.model.specs.Steps.{programs}
+use Rattle.partitions.specs.Layout.{Item, items_of, item_of}
+use Rattle.partitions.specs.Partitions.{statusOf, nextStatus, nextPartition, Newest, nothing, newest, no_run}
+use Rattle.partitions.specs.Items.{identifierAt, dataIn, is_written, isErased}
 
 -- an item with its data
 pub record Entry : Type 0 where
@@ -16,14 +13,14 @@ pub record Entry : Type 0 where
 
 -- what is written: the item of a layout table with an identifier, and its new data
 abbrev pub entryFor : List ℕ → ℕ → List ℕ → Entry
-entryFor layout i d = record { item = itemOf i (itemsOf layout); contents = d }
+entryFor layout i d = record { item = item_of i (items_of layout); contents = d }
 
 -- "Each item's identifier byte is programmed after its data here, against 001": at this offset, with the data right behind it
 abbrev pub itemSteps : ℕ → ℕ → List ℕ → List Step
 itemSteps at i d = programs (at + 1) d ++ (program at i ∷ [])
 
 unfoldable pub writeItem : ℕ → ℕ → Entry → List Step
-writeItem S p e = itemSteps (identifierAt S p (e .item)) (e .item .identifier) (e .contents)
+writeItem S p e = itemSteps (identifierAt S p e.item) e.item.identifier e.contents
 
 unfoldable pub writeItems : ℕ → ℕ → List Entry → List Step
 writeItems S p [] = []
@@ -38,12 +35,12 @@ unfoldable pub carried : ℕ → Image → ℕ → Entry → List Item → List 
 carried S s p e [] = []
 carried S s p e (y ∷ ys) =
     let rest = carried S s p e ys in
-    cond (eqb (y .identifier) (e .item .identifier)) (e ∷ rest)
-    (cond (isWritten S s p y) (record { item = y; contents = dataIn S s p y } ∷ rest) rest)
+    cond (eqb y.identifier e.item.identifier) (e ∷ rest)
+    (cond (is_written S s p y) (record { item = y; contents = dataIn S s p y } ∷ rest) rest)
 
 -- "the first write erases partition 0, fills it and sets status 0"; otherwise "write in place if its identifier and data bytes are all 255, otherwise erase the next partition .."
 unfoldable pub writeSteps : ℕ → ℕ → List Item → Image → Newest → Entry → List Step
 writeSteps P S xs s nothing e = fill S 0 (e ∷ []) 0
 writeSteps P S xs s (newest p) e =
-    cond (isErased S s p (e .item)) (writeItem S p e) (fill S (nextPartition P p) (carried S s p e xs) (nextStatus (statusOf S s p)))
-writeSteps P S xs s noRun e = []
+    cond (isErased S s p e.item) (writeItem S p e) (fill S (nextPartition P p) (carried S s p e xs) (nextStatus (statusOf S s p)))
+writeSteps P S xs s no_run e = []

@@ -2,6 +2,7 @@
 // in specs/. There is no code here.
 
 // What comes back: this part has its own table of refusals, 1 to 5, and 9 as document 01 has it.
+#[derive(Drop)]
 pub enum Reply {
     Done,
     Partitions,
@@ -13,12 +14,14 @@ pub enum Reply {
 }
 
 // A write's answer, and the flash steps that it took.
+#[derive(Drop)]
 pub struct Written {
     pub answer: Reply,
     pub steps: u64,
 }
 
 // A read's answer, and the data's offset in the image and their length.
+#[derive(Drop)]
 pub struct Spot {
     pub answer: Reply,
     pub offset: usize,

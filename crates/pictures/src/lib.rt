@@ -1,17 +1,16 @@
 // The picture of an image, for who would rather look than read, in a lent buffer. It has no `requires`, and is put together
 // twice, as an account is.
+ghost use Rattle.std.specs.Prelude.{◌≡◌, map as each, length, take};
+ghost use Rattle.model.specs.State.{segmentsOf, nextNumber};
+ghost use Rattle.flash.specs.Pages.{Sized};
+ghost use Rattle.text.specs.Buffer.{printed, printIn, Wrote};
+ghost use Rattle.account_text.specs.Account.{shown};
+ghost use Rattle.account_text.specs.Map.{mapOn, mapText};
+ghost use Rattle.index.specs.Shows.{uncounted};
+
 use index::Shown;
 use model::MOST_SEGMENTS;
 use text::Printed;
-ghost use mathlib.Core.Path.{_≡_};
-ghost use mathlib.Core.List.{map as each};
-ghost use lib.ListN.{length, take};
-ghost use Rattle·model.specs.State.{segmentsOf, nextNumber};
-ghost use Rattle·flash.specs.Pages.{Sized};
-ghost use Rattle·text.specs.Buffer.{printed, printIn, Wrote};
-ghost use Rattle·account_text.specs.Account.{shown};
-ghost use Rattle·account_text.specs.Map.{mapOn, mapText};
-ghost use Rattle·index.specs.Shows.{uncounted};
 
 // The whole text, from the buffer's front on.
 fn draw(
@@ -22,8 +21,8 @@ fn draw(
     next: usize,
     text: &mut [u8],
 ) -> usize
-    requires { ⌜ Sized segments slots (length (now image)) × (take segments table ≡ each uncounted (shown segments slots (segmentsOf segments slots (now image)))) × (next ≡ nextNumber (shown segments slots (segmentsOf segments slots (now image)))) ⌝ }
-    ensures { λ r. ⌜ Wrote (mapOn segments slots (segmentsOf segments slots (now (image .entry)))) (now (text .entry)) 0 (now (text .exit)) r ⌝ }
+    requires { Sized segments slots (length image.now) × (take segments table ≡ each uncounted (shown segments slots (segmentsOf segments slots image.now))) × (next ≡ nextNumber (shown segments slots (segmentsOf segments slots image.now))) }
+    ensures { Wrote (mapOn segments slots (segmentsOf segments slots image.now)) text.old 0 text.new result }
 {
     let rows = mapping::map_rows(image, segments, slots, table, next, text, 0);
     mapping::add_legend(text, rows)
@@ -32,7 +31,7 @@ fn draw(
 // One row for each segment by index, with its state and number, and one character for each slot of those in use; the
 // active segment is marked, and a legend is at the end.
 pub fn map(image: &[u8], segments: usize, slots: usize, text: &mut [u8]) -> Printed
-    ensures { λ r. ⌜ printed r (now (text .exit)) ≡ printIn (mapText segments slots (now (image .entry))) (now (text .entry)) ⌝ }
+    ensures { printed result text.new ≡ printIn (mapText segments slots image.now) text.old }
 {
     if !request::right_size(image.len(), segments, slots) {
         return printing::wrong_size(text);

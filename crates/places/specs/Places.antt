@@ -1,18 +1,13 @@
 -- What the code makes of a table of places: what one entry says of an image, and the entries that a walk over slots makes.
-use Prim.Native.Nat.{ℕ, zero, suc, _+_, _*_, _/_, _%_}
-use mathlib.Core.Path.{_≡_}
-use mathlib.Core.Bool.{Bool, true, cond, _&&_, not}
-use mathlib.Core.List.{List, [], _∷_, _++_}
-use lib.ListN.{length, getD, drop, set, replicate}
-use lib.Dec.{leb, eqb}
-use Rattle·model.specs.Chip.{Image, Page, rightSize}
-use Rattle·model.specs.Slot.{written, mostContents, pageBlock}
-use Rattle·model.specs.State.{clean, state, view}
-use Rattle·model.specs.Steps.{slotAt}
-use Rattle·model.specs.Mounted.{Places, unusable}
-use Rattle·model.specs.Laws.Segments.{partOf}
-use Rattle·places·specs.specs.declared.Entry.{Entry}
-use Rattle·places·specs.specs.declared.Entry.the-variants.{At, Absent, Stale}
+use Rattle.std.specs.Prelude.{ℕ, zero, suc, ◌+◌, ◌*◌, ◌/◌, ◌%◌, ◌≡◌, Bool, true, cond, ◌&&◌, not, List, [], ◌∷◌, ◌++◌, length, get_or, drop, set, replicate, leb, eqb}
+use Rattle.model.specs.Chip.{Image, Page, rightSize}
+use Rattle.model.specs.Slot.{written, mostContents, pageBlock}
+use Rattle.model.specs.State.{clean, state, view}
+use Rattle.model.specs.Steps.{slot_at}
+use Rattle.model.specs.Mounted.{Places, unusable}
+use Rattle.model.specs.Laws.Segments.{part_of}
+use Rattle.places.specs.declared.Entry.{Entry}
+use Rattle.places.specs.declared.Entry.TheVariants.{At, Absent, Stale}
 
 -- ---- one entry
 
@@ -22,7 +17,7 @@ isSlotPlace B bytes e = eqb (e % 256) 0 && (not (eqb (e / 256 % (B + 1)) 0) && l
 
 -- 0 says that the block is not stored. Any other entry is a slot's place, with a length there that fits a slot; or the table is not that of the image
 unfoldable pub entrySeen : ℕ → Image → ℕ → Entry
-entrySeen B s e = let l = getD s (e + 1) 0 in
+entrySeen B s e = let l = get_or s (e + 1) 0 in
     cond (eqb e 0) Absent
     (cond (isSlotPlace B (length s) e && leb l mostContents) (At (record { 0 = e }) l) Stale)
 
@@ -31,12 +26,12 @@ entrySeen B s e = let l = getD s (e + 1) 0 in
 -- the live slots of one segment entered, its slots' pages beginning at an offset: they end with the first whose status is 255
 unfoldable pub entered : ℕ → List Page → Places → Places
 entered at [] t = t
-entered at (p ∷ ps) t = cond (eqb (getD p 0 0) 255) t (entered (at + 256) ps (cond (eqb (getD p 0 0) written) (set t (pageBlock p) at) t))
+entered at (p ∷ ps) t = cond (eqb (get_or p 0 0) 255) t (entered (at + 256) ps (cond (eqb (get_or p 0 0) written) (set t (pageBlock p) at) t))
 
 -- those of the segments with the u numbers from n on
 unfoldable pub enteredFrom : ℕ → ℕ → Image → ℕ → ℕ → Places → Places
 enteredFrom N B s zero n t = t
-enteredFrom N B s (suc u) n t = enteredFrom N B s u (suc n) (entered (slotAt N B n 0 * 256) (drop 1 (partOf N B (n % N) s)) t)
+enteredFrom N B s (suc u) n t = enteredFrom N B s u (suc n) (entered (slot_at N B n 0 * 256) (drop 1 (part_of N B (n % N) s)) t)
 
 -- ---- a table filled
 
@@ -48,8 +43,8 @@ emptied n t = replicate n 0 ++ drop n t
 pub record Fillable (N B : ℕ) (s : Image) (first used : ℕ) : Type 0 where
   pub size : rightSize N B s ≡ true
   pub fine : state N B s ≡ clean
-  pub oldest : first ≡ view N B s .first
-  pub count : used ≡ length (view N B s .slots)
+  pub oldest : first ≡ (view N B s).first
+  pub count : used ≡ length (view N B s).slots
 
 -- ---- after a call
 

@@ -1,18 +1,14 @@
 // The table of places by block number (request #102): looked up, entered by a walk over slots, filled, and noted after a call.
-use model::Answer;
-use model::BlockNumber;
-use model::SegmentNumber;
-use model::SlotPlace;
-ghost use mathlib.Core.Path.{_≡_};
-ghost use Prim.Native.Nat.{_+_, _*_, _≤_, _<_};
-ghost use lib.ListN.{length, getD, drop};
-ghost use Rattle·model.specs.Lists.{chunk};
-ghost use Rattle·model.specs.Chip.{mostSlots};
-ghost use Rattle·model.specs.State.{view};
-ghost use Rattle·model.specs.Answers.{codeOf};
-ghost use Rattle·model.specs.Mounted.{leastPlaces, filledPlaces};
-ghost use Rattle·flash.specs.Pages.{Sized};
-ghost use Rattle·places·specs.specs.Places.{entrySeen, entered, enteredFrom, emptied, noted, Fillable};
+ghost use Rattle.std.specs.Prelude.{◌≡◌, ◌+◌, ◌*◌, ◌≤◌, ◌<◌, length, get_or, drop};
+ghost use Rattle.model.specs.Lists.{chunk};
+ghost use Rattle.model.specs.Chip.{mostSlots};
+ghost use Rattle.model.specs.State.{view};
+ghost use Rattle.model.specs.Answers.{code_of};
+ghost use Rattle.model.specs.Mounted.{leastPlaces, filledPlaces};
+ghost use Rattle.flash.specs.Pages.{Sized};
+ghost use Rattle.places.specs.Places.{entrySeen, entered, enteredFrom, emptied, noted, Fillable};
+
+use model::{Answer, BlockNumber, SegmentNumber, SlotPlace};
 
 // The entries that a table has at least; `leastPlaces` in specs/.
 pub const LEAST_PLACES: usize = 65536;
@@ -27,6 +23,7 @@ const MOST_CONTENTS: usize = 248;
 
 // What an entry says: where the block's slot is and the length in it; that the block is not stored; or what cannot be, since
 // the table is not that of the image.
+#[derive(Drop)]
 pub enum Entry {
     At(SlotPlace, usize),
     Absent,
@@ -34,14 +31,14 @@ pub enum Entry {
 }
 
 fn wide(x: u8) -> usize
-    ensures { λ r. ⌜ r ≡ x ⌝ }
+    ensures { result ≡ x }
 {
     x as usize
 }
 
 // Two bytes as a number, low byte first.
 fn word(low: u8, high: u8) -> usize
-    ensures { λ r. ⌜ (r ≡ low + 256 * high) × (r < 65536) ⌝ }
+    ensures { (result ≡ low + 256 * high) × (result < 65536) }
 {
     wide(low) + 256 * wide(high)
 }
@@ -50,8 +47,8 @@ fn word(low: u8, high: u8) -> usize
 
 // What the entry of a block says. An entry is believed if it is the place of some slot, with a length that fits one.
 pub fn look_up(image: &[u8], slots: usize, places: &[u32], block: BlockNumber) -> Entry
-    requires { ⌜ (slots ≤ mostSlots) × (leastPlaces ≤ length (now places)) ⌝ }
-    ensures { λ r. ⌜ r ≡ entrySeen slots (now (image .entry)) (getD (now (places .entry)) (block .0) 0) ⌝ }
+    requires { (slots ≤ mostSlots) × (leastPlaces ≤ length places.now) }
+    ensures { result ≡ entrySeen slots image.now (get_or places.now block.0 0) }
 {
     let at = places[block.0 as usize];
     if at == 0 {
@@ -79,8 +76,8 @@ pub fn look_up(image: &[u8], slots: usize, places: &[u32], block: BlockNumber) -
 // Enters the live slots of one segment, from the first of them on: the entry of each one's block becomes its place. They
 // end with the first slot that nothing was written to.
 fn enter_slots(image: &[u8], slots: usize, from: SlotPlace, places: &mut [u32])
-    requires { ⌜ (from .0 + slots * 256 ≤ length (now image)) × (length (now image) ≤ 4294967296) × (leastPlaces ≤ length (now places)) ⌝ }
-    ensures { λ _. ⌜ now (places .exit) ≡ entered (from .0) (chunk slots 256 (drop (from .0) (now (image .entry)))) (now (places .entry)) ⌝ }
+    requires { (from.0 + slots * 256 ≤ length image.now) × (length image.now ≤ 4294967296) × (leastPlaces ≤ length places.old) }
+    ensures { places.new ≡ entered from.0 (chunk slots 256 (drop from.0 image.now)) places.old }
 {
     let start = from.0;
     let mut slot = 0;
@@ -108,8 +105,8 @@ pub fn enter(
     count: usize,
     places: &mut [u32],
 )
-    requires { ⌜ Sized segments slots (length (now image)) × (first .0 + count ≤ 4294967296) × (leastPlaces ≤ length (now places)) ⌝ }
-    ensures { λ _. ⌜ now (places .exit) ≡ enteredFrom segments slots (now (image .entry)) count (first .0) (now (places .entry)) ⌝ }
+    requires { Sized segments slots (length image.now) × (first.0 + count ≤ 4294967296) × (leastPlaces ≤ length places.old) }
+    ensures { places.new ≡ enteredFrom segments slots image.now count first.0 places.old }
 {
     let mut turn = 0;
     while turn < count {
@@ -124,8 +121,8 @@ pub fn enter(
 
 // Makes the entries of all block numbers 0; it becomes a memset.
 fn empty(places: &mut [u32])
-    requires { ⌜ leastPlaces ≤ length (now places) ⌝ }
-    ensures { λ _. ⌜ now (places .exit) ≡ emptied leastPlaces (now (places .entry)) ⌝ }
+    requires { leastPlaces ≤ length places.old }
+    ensures { places.new ≡ emptied leastPlaces places.old }
 {
     let mut i: usize = 0;
     while i < LEAST_PLACES {
@@ -143,8 +140,8 @@ pub fn fill(
     used: usize,
     places: &mut [u32],
 )
-    requires { ⌜ Fillable segments slots (now image) (first .0) used × (leastPlaces ≤ length (now places)) ⌝ }
-    ensures { λ _. ⌜ now (places .exit) ≡ filledPlaces segments slots (view segments slots (now (image .entry))) (now (places .entry)) ⌝ }
+    requires { Fillable segments slots image.now first.0 used × (leastPlaces ≤ length places.old) }
+    ensures { places.new ≡ filledPlaces segments slots (view segments slots image.now) places.old }
 {
     empty(places);
     places[0] = 1;
@@ -156,8 +153,8 @@ pub fn fill(
 // The table after a call for a block: done, its entry is the slot's place, or 0; cut, the table is not usable; refused, it
 // stays as it is.
 pub fn note(places: &mut [u32], block: BlockNumber, place: usize, answer: Answer)
-    requires { ⌜ (leastPlaces ≤ length (now places)) × (place < 4294967296) ⌝ }
-    ensures { λ _. ⌜ now (places .exit) ≡ noted (now (places .entry)) (block .0) place (codeOf answer) ⌝ }
+    requires { (leastPlaces ≤ length places.old) × (place < 4294967296) }
+    ensures { places.new ≡ noted places.old block.0 place (code_of answer) }
 {
     let Answer::Done = answer else {
         let Answer::Cut = answer else {

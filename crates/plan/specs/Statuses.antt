@@ -1,27 +1,21 @@
 -- What the status bytes of slots say of an image, whatever its other bytes are.
-use Prim.Native.Nat.{ℕ, zero, suc, _+_, _-_, _*_, _≤_, _<_}
-use mathlib.Core.Path.{_≡_}
-use mathlib.Core.Logic.{_≢_}
-use mathlib.Core.Bool.{Bool, cond, _||_, not}
-use mathlib.Core.List.{List, [], _∷_}
-use lib.ListN.{getD}
-use lib.Dec.{eqb}
-use Rattle·model.specs.Lists.{all}
-use Rattle·model.specs.Chip.{Image}
-use Rattle·model.specs.Slot.{written}
-use Rattle·model.specs.Steps.{slotAt}
+use Rattle.std.specs.Prelude.{ℕ, zero, suc, ◌+◌, ◌-◌, ◌*◌, ◌≤◌, ◌<◌, ◌≡◌, ◌≢◌, Bool, cond, ◌||◌, not, List, [], ◌∷◌, get_or, eqb}
+use Rattle.model.specs.Lists.{all}
+use Rattle.model.specs.Chip.{Image}
+use Rattle.model.specs.Slot.{written}
+use Rattle.model.specs.Steps.{slot_at}
 
 -- c bytes of the image, so many apart, from an offset on
 unfoldable pub spaced : Image → ℕ → ℕ → ℕ → List ℕ
 spaced s apart zero at = []
-spaced s apart (suc c) at = getD s at 0 ∷ spaced s apart c (at + apart)
+spaced s apart (suc c) at = get_or s at 0 ∷ spaced s apart c (at + apart)
 
 -- the status of slot j of the segment with number n; those of all its slots; and those of the u numbers from n on
 unfoldable pub slotStatus : ℕ → ℕ → Image → ℕ → ℕ → ℕ
-slotStatus N B s n j = getD s (slotAt N B n j * 256) 0
+slotStatus N B s n j = get_or s (slot_at N B n j * 256) 0
 
 unfoldable pub statusRow : ℕ → ℕ → Image → ℕ → List ℕ
-statusRow N B s n = spaced s 256 B (slotAt N B n 0 * 256)
+statusRow N B s n = spaced s 256 B (slot_at N B n 0 * 256)
 
 unfoldable pub statusRows : ℕ → ℕ → Image → ℕ → ℕ → List (List ℕ)
 statusRows N B s zero n = []

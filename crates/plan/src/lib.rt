@@ -1,15 +1,13 @@
 // What a put must know of the slots of an image, found by looking at their status bytes alone (request #102): of any image it
 // is in bounds, and of a clean one it is what the definitions say.
-use model::SegmentNumber;
-ghost use mathlib.Core.Path.{_≡_};
+ghost use Rattle.std.specs.Prelude.{◌≡◌, ◌+◌, ◌*◌, ◌<◌, ◌≤◌, min, length, leb};
 ghost use mathlib.Core.List.{flatten};
-ghost use Prim.Native.Nat.{_+_, _*_, _<_, _≤_, min};
-ghost use lib.ListN.{length};
-ghost use lib.Dec.{leb};
-ghost use Rattle·model.specs.Lists.{count};
-ghost use Rattle·model.specs.Steps.{slotAt};
-ghost use Rattle·flash.specs.Pages.{Sized};
-ghost use Rattle·plan·specs.specs.Statuses.{statusRow, statusRows, isMarked, noneMarked, firstMarked, notLive, FreeFrom};
+ghost use Rattle.model.specs.Lists.{count};
+ghost use Rattle.model.specs.Steps.{slot_at};
+ghost use Rattle.flash.specs.Pages.{Sized};
+ghost use Rattle.plan.specs.Statuses.{statusRow, statusRows, isMarked, noneMarked, firstMarked, notLive, FreeFrom};
+
+use model::SegmentNumber;
 
 // What an erase leaves.
 const ERASED: u8 = 255;
@@ -25,16 +23,16 @@ const CUT: u8 = 0x5F;
 
 // The offset of the first slot of the segment with a number.
 fn first_slot(segments: usize, slots: usize, number: SegmentNumber) -> usize
-    requires { ⌜ (0 < segments) × (segments ≤ 255) × (slots ≤ 255) ⌝ }
-    ensures { λ r. ⌜ r ≡ slotAt segments slots (number .0) 0 * 256 ⌝ }
+    requires { (0 < segments) × (segments ≤ 255) × (slots ≤ 255) }
+    ensures { result ≡ slot_at segments slots number.0 0 * 256 }
 {
     find::first_slot(segments, slots, number).0
 }
 
 // The first slot of the segment with a number whose status is erased, by halving; the count of slots, if none is.
 pub fn first_free(image: &[u8], segments: usize, slots: usize, number: SegmentNumber) -> usize
-    requires { ⌜ Sized segments slots (length (now image)) ⌝ }
-    ensures { λ r. ⌜ FreeFrom segments slots (number .0) (now (image .entry)) r ⌝ }
+    requires { Sized segments slots (length image.now) }
+    ensures { FreeFrom segments slots number.0 image.now result }
 {
     let from = first_slot(segments, slots, number);
     let mut low = 0;
@@ -51,7 +49,7 @@ pub fn first_free(image: &[u8], segments: usize, slots: usize, number: SegmentNu
 }
 
 fn is_marked(status: u8) -> bool
-    ensures { λ r. ⌜ r ≡ isMarked status ⌝ }
+    ensures { result ≡ isMarked status }
 {
     if status == DEAD {
         return true;
@@ -61,8 +59,8 @@ fn is_marked(status: u8) -> bool
 
 // Whether no slot of the segment with a number has the status of a dead one.
 fn none_marked(image: &[u8], segments: usize, slots: usize, number: SegmentNumber) -> bool
-    requires { ⌜ Sized segments slots (length (now image)) ⌝ }
-    ensures { λ r. ⌜ r ≡ noneMarked (statusRow segments slots (now (image .entry)) (number .0)) ⌝ }
+    requires { Sized segments slots (length image.now) }
+    ensures { result ≡ noneMarked (statusRow segments slots image.now number.0) }
 {
     let from = first_slot(segments, slots, number);
     let mut slot = 0;
@@ -84,8 +82,8 @@ fn count_not_live(
     number: SegmentNumber,
     earlier: usize,
 ) -> usize
-    requires { ⌜ Sized segments slots (length (now image)) × (earlier ≤ 1) ⌝ }
-    ensures { λ r. ⌜ r ≡ min 2 (earlier + count notLive (statusRow segments slots (now (image .entry)) (number .0))) ⌝ }
+    requires { Sized segments slots (length image.now) × (earlier ≤ 1) }
+    ensures { result ≡ min 2 (earlier + count notLive (statusRow segments slots image.now number.0)) }
 {
     let from = first_slot(segments, slots, number);
     let mut found = earlier;
@@ -115,8 +113,8 @@ pub fn compactions(
     first: SegmentNumber,
     used: usize,
 ) -> usize
-    requires { ⌜ Sized segments slots (length (now image)) × (first .0 + used ≤ 4294967296) ⌝ }
-    ensures { λ r. ⌜ r ≡ firstMarked (statusRows segments slots (now (image .entry)) used (first .0)) ⌝ }
+    requires { Sized segments slots (length image.now) × (first.0 + used ≤ 4294967296) }
+    ensures { result ≡ firstMarked (statusRows segments slots image.now used first.0) }
 {
     let mut turn = 0;
     while turn < used {
@@ -137,8 +135,8 @@ pub fn is_crowded(
     first: SegmentNumber,
     used: usize,
 ) -> bool
-    requires { ⌜ Sized segments slots (length (now image)) × (first .0 + used ≤ 4294967296) ⌝ }
-    ensures { λ r. ⌜ r ≡ leb (count notLive (flatten (statusRows segments slots (now (image .entry)) used (first .0)))) 1 ⌝ }
+    requires { Sized segments slots (length image.now) × (first.0 + used ≤ 4294967296) }
+    ensures { result ≡ leb (count notLive (flatten (statusRows segments slots image.now used first.0))) 1 }
 {
     let mut found = 0;
     let mut turn = 0;

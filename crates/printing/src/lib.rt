@@ -1,24 +1,21 @@
 // The lines of an account, but for those of blocks, added to a text.
-use index::Counts;
-use index::Shown;
+ghost use Rattle.std.specs.Prelude.{◌≡◌, ◌++◌, ◌+◌, ◌*◌, ◌≤◌, length, take};
+ghost use Rattle.model.specs.Chip.{mostSegments};
+ghost use Rattle.text.specs.Text.{text as ascii};
+ghost use Rattle.text.specs.Decimal.{decimal};
+ghost use Rattle.text.specs.Buffer.{labelled, printed, printIn, Wrote, mostText};
+ghost use Rattle.account_text.specs.Account.{wrongSize};
+ghost use Rattle.index.specs.Shows.{countsLine, shownLine, shownLines};
+
+use index::{Counts, Shown};
 use judge::SegmentState;
 use model::MOST_SEGMENTS;
 use text::Printed;
-ghost use mathlib.Core.Path.{_≡_};
-ghost use mathlib.Core.List.{_++_};
-ghost use Prim.Native.Nat.{_+_, _*_, _≤_};
-ghost use lib.ListN.{length, take};
-ghost use Rattle·model.specs.Chip.{mostSegments};
-ghost use Rattle·text.specs.Text.{text as ascii};
-ghost use Rattle·text.specs.Decimal.{decimal};
-ghost use Rattle·text.specs.Buffer.{labelled, printed, printIn, Wrote, mostText};
-ghost use Rattle·account_text.specs.Account.{wrongSize};
-ghost use Rattle·index.specs.Shows.{countsLine, shownLine, shownLines};
 
 // A number behind its label, and the end of the line.
 fn add_ended(text: &mut [u8], at: usize, label: &[u8], n: u32) -> usize
-    requires { ⌜ at + length (now label) + 11 ≤ mostText ⌝ }
-    ensures { λ r. ⌜ Wrote ((now (label .entry) ++ decimal n) ++ ascii "\n") (now (text .entry)) at (now (text .exit)) r × (r ≤ at + length (now (label .entry)) + 11) ⌝ }
+    requires { at + length label.now + 11 ≤ mostText }
+    ensures { Wrote ((label.now ++ decimal n) ++ ascii "\n") text.old at text.new result × (result ≤ at + length label.now + 11) }
 {
     let behind = text::add_labelled(text, at, label, n);
     text::add(text, behind, b"\n")
@@ -28,8 +25,8 @@ fn add_ended(text: &mut [u8], at: usize, label: &[u8], n: u32) -> usize
 
 // The counts of a segment in use, and the end of its line.
 fn counts_line(text: &mut [u8], at: usize, counts: Counts) -> usize
-    requires { ⌜ at + 66 ≤ mostText ⌝ }
-    ensures { λ r. ⌜ Wrote (countsLine counts ++ ascii "\n") (now (text .entry)) at (now (text .exit)) r × (r ≤ at + 66) ⌝ }
+    requires { at + 66 ≤ mostText }
+    ensures { Wrote (countsLine counts ++ ascii "\n") text.old at text.new result × (result ≤ at + 66) }
 {
     let lives = text::add_labelled(text, at, b" live ", counts.live as u32);
     let deads = text::add_labelled(text, lives, b" dead ", counts.dead as u32);
@@ -39,8 +36,8 @@ fn counts_line(text: &mut [u8], at: usize, counts: Counts) -> usize
 
 // Of a segment in use, what stands behind its index: the label of its state with the number, and the counts.
 fn used_line(text: &mut [u8], at: usize, label: &[u8], shown: Shown) -> usize
-    requires { ⌜ (at + 90 ≤ mostText) × (length (now label) ≤ 12) ⌝ }
-    ensures { λ r. ⌜ Wrote ((now (label .entry) ++ decimal (shown .number .0)) ++ (countsLine (shown .counts) ++ ascii "\n")) (now (text .entry)) at (now (text .exit)) r × (r ≤ at + 90) ⌝ }
+    requires { (at + 90 ≤ mostText) × (length label.now ≤ 12) }
+    ensures { Wrote ((label.now ++ decimal shown.number.0) ++ (countsLine shown.counts ++ ascii "\n")) text.old at text.new result × (result ≤ at + 90) }
 {
     let numbers = text::add_labelled(text, at, label, shown.number.0);
     counts_line(text, numbers, shown.counts)
@@ -48,8 +45,8 @@ fn used_line(text: &mut [u8], at: usize, label: &[u8], shown: Shown) -> usize
 
 // One line.
 fn segment_line(text: &mut [u8], at: usize, index: u32, shown: Shown) -> usize
-    requires { ⌜ at + 110 ≤ mostText ⌝ }
-    ensures { λ r. ⌜ Wrote (shownLine index shown) (now (text .entry)) at (now (text .exit)) r × (r ≤ at + 110) ⌝ }
+    requires { at + 110 ≤ mostText }
+    ensures { Wrote (shownLine index shown) text.old at text.new result × (result ≤ at + 110) }
 {
     let state = shown.state;
     let behind = text::add_labelled(text, at, b"seg ", index);
@@ -68,8 +65,8 @@ pub fn segment_lines(
     table: [Shown; MOST_SEGMENTS],
     segments: usize,
 ) -> usize
-    requires { ⌜ (segments ≤ mostSegments) × (at + 110 * 256 ≤ mostText) ⌝ }
-    ensures { λ r. ⌜ Wrote (shownLines 0 (take segments table)) (now (text .entry)) at (now (text .exit)) r × (r ≤ at + 110 * segments) ⌝ }
+    requires { (segments ≤ mostSegments) × (at + 110 * 256 ≤ mostText) }
+    ensures { Wrote (shownLines 0 (take segments table)) text.old at text.new result × (result ≤ at + 110 * segments) }
 {
     let mut end = at;
     let mut i: usize = 0;
@@ -84,8 +81,8 @@ pub fn segment_lines(
 
 // Recovery's answer 0 and its step count.
 pub fn recover_line(text: &mut [u8], at: usize, steps: u32) -> usize
-    requires { ⌜ at + 80 ≤ mostText ⌝ }
-    ensures { λ r. ⌜ Wrote (labelled "recover " 0 ++ (labelled " steps " steps ++ ascii "\n")) (now (text .entry)) at (now (text .exit)) r × (r ≤ at + 80) ⌝ }
+    requires { at + 80 ≤ mostText }
+    ensures { Wrote (labelled "recover " 0 ++ (labelled " steps " steps ++ ascii "\n")) text.old at text.new result × (result ≤ at + 80) }
 {
     let answered = text::add_labelled(text, at, b"recover ", 0);
     add_ended(text, answered, b" steps ", steps)
@@ -93,15 +90,15 @@ pub fn recover_line(text: &mut [u8], at: usize, steps: u32) -> usize
 
 // The place of the first condition of Clean that fails.
 pub fn fails_line(text: &mut [u8], at: usize, place: u32) -> usize
-    requires { ⌜ at + 80 ≤ mostText ⌝ }
-    ensures { λ r. ⌜ Wrote (labelled "fails " place ++ ascii "\n") (now (text .entry)) at (now (text .exit)) r × (r ≤ at + 80) ⌝ }
+    requires { at + 80 ≤ mostText }
+    ensures { Wrote (labelled "fails " place ++ ascii "\n") text.old at text.new result × (result ≤ at + 80) }
 {
     add_ended(text, at, b"fails ", place)
 }
 
 // An image of another size.
 pub fn wrong_size(text: &mut [u8]) -> Printed
-    ensures { λ r. ⌜ (printed r (now (text .exit)) ≡ printIn wrongSize (now (text .entry))) × (r .length ≤ 8) ⌝ }
+    ensures { (printed result text.new ≡ printIn wrongSize text.old) × (result.length ≤ 8) }
 {
     text::print(text, b"fails 0\n")
 }

@@ -1,17 +1,16 @@
 // What recovery would answer, told from the survey of an image without a step (request #101: the account's last line).
+ghost use Rattle.std.specs.Prelude.{◌≡◌, true, cond, ◌+◌, ◌≤◌, length};
+ghost use Rattle.model.specs.Chip.{rightSize};
+ghost use Rattle.model.specs.State.{segmentsOf};
+ghost use Rattle.flash.specs.Pages.{Sized};
+ghost use Rattle.scan.specs.Surveys.{surveyOf};
+ghost use Rattle.mend.specs.Erasing.{erasing};
+ghost use Rattle.prognosis.specs.Foretold.{prognosisOf, Small};
+
 use model::SegmentNumber;
 use scan::Surveyed;
-ghost use mathlib.Core.Path.{_≡_};
-ghost use mathlib.Core.Bool.{true, cond};
-ghost use Prim.Native.Nat.{_+_, _≤_};
-ghost use lib.ListN.{length};
-ghost use Rattle·model.specs.Chip.{rightSize};
-ghost use Rattle·model.specs.State.{segmentsOf};
-ghost use Rattle·flash.specs.Pages.{Sized};
-ghost use Rattle·scan.specs.Surveys.{surveyOf};
-ghost use Rattle·mend.specs.Erasing.{erasing};
-ghost use Rattle·prognosis·specs.specs.Foretold.{prognosisOf, Small};
 
+#[derive(Drop)]
 pub enum Prognosis {
     // Answer 0, after so many steps.
     Recovers { steps: u32 },
@@ -21,8 +20,8 @@ pub enum Prognosis {
 
 // How many steps it takes to erase the segment after the top: one more where the top's header counts it.
 fn erase_steps(image: &[u8], segments: usize, slots: usize, top: SegmentNumber) -> u32
-    requires { ⌜ Sized segments slots (length (now image)) ⌝ }
-    ensures { λ r. ⌜ (r ≡ length (erasing segments slots (top .0) (now (image .entry)))) × (r ≤ 2) ⌝ }
+    requires { Sized segments slots (length image.now) }
+    ensures { (result ≡ length (erasing segments slots top.0 image.now)) × (result ≤ 2) }
 {
     let told = tally::tally_in(image, segments, slots, top);
     if told.former {
@@ -36,8 +35,8 @@ fn erase_steps(image: &[u8], segments: usize, slots: usize, top: SegmentNumber) 
 
 // How many it takes to erase that segment, unless it is blank, and to settle the top's status.
 fn settle_steps(image: &[u8], segments: usize, slots: usize, top: SegmentNumber, blank: bool) -> u32
-    requires { ⌜ Sized segments slots (length (now image)) ⌝ }
-    ensures { λ r. ⌜ (r ≡ cond blank 0 (length (erasing segments slots (top .0) (now (image .entry)))) + 1) × (r ≤ 3) ⌝ }
+    requires { Sized segments slots (length image.now) }
+    ensures { (result ≡ cond blank 0 (length (erasing segments slots top.0 image.now)) + 1) × (result ≤ 3) }
 {
     if blank {
         return 1;
@@ -47,8 +46,8 @@ fn settle_steps(image: &[u8], segments: usize, slots: usize, top: SegmentNumber,
 
 // What recovery would answer on an image, by its survey.
 pub fn foretell(image: &[u8], segments: usize, slots: usize, survey: Surveyed) -> Prognosis
-    requires { ⌜ (rightSize segments slots (now image) ≡ true) × (survey ≡ surveyOf segments slots (segmentsOf segments slots (now image))) ⌝ }
-    ensures { λ r. ⌜ (r ≡ prognosisOf segments slots (segmentsOf segments slots (now (image .entry)))) × Small r ⌝ }
+    requires { (rightSize segments slots image.now ≡ true) × (survey ≡ surveyOf segments slots (segmentsOf segments slots image.now)) }
+    ensures { (result ≡ prognosisOf segments slots (segmentsOf segments slots image.now)) × Small result }
 {
     match survey {
         Surveyed::Clean {

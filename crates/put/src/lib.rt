@@ -1,21 +1,15 @@
 // A put on a clean image. Its last parts hold on any.
+ghost use Rattle.std.specs.Prelude.{◌≡◌, false, ◌+◌, ◌-◌, ◌*◌, ◌≤◌, ◌<◌, length};
+ghost use Rattle.model.specs.State.{entriesIn, view};
+ghost use Rattle.model.specs.Steps.{slot_at};
+ghost use Rattle.model.specs.Answers.{performed, outcomeOf, put};
+ghost use Rattle.find.specs.Search.{rows_at, foundIn};
+ghost use Rattle.flash.specs.Pages.{Sized};
+ghost use Rattle.put.specs.Writing.{Puttable, Accepted, Placed, Wrote};
+
 use find::Found;
-use model::Answer;
-use model::BlockNumber;
-use model::Performed;
-use model::SlotPlace;
-use room::Plan;
-use room::Room;
-ghost use mathlib.Core.Path.{_≡_};
-ghost use mathlib.Core.Bool.{false};
-ghost use Prim.Native.Nat.{_+_, _-_, _*_, _≤_, _<_};
-ghost use lib.ListN.{length};
-ghost use Rattle·model.specs.State.{entriesIn, view};
-ghost use Rattle·model.specs.Steps.{slotAt};
-ghost use Rattle·model.specs.Answers.{performed, outcomeOf, put};
-ghost use Rattle·find.specs.Search.{rowsAt, foundIn};
-ghost use Rattle·flash.specs.Pages.{Sized};
-ghost use Rattle·put·specs.specs.Writing.{Puttable, Accepted, Placed, Wrote};
+use model::{Answer, BlockNumber, Performed, SlotPlace};
+use room::{Plan, Room};
 
 // The steps that write a slot, besides one for each byte of contents.
 const SLOT_STEPS: u64 = 5;
@@ -30,8 +24,8 @@ fn old_slot(
     before: Found,
     block: BlockNumber,
 ) -> Found
-    requires { ⌜ Sized segments slots (length (now image)) × (room .first .0 + room .used ≤ 4294967296) × (moved ≡ false → before ≡ foundIn segments slots (room .first .0) (rowsAt segments slots (now image) (room .used) (room .first .0)) (block .0)) ⌝ }
-    ensures { λ r. ⌜ r ≡ foundIn segments slots (room .first .0) (rowsAt segments slots (now (image .entry)) (room .used) (room .first .0)) (block .0) ⌝ }
+    requires { Sized segments slots (length image.now) × (room.first.0 + room.used ≤ 4294967296) × (moved ≡ false → before ≡ foundIn segments slots room.first.0 (rows_at segments slots image.now room.used room.first.0) block.0) }
+    ensures { result ≡ foundIn segments slots room.first.0 (rows_at segments slots image.now room.used room.first.0) block.0 }
 {
     if moved {
         return find::find(image, segments, slots, room.first, room.used, block);
@@ -41,8 +35,8 @@ fn old_slot(
 
 // The place of the first empty slot of the top.
 pub fn free_place(segments: usize, slots: usize, room: Room) -> SlotPlace
-    requires { ⌜ (0 < segments) × (segments ≤ 255) × (slots ≤ 255) × (room .slot < slots) × (1 ≤ room .used) × (room .used ≤ 255) ⌝ }
-    ensures { λ r. ⌜ r .0 ≡ slotAt segments slots (room .first .0 + room .used - 1) (room .slot) * 256 ⌝ }
+    requires { (0 < segments) × (segments ≤ 255) × (slots ≤ 255) × (room.slot < slots) × (1 ≤ room.used) × (room.used ≤ 255) }
+    ensures { result.0 ≡ slot_at segments slots (room.first.0 + room.used - 1) room.slot * 256 }
 {
     let top = room.first.0 as usize + room.used - 1;
     SlotPlace((top % segments * (slots + 1) + 1 + room.slot) * 256)
@@ -59,8 +53,8 @@ pub fn write_block(
     contents: &[u8],
     budget: u64,
 ) -> Performed
-    requires { ⌜ Placed segments slots room old (now contents) budget (length (now image)) ⌝ }
-    ensures { λ r. ⌜ Wrote segments slots room old (block .0) (now (contents .entry)) budget r (now (image .entry)) (now (image .exit)) ⌝ }
+    requires { Placed segments slots room old contents.now budget (length image.old) }
+    ensures { Wrote segments slots room old block.0 contents.now budget result image.old image.new }
 {
     let before = room.left;
     let steps = SLOT_STEPS + contents.len() as u64;
@@ -85,8 +79,8 @@ fn put_accepted(
     contents: &[u8],
     budget: u64,
 ) -> Performed
-    requires { ⌜ Accepted segments slots plan total found (block .0) (now contents) (now image) × (plan .compactions ≤ plan .used) ⌝ }
-    ensures { λ r. ⌜ performed r (now (image .exit)) ≡ outcomeOf segments slots (now (image .entry)) budget (put (block .0) (now (contents .entry))) ⌝ }
+    requires { Accepted segments slots plan total found block.0 contents.now image.old × (plan.compactions ≤ plan.used) }
+    ensures { performed result image.new ≡ outcomeOf segments slots image.old budget (put block.0 contents.now) }
 {
     let room = room::make_room(image, segments, slots, plan, total, budget);
     if room.left == 0 {
@@ -108,8 +102,8 @@ pub fn put_clean(
     contents: &[u8],
     budget: u64,
 ) -> Performed
-    requires { ⌜ Puttable segments slots plan (block .0) (now contents) (now image) × (live ≡ length (entriesIn (view segments slots (now image)))) × (plan .compactions ≤ plan .used) ⌝ }
-    ensures { λ r. ⌜ performed r (now (image .exit)) ≡ outcomeOf segments slots (now (image .entry)) budget (put (block .0) (now (contents .entry))) ⌝ }
+    requires { Puttable segments slots plan block.0 contents.now image.old × (live ≡ length (entriesIn (view segments slots image.old))) × (plan.compactions ≤ plan.used) }
+    ensures { performed result image.new ≡ outcomeOf segments slots image.old budget (put block.0 contents.now) }
 {
     let tally = tally::tally_in(&image[..], segments, slots, put_answers::top_number(plan));
     if tally.former {

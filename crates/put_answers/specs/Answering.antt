@@ -1,33 +1,31 @@
 -- What a put is answered on a clean image, from the numbers of a plan, the top's tally, the count of live slots and a search.
-use Prim.Native.Nat.{ℕ, _+_, _-_, _/_, _≤_}
-use mathlib.Core.Bool.{Bool, false, cond, _||_, _&&_, not}
-use lib.Dec.{ltb, leb}
-use Rattle·model.specs.Chip.{Image, mostSegments, eraseLimit}
-use Rattle·model.specs.State.{capacity}
-use Rattle·model.specs.declared.Answer.{Answer}
-use Rattle·model.specs.declared.Answer.the-variants.{Done, Full, Worn}
-use Rattle·find.specs.declared.Found.{Found}
-use Rattle·find.specs.declared.Found.the-variants.{At, Nothing}
-use Rattle·find.specs.Search.{rowsAt, foundIn}
-use Rattle·tally.specs.declared.Tally.{Tally}
-use Rattle·room.specs.declared.Plan.{Plan}
+use Rattle.std.specs.Prelude.{ℕ, ◌+◌, ◌-◌, ◌/◌, ◌≤◌, Bool, false, cond, ◌||◌, ◌&&◌, not, ltb, leb}
+use Rattle.model.specs.Chip.{Image, mostSegments, eraseLimit}
+use Rattle.model.specs.State.{capacity}
+use Rattle.model.specs.declared.Answer.{Answer}
+use Rattle.model.specs.declared.Answer.TheVariants.{Done, Full, Worn}
+use Rattle.find.specs.declared.Found.{Found}
+use Rattle.find.specs.declared.Found.TheVariants.{At, Nothing}
+use Rattle.find.specs.Search.{rows_at, foundIn}
+use Rattle.tally.specs.declared.Tally.{Tally}
+use Rattle.room.specs.declared.Plan.{Plan}
 
 pub record Ranged (N B : ℕ) (p : Plan) : Type 0 where
   pub least : 2 ≤ N
   pub most : N ≤ mostSegments
   pub slots : 2 ≤ B
   pub few : B ≤ 255
-  pub some : 1 ≤ p .used
-  pub spare : p .used ≤ mostSegments
-  pub compactions : p .compactions ≤ mostSegments
+  pub some : 1 ≤ p.used
+  pub spare : p.used ≤ mostSegments
+  pub compactions : p.compactions ≤ mostSegments
 
 -- how many new numbers a put without room gives
 unfoldable pub newNumbersBy : ℕ → Plan → ℕ
-newNumbersBy N p = cond (ltb (p .used) (N - 1)) 1 (p .compactions)
+newNumbersBy N p = cond (ltb p.used (N - 1)) 1 p.compactions
 
 -- a put of it is refused as worn
 unfoldable pub wornBy : ℕ → ℕ → Plan → Tally → Bool
-wornBy N B p t = not (ltb (p .slot) B) && (t .«no_bit_left» || leb eraseLimit ((p .first .0 + p .used - 1 + newNumbersBy N p) / N + t .count))
+wornBy N B p t = not (ltb p.slot B) && (t.no_bit_left || leb eraseLimit ((p.first.0 + p.used - 1 + newNumbersBy N p) / N + t.count))
 
 -- a put of a block that was found or not is refused as full, with so many slots live
 unfoldable pub fullBy : ℕ → ℕ → ℕ → Found → Bool
@@ -40,4 +38,4 @@ answerFor N B p live t f = cond (fullBy N B live f) Full (cond (wornBy N B p t) 
 
 -- where a block's slot is, if that is asked before room is made
 unfoldable pub foundBefore : ℕ → ℕ → Plan → ℕ → Image → ℕ → Found
-foundBefore N B p live s b = cond (ltb (p .slot) B || leb (capacity N B) live) (foundIn N B (p .first .0) (rowsAt N B s (p .used) (p .first .0)) b) Nothing
+foundBefore N B p live s b = cond (ltb p.slot B || leb (capacity N B) live) (foundIn N B p.first.0 (rows_at N B s p.used p.first.0) b) Nothing

@@ -1,31 +1,27 @@
 // What a put on a clean image is answered, before its first step: from a plan, the top's tally, the count of live slots and a
 // search.
+ghost use Rattle.std.specs.Prelude.{◌≡◌, ◌+◌, ◌-◌, ◌≤◌, ◌<◌, length};
+ghost use Rattle.model.specs.Chip.{mostSegments, mostSlots};
+ghost use Rattle.flash.specs.Pages.{Sized};
+ghost use Rattle.put_answers.specs.Answering.{Ranged, newNumbersBy, wornBy, fullBy, answerFor, foundBefore};
+
 use find::Found;
-use model::Answer;
-use model::BlockNumber;
-use model::ERASE_LIMIT;
-use model::SegmentNumber;
+use model::{Answer, BlockNumber, ERASE_LIMIT, SegmentNumber};
 use room::Plan;
 use tally::Tally;
-ghost use mathlib.Core.Path.{_≡_};
-ghost use Prim.Native.Nat.{_+_, _-_, _≤_, _<_};
-ghost use lib.ListN.{length};
-ghost use Rattle·model.specs.Chip.{mostSegments, mostSlots};
-ghost use Rattle·flash.specs.Pages.{Sized};
-ghost use Rattle·put_answers·specs.specs.Answering.{Ranged, newNumbersBy, wornBy, fullBy, answerFor, foundBefore};
 
 // The number of the top.
 pub fn top_number(plan: Plan) -> SegmentNumber
-    requires { ⌜ (1 ≤ plan .used) × (plan .used ≤ mostSegments) × (plan .first .0 + plan .used ≤ 4294967296) ⌝ }
-    ensures { λ r. ⌜ r .0 ≡ plan .first .0 + plan .used - 1 ⌝ }
+    requires { (1 ≤ plan.used) × (plan.used ≤ mostSegments) × (plan.first.0 + plan.used ≤ 4294967296) }
+    ensures { result.0 ≡ plan.first.0 + plan.used - 1 }
 {
     SegmentNumber((plan.first.0 as usize + plan.used - 1) as u32)
 }
 
 // How many new numbers a put without room gives.
 fn new_numbers(segments: usize, plan: Plan) -> usize
-    requires { ⌜ (plan .used ≤ mostSegments) × (plan .compactions ≤ mostSegments) ⌝ }
-    ensures { λ r. ⌜ (r ≡ newNumbersBy segments plan) × (r ≤ mostSegments) ⌝ }
+    requires { (plan.used ≤ mostSegments) × (plan.compactions ≤ mostSegments) }
+    ensures { (result ≡ newNumbersBy segments plan) × (result ≤ mostSegments) }
 {
     if plan.used + 1 < segments {
         return 1;
@@ -36,8 +32,8 @@ fn new_numbers(segments: usize, plan: Plan) -> usize
 // Whether room for a put would wear the chip: a new header is needed, and the top's has no bit left, or the erases by number
 // and by the tally reach the limit. It is found out before the first step.
 pub fn is_worn(segments: usize, slots: usize, plan: Plan, tally: Tally) -> bool
-    requires { ⌜ Ranged segments slots plan × (plan .first .0 + plan .used ≤ 4294967296) × (tally .count < 4294969344) ⌝ }
-    ensures { λ r. ⌜ r ≡ wornBy segments slots plan tally ⌝ }
+    requires { Ranged segments slots plan × (plan.first.0 + plan.used ≤ 4294967296) × (tally.count < 4294969344) }
+    ensures { result ≡ wornBy segments slots plan tally }
 {
     if plan.slot < slots {
         return false;
@@ -52,8 +48,8 @@ pub fn is_worn(segments: usize, slots: usize, plan: Plan, tally: Tally) -> bool
 
 // Whether a put of a block that is not stored finds as many slots live as may be.
 fn is_full(segments: usize, slots: usize, live: usize, found: Found) -> bool
-    requires { ⌜ (2 ≤ segments) × (segments ≤ mostSegments) × (2 ≤ slots) × (slots ≤ mostSlots) ⌝ }
-    ensures { λ r. ⌜ r ≡ fullBy segments slots live found ⌝ }
+    requires { (2 ≤ segments) × (segments ≤ mostSegments) × (2 ≤ slots) × (slots ≤ mostSlots) }
+    ensures { result ≡ fullBy segments slots live found }
 {
     let Found::Nothing = found else {
         return false;
@@ -72,8 +68,8 @@ pub fn slot_before(
     live: usize,
     block: BlockNumber,
 ) -> Found
-    requires { ⌜ Ranged segments slots plan × Sized segments slots (length (now image)) × (plan .first .0 + plan .used ≤ 4294967296) ⌝ }
-    ensures { λ r. ⌜ r ≡ foundBefore segments slots plan live (now (image .entry)) (block .0) ⌝ }
+    requires { Ranged segments slots plan × Sized segments slots (length image.now) × (plan.first.0 + plan.used ≤ 4294967296) }
+    ensures { result ≡ foundBefore segments slots plan live image.now block.0 }
 {
     if slots <= plan.slot {
         if live < request::capacity(segments, slots) {
@@ -92,8 +88,8 @@ pub fn put_answer(
     tally: Tally,
     found: Found,
 ) -> Answer
-    requires { ⌜ Ranged segments slots plan × (plan .first .0 + plan .used ≤ 4294967296) × (tally .count < 4294969344) ⌝ }
-    ensures { λ r. ⌜ r ≡ answerFor segments slots plan live tally found ⌝ }
+    requires { Ranged segments slots plan × (plan.first.0 + plan.used ≤ 4294967296) × (tally.count < 4294969344) }
+    ensures { result ≡ answerFor segments slots plan live tally found }
 {
     if is_full(segments, slots, live, found) {
         return Answer::Full;

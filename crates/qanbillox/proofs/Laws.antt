@@ -1,72 +1,72 @@
 -- What the exports pack is small, and is what the definitions give.
-use Prim.Native.Nat.{ℕ, _+_, _*_, _%_, _≤_, _<_}
-use mathlib.Core.Path.{_≡_, refl, sym, ap, _∙_}
+use Prim.Native.Nat.{ℕ, ◌+◌, ◌*◌, ◌%◌, ◌≤◌, ◌<◌}
+use mathlib.Core.Path.{◌≡◌, refl, sym, ap, ◌∙◌}
 use mathlib.Core.Bool.{true, cond}
 use mathlib.Core.List.{List}
-use native.Mathlib.Nat.{mod-eq-of-lt}
-use native.Mathlib.Decide.{ℕ-discrete}
+use native.Mathlib.Nat.{mod-eq_of_lt}
+use native.Mathlib.Decide.{ℕ_discrete}
 use native.Mathlib.Omega.{arith}
-use lib.ListN.{length, getD}
-use Rattle·model.specs.Chip.{Image, imageLength, largestImage, rightSize}
-use Rattle·model.specs.Laws.Chip.{size-facts}
-use Rattle·model.specs.Laws.Bytes.{bytes-known}
-use Rattle·model.specs.Slot.{mostContents}
-use Rattle·model.specs.Header.{isBlank}
-use Rattle·model.specs.Blank.{blankGroups}
-use Rattle·model.specs.Answers.{Request, codeOf, performed, Outcome, outcomeOf, located, ReadOutcome, readOutcome}
-use Rattle·model.specs.declared.Answer.{Answer}
-use Rattle·model.specs.Mounted.{Places, MountOutcome, mountedAs, mountedRefusal, MountedRead}
-use Rattle·request.proofs.Laws.{most-pages}
-use Rattle·mounted_read.proofs.Laws.Refusals.{passed}
-use Rattle·model.specs.declared.Performed.{Performed}
-use Rattle·model.specs.declared.Located.{Located}
-use Rattle·bridge.specs.Lengths.{few-done, read-small}
-use Rattle·blank.proofs.Blank.{groups-most}
-use Rattle·text.specs.declared.Printed.{Printed}
-use Rattle·text.specs.Buffer.{Print, printed}
-use Rattle·packing.specs.Counts.{counts}
-use Rattle·shares.specs.Layer.{Shared, wrote}
-use Rattle·partitions.specs.declared.Written.{Written}
-use Rattle·partitions.specs.declared.Spot.{Spot}
-use Rattle·partitions.specs.Answers as settings
-use Rattle·partitions.specs.Few.{few-done as settings-done}
-use Rattle·partition_packing.specs.Offsets.{offsets}
-use Rattle·qanbillox·specs.specs.Packed.{packed, Gives, packedRead, packedSpot, Packs, Mounts, packedBlank, packedPrint, Prints, Serves}
+use lib.ListN.{length, get_or}
+use Rattle.model.specs.Chip.{Image, imageLength, largestImage, rightSize}
+use Rattle.model.specs.Laws.Chip.{size-facts}
+use Rattle.model.specs.Laws.Bytes.{bytes-known}
+use Rattle.model.specs.Slot.{mostContents}
+use Rattle.model.specs.Header.{isBlank}
+use Rattle.model.specs.Blank.{blankGroups}
+use Rattle.model.specs.Answers.{Request, code_of, performed, Outcome, outcomeOf, located, ReadOutcome, readOutcome}
+use Rattle.model.specs.declared.Answer.{Answer}
+use Rattle.model.specs.Mounted.{Places, MountOutcome, mountedAs, mountedRefusal, MountedRead}
+use Rattle.request.proofs.Laws.{most-pages}
+use Rattle.mounted_read.proofs.Laws.Refusals.{passed}
+use Rattle.model.specs.declared.Performed.{Performed}
+use Rattle.model.specs.declared.Located.{Located}
+use Rattle.bridge.specs.Lengths.{few-done, read_small}
+use Rattle.blank.proofs.Blank.{groups-most}
+use Rattle.text.specs.declared.Printed.{Printed}
+use Rattle.text.specs.Buffer.{Print, printed}
+use Rattle.packing.specs.Counts.{counts}
+use Rattle.shares.specs.Layer.{Shared, wrote}
+use Rattle.partitions.specs.declared.Written.{Written}
+use Rattle.partitions.specs.declared.Spot.{Spot}
+use Rattle.partitions.specs.Answers as settings
+use Rattle.partitions.specs.Few.{few-done as settings-done}
+use Rattle.partition_packing.specs.Offsets.{offsets}
+use Rattle.qanbillox.specs.Packed.{packed, Gives, packedRead, packedSpot, Packs, Mounts, packedBlank, packedPrint, Prints, Serves}
 
-pub few : (N B : ℕ) (t : Image) (budget : ℕ) (q : Request) (p : Performed) (s : Image) → performed p s ≡ outcomeOf N B t budget q → p .steps ≤ largestImage
+pub few : (N B : ℕ) (t : Image) (budget : ℕ) (q : Request) (p : Performed) (s : Image) → performed p s ≡ outcomeOf N B t budget q → p.steps ≤ largestImage
 unfolding performed
-few N B t budget q p s e = omega (arith, few-done N B t budget q, ap (λ (o : Outcome). o .count) e)
+few N B t budget q p s e = omega (arith, few-done N B t budget q, ap (λ (o : Outcome). o.count) e)
 
-pub gives : (o : Outcome) (p : Performed) (s : Image) (r : ℕ) → performed p s ≡ o → r ≡ codeOf (p .answer) + 256 * p .steps → Gives o r s
+pub gives : (o : Outcome) (p : Performed) (s : Image) (r : ℕ) → performed p s ≡ o → r ≡ code_of p.answer + 256 * p.steps → Gives o r s
 unfolding performed packed
-gives o p s r e h = record { number = h ∙ ap (λ (x : Outcome). x .code + 256 * x .count) e; image = ap (λ (x : Outcome). x .image) e }
+gives o p s r e h = record { number = h ∙ ap (λ (x : Outcome). x.code + 256 * x.count) e; image = ap (λ (x : Outcome). x.image) e }
 
 -- it is not more in what another definition gives
-pub few-given : (o : Outcome) (p : Performed) (u : Image) → o .count ≤ largestImage → performed p u ≡ o → p .steps ≤ largestImage
+pub few-given : (o : Outcome) (p : Performed) (u : Image) → o.count ≤ largestImage → performed p u ≡ o → p.steps ≤ largestImage
 unfolding performed
-few-given o p u h e = omega (arith, h, ap (λ (x : Outcome). x .count) e)
+few-given o p u h e = omega (arith, h, ap (λ (x : Outcome). x.count) e)
 
-pub small : (N B : ℕ) (t : Image) (b : ℕ) (p : Located) → located p ≡ readOutcome N B t b → (p .offset ≤ largestImage) × (p .length ≤ 248)
+pub small : (N B : ℕ) (t : Image) (b : ℕ) (p : Located) → located p ≡ readOutcome N B t b → (p.offset ≤ largestImage) × (p.length ≤ 248)
 unfolding located
-small N B t b p e = let s = read-small N B t b in
-    (omega (arith, s .0, ap (λ (o : ReadOutcome). o .offset) e), omega (arith, s .1, ap (λ (o : ReadOutcome). o .length) e))
+small N B t b p e = let s = read_small N B t b in
+    (omega (arith, s.0, ap (λ (o : ReadOutcome). o.offset) e), omega (arith, s.1, ap (λ (o : ReadOutcome). o.length) e))
 
-pub tells : (N B : ℕ) (t : Image) (b : ℕ) (p : Located) (r : ℕ) → located p ≡ readOutcome N B t b → r ≡ codeOf (p .answer) + 256 * p .length + 65536 * p .offset → r ≡ packedRead (readOutcome N B t b)
+pub tells : (N B : ℕ) (t : Image) (b : ℕ) (p : Located) (r : ℕ) → located p ≡ readOutcome N B t b → r ≡ code_of p.answer + 256 * p.length + 65536 * p.offset → r ≡ packedRead (readOutcome N B t b)
 unfolding located packedRead
-tells N B t b p r e h = h ∙ ap (λ (o : ReadOutcome). o .code + 256 * o .length + 65536 * o .offset) e
+tells N B t b p r e h = h ∙ ap (λ (o : ReadOutcome). o.code + 256 * o.length + 65536 * o.offset) e
 
 -- of fewer bytes than 2 to the 59th, less seven, the blank test's count is told whole
 pub blank-whole : (s : List ℕ) → length s + 7 < 8 * counts → packedBlank s ≡ cond (isBlank s) 1 0 + 256 * blankGroups s
 unfolding packedBlank counts
-blank-whole s h = ap (λ (n : ℕ). cond (isBlank s) 1 0 + 256 * n) (mod-eq-of-lt {n = blankGroups s} {m = counts} (omega (arith, groups-most s)))
+blank-whole s h = ap (λ (n : ℕ). cond (isBlank s) 1 0 + 256 * n) (mod-eq_of_lt {n = blankGroups s} {m = counts} (omega (arith, groups-most s)))
 
-pub prints : (o : Print) (p : Printed) (s : List ℕ) (r : ℕ) → printed p s ≡ o → r ≡ codeOf (p .answer) + 256 * p .length → Prints o r s
+pub prints : (o : Print) (p : Printed) (s : List ℕ) (r : ℕ) → printed p s ≡ o → r ≡ code_of p.answer + 256 * p.length → Prints o r s
 unfolding printed packedPrint
-prints o p s r e h = record { number = h ∙ ap (λ (x : Print). x .code + 256 * x .length) e; buffer = ap (λ (x : Print). x .buffer) e }
+prints o p s r e h = record { number = h ∙ ap (λ (x : Print). x.code + 256 * x.length) e; buffer = ap (λ (x : Print). x.buffer) e }
 
 -- ---- mounted calls
 
-pub packs : (p : Performed) (s : Image) (r : ℕ) → r ≡ codeOf (p .answer) + 256 * (p .steps % counts) → Packs (performed p s) r s
+pub packs : (p : Performed) (s : Image) (r : ℕ) → r ≡ code_of p.answer + 256 * (p.steps % counts) → Packs (performed p s) r s
 unfolding performed
 packs p s r h = record { number = h; image = refl }
 
@@ -74,57 +74,57 @@ packs p s r h = record { number = h; image = refl }
 pub gives-in-step : (N B : ℕ) (t : Image) (budget : ℕ) (q : Request) (o : Outcome) (r : ℕ) (s : Image) → o ≡ outcomeOf N B t budget q → Packs o r s → Gives (outcomeOf N B t budget q) r s
 unfolding packed counts
 gives-in-step N B t budget q o r s e p = record {
-  number = p .number ∙ (ap (λ (x : Outcome). x .code + 256 * (x .count % counts)) e ∙ ap (λ (n : ℕ). outcomeOf N B t budget q .code + 256 * n) (mod-eq-of-lt {n = outcomeOf N B t budget q .count} {m = counts} (omega (arith, few-done N B t budget q))));
-  image = p .image ∙ ap (λ (x : Outcome). x .image) e;
+  number = p.number ∙ (ap (λ (x : Outcome). x.code + 256 * (x.count % counts)) e ∙ ap (λ (n : ℕ). (outcomeOf N B t budget q).code + 256 * n) (mod-eq_of_lt {n = (outcomeOf N B t budget q).count} {m = counts} (omega (arith, few-done N B t budget q))));
+  image = p.image ∙ ap (λ (x : Outcome). x.image) e;
 }
 
-pub mounts : (a : Answer) (t : Places) (r : ℕ) (o : MountOutcome) → mountedAs a t ≡ o → r ≡ codeOf a → Mounts o r t
+pub mounts : (a : Answer) (t : Places) (r : ℕ) (o : MountOutcome) → mountedAs a t ≡ o → r ≡ code_of a → Mounts o r t
 unfolding mountedAs
-mounts a t r o e h = record { number = h ∙ ap (λ (x : MountOutcome). x .code) e; table = ap (λ (x : MountOutcome). x .places) e }
+mounts a t r o e h = record { number = h ∙ ap (λ (x : MountOutcome). x.code) e; table = ap (λ (x : MountOutcome). x.places) e }
 
 right-largest : (N B : ℕ) (s : Image) → rightSize N B s ≡ true → length s ≤ largestImage
 unfolding imageLength
 right-largest N B s z =
     let f = size-facts N B s z in
-    let m = most-pages N B (f .most) (omega (arith, f .mostB)) in
-    omega (arith, f .whole)
+    let m = most-pages N B f.most (omega (arith, f.mostB)) in
+    omega (arith, f.whole)
 
 -- a mounted read's place fits, whatever the table was
-pub mounted-small : (N B b : ℕ) (s : Image) (t : Places) (p : Located) → MountedRead N B b (located p) s t → (p .offset ≤ largestImage) × (p .length ≤ 248)
+pub mounted-small : (N B b : ℕ) (s : Image) (t : Places) (p : Located) → MountedRead N B b (located p) s t → (p.offset ≤ largestImage) × (p.length ≤ 248)
 unfolding located mostContents
-mounted-small N B b s t p m = elim (ℕ-discrete (codeOf (p .answer)) 0) [
-  | no h ↦ let z = m .refused h in (omega (arith, z .0), omega (arith, z .1))
-  | yes h ↦ elim (ℕ-discrete (mountedRefusal N B s t b true) 0) [
-    | yes k ↦ (omega (arith, m .inside .0, right-largest N B s (passed N B s t b true k .size)), m .inside .1)
-    | no k ↦ absurd (k (sym (m .bound k) ∙ h))
+mounted-small N B b s t p m = elim (ℕ_discrete (code_of p.answer) 0) [
+  | no h ↦ let z = m.refused h in (omega (arith, z.0), omega (arith, z.1))
+  | yes h ↦ elim (ℕ_discrete (mountedRefusal N B s t b true) 0) [
+    | yes k ↦ (omega (arith, m.inside.0, right-largest N B s (passed N B s t b true k).size), m.inside.1)
+    | no k ↦ absurd (k (sym (m.bound k) ∙ h))
   ]
 ]
 
-pub mounted-tells : (p : Located) (r : ℕ) → r ≡ codeOf (p .answer) + 256 * p .length + 65536 * p .offset → r ≡ packedRead (located p)
+pub mounted-tells : (p : Located) (r : ℕ) → r ≡ code_of p.answer + 256 * p.length + 65536 * p.offset → r ≡ packedRead (located p)
 unfolding located packedRead
 mounted-tells p r h = h
 
 -- ---- tenants
 
-pub serves : (o : Shared) (a : Answer) (s : Image) (r : ℕ) → wrote a s ≡ o → r ≡ codeOf a → Serves o r s
+pub serves : (o : Shared) (a : Answer) (s : Image) (r : ℕ) → wrote a s ≡ o → r ≡ code_of a → Serves o r s
 unfolding wrote
-serves o a s r e h = record { number = h ∙ ap (λ (x : Shared). x .code) e; image = ap (λ (x : Shared). x .image) e }
+serves o a s r e h = record { number = h ∙ ap (λ (x : Shared). x.code) e; image = ap (λ (x : Shared). x.image) e }
 
 -- ---- the older partition format
 
-pub settings-few : (P : ℕ) (ns : List ℕ) (t : Image) (i : ℕ) (d : List ℕ) (budget : ℕ) (w : Written) (s : Image) → ((k : ℕ) → getD ns k 0 < 256) → settings.wrote w s ≡ settings.writeOutcome P ns t i d budget → w .steps ≤ 65538
+pub settings-few : (P : ℕ) (ns : List ℕ) (t : Image) (i : ℕ) (d : List ℕ) (budget : ℕ) (w : Written) (s : Image) → ((k : ℕ) → get_or ns k 0 < 256) → settings.wrote w s ≡ settings.writeOutcome P ns t i d budget → w.steps ≤ 65538
 unfolding settings.wrote
-settings-few P ns t i d budget w s b e = omega (arith, ap (λ (o : Outcome). o .count) e, settings-done P ns t i d budget (bytes-known ns b))
+settings-few P ns t i d budget w s b e = omega (arith, ap (λ (o : Outcome). o.count) e, settings-done P ns t i d budget (bytes-known ns b))
 
-pub settings-gives : (o : Outcome) (w : Written) (s : Image) (r : ℕ) → settings.wrote w s ≡ o → r ≡ settings.numberOf (w .answer) + 256 * w .steps → Gives o r s
+pub settings-gives : (o : Outcome) (w : Written) (s : Image) (r : ℕ) → settings.wrote w s ≡ o → r ≡ settings.number_of w.answer + 256 * w.steps → Gives o r s
 unfolding settings.wrote packed
-settings-gives o w s r e h = record { number = h ∙ ap (λ (x : Outcome). x .code + 256 * x .count) e; image = ap (λ (x : Outcome). x .image) e }
+settings-gives o w s r e h = record { number = h ∙ ap (λ (x : Outcome). x.code + 256 * x.count) e; image = ap (λ (x : Outcome). x.image) e }
 
-pub settings-tells : (o : ReadOutcome) (p : Spot) (r : ℕ) → settings.told p ≡ o → r ≡ settings.numberOf (p .answer) + 256 * p .length + 65536 * (p .offset % offsets) → r ≡ packedSpot o
+pub settings-tells : (o : ReadOutcome) (p : Spot) (r : ℕ) → settings.told p ≡ o → r ≡ settings.number_of p.answer + 256 * p.length + 65536 * (p.offset % offsets) → r ≡ packedSpot o
 unfolding settings.told packedSpot
-settings-tells o p r e h = h ∙ ap (λ (x : ReadOutcome). x .code + 256 * x .length + 65536 * (x .offset % offsets)) e
+settings-tells o p r e h = h ∙ ap (λ (x : ReadOutcome). x.code + 256 * x.length + 65536 * (x.offset % offsets)) e
 
 -- in an image of at most 256 TiB the offset is told whole
-pub spot-whole : (o : ReadOutcome) → o .offset < offsets → packedSpot o ≡ packedRead o
+pub spot-whole : (o : ReadOutcome) → o.offset < offsets → packedSpot o ≡ packedRead o
 unfolding packedSpot packedRead
-spot-whole o h = ap (λ (n : ℕ). o .code + 256 * o .length + 65536 * n) (mod-eq-of-lt {n = o .offset} {m = offsets} h)
+spot-whole o h = ap (λ (n : ℕ). o.code + 256 * o.length + 65536 * n) (mod-eq_of_lt {n = o.offset} {m = offsets} h)

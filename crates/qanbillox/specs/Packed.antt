@@ -1,39 +1,36 @@
 -- What the exports give: an answer packed into one number.
-use Prim.Native.Nat.{ℕ, _+_, _*_, _%_}
-use mathlib.Core.Path.{_≡_}
-use mathlib.Core.Bool.{cond}
-use mathlib.Core.List.{List}
-use Rattle·model.specs.Chip.{Image}
-use Rattle·model.specs.Header.{isBlank}
-use Rattle·model.specs.Blank.{blankGroups}
-use Rattle·model.specs.Answers.{Outcome, ReadOutcome}
-use Rattle·model.specs.Mounted.{Places, MountOutcome}
-use Rattle·text.specs.Buffer.{Print}
-use Rattle·shares.specs.Layer.{Shared}
-use Rattle·packing.specs.Counts.{counts}
-use Rattle·partition_packing.specs.Offsets.{offsets}
+use Rattle.std.specs.Prelude.{ℕ, ◌+◌, ◌*◌, ◌%◌, ◌≡◌, cond, List}
+use Rattle.model.specs.Chip.{Image}
+use Rattle.model.specs.Header.{isBlank}
+use Rattle.model.specs.Blank.{blankGroups}
+use Rattle.model.specs.Answers.{Outcome, ReadOutcome}
+use Rattle.model.specs.Mounted.{Places, MountOutcome}
+use Rattle.text.specs.Buffer.{Print}
+use Rattle.shares.specs.Layer.{Shared}
+use Rattle.packing.specs.Counts.{counts}
+use Rattle.partition_packing.specs.Offsets.{offsets}
 
 -- the answer + 256 × the steps done
 unfoldable pub packed : Outcome → ℕ
-packed o = o .code + 256 * o .count
+packed o = o.code + 256 * o.count
 
 -- that number, and the image afterwards
 pub record Gives (o : Outcome) (r : ℕ) (s : Image) : Type 0 where
   pub number : r ≡ packed o
-  pub image : s ≡ o .image
+  pub image : s ≡ o.image
 
 -- the answer + 256 × the length + 65,536 × the offset
 unfoldable pub packedRead : ReadOutcome → ℕ
-packedRead o = o .code + 256 * o .length + 65536 * o .offset
+packedRead o = o.code + 256 * o.length + 65536 * o.offset
 
 -- the same of the older partition format, whose image may have any number of bytes
 unfoldable pub packedSpot : ReadOutcome → ℕ
-packedSpot o = o .code + 256 * o .length + 65536 * (o .offset % offsets)
+packedSpot o = o.code + 256 * o.length + 65536 * (o.offset % offsets)
 
 -- the answer + 256 × the steps done of a mounted call, and the image afterwards
 pub record Packs (o : Outcome) (r : ℕ) (s : Image) : Type 0 where
-  pub number : r ≡ o .code + 256 * (o .count % counts)
-  pub image : s ≡ o .image
+  pub number : r ≡ o.code + 256 * (o.count % counts)
+  pub image : s ≡ o.image
 
 -- an outcome that a mounted call's contract allows, so packed
 abbrev pub Allows : (Outcome → Type 0) → ℕ → Image → Type 0
@@ -44,8 +41,8 @@ AllowsRead P r = (o : ReadOutcome) × (P o × (r ≡ packedRead o))
 
 -- a mount's answer, and the table afterwards
 pub record Mounts (o : MountOutcome) (r : ℕ) (t : Places) : Type 0 where
-  pub number : r ≡ o .code
-  pub table : t ≡ o .places
+  pub number : r ≡ o.code
+  pub table : t ≡ o.places
 
 -- 1 if all are 255, otherwise 0, + 256 × the groups looked at
 unfoldable pub packedBlank : List ℕ → ℕ
@@ -53,14 +50,14 @@ packedBlank s = cond (isBlank s) 1 0 + 256 * (blankGroups s % counts)
 
 -- the answer + 256 × the text's length
 unfoldable pub packedPrint : Print → ℕ
-packedPrint o = o .code + 256 * o .length
+packedPrint o = o.code + 256 * o.length
 
 -- that number, and the buffer afterwards
 pub record Prints (o : Print) (r : ℕ) (s : List ℕ) : Type 0 where
   pub number : r ≡ packedPrint o
-  pub buffer : s ≡ o .buffer
+  pub buffer : s ≡ o.buffer
 
 -- the answer to a tenant's put or delete, and the image afterwards
 pub record Serves (o : Shared) (r : ℕ) (s : Image) : Type 0 where
-  pub number : r ≡ o .code
-  pub image : s ≡ o .image
+  pub number : r ≡ o.code
+  pub image : s ≡ o.image

@@ -1,26 +1,26 @@
 // The library's exports to C and Rust: the requests, with a table of places too, the blank test, the account, the move to
 // another chip, salvage, requests by tenant and the older partition format, with what comes back packed into one number.
-use model::BlockNumber;
-ghost use mathlib.Core.Path.{_≡_};
-ghost use lib.ListN.{length};
-ghost use Rattle·model.specs.Answers.{outcomeOf, readOutcome, format, put, delete, recover};
-ghost use Rattle·model.specs.Mounted.{mountOutcome, MountedPut, MountedDelete, MountedRead};
-ghost use Rattle·moves.specs.Moves.{moveOutcome};
-ghost use Rattle·text.specs.Buffer.{printIn};
-ghost use Rattle·account_text.specs.Account.{accountText};
-ghost use Rattle·salvage.specs.Salvage.{salvageOutcome, rebuildOutcome};
-ghost use Rattle·shares.specs.Layer.{puts, deletes, reads, shareOutcome, gaveIn};
-ghost use Rattle·partitions.specs.Answers as settings;
-ghost use Rattle·qanbillox·specs.specs.Packed.{Gives, packedRead, packedSpot, Allows, AllowsRead, Mounts, packedBlank, Prints, Serves};
+ghost use Rattle.std.specs.Prelude.{◌≡◌, length};
+ghost use Rattle.model.specs.Answers.{outcomeOf, readOutcome, format, put, delete, recover};
+ghost use Rattle.model.specs.Mounted.{mountOutcome, MountedPut, MountedDelete, MountedRead};
+ghost use Rattle.moves.specs.Moves.{moveOutcome};
+ghost use Rattle.text.specs.Buffer.{printIn};
+ghost use Rattle.account_text.specs.Account.{accountText};
+ghost use Rattle.salvage.specs.Salvage.{salvageOutcome, rebuildOutcome};
+ghost use Rattle.shares.specs.Layer.{puts, deletes, reads, shareOutcome, gaveIn};
+ghost use Rattle.partitions.specs.Answers as settings;
+ghost use Rattle.qanbillox.specs.Packed.{Gives, packedRead, packedSpot, Allows, AllowsRead, Mounts, packedBlank, Prints, Serves};
 
-#[no_mangle]
+use model::BlockNumber;
+
+#[unsafe(no_mangle)]
 pub extern "C" fn qbx_format(image: &mut [u8], n: usize, b: usize, budget: u64) -> u64
-    ensures { λ r. ⌜ Gives (outcomeOf n b (now (image .entry)) budget format) r (now (image .exit)) ⌝ }
+    ensures { Gives (outcomeOf n b image.old budget format) result image.new }
 {
     packing::packed(store::format(image, n, b, budget))
 }
 
-#[no_mangle]
+#[unsafe(no_mangle)]
 pub extern "C" fn qbx_put(
     image: &mut [u8],
     n: usize,
@@ -29,54 +29,54 @@ pub extern "C" fn qbx_put(
     contents: &[u8],
     budget: u64,
 ) -> u64
-    ensures { λ r. ⌜ Gives (outcomeOf n b (now (image .entry)) budget (put block (now (contents .entry)))) r (now (image .exit)) ⌝ }
+    ensures { Gives (outcomeOf n b image.old budget (put block contents.now)) result image.new }
 {
     packing::packed(store::put(image, n, b, BlockNumber(block), contents, budget))
 }
 
-#[no_mangle]
+#[unsafe(no_mangle)]
 pub extern "C" fn qbx_delete(image: &mut [u8], n: usize, b: usize, block: u16, budget: u64) -> u64
-    ensures { λ r. ⌜ Gives (outcomeOf n b (now (image .entry)) budget (delete block)) r (now (image .exit)) ⌝ }
+    ensures { Gives (outcomeOf n b image.old budget (delete block)) result image.new }
 {
     packing::packed(store::delete(image, n, b, BlockNumber(block), budget))
 }
 
-#[no_mangle]
+#[unsafe(no_mangle)]
 pub extern "C" fn qbx_recover(image: &mut [u8], n: usize, b: usize, budget: u64) -> u64
-    ensures { λ r. ⌜ Gives (outcomeOf n b (now (image .entry)) budget recover) r (now (image .exit)) ⌝ }
+    ensures { Gives (outcomeOf n b image.old budget recover) result image.new }
 {
     packing::packed(store::recover(image, n, b, budget))
 }
 
-#[no_mangle]
+#[unsafe(no_mangle)]
 pub extern "C" fn qbx_read(image: &[u8], n: usize, b: usize, block: u16) -> u64
-    ensures { λ r. ⌜ r ≡ packedRead (readOutcome n b (now (image .entry)) block) ⌝ }
+    ensures { result ≡ packedRead (readOutcome n b image.now block) }
 {
     packing::packed_read(store::read(image, n, b, BlockNumber(block)))
 }
 
-#[no_mangle]
+#[unsafe(no_mangle)]
 pub extern "C" fn qbx_is_blank(bytes: &[u8]) -> u64
-    ensures { λ r. ⌜ r ≡ packedBlank (now (bytes .entry)) ⌝ }
+    ensures { result ≡ packedBlank bytes.now }
 {
     packing::packed_blank(blank::blank_test(bytes))
 }
 
-#[no_mangle]
+#[unsafe(no_mangle)]
 pub extern "C" fn qbx_account(image: &[u8], n: usize, b: usize, text: &mut [u8]) -> u64
-    ensures { λ r. ⌜ Prints (printIn (accountText n b (now (image .entry))) (now (text .entry))) r (now (text .exit)) ⌝ }
+    ensures { Prints (printIn (accountText n b image.now) text.old) result text.new }
 {
     packing::packed_print(accounts::account(image, n, b, text))
 }
 
-#[no_mangle]
+#[unsafe(no_mangle)]
 pub extern "C" fn qbx_mount(image: &[u8], n: usize, b: usize, table: &mut [u32]) -> u64
-    ensures { λ r. ⌜ Mounts (mountOutcome n b (now (image .entry)) (now (table .entry))) r (now (table .exit)) ⌝ }
+    ensures { Mounts (mountOutcome n b image.now table.old) result table.new }
 {
     request::number_of(mounting::mount(image, n, b, table))
 }
 
-#[no_mangle]
+#[unsafe(no_mangle)]
 pub extern "C" fn qbx_mounted_put(
     image: &mut [u8],
     n: usize,
@@ -86,12 +86,12 @@ pub extern "C" fn qbx_mounted_put(
     contents: &[u8],
     budget: u64,
 ) -> u64
-    ensures { λ r. ⌜ Allows (λ o. MountedPut n b block (now (contents .entry)) budget o (now (image .entry)) (now (table .entry)) (now (table .exit))) r (now (image .exit)) ⌝ }
+    ensures { Allows (λ o. MountedPut n b block contents.now budget o image.old table.old table.new) result image.new }
 {
     packing::packed_mounted(mounted::put(image, n, b, table, BlockNumber(block), contents, budget))
 }
 
-#[no_mangle]
+#[unsafe(no_mangle)]
 pub extern "C" fn qbx_mounted_delete(
     image: &mut [u8],
     n: usize,
@@ -100,12 +100,12 @@ pub extern "C" fn qbx_mounted_delete(
     block: u16,
     budget: u64,
 ) -> u64
-    ensures { λ r. ⌜ Allows (λ o. MountedDelete n b block budget o (now (image .entry)) (now (table .entry)) (now (table .exit))) r (now (image .exit)) ⌝ }
+    ensures { Allows (λ o. MountedDelete n b block budget o image.old table.old table.new) result image.new }
 {
     packing::packed_mounted(mounted::delete(image, n, b, table, BlockNumber(block), budget))
 }
 
-#[no_mangle]
+#[unsafe(no_mangle)]
 pub extern "C" fn qbx_mounted_read(
     image: &[u8],
     n: usize,
@@ -113,12 +113,12 @@ pub extern "C" fn qbx_mounted_read(
     table: &[u32],
     block: u16,
 ) -> u64
-    ensures { λ r. ⌜ AllowsRead (λ o. MountedRead n b block o (now (image .entry)) (now (table .entry))) r ⌝ }
+    ensures { AllowsRead (λ o. MountedRead n b block o image.now table.now) result }
 {
     packing::packed_read(mounted_read::read(image, n, b, table, BlockNumber(block)))
 }
 
-#[no_mangle]
+#[unsafe(no_mangle)]
 pub extern "C" fn qbx_move(
     source: &[u8],
     n: usize,
@@ -128,19 +128,19 @@ pub extern "C" fn qbx_move(
     target_b: usize,
     budget: u64,
 ) -> u64
-    ensures { λ r. ⌜ Gives (moveOutcome n b (now (source .entry)) «target_n» «target_b» (now (target .entry)) budget) r (now (target .exit)) ⌝ }
+    ensures { Gives (moveOutcome n b source.now target_n target_b target.old budget) result target.new }
 {
     packing::packed(moving::move_to(source, n, b, target, target_n, target_b, budget))
 }
 
-#[no_mangle]
+#[unsafe(no_mangle)]
 pub extern "C" fn qbx_salvage(image: &[u8], n: usize, b: usize, text: &mut [u8]) -> u64
-    ensures { λ r. ⌜ Prints (salvageOutcome n b (now (image .entry)) (now (text .entry))) r (now (text .exit)) ⌝ }
+    ensures { Prints (salvageOutcome n b image.now text.old) result text.new }
 {
     packing::packed_print(salvaging::salvage(image, n, b, text))
 }
 
-#[no_mangle]
+#[unsafe(no_mangle)]
 pub extern "C" fn qbx_rebuild(
     source: &[u8],
     n: usize,
@@ -150,12 +150,12 @@ pub extern "C" fn qbx_rebuild(
     target_b: usize,
     budget: u64,
 ) -> u64
-    ensures { λ r. ⌜ Gives (rebuildOutcome n b (now (source .entry)) «target_n» «target_b» (now (target .entry)) budget) r (now (target .exit)) ⌝ }
+    ensures { Gives (rebuildOutcome n b source.now target_n target_b target.old budget) result target.new }
 {
     packing::packed(rebuilding::rebuild(source, n, b, target, target_n, target_b, budget))
 }
 
-#[no_mangle]
+#[unsafe(no_mangle)]
 pub extern "C" fn qbx_share_put(
     image: &mut [u8],
     n: usize,
@@ -165,12 +165,12 @@ pub extern "C" fn qbx_share_put(
     block: u16,
     contents: &[u8],
 ) -> u64
-    ensures { λ r. ⌜ Serves (shareOutcome n b (now (shares .entry)) (now (image .entry)) tenant (puts block (now (contents .entry)))) r (now (image .exit)) ⌝ }
+    ensures { Serves (shareOutcome n b shares.now image.old tenant (puts block contents.now)) result image.new }
 {
     request::number_of(sharing::put(image, n, b, shares, tenant, BlockNumber(block), contents))
 }
 
-#[no_mangle]
+#[unsafe(no_mangle)]
 pub extern "C" fn qbx_share_delete(
     image: &mut [u8],
     n: usize,
@@ -179,12 +179,12 @@ pub extern "C" fn qbx_share_delete(
     tenant: u32,
     block: u16,
 ) -> u64
-    ensures { λ r. ⌜ Serves (shareOutcome n b (now (shares .entry)) (now (image .entry)) tenant (deletes block)) r (now (image .exit)) ⌝ }
+    ensures { Serves (shareOutcome n b shares.now image.old tenant (deletes block)) result image.new }
 {
     request::number_of(sharing::delete(image, n, b, shares, tenant, BlockNumber(block)))
 }
 
-#[no_mangle]
+#[unsafe(no_mangle)]
 pub extern "C" fn qbx_share_read(
     image: &[u8],
     n: usize,
@@ -194,19 +194,19 @@ pub extern "C" fn qbx_share_read(
     block: u16,
     contents: &mut [u8],
 ) -> u64
-    ensures { λ r. ⌜ Prints (gaveIn (shareOutcome n b (now (shares .entry)) (now (image .entry)) tenant (reads block (length (now (contents .entry))))) (now (contents .entry))) r (now (contents .exit)) ⌝ }
+    ensures { Prints (gaveIn (shareOutcome n b shares.now image.now tenant (reads block (length contents.old))) contents.old) result contents.new }
 {
     packing::packed_print(sharing::read(image, n, b, shares, tenant, BlockNumber(block), contents))
 }
 
-#[no_mangle]
+#[unsafe(no_mangle)]
 pub extern "C" fn qbx_settings_read(image: &[u8], partitions: usize, layout: &[u8], item: u8) -> u64
-    ensures { λ r. ⌜ r ≡ packedSpot (settings.readOutcome partitions (now (layout .entry)) (now (image .entry)) item) ⌝ }
+    ensures { result ≡ packedSpot (settings.readOutcome partitions layout.now image.now item) }
 {
     partition_packing::packed_spot(partition_store::read(image, partitions, layout, item))
 }
 
-#[no_mangle]
+#[unsafe(no_mangle)]
 pub extern "C" fn qbx_settings_write(
     image: &mut [u8],
     partitions: usize,
@@ -215,14 +215,9 @@ pub extern "C" fn qbx_settings_write(
     contents: &[u8],
     budget: u64,
 ) -> u64
-    ensures { λ r. ⌜ Gives (settings.writeOutcome partitions (now (layout .entry)) (now (image .entry)) item (now (contents .entry)) budget) r (now (image .exit)) ⌝ }
+    ensures { Gives (settings.writeOutcome partitions layout.now image.old item contents.now budget) result image.new }
 {
     partition_packing::packed_write(partition_store::write(
-        image,
-        partitions,
-        layout,
-        item,
-        contents,
-        budget,
+        image, partitions, layout, item, contents, budget,
     ))
 }

@@ -1,20 +1,15 @@
 // qbx IMAGE N B VERB [BLOCK] [--budget STEPS]: one request on a record store whose image is a file. With the verb move or rebuild
 // TARGET and its N and B follow: the records, or what can be salvaged of them, are carried to another image. With share-put,
 // share-get or share-delete a file of shares, a tenant and a block follow: the block is put, read or deleted for the tenant.
-use libc::STDERR_FILENO;
-use libc::STDIN_FILENO;
-use libc::STDOUT_FILENO;
+ghost use Rattle.std.specs.Prelude.{◌≤◌, length};
+ghost use Rattle.io.specs.Counts.{IsPrefixLen};
+
+use libc::{STDERR_FILENO, STDIN_FILENO, STDOUT_FILENO};
 use qbx_files::Filled;
 use qbx_move_words::MoveReading;
-use qbx_share_words::ShareCommand;
-use qbx_share_words::ShareReading;
-use qbx_share_words::ShareVerb;
+use qbx_share_words::{ShareCommand, ShareReading, ShareVerb};
 use qbx_verbs::Verb;
-use qbx_words::Command;
-use qbx_words::Reading;
-ghost use Prim.Native.Nat.{_≤_};
-ghost use lib.ListN.{length};
-ghost use Rattle·io.specs.Counts.{Counts};
+use qbx_words::{Command, Reading};
 
 // How a command is written.
 fn show_forms(fd: i32) {
@@ -78,7 +73,7 @@ fn usage(fd: i32) {
 
 // A word of the command line. Of one that is too long the start is given, with dots, so that it means nothing.
 fn word(i: usize, buf: &mut [u8; 64]) -> usize
-    ensures { λ r. ⌜ Counts r (now (buf .exit)) ⌝ }
+    ensures { IsPrefixLen result buf.new }
 {
     let n = os::arg(i, buf);
     if os::errno() == libc::ENAMETOOLONG {
@@ -92,7 +87,7 @@ fn word(i: usize, buf: &mut [u8; 64]) -> usize
 
 // The contents to put are on standard input. A byte more than fits is read, so that too many are seen.
 fn read_contents(contents: &mut [u8]) -> Filled
-    ensures { λ r. ⌜ r .count ≤ length (now (contents .exit)) ⌝ }
+    ensures { result.count ≤ length contents.new }
 {
     let filled = qbx_files::fill(STDIN_FILENO, contents);
     if !filled.whole {

@@ -1,11 +1,10 @@
 // A command on its image in the smallest of three buffers that holds it, each with its own limit of the stack.
+ghost use Rattle.std.specs.Prelude.{◌≡◌, true, leb};
+ghost use Rattle.request.specs.Request.{size_of};
+ghost use Rattle.qbx_rooms.specs.Rooms.{roomOf};
+
 use qbx_rooms::Process;
 use qbx_words::Command;
-ghost use mathlib.Core.Path.{_≡_};
-ghost use mathlib.Core.Bool.{true};
-ghost use lib.Dec.{leb};
-ghost use Rattle·request.specs.Request.{sizeOf};
-ghost use Rattle·qbx_rooms.specs.Rooms.{roomOf};
 
 // Obeys a command in the first buffer that holds its image, up to the given one, or tells that the stack is too small for
 // that buffer; whether there is one.
@@ -14,7 +13,7 @@ ghost use Rattle·qbx_rooms.specs.Rooms.{roomOf};
 // nothing with large locals part of a function that calls itself. So each buffer stays in a frame of its own, and a small image
 // does not need a large one's stack, nor a command that prints no text that of one that does.
 fn within(last: u8, process: Process, path: &[u8], command: Command, contents: &[u8]) -> bool
-    ensures { λ r. ⌜ r ≡ leb (sizeOf (command .segments) (command .slots)) (roomOf last) ⌝ }
+    ensures { result ≡ leb (size_of command.segments command.slots) (roomOf last) }
 {
     if last > 0 {
         if within(last - 1, process, path, command, contents) {
@@ -53,7 +52,7 @@ fn within(last: u8, process: Process, path: &[u8], command: Command, contents: &
 // A command on the image's file, or that the stack is too small for its image: one of the two, always. What it says goes to the
 // one descriptor, and what is wrong to the other.
 pub fn obey(path: &[u8], command: Command, contents: &[u8], out: i32, err: i32) -> bool
-    ensures { λ r. ⌜ r ≡ true ⌝ }
+    ensures { result ≡ true }
 {
     let allowed = qbx_stack::allowed() / 1024;
     let process = Process { allowed, out, err };

@@ -1,15 +1,15 @@
 // The segments in use of an image and their slots by kind, counted.
+ghost use Rattle.std.specs.Prelude.{◌≡◌, ◌+◌, ◌*◌, ◌<◌, ◌≤◌, length, get_or};
+ghost use Rattle.model.specs.State.{blank, segmentsOf};
+ghost use Rattle.flash.specs.Pages.{Sized};
+ghost use Rattle.judge.specs.Rows.{kindsAt};
+ghost use Rattle.qbx_census.specs.Census.{setAside, total, counted, countKinds, countSegment, censusOf};
+
 use header_seen::HeaderSeen;
 use model::SlotKind;
-ghost use mathlib.Core.Path.{_≡_};
-ghost use Prim.Native.Nat.{_+_, _*_, _<_, _≤_};
-ghost use lib.ListN.{length, getD};
-ghost use Rattle·model.specs.State.{blank, segmentsOf};
-ghost use Rattle·flash.specs.Pages.{Sized};
-ghost use Rattle·judge.specs.Rows.{kindsAt};
-ghost use Rattle·qbx_census·specs.specs.Census.{setAside, total, counted, countKinds, countSegment, censusOf};
 
 // Segments in use, and their slots by kind.
+#[derive(Drop)]
 pub struct Census {
     pub segments: u64,
     pub live: u64,
@@ -20,7 +20,7 @@ pub struct Census {
 
 // A census of these counts.
 fn census_of(segments: u64, live: u64, dead: u64, cut: u64, empty: u64) -> Census
-    ensures { λ r. ⌜ r ≡ record { segments = segments; live = live; dead = dead; cut = cut; empty = empty } ⌝ }
+    ensures { result ≡ record { segments = segments; live = live; dead = dead; cut = cut; empty = empty } }
 {
     Census {
         segments,
@@ -33,8 +33,8 @@ fn census_of(segments: u64, live: u64, dead: u64, cut: u64, empty: u64) -> Censu
 
 // One slot more.
 fn count(census: Census, kind: SlotKind) -> Census
-    requires { ⌜ total census ≤ 1000000 ⌝ }
-    ensures { λ r. ⌜ r ≡ counted census kind ⌝ }
+    requires { total census ≤ 1000000 }
+    ensures { result ≡ counted census kind }
 {
     let segments = census.segments;
     let live = census.live;
@@ -56,8 +56,8 @@ fn count(census: Census, kind: SlotKind) -> Census
 
 // The slots of a segment, from the offset of the first one.
 fn count_slots(image: &[u8], at: usize, slots: usize, census: Census) -> Census
-    requires { ⌜ (at + slots * 256 ≤ length (now image)) × (slots ≤ 255) × (total census ≤ 100000) ⌝ }
-    ensures { λ r. ⌜ (r ≡ countKinds census (kindsAt (now (image .entry)) at slots)) × (total r ≤ total census + slots) ⌝ }
+    requires { (at + slots * 256 ≤ length image.now) × (slots ≤ 255) × (total census ≤ 100000) }
+    ensures { (result ≡ countKinds census (kindsAt image.now at slots)) × (total result ≤ total census + slots) }
 {
     let mut sum = census;
     let mut i: usize = 0;
@@ -78,8 +78,8 @@ fn count_segment(
     index: usize,
     census: Census,
 ) -> Census
-    requires { ⌜ Sized segments slots (length (now image)) × (index < segments) × (total census ≤ 90000) ⌝ }
-    ensures { λ r. ⌜ (r ≡ countSegment census (getD (segmentsOf segments slots (now (image .entry))) index blank)) × (total r ≤ total census + 256) ⌝ }
+    requires { Sized segments slots (length image.now) × (index < segments) × (total census ≤ 90000) }
+    ensures { (result ≡ countSegment census (get_or (segmentsOf segments slots image.now) index blank)) × (total result ≤ total census + 256) }
 {
     let at = index * (slots + 1) * 256;
     let first = at + 256;
@@ -104,8 +104,8 @@ fn count_segment(
 
 // Every segment but the one left aside.
 pub fn take_census(image: &[u8], segments: usize, slots: usize, aside: usize) -> Census
-    requires { ⌜ Sized segments slots (length (now image)) ⌝ }
-    ensures { λ r. ⌜ r ≡ censusOf (setAside aside (segmentsOf segments slots (now (image .entry)))) ⌝ }
+    requires { Sized segments slots (length image.now) }
+    ensures { result ≡ censusOf (setAside aside (segmentsOf segments slots image.now)) }
 {
     let mut census = census_of(0, 0, 0, 0, 0);
     let mut i: usize = 0;

@@ -1,19 +1,19 @@
 -- The name beside a path, and the larger of two counts.
-use Prim.Native.Nat.{ℕ, _+_, _<_, _≤_}
-use mathlib.Core.Path.{_≡_, sym, _∙_, ap}
-use mathlib.Core.List.{List, [], _∷_, _++_}
+use Prim.Native.Nat.{ℕ, ◌+◌, ◌<◌, ◌≤◌}
+use mathlib.Core.Path.{◌≡◌, sym, ◌∙◌, ap}
+use mathlib.Core.List.{List, [], ◌∷◌, ◌++◌}
 use native.Mathlib.Omega.{arith}
 use lib.ListN.{length, take, drop, length-append, length-take}
-use lib.Seq.{take-length, take-append-seam, take-append-add}
+use lib.Seq.{take-length, take-append_seam, take-append-add}
 use lib.IntN.{ℤ, pos, negsuc}
 use borrow.Author.Tests.{le-leb, lt-leb}
-use Rattle·io.specs.Counts.{Counts}
-use Rattle·text.specs.Text.{text}
-use Rattle·qbx_files·specs.specs.Files.{besideOf, largerOf}
+use Rattle.io.specs.Counts.{IsPrefixLen}
+use Rattle.text.specs.Text.{text}
+use Rattle.qbx_files.specs.Files.{besideOf, largerOf}
 
-pub beside-none : (most : ℕ) (path : List ℕ) → most < length path + 4 → besideOf most path ≡ []
+pub beside_none : (most : ℕ) (path : List ℕ) → most < length path + 4 → besideOf most path ≡ []
 unfolding besideOf
-beside-none most path h = rw (lt-leb (length path + 4) most h)
+beside_none most path h = rw (lt-leb (length path + 4) most h)
 
 abbrev pub ending : List ℕ
 ending = 46 ∷ 110 ∷ 101 ∷ 119 ∷ []
@@ -21,12 +21,12 @@ ending = 46 ∷ 110 ∷ 101 ∷ 119 ∷ []
 module _ (path name mid part more rest : List ℕ) (fits : length path + 4 ≤ length name)
     (copied : mid ≡ take (length path) path ++ drop (length path) name) (ended : part ≡ ending ++ more) where
   begins : take (length path) mid ≡ path
-  begins = rw (copied, take-length path, take-append-seam path (drop (length path) name))
+  begins = rw (copied, take-length path, take-append_seam path (drop (length path) name))
 
   starts : take (length path + 4) (take (length path) mid ++ (part ++ rest)) ≡ path ++ ending
   starts = rw (begins, take-append-add path (part ++ rest) 4, ended)
 
-  pub beside-made : Counts (length path + 4) (take (length path) mid ++ (part ++ rest)) × (take (length path + 4) (take (length path) mid ++ (part ++ rest)) ≡ besideOf (length name) path)
+  pub beside-made : IsPrefixLen (length path + 4) (take (length path) mid ++ (part ++ rest)) × (take (length path + 4) (take (length path) mid ++ (part ++ rest)) ≡ besideOf (length name) path)
   unfolding besideOf text
   beside-made =
       let n : length path + 4 ≡ length (take (length path + 4) (take (length path) mid ++ (part ++ rest))) = sym (ap length starts ∙ length-append path ending) in

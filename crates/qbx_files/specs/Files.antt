@@ -1,11 +1,6 @@
 -- The name beside a file's, and the larger of two counts.
-use Prim.Native.Nat.{ℕ, _+_, max}
-use mathlib.Core.Bool.{cond}
-use mathlib.Core.List.{List, [], _++_}
-use lib.ListN.{length}
-use lib.IntN.{ℤ, pos, negsuc}
-use lib.Dec.{leb}
-use Rattle·text.specs.Text.{text}
+use Rattle.std.specs.Prelude.{ℕ, ◌+◌, max, cond, List, [], ◌++◌, length, ℤ, pos, negsuc, leb}
+use Rattle.text.specs.Text.{text}
 
 -- the name under which a file's successor is written, if it is no longer than so many bytes
 unfoldable pub besideOf : ℕ → List ℕ → List ℕ

@@ -1,11 +1,10 @@
 // A file read, and replaced whole or not at all.
-ghost use mathlib.Core.Path.{_≡_};
-ghost use Prim.Native.Nat.{_+_, _≤_};
-ghost use lib.ListN.{length, take};
-ghost use Rattle·io.specs.Counts.{Counts};
-ghost use Rattle·qbx_files·specs.specs.Files.{besideOf, largerOf};
+ghost use Rattle.std.specs.Prelude.{◌≡◌, ◌+◌, ◌≤◌, length, take};
+ghost use Rattle.io.specs.Counts.{IsPrefixLen};
+ghost use Rattle.qbx_files.specs.Files.{besideOf, largerOf};
 
 // What was read: how many bytes, and whether that is all there is or the buffer is full.
+#[derive(Drop)]
 pub struct Filled {
     pub count: usize,
     pub whole: bool,
@@ -13,8 +12,8 @@ pub struct Filled {
 
 // Reads once into a buffer, from a place in it on: no bytes at the end of the input.
 fn read_at(fd: i32, buf: &mut [u8], at: usize) -> Filled
-    requires { ⌜ at ≤ length (now buf) ⌝ }
-    ensures { λ r. ⌜ at + r .count ≤ length (now (buf .exit)) ⌝ }
+    requires { at ≤ length buf.old }
+    ensures { at + result.count ≤ length buf.new }
 {
     let got = libc::read(fd, &mut buf[at..]);
     if got < 0 {
@@ -31,7 +30,7 @@ fn read_at(fd: i32, buf: &mut [u8], at: usize) -> Filled
 
 // Reads until the buffer is full or the input ends; tells the end from a failure.
 pub fn fill(fd: i32, buf: &mut [u8]) -> Filled
-    ensures { λ r. ⌜ r .count ≤ length (now (buf .exit)) ⌝ }
+    ensures { result.count ≤ length buf.new }
 {
     let mut at = 0;
     while at < buf.len() {
@@ -58,7 +57,7 @@ pub fn fill(fd: i32, buf: &mut [u8]) -> Filled
 
 // The larger of an offset in a file and a count of its bytes.
 fn larger(offset: i64, count: u64) -> u64
-    ensures { λ r. ⌜ r ≡ largerOf offset count ⌝ }
+    ensures { result ≡ largerOf offset count }
 {
     if offset > 0 {
         let length = offset as u64;
@@ -71,15 +70,15 @@ fn larger(offset: i64, count: u64) -> u64
 
 // How many bytes a file has, where the system tells its end; those that were read, where it does not.
 pub fn length_of(fd: i32, read: usize) -> u64
-    ensures { λ r. ⌜ read ≤ r ⌝ }
+    ensures { read ≤ result }
 {
     larger(libc::lseek(fd, 0, libc::SEEK_END), read as u64)
 }
 
 // The name beside a path, for the file that is to take its place. None if it is too long.
 pub fn beside(path: &[u8], name: &mut [u8]) -> usize
-    ensures { λ r. ⌜ Counts r (now (name .exit)) ⌝ }
-    ensures { λ r. ⌜ take r (now (name .exit)) ≡ besideOf (length (now (name .entry))) (now (path .entry)) ⌝ }
+    ensures prefix_len { IsPrefixLen result name.new }
+    ensures name_after { take result name.new ≡ besideOf (length name.old) path.now }
 {
     if name.len() < path.len() {
         return 0;

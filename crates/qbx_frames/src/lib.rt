@@ -1,17 +1,16 @@
 // The image's buffer, on the stack, and beside it one for a text where the command prints one: a frame for each.
+ghost use Rattle.std.specs.Prelude.{◌≡◌, true, false, ◌≤◌};
+ghost use Rattle.request.specs.Request.{size_of};
+ghost use Rattle.qbx_verbs.specs.Verbs.{prints};
+ghost use Rattle.qbx_rooms.specs.Rooms.{roomOf, need_of};
+
 use qbx_rooms::Process;
 use qbx_words::Command;
-ghost use mathlib.Core.Path.{_≡_};
-ghost use mathlib.Core.Bool.{true, false};
-ghost use Prim.Native.Nat.{_≤_};
-ghost use Rattle·request.specs.Request.{sizeOf};
-ghost use Rattle·qbx_verbs.specs.Verbs.{prints};
-ghost use Rattle·qbx_rooms.specs.Rooms.{roomOf, needOf};
 
 // Each buffer has a byte more than the largest image in it, so that a larger file is seen to be one.
 pub fn small(process: Process, path: &[u8], command: Command, contents: &[u8]) -> bool
-    requires { ⌜ (sizeOf (command .segments) (command .slots) ≤ roomOf 0) × (needOf false 0 ≤ process .allowed) × (prints (command .verb) ≡ false) ⌝ }
-    ensures { λ r. ⌜ r ≡ true ⌝ }
+    requires { (size_of command.segments command.slots ≤ roomOf 0) × (need_of false 0 ≤ process.allowed) × (prints command.verb ≡ false) }
+    ensures { result ≡ true }
 {
     let mut image = [255u8; 1048577];
     qbx_work::obey(
@@ -26,8 +25,8 @@ pub fn small(process: Process, path: &[u8], command: Command, contents: &[u8]) -
 }
 
 pub fn middle(process: Process, path: &[u8], command: Command, contents: &[u8]) -> bool
-    requires { ⌜ (sizeOf (command .segments) (command .slots) ≤ roomOf 1) × (needOf false 1 ≤ process .allowed) × (prints (command .verb) ≡ false) ⌝ }
-    ensures { λ r. ⌜ r ≡ true ⌝ }
+    requires { (size_of command.segments command.slots ≤ roomOf 1) × (need_of false 1 ≤ process.allowed) × (prints command.verb ≡ false) }
+    ensures { result ≡ true }
 {
     let mut image = [255u8; 4194305];
     qbx_work::obey(
@@ -42,8 +41,8 @@ pub fn middle(process: Process, path: &[u8], command: Command, contents: &[u8]) 
 }
 
 pub fn large(process: Process, path: &[u8], command: Command, contents: &[u8]) -> bool
-    requires { ⌜ (sizeOf (command .segments) (command .slots) ≤ roomOf 2) × (needOf false 2 ≤ process .allowed) × (prints (command .verb) ≡ false) ⌝ }
-    ensures { λ r. ⌜ r ≡ true ⌝ }
+    requires { (size_of command.segments command.slots ≤ roomOf 2) × (need_of false 2 ≤ process.allowed) × (prints command.verb ≡ false) }
+    ensures { result ≡ true }
 {
     let mut image = [255u8; 16711681];
     qbx_work::obey(
@@ -59,8 +58,8 @@ pub fn large(process: Process, path: &[u8], command: Command, contents: &[u8]) -
 
 // The same with a buffer for a text: no slot has more than 45 bytes in one, and no segment more than 61 beside its slots.
 pub fn small_text(process: Process, path: &[u8], command: Command) -> bool
-    requires { ⌜ (sizeOf (command .segments) (command .slots) ≤ roomOf 0) × (needOf true 0 ≤ process .allowed) ⌝ }
-    ensures { λ r. ⌜ r ≡ true ⌝ }
+    requires { (size_of command.segments command.slots ≤ roomOf 0) × (need_of true 0 ≤ process.allowed) }
+    ensures { result ≡ true }
 {
     let mut image = [255u8; 1048577];
     let mut text = [0u8; 196608];
@@ -76,8 +75,8 @@ pub fn small_text(process: Process, path: &[u8], command: Command) -> bool
 }
 
 pub fn middle_text(process: Process, path: &[u8], command: Command) -> bool
-    requires { ⌜ (sizeOf (command .segments) (command .slots) ≤ roomOf 1) × (needOf true 1 ≤ process .allowed) ⌝ }
-    ensures { λ r. ⌜ r ≡ true ⌝ }
+    requires { (size_of command.segments command.slots ≤ roomOf 1) × (need_of true 1 ≤ process.allowed) }
+    ensures { result ≡ true }
 {
     let mut image = [255u8; 4194305];
     let mut text = [0u8; 753664];
@@ -93,8 +92,8 @@ pub fn middle_text(process: Process, path: &[u8], command: Command) -> bool
 }
 
 pub fn large_text(process: Process, path: &[u8], command: Command) -> bool
-    requires { ⌜ (sizeOf (command .segments) (command .slots) ≤ roomOf 2) × (needOf true 2 ≤ process .allowed) ⌝ }
-    ensures { λ r. ⌜ r ≡ true ⌝ }
+    requires { (size_of command.segments command.slots ≤ roomOf 2) × (need_of true 2 ≤ process.allowed) }
+    ensures { result ≡ true }
 {
     let mut image = [255u8; 16711681];
     let mut text = [0u8; 2949120];

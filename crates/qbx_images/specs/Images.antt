@@ -1,9 +1,6 @@
 -- An image's file that is not there.
-use Prim.Native.Nat.{ℕ}
-use mathlib.Core.Bool.{Bool, true, false}
-use mathlib.Core.List.{List, _++_}
-use lib.ListN.{drop, replicate}
-use Rattle·qbx_images·specs.specs.declared.ImageFile.{ImageFile}
+use Rattle.std.specs.Prelude.{ℕ, Bool, true, false, List, ◌++◌, drop, replicate}
+use Rattle.qbx_images.specs.declared.ImageFile.{ImageFile}
 
 -- what is told of it: where it may be made, it has so many bytes
 unfoldable pub made : Bool → ℕ → ImageFile

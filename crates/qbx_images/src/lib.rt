@@ -1,10 +1,9 @@
 // An image's file read into a buffer, and a part of an image.
-ghost use mathlib.Core.Path.{_≡_};
-ghost use Prim.Native.Nat.{_≤_};
-ghost use lib.ListN.{length, take, drop, replicate};
-ghost use Rattle·qbx_images·specs.specs.Images.{made, factory};
+ghost use Rattle.std.specs.Prelude.{◌≡◌, ◌≤◌, length, take, drop, replicate};
+ghost use Rattle.qbx_images.specs.Images.{made, factory};
 
 // The file in the first bytes of the buffer: how many, whether they could be had, and how many the file has.
+#[derive(Drop)]
 pub struct ImageFile {
     pub count: usize,
     pub whole: bool,
@@ -14,8 +13,8 @@ pub struct ImageFile {
 // Has an image's file in the buffer: the file's own bytes, or a chip from the factory of so many bytes where there is no file
 // and one may be made. Where it cannot be had, the system's reason stays to be told.
 pub fn present(image: &mut [u8], path: &[u8], size: usize, makes: bool) -> ImageFile
-    requires { ⌜ size ≤ length (now image) ⌝ }
-    ensures { λ r. ⌜ r .count ≤ length (now (image .exit)) ⌝ }
+    requires { size ≤ length image.old }
+    ensures { result.count ≤ length image.new }
 {
     let fd = os::open_read(path);
     if fd < 0 {
@@ -42,8 +41,8 @@ pub fn present(image: &mut [u8], path: &[u8], size: usize, makes: bool) -> Image
 
 // The file could not be opened; where it may be made, the chip is as it left the factory.
 fn absent(image: &mut [u8], size: usize, makes: bool) -> ImageFile
-    requires { ⌜ size ≤ length (now image) ⌝ }
-    ensures { λ r. ⌜ (r ≡ made makes size) × (now (image .exit) ≡ factory makes size (now (image .entry))) ⌝ }
+    requires { size ≤ length image.old }
+    ensures { (result ≡ made makes size) × (image.new ≡ factory makes size image.old) }
 {
     if makes {
         blank(&mut image[..size]);
@@ -62,7 +61,7 @@ fn absent(image: &mut [u8], size: usize, makes: bool) -> ImageFile
 
 // A chip from the factory.
 fn blank(image: &mut [u8])
-    ensures { λ _. ⌜ now (image .exit) ≡ replicate (length (now (image .entry))) 255 ⌝ }
+    ensures { image.new ≡ replicate (length image.old) 255 }
 {
     let mut i = 0;
     while i < image.len() {
@@ -73,7 +72,7 @@ fn blank(image: &mut [u8])
 
 // A part of an image, as far as the image goes.
 pub fn piece(image: &[u8], at: usize, count: usize) -> &[u8]
-    ensures { λ r. ⌜ now r ≡ take count (drop at (now (image .entry))) ⌝ }
+    ensures { result.now ≡ take count (drop at image.now) }
 {
     if image.len() < at {
         return &image[0..0];

@@ -1,9 +1,6 @@
 -- A line that is being put together.
-use Prim.Native.Nat.{ℕ, _+_}
-use mathlib.Core.Path.{_≡_}
-use mathlib.Core.List.{List, _++_}
-use lib.ListN.{length, take}
-use Rattle·qbx_lines·specs.specs.declared.Line.{Line}
+use Rattle.std.specs.Prelude.{ℕ, ◌+◌, ◌≡◌, List, ◌++◌, length, take}
+use Rattle.qbx_lines.specs.declared.Line.{Line}
 
 -- the most bytes of a line
 abbrev pub mostLine : ℕ
@@ -11,9 +8,9 @@ mostLine = 240
 
 -- what a line says so far
 abbrev pub said : Line → List ℕ
-said l = take (l .count) (l .bytes)
+said l = take l.count l.bytes
 
 -- a line with some bytes more
 pub record Added (line : Line) (bytes : List ℕ) (r : Line) : Type 0 where
   pub says : said r ≡ said line ++ bytes
-  pub counts : r .count ≡ line .count + length bytes
+  pub counts : r.count ≡ line.count + length bytes

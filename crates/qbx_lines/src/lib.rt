@@ -1,15 +1,13 @@
 // Lines of text, put together.
-ghost use mathlib.Core.Path.{_≡_};
-ghost use mathlib.Core.List.{[], _++_};
-ghost use Prim.Native.Nat.{_+_, _≤_};
-ghost use lib.ListN.{length};
-ghost use Rattle·qbx_lines·specs.specs.Lines.{mostLine, said, Added};
-ghost use Rattle·text.specs.Decimal.{decimal};
+ghost use Rattle.std.specs.Prelude.{◌≡◌, [], ◌++◌, ◌+◌, ◌≤◌, length};
+ghost use Rattle.qbx_lines.specs.Lines.{mostLine, said, Added};
+ghost use Rattle.text.specs.Decimal.{decimal};
 
 // The most bytes of a line; `mostLine` in specs/.
 pub const MOST_LINE: usize = 240;
 
 // A line that is being put together.
+#[derive(Drop)]
 pub struct Line {
     pub bytes: [u8; MOST_LINE],
     pub count: usize,
@@ -17,7 +15,7 @@ pub struct Line {
 
 // A line that says nothing yet.
 pub fn empty() -> Line
-    ensures { λ r. ⌜ (said r ≡ []) × (r .count ≡ 0) ⌝ }
+    ensures { (said result ≡ []) × (result.count ≡ 0) }
 {
     Line {
         bytes: [0u8; MOST_LINE],
@@ -27,8 +25,8 @@ pub fn empty() -> Line
 
 // More bytes at the end of a line.
 pub fn add(line: Line, text: &[u8]) -> Line
-    requires { ⌜ line .count + length (now text) ≤ mostLine ⌝ }
-    ensures { λ r. ⌜ Added line (now (text .entry)) r ⌝ }
+    requires { line.count + length text.now ≤ mostLine }
+    ensures { Added line text.now result }
 {
     let at = line.count;
     let mut bytes = line.bytes;
@@ -45,8 +43,8 @@ pub fn add(line: Line, text: &[u8]) -> Line
 
 // A number at the end of a line.
 pub fn add_number(line: Line, n: u64) -> Line
-    requires { ⌜ line .count + 20 ≤ mostLine ⌝ }
-    ensures { λ r. ⌜ Added line (decimal n) r × (length (decimal n) ≤ 20) ⌝ }
+    requires { line.count + 20 ≤ mostLine }
+    ensures { Added line (decimal n) result × (length (decimal n) ≤ 20) }
 {
     let mut digits = [0u8; 20];
     let count = io::decimal(n, &mut digits);
@@ -55,8 +53,8 @@ pub fn add_number(line: Line, n: u64) -> Line
 
 // A number behind its label.
 pub fn add_count(line: Line, label: &[u8], n: u64) -> Line
-    requires { ⌜ line .count + length (now label) + 20 ≤ mostLine ⌝ }
-    ensures { λ r. ⌜ Added line (now (label .entry) ++ decimal n) r × (r .count ≤ line .count + length (now (label .entry)) + 20) ⌝ }
+    requires { line.count + length label.now + 20 ≤ mostLine }
+    ensures { Added line (label.now ++ decimal n) result × (result.count ≤ line.count + length label.now + 20) }
 {
     add_number(add(line, label), n)
 }

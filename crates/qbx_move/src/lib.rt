@@ -1,15 +1,15 @@
 // The work of a move or a rebuild, with its words handed in: both images' files are read, the target is built anew from what
 // the source stores, or what can be salvaged of it, its file is replaced and the answer said. The source's file is only read.
+ghost use Rattle.std.specs.Prelude.{◌<◌, length};
+ghost use Rattle.request.specs.Request.{size_of};
+
 use model::Answer;
 use qbx_move_words::Move;
-use qbx_out::fail;
-use qbx_out::print;
+use qbx_out::{fail, print};
 use qbx_same::Clash;
-ghost use Prim.Native.Nat.{_<_};
-ghost use lib.ListN.{length};
-ghost use Rattle·request.specs.Request.{sizeOf};
 
 // How many bytes the two files have.
+#[derive(Drop)]
 struct There {
     source: u64,
     target: u64,
@@ -69,7 +69,7 @@ fn carry(
     out: i32,
     err: i32,
 )
-    requires { ⌜ (sizeOf (command .source .segments) (command .source .slots) < length (now source)) × (sizeOf (command .target .segments) (command .target .slots) < length (now target)) ⌝ }
+    requires { (size_of command.source.segments command.source.slots < length source.old) × (size_of command.target.segments command.target.slots < length target.old) }
 {
     let from = command.source;
     let file = qbx_images::present(source, path, qbx_move_words::size_of(from), false);
@@ -130,7 +130,7 @@ pub fn obey(
     out: i32,
     err: i32,
 )
-    requires { ⌜ (sizeOf (command .source .segments) (command .source .slots) < length (now source)) × (sizeOf (command .target .segments) (command .target .slots) < length (now target)) ⌝ }
+    requires { (size_of command.source.segments command.source.slots < length source.old) × (size_of command.target.segments command.target.slots < length target.old) }
 {
     let clash = qbx_same::clash_of(path, target_path);
     if let Clash::Apart = clash {

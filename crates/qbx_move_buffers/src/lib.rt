@@ -1,16 +1,15 @@
 // A move or a rebuild in the smallest of three pairs of buffers that hold its images, each with its own limit of the stack.
+ghost use Rattle.std.specs.Prelude.{◌≡◌, true, leb};
+ghost use Rattle.qbx_move_words.specs.Move.{largerSize};
+ghost use Rattle.qbx_rooms.specs.Rooms.{roomOf};
+
 use qbx_move_words::Move;
 use qbx_rooms::Process;
-ghost use mathlib.Core.Path.{_≡_};
-ghost use mathlib.Core.Bool.{true};
-ghost use lib.Dec.{leb};
-ghost use Rattle·qbx_move_words.specs.Move.{largerSize};
-ghost use Rattle·qbx_rooms.specs.Rooms.{roomOf};
 
 // Makes a move in the first buffers that hold its images, up to the given ones, or tells that the stack is too small for them;
 // whether there are such. It calls itself for the compiler's sake: see `qbx_buffers`.
 fn within(last: u8, process: Process, path: &[u8], target: &[u8], command: Move) -> bool
-    ensures { λ r. ⌜ r ≡ leb (largerSize command) (roomOf last) ⌝ }
+    ensures { result ≡ leb (largerSize command) (roomOf last) }
 {
     if last > 0 {
         if within(last - 1, process, path, target, command) {
@@ -38,7 +37,7 @@ fn within(last: u8, process: Process, path: &[u8], target: &[u8], command: Move)
 // A move between the images' files, or that the stack is too small for them: one of the two, always. What it says goes to the
 // one descriptor, and what is wrong to the other.
 pub fn obey(path: &[u8], target: &[u8], command: Move, out: i32, err: i32) -> bool
-    ensures { λ r. ⌜ r ≡ true ⌝ }
+    ensures { result ≡ true }
 {
     let allowed = qbx_stack::allowed() / 1024;
     let process = Process { allowed, out, err };

@@ -1,16 +1,15 @@
 // Both images of a move or a rebuild, on the stack, a frame for each size: the larger of the two decides.
+ghost use Rattle.std.specs.Prelude.{◌≡◌, true, ◌≤◌};
+ghost use Rattle.request.specs.Request.{size_of};
+ghost use Rattle.qbx_rooms.specs.Rooms.{roomOf, moveNeedOf};
+
 use qbx_move_words::Move;
 use qbx_rooms::Process;
-ghost use mathlib.Core.Path.{_≡_};
-ghost use mathlib.Core.Bool.{true};
-ghost use Prim.Native.Nat.{_≤_};
-ghost use Rattle·request.specs.Request.{sizeOf};
-ghost use Rattle·qbx_rooms.specs.Rooms.{roomOf, moveNeedOf};
 
 // Each buffer has a byte more than the largest image in it, so that a larger file is seen to be one.
 pub fn small(process: Process, path: &[u8], target: &[u8], command: Move) -> bool
-    requires { ⌜ (sizeOf (command .source .segments) (command .source .slots) ≤ roomOf 0) × (sizeOf (command .target .segments) (command .target .slots) ≤ roomOf 0) × (moveNeedOf 0 ≤ process .allowed) ⌝ }
-    ensures { λ r. ⌜ r ≡ true ⌝ }
+    requires { (size_of command.source.segments command.source.slots ≤ roomOf 0) × (size_of command.target.segments command.target.slots ≤ roomOf 0) × (moveNeedOf 0 ≤ process.allowed) }
+    ensures { result ≡ true }
 {
     let mut from = [255u8; 1048577];
     let mut onto = [255u8; 1048577];
@@ -27,8 +26,8 @@ pub fn small(process: Process, path: &[u8], target: &[u8], command: Move) -> boo
 }
 
 pub fn middle(process: Process, path: &[u8], target: &[u8], command: Move) -> bool
-    requires { ⌜ (sizeOf (command .source .segments) (command .source .slots) ≤ roomOf 1) × (sizeOf (command .target .segments) (command .target .slots) ≤ roomOf 1) × (moveNeedOf 1 ≤ process .allowed) ⌝ }
-    ensures { λ r. ⌜ r ≡ true ⌝ }
+    requires { (size_of command.source.segments command.source.slots ≤ roomOf 1) × (size_of command.target.segments command.target.slots ≤ roomOf 1) × (moveNeedOf 1 ≤ process.allowed) }
+    ensures { result ≡ true }
 {
     let mut from = [255u8; 4194305];
     let mut onto = [255u8; 4194305];
@@ -45,8 +44,8 @@ pub fn middle(process: Process, path: &[u8], target: &[u8], command: Move) -> bo
 }
 
 pub fn large(process: Process, path: &[u8], target: &[u8], command: Move) -> bool
-    requires { ⌜ (sizeOf (command .source .segments) (command .source .slots) ≤ roomOf 2) × (sizeOf (command .target .segments) (command .target .slots) ≤ roomOf 2) × (moveNeedOf 2 ≤ process .allowed) ⌝ }
-    ensures { λ r. ⌜ r ≡ true ⌝ }
+    requires { (size_of command.source.segments command.source.slots ≤ roomOf 2) × (size_of command.target.segments command.target.slots ≤ roomOf 2) × (moveNeedOf 2 ≤ process.allowed) }
+    ensures { result ≡ true }
 {
     let mut from = [255u8; 16711681];
     let mut onto = [255u8; 16711681];

@@ -1,13 +1,14 @@
 // What a move or a rebuild asks of the library, on the images alone.
+ghost use Rattle.std.specs.Prelude.{◌≡◌};
+ghost use Rattle.model.specs.Answers.{performed};
+ghost use Rattle.qbx_move_request.specs.MoveRequest.{builtBy};
+
 use model::Performed;
 use qbx_move_words::Move;
-ghost use mathlib.Core.Path.{_≡_};
-ghost use Rattle·model.specs.Answers.{performed};
-ghost use Rattle·qbx_move_request·specs.specs.MoveRequest.{builtBy};
 
 // Builds the target anew from what the source stores, or from what can be salvaged of it, as far as the budget goes.
 pub fn perform(source: &[u8], target: &mut [u8], command: Move) -> Performed
-    ensures { λ r. ⌜ performed r (now (target .exit)) ≡ builtBy (command .salvages) command (now (source .entry)) (now (target .entry)) ⌝ }
+    ensures { performed result target.new ≡ builtBy command.salvages command source.now target.old }
 {
     let from = command.source;
     let to = command.target;

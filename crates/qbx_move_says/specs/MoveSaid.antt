@@ -1,13 +1,11 @@
 -- What a move or a rebuild says: an image of a wrong size, and a target that would be its source.
-use Prim.Native.Nat.{ℕ}
-use mathlib.Core.Bool.{Bool, true, false}
-use mathlib.Core.List.{List, [], _++_}
-use Rattle·model.specs.declared.Answer.the-variants.{Size}
-use Rattle·text.specs.Text.{text}
-use Rattle·text.specs.Decimal.{decimal}
-use Rattle·qbx_says.specs.Said.{performedText, askedText}
-use Rattle·qbx_same.specs.declared.Clash.{Clash}
-use Rattle·qbx_same.specs.declared.Clash.the-variants.{Apart, IsSource, SourceBeside, InTheWay, NoSource, NoTarget, NoBeside}
+use Rattle.std.specs.Prelude.{ℕ, Bool, true, false, List, [], ◌++◌}
+use Rattle.model.specs.declared.Answer.TheVariants.{Size}
+use Rattle.text.specs.Text.{text}
+use Rattle.text.specs.Decimal.{decimal}
+use Rattle.qbx_says.specs.Said.{performedText, askedText}
+use Rattle.qbx_same.specs.declared.Clash.{Clash}
+use Rattle.qbx_same.specs.declared.Clash.TheVariants.{Apart, IsSource, SourceBeside, InTheWay, NoSource, NoTarget, NoBeside}
 
 -- the image that is meant, by its word on the command line
 unfoldable pub nameText : Bool → List ℕ

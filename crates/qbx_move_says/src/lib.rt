@@ -1,18 +1,15 @@
 // What a move or a rebuild says that no other verb does, a line each.
+ghost use Rattle.std.specs.Prelude.{◌≡◌, ◌+◌, ◌≤◌};
+ghost use Rattle.qbx_lines.specs.Lines.{mostLine, said, Added};
+ghost use Rattle.qbx_move_says.specs.MoveSaid.{nameText, moveSizeLine, clashText};
+
 use model::Answer;
-use qbx_lines::Line;
-use qbx_lines::add;
-use qbx_lines::add_count;
-use qbx_lines::empty;
+use qbx_lines::{Line, add, add_count, empty};
 use qbx_same::Clash;
-ghost use mathlib.Core.Path.{_≡_};
-ghost use Prim.Native.Nat.{_+_, _≤_};
-ghost use Rattle·qbx_lines.specs.Lines.{mostLine, said, Added};
-ghost use Rattle·qbx_move_says·specs.specs.MoveSaid.{nameText, moveSizeLine, clashText};
 
 fn add_name(line: Line, target: bool) -> Line
-    requires { ⌜ line .count ≤ 100 ⌝ }
-    ensures { λ r. ⌜ Added line (nameText target) r × (r .count ≤ line .count + 8) ⌝ }
+    requires { line.count ≤ 100 }
+    ensures { Added line (nameText target) result × (result.count ≤ line.count + 8) }
 {
     if target {
         return add(line, b": TARGET");
@@ -22,7 +19,7 @@ fn add_name(line: Line, target: bool) -> Line
 
 // A wrong size: beside the refusal which image has it, what its N and B ask for, and the bytes that are there.
 pub fn say_move_size(target: bool, segments: usize, slots: usize, there: u64) -> Line
-    ensures { λ r. ⌜ (said r ≡ moveSizeLine target segments slots there) × (r .count ≤ mostLine) ⌝ }
+    ensures { (said result ≡ moveSizeLine target segments slots there) × (result.count ≤ mostLine) }
 {
     let named = add_name(qbx_says::say_steps(Answer::Size, 0), target);
     let asked = qbx_says::add_asked(named, segments, slots);
@@ -32,7 +29,7 @@ pub fn say_move_size(target: bool, segments: usize, slots: usize, there: u64) ->
 
 // Why a target is not written; nothing of what the system has to say itself.
 pub fn say_clash(clash: Clash) -> Line
-    ensures { λ r. ⌜ (said r ≡ clashText clash) × (r .count ≤ mostLine) ⌝ }
+    ensures { (said result ≡ clashText clash) × (result.count ≤ mostLine) }
 {
     let line = empty();
     match clash {

@@ -1,20 +1,18 @@
 -- The words of a move, read: N B move TARGET N B [--budget STEPS], or with the verb rebuild. A word that is missing is empty.
-use Prim.Native.Nat.{ℕ, max}
-use mathlib.Core.Bool.{Bool, cond, _||_}
-use mathlib.Core.List.{List}
-use Rattle·model.specs.Lists.{same}
-use Rattle·request.specs.Request.{sizeOf}
-use Rattle·text.specs.Text.{text}
-use Rattle·qbx_numbers.specs.Number.{numberOf}
-use Rattle·qbx_numbers.specs.declared.Parsed.{Parsed}
-use Rattle·qbx_numbers.specs.declared.Parsed.the-variants.{Number, NoNumber}
-use Rattle·qbx_words.specs.Command.{isMissing}
-use Rattle·qbx_words.specs.declared.Complaint.{Complaint}
-use Rattle·qbx_words.specs.declared.Complaint.the-variants.{Segments, Slots, NoTarget, TargetSegments, TargetSlots, NoOption, Budget}
-use Rattle·qbx_move_words·specs.specs.declared.Geometry.{Geometry}
-use Rattle·qbx_move_words·specs.specs.declared.Move.{Move}
-use Rattle·qbx_move_words·specs.specs.declared.MoveReading.{MoveReading}
-use Rattle·qbx_move_words·specs.specs.declared.MoveReading.the-variants.{Right, Wrong}
+use Rattle.std.specs.Prelude.{ℕ, max, Bool, cond, ◌||◌, List}
+use Rattle.model.specs.Lists.{same}
+use Rattle.request.specs.Request.{size_of}
+use Rattle.text.specs.Text.{text}
+use Rattle.qbx_numbers.specs.Number.{number_of}
+use Rattle.qbx_numbers.specs.declared.Parsed.{Parsed}
+use Rattle.qbx_numbers.specs.declared.Parsed.TheVariants.{Number, NoNumber}
+use Rattle.qbx_words.specs.Command.{isMissing}
+use Rattle.qbx_words.specs.declared.Complaint.{Complaint}
+use Rattle.qbx_words.specs.declared.Complaint.TheVariants.{Segments, Slots, NoTarget, TargetSegments, TargetSlots, NoOption, Budget}
+use Rattle.qbx_move_words.specs.declared.Geometry.{Geometry}
+use Rattle.qbx_move_words.specs.declared.Move.{Move}
+use Rattle.qbx_move_words.specs.declared.MoveReading.{MoveReading}
+use Rattle.qbx_move_words.specs.declared.MoveReading.TheVariants.{Right, Wrong}
 
 unfoldable pub isRebuild : List ℕ → Bool
 isRebuild w = same w (text "rebuild")
@@ -23,17 +21,17 @@ unfoldable pub namesTarget : List ℕ → Bool
 namesTarget w = same w (text "move") || isRebuild w
 
 -- a word that is to be a number
-unfoldable pub asNumber : Parsed → Complaint → (ℕ → MoveReading) → MoveReading
-asNumber (Number n) x go = go n
-asNumber NoNumber x go = Wrong x
+unfoldable pub as_number : Parsed → Complaint → (ℕ → MoveReading) → MoveReading
+as_number (Number n) x go = go n
+as_number NoNumber x go = Wrong x
 
 abbrev pub budgeted : Move → ℕ → Move
-budgeted k n = record { salvages = k .salvages; source = k .source; target = k .target; budget = n }
+budgeted k n = record { salvages = k.salvages; source = k.source; target = k.target; budget = n }
 
 unfoldable pub withBudget : Move → List ℕ → List ℕ → MoveReading
 withBudget k option steps =
     cond (isMissing option) (Right k)
-    (cond (same option (text "--budget")) (asNumber (numberOf steps) Budget (λ n. Right (budgeted k n)))
+    (cond (same option (text "--budget")) (as_number (number_of steps) Budget (λ n. Right (budgeted k n)))
     (Wrong NoOption))
 
 -- with as many steps as 64 bits can count
@@ -46,14 +44,14 @@ geometry N B = record { segments = N; slots = B }
 -- the words after the target's name
 unfoldable pub onto : Bool → Geometry → List ℕ → List ℕ → List ℕ → List ℕ → MoveReading
 onto r g n b option steps =
-    asNumber (numberOf n) TargetSegments (λ N. asNumber (numberOf b) TargetSlots (λ B. withBudget (plain r g (geometry N B)) option steps))
+    as_number (number_of n) TargetSegments (λ N. as_number (number_of b) TargetSlots (λ B. withBudget (plain r g (geometry N B)) option steps))
 
 -- the words after the image's name; the second N and B are the target's
-unfoldable pub moveOf : List ℕ → List ℕ → List ℕ → List ℕ → List ℕ → List ℕ → List ℕ → List ℕ → MoveReading
-moveOf n b verb target m c option steps =
-    asNumber (numberOf n) Segments (λ N. asNumber (numberOf b) Slots (λ B.
+unfoldable pub move_of : List ℕ → List ℕ → List ℕ → List ℕ → List ℕ → List ℕ → List ℕ → List ℕ → MoveReading
+move_of n b verb target m c option steps =
+    as_number (number_of n) Segments (λ N. as_number (number_of b) Slots (λ B.
     cond (isMissing target) (Wrong NoTarget) (onto (isRebuild verb) (geometry N B) m c option steps)))
 
 -- the bytes of the larger image
 unfoldable pub largerSize : Move → ℕ
-largerSize k = max (sizeOf (k .source .segments) (k .source .slots)) (sizeOf (k .target .segments) (k .target .slots))
+largerSize k = max (size_of k.source.segments k.source.slots) (size_of k.target.segments k.target.slots)

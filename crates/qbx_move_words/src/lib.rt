@@ -1,21 +1,21 @@
 // The words of a move, read: IMAGE N B move TARGET N B [--budget STEPS]; those of a rebuild, which differ in the verb alone; and
 // how large its images are.
-use qbx_numbers::Parsed;
-use qbx_numbers::number;
-use qbx_words::Complaint;
-use qbx_words::is;
-use qbx_words::is_missing;
-ghost use mathlib.Core.Path.{_≡_};
-ghost use Rattle·request.specs.Request.{sizeOf};
-ghost use Rattle·qbx_move_words·specs.specs.Move.{namesTarget, withBudget, onto, moveOf, largerSize};
+ghost use Rattle.std.specs.Prelude.{◌≡◌};
+ghost use Rattle.request.specs.Request.{size_of};
+ghost use Rattle.qbx_move_words.specs.Move.{namesTarget, withBudget, onto, move_of, largerSize};
+
+use qbx_numbers::{Parsed, number};
+use qbx_words::{Complaint, is, is_missing};
 
 // N and B of an image.
+#[derive(Drop)]
 pub struct Geometry {
     pub segments: u64,
     pub slots: u64,
 }
 
 // A move whose words were right: of a clean image's blocks, or, as a rebuild, of those that can be salvaged from any.
+#[derive(Drop)]
 pub struct Move {
     pub salvages: bool,
     pub source: Geometry,
@@ -23,6 +23,7 @@ pub struct Move {
     pub budget: u64,
 }
 
+#[derive(Drop)]
 pub enum MoveReading {
     Right(Move),
     Wrong(Complaint),
@@ -30,7 +31,7 @@ pub enum MoveReading {
 
 // Whether a verb is that of a move or a rebuild. It is no command's: another image follows it.
 pub fn names_target(verb: &[u8]) -> bool
-    ensures { λ r. ⌜ r ≡ namesTarget (now (verb .entry)) ⌝ }
+    ensures { result ≡ namesTarget verb.now }
 {
     if is(verb, b"move") {
         return true;
@@ -40,7 +41,7 @@ pub fn names_target(verb: &[u8]) -> bool
 
 // The option at the end.
 fn with_budget(command: Move, option: &[u8], steps: &[u8]) -> MoveReading
-    ensures { λ r. ⌜ r ≡ withBudget command (now (option .entry)) (now (steps .entry)) ⌝ }
+    ensures { result ≡ withBudget command option.now steps.now }
 {
     if is_missing(option) {
         return MoveReading::Right(command);
@@ -71,7 +72,7 @@ fn onto(
     option: &[u8],
     steps: &[u8],
 ) -> MoveReading
-    ensures { λ r. ⌜ r ≡ onto salvages source (now (segments .entry)) (now (slots .entry)) (now (option .entry)) (now (steps .entry)) ⌝ }
+    ensures { result ≡ onto salvages source segments.now slots.now option.now steps.now }
 {
     let Parsed::Number(n) = number(segments) else {
         return MoveReading::Wrong(Complaint::TargetSegments);
@@ -103,7 +104,7 @@ pub fn move_of(
     option: &[u8],
     steps: &[u8],
 ) -> MoveReading
-    ensures { λ r. ⌜ r ≡ moveOf (now (segments .entry)) (now (slots .entry)) (now (verb .entry)) (now (target .entry)) (now («target_segments» .entry)) (now («target_slots» .entry)) (now (option .entry)) (now (steps .entry)) ⌝ }
+    ensures { result ≡ move_of segments.now slots.now verb.now target.now target_segments.now target_slots.now option.now steps.now }
 {
     let Parsed::Number(n) = number(segments) else {
         return MoveReading::Wrong(Complaint::Segments);
@@ -131,14 +132,14 @@ pub fn move_of(
 
 // The bytes of an image of so many segments and slots, or 0 if there is none.
 pub fn size_of(geometry: Geometry) -> usize
-    ensures { λ r. ⌜ r ≡ sizeOf (geometry .segments) (geometry .slots) ⌝ }
+    ensures { result ≡ size_of geometry.segments geometry.slots }
 {
     request::size_of(geometry.segments as usize, geometry.slots as usize)
 }
 
 // The bytes of the larger of a move's images.
 pub fn larger_size(command: Move) -> usize
-    ensures { λ r. ⌜ r ≡ largerSize command ⌝ }
+    ensures { result ≡ largerSize command }
 {
     let source = command.source;
     let target = command.target;

@@ -1,12 +1,9 @@
 -- Numbers read from decimal digits.
-use Prim.Native.Nat.{ℕ, _+_, _-_, _*_}
-use mathlib.Core.Bool.{Bool, true, cond, _&&_}
-use mathlib.Core.List.{List, [], _∷_}
-use lib.Dec.{ltb}
-use Rattle·qbx_numbers·specs.specs.declared.Parsed.{Parsed}
-use Rattle·qbx_numbers·specs.specs.declared.Parsed.the-variants.{Number, NoNumber}
-use Rattle·qbx_numbers·specs.specs.declared.Parsed32.{Parsed32}
-use Rattle·qbx_numbers·specs.specs.declared.Parsed32.the-variants.{Number32, NoNumber32}
+use Rattle.std.specs.Prelude.{ℕ, ◌+◌, ◌-◌, ◌*◌, Bool, true, cond, ◌&&◌, List, [], ◌∷◌, ltb}
+use Rattle.qbx_numbers.specs.declared.Parsed.{Parsed}
+use Rattle.qbx_numbers.specs.declared.Parsed.TheVariants.{Number, NoNumber}
+use Rattle.qbx_numbers.specs.declared.Parsed32.{Parsed32}
+use Rattle.qbx_numbers.specs.declared.Parsed32.TheVariants.{Number32, NoNumber32}
 
 -- the digit that a byte is; 10 if it is none
 unfoldable pub digitOf : ℕ → ℕ
@@ -29,9 +26,9 @@ unfoldable pub numberFrom : ℕ → List ℕ → Parsed
 numberFrom v s = cond (allDigits s && ltb (valueFrom v s) numberBound) (Number (valueFrom v s)) NoNumber
 
 -- one digit or more, and nothing else
-unfoldable pub numberOf : List ℕ → Parsed
-numberOf [] = NoNumber
-numberOf (b ∷ s) = numberFrom 0 (b ∷ s)
+unfoldable pub number_of : List ℕ → Parsed
+number_of [] = NoNumber
+number_of (b ∷ s) = numberFrom 0 (b ∷ s)
 
 -- a number that fits 32 bits
 unfoldable pub fits32 : Parsed → Parsed32
@@ -39,4 +36,4 @@ fits32 (Number n) = cond (ltb n 4294967296) (Number32 n) NoNumber32
 fits32 NoNumber = NoNumber32
 
 unfoldable pub number32Of : List ℕ → Parsed32
-number32Of w = fits32 (numberOf w)
+number32Of w = fits32 (number_of w)

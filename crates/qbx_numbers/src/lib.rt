@@ -1,14 +1,16 @@
 // Numbers in decimal, read from a word.
-ghost use mathlib.Core.Path.{_≡_};
-ghost use Rattle·qbx_numbers·specs.specs.Number.{digitOf, numberOf, number32Of};
+ghost use Rattle.std.specs.Prelude.{◌≡◌};
+ghost use Rattle.qbx_numbers.specs.Number.{digitOf, number_of, number32Of};
 
 // A number read from a word.
+#[derive(Drop)]
 pub enum Parsed {
     Number(u64),
     NoNumber,
 }
 
 // A number of 32 bits read from a word.
+#[derive(Drop)]
 pub enum Parsed32 {
     Number32(u32),
     NoNumber32,
@@ -19,7 +21,7 @@ const TENTH: u64 = 1000000000000000000;
 
 // The digit that a byte is; 10 if it is none.
 fn digit(byte: u8) -> u64
-    ensures { λ r. ⌜ r ≡ digitOf byte ⌝ }
+    ensures { result ≡ digitOf byte }
 {
     if byte < 48 {
         return 10;
@@ -32,7 +34,7 @@ fn digit(byte: u8) -> u64
 
 // One digit or more and nothing else is a number, if it is below ten times TENTH.
 pub fn number(word: &[u8]) -> Parsed
-    ensures { λ r. ⌜ r ≡ numberOf (now (word .entry)) ⌝ }
+    ensures { result ≡ number_of word.now }
 {
     if word.len() == 0 {
         return Parsed::NoNumber;
@@ -55,7 +57,7 @@ pub fn number(word: &[u8]) -> Parsed
 
 // A number as `number` reads it, if it fits 32 bits.
 pub fn number32(word: &[u8]) -> Parsed32
-    ensures { λ r. ⌜ r ≡ number32Of (now (word .entry)) ⌝ }
+    ensures { result ≡ number32Of word.now }
 {
     let Parsed::Number(n) = number(word) else {
         return Parsed32::NoNumber32;

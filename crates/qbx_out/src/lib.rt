@@ -1,12 +1,13 @@
 // What the program says, written out.
+ghost use Rattle.std.specs.Prelude.{◌<◌, ◌≤◌};
+ghost use Rattle.qbx_lines.specs.Lines.{mostLine};
+
 use qbx_lines::Line;
 use qbx_words::Complaint;
-ghost use Prim.Native.Nat.{_<_, _≤_};
-ghost use Rattle·qbx_lines.specs.Lines.{mostLine};
 
 // Says a line.
 pub fn print(fd: i32, line: Line)
-    requires { ⌜ line .count ≤ mostLine ⌝ }
+    requires { line.count ≤ mostLine }
 {
     let bytes = line.bytes;
     let n = line.count;
@@ -33,7 +34,7 @@ pub fn fail_as(name: &[u8], fd: i32, what: &[u8], path: &[u8]) {
 
 // Says that an image of so many bytes needs more KiB of stack than are allowed.
 pub fn lack_stack(bytes: usize, needed: u64, allowed: u64, err: i32)
-    requires { ⌜ allowed < needed ⌝ }
+    requires { allowed < needed }
 {
     print(err, qbx_says::say_stack(bytes as u64, needed, allowed));
 }

@@ -1,59 +1,59 @@
 -- The state that a survey says; the segment left aside; the top's version and tally.
-use Prim.Native.Nat.{ℕ, _-_, _%_, _<_}
-use mathlib.Core.Path.{_≡_, refl, sym, ap, _∙_}
+use Prim.Native.Nat.{ℕ, ◌-◌, ◌%◌, ◌<◌}
+use mathlib.Core.Path.{◌≡◌, refl, sym, ap, ◌∙◌}
 use mathlib.Core.Bool.{cond}
-use mathlib.Core.List.{List, [], _∷_}
-use mathlib.Core.Logic.{⊎-elim}
+use mathlib.Core.List.{List, [], ◌∷◌}
+use mathlib.Core.Logic.{⊎_elim}
 use native.Mathlib.Omega.{arith}
-use denote.Enum.Declared.{tagOf}
+use denote.Enum.Declared.{tag_of}
 use types.Run.{OneOf}
-use lib.ListN.{length, getD, set}
-use lib.Seq.{set-out}
-use borrow.Author.Tests.{eq-eqb, ne-eqb}
-use Rattle·model.specs.Chip.{Image}
-use Rattle·model.specs.Header.{headerVersion}
-use Rattle·model.specs.State.{Segment, blank, nextNumber, nextIndex, topVersion, State, clean, unfinished, damaged, caseA, caseB, caseC, caseD, stateOf, segmentsOf}
-use Rattle·tally.specs.declared.Tally.{Tally}
-use Rattle·tally.specs.Seen.{headerIn, tallySeen}
-use Rattle·tally.proofs.Laws.{top-version}
-use Rattle·judge.specs.declared.Headers.{Headers}
-use Rattle·judge.specs.Heads.{headersBy, headersOf}
-use Rattle·scan.specs.declared.Surveyed.{Surveyed}
-use Rattle·scan.specs.Surveys.{surveyOf, stateIn, survey-state}
-use Rattle·account_text.specs.Account.{unseen, shownIn, shown}
-use Rattle·qbx_state.specs.declared.Condition.{Condition}
-use Rattle·qbx_state.specs.declared.Condition.the-variants.{Clean, UnfinishedA, UnfinishedB, UnfinishedC, UnfinishedD, Damaged}
-use Rattle·qbx_state.proofs.Condition.{the-type}
-use Rattle·qbx_state.specs.declared.TopSeen.the-variants.{Missing, Version1, Version2}
-use Rattle·qbx_census.specs.declared.Census.{Census}
-use Rattle·qbx_census.specs.Census.{setAside, censusOf}
-use Rattle·qbx_report·specs.specs.Report.{conditionOf, asideIn, versionTold, topTold}
+use lib.ListN.{length, get_or, set}
+use lib.Seq.{set_out}
+use borrow.Author.Tests.{eq-eqb, ne_eqb}
+use Rattle.model.specs.Chip.{Image}
+use Rattle.model.specs.Header.{headerVersion}
+use Rattle.model.specs.State.{Segment, blank, nextNumber, nextIndex, topVersion, State, clean, unfinished, damaged, caseA, caseB, caseC, caseD, state_of, segmentsOf}
+use Rattle.tally.specs.declared.Tally.{Tally}
+use Rattle.tally.specs.Seen.{headerIn, tallySeen}
+use Rattle.tally.proofs.Laws.{top-version}
+use Rattle.judge.specs.declared.Headers.{Headers}
+use Rattle.judge.specs.Heads.{headersBy, headersOf}
+use Rattle.scan.specs.declared.Surveyed.{Surveyed}
+use Rattle.scan.specs.Surveys.{surveyOf, stateIn, survey-state}
+use Rattle.account_text.specs.Account.{unseen, shownIn, shown}
+use Rattle.qbx_state.specs.declared.Condition.{Condition}
+use Rattle.qbx_state.specs.declared.Condition.TheVariants.{Clean, UnfinishedA, UnfinishedB, UnfinishedC, UnfinishedD, Damaged}
+use Rattle.qbx_state.specs.contracts.Condition.{the_type}
+use Rattle.qbx_state.specs.declared.TopSeen.TheVariants.{Missing, Version1, Version2}
+use Rattle.qbx_census.specs.declared.Census.{Census}
+use Rattle.qbx_census.specs.Census.{setAside, censusOf}
+use Rattle.qbx_report.specs.Report.{conditionOf, asideIn, versionTold, topTold}
 
 -- ---- the state
 
-pub condition-told : (N B : ℕ) (l : List Segment) (r t : Surveyed) → r ≡ surveyOf N B l → r ≡ t → conditionOf (stateIn t) ≡ conditionOf (stateOf N B l)
+pub condition-told : (N B : ℕ) (l : List Segment) (r t : Surveyed) → r ≡ surveyOf N B l → r ≡ t → conditionOf (stateIn t) ≡ conditionOf (state_of N B l)
 condition-told N B l r t e q = ap (λ (x : Surveyed). conditionOf (stateIn x)) (sym q ∙ e) ∙ ap conditionOf (survey-state N B l)
 
 -- ---- the segment left aside
 
 module _ (N : ℕ) (l : List Segment) where
   -- the tag of another condition than (b)
-  pub aside-none : (k : Condition) → OneOf (0 ∷ 1 ∷ 3 ∷ 4 ∷ 5 ∷ []) (tagOf the-type k) → asideIn N l k ≡ N
+  pub aside_none : (k : Condition) → OneOf (0 ∷ 1 ∷ 3 ∷ 4 ∷ 5 ∷ []) (tag_of the_type k) → asideIn N l k ≡ N
   unfolding asideIn
-  aside-none Clean h = refl
-  aside-none UnfinishedA h = refl
-  aside-none UnfinishedB h = absurd (⊎-elim (λ q. omega arith) (⊎-elim (λ q. omega arith) (⊎-elim (λ q. omega arith) (⊎-elim (λ q. omega arith) (λ q. omega arith)))) h)
-  aside-none UnfinishedC h = refl
-  aside-none UnfinishedD h = refl
-  aside-none Damaged h = refl
+  aside_none Clean h = refl
+  aside_none UnfinishedA h = refl
+  aside_none UnfinishedB h = absurd (⊎_elim (λ q. omega arith) (⊎_elim (λ q. omega arith) (⊎_elim (λ q. omega arith) (⊎_elim (λ q. omega arith) (λ q. omega arith)))) h)
+  aside_none UnfinishedC h = refl
+  aside_none UnfinishedD h = refl
+  aside_none Damaged h = refl
 
   -- what the account shows has the one left aside that a state leaves
-  aside-shown : (B : ℕ) → length l ≡ N → setAside (asideIn N l (conditionOf (stateOf N B l))) l ≡ shown N B l
+  aside-shown : (B : ℕ) → length l ≡ N → setAside (asideIn N l (conditionOf (state_of N B l))) l ≡ shown N B l
   unfolding shown
-  aside-shown B z = go (stateOf N B l)
+  aside-shown B z = go (state_of N B l)
     where
-      none : set l N (unseen (getD l N blank)) ≡ l
-      none = set-out l N (unseen (getD l N blank)) (omega (arith, z))
+      none : set l N (unseen (get_or l N blank)) ≡ l
+      none = set_out l N (unseen (get_or l N blank)) (omega (arith, z))
 
       go : (x : State) → setAside (asideIn N l (conditionOf x)) l ≡ shownIn N l x
       go clean = unfold asideIn conditionOf shownIn in none
@@ -63,7 +63,7 @@ module _ (N : ℕ) (l : List Segment) where
       go (unfinished caseD) = unfold asideIn conditionOf shownIn in none
       go damaged = unfold asideIn conditionOf shownIn in none
 
-  pub census-shown : (B : ℕ) → length l ≡ N → (k : Condition) → k ≡ conditionOf (stateOf N B l) → (i : ℕ) → i ≡ asideIn N l k → (r : Census) → r ≡ censusOf (setAside i l) → r ≡ censusOf (shown N B l)
+  pub census-shown : (B : ℕ) → length l ≡ N → (k : Condition) → k ≡ conditionOf (state_of N B l) → (i : ℕ) → i ≡ asideIn N l k → (r : Census) → r ≡ censusOf (setAside i l) → r ≡ censusOf (shown N B l)
   census-shown B z k e i a r q = q ∙ ap censusOf (ap (λ (j : ℕ). setAside j l) (a ∙ ap (asideIn N l) e) ∙ aside-shown B z)
 
 -- ---- the top
@@ -73,22 +73,22 @@ module _ (N B : ℕ) (s : Image) (some : 0 < N) where
   l = segmentsOf N B s
 
   module _ (h : Headers) (e : h ≡ headersOf N l) where
-    next-is : h .next ≡ nextNumber l
+    next-is : h.next ≡ nextNumber l
     unfolding headersOf headersBy
-    next-is = ap (λ (x : Headers). x .next) e
+    next-is = ap (λ (x : Headers). x.next) e
 
-    pub aside-next : (k : Condition) → k ≡ UnfinishedB → h .next % N ≡ asideIn N l k
+    pub aside-next : (k : Condition) → k ≡ UnfinishedB → h.next % N ≡ asideIn N l k
     unfolding asideIn nextIndex
     aside-next k q = rw (q, next-is)
 
-    pub top-missing : h .next ≡ 0 → Missing ≡ topTold N l
+    pub top-missing : h.next ≡ 0 → Missing ≡ topTold N l
     unfolding topTold
     top-missing z = rw (eq-eqb (nextNumber l) 0 (sym next-is ∙ z))
 
-    module _ (z : h .next ≡ 0 → ⊥) (t : Tally) (q : t ≡ tallySeen (headerVersion (headerIn N B (h .next - 1) s))) where
+    module _ (z : h.next ≡ 0 → ⊥) (t : Tally) (q : t ≡ tallySeen (headerVersion (headerIn N B (h.next - 1) s))) where
       told : t ≡ tallySeen (topVersion N l)
       told = q ∙ (ap (λ (n : ℕ). tallySeen (headerVersion (headerIn N B (n - 1) s))) next-is ∙ ap tallySeen (top-version N B s some (omega (arith, z, next-is))))
 
-      pub top-told : cond (t .former) Version1 (Version2 (t .count) (t .«no_bit_left»)) ≡ topTold N l
+      pub top-told : cond t.former Version1 (Version2 t.count t.no_bit_left) ≡ topTold N l
       unfolding topTold versionTold tallySeen
-      top-told = rw (told, ne-eqb (nextNumber l) 0 (λ y. z (next-is ∙ y)))
+      top-told = rw (told, ne_eqb (nextNumber l) 0 (λ y. z (next-is ∙ y)))

@@ -1,20 +1,18 @@
 // What `qbx check` tells of an image: its state, what is in it, counted, and the top's version and tally.
+ghost use Rattle.std.specs.Prelude.{◌≡◌, true};
+ghost use Rattle.model.specs.Chip.{rightSize};
+ghost use Rattle.model.specs.State.{segmentsOf, state_of};
+ghost use Rattle.qbx_report.specs.Report.{conditionOf, asideIn, topTold, reportOf};
+
 use model::SegmentNumber;
 use qbx_census::take_census;
-use qbx_state::Condition;
-use qbx_state::Report;
-use qbx_state::TopSeen;
+use qbx_state::{Condition, Report, TopSeen};
 use scan::Surveyed;
-ghost use mathlib.Core.Path.{_≡_};
-ghost use mathlib.Core.Bool.{true};
-ghost use Rattle·model.specs.Chip.{rightSize};
-ghost use Rattle·model.specs.State.{segmentsOf, stateOf};
-ghost use Rattle·qbx_report·specs.specs.Report.{conditionOf, asideIn, topTold, reportOf};
 
 // The state, as the survey finds it.
 fn condition_of(image: &[u8], segments: usize, slots: usize) -> Condition
-    requires { ⌜ rightSize segments slots (now image) ≡ true ⌝ }
-    ensures { λ r. ⌜ r ≡ conditionOf (stateOf segments slots (segmentsOf segments slots (now (image .entry)))) ⌝ }
+    requires { rightSize segments slots image.now ≡ true }
+    ensures { result ≡ conditionOf (state_of segments slots (segmentsOf segments slots image.now)) }
 {
     let surveyed = scan::survey(image, segments, slots);
     match surveyed {
@@ -36,8 +34,8 @@ fn condition_of(image: &[u8], segments: usize, slots: usize) -> Condition
 // The index of the segment after the top, whose erase is owed in an image unfinished by (b) and which is left aside; in others
 // none is, which is the index behind the last.
 fn left_aside(image: &[u8], segments: usize, slots: usize, condition: Condition) -> usize
-    requires { ⌜ rightSize segments slots (now image) ≡ true ⌝ }
-    ensures { λ r. ⌜ r ≡ asideIn segments (segmentsOf segments slots (now (image .entry))) condition ⌝ }
+    requires { rightSize segments slots image.now ≡ true }
+    ensures { result ≡ asideIn segments (segmentsOf segments slots image.now) condition }
 {
     let Condition::UnfinishedB = condition else {
         return segments;
@@ -48,8 +46,8 @@ fn left_aside(image: &[u8], segments: usize, slots: usize, condition: Condition)
 
 // The header of the top, whose number is the one before the next.
 fn see_top(image: &[u8], segments: usize, slots: usize) -> TopSeen
-    requires { ⌜ rightSize segments slots (now image) ≡ true ⌝ }
-    ensures { λ r. ⌜ r ≡ topTold segments (segmentsOf segments slots (now (image .entry))) ⌝ }
+    requires { rightSize segments slots image.now ≡ true }
+    ensures { result ≡ topTold segments (segmentsOf segments slots image.now) }
 {
     let seen = segments::see_headers(image, segments, slots);
     if seen.next == 0 {
@@ -68,8 +66,8 @@ fn see_top(image: &[u8], segments: usize, slots: usize) -> TopSeen
 
 // What a check tells of an image of a right size.
 pub fn report_on(image: &[u8], segments: usize, slots: usize) -> Report
-    requires { ⌜ rightSize segments slots (now image) ≡ true ⌝ }
-    ensures { λ r. ⌜ r ≡ reportOf segments slots (segmentsOf segments slots (now (image .entry))) ⌝ }
+    requires { rightSize segments slots image.now ≡ true }
+    ensures { result ≡ reportOf segments slots (segmentsOf segments slots image.now) }
 {
     let condition = condition_of(image, segments, slots);
     let aside = left_aside(image, segments, slots, condition);

@@ -1,15 +1,15 @@
 // What a command asks of the store, on the image alone.
-use model::Answer;
-use model::Performed;
+ghost use Rattle.std.specs.Prelude.{◌≡◌};
+ghost use Rattle.model.specs.Answers.{code_of, performed};
+ghost use Rattle.qbx_requests.specs.Requests.{performedBy};
+
+use model::{Answer, Performed};
 use qbx_verbs::Verb;
 use qbx_words::Command;
-ghost use mathlib.Core.Path.{_≡_};
-ghost use Rattle·model.specs.Answers.{codeOf, performed};
-ghost use Rattle·qbx_requests·specs.specs.Requests.{performedBy};
 
 // Nothing done.
 fn idle() -> Performed
-    ensures { λ r. ⌜ (codeOf (r .answer) ≡ 0) × (r .steps ≡ 0) ⌝ }
+    ensures { (code_of result.answer ≡ 0) × (result.steps ≡ 0) }
 {
     Performed {
         answer: Answer::Done,
@@ -19,7 +19,7 @@ fn idle() -> Performed
 
 // A request that writes. A verb that does not write does nothing.
 pub fn perform(image: &mut [u8], command: Command, contents: &[u8]) -> Performed
-    ensures { λ r. ⌜ performed r (now (image .exit)) ≡ performedBy (command .verb) command (now (contents .entry)) (now (image .entry)) ⌝ }
+    ensures { performed result image.new ≡ performedBy command.verb command contents.now image.old }
 {
     let segments = command.segments as usize;
     let slots = command.slots as usize;

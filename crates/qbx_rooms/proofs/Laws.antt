@@ -1,22 +1,22 @@
 -- A buffer of so many bytes, and what the buffers hold.
-use Prim.Native.Nat.{ℕ, zero, suc, _<_, _≤_, max}
-use mathlib.Core.Path.{_≡_, refl, sym, ap, subst}
+use Prim.Native.Nat.{ℕ, zero, suc, ◌<◌, ◌≤◌, max}
+use mathlib.Core.Path.{◌≡◌, refl, sym, ap, subst}
 use mathlib.Core.Bool.{Bool, true, false, cond}
 use native.Mathlib.Omega.{arith}
 use lib.ListN.{length, replicate, length-replicate}
 use lib.Dec.{leb, ltb}
 use borrow.Author.Tests.{leb-true, le-leb, lt-leb, ltb-true, ltb-false}
-use Rattle·model.specs.Chip.{largestImage, inRange, imageLength}
-use Rattle·request.specs.Request.{sizeOf}
-use Rattle·request.proofs.Laws.{in-bounds, most-pages}
-use Rattle·qbx_rooms·specs.specs.Rooms.{forBuffer, roomOf, needOf, moveNeedOf, lackOf}
+use Rattle.model.specs.Chip.{largestImage, in_range, imageLength}
+use Rattle.request.specs.Request.{size_of}
+use Rattle.request.proofs.Laws.{in_bounds, most-pages}
+use Rattle.qbx_rooms.specs.Rooms.{forBuffer, roomOf, need_of, moveNeedOf, lackOf}
 
 -- so many bytes alike; over any count, so that none is counted out
-pub as-many : (n v : ℕ) → n ≡ length (replicate n v)
-as-many n v = sym (length-replicate n v)
+pub as_many : (n v : ℕ) → n ≡ length (replicate n v)
+as_many n v = sym (length-replicate n v)
 
 pub longer : (n s v : ℕ) → s < n → s < length (replicate n v)
-longer n s v h = subst (λ (y : ℕ). s < y) (as-many n v) h
+longer n s v h = subst (λ (y : ℕ). s < y) (as_many n v) h
 
 -- what a buffer holds the next one holds
 pub grows : (k s : ℕ) → leb s (roomOf k) ≡ true → true ≡ leb s (roomOf (suc k))
@@ -25,11 +25,11 @@ grows zero s h = sym (le-leb s 4194304 (omega (arith, leb-true s 1048576 h)))
 grows (suc zero) s h = sym (le-leb s largestImage (omega (arith, leb-true s 4194304 h)))
 grows (suc (suc k)) s h = sym h
 
-pub last-one : (a b c k : ℕ) → ((k ≡ 0) → ⊥) → ((k ≡ 1) → ⊥) → forBuffer a b c k ≡ c
+pub last_one : (a b c k : ℕ) → ((k ≡ 0) → ⊥) → ((k ≡ 1) → ⊥) → forBuffer a b c k ≡ c
 unfolding forBuffer
-last-one a b c zero f g = absurd (f refl)
-last-one a b c (suc zero) f g = absurd (g refl)
-last-one a b c (suc (suc k)) f g = refl
+last_one a b c zero f g = absurd (f refl)
+last_one a b c (suc zero) f g = absurd (g refl)
+last_one a b c (suc (suc k)) f g = refl
 
 -- what is lacking is more than is allowed; where nothing is, enough is allowed
 pub lacks : (needed allowed : ℕ) {r : ℕ} → r ≡ lackOf needed allowed → 0 < r → allowed < r
@@ -37,16 +37,16 @@ unfolding lackOf
 lacks needed allowed {r} is h = go (ltb allowed needed) refl is
   where
     go : (t : Bool) → ltb allowed needed ≡ t → r ≡ cond t needed 0 → allowed < r
-    go true e is′ = omega (arith, ltb-true allowed needed e)
-    go false e is′ = omega arith
+    go true e is' = omega (arith, ltb-true allowed needed e)
+    go false e is' = omega arith
 
 pub lacks-none : (needed allowed : ℕ) {r : ℕ} → r ≡ lackOf needed allowed → r ≤ 0 → needed ≤ allowed
 unfolding lackOf
 lacks-none needed allowed {r} is h = go (ltb allowed needed) refl is
   where
     go : (t : Bool) → ltb allowed needed ≡ t → r ≡ cond t needed 0 → needed ≤ allowed
-    go true e is′ = omega (arith, ltb-true allowed needed e)
-    go false e is′ = ltb-false allowed needed e
+    go true e is' = omega (arith, ltb-true allowed needed e)
+    go false e is' = ltb-false allowed needed e
 
 -- whether a buffer holds an image, and its stack is allowed, by what was reckoned
 module _ (k s : ℕ) {size room : ℕ} (is : size ≡ s) (holds : room ≡ roomOf k) where
@@ -56,28 +56,28 @@ module _ (k s : ℕ) {size room : ℕ} (is : size ≡ s) (holds : room ≡ roomO
   pub not-held : room < size → false ≡ leb s (roomOf k)
   not-held h = sym (lt-leb s (roomOf k) (omega arith))
 
-  pub taken : (m : ℕ) (prints told : Bool) {lacking allowed : ℕ} → size ≤ room → lacking ≡ lackOf (needOf prints k) allowed → lacking ≤ 0 → prints ≡ told → roomOf k ≡ roomOf m → needOf told k ≡ needOf told m → (s ≤ roomOf m) × (needOf told m ≤ allowed)
+  pub taken : (m : ℕ) (prints told : Bool) {lacking allowed : ℕ} → size ≤ room → lacking ≡ lackOf (need_of prints k) allowed → lacking ≤ 0 → prints ≡ told → roomOf k ≡ roomOf m → need_of told k ≡ need_of told m → (s ≤ roomOf m) × (need_of told m ≤ allowed)
   taken m prints told {allowed = allowed} h n a e f g =
-      let p = ap (λ (t : Bool). needOf t k) e in
-      (omega arith, omega (arith, lacks-none (needOf prints k) allowed n a))
+      let p = ap (λ (t : Bool). need_of t k) e in
+      (omega arith, omega (arith, lacks-none (need_of prints k) allowed n a))
 
 -- the same of a move, by the larger of its images
 pub taken-both : (k a b : ℕ) {size room : ℕ} → size ≡ max a b → room ≡ roomOf k → (m : ℕ) {lacking allowed : ℕ} → size ≤ room → lacking ≡ lackOf (moveNeedOf k) allowed → lacking ≤ 0 → roomOf k ≡ roomOf m → moveNeedOf k ≡ moveNeedOf m → (a ≤ roomOf m) × (b ≤ roomOf m) × (moveNeedOf m ≤ allowed)
 taken-both k a b is holds m {allowed = allowed} h n l f g = (omega arith, omega arith, omega (arith, lacks-none (moveNeedOf k) allowed n l))
 
 -- the last buffer holds every image
-any-size : (N B : ℕ) → sizeOf N B ≤ largestImage
-unfolding sizeOf
-any-size N B = go (inRange N B) refl
+any-size : (N B : ℕ) → size_of N B ≤ largestImage
+unfolding size_of
+any-size N B = go (in_range N B) refl
   where
-    go : (t : Bool) → inRange N B ≡ t → cond t (imageLength N B) 0 ≤ largestImage
-    go true e = unfold imageLength in (let b = in-bounds N B e in omega (arith, most-pages N B (b .0) (b .1)))
+    go : (t : Bool) → in_range N B ≡ t → cond t (imageLength N B) 0 ≤ largestImage
+    go true e = unfold imageLength in (let b = in_bounds N B e in omega (arith, most-pages N B b.0 b.1))
     go false e = omega arith
 
-pub any-held : (N B : ℕ) → leb (sizeOf N B) (roomOf 2) ≡ true
+pub any_held : (N B : ℕ) → leb (size_of N B) (roomOf 2) ≡ true
 unfolding roomOf forBuffer
-any-held N B = le-leb (sizeOf N B) largestImage (any-size N B)
+any_held N B = le-leb (size_of N B) largestImage (any-size N B)
 
-pub both-held : (N B M C : ℕ) → leb (max (sizeOf N B) (sizeOf M C)) (roomOf 2) ≡ true
+pub both-held : (N B M C : ℕ) → leb (max (size_of N B) (size_of M C)) (roomOf 2) ≡ true
 unfolding roomOf forBuffer
-both-held N B M C = le-leb (max (sizeOf N B) (sizeOf M C)) largestImage (omega (arith, any-size N B, any-size M C))
+both-held N B M C = le-leb (max (size_of N B) (size_of M C)) largestImage (omega (arith, any-size N B, any-size M C))

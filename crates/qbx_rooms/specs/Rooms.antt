@@ -1,8 +1,6 @@
 -- The buffers for images and texts.
-use Prim.Native.Nat.{ℕ, zero, suc}
-use mathlib.Core.Bool.{Bool, cond}
-use lib.Dec.{ltb}
-use Rattle·model.specs.Chip.{largestImage}
+use Rattle.std.specs.Prelude.{ℕ, zero, suc, Bool, cond, ltb}
+use Rattle.model.specs.Chip.{largestImage}
 
 -- of three numbers the one for a buffer; from the third buffer on it is the last
 unfoldable pub forBuffer : ℕ → ℕ → ℕ → ℕ → ℕ
@@ -15,8 +13,8 @@ unfoldable pub roomOf : ℕ → ℕ
 roomOf k = forBuffer 1048576 4194304 largestImage k
 
 -- the KiB of stack that it asks for, with or without a buffer for a text beside it: Linux lets the arguments and the environment have a quarter of them, at most 6 MiB, and the rest holds the buffers and the frames below them
-unfoldable pub needOf : Bool → ℕ → ℕ
-needOf prints k = cond prints (forBuffer 2560 7168 26624 k) (forBuffer 1536 6144 24576 k)
+unfoldable pub need_of : Bool → ℕ → ℕ
+need_of prints k = cond prints (forBuffer 2560 7168 26624 k) (forBuffer 1536 6144 24576 k)
 
 -- the KiB of stack that two such buffers ask for, with tables of 384 KiB: for the images of a move or a rebuild
 unfoldable pub moveNeedOf : ℕ → ℕ

@@ -1,9 +1,9 @@
 // The buffers for images, by number: what each holds, and the stack that it asks for.
-ghost use mathlib.Core.Path.{_≡_};
-ghost use mathlib.Core.Bool.{true};
-ghost use Rattle·qbx_rooms·specs.specs.Rooms.{roomOf, needOf, moveNeedOf, lackOf};
+ghost use Rattle.std.specs.Prelude.{◌≡◌, true};
+ghost use Rattle.qbx_rooms.specs.Rooms.{roomOf, need_of, moveNeedOf, lackOf};
 
 // What the process has: the KiB of stack that it may use, and the descriptors for what is said and for what is wrong.
+#[derive(Drop)]
 pub struct Process {
     pub allowed: u64,
     pub out: i32,
@@ -12,7 +12,7 @@ pub struct Process {
 
 // The bytes of the largest image that a buffer holds.
 pub fn room_of(buffer: u8) -> usize
-    ensures { λ r. ⌜ r ≡ roomOf buffer ⌝ }
+    ensures { result ≡ roomOf buffer }
 {
     if buffer == 0 {
         return 1048576;
@@ -25,7 +25,7 @@ pub fn room_of(buffer: u8) -> usize
 
 // The KiB of stack that it asks for with a buffer for a text beside it.
 fn text_need_of(buffer: u8) -> u64
-    ensures { λ r. ⌜ r ≡ needOf true buffer ⌝ }
+    ensures { result ≡ need_of true buffer }
 {
     if buffer == 0 {
         return 2560;
@@ -38,7 +38,7 @@ fn text_need_of(buffer: u8) -> u64
 
 // The KiB of stack that it asks for.
 fn need_of(buffer: u8, prints: bool) -> u64
-    ensures { λ r. ⌜ r ≡ needOf prints buffer ⌝ }
+    ensures { result ≡ need_of prints buffer }
 {
     if prints {
         return text_need_of(buffer);
@@ -54,7 +54,7 @@ fn need_of(buffer: u8, prints: bool) -> u64
 
 // The KiB of stack that two of it ask for, with the images of a move or a rebuild and the library's tables.
 fn move_need_of(buffer: u8) -> u64
-    ensures { λ r. ⌜ r ≡ moveNeedOf buffer ⌝ }
+    ensures { result ≡ moveNeedOf buffer }
 {
     if buffer == 0 {
         return 3584;
@@ -67,20 +67,20 @@ fn move_need_of(buffer: u8) -> u64
 
 // The KiB that it asks for, where fewer are allowed; 0 where they are.
 pub fn lacking(buffer: u8, prints: bool, allowed: u64) -> u64
-    ensures { λ r. ⌜ r ≡ lackOf (needOf prints buffer) allowed ⌝ }
+    ensures { result ≡ lackOf (need_of prints buffer) allowed }
 {
     lack(need_of(buffer, prints), allowed)
 }
 
 // The same of two of it.
 pub fn lacking_for_move(buffer: u8, allowed: u64) -> u64
-    ensures { λ r. ⌜ r ≡ lackOf (moveNeedOf buffer) allowed ⌝ }
+    ensures { result ≡ lackOf (moveNeedOf buffer) allowed }
 {
     lack(move_need_of(buffer), allowed)
 }
 
 fn lack(needed: u64, allowed: u64) -> u64
-    ensures { λ r. ⌜ r ≡ lackOf needed allowed ⌝ }
+    ensures { result ≡ lackOf needed allowed }
 {
     if allowed < needed {
         return needed;

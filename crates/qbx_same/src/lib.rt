@@ -1,12 +1,13 @@
 // Whether a name leads to a certain file. A move or a rebuild writes its target under one name and gives it another;
 // neither may be its source's, whatever the names look like.
-use libc::types::stat;
-use libc::types::timespec;
-ghost use mathlib.Core.Path.{_≡_};
-ghost use Rattle·qbx_same·specs.specs.Same.{isSame, targetClash, besideClash, clashOf};
+ghost use Rattle.std.specs.Prelude.{◌≡◌};
+ghost use Rattle.qbx_same.specs.Same.{isSame, targetClash, besideClash, clashOf};
+
+use libc::types::{stat, timespec};
 
 // What tells a file from every other one while it is open: its device and its number there. The kind is 0 where the system
 // has told nothing.
+#[derive(Drop)]
 pub struct Identity {
     pub device: u64,
     pub number: u64,
@@ -14,6 +15,7 @@ pub struct Identity {
 }
 
 // What a name leads to.
+#[derive(Drop)]
 pub enum Found {
     File(Identity),
     Nothing,
@@ -22,6 +24,7 @@ pub enum Found {
 
 // Whether the source stays as it is if the target is written: its own file, or that beside it, is the source, or something
 // else than a plain file is in the way; or a name could not be looked at, and the system's reason stays to be told.
+#[derive(Drop)]
 pub enum Clash {
     Apart,
     IsSource,
@@ -94,7 +97,7 @@ fn look(path: &[u8]) -> Found {
 // ---- what follows from it
 
 fn is_same(a: Identity, b: Identity) -> bool
-    ensures { λ r. ⌜ r ≡ isSame a b ⌝ }
+    ensures { result ≡ isSame a b }
 {
     if a.device == b.device {
         return a.number == b.number;
@@ -104,7 +107,7 @@ fn is_same(a: Identity, b: Identity) -> bool
 
 // The name beside the target's: what has it is removed. A link to a folder could be on the way to the source.
 fn with_beside(source: Identity, beside: Found) -> Clash
-    ensures { λ r. ⌜ r ≡ besideClash source beside ⌝ }
+    ensures { result ≡ besideClash source beside }
 {
     match beside {
         Found::Nothing => Clash::Apart,
@@ -123,7 +126,7 @@ fn with_beside(source: Identity, beside: Found) -> Clash
 
 // The target's own name: the file that has it is replaced. Where it is no clash, there may be one beside it.
 fn with_target(source: Identity, target: Found, beside: Clash) -> Clash
-    ensures { λ r. ⌜ r ≡ targetClash source target beside ⌝ }
+    ensures { result ≡ targetClash source target beside }
 {
     match target {
         Found::Nothing => beside,
@@ -138,7 +141,7 @@ fn with_target(source: Identity, target: Found, beside: Clash) -> Clash
 }
 
 fn judge(source: Identity, target: Found, beside: Found) -> Clash
-    ensures { λ r. ⌜ r ≡ clashOf source target beside ⌝ }
+    ensures { result ≡ clashOf source target beside }
 {
     with_target(source, target, with_beside(source, beside))
 }

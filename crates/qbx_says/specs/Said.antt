@@ -1,16 +1,13 @@
 -- What the program says: an answer with its steps, what is wrong with a command.
-use Prim.Native.Nat.{ℕ}
-use mathlib.Core.Bool.{cond}
-use mathlib.Core.List.{List, [], _++_}
-use lib.Dec.{eqb}
-use Rattle·model.specs.declared.Answer.{Answer}
-use Rattle·model.specs.declared.Answer.the-variants.{Done, Size, Number, Length, Damaged, Unfinished, Absent, Full, Worn, Cut, ShortTable, FormerVersion, Foreign, Shares, ShortBuffer}
-use Rattle·model.specs.Answers.{codeOf}
-use Rattle·model.specs.Chip.{inRange, imageLength}
-use Rattle·text.specs.Text.{text}
-use Rattle·text.specs.Decimal.{decimal}
-use Rattle·qbx_words.specs.declared.Complaint.{Complaint}
-use Rattle·qbx_words.specs.declared.Complaint.the-variants.{Segments, Slots, NoVerb, Block, NoTarget, TargetSegments, TargetSlots, NoShares, Tenant, NoOption, Budget}
+use Rattle.std.specs.Prelude.{ℕ, cond, List, [], ◌++◌, eqb}
+use Rattle.model.specs.declared.Answer.{Answer}
+use Rattle.model.specs.declared.Answer.TheVariants.{Done, Size, Number, Length, Damaged, Unfinished, Absent, Full, Worn, Cut, ShortTable, FormerVersion, Foreign, Shares, ShortBuffer}
+use Rattle.model.specs.Answers.{code_of}
+use Rattle.model.specs.Chip.{in_range, imageLength}
+use Rattle.text.specs.Text.{text}
+use Rattle.text.specs.Decimal.{decimal}
+use Rattle.qbx_words.specs.declared.Complaint.{Complaint}
+use Rattle.qbx_words.specs.declared.Complaint.TheVariants.{Segments, Slots, NoVerb, Block, NoTarget, TargetSegments, TargetSlots, NoShares, Tenant, NoOption, Budget}
 
 -- ---- answers
 
@@ -38,7 +35,7 @@ reason ShortBuffer = text " short buffer"
 
 -- an answer, as "refused: 7 full"
 unfoldable pub answerText : Answer → List ℕ
-answerText a = verdict (codeOf a) ++ decimal (codeOf a) ++ reason a
+answerText a = verdict (code_of a) ++ decimal (code_of a) ++ reason a
 
 unfoldable pub stepsWord : ℕ → List ℕ
 stepsWord n = cond (eqb n 1) (text " step") (text " steps")
@@ -52,7 +49,7 @@ performedLine a n = performedText a n ++ text "\n"
 
 -- what N and B ask for: so many bytes, or to be in their ranges
 unfoldable pub askedText : ℕ → ℕ → List ℕ
-askedText N B = cond (inRange N B) (text ": N and B ask for " ++ decimal (imageLength N B) ++ text " bytes") (text ": N is 2 to 255 and B is 2 to 255")
+askedText N B = cond (in_range N B) (text ": N and B ask for " ++ decimal (imageLength N B) ++ text " bytes") (text ": N is 2 to 255 and B is 2 to 255")
 
 -- a wrong size with both numbers, as "refused: 1 size, 0 steps: N and B ask for 1536 bytes; 1280 bytes are there"
 unfoldable pub sizeLine : ℕ → ℕ → ℕ → List ℕ

@@ -1,23 +1,18 @@
 // What qbx says, a line each. Nothing is written here.
-use model::Answer;
-use model::Performed;
-use qbx_lines::Line;
-use qbx_lines::add;
-use qbx_lines::add_count;
-use qbx_lines::add_number;
-use qbx_lines::empty;
+ghost use Rattle.std.specs.Prelude.{◌≡◌, ◌+◌, ◌<◌, ◌≤◌};
+ghost use Rattle.qbx_lines.specs.Lines.{mostLine, said, Added};
+ghost use Rattle.qbx_says.specs.Said.{verdict, reason, stepsWord, answerText, performedText, performedLine, askedText, sizeLine, complaintText, stackLine};
+
+use model::{Answer, Performed};
+use qbx_lines::{Line, add, add_count, add_number, empty};
 use qbx_words::Complaint;
-ghost use mathlib.Core.Path.{_≡_};
-ghost use Prim.Native.Nat.{_+_, _<_, _≤_};
-ghost use Rattle·qbx_lines.specs.Lines.{mostLine, said, Added};
-ghost use Rattle·qbx_says·specs.specs.Said.{verdict, reason, stepsWord, answerText, performedText, performedLine, askedText, sizeLine, complaintText, stackLine};
 
 // ---- answers
 
 // Whether it is done, cut or refused, by its number.
 pub fn add_verdict(line: Line, code: u64) -> Line
-    requires { ⌜ line .count ≤ 100 ⌝ }
-    ensures { λ r. ⌜ Added line (verdict code) r × (r .count ≤ line .count + 9) ⌝ }
+    requires { line.count ≤ 100 }
+    ensures { Added line (verdict code) result × (result.count ≤ line.count + 9) }
 {
     if code == 0 {
         return add(line, b"done: ");
@@ -29,8 +24,8 @@ pub fn add_verdict(line: Line, code: u64) -> Line
 }
 
 fn add_reason(line: Line, answer: Answer) -> Line
-    requires { ⌜ line .count ≤ 100 ⌝ }
-    ensures { λ r. ⌜ Added line (reason answer) r × (r .count ≤ line .count + 15) ⌝ }
+    requires { line.count ≤ 100 }
+    ensures { Added line (reason answer) result × (result.count ≤ line.count + 15) }
 {
     match answer {
         Answer::Done => add(line, b""),
@@ -53,7 +48,7 @@ fn add_reason(line: Line, answer: Answer) -> Line
 
 // An answer, with no line end.
 pub fn say_answer(answer: Answer) -> Line
-    ensures { λ r. ⌜ (said r ≡ answerText answer) × (r .count ≤ 44) ⌝ }
+    ensures { (said result ≡ answerText answer) × (result.count ≤ 44) }
 {
     let number = request::number_of(answer);
     let begun = add_verdict(empty(), number);
@@ -62,8 +57,8 @@ pub fn say_answer(answer: Answer) -> Line
 
 // The word behind a count of steps.
 pub fn add_steps_word(line: Line, steps: u64) -> Line
-    requires { ⌜ line .count ≤ 100 ⌝ }
-    ensures { λ r. ⌜ Added line (stepsWord steps) r × (r .count ≤ line .count + 6) ⌝ }
+    requires { line.count ≤ 100 }
+    ensures { Added line (stepsWord steps) result × (result.count ≤ line.count + 6) }
 {
     if steps == 1 {
         add(line, b" step")
@@ -74,7 +69,7 @@ pub fn add_steps_word(line: Line, steps: u64) -> Line
 
 // An answer and the steps done, with no line end.
 pub fn say_steps(answer: Answer, steps: u64) -> Line
-    ensures { λ r. ⌜ (said r ≡ performedText answer steps) × (r .count ≤ 72) ⌝ }
+    ensures { (said result ≡ performedText answer steps) × (result.count ≤ 72) }
 {
     let answered = add(say_answer(answer), b", ");
     let counted = add_number(answered, steps);
@@ -83,7 +78,7 @@ pub fn say_steps(answer: Answer, steps: u64) -> Line
 
 // An answer and the steps done.
 pub fn say_performed(performed: Performed) -> Line
-    ensures { λ r. ⌜ (said r ≡ performedLine (performed .answer) (performed .steps)) × (r .count ≤ mostLine) ⌝ }
+    ensures { (said result ≡ performedLine performed.answer performed.steps) × (result.count ≤ mostLine) }
 {
     let answer = performed.answer;
     add(say_steps(answer, performed.steps), b"\n")
@@ -91,8 +86,8 @@ pub fn say_performed(performed: Performed) -> Line
 
 // What N and B ask for.
 pub fn add_asked(line: Line, segments: usize, slots: usize) -> Line
-    requires { ⌜ line .count ≤ 100 ⌝ }
-    ensures { λ r. ⌜ Added line (askedText segments slots) r × (r .count ≤ line .count + 44) ⌝ }
+    requires { line.count ≤ 100 }
+    ensures { Added line (askedText segments slots) result × (result.count ≤ line.count + 44) }
 {
     if request::in_range(segments, slots) {
         let bytes = request::size_of(segments, slots) as u64;
@@ -104,7 +99,7 @@ pub fn add_asked(line: Line, segments: usize, slots: usize) -> Line
 
 // A wrong size: beside the refusal what N and B ask for, and the bytes that are there.
 pub fn say_size(segments: usize, slots: usize, there: u64) -> Line
-    ensures { λ r. ⌜ (said r ≡ sizeLine segments slots there) × (r .count ≤ mostLine) ⌝ }
+    ensures { (said result ≡ sizeLine segments slots there) × (result.count ≤ mostLine) }
 {
     let asked = add_asked(say_steps(Answer::Size, 0), segments, slots);
     let counted = add_count(asked, b"; ", there);
@@ -114,7 +109,7 @@ pub fn say_size(segments: usize, slots: usize, there: u64) -> Line
 // ---- complaints
 
 pub fn say_complaint(complaint: Complaint) -> Line
-    ensures { λ r. ⌜ (said r ≡ complaintText complaint) × (r .count ≤ mostLine) ⌝ }
+    ensures { (said result ≡ complaintText complaint) × (result.count ≤ mostLine) }
 {
     let line = empty();
     match complaint {
@@ -146,8 +141,8 @@ pub fn say_complaint(complaint: Complaint) -> Line
 
 // That the stack is too small for an image of so many bytes: the KiB that it needs, and those that are allowed.
 pub fn say_stack(bytes: u64, needed: u64, allowed: u64) -> Line
-    requires { ⌜ allowed < needed ⌝ }
-    ensures { λ r. ⌜ (said r ≡ stackLine bytes needed allowed) × (r .count ≤ mostLine) ⌝ }
+    requires { allowed < needed }
+    ensures { (said result ≡ stackLine bytes needed allowed) × (result.count ≤ mostLine) }
 {
     let image = add_count(empty(), b"qbx: an image of ", bytes);
     let stack = add_count(image, b" bytes needs a stack of ", needed);

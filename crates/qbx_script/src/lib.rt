@@ -2,8 +2,7 @@
 // IMAGE N B move TARGET N B [--budget STEPS], or the same with rebuild, or IMAGE N B share-put SHARES TENANT BLOCK [< contents], or
 // the same with share-get or share-delete.
 // All that is said goes to standard output, so that a whole story is one output to compare.
-use libc::STDIN_FILENO;
-use libc::STDOUT_FILENO;
+use libc::{STDIN_FILENO, STDOUT_FILENO};
 use qbx_move_words::MoveReading;
 use qbx_script_words::word;
 use qbx_share_words::ShareReading;

@@ -1,10 +1,8 @@
 -- A script's words.
-use Prim.Native.Nat.{ℕ, zero, suc, _+_}
-use mathlib.Core.List.{List}
-use lib.ListN.{take, drop}
-use Rattle·bytes.specs.Bytes.{indexOf}
+use Rattle.std.specs.Prelude.{ℕ, zero, suc, ◌+◌, List, take, drop}
+use Rattle.bytes.specs.Bytes.{index_of}
 
 -- what stands before the first space, or after so many spaces and before the next
-unfoldable pub wordAt : ℕ → List ℕ → List ℕ
-wordAt zero s = take (indexOf 32 s) s
-wordAt (suc k) s = wordAt k (drop (indexOf 32 s + 1) s)
+unfoldable pub word_at : ℕ → List ℕ → List ℕ
+word_at zero s = take (index_of 32 s) s
+word_at (suc k) s = word_at k (drop (index_of 32 s + 1) s)

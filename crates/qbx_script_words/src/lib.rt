@@ -1,10 +1,10 @@
 // The words of a script's line.
-ghost use mathlib.Core.Path.{_≡_};
-ghost use Rattle·qbx_script_words·specs.specs.Script.{wordAt};
+ghost use Rattle.std.specs.Prelude.{◌≡◌};
+ghost use Rattle.qbx_script_words.specs.Script.{word_at};
 
 // The word behind so many spaces; empty if there are not so many.
 pub fn word(line: &[u8], k: usize) -> &[u8]
-    ensures { λ r. ⌜ now r ≡ wordAt k (now (line .entry)) ⌝ }
+    ensures { result.now ≡ word_at k line.now }
 {
     let mut at = 0;
     let mut i = 0;

@@ -1,16 +1,14 @@
 // The work of a tenant's command, with its words handed in: the file of shares and the image's file are read, the library asked,
 // the image's file replaced and the answer said.
+ghost use Rattle.std.specs.Prelude.{◌<◌, length};
+ghost use Rattle.request.specs.Request.{size_of};
+
 use model::Answer;
 use qbx_files::Filled;
-use qbx_out::fail;
-use qbx_out::print;
+use qbx_out::{fail, print};
 use qbx_same::Clash;
 use qbx_share_file::Listing;
-use qbx_share_words::ShareCommand;
-use qbx_share_words::ShareVerb;
-ghost use Prim.Native.Nat.{_<_};
-ghost use lib.ListN.{length};
-ghost use Rattle·request.specs.Request.{sizeOf};
+use qbx_share_words::{ShareCommand, ShareVerb};
 
 // Three numbers for each of 41 tenants: one more than there may be, so that too many are seen.
 const NUMBERS: usize = 123;
@@ -96,7 +94,7 @@ fn work(
     out: i32,
     err: i32,
 )
-    requires { ⌜ sizeOf (command .segments) (command .slots) < length (now image) ⌝ }
+    requires { size_of command.segments command.slots < length image.old }
 {
     let size = request::size_of(command.segments as usize, command.slots as usize);
     let file = qbx_images::present(image, path, size, false);
@@ -141,7 +139,7 @@ fn serve(
     out: i32,
     err: i32,
 )
-    requires { ⌜ sizeOf (command .segments) (command .slots) < length (now image) ⌝ }
+    requires { size_of command.segments command.slots < length image.old }
 {
     // a byte more than it may have, so that a longer file is seen to be one
     let mut text = [0u8; MOST_TEXT + 1];
@@ -175,7 +173,7 @@ pub fn obey(
     out: i32,
     err: i32,
 )
-    requires { ⌜ sizeOf (command .segments) (command .slots) < length (now image) ⌝ }
+    requires { size_of command.segments command.slots < length image.old }
 {
     let clash = qbx_same::clash_of(shares_path, path);
     if let Clash::SourceBeside = clash {

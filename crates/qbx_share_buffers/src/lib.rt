@@ -1,11 +1,10 @@
 // A tenant's command on its image in the smallest of three buffers that holds it, each with its own limit of the stack.
+ghost use Rattle.std.specs.Prelude.{◌≡◌, true, leb};
+ghost use Rattle.request.specs.Request.{size_of};
+ghost use Rattle.qbx_rooms.specs.Rooms.{roomOf};
+
 use qbx_rooms::Process;
 use qbx_share_words::ShareCommand;
-ghost use mathlib.Core.Path.{_≡_};
-ghost use mathlib.Core.Bool.{true};
-ghost use lib.Dec.{leb};
-ghost use Rattle·request.specs.Request.{sizeOf};
-ghost use Rattle·qbx_rooms.specs.Rooms.{roomOf};
 
 // Obeys a command in the first buffer that holds its image, up to the given one, or tells that the stack is too small for that
 // buffer; whether there is one. It calls itself for the compiler's sake: see `qbx_buffers`.
@@ -17,7 +16,7 @@ fn within(
     command: ShareCommand,
     contents: &[u8],
 ) -> bool
-    ensures { λ r. ⌜ r ≡ leb (sizeOf (command .segments) (command .slots)) (roomOf last) ⌝ }
+    ensures { result ≡ leb (size_of command.segments command.slots) (roomOf last) }
 {
     if last > 0 {
         if within(last - 1, process, path, shares, command, contents) {
@@ -52,7 +51,7 @@ pub fn obey(
     out: i32,
     err: i32,
 ) -> bool
-    ensures { λ r. ⌜ r ≡ true ⌝ }
+    ensures { result ≡ true }
 {
     let allowed = qbx_stack::allowed() / 1024;
     let process = Process { allowed, out, err };

@@ -1,12 +1,10 @@
 -- Files of a few bytes, computed: what the definitions give, and so which wrong ones they are not.
-use Prim.Native.Nat.{ℕ}
+use Rattle.std.specs.Prelude.{ℕ, ◌≡◌, refl, List, [], ◌∷◌, map}
 use Prim.Native.String.{String}
-use mathlib.Core.Path.{_≡_, refl}
-use mathlib.Core.List.{List, [], _∷_, map}
-use Rattle·text.specs.Text.{text}
-use Rattle·qbx_numbers.specs.Number.{digitOf, allDigits, valueFrom, numberBound, numberFrom, numberOf, fits32, number32Of}
-use Rattle·qbx_share_file·specs.specs.declared.Listing.the-variants.{Listed, Wrong}
-use Rattle·qbx_share_file·specs.specs.ShareFile.{before, parts, isLineEnd, isBlank, filled, wordsOf, shareOf, lineOf, numbersIn, isRight, Said, onLine, linesFrom, fileSays, shareLine, saidIn, listing, over}
+use Rattle.text.specs.Text.{text}
+use Rattle.qbx_numbers.specs.Number.{digitOf, allDigits, valueFrom, numberBound, numberFrom, number_of, fits32, number32Of}
+use Rattle.qbx_share_file.specs.declared.Listing.TheVariants.{Listed, Wrong}
+use Rattle.qbx_share_file.specs.ShareFile.{before, parts, isLineEnd, isBlank, filled, words_of, share_of, line_of, numbersIn, isRight, Said, onLine, lines_from, fileSays, shareLine, saidIn, listing, over}
 
 abbrev says : String → Said
 says s = saidIn (text s)
@@ -20,13 +18,13 @@ wrongAt k ns = record { numbers = ns; wrong = k }
 -- no tenant; one; two, with blanks around the numbers and a line between that says nothing; the largest number; and lines of another system
 pub right-files : map says ("" ∷ "\n" ∷ "1 100 7" ∷ "1 100 7\n" ∷ "1 100 7\n \n\t101\t 200  009 \n" ∷ "0 4294967295 0" ∷ "1 2 3\r\n\r\n4 5 6\r\n" ∷ [])
     ≡ right [] ∷ right [] ∷ right (1 ∷ 100 ∷ 7 ∷ []) ∷ right (1 ∷ 100 ∷ 7 ∷ []) ∷ right (1 ∷ 100 ∷ 7 ∷ 101 ∷ 200 ∷ 9 ∷ []) ∷ right (0 ∷ 4294967295 ∷ 0 ∷ []) ∷ right (1 ∷ 2 ∷ 3 ∷ 4 ∷ 5 ∷ 6 ∷ []) ∷ []
-unfolding text saidIn fileSays linesFrom onLine shareLine numbersIn isRight lineOf shareOf wordsOf filled isBlank isLineEnd parts before number32Of fits32 numberOf numberFrom numberBound valueFrom allDigits digitOf
+unfolding text saidIn fileSays lines_from onLine shareLine numbersIn isRight line_of share_of words_of filled isBlank isLineEnd parts before number32Of fits32 number_of numberFrom numberBound valueFrom allDigits digitOf
 right-files = refl
 
 -- two numbers, four, no number, one that is too large, other separators; the first wrong line is told, and those before it are listed
 pub wrong-files : map says ("1 2" ∷ "1 2 3 4" ∷ "1 2 x" ∷ "1 2 -3" ∷ "1 2 4294967296" ∷ "1,2,3" ∷ "\n1 2 3\n4 5\n6\n" ∷ [])
     ≡ wrongAt 1 [] ∷ wrongAt 1 [] ∷ wrongAt 1 [] ∷ wrongAt 1 [] ∷ wrongAt 1 [] ∷ wrongAt 1 [] ∷ wrongAt 3 (1 ∷ 2 ∷ 3 ∷ []) ∷ []
-unfolding text saidIn fileSays linesFrom onLine shareLine numbersIn isRight lineOf shareOf wordsOf filled isBlank isLineEnd parts before number32Of fits32 numberOf numberFrom numberBound valueFrom allDigits digitOf
+unfolding text saidIn fileSays lines_from onLine shareLine numbersIn isRight line_of share_of words_of filled isBlank isLineEnd parts before number32Of fits32 number_of numberFrom numberBound valueFrom allDigits digitOf
 wrong-files = refl
 
 -- in a list of two, of three and of four

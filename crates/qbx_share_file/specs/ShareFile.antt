@@ -1,16 +1,12 @@
 -- A file of shares, three numbers to a line: what its text says, and what is left of that in a lent list.
-use Prim.Native.Nat.{ℕ, suc, min}
-use mathlib.Core.Bool.{Bool, true, false, cond, _||_}
-use mathlib.Core.List.{List, [], _∷_, _++_}
-use lib.ListN.{length}
-use lib.Dec.{eqb}
-use Rattle·qbx_numbers.specs.Number.{number32Of}
-use Rattle·qbx_numbers.specs.declared.Parsed32.{Parsed32}
-use Rattle·qbx_numbers.specs.declared.Parsed32.the-variants.{Number32, NoNumber32}
-use Rattle·qbx_share_file·specs.specs.declared.LineRead.{LineRead}
-use Rattle·qbx_share_file·specs.specs.declared.LineRead.the-variants.{Blank, Share, Odd}
-use Rattle·qbx_share_file·specs.specs.declared.Listing.{Listing}
-use Rattle·qbx_share_file·specs.specs.declared.Listing.the-variants.{Listed, Wrong}
+use Rattle.std.specs.Prelude.{ℕ, suc, min, Bool, true, false, cond, ◌||◌, List, [], ◌∷◌, ◌++◌, length, eqb}
+use Rattle.qbx_numbers.specs.Number.{number32Of}
+use Rattle.qbx_numbers.specs.declared.Parsed32.{Parsed32}
+use Rattle.qbx_numbers.specs.declared.Parsed32.TheVariants.{Number32, NoNumber32}
+use Rattle.qbx_share_file.specs.declared.LineRead.{LineRead}
+use Rattle.qbx_share_file.specs.declared.LineRead.TheVariants.{Blank, Share, Odd}
+use Rattle.qbx_share_file.specs.declared.Listing.{Listing}
+use Rattle.qbx_share_file.specs.declared.Listing.TheVariants.{Listed, Wrong}
 
 -- ---- lines, and the words of a line
 
@@ -36,24 +32,24 @@ filled [] = []
 filled ([] ∷ ps) = filled ps
 filled ((b ∷ p) ∷ ps) = (b ∷ p) ∷ filled ps
 
-unfoldable pub wordsOf : List ℕ → List (List ℕ)
-wordsOf line = filled (parts isBlank line)
+unfoldable pub words_of : List ℕ → List (List ℕ)
+words_of line = filled (parts isBlank line)
 
 -- ---- what a line says
 
-unfoldable pub shareOf : Parsed32 → Parsed32 → Parsed32 → LineRead
-shareOf (Number32 f) (Number32 l) (Number32 q) = Share f l q
-shareOf (Number32 f) (Number32 l) NoNumber32 = Odd
-shareOf (Number32 f) NoNumber32 z = Odd
-shareOf NoNumber32 y z = Odd
+unfoldable pub share_of : Parsed32 → Parsed32 → Parsed32 → LineRead
+share_of (Number32 f) (Number32 l) (Number32 q) = Share f l q
+share_of (Number32 f) (Number32 l) NoNumber32 = Odd
+share_of (Number32 f) NoNumber32 z = Odd
+share_of NoNumber32 y z = Odd
 
 -- three numbers are a share; no word is a line that is passed over
-unfoldable pub lineOf : List (List ℕ) → LineRead
-lineOf [] = Blank
-lineOf (x ∷ []) = Odd
-lineOf (x ∷ y ∷ []) = Odd
-lineOf (x ∷ y ∷ z ∷ []) = shareOf (number32Of x) (number32Of y) (number32Of z)
-lineOf (x ∷ y ∷ z ∷ w ∷ ws) = Odd
+unfoldable pub line_of : List (List ℕ) → LineRead
+line_of [] = Blank
+line_of (x ∷ []) = Odd
+line_of (x ∷ y ∷ []) = Odd
+line_of (x ∷ y ∷ z ∷ []) = share_of (number32Of x) (number32Of y) (number32Of z)
+line_of (x ∷ y ∷ z ∷ w ∷ ws) = Odd
 
 -- the numbers of a line, and whether it is as it should be
 unfoldable pub numbersIn : LineRead → List ℕ
@@ -79,22 +75,22 @@ pub record Said : Type 0 where
 
 -- line k, before what the lines behind it say
 unfoldable pub onLine : ℕ → LineSaid → Said → Said
-onLine k l x = cond (l .right) (record { numbers = l .numbers ++ x .numbers; wrong = x .wrong }) (record { numbers = []; wrong = k })
+onLine k l x = cond l.right (record { numbers = l.numbers ++ x.numbers; wrong = x.wrong }) (record { numbers = []; wrong = k })
 
 -- the lines from number k on
-unfoldable pub linesFrom : (List ℕ → LineSaid) → ℕ → List (List ℕ) → Said
-linesFrom f k [] = record { numbers = []; wrong = 0 }
-linesFrom f k (l ∷ ls) = onLine k (f l) (linesFrom f (suc k) ls)
+unfoldable pub lines_from : (List ℕ → LineSaid) → ℕ → List (List ℕ) → Said
+lines_from f k [] = record { numbers = []; wrong = 0 }
+lines_from f k (l ∷ ls) = onLine k (f l) (lines_from f (suc k) ls)
 
 unfoldable pub fileSays : (List ℕ → LineSaid) → List ℕ → Said
-fileSays f text = linesFrom f 1 (parts isLineEnd text)
+fileSays f text = lines_from f 1 (parts isLineEnd text)
 
 -- a file of shares
 abbrev pub sharesIn : LineRead → LineSaid
 sharesIn v = record { numbers = numbersIn v; right = isRight v }
 
 unfoldable pub shareLine : List ℕ → LineSaid
-shareLine l = sharesIn (lineOf (wordsOf l))
+shareLine l = sharesIn (line_of (words_of l))
 
 unfoldable pub saidIn : List ℕ → Said
 saidIn text = fileSays shareLine text
@@ -103,7 +99,7 @@ saidIn text = fileSays shareLine text
 
 -- how many numbers are there, as far as the list goes; or the line that is wrong
 unfoldable pub listing : ℕ → Said → Listing
-listing room x = cond (eqb (x .wrong) 0) (Listed (min (length (x .numbers)) room)) (Wrong (x .wrong))
+listing room x = cond (eqb x.wrong 0) (Listed (min (length x.numbers) room)) (Wrong x.wrong)
 
 -- numbers over the first of a list, as far as it goes
 unfoldable pub over : List ℕ → List ℕ → List ℕ

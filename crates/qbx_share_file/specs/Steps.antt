@@ -1,11 +1,7 @@
 -- The way of the code through a file: where a part ends, and numbers put behind those that are there.
-use Prim.Native.Nat.{ℕ, zero, suc, _+_, _≤_, min}
-use mathlib.Core.Path.{_≡_}
-use mathlib.Core.Bool.{Bool, cond}
-use mathlib.Core.List.{List, [], _∷_, _++_}
-use lib.ListN.{length, take, drop}
-use Rattle·qbx_share_file·specs.specs.ShareFile.{over}
-use Rattle·qbx_share_file·specs.specs.Instances.{right-files}
+use Rattle.std.specs.Prelude.{ℕ, zero, suc, ◌+◌, ◌≤◌, min, ◌≡◌, Bool, cond, List, [], ◌∷◌, ◌++◌, length, take, drop}
+use Rattle.qbx_share_file.specs.ShareFile.{over}
+use Rattle.qbx_share_file.specs.Instances.{right-files}
 
 -- how many bytes come before the first of a kind
 unfoldable pub reach : (ℕ → Bool) → List ℕ → ℕ

@@ -1,14 +1,12 @@
 // A file of shares, read: its text has the first block, the last block and the quota of a tenant to a line.
-use qbx_numbers::Parsed32;
-use qbx_numbers::number32;
-ghost use mathlib.Core.Path.{_≡_};
-ghost use mathlib.Core.List.{[], _∷_};
-ghost use Prim.Native.Nat.{_+_, _≤_};
-ghost use lib.ListN.{length, drop, getD};
-ghost use Rattle·qbx_share_file·specs.specs.ShareFile.{isBlank, wordsOf, lineOf, numbersIn, isRight, saidIn, listing, over};
-ghost use Rattle·qbx_share_file·specs.specs.Steps.{reach, Kept};
+ghost use Rattle.std.specs.Prelude.{◌≡◌, [], ◌∷◌, ◌+◌, ◌≤◌, length, drop, get_or};
+ghost use Rattle.qbx_share_file.specs.ShareFile.{isBlank, words_of, line_of, numbersIn, isRight, saidIn, listing, over};
+ghost use Rattle.qbx_share_file.specs.Steps.{reach, Kept};
+
+use qbx_numbers::{Parsed32, number32};
 
 // What a line says: nothing, a tenant's share, or something else.
+#[derive(Drop)]
 pub enum LineRead {
     Blank,
     Share(u32, u32, u32),
@@ -16,6 +14,7 @@ pub enum LineRead {
 }
 
 // What a file says: how many numbers were listed, or which line is wrong, from 1.
+#[derive(Drop)]
 pub enum Listing {
     Listed(usize),
     Wrong(usize),
@@ -23,7 +22,7 @@ pub enum Listing {
 
 // Whether a byte is a space, a tab or a carriage return.
 fn is_blank(byte: u8) -> bool
-    ensures { λ r. ⌜ r ≡ isBlank byte ⌝ }
+    ensures { result ≡ isBlank byte }
 {
     if byte == b' ' {
         return true;
@@ -36,8 +35,8 @@ fn is_blank(byte: u8) -> bool
 
 // Where the next blank is; at the line's end if there is none.
 fn blank_from(line: &[u8], at: usize) -> usize
-    requires { ⌜ at ≤ length (now line) ⌝ }
-    ensures { λ r. ⌜ (r ≡ at + reach isBlank (drop at (now (line .entry)))) × (r ≤ length (now (line .entry))) ⌝ }
+    requires { at ≤ length line.now }
+    ensures { (result ≡ at + reach isBlank (drop at line.now)) × (result ≤ length line.now) }
 {
     let mut i = at;
     while i < line.len() {
@@ -51,7 +50,7 @@ fn blank_from(line: &[u8], at: usize) -> usize
 
 // The word behind so many others; empty if there are not so many.
 pub fn word(line: &[u8], k: usize) -> &[u8]
-    ensures { λ r. ⌜ now r ≡ getD (wordsOf (now (line .entry))) k [] ⌝ }
+    ensures { result.now ≡ get_or (words_of line.now) k [] }
 {
     let mut at = 0;
     let mut left = k;
@@ -72,7 +71,7 @@ pub fn word(line: &[u8], k: usize) -> &[u8]
 
 // A line's share, if that is what it says.
 fn read_line(line: &[u8]) -> LineRead
-    ensures { λ r. ⌜ r ≡ lineOf (wordsOf (now (line .entry))) ⌝ }
+    ensures { result ≡ line_of (words_of line.now) }
 {
     if word(line, 0).len() == 0 {
         return LineRead::Blank;
@@ -94,8 +93,8 @@ fn read_line(line: &[u8]) -> LineRead
 
 // A number behind those that are listed, if there is room for it.
 fn keep(shares: &mut [u32], count: usize, number: u32) -> usize
-    requires { ⌜ count ≤ length (now shares) ⌝ }
-    ensures { λ r. ⌜ Kept (number ∷ []) count (now (shares .entry)) r (now (shares .exit)) ⌝ }
+    requires { count ≤ length shares.old }
+    ensures { Kept (number ∷ []) count shares.old result shares.new }
 {
     if count == shares.len() {
         return count;
@@ -106,8 +105,8 @@ fn keep(shares: &mut [u32], count: usize, number: u32) -> usize
 
 // A share's numbers behind those that are listed.
 fn keep_share(shares: &mut [u32], count: usize, first: u32, last: u32, quota: u32) -> usize
-    requires { ⌜ count ≤ length (now shares) ⌝ }
-    ensures { λ r. ⌜ Kept (first ∷ last ∷ quota ∷ []) count (now (shares .entry)) r (now (shares .exit)) ⌝ }
+    requires { count ≤ length shares.old }
+    ensures { Kept (first ∷ last ∷ quota ∷ []) count shares.old result shares.new }
 {
     let one = keep(shares, count, first);
     let two = keep(shares, one, last);
@@ -116,8 +115,8 @@ fn keep_share(shares: &mut [u32], count: usize, first: u32, last: u32, quota: u3
 
 // What a line says, behind what is listed.
 fn keep_line(shares: &mut [u32], count: usize, line: LineRead) -> usize
-    requires { ⌜ count ≤ length (now shares) ⌝ }
-    ensures { λ r. ⌜ Kept (numbersIn line) count (now (shares .entry)) r (now (shares .exit)) ⌝ }
+    requires { count ≤ length shares.old }
+    ensures { Kept (numbersIn line) count shares.old result shares.new }
 {
     match line {
         LineRead::Blank => count,
@@ -128,7 +127,7 @@ fn keep_line(shares: &mut [u32], count: usize, line: LineRead) -> usize
 
 // Whether a line is as it should be.
 fn is_right(line: LineRead) -> bool
-    ensures { λ r. ⌜ r ≡ isRight line ⌝ }
+    ensures { result ≡ isRight line }
 {
     match line {
         LineRead::Blank => true,
@@ -139,7 +138,7 @@ fn is_right(line: LineRead) -> bool
 
 // The shares that a file's text lists, in a lent slice; numbers that it does not hold are left out.
 pub fn read_shares(text: &[u8], shares: &mut [u32]) -> Listing
-    ensures { λ r. ⌜ (r ≡ listing (length (now (shares .entry))) (saidIn (now (text .entry)))) × (now (shares .exit) ≡ over (saidIn (now (text .entry)) .numbers) (now (shares .entry))) ⌝ }
+    ensures { (result ≡ listing (length shares.old) (saidIn text.now)) × (shares.new ≡ over (saidIn text.now).numbers shares.old) }
 {
     let mut at = 0;
     let mut number = 1;

@@ -1,11 +1,10 @@
 // The image of a tenant's command, on the stack, a frame for each buffer.
+ghost use Rattle.std.specs.Prelude.{◌≡◌, true, false, ◌≤◌};
+ghost use Rattle.request.specs.Request.{size_of};
+ghost use Rattle.qbx_rooms.specs.Rooms.{roomOf, need_of};
+
 use qbx_rooms::Process;
 use qbx_share_words::ShareCommand;
-ghost use mathlib.Core.Path.{_≡_};
-ghost use mathlib.Core.Bool.{true, false};
-ghost use Prim.Native.Nat.{_≤_};
-ghost use Rattle·request.specs.Request.{sizeOf};
-ghost use Rattle·qbx_rooms.specs.Rooms.{roomOf, needOf};
 
 // Each buffer has a byte more than the largest image in it, so that a larger file is seen to be one.
 pub fn small(
@@ -15,8 +14,8 @@ pub fn small(
     command: ShareCommand,
     contents: &[u8],
 ) -> bool
-    requires { ⌜ (sizeOf (command .segments) (command .slots) ≤ roomOf 0) × (needOf false 0 ≤ process .allowed) ⌝ }
-    ensures { λ r. ⌜ r ≡ true ⌝ }
+    requires { (size_of command.segments command.slots ≤ roomOf 0) × (need_of false 0 ≤ process.allowed) }
+    ensures { result ≡ true }
 {
     let mut image = [255u8; 1048577];
     qbx_share::obey(
@@ -38,8 +37,8 @@ pub fn middle(
     command: ShareCommand,
     contents: &[u8],
 ) -> bool
-    requires { ⌜ (sizeOf (command .segments) (command .slots) ≤ roomOf 1) × (needOf false 1 ≤ process .allowed) ⌝ }
-    ensures { λ r. ⌜ r ≡ true ⌝ }
+    requires { (size_of command.segments command.slots ≤ roomOf 1) × (need_of false 1 ≤ process.allowed) }
+    ensures { result ≡ true }
 {
     let mut image = [255u8; 4194305];
     qbx_share::obey(
@@ -61,8 +60,8 @@ pub fn large(
     command: ShareCommand,
     contents: &[u8],
 ) -> bool
-    requires { ⌜ (sizeOf (command .segments) (command .slots) ≤ roomOf 2) × (needOf false 2 ≤ process .allowed) ⌝ }
-    ensures { λ r. ⌜ r ≡ true ⌝ }
+    requires { (size_of command.segments command.slots ≤ roomOf 2) × (need_of false 2 ≤ process.allowed) }
+    ensures { result ≡ true }
 {
     let mut image = [255u8; 16711681];
     qbx_share::obey(

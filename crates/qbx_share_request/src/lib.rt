@@ -1,9 +1,9 @@
 // What a tenant's command asks of the library, on the image and the shares alone.
-use qbx_share_words::ShareCommand;
-use qbx_share_words::ShareVerb;
+ghost use Rattle.std.specs.Prelude.{◌≡◌};
+ghost use Rattle.qbx_share_request.specs.ShareRequest.{carried, carriedBy};
+
+use qbx_share_words::{ShareCommand, ShareVerb};
 use text::Printed;
-ghost use mathlib.Core.Path.{_≡_};
-ghost use Rattle·qbx_share_request·specs.specs.ShareRequest.{carried, carriedBy};
 
 // Puts, reads or deletes a tenant's block. What is read is in the lent buffer.
 pub fn perform(
@@ -13,7 +13,7 @@ pub fn perform(
     contents: &[u8],
     given: &mut [u8],
 ) -> Printed
-    ensures { λ r. ⌜ carried r (now (given .exit)) (now (image .exit)) ≡ carriedBy (command .verb) command (now (shares .entry)) (now (contents .entry)) (now (given .entry)) (now (image .entry)) ⌝ }
+    ensures { carried result given.new image.new ≡ carriedBy command.verb command shares.now contents.now given.old image.old }
 {
     let segments = command.segments as usize;
     let slots = command.slots as usize;

@@ -1,11 +1,10 @@
 -- What a tenant is told: an answer, an image of a wrong size, and a line of the file of shares that is wrong.
-use Prim.Native.Nat.{ℕ}
-use mathlib.Core.List.{List, _++_}
-use Rattle·model.specs.declared.Answer.{Answer}
-use Rattle·model.specs.declared.Answer.the-variants.{Size}
-use Rattle·text.specs.Text.{text}
-use Rattle·text.specs.Decimal.{decimal}
-use Rattle·qbx_says.specs.Said.{answerText, askedText}
+use Rattle.std.specs.Prelude.{ℕ, List, ◌++◌}
+use Rattle.model.specs.declared.Answer.{Answer}
+use Rattle.model.specs.declared.Answer.TheVariants.{Size}
+use Rattle.text.specs.Text.{text}
+use Rattle.text.specs.Decimal.{decimal}
+use Rattle.qbx_says.specs.Said.{answerText, askedText}
 
 -- as "refused: 12 foreign". No steps: their count shows others' tidying
 unfoldable pub sharedLine : Answer → List ℕ

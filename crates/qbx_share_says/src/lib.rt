@@ -1,24 +1,21 @@
 // What a tenant's command says that no other does, a line each.
+ghost use Rattle.std.specs.Prelude.{◌≡◌, ◌≤◌};
+ghost use Rattle.qbx_lines.specs.Lines.{mostLine, said};
+ghost use Rattle.qbx_share_says.specs.ShareSaid.{sharedLine, sharedSizeLine, wrongLine};
+
 use model::Answer;
-use qbx_lines::Line;
-use qbx_lines::add;
-use qbx_lines::add_count;
-use qbx_lines::empty;
-ghost use mathlib.Core.Path.{_≡_};
-ghost use Prim.Native.Nat.{_≤_};
-ghost use Rattle·qbx_lines.specs.Lines.{mostLine, said};
-ghost use Rattle·qbx_share_says·specs.specs.ShareSaid.{sharedLine, sharedSizeLine, wrongLine};
+use qbx_lines::{Line, add, add_count, empty};
 
 // An answer alone: how many steps were done shows others' tidying.
 pub fn say_shared(answer: Answer) -> Line
-    ensures { λ r. ⌜ (said r ≡ sharedLine answer) × (r .count ≤ mostLine) ⌝ }
+    ensures { (said result ≡ sharedLine answer) × (result.count ≤ mostLine) }
 {
     add(qbx_says::say_answer(answer), b"\n")
 }
 
 // A wrong size: beside the refusal what N and B ask for, and the bytes that are there.
 pub fn say_shared_size(segments: usize, slots: usize, there: u64) -> Line
-    ensures { λ r. ⌜ (said r ≡ sharedSizeLine segments slots there) × (r .count ≤ mostLine) ⌝ }
+    ensures { (said result ≡ sharedSizeLine segments slots there) × (result.count ≤ mostLine) }
 {
     let asked = qbx_says::add_asked(qbx_says::say_answer(Answer::Size), segments, slots);
     let counted = add_count(asked, b"; ", there);
@@ -27,7 +24,7 @@ pub fn say_shared_size(segments: usize, slots: usize, there: u64) -> Line
 
 // That a line of the file of shares says something else.
 pub fn say_wrong_line(number: usize) -> Line
-    ensures { λ r. ⌜ (said r ≡ wrongLine number) × (r .count ≤ mostLine) ⌝ }
+    ensures { (said result ≡ wrongLine number) × (result.count ≤ mostLine) }
 {
     let counted = add_count(empty(), b"qbx: line ", number as u64);
     add(

@@ -1,23 +1,20 @@
 -- The words of a tenant's command, read: N B share-put SHARES TENANT BLOCK, or with share-get or share-delete. A word that is missing is empty.
-use Prim.Native.Nat.{ℕ}
-use mathlib.Core.Bool.{Bool, cond, _||_}
-use mathlib.Core.List.{List}
-use lib.Dec.{ltb}
-use Rattle·model.specs.Lists.{same}
-use Rattle·text.specs.Text.{text}
-use Rattle·qbx_numbers.specs.Number.{numberOf, number32Of}
-use Rattle·qbx_numbers.specs.declared.Parsed.{Parsed}
-use Rattle·qbx_numbers.specs.declared.Parsed.the-variants.{Number, NoNumber}
-use Rattle·qbx_numbers.specs.declared.Parsed32.{Parsed32}
-use Rattle·qbx_numbers.specs.declared.Parsed32.the-variants.{Number32, NoNumber32}
-use Rattle·qbx_words.specs.Command.{isMissing}
-use Rattle·qbx_words.specs.declared.Complaint.{Complaint}
-use Rattle·qbx_words.specs.declared.Complaint.the-variants.{Segments, Slots, Block, NoShares, Tenant}
-use Rattle·qbx_share_words·specs.specs.declared.ShareVerb.{ShareVerb}
-use Rattle·qbx_share_words·specs.specs.declared.ShareVerb.the-variants.{Put, Get, Delete}
-use Rattle·qbx_share_words·specs.specs.declared.ShareCommand.{ShareCommand}
-use Rattle·qbx_share_words·specs.specs.declared.ShareReading.{ShareReading}
-use Rattle·qbx_share_words·specs.specs.declared.ShareReading.the-variants.{Right, Wrong}
+use Rattle.std.specs.Prelude.{ℕ, Bool, cond, ◌||◌, List, ltb}
+use Rattle.model.specs.Lists.{same}
+use Rattle.text.specs.Text.{text}
+use Rattle.qbx_numbers.specs.Number.{number_of, number32Of}
+use Rattle.qbx_numbers.specs.declared.Parsed.{Parsed}
+use Rattle.qbx_numbers.specs.declared.Parsed.TheVariants.{Number, NoNumber}
+use Rattle.qbx_numbers.specs.declared.Parsed32.{Parsed32}
+use Rattle.qbx_numbers.specs.declared.Parsed32.TheVariants.{Number32, NoNumber32}
+use Rattle.qbx_words.specs.Command.{isMissing}
+use Rattle.qbx_words.specs.declared.Complaint.{Complaint}
+use Rattle.qbx_words.specs.declared.Complaint.TheVariants.{Segments, Slots, Block, NoShares, Tenant}
+use Rattle.qbx_share_words.specs.declared.ShareVerb.{ShareVerb}
+use Rattle.qbx_share_words.specs.declared.ShareVerb.TheVariants.{Put, Get, Delete}
+use Rattle.qbx_share_words.specs.declared.ShareCommand.{ShareCommand}
+use Rattle.qbx_share_words.specs.declared.ShareReading.{ShareReading}
+use Rattle.qbx_share_words.specs.declared.ShareReading.TheVariants.{Right, Wrong}
 
 unfoldable pub namesShares : List ℕ → Bool
 namesShares w = same w (text "share-put") || (same w (text "share-get") || same w (text "share-delete"))
@@ -27,9 +24,9 @@ unfoldable pub shareVerbOf : List ℕ → ShareVerb
 shareVerbOf w = cond (same w (text "share-put")) Put (cond (same w (text "share-get")) Get Delete)
 
 -- a word that is to be a number, and one of 32 bits
-unfoldable pub asNumber : Parsed → Complaint → (ℕ → ShareReading) → ShareReading
-asNumber (Number n) x go = go n
-asNumber NoNumber x go = Wrong x
+unfoldable pub as_number : Parsed → Complaint → (ℕ → ShareReading) → ShareReading
+as_number (Number n) x go = go n
+as_number NoNumber x go = Wrong x
 
 unfoldable pub asNumber32 : Parsed32 → Complaint → (ℕ → ShareReading) → ShareReading
 asNumber32 (Number32 n) x go = go n
@@ -41,10 +38,10 @@ command N B v a b = record { segments = N; slots = B; verb = v; tenant = a; bloc
 -- the words after the name of the shares' file. Tenant 0 and block 0 are numbers: the layer answers them
 unfoldable pub ofTenant : ℕ → ℕ → ShareVerb → List ℕ → List ℕ → ShareReading
 ofTenant N B v tenant block =
-    asNumber32 (number32Of tenant) Tenant (λ a. asNumber (numberOf block) Block (λ b. cond (ltb b 65536) (Right (command N B v a b)) (Wrong Block)))
+    asNumber32 (number32Of tenant) Tenant (λ a. as_number (number_of block) Block (λ b. cond (ltb b 65536) (Right (command N B v a b)) (Wrong Block)))
 
 -- the words after the image's name
-unfoldable pub shareOf : List ℕ → List ℕ → List ℕ → List ℕ → List ℕ → List ℕ → ShareReading
-shareOf n b verb shares tenant block =
-    asNumber (numberOf n) Segments (λ N. asNumber (numberOf b) Slots (λ B.
+unfoldable pub share_of : List ℕ → List ℕ → List ℕ → List ℕ → List ℕ → List ℕ → ShareReading
+share_of n b verb shares tenant block =
+    as_number (number_of n) Segments (λ N. as_number (number_of b) Slots (λ B.
     cond (isMissing shares) (Wrong NoShares) (ofTenant N B (shareVerbOf verb) tenant block)))

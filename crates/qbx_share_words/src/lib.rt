@@ -1,15 +1,12 @@
 // The words of a tenant's command, read: IMAGE N B share-put SHARES TENANT BLOCK, or with share-get or share-delete.
-use model::BlockNumber;
-use qbx_numbers::Parsed;
-use qbx_numbers::Parsed32;
-use qbx_numbers::number;
-use qbx_numbers::number32;
-use qbx_words::Complaint;
-use qbx_words::is;
-use qbx_words::is_missing;
-ghost use mathlib.Core.Path.{_≡_};
-ghost use Rattle·qbx_share_words·specs.specs.Share.{namesShares, shareVerbOf, ofTenant, shareOf};
+ghost use Rattle.std.specs.Prelude.{◌≡◌};
+ghost use Rattle.qbx_share_words.specs.Share.{namesShares, shareVerbOf, ofTenant, share_of};
 
+use model::BlockNumber;
+use qbx_numbers::{Parsed, Parsed32, number, number32};
+use qbx_words::{Complaint, is, is_missing};
+
+#[derive(Drop)]
 pub enum ShareVerb {
     Put,
     Get,
@@ -17,6 +14,7 @@ pub enum ShareVerb {
 }
 
 // A tenant's command whose words were right. The file of the shares is named beside it.
+#[derive(Drop)]
 pub struct ShareCommand {
     pub segments: u64,
     pub slots: u64,
@@ -25,6 +23,7 @@ pub struct ShareCommand {
     pub block: BlockNumber,
 }
 
+#[derive(Drop)]
 pub enum ShareReading {
     Right(ShareCommand),
     Wrong(Complaint),
@@ -32,7 +31,7 @@ pub enum ShareReading {
 
 // Whether a verb is a tenant's. It is no other command's: a file of shares and a tenant follow it.
 pub fn names_shares(verb: &[u8]) -> bool
-    ensures { λ r. ⌜ r ≡ namesShares (now (verb .entry)) ⌝ }
+    ensures { result ≡ namesShares verb.now }
 {
     if is(verb, b"share-put") {
         return true;
@@ -45,7 +44,7 @@ pub fn names_shares(verb: &[u8]) -> bool
 
 // Which of the three a tenant's verb is.
 fn share_verb_of(verb: &[u8]) -> ShareVerb
-    ensures { λ r. ⌜ r ≡ shareVerbOf (now (verb .entry)) ⌝ }
+    ensures { result ≡ shareVerbOf verb.now }
 {
     if is(verb, b"share-put") {
         return ShareVerb::Put;
@@ -64,7 +63,7 @@ fn of_tenant(
     tenant: &[u8],
     block: &[u8],
 ) -> ShareReading
-    ensures { λ r. ⌜ r ≡ ofTenant segments slots verb (now (tenant .entry)) (now (block .entry)) ⌝ }
+    ensures { result ≡ ofTenant segments slots verb tenant.now block.now }
 {
     let Parsed32::Number32(a) = number32(tenant) else {
         return ShareReading::Wrong(Complaint::Tenant);
@@ -93,7 +92,7 @@ pub fn share_of(
     tenant: &[u8],
     block: &[u8],
 ) -> ShareReading
-    ensures { λ r. ⌜ r ≡ shareOf (now (segments .entry)) (now (slots .entry)) (now (verb .entry)) (now (shares .entry)) (now (tenant .entry)) (now (block .entry)) ⌝ }
+    ensures { result ≡ share_of segments.now slots.now verb.now shares.now tenant.now block.now }
 {
     let Parsed::Number(n) = number(segments) else {
         return ShareReading::Wrong(Complaint::Segments);

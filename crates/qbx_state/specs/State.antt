@@ -1,14 +1,12 @@
 -- What is said of the state of an image.
-use Prim.Native.Nat.{ℕ}
-use mathlib.Core.Bool.{Bool, cond}
-use mathlib.Core.List.{List, [], _++_}
-use Rattle·text.specs.Text.{text}
-use Rattle·text.specs.Decimal.{decimal}
-use Rattle·qbx_state·specs.specs.declared.Condition.{Condition}
-use Rattle·qbx_state·specs.specs.declared.Condition.the-variants.{Clean, UnfinishedA, UnfinishedB, UnfinishedC, UnfinishedD, Damaged}
-use Rattle·qbx_state·specs.specs.declared.TopSeen.{TopSeen}
-use Rattle·qbx_state·specs.specs.declared.TopSeen.the-variants.{Missing, Version1, Version2}
-use Rattle·qbx_state·specs.specs.declared.Report.{Report}
+use Rattle.std.specs.Prelude.{ℕ, Bool, cond, List, [], ◌++◌}
+use Rattle.text.specs.Text.{text}
+use Rattle.text.specs.Decimal.{decimal}
+use Rattle.qbx_state.specs.declared.Condition.{Condition}
+use Rattle.qbx_state.specs.declared.Condition.TheVariants.{Clean, UnfinishedA, UnfinishedB, UnfinishedC, UnfinishedD, Damaged}
+use Rattle.qbx_state.specs.declared.TopSeen.{TopSeen}
+use Rattle.qbx_state.specs.declared.TopSeen.TheVariants.{Missing, Version1, Version2}
+use Rattle.qbx_state.specs.declared.Report.{Report}
 
 unfoldable pub conditionText : Condition → List ℕ
 conditionText Clean = text "clean"
@@ -23,14 +21,14 @@ slotsText live dead cut empty = (text ", slots live " ++ decimal live) ++ (text 
 
 -- version 2 with its tally, as ", version 2, tally 3"
 unfoldable pub tallyText : ℕ → Bool → List ℕ
-tallyText tally «no_bit_left» = (text ", version 2, tally " ++ decimal tally) ++ cond «no_bit_left» (text ", no bit left") []
+tallyText tally no_bit_left = (text ", version 2, tally " ++ decimal tally) ++ cond no_bit_left (text ", no bit left") []
 
-unfoldable pub topText : TopSeen → List ℕ
-topText Missing = []
-topText Version1 = text ", version 1"
-topText (Version2 tally «no_bit_left») = tallyText tally «no_bit_left»
+unfoldable pub top_text : TopSeen → List ℕ
+top_text Missing = []
+top_text Version1 = text ", version 1"
+top_text (Version2 tally no_bit_left) = tallyText tally no_bit_left
 
 -- as "clean: segments in use 2, slots live 5, dead 3, cut 0, empty 22, version 2, tally 0"
 unfoldable pub reportText : Report → List ℕ
 reportText r =
-    conditionText (r .condition) ++ (text ": segments in use " ++ decimal (r .segments)) ++ slotsText (r .live) (r .dead) (r .cut) (r .empty) ++ topText (r .top) ++ text "\n"
+    conditionText r.condition ++ (text ": segments in use " ++ decimal r.segments) ++ slotsText r.live r.dead r.cut r.empty ++ top_text r.top ++ text "\n"

@@ -1,14 +1,12 @@
 // What `qbx check` says of an image, as one line.
-use qbx_lines::Line;
-use qbx_lines::add;
-use qbx_lines::add_count;
-use qbx_lines::empty;
-ghost use mathlib.Core.Path.{_≡_};
-ghost use Prim.Native.Nat.{_+_, _≤_};
-ghost use Rattle·qbx_lines.specs.Lines.{mostLine, said, Added};
-ghost use Rattle·qbx_state·specs.specs.State.{conditionText, slotsText, tallyText, topText, reportText};
+ghost use Rattle.std.specs.Prelude.{◌≡◌, ◌+◌, ◌≤◌};
+ghost use Rattle.qbx_lines.specs.Lines.{mostLine, said, Added};
+ghost use Rattle.qbx_state.specs.State.{conditionText, slotsText, tallyText, top_text, reportText};
+
+use qbx_lines::{Line, add, add_count, empty};
 
 // The state of an image, with the exception of an unfinished one.
+#[derive(Drop)]
 pub enum Condition {
     Clean,
     UnfinishedA,
@@ -20,6 +18,7 @@ pub enum Condition {
 
 // The header of the top, if a segment is in use: its version, and in version 2 the tally of recoveries' erases, and whether
 // no bit is left to count one more.
+#[derive(Drop)]
 pub enum TopSeen {
     Missing,
     Version1,
@@ -27,6 +26,7 @@ pub enum TopSeen {
 }
 
 // What a check tells: the state, the segments in use, their slots by kind, and the top's header.
+#[derive(Drop)]
 pub struct Report {
     pub condition: Condition,
     pub segments: u64,
@@ -38,7 +38,7 @@ pub struct Report {
 }
 
 fn say_condition(condition: Condition) -> Line
-    ensures { λ r. ⌜ (said r ≡ conditionText condition) × (r .count ≤ 14) ⌝ }
+    ensures { (said result ≡ conditionText condition) × (result.count ≤ 14) }
 {
     let line = empty();
     match condition {
@@ -52,8 +52,8 @@ fn say_condition(condition: Condition) -> Line
 }
 
 fn add_slots(line: Line, live: u64, dead: u64, cut: u64, empty: u64) -> Line
-    requires { ⌜ line .count ≤ 60 ⌝ }
-    ensures { λ r. ⌜ Added line (slotsText live dead cut empty) r × (r .count ≤ line .count + 116) ⌝ }
+    requires { line.count ≤ 60 }
+    ensures { Added line (slotsText live dead cut empty) result × (result.count ≤ line.count + 116) }
 {
     let lives = add_count(line, b", slots live ", live);
     let deads = add_count(lives, b", dead ", dead);
@@ -63,8 +63,8 @@ fn add_slots(line: Line, live: u64, dead: u64, cut: u64, empty: u64) -> Line
 
 // The tally of a header of version 2.
 fn add_tally(line: Line, tally: u64, no_bit_left: bool) -> Line
-    requires { ⌜ line .count ≤ 180 ⌝ }
-    ensures { λ r. ⌜ Added line (tallyText tally «no_bit_left») r × (r .count ≤ line .count + 52) ⌝ }
+    requires { line.count ≤ 180 }
+    ensures { Added line (tallyText tally no_bit_left) result × (result.count ≤ line.count + 52) }
 {
     let counted = add_count(line, b", version 2, tally ", tally);
     if no_bit_left {
@@ -74,8 +74,8 @@ fn add_tally(line: Line, tally: u64, no_bit_left: bool) -> Line
 }
 
 fn add_top(line: Line, top: TopSeen) -> Line
-    requires { ⌜ line .count ≤ 180 ⌝ }
-    ensures { λ r. ⌜ Added line (topText top) r × (r .count ≤ line .count + 52) ⌝ }
+    requires { line.count ≤ 180 }
+    ensures { Added line (top_text top) result × (result.count ≤ line.count + 52) }
 {
     match top {
         TopSeen::Missing => add(line, b""),
@@ -86,7 +86,7 @@ fn add_top(line: Line, top: TopSeen) -> Line
 
 // The state of an image, with the segments in use, their slots, and the top's version and tally.
 pub fn say_report(report: Report) -> Line
-    ensures { λ r. ⌜ (said r ≡ reportText report) × (r .count ≤ mostLine) ⌝ }
+    ensures { (said result ≡ reportText report) × (result.count ≤ mostLine) }
 {
     let condition = report.condition;
     let line = say_condition(condition);

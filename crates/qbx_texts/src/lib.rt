@@ -1,16 +1,15 @@
 // What a command prints of an image, in a lent buffer.
+ghost use Rattle.std.specs.Prelude.{◌≡◌, ◌≤◌, length};
+ghost use Rattle.text.specs.Buffer.{printed};
+ghost use Rattle.qbx_texts.specs.Texts.{printedBy};
+
 use qbx_verbs::Verb;
 use qbx_words::Command;
 use text::Printed;
-ghost use mathlib.Core.Path.{_≡_};
-ghost use Prim.Native.Nat.{_≤_};
-ghost use lib.ListN.{length};
-ghost use Rattle·text.specs.Buffer.{printed};
-ghost use Rattle·qbx_texts·specs.specs.Texts.{printedBy};
 
 // A text about the image, in a lent buffer. A verb that prints none has none.
 pub fn describe(image: &[u8], command: Command, text: &mut [u8]) -> Printed
-    ensures { λ r. ⌜ (printed r (now (text .exit)) ≡ printedBy (command .verb) command (now (image .entry)) (now (text .entry))) × (r .length ≤ length (now (text .exit))) ⌝ }
+    ensures { (printed result text.new ≡ printedBy command.verb command image.now text.old) × (result.length ≤ length text.new) }
 {
     let segments = command.segments as usize;
     let slots = command.slots as usize;

@@ -1,11 +1,9 @@
 -- The verb that a word is.
-use Prim.Native.Nat.{ℕ}
-use mathlib.Core.Bool.{cond}
-use mathlib.Core.List.{List}
-use Rattle·model.specs.Lists.{same}
-use Rattle·text.specs.Text.{text}
-use Rattle·qbx_verbs.specs.declared.Verb.{Verb}
-use Rattle·qbx_verbs.specs.declared.Verb.the-variants.{Format, Put, Get, Delete, Recover, Check, Account, Map, Salvage, Unknown}
+use Rattle.std.specs.Prelude.{ℕ, cond, List}
+use Rattle.model.specs.Lists.{same}
+use Rattle.text.specs.Text.{text}
+use Rattle.qbx_verbs.specs.declared.Verb.{Verb}
+use Rattle.qbx_verbs.specs.declared.Verb.TheVariants.{Format, Put, Get, Delete, Recover, Check, Account, Map, Salvage, Unknown}
 
 unfoldable pub verbOf : List ℕ → Verb
 verbOf w =

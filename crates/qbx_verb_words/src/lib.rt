@@ -1,19 +1,20 @@
 // The word of a verb, read.
+ghost use Rattle.std.specs.Prelude.{◌≡◌};
+ghost use Rattle.model.specs.Lists.{same};
+ghost use Rattle.qbx_verb_words.specs.Verb.{verbOf};
+
 use qbx_verbs::Verb;
-ghost use mathlib.Core.Path.{_≡_};
-ghost use Rattle·model.specs.Lists.{same};
-ghost use Rattle·qbx_verb_words·specs.specs.Verb.{verbOf};
 
 // Whether a word is a certain one.
 pub fn is(word: &[u8], name: &[u8]) -> bool
-    ensures { λ r. ⌜ r ≡ same (now (word .entry)) (now (name .entry)) ⌝ }
+    ensures { result ≡ same word.now name.now }
 {
     check::same(word, name)
 }
 
 // The verb that a word is.
 pub fn verb_of(word: &[u8]) -> Verb
-    ensures { λ r. ⌜ r ≡ verbOf (now (word .entry)) ⌝ }
+    ensures { result ≡ verbOf word.now }
 {
     if is(word, b"format") {
         return Verb::Format;

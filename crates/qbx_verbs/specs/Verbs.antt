@@ -1,7 +1,7 @@
 -- What each verb is for: whether it is one, whether it names a block, whether it writes, and whether it prints.
-use mathlib.Core.Bool.{Bool, true, false}
-use Rattle·qbx_verbs·specs.specs.declared.Verb.{Verb}
-use Rattle·qbx_verbs·specs.specs.declared.Verb.the-variants.{Format, Put, Get, Delete, Recover, Check, Account, Map, Salvage, Unknown}
+use Rattle.std.specs.Prelude.{Bool, true, false}
+use Rattle.qbx_verbs.specs.declared.Verb.{Verb}
+use Rattle.qbx_verbs.specs.declared.Verb.TheVariants.{Format, Put, Get, Delete, Recover, Check, Account, Map, Salvage, Unknown}
 
 unfoldable pub known : Verb → Bool
 known Format = true

@@ -1,10 +1,11 @@
 // Whether a verb is one, whether it names a block, and whether it writes.
+ghost use Rattle.std.specs.Prelude.{◌≡◌};
+ghost use Rattle.qbx_verbs.specs.Verbs.{known, namesBlock, writes};
+
 use crate::Verb;
-ghost use mathlib.Core.Path.{_≡_};
-ghost use Rattle·qbx_verbs·specs.specs.Verbs.{known, namesBlock, writes};
 
 pub fn known(verb: Verb) -> bool
-    ensures { λ r. ⌜ r ≡ known verb ⌝ }
+    ensures { result ≡ known verb }
 {
     match verb {
         Verb::Format => true,
@@ -21,7 +22,7 @@ pub fn known(verb: Verb) -> bool
 }
 
 pub fn names_block(verb: Verb) -> bool
-    ensures { λ r. ⌜ r ≡ namesBlock verb ⌝ }
+    ensures { result ≡ namesBlock verb }
 {
     match verb {
         Verb::Format => false,
@@ -38,7 +39,7 @@ pub fn names_block(verb: Verb) -> bool
 }
 
 pub fn writes(verb: Verb) -> bool
-    ensures { λ r. ⌜ r ≡ writes verb ⌝ }
+    ensures { result ≡ writes verb }
 {
     match verb {
         Verb::Format => true,

@@ -1,12 +1,12 @@
 // The verbs of qbx, and what each is for.
 mod kinds;
 
-pub use kinds::known;
-pub use kinds::names_block;
-pub use kinds::writes;
-ghost use mathlib.Core.Path.{_≡_};
-ghost use Rattle·qbx_verbs·specs.specs.Verbs.{prints};
+ghost use Rattle.std.specs.Prelude.{◌≡◌};
+ghost use Rattle.qbx_verbs.specs.Verbs.{prints};
 
+pub use kinds::{known, names_block, writes};
+
+#[derive(Drop)]
 pub enum Verb {
     Format,
     Put,
@@ -22,7 +22,7 @@ pub enum Verb {
 
 // Whether what a verb says is a text of many lines.
 pub fn prints(verb: Verb) -> bool
-    ensures { λ r. ⌜ r ≡ prints verb ⌝ }
+    ensures { result ≡ prints verb }
 {
     match verb {
         Verb::Format => false,

@@ -1,14 +1,14 @@
 -- A word that is missing.
 use Prim.Native.Nat.{ℕ}
-use mathlib.Core.Path.{_≡_, refl}
-use mathlib.Core.List.{List, [], _∷_}
+use mathlib.Core.Path.{◌≡◌, refl}
+use mathlib.Core.List.{List, [], ◌∷◌}
 use native.Mathlib.Omega.{arith}
 use lib.ListN.{length}
 use lib.Dec.{eqb}
-use borrow.Author.Tests.{ne-eqb}
-use Rattle·qbx_words·specs.specs.Command.{isMissing}
+use borrow.Author.Tests.{ne_eqb}
+use Rattle.qbx_words.specs.Command.{isMissing}
 
 pub missing-length : (w : List ℕ) → eqb (length w) 0 ≡ isMissing w
 unfolding isMissing
 missing-length [] = refl
-missing-length (x ∷ w) = ne-eqb (length (x ∷ w)) 0 (λ e. omega arith)
+missing-length (x ∷ w) = ne_eqb (length (x ∷ w)) 0 (λ e. omega arith)

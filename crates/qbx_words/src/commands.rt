@@ -1,28 +1,23 @@
 // The words of a command line, read.
-use crate::Command;
-use crate::Complaint;
-use crate::Reading;
+ghost use Rattle.std.specs.Prelude.{◌≡◌};
+ghost use Rattle.qbx_words.specs.Command.{isMissing, withBudget, withBlock, afterVerb, commandOf};
+
+use crate::{Command, Complaint, Reading};
 use model::BlockNumber;
-use qbx_numbers::Parsed;
-use qbx_numbers::number;
-use qbx_verb_words::is;
-use qbx_verb_words::verb_of;
-use qbx_verbs::known;
-use qbx_verbs::names_block;
-use qbx_verbs::writes;
-ghost use mathlib.Core.Path.{_≡_};
-ghost use Rattle·qbx_words·specs.specs.Command.{isMissing, withBudget, withBlock, afterVerb, commandOf};
+use qbx_numbers::{Parsed, number};
+use qbx_verb_words::{is, verb_of};
+use qbx_verbs::{known, names_block, writes};
 
 // Whether a word is missing: it is empty then.
 pub fn is_missing(word: &[u8]) -> bool
-    ensures { λ r. ⌜ r ≡ isMissing (now (word .entry)) ⌝ }
+    ensures { result ≡ isMissing word.now }
 {
     word.len() == 0
 }
 
 // The option at the end.
 fn with_budget(command: Command, option: &[u8], steps: &[u8]) -> Reading
-    ensures { λ r. ⌜ r ≡ withBudget command (now (option .entry)) (now (steps .entry)) ⌝ }
+    ensures { result ≡ withBudget command option.now steps.now }
 {
     if is_missing(option) {
         return Reading::Right(command);
@@ -49,7 +44,7 @@ fn with_budget(command: Command, option: &[u8], steps: &[u8]) -> Reading
 
 // The words after a verb that names a block.
 fn with_block(command: Command, block: &[u8], option: &[u8], steps: &[u8]) -> Reading
-    ensures { λ r. ⌜ r ≡ withBlock command (now (block .entry)) (now (option .entry)) (now (steps .entry)) ⌝ }
+    ensures { result ≡ withBlock command block.now option.now steps.now }
 {
     let Parsed::Number(b) = number(block) else {
         return Reading::Wrong(Complaint::Block);
@@ -70,7 +65,7 @@ fn with_block(command: Command, block: &[u8], option: &[u8], steps: &[u8]) -> Re
 
 // The words after a verb.
 fn after_verb(command: Command, first: &[u8], second: &[u8], third: &[u8]) -> Reading
-    ensures { λ r. ⌜ r ≡ afterVerb command (now (first .entry)) (now (second .entry)) (now (third .entry)) ⌝ }
+    ensures { result ≡ afterVerb command first.now second.now third.now }
 {
     let verb = command.verb;
     if names_block(verb) {
@@ -91,7 +86,7 @@ pub fn command_of(
     second: &[u8],
     third: &[u8],
 ) -> Reading
-    ensures { λ r. ⌜ r ≡ commandOf (now (segments .entry)) (now (slots .entry)) (now (verb .entry)) (now (first .entry)) (now (second .entry)) (now (third .entry)) ⌝ }
+    ensures { result ≡ commandOf segments.now slots.now verb.now first.now second.now third.now }
 {
     let Parsed::Number(n) = number(segments) else {
         return Reading::Wrong(Complaint::Segments);

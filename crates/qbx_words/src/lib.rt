@@ -1,13 +1,13 @@
 // The words of the command line of qbx, read.
 mod commands;
 
-pub use commands::command_of;
-pub use commands::is_missing;
+pub use commands::{command_of, is_missing};
 use model::BlockNumber;
 pub use qbx_verb_words::is;
 use qbx_verbs::Verb;
 
 // A command whose words were right. A verb that names no block has block 0.
+#[derive(Drop)]
 pub struct Command {
     pub segments: u64,
     pub slots: u64,
@@ -17,6 +17,7 @@ pub struct Command {
 }
 
 // The word of a command that is wrong.
+#[derive(Drop)]
 pub enum Complaint {
     Segments,
     Slots,
@@ -31,6 +32,7 @@ pub enum Complaint {
     Budget,
 }
 
+#[derive(Drop)]
 pub enum Reading {
     Right(Command),
     Wrong(Complaint),

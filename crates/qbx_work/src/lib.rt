@@ -1,23 +1,19 @@
 // The work of the program qbx, with its words handed in: the image's file is read, the store asked, the file replaced and
 // the answer said.
-use model::Answer;
-use model::Performed;
+ghost use Rattle.std.specs.Prelude.{◌≡◌, false, ◌<◌, ◌≤◌, length};
+ghost use Rattle.request.specs.Request.{size_of};
+ghost use Rattle.qbx_verbs.specs.Verbs.{prints};
+
+use model::{Answer, Performed};
 use qbx_images::ImageFile;
-use qbx_out::fail;
-use qbx_out::print;
+use qbx_out::{fail, print};
 use qbx_verbs::Verb;
 use qbx_words::Command;
-ghost use mathlib.Core.Path.{_≡_};
-ghost use mathlib.Core.Bool.{false};
-ghost use Prim.Native.Nat.{_<_, _≤_};
-ghost use lib.ListN.{length};
-ghost use Rattle·request.specs.Request.{sizeOf};
-ghost use Rattle·qbx_verbs.specs.Verbs.{prints};
 
 // Has the image's file in the buffer: the file's own bytes, or a chip from the factory where format finds none.
 fn present(image: &mut [u8], path: &[u8], command: Command) -> ImageFile
-    requires { ⌜ sizeOf (command .segments) (command .slots) < length (now image) ⌝ }
-    ensures { λ r. ⌜ r .count ≤ length (now (image .exit)) ⌝ }
+    requires { size_of command.segments command.slots < length image.old }
+    ensures { result.count ≤ length image.new }
 {
     let size = request::size_of(command.segments as usize, command.slots as usize);
     let verb = command.verb;
@@ -127,7 +123,7 @@ fn act(
 // A command that prints no text, on the image's file in a buffer that holds the image and more, so that a larger file is seen to
 // be one. What it says goes to the one descriptor, and what is wrong to the other, beside a read's answer: its contents go out alone.
 pub fn obey(image: &mut [u8], path: &[u8], command: Command, contents: &[u8], out: i32, err: i32)
-    requires { ⌜ (sizeOf (command .segments) (command .slots) < length (now image)) × (prints (command .verb) ≡ false) ⌝ }
+    requires { (size_of command.segments command.slots < length image.old) × (prints command.verb ≡ false) }
 {
     let file = present(image, path, command);
     if !file.whole {
@@ -149,7 +145,7 @@ pub fn obey(image: &mut [u8], path: &[u8], command: Command, contents: &[u8], ou
 // A text about the image's file, in a buffer of its own beside the image's; nothing else goes out, and where a wrong size gives
 // none, that is told with what is wrong. It is not done by `obey`: what it needs of the stack would be taken for every command.
 pub fn show(image: &mut [u8], text: &mut [u8], path: &[u8], command: Command, out: i32, err: i32)
-    requires { ⌜ sizeOf (command .segments) (command .slots) < length (now image) ⌝ }
+    requires { size_of command.segments command.slots < length image.old }
 {
     let file = present(image, path, command);
     if !file.whole {

@@ -1,21 +1,18 @@
 // The second part of salvage (request #113): a fresh image of any geometry built from the candidates given of an image, whatever
 // its damage. The source is only read. Nothing is required of a caller.
-use model::Answer;
-use model::Performed;
-ghost use mathlib.Core.Path.{_≡_};
-ghost use mathlib.Core.Bool.{true};
-ghost use lib.ListN.{length};
-ghost use lib.Dec.{ltb};
-ghost use Rattle·model.specs.Lists.{count};
-ghost use Rattle·model.specs.Chip.{rightSize};
-ghost use Rattle·model.specs.Answers.{performed};
-ghost use Rattle·index.specs.Tables.{mostPages};
-ghost use Rattle·salvage.specs.Salvage.{rebuildOutcome};
+ghost use Rattle.std.specs.Prelude.{◌≡◌, true, length, ltb};
+ghost use Rattle.model.specs.Lists.{count};
+ghost use Rattle.model.specs.Chip.{rightSize};
+ghost use Rattle.model.specs.Answers.{performed};
+ghost use Rattle.index.specs.Tables.{mostPages};
+ghost use Rattle.salvage.specs.Salvage.{rebuildOutcome};
+
+use model::{Answer, Performed};
 
 // How many block numbers a table tells a place of.
 fn given_count(places: &[u32]) -> usize
-    requires { ⌜ length (now places) ≡ mostPages ⌝ }
-    ensures { λ r. ⌜ r ≡ count (λ p. ltb 0 p) (now (places .entry)) ⌝ }
+    requires { length places.now ≡ mostPages }
+    ensures { result ≡ count (λ p. ltb 0 p) places.now }
 {
     let mut given: u32 = 0;
     let mut block: usize = 0;
@@ -39,8 +36,8 @@ fn restore(
     target_slots: usize,
     budget: u64,
 ) -> Performed
-    requires { ⌜ (rightSize segments slots (now source) ≡ true) × (rightSize «target_segments» «target_slots» (now target) ≡ true) ⌝ }
-    ensures { λ r. ⌜ performed r (now (target .exit)) ≡ rebuildOutcome segments slots (now (source .entry)) «target_segments» «target_slots» (now (target .entry)) budget ⌝ }
+    requires { (rightSize segments slots source.now ≡ true) × (rightSize target_segments target_slots target.old ≡ true) }
+    ensures { performed result target.new ≡ rebuildOutcome segments slots source.now target_segments target_slots target.old budget }
 {
     let mut places = [0u32; 65536];
     let mut lengths = [0u8; 65536];
@@ -76,7 +73,7 @@ pub fn rebuild(
     target_slots: usize,
     budget: u64,
 ) -> Performed
-    ensures { λ r. ⌜ performed r (now (target .exit)) ≡ rebuildOutcome segments slots (now (source .entry)) «target_segments» «target_slots» (now (target .entry)) budget ⌝ }
+    ensures { performed result target.new ≡ rebuildOutcome segments slots source.now target_segments target_slots target.old budget }
 {
     if !request::right_size(source.len(), segments, slots) {
         return request::refused(Answer::Size);

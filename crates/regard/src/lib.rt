@@ -1,20 +1,18 @@
 // The segments that salvage looks at (request #113), by their numbers: those in use, and where the top is owing, the one after
 // it is left aside.
+ghost use Rattle.std.specs.Prelude.{◌≡◌, map, ◌<◌, length, get_or, take};
+ghost use Rattle.model.specs.Chip.{mostSegments};
+ghost use Rattle.model.specs.State.{blank, numberAfter, segmentsOf};
+ghost use Rattle.flash.specs.Pages.{Sized};
+ghost use Rattle.salvage.specs.Salvage.{regarded};
+
 use header_seen::HeaderSeen;
 use model::MOST_SEGMENTS;
-ghost use mathlib.Core.Path.{_≡_};
-ghost use mathlib.Core.List.{map};
-ghost use Prim.Native.Nat.{_<_};
-ghost use lib.ListN.{length, getD, take};
-ghost use Rattle·model.specs.Chip.{mostSegments};
-ghost use Rattle·model.specs.State.{blank, numberAfter, segmentsOf};
-ghost use Rattle·flash.specs.Pages.{Sized};
-ghost use Rattle·salvage.specs.Salvage.{regarded};
 
 // One more than the number of the segment at an index, or 0 if its header is not one in use.
 fn number_at(image: &[u8], segments: usize, slots: usize, index: usize) -> usize
-    requires { ⌜ Sized segments slots (length (now image)) × (index < segments) ⌝ }
-    ensures { λ r. ⌜ r ≡ numberAfter (getD (segmentsOf segments slots (now (image .entry))) index blank) ⌝ }
+    requires { Sized segments slots (length image.now) × (index < segments) }
+    ensures { result ≡ numberAfter (get_or (segmentsOf segments slots image.now) index blank) }
 {
     let at = index * (slots + 1) * 256;
     let end = at + 256;
@@ -32,8 +30,8 @@ fn number_at(image: &[u8], segments: usize, slots: usize, index: usize) -> usize
 
 // The same of each segment, by index.
 fn numbers(image: &[u8], segments: usize, slots: usize) -> [usize; MOST_SEGMENTS]
-    requires { ⌜ Sized segments slots (length (now image)) ⌝ }
-    ensures { λ r. ⌜ (take segments r ≡ map numberAfter (segmentsOf segments slots (now (image .entry)))) × (length r ≡ mostSegments) ⌝ }
+    requires { Sized segments slots (length image.now) }
+    ensures { (take segments result ≡ map numberAfter (segmentsOf segments slots image.now)) × (length result ≡ mostSegments) }
 {
     let mut left = [0usize; MOST_SEGMENTS];
     let mut i: usize = 0;
@@ -46,8 +44,8 @@ fn numbers(image: &[u8], segments: usize, slots: usize) -> [usize; MOST_SEGMENTS
 
 // The same of those that are looked at. The top is the one with the largest number of all that are in use.
 pub fn regarded(image: &[u8], segments: usize, slots: usize) -> [usize; MOST_SEGMENTS]
-    requires { ⌜ Sized segments slots (length (now image)) ⌝ }
-    ensures { λ r. ⌜ (take segments r ≡ map numberAfter (regarded segments (segmentsOf segments slots (now (image .entry))))) × (length r ≡ mostSegments) ⌝ }
+    requires { Sized segments slots (length image.now) }
+    ensures { (take segments result ≡ map numberAfter (regarded segments (segmentsOf segments slots image.now))) × (length result ≡ mostSegments) }
 {
     let mut left = numbers(image, segments, slots);
     let next = descent::largest(&left, segments);

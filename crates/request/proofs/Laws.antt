@@ -1,26 +1,26 @@
 -- Laws of the tests that come before the image is looked at.
-use Prim.Native.Nat.{ℕ, _+_, _*_, _≤_}
-use mathlib.Core.Path.{_≡_, sym, _∙_}
-use mathlib.Core.Bool.{Bool, true, false, _&&_, not}
+use Prim.Native.Nat.{ℕ, ◌+◌, ◌*◌, ◌≤◌}
+use mathlib.Core.Path.{◌≡◌, sym, ◌∙◌}
+use mathlib.Core.Bool.{Bool, true, false, ◌&&◌, not}
 use native.Mathlib.Nat.{mul-le-mul}
 use native.Mathlib.Omega.{arith}
 use lib.ListN.{length}
 use lib.Dec.{leb, ltb, eqb}
 use borrow.Author.Tests.{leb-true, lt-ltb, not-true, not-false}
-use Rattle·model.specs.Chip.{Image, mostSegments, mostSlots, inRange, imageLength, rightSize}
-use Rattle·model.specs.Laws.Lists.{and-left, and-right}
+use Rattle.model.specs.Chip.{Image, mostSegments, mostSlots, in_range, imageLength, rightSize}
+use Rattle.model.specs.Laws.Lists.{and_left, and_right}
 
 -- an image has at most 255 segments of 256 pages
 pub most-pages : (N B : ℕ) → N ≤ mostSegments → B ≤ mostSlots → N * (B + 1) ≤ mostSegments * (mostSlots + 1)
 most-pages N B n b = mul-le-mul n (let h : B + 1 ≤ mostSlots + 1 = omega arith in h)
 
 -- what the test of the ranges tells
-pub in-bounds : (N B : ℕ) → inRange N B ≡ true → (N ≤ mostSegments) × (B ≤ mostSlots)
-unfolding inRange
-in-bounds N B e =
-    let t = and-right (leb 2 N) (leb N mostSegments && (leb 2 B && leb B 255)) e in
-    let u = and-right (leb N mostSegments) (leb 2 B && leb B 255) t in
-    (leb-true N mostSegments (and-left (leb N mostSegments) (leb 2 B && leb B 255) t), leb-true B 255 (and-right (leb 2 B) (leb B 255) u))
+pub in_bounds : (N B : ℕ) → in_range N B ≡ true → (N ≤ mostSegments) × (B ≤ mostSlots)
+unfolding in_range
+in_bounds N B e =
+    let t = and_right (leb 2 N) (leb N mostSegments && (leb 2 B && leb B 255)) e in
+    let u = and_right (leb N mostSegments) (leb 2 B && leb B 255) t in
+    (leb-true N mostSegments (and_left (leb N mostSegments) (leb 2 B && leb B 255) t), leb-true B 255 (and_right (leb 2 B) (leb B 255) u))
 
 -- a test for more than 0 and for a limit: of block numbers, and of lengths
 pub none-fails : (n : ℕ) (t : Bool) → n ≡ 0 → false ≡ (ltb 0 n && t)
@@ -30,10 +30,10 @@ pub some-passes : (n : ℕ) (t : Bool) → (n ≡ 0 → ⊥) → t ≡ (ltb 0 n 
 some-passes n t h = rw (lt-ltb 0 n (omega arith))
 
 -- the test of the size as the requests use it
-module _ (N B : ℕ) (s : Image) (r : Bool) (e : r ≡ (inRange N B && eqb (length s) (imageLength N B))) where
-  pub wrong-size : not r ≡ true → rightSize N B s ≡ false
+module _ (N B : ℕ) (s : Image) (r : Bool) (e : r ≡ (in_range N B && eqb (length s) (imageLength N B))) where
+  pub wrong_size : not r ≡ true → rightSize N B s ≡ false
   unfolding rightSize
-  wrong-size h = sym e ∙ not-true r h
+  wrong_size h = sym e ∙ not-true r h
 
   pub right-size : not r ≡ false → rightSize N B s ≡ true
   unfolding rightSize

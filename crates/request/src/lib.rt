@@ -1,17 +1,12 @@
 // A request before the image is looked at, and what comes back from it.
-use model::Answer;
-use model::BlockNumber;
-use model::MOST_SEGMENTS;
-use model::Performed;
-ghost use mathlib.Core.Path.{_≡_};
-ghost use mathlib.Core.Bool.{_&&_};
-ghost use Prim.Native.Nat.{_≤_};
-ghost use lib.Dec.{eqb};
-ghost use Rattle·model.specs.Chip.{mostSegments, mostSlots, largestImage, inRange, imageLength};
-ghost use Rattle·model.specs.Slot.{numberOk};
-ghost use Rattle·model.specs.State.{capacity};
-ghost use Rattle·model.specs.Answers.{codeOf, lengthOk};
-ghost use Rattle·request·specs.specs.Request.{sizeOf, Refused, Finished};
+ghost use Rattle.std.specs.Prelude.{◌≡◌, ◌&&◌, ◌≤◌, eqb};
+ghost use Rattle.model.specs.Chip.{mostSegments, mostSlots, largestImage, in_range, imageLength};
+ghost use Rattle.model.specs.Slot.{numberOk};
+ghost use Rattle.model.specs.State.{capacity};
+ghost use Rattle.model.specs.Answers.{code_of, lengthOk};
+ghost use Rattle.request.specs.Request.{size_of, Refused, Finished};
+
+use model::{Answer, BlockNumber, MOST_SEGMENTS, Performed};
 
 // The most bytes of contents.
 const MOST_CONTENTS: usize = 248;
@@ -20,7 +15,7 @@ const MOST_CONTENTS: usize = 248;
 
 // Whether an image can have so many segments and slots.
 pub fn in_range(segments: usize, slots: usize) -> bool
-    ensures { λ r. ⌜ r ≡ inRange segments slots ⌝ }
+    ensures { result ≡ in_range segments slots }
 {
     if segments < 2 {
         return false;
@@ -36,7 +31,7 @@ pub fn in_range(segments: usize, slots: usize) -> bool
 
 // The bytes of an image with so many segments and slots, or 0. The ranges are tested before anything is multiplied.
 pub fn size_of(segments: usize, slots: usize) -> usize
-    ensures { λ r. ⌜ (r ≡ sizeOf segments slots) × (r ≤ largestImage) ⌝ }
+    ensures { (result ≡ size_of segments slots) × (result ≤ largestImage) }
 {
     if in_range(segments, slots) {
         return segments * (slots + 1) * 256;
@@ -46,7 +41,7 @@ pub fn size_of(segments: usize, slots: usize) -> usize
 
 // Whether N, B and the image's length are as they should be.
 pub fn right_size(bytes: usize, segments: usize, slots: usize) -> bool
-    ensures { λ r. ⌜ r ≡ (inRange segments slots && eqb bytes (imageLength segments slots)) ⌝ }
+    ensures { result ≡ (in_range segments slots && eqb bytes (imageLength segments slots)) }
 {
     if in_range(segments, slots) {
         return bytes == size_of(segments, slots);
@@ -56,7 +51,7 @@ pub fn right_size(bytes: usize, segments: usize, slots: usize) -> bool
 
 // Whether a block may have this number.
 pub fn number_ok(block: BlockNumber) -> bool
-    ensures { λ r. ⌜ r ≡ numberOk (block .0) ⌝ }
+    ensures { result ≡ numberOk block.0 }
 {
     let n = block.0;
     if n == 0 {
@@ -67,7 +62,7 @@ pub fn number_ok(block: BlockNumber) -> bool
 
 // Whether a put takes contents of so many bytes: at least one, and no more than a slot holds.
 pub fn length_ok(bytes: usize) -> bool
-    ensures { λ r. ⌜ r ≡ lengthOk bytes ⌝ }
+    ensures { result ≡ lengthOk bytes }
 {
     if bytes == 0 {
         return false;
@@ -77,8 +72,8 @@ pub fn length_ok(bytes: usize) -> bool
 
 // The most live slots (document 01: the capacity C).
 pub fn capacity(segments: usize, slots: usize) -> usize
-    requires { ⌜ (2 ≤ segments) × (segments ≤ mostSegments) × (2 ≤ slots) × (slots ≤ mostSlots) ⌝ }
-    ensures { λ r. ⌜ (r ≡ capacity segments slots) × (r ≤ 1000000) ⌝ }
+    requires { (2 ≤ segments) × (segments ≤ mostSegments) × (2 ≤ slots) × (slots ≤ mostSlots) }
+    ensures { (result ≡ capacity segments slots) × (result ≤ 1000000) }
 {
     (segments - 1) * slots - 1
 }
@@ -87,7 +82,7 @@ pub fn capacity(segments: usize, slots: usize) -> usize
 
 // A refusal takes no step.
 pub fn refused(answer: Answer) -> Performed
-    ensures { λ r. ⌜ Refused answer r ⌝ }
+    ensures { Refused answer result }
 {
     Performed { answer, steps: 0 }
 }
@@ -95,8 +90,8 @@ pub fn refused(answer: Answer) -> Performed
 // A list of steps was performed, as far as the budget went. It has fallen with each step, so what is missing of it counts
 // the steps done. The list was cut short just if what was left before its last part, of one step at least, does not cover that part.
 pub fn finished(budget: u64, left: u64, before: u64, last: u64) -> Performed
-    requires { ⌜ left ≤ budget ⌝ }
-    ensures { λ r. ⌜ Finished budget left before last r ⌝ }
+    requires { left ≤ budget }
+    ensures { Finished budget left before last result }
 {
     if before < last {
         return Performed {
@@ -113,7 +108,7 @@ pub fn finished(budget: u64, left: u64, before: u64, last: u64) -> Performed
 // The number of an answer in document 01's table; 10 is of request #102, 11 of #104, 12 and 13 of #110, 14 of
 // #101.
 pub fn code_of(answer: Answer) -> u8
-    ensures { λ r. ⌜ r ≡ codeOf answer ⌝ }
+    ensures { result ≡ code_of answer }
 {
     match answer {
         Answer::Done => 0,
@@ -136,7 +131,7 @@ pub fn code_of(answer: Answer) -> u8
 
 // The same, to reckon with.
 pub fn number_of(answer: Answer) -> u64
-    ensures { λ r. ⌜ (r ≡ codeOf answer) × (r ≤ 255) ⌝ }
+    ensures { (result ≡ code_of answer) × (result ≤ 255) }
 {
     code_of(answer) as u64
 }

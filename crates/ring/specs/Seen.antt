@@ -1,32 +1,28 @@
 -- What is seen of the ring of segments in use: by each part of the search on any image, and by the whole.
-use Prim.Native.Nat.{ℕ, _+_, _-_, _*_, _%_, _≤_, _<_}
-use mathlib.Core.Path.{_≡_}
-use mathlib.Core.Logic.{_≢_, _⊎_}
-use mathlib.Core.Bool.{true}
-use lib.ListN.{length, getD, take, drop}
-use Rattle·model.specs.Chip.{Image, eraseLimit, rightSize}
-use Rattle·model.specs.Header.{headerNumber}
-use Rattle·model.specs.State.{clean, state, view}
-use Rattle·ring·specs.specs.declared.Ring.{Ring}
-use Rattle·ring·specs.specs.declared.Ring.the-variants.{InUse, Broken}
+use Rattle.std.specs.Prelude.{ℕ, ◌+◌, ◌-◌, ◌*◌, ◌%◌, ◌≤◌, ◌<◌, ◌≡◌, ◌≢◌, ◌⊎◌, true, length, get_or, take, drop}
+use Rattle.model.specs.Chip.{Image, eraseLimit, rightSize}
+use Rattle.model.specs.Header.{headerNumber}
+use Rattle.model.specs.State.{clean, state, view}
+use Rattle.ring.specs.declared.Ring.{Ring}
+use Rattle.ring.specs.declared.Ring.TheVariants.{InUse, Broken}
 
 -- ---- headers, whatever other bytes the image has
 
 -- the status of the header at index i
 unfoldable pub statusAt : ℕ → Image → ℕ → ℕ
-statusAt B s i = getD s (i * (B + 1) * 256 + 5) 0
+statusAt B s i = get_or s (i * (B + 1) * 256 + 5) 0
 
 -- the number in the header at index i
-unfoldable pub numberAt : ℕ → Image → ℕ → ℕ
-numberAt B s i = headerNumber (take 256 (drop (i * (B + 1) * 256) s))
+unfoldable pub number_at : ℕ → Image → ℕ → ℕ
+number_at B s i = headerNumber (take 256 (drop (i * (B + 1) * 256) s))
 
 -- ---- the parts of the search
 
 -- index i follows from number n at index 0, if its number is n + i: r does or is 0, and the next does not, or there is none
 pub record LastFollowing (N B : ℕ) (s : Image) (n r : ℕ) : Type 0 where
   pub within : r < N
-  pub follows : 0 < r → numberAt B s r ≡ n + r
-  pub ends : r + 1 < N → numberAt B s (r + 1) ≢ n + (r + 1)
+  pub follows : 0 < r → number_at B s r ≡ n + r
+  pub ends : r + 1 < N → number_at B s (r + 1) ≢ n + (r + 1)
 
 -- r counts as in use or is 0, and none after it does
 pub record LastUsed (N B : ℕ) (s : Image) (r : ℕ) : Type 0 where
@@ -41,7 +37,7 @@ pub record RunFrom (B : ℕ) (s : Image) (e r : ℕ) : Type 0 where
   pub free : 0 < r → statusAt B s (r - 1) ≡ 255
 
 abbrev pub TopSeen : ℕ → ℕ → Image → ℕ → Type 0
-TopSeen N B s r = ((statusAt B s 0 ≢ 255) × LastFollowing N B s (numberAt B s 0) r) ⊎ ((statusAt B s 0 ≡ 255) × LastUsed N B s r)
+TopSeen N B s r = ((statusAt B s 0 ≢ 255) × LastFollowing N B s (number_at B s 0) r) ⊎ ((statusAt B s 0 ≡ 255) × LastUsed N B s r)
 
 -- one less than all, if the second after the top counts as in use; or the run below the end, and those up to the top; or the run up to the top
 abbrev pub UsedSeen : ℕ → ℕ → Image → ℕ → ℕ → Type 0
@@ -54,10 +50,10 @@ UsedSeen N B s top r =
 
 -- numbers below the limit, and a segment left over
 abbrev pub Bounded : ℕ → Ring → Type 0
-Bounded N (InUse f u) = (1 ≤ u) × (u + 1 ≤ N) × (f .0 + u ≤ eraseLimit * N)
+Bounded N (InUse f u) = (1 ≤ u) × (u + 1 ≤ N) × (f.0 + u ≤ eraseLimit * N)
 Bounded N Broken = Unit {0}
 
 -- whatever the image is, what is seen is in bounds; on a clean one it is the view's
 pub record SeenRing (N B : ℕ) (s : Image) (r : Ring) : Type 0 where
   pub bounded : Bounded N r
-  pub exact : rightSize N B s ≡ true → state N B s ≡ clean → r ≡ InUse (record { 0 = view N B s .first }) (length (view N B s .slots))
+  pub exact : rightSize N B s ≡ true → state N B s ≡ clean → r ≡ InUse (record { 0 = (view N B s).first }) (length (view N B s).slots)

@@ -1,14 +1,13 @@
 // The segments in use, found by looking at the status bytes and the numbers in headers alone (request #102): of any image the
 // answer is in bounds, and of a clean one it is what the definitions say.
-use model::ERASE_LIMIT;
-use model::SegmentNumber;
-ghost use mathlib.Core.Path.{_≡_};
-ghost use Prim.Native.Nat.{_<_, _≤_};
-ghost use lib.ListN.{length};
-ghost use Rattle·flash.specs.Pages.{Sized};
-ghost use Rattle·ring·specs.specs.Seen.{statusAt, numberAt, LastFollowing, LastUsed, RunFrom, TopSeen, UsedSeen, SeenRing};
+ghost use Rattle.std.specs.Prelude.{◌≡◌, ◌<◌, ◌≤◌, length};
+ghost use Rattle.flash.specs.Pages.{Sized};
+ghost use Rattle.ring.specs.Seen.{statusAt, number_at, LastFollowing, LastUsed, RunFrom, TopSeen, UsedSeen, SeenRing};
+
+use model::{ERASE_LIMIT, SegmentNumber};
 
 // The segments in use as their headers tell them: the smallest number and their count; or they are no ring.
+#[derive(Drop)]
 pub enum Ring {
     InUse { first: SegmentNumber, used: usize },
     Broken,
@@ -24,16 +23,16 @@ const STATUS: usize = 5;
 
 // The status in the header at an index. A segment counts as in use if it was programmed.
 fn status_at(image: &[u8], segments: usize, slots: usize, index: usize) -> u8
-    requires { ⌜ Sized segments slots (length (now image)) × (index < segments) ⌝ }
-    ensures { λ r. ⌜ r ≡ statusAt slots (now (image .entry)) index ⌝ }
+    requires { Sized segments slots (length image.now) × (index < segments) }
+    ensures { result ≡ statusAt slots image.now index }
 {
     image[index * (slots + 1) * 256 + STATUS]
 }
 
 // The number in the header at an index, in use or not.
 fn number_at(image: &[u8], segments: usize, slots: usize, index: usize) -> usize
-    requires { ⌜ Sized segments slots (length (now image)) × (index < segments) ⌝ }
-    ensures { λ r. ⌜ (r ≡ numberAt slots (now (image .entry)) index) × (r < 4294967296) ⌝ }
+    requires { Sized segments slots (length image.now) × (index < segments) }
+    ensures { (result ≡ number_at slots image.now index) × (result < 4294967296) }
 {
     let at = index * (slots + 1) * 256;
     let end = at + 256;
@@ -45,8 +44,8 @@ fn number_at(image: &[u8], segments: usize, slots: usize, index: usize) -> usize
 
 // The last index whose number follows from that of index 0, by halving (binary search). The sums are wide enough for any image.
 fn last_following(image: &[u8], segments: usize, slots: usize, number: usize) -> usize
-    requires { ⌜ Sized segments slots (length (now image)) × (number < 4294967296) ⌝ }
-    ensures { λ r. ⌜ LastFollowing segments slots (now (image .entry)) number r ⌝ }
+    requires { Sized segments slots (length image.now) × (number < 4294967296) }
+    ensures { LastFollowing segments slots image.now number result }
 {
     let mut low = 0;
     let mut high = segments;
@@ -63,8 +62,8 @@ fn last_following(image: &[u8], segments: usize, slots: usize, number: usize) ->
 
 // The last index that counts as in use; 0, if none does. In a whole ring with index 0 blank it is the first that is looked at.
 fn last_used(image: &[u8], segments: usize, slots: usize) -> usize
-    requires { ⌜ Sized segments slots (length (now image)) ⌝ }
-    ensures { λ r. ⌜ LastUsed segments slots (now (image .entry)) r ⌝ }
+    requires { Sized segments slots (length image.now) }
+    ensures { LastUsed segments slots image.now result }
 {
     let mut index = segments - 1;
     while index > 0 {
@@ -78,8 +77,8 @@ fn last_used(image: &[u8], segments: usize, slots: usize) -> usize
 
 // Where the run of indexes begins that count as in use and ends just below `end`.
 fn run_start(image: &[u8], segments: usize, slots: usize, end: usize) -> usize
-    requires { ⌜ Sized segments slots (length (now image)) × (end ≤ segments) ⌝ }
-    ensures { λ r. ⌜ RunFrom slots (now (image .entry)) end r ⌝ }
+    requires { Sized segments slots (length image.now) × (end ≤ segments) }
+    ensures { RunFrom slots image.now end result }
 {
     let mut start = end;
     while start > 0 {
@@ -94,8 +93,8 @@ fn run_start(image: &[u8], segments: usize, slots: usize, end: usize) -> usize
 // The index of the top of a clean image. The numbers in use are consecutive, and each stands at its remainder: with index 0
 // in use they rise from there to the top; with index 0 blank they do not go round the end, and the top is the last.
 fn find_top(image: &[u8], segments: usize, slots: usize) -> usize
-    requires { ⌜ Sized segments slots (length (now image)) ⌝ }
-    ensures { λ r. ⌜ TopSeen segments slots (now (image .entry)) r ⌝ }
+    requires { Sized segments slots (length image.now) }
+    ensures { TopSeen segments slots image.now result }
 {
     if status_at(image, segments, slots, 0) == ERASED {
         return last_used(image, segments, slots);
@@ -107,8 +106,8 @@ fn find_top(image: &[u8], segments: usize, slots: usize) -> usize
 // How many segments of a clean image are in use. A ring is whole if the segment after the blank one that follows the top is in
 // use, which is the oldest then; otherwise the run that ends in the top is walked back.
 fn count_used(image: &[u8], segments: usize, slots: usize, top: usize) -> usize
-    requires { ⌜ Sized segments slots (length (now image)) × (top < segments) ⌝ }
-    ensures { λ r. ⌜ UsedSeen segments slots (now (image .entry)) top r ⌝ }
+    requires { Sized segments slots (length image.now) × (top < segments) }
+    ensures { UsedSeen segments slots image.now top result }
 {
     if status_at(image, segments, slots, (top + 2) % segments) != ERASED {
         return segments - 1;
@@ -122,8 +121,8 @@ fn count_used(image: &[u8], segments: usize, slots: usize, top: usize) -> usize
 // The segments in use. Headers lie up to 64 KiB apart, so that a look is a cache miss: of an image that grew from a format as
 // many are looked at as there are halvings, and some more. A single segment is no ring, and one less would count as none.
 pub fn see_ring(image: &[u8], segments: usize, slots: usize) -> Ring
-    requires { ⌜ Sized segments slots (length (now image)) ⌝ }
-    ensures { λ r. ⌜ SeenRing segments slots (now (image .entry)) r ⌝ }
+    requires { Sized segments slots (length image.now) }
+    ensures { SeenRing segments slots image.now result }
 {
     if segments < 2 {
         return Ring::Broken;

@@ -1,51 +1,51 @@
 -- Laws of room for a put: the top has an empty slot or not, the numbers stay small, and the loop of compactions does the steps of the definition on a clean image, and some
 -- steps on any other.
-use Prim.Native.Nat.{ℕ, zero, suc, _+_, _*_, _-_, _%_, _≤_, _<_}
-use mathlib.Core.Path.{_≡_, refl, sym, ap, ap₂, _∙_}
-use mathlib.Core.Bool.{Bool, true, false, cond, _&&_, not}
-use mathlib.Core.List.{List, [], _∷_, _++_}
+use Prim.Native.Nat.{ℕ, zero, suc, ◌+◌, ◌*◌, ◌-◌, ◌%◌, ◌≤◌, ◌<◌}
+use mathlib.Core.Path.{◌≡◌, refl, sym, ap, ap₂, ◌∙◌}
+use mathlib.Core.Bool.{Bool, true, false, cond, ◌&&◌, not}
+use mathlib.Core.List.{List, [], ◌∷◌, ◌++◌}
 use native.Mathlib.Nat.{mod-lt}
 use native.Mathlib.Numerals.{add-one}
 use native.Mathlib.Omega.{arith}
-use lib.ListN.{length, getD, replicate, length-append}
-use lib.Seq.{take-all}
+use lib.ListN.{length, get_or, replicate, length-append}
+use lib.Seq.{take_all}
 use lib.Dec.{ltb}
 use borrow.Author.Tests.{lt-ltb, le-ltb, ltb-true, ltb-false}
-use Rattle·model.specs.Lists.{all, count}
-use Rattle·model.specs.Chip.{Image, Bytes, Step, erased, numberLimit, mostSegments, run}
-use Rattle·model.specs.Header.{newVersion, isFormer, bitValues, clearedIn, clearedBits, tallyOf}
-use Rattle·model.specs.Slot.{Slot, empty, isEmpty}
-use Rattle·model.specs.State.{View, entries, clean, state, view}
-use Rattle·model.specs.Steps.{topRow, topNumber, hasRoom, firstEmpty, openSegment, compact, copied, nextVersion, openNext, compactOldest, roomFor, compactions, newNumbers, isWorn}
-use Rattle·model.specs.Laws.Chip.{size-facts}
-use Rattle·model.specs.Laws.Ring.{apart-before}
-use Rattle·model.specs.Laws.Segments.{partOf, segment-at}
-use Rattle·model.specs.Laws.Effects.{in-use-parts}
-use Rattle·bridge.specs.Predicted.{Rows, CleanView, Carries}
-use Rattle·bridge.specs.Held.{Held, held-of-clean, clean-view, held-row}
-use Rattle·bridge.specs.Requests.{held-below}
-use Rattle·bridge.specs.TimesDone.{times-number, times-held}
-use Rattle·bridge.specs.Views.Slots.{full, top-row, copied-full}
-use Rattle·bridge.specs.Views.Room.{compactions-some, compactions-length, room-made, some-dead}
-use Rattle·bridge.specs.Views.Requests.{room-numbered, worn-carries}
-use Rattle·bridge.specs.Views.Times.{compactTimes, Needs, after-times, room-times, copied-empty, times-top}
-use Rattle·flash.specs.Ran.{Ran, Programmed}
-use Rattle·flash.proofs.Laws.{ran-none, _then_}
-use Rattle·flash.specs.Pages.{Sized}
-use Rattle·flash.proofs.Pages.{sized}
-use Rattle·live_slots.specs.Live.{liveEntries, Apart}
-use Rattle·compact.specs.Compaction.{Compaction}
-use Rattle·compact.specs.Composed.{then-list-if-whole}
-use Rattle·room·specs.specs.declared.Plan.{Plan}
-use Rattle·room·specs.specs.declared.Room.{Room}
-use Rattle·room·specs.specs.Room.{Plannable, Full, Planned, Writable, Roomed, Worked}
+use Rattle.model.specs.Lists.{all, count}
+use Rattle.model.specs.Chip.{Image, Bytes, Step, erased, numberLimit, mostSegments, run}
+use Rattle.model.specs.Header.{newVersion, isFormer, bitValues, clearedIn, clearedBits, tally_of}
+use Rattle.model.specs.Slot.{Slot, empty, is_empty}
+use Rattle.model.specs.State.{View, entries, clean, state, view}
+use Rattle.model.specs.Steps.{topRow, topNumber, hasRoom, firstEmpty, openSegment, compact, copied, nextVersion, openNext, compactOldest, room_for, compactions, newNumbers, isWorn}
+use Rattle.model.specs.Laws.Chip.{size-facts}
+use Rattle.model.specs.Laws.Ring.{apart-before}
+use Rattle.model.specs.Laws.Segments.{part_of, segment-at}
+use Rattle.model.specs.Laws.Effects.{in-use-parts}
+use Rattle.bridge.specs.Predicted.{Rows, CleanView, Carries}
+use Rattle.bridge.specs.Held.{Held, held-of-clean, clean-view, held-row}
+use Rattle.bridge.specs.Requests.{held_below}
+use Rattle.bridge.specs.TimesDone.{times-number, times-held}
+use Rattle.bridge.specs.Views.Slots.{full, top-row, copied-full}
+use Rattle.bridge.specs.Views.Room.{compactions-some, compactions-length, room-made, some-dead}
+use Rattle.bridge.specs.Views.Requests.{room-numbered, worn-carries}
+use Rattle.bridge.specs.Views.Times.{compactTimes, Needs, after-times, room-times, copied-empty, times-top}
+use Rattle.flash.specs.Ran.{Ran, Programmed}
+use Rattle.flash.proofs.Laws.{ran-none, ◌then◌}
+use Rattle.flash.specs.Pages.{Sized}
+use Rattle.flash.proofs.Pages.{sized}
+use Rattle.live_slots.specs.Live.{liveEntries, Apart}
+use Rattle.compact.specs.Compaction.{Compaction}
+use Rattle.compact.specs.Composed.{then-list-if-whole}
+use Rattle.room.specs.declared.Plan.{Plan}
+use Rattle.room.specs.declared.Room.{Room}
+use Rattle.room.specs.Room.{Plannable, Full, Planned, Writable, Roomed, Worked}
 
 -- ---- a row
 
 pub row-full : (r : List Slot) → not (full r) ≡ ltb (firstEmpty r) (length r)
 unfolding all firstEmpty
 row-full [] = refl
-row-full (k ∷ r) = go (isEmpty k) (row-full r)
+row-full (k ∷ r) = go (is_empty k) (row-full r)
   where
     go : (t : Bool) → not (full r) ≡ ltb (firstEmpty r) (length r) → not (not t && full r) ≡ ltb (cond t 0 (suc (firstEmpty r))) (suc (length r))
     go true e = sym (lt-ltb 0 (suc (length r)) (omega arith))
@@ -58,28 +58,28 @@ row-full (k ∷ r) = go (isEmpty k) (row-full r)
 pub top-length : (B : ℕ) (l : List (List Slot)) → Rows B l → 1 ≤ length l → length (topRow l) ≡ B
 unfolding topRow
 top-length B [] r h = absurd (omega arith)
-top-length B (x ∷ []) r h = r .0
-top-length B (x ∷ y ∷ l) r h = top-length B (y ∷ l) (r .1) (omega arith)
+top-length B (x ∷ []) r h = r.0
+top-length B (x ∷ y ∷ l) r h = top-length B (y ∷ l) r.1 (omega arith)
 
 empty-first : (B : ℕ) → firstEmpty (replicate B empty) ≡ 0
-unfolding firstEmpty isEmpty
+unfolding firstEmpty is_empty
 empty-first zero = refl
 empty-first (suc B) = refl
 
 -- the oldest row is what the segment with the smallest number holds
-live-row : (N B : ℕ) (s : Image) (v : View) → Held N B s v → 1 ≤ length (v .slots) → liveEntries N B (v .first) s ≡ entries (getD (v .slots) 0 [])
+live-row : (N B : ℕ) (s : Image) (v : View) → Held N B s v → 1 ≤ length v.slots → liveEntries N B v.first s ≡ entries (get_or v.slots 0 [])
 unfolding liveEntries
 live-row N B s v h some =
-    let z : v .first + 0 ≡ v .first = omega arith in
+    let z : v.first + 0 ≡ v.first = omega arith in
     let r = rw z at (held-row N B s v h 0 some) in
-    let p : 0 < N = omega (arith, size-facts N B s (h .size) .two) in
-    let i = mod-lt (v .first) p in
-    let u = in-use-parts N B (v .first % N) (partOf N B (v .first % N) s) (r .0) (r .1) (v .first) (getD (v .slots) 0 []) (sym (segment-at N B (v .first % N) s i) ∙ r .2) in
-    ap entries (u .slots)
+    let p : 0 < N = omega (arith, (size-facts N B s h.size).two) in
+    let i = mod-lt v.first p in
+    let u = in-use-parts N B (v.first % N) (part_of N B (v.first % N) s) r.0 r.1 v.first (get_or v.slots 0 []) (sym (segment-at N B (v.first % N) s i) ∙ r.2) in
+    ap entries u.slots
 
 -- each compaction carries the same total on: the header before has no bit cleared
-times-tally : (N B i : ℕ) (v : View) → tallyOf (compactTimes N B i v .result .version) ≡ tallyOf (v .version)
-unfolding compactTimes compactOldest nextVersion newVersion tallyOf clearedBits clearedIn bitValues count erased
+times-tally : (N B i : ℕ) (v : View) → tally_of (compactTimes N B i v).result.version ≡ tally_of v.version
+unfolding compactTimes compactOldest nextVersion newVersion tally_of clearedBits clearedIn bitValues count erased
 times-tally N B zero v = refl
 times-tally N B (suc i) v = omega (arith, times-tally N B i v)
 
@@ -87,122 +87,122 @@ times-tally N B (suc i) v = omega (arith, times-tally N B i v)
 
 -- i compactions, as far as the budget went. The count of the last is told if some of the budget is left
 pub record Compacting (N B : ℕ) (s : Image) (budget i left slot : ℕ) (t : Image) : Type 0 where
-  pub ran : Ran (compactTimes N B i (view N B s) .steps) B budget left s t
-  pub last : 0 < left → (j : ℕ) → suc j ≡ i → slot ≡ length (entries (getD (view N B s .slots) j []))
+  pub ran : Ran (compactTimes N B i (view N B s)).steps B budget left s t
+  pub last : 0 < left → (j : ℕ) → suc j ≡ i → slot ≡ length (entries (get_or (view N B s).slots j []))
 
 module _ (N B : ℕ) (p : Plan) (s : Image) (k : Planned N B p s) where
   abbrev v : View
   v = view N B s
 
   abbrev pub plan-held : Held N B s (view N B s)
-  plan-held = held-of-clean N B s (k .size) (k .state)
+  plan-held = held-of-clean N B s k.size k.state
 
   abbrev pub plan-clean : CleanView N B (view N B s)
-  plan-clean = clean-view N B s (k .size) (k .state)
+  plan-clean = clean-view N B s k.size k.state
 
   two : 2 ≤ N
-  two = size-facts N B s (k .size) .two
+  two = (size-facts N B s k.size).two
 
   slots-two : 2 ≤ B
-  slots-two = size-facts N B s (k .size) .slots
+  slots-two = (size-facts N B s k.size).slots
 
   pub plan-sized : Sized N B (length s)
-  plan-sized = sized N B s (k .size)
+  plan-sized = sized N B s k.size
 
-  pub room-test : hasRoom (view N B s) ≡ ltb (p .slot) B
+  pub room-test : hasRoom (view N B s) ≡ ltb p.slot B
   unfolding hasRoom
-  room-test = row-full (topRow (v .slots)) ∙ ap₂ ltb (sym (k .slot)) (top-length B (v .slots) (plan-clean .rows) (plan-clean .some))
+  room-test = row-full (topRow v.slots) ∙ ap₂ ltb (sym k.slot) (top-length B v.slots plan-clean.rows plan-clean.some)
 
-  pub has-room : p .slot < B → hasRoom (view N B s) ≡ true
-  has-room h = room-test ∙ lt-ltb (p .slot) B h
+  pub has_room : p.slot < B → hasRoom (view N B s) ≡ true
+  has_room h = room-test ∙ lt-ltb p.slot B h
 
-  pub no-room : B ≤ p .slot → hasRoom (view N B s) ≡ false
-  no-room h = room-test ∙ le-ltb (p .slot) B h
+  pub no_room : B ≤ p.slot → hasRoom (view N B s) ≡ false
+  no_room h = room-test ∙ le-ltb p.slot B h
 
   -- the numbers stay small
   pub record Small : Type 0 where
-    pub some : 1 ≤ p .used
-    pub spare : p .used + 1 ≤ N
-    pub number : p .first .0 + p .used ≤ numberLimit N
+    pub some : 1 ≤ p.used
+    pub spare : p.used + 1 ≤ N
+    pub number : p.first.0 + p.used ≤ numberLimit N
     pub limit : numberLimit N ≤ 100000 * mostSegments
 
   pub small : Small
   unfolding topNumber numberLimit
   small = record {
-    some = omega (arith, k .used, plan-clean .some);
-    spare = omega (arith, k .used, plan-clean .spare, two);
-    number = omega (arith, k .first, k .used, plan-clean .some, held-below N B s v plan-held plan-clean);
-    limit = omega (arith, size-facts N B s (k .size) .most);
+    some = omega (arith, k.used, plan-clean.some);
+    spare = omega (arith, k.used, plan-clean.spare, two);
+    number = omega (arith, k.first, k.used, plan-clean.some, held_below N B s v plan-held plan-clean);
+    limit = omega (arith, (size-facts N B s k.size).most);
   }
 
-  pub plannable : p .compactions ≤ p .used → Plannable N B p (length s)
+  pub plannable : p.compactions ≤ p.used → Plannable N B p (length s)
   plannable few = let h = small in
-      record { sized = plan-sized; some = h .some; spare = h .spare; number = omega (arith, h .number, h .limit); few = few }
+      record { sized = plan-sized; some = h.some; spare = h.spare; number = omega (arith, h.number, h.limit); few = few }
 
-  pub find-fits : Sized N B (length s) × (p .first .0 + p .used ≤ 4294967296)
+  pub find-fits : Sized N B (length s) × (p.first.0 + p.used ≤ 4294967296)
   find-fits = let h = small in (plan-sized, omega arith)
 
-  pub top-is : p .first .0 + p .used ≡ suc (topNumber (view N B s))
+  pub top-is : p.first.0 + p.used ≡ suc (topNumber (view N B s))
   unfolding topNumber
-  top-is = omega (arith, k .first, k .used, plan-clean .some)
+  top-is = omega (arith, k.first, k.used, plan-clean.some)
 
   -- ---- nothing to do, and opening
 
-  pub room-there : (budget : ℕ) (r : Room) → p .slot < B → r .left ≡ budget → r .first .0 ≡ p .first .0 → r .used ≡ p .used → r .slot ≡ p .slot → Roomed N B budget r s s
-  unfolding roomFor
+  pub room-there : (budget : ℕ) (r : Room) → p.slot < B → r.left ≡ budget → r.first.0 ≡ p.first.0 → r.used ≡ p.used → r.slot ≡ p.slot → Roomed N B budget r s s
+  unfolding room_for
   room-there budget r h l f u j = record {
-    ran = rw (has-room h, l) (ran-none B budget s);
-    first = rw (has-room h) (f ∙ k .first);
-    used = rw (has-room h) (u ∙ k .used);
-    slot = λ e. rw (has-room h) (j ∙ k .slot);
+    ran = rw (has_room h, l) (ran-none B budget s);
+    first = rw (has_room h) (f ∙ k.first);
+    used = rw (has_room h) (u ∙ k.used);
+    slot = λ e. rw (has_room h) (j ∙ k.slot);
   }
 
-  few-used : p .used + 1 < N → ltb (length (v .slots)) (N - 1) ≡ true
-  few-used h = lt-ltb (length (v .slots)) (N - 1) (omega (arith, k .used))
+  few-used : p.used + 1 < N → ltb (length v.slots) (N - 1) ≡ true
+  few-used h = lt-ltb (length v.slots) (N - 1) (omega (arith, k.used))
 
-  pub room-opened : (budget total n : ℕ) (r : Room) {t : Image} → total ≡ tallyOf (view N B s .version) → B ≤ p .slot → p .used + 1 < N → n ≡ p .first .0 + p .used → r .first .0 ≡ p .first .0 → r .used ≡ p .used + 1 → r .slot ≡ 0
-      → Programmed (openSegment N B (newVersion total) n) budget (r .left) s t → Roomed N B budget r s t
-  unfolding roomFor openNext nextVersion
+  pub room-opened : (budget total n : ℕ) (r : Room) {t : Image} → total ≡ tally_of (view N B s).version → B ≤ p.slot → p.used + 1 < N → n ≡ p.first.0 + p.used → r.first.0 ≡ p.first.0 → r.used ≡ p.used + 1 → r.slot ≡ 0
+      → Programmed (openSegment N B (newVersion total) n) budget r.left s t → Roomed N B budget r s t
+  unfolding room_for openNext nextVersion
   room-opened budget total n r {t} tally h u e f g j d =
       let top : n ≡ suc (topNumber v) = e ∙ top-is in record {
-        ran = rw (no-room h, few-used u) (rw (top, tally) at (d B));
-        first = rw (no-room h, few-used u) (f ∙ k .first);
-        used = rw (no-room h, few-used u) (omega (arith, g, k .used, length-append (v .slots) (replicate B empty ∷ [])));
-        slot = λ z. rw (no-room h, few-used u) (j ∙ sym (ap firstEmpty (top-row (v .slots) (replicate B empty)) ∙ empty-first B));
+        ran = rw (no_room h, few-used u) (rw (top, tally) at (d B));
+        first = rw (no_room h, few-used u) (f ∙ k.first);
+        used = rw (no_room h, few-used u) (omega (arith, g, k.used, length-append v.slots (replicate B empty ∷ [])));
+        slot = λ z. rw (no_room h, few-used u) (j ∙ sym (ap firstEmpty (top-row v.slots (replicate B empty)) ∙ empty-first B));
       }
 
   -- ---- compactions
 
-  module _ (bytes : Bytes s) (second : isFormer (view N B s .version) ≡ false) (fresh : isWorn N (view N B s) ≡ false) (f : Full N B p) where
-    pub none-left : hasRoom v ≡ false
-    none-left = no-room (f .top)
+  module _ (bytes : Bytes s) (second : isFormer (view N B s).version ≡ false) (fresh : isWorn N (view N B s) ≡ false) (f : Full N B p) where
+    pub none_left : hasRoom v ≡ false
+    none_left = no_room f.top
 
-    rows-full : length (v .slots) ≡ N - 1
-    rows-full = omega (arith, k .used, f .used, small .spare)
+    rows-full : length v.slots ≡ N - 1
+    rows-full = omega (arith, k.used, f.used, small.spare)
 
-    not-few : ltb (length (v .slots)) (N - 1) ≡ false
-    not-few = le-ltb (length (v .slots)) (N - 1) (omega (arith, rows-full))
+    not-few : ltb (length v.slots) (N - 1) ≡ false
+    not-few = le-ltb (length v.slots) (N - 1) (omega (arith, rows-full))
 
     needs : Needs N B v
-    needs = record { clean = plan-clean; none = none-left; dead = some-dead N B two slots-two v plan-clean none-left (omega (arith, rows-full)) }
+    needs = record { clean = plan-clean; none = none_left; dead = some-dead N B two slots-two v plan-clean none_left (omega (arith, rows-full)) }
 
     carries : Carries v
-    carries = worn-carries N B two slots-two v second fresh none-left
+    carries = worn-carries N B two slots-two v second fresh none_left
 
-    pub below : topNumber v + compactions (v .slots) < numberLimit N
+    pub below : topNumber v + compactions v.slots < numberLimit N
     unfolding newNumbers
     below =
-        let n = room-numbered N B two slots-two v plan-clean fresh (held-below N B s v plan-held plan-clean) in
-        let e = rw (none-left, not-few) at (room-made N B two slots-two v plan-clean .number) in
+        let n = room-numbered N B two slots-two v plan-clean fresh (held_below N B s v plan-held plan-clean) in
+        let e = rw (none_left, not-few) at (room-made N B two slots-two v plan-clean).number in
         omega arith
 
     -- the top was full of a row's entries but for one slot or more
-    last-short : (j : ℕ) → suc j ≡ compactions (v .slots) → length (entries (getD (v .slots) j [])) < B
+    last-short : (j : ℕ) → suc j ≡ compactions v.slots → length (entries (get_or v.slots j [])) < B
     unfolding hasRoom
     last-short j e =
-        let es = entries (getD (v .slots) j []) in
+        let es = entries (get_or v.slots j []) in
         let m = room-made N B two slots-two v plan-clean in
-        let r : hasRoom (compactTimes N B (suc j) v .result) ≡ true = rw (room-times N B two slots-two v plan-clean none-left not-few, ← e) at (m .room) in
+        let r : hasRoom (compactTimes N B (suc j) v).result ≡ true = rw (room-times N B two slots-two v plan-clean none_left not-few, ← e) at m.room in
         let t : not (full (copied B es)) ≡ true = rw (times-top N B v needs j e) at r in
         ltb-true (length es) B (twice (ltb (length es) B) (ap not (sym (copied-full B es)) ∙ t))
       where
@@ -210,95 +210,95 @@ module _ (N B : ℕ) (p : Plan) (s : Image) (k : Planned N B p s) where
         twice true h = refl
         twice false h = h
 
-    last-empty : (i slot : ℕ) → i ≡ compactions (v .slots) → ((j : ℕ) → suc j ≡ i → slot ≡ length (entries (getD (v .slots) j []))) → slot ≡ firstEmpty (topRow (compactTimes N B i v .result .slots))
-    last-empty zero slot e h = absurd (omega (arith, compactions-some (v .slots) (plan-clean .some)))
-    last-empty (suc j) slot e h = h j refl ∙ sym (ap firstEmpty (times-top N B v needs j e) ∙ copied-empty N B (entries (getD (v .slots) j [])) (last-short j e))
+    last_empty : (i slot : ℕ) → i ≡ compactions v.slots → ((j : ℕ) → suc j ≡ i → slot ≡ length (entries (get_or v.slots j []))) → slot ≡ firstEmpty (topRow (compactTimes N B i v).result.slots)
+    last_empty zero slot e h = absurd (omega (arith, compactions-some v.slots plan-clean.some))
+    last_empty (suc j) slot e h = h j refl ∙ sym (ap firstEmpty (times-top N B v needs j e) ∙ copied-empty N B (entries (get_or v.slots j [])) (last-short j e))
 
     pub compacting-start : (budget : ℕ) → Compacting N B s budget 0 budget 0 s
     unfolding compactTimes
     compacting-start budget = record { ran = ran-none B budget s; last = λ h j e. absurd (omega arith) }
 
-    module _ (budget i left slot : ℕ) (t : Image) (d : Compacting N B s budget i left slot t) (more : i < p .compactions) where
+    module _ (budget i left slot : ℕ) (t : Image) (d : Compacting N B s budget i left slot t) (more : i < p.compactions) where
       abbrev w : View
-      w = compactTimes N B i v .result
+      w = (compactTimes N B i v).result
 
       abbrev xs : List Step
-      xs = compactTimes N B i v .steps
+      xs = (compactTimes N B i v).steps
 
-      within : i < compactions (v .slots)
-      within = omega (arith, k .compactions f)
+      within : i < compactions v.slots
+      within = omega (arith, k.compactions f)
 
       -- what the next compaction finds, if those before were done
-      found : (o : ℕ) → o ≡ p .first .0 + i → length xs ≤ budget → liveEntries N B o t ≡ entries (getD (w .slots) 0 [])
+      found : (o : ℕ) → o ≡ p.first.0 + i → length xs ≤ budget → liveEntries N B o t ≡ entries (get_or w.slots 0 [])
       found o e h =
           let a = after-times N B v needs i (omega (arith, within)) in
           let held = times-held N B s v plan-held bytes needs rows-full carries below i (omega (arith, within)) in
-          let first : o ≡ w .first = omega (arith, a .first, k .first) in
-          let done : t ≡ run B xs s = d .ran .image ∙ ap (λ (y : List Step). run B y s) (take-all budget xs h) in
-          rw (first, done) (live-row N B (run B xs s) w held (omega (arith, a .rows, plan-clean .some)))
+          let first : o ≡ w.first = omega (arith, a.first, k.first) in
+          let done : t ≡ run B xs s = d.ran.image ∙ ap (λ (y : List Step). run B y s) (take_all budget xs h) in
+          rw (first, done) (live-row N B (run B xs s) w held (omega (arith, a.rows, plan-clean.some)))
 
-      oldest : getD (w .slots) 0 [] ≡ getD (v .slots) i []
+      oldest : get_or w.slots 0 [] ≡ get_or v.slots i []
       oldest =
           let a = after-times N B v needs i (omega (arith, within)) in
           let z : i + 0 ≡ i = omega arith in
-          rw z at (a .left 0 (omega (arith, within, compactions-length (v .slots))))
+          rw z at (a.left 0 (omega (arith, within, compactions-length v.slots)))
 
-      pub compacting-next : (total o n left₁ count : ℕ) {u : Image} → total ≡ tallyOf (view N B s .version) → o ≡ p .first .0 + i → n ≡ p .first .0 + (p .used + i)
+      pub compacting-next : (total o n left₁ count : ℕ) {u : Image} → total ≡ tally_of (view N B s).version → o ≡ p.first.0 + i → n ≡ p.first.0 + (p.used + i)
           → Compaction N B total o n left left₁ count t u → Compacting N B s budget (i + 1) left₁ count u
       unfolding compactTimes compactOldest nextVersion
       compacting-next total o n left₁ count {u} tally eo en c =
           let a = after-times N B v needs i (omega (arith, within)) in
-          let first : o ≡ w .first = omega (arith, a .first, k .first) in
+          let first : o ≡ w.first = omega (arith, a.first, k.first) in
           let next : n ≡ suc (topNumber w) = omega (arith, times-number N B s v plan-held bytes needs rows-full carries below i (omega (arith, within)), top-is) in
-          let carried : total ≡ tallyOf (w .version) = tally ∙ sym (times-tally N B i v) in
-          let same : length xs ≤ budget → compact N B (newVersion total) o n (liveEntries N B o t) ≡ compact N B (newVersion (tallyOf (w .version))) (w .first) (suc (topNumber w)) (entries (getD (w .slots) 0 [])) =
+          let carried : total ≡ tally_of w.version = tally ∙ sym (times-tally N B i v) in
+          let same : length xs ≤ budget → compact N B (newVersion total) o n (liveEntries N B o t) ≡ compact N B (newVersion (tally_of w.version)) w.first (suc (topNumber w)) (entries (get_or w.slots 0 [])) =
           (λ h. rw (found o eo h, carried, first, next)) in record {
-            ran = rw add-one (then-list-if-whole (d .ran) (c .ran) same);
+            ran = rw add-one (then-list-if-whole d.ran c.ran same);
             last = λ h j e.
                 let j-is : j ≡ i = omega arith in
-                c .counted ∙ ap length (found o eo (omega (arith, c .ran .rest, d .ran .rest)) ∙ ap entries (oldest ∙ ap (λ (y : ℕ). getD (v .slots) y []) (sym j-is)));
+                c.counted ∙ ap length (found o eo (omega (arith, c.ran.rest, d.ran.rest)) ∙ ap entries (oldest ∙ ap (λ (y : ℕ). get_or v.slots y []) (sym j-is)));
           }
 
-    pub compacting-end : (budget i left slot : ℕ) (r : Room) {t : Image} → Compacting N B s budget i left slot t → i ≡ p .compactions → r .left ≡ left → r .slot ≡ slot → r .first .0 ≡ p .first .0 + i
-        → r .used ≡ p .used → Roomed N B budget r s t
+    pub compacting-end : (budget i left slot : ℕ) (r : Room) {t : Image} → Compacting N B s budget i left slot t → i ≡ p.compactions → r.left ≡ left → r.slot ≡ slot → r.first.0 ≡ p.first.0 + i
+        → r.used ≡ p.used → Roomed N B budget r s t
     compacting-end budget i left slot r {t} d h el es ef eu =
-        let n : i ≡ compactions (v .slots) = h ∙ k .compactions f in
+        let n : i ≡ compactions v.slots = h ∙ k.compactions f in
         let a = after-times N B v needs i (omega arith) in
-        let room = room-times N B two slots-two v plan-clean none-left not-few in record {
-          ran = rw (room, ← n, el) (d .ran);
-          first = rw (room, ← n) (omega (arith, ef, k .first, a .first));
-          used = rw (room, ← n) (omega (arith, eu, k .used, a .rows));
-          slot = λ z. rw (room, ← n) (es ∙ last-empty i slot n (d .last (omega (arith, el))));
+        let room = room-times N B two slots-two v plan-clean none_left not-few in record {
+          ran = rw (room, ← n, el) d.ran;
+          first = rw (room, ← n) (omega (arith, ef, k.first, a.first));
+          used = rw (room, ← n) (omega (arith, eu, k.used, a.rows));
+          slot = λ z. rw (room, ← n) (es ∙ last_empty i slot n (d.last (omega (arith, el))));
         }
 
 -- ---- any image
 
 -- i compactions were done by the plan, as far as the budget went: some steps, and on a clean image those of the definition
 pub record Progress (N B : ℕ) (p : Plan) (total : ℕ) (s : Image) (budget i left slot : ℕ) (t : Image) : Type 0 where
-  pub bound : i ≤ p .compactions
+  pub bound : i ≤ p.compactions
   pub steps : List Step
   pub ran : Ran steps B budget left s t
   pub exact : Writable N B p total s → Compacting N B s budget i left slot t
 
 module _ (N B : ℕ) (p : Plan) (total : ℕ) (s : Image) (a : Plannable N B p (length s)) (budget : ℕ) where
-  pub targets-apart : (i o n : ℕ) → o ≡ p .first .0 + i → n ≡ p .first .0 + (p .used + i) → Apart N o n
+  pub targets-apart : (i o n : ℕ) → o ≡ p.first.0 + i → n ≡ p.first.0 + (p.used + i) → Apart N o n
   targets-apart i o n eo en e =
-      let next : n ≡ o + p .used = omega arith in
-      apart-before N (p .used) o (omega (arith, a .spare)) o (omega arith) (omega (arith, a .some)) (rw next at e)
+      let next : n ≡ o + p.used = omega arith in
+      apart-before N p.used o (omega (arith, a.spare)) o (omega arith) (omega (arith, a.some)) (rw next at e)
 
-  pub worked-there : (r : Room) → p .slot < B → r .left ≡ budget → r .first .0 ≡ p .first .0 → r .used ≡ p .used → r .slot ≡ p .slot → Worked N B p total budget r s s
+  pub worked-there : (r : Room) → p.slot < B → r.left ≡ budget → r.first.0 ≡ p.first.0 → r.used ≡ p.used → r.slot ≡ p.slot → Worked N B p total budget r s s
   worked-there r h l f u j = record {
     steps = [];
     ran = rw l (ran-none B budget s);
-    some = omega (arith, u, a .some);
-    spare = omega (arith, u, a .spare);
+    some = omega (arith, u, a.some);
+    spare = omega (arith, u, a.spare);
     low = omega (arith, f, u);
     number = omega (arith, f, u);
-    exact = λ w. room-there N B p s (w .plan) budget r h l f u j;
+    exact = λ w. room-there N B p s w.plan budget r h l f u j;
   }
 
-  pub worked-opened : (n : ℕ) (r : Room) {t : Image} → B ≤ p .slot → p .used + 1 < N → n ≡ p .first .0 + p .used → r .first .0 ≡ p .first .0 → r .used ≡ p .used + 1 → r .slot ≡ 0
-      → Programmed (openSegment N B (newVersion total) n) budget (r .left) s t → Worked N B p total budget r s t
+  pub worked-opened : (n : ℕ) (r : Room) {t : Image} → B ≤ p.slot → p.used + 1 < N → n ≡ p.first.0 + p.used → r.first.0 ≡ p.first.0 → r.used ≡ p.used + 1 → r.slot ≡ 0
+      → Programmed (openSegment N B (newVersion total) n) budget r.left s t → Worked N B p total budget r s t
   worked-opened n r {t} h u e f g j d = record {
     steps = openSegment N B (newVersion total) n;
     ran = d B;
@@ -306,36 +306,36 @@ module _ (N B : ℕ) (p : Plan) (total : ℕ) (s : Image) (a : Plannable N B p (
     spare = omega (arith, g, u);
     low = omega (arith, f, g);
     number = omega (arith, f, g);
-    exact = λ w. room-opened N B p s (w .plan) budget total n r (w .tally h) h u e f g j d;
+    exact = λ w. room-opened N B p s w.plan budget total n r (w.tally h) h u e f g j d;
   }
 
   module _ (f : Full N B p) where
-    pub progress-start : Progress N B p total s budget 0 budget 0 s
-    progress-start = record {
+    pub progress_start : Progress N B p total s budget 0 budget 0 s
+    progress_start = record {
       bound = omega arith;
       steps = [];
       ran = ran-none B budget s;
-      exact = λ w. compacting-start N B p s (w .plan) (w .bytes) (w .second) (w .fresh) f budget;
+      exact = λ w. compacting-start N B p s w.plan w.bytes w.second w.fresh f budget;
     }
 
-    pub progress-next : (i left slot : ℕ) (t : Image) → Progress N B p total s budget i left slot t → i < p .compactions → (o n left₁ count : ℕ) {u : Image} → o ≡ p .first .0 + i → n ≡ p .first .0 + (p .used + i)
+    pub progress-next : (i left slot : ℕ) (t : Image) → Progress N B p total s budget i left slot t → i < p.compactions → (o n left₁ count : ℕ) {u : Image} → o ≡ p.first.0 + i → n ≡ p.first.0 + (p.used + i)
         → Compaction N B total o n left left₁ count t u → Progress N B p total s budget (i + 1) left₁ count u
     progress-next i left slot t d more o n left₁ count {u} eo en c = record {
       bound = omega arith;
-      steps = d .steps ++ compact N B (newVersion total) o n (liveEntries N B o t);
-      ran = _then_ (d .ran) (c .ran);
-      exact = λ w. compacting-next N B p s (w .plan) (w .bytes) (w .second) (w .fresh) f budget i left slot t (d .exact w) more total o n left₁ count (w .tally (f .top)) eo en c;
+      steps = d.steps ++ compact N B (newVersion total) o n (liveEntries N B o t);
+      ran = ◌then◌ d.ran c.ran;
+      exact = λ w. compacting-next N B p s w.plan w.bytes w.second w.fresh f budget i left slot t (d.exact w) more total o n left₁ count (w.tally f.top) eo en c;
     }
 
-    pub progress-end : (i left slot : ℕ) (r : Room) {t : Image} → Progress N B p total s budget i left slot t → p .compactions ≤ i → r .left ≡ left → r .slot ≡ slot → r .first .0 ≡ p .first .0 + i
-        → r .used ≡ p .used → Worked N B p total budget r s t
+    pub progress-end : (i left slot : ℕ) (r : Room) {t : Image} → Progress N B p total s budget i left slot t → p.compactions ≤ i → r.left ≡ left → r.slot ≡ slot → r.first.0 ≡ p.first.0 + i
+        → r.used ≡ p.used → Worked N B p total budget r s t
     progress-end i left slot r {t} d h el es ef eu =
-        let all : i ≡ p .compactions = omega (arith, d .bound) in record {
-          steps = d .steps;
-          ran = rw el (d .ran);
-          some = omega (arith, eu, a .some);
-          spare = omega (arith, eu, a .spare);
+        let all : i ≡ p.compactions = omega (arith, d.bound) in record {
+          steps = d.steps;
+          ran = rw el d.ran;
+          some = omega (arith, eu, a.some);
+          spare = omega (arith, eu, a.spare);
           low = omega (arith, ef, eu);
-          number = omega (arith, ef, eu, all, a .few, a .spare, a .sized .segments);
-          exact = λ w. compacting-end N B p s (w .plan) (w .bytes) (w .second) (w .fresh) f budget i left slot r (d .exact w) all el es ef eu;
+          number = omega (arith, ef, eu, all, a.few, a.spare, a.sized.segments);
+          exact = λ w. compacting-end N B p s w.plan w.bytes w.second w.fresh f budget i left slot r (d.exact w) all el es ef eu;
         }

@@ -1,12 +1,12 @@
 // Room for a put.
+ghost use Rattle.std.specs.Prelude.{◌≡◌, ◌+◌, ◌-◌, ◌≤◌, ◌<◌, length};
+ghost use Rattle.room.specs.Room.{Plannable, Full, Worked};
+
 use model::SegmentNumber;
-ghost use mathlib.Core.Path.{_≡_};
-ghost use Prim.Native.Nat.{_+_, _-_, _≤_, _<_};
-ghost use lib.ListN.{length};
-ghost use Rattle·room·specs.specs.Room.{Plannable, Full, Worked};
 
 // The segments in use: the smallest number, their count, the first empty slot of the top (or the count of slots, if there
 // is none), and how many compactions would make room.
+#[derive(Drop)]
 pub struct Plan {
     pub first: SegmentNumber,
     pub used: usize,
@@ -15,6 +15,7 @@ pub struct Plan {
 }
 
 // What is left of the budget once room was made; and, if anything is left, the segments in use and the first empty slot of the top.
+#[derive(Drop)]
 pub struct Room {
     pub left: u64,
     pub first: SegmentNumber,
@@ -24,8 +25,8 @@ pub struct Room {
 
 // The number that comes so many after another.
 fn after(number: SegmentNumber, count: usize) -> SegmentNumber
-    requires { ⌜ number .0 + count ≤ 4294967295 ⌝ }
-    ensures { λ r. ⌜ r .0 ≡ number .0 + count ⌝ }
+    requires { number.0 + count ≤ 4294967295 }
+    ensures { result.0 ≡ number.0 + count }
 {
     SegmentNumber(number.0 + count as u32)
 }
@@ -39,8 +40,8 @@ fn compact_oldest(
     total: usize,
     budget: u64,
 ) -> Room
-    requires { ⌜ Plannable segments slots plan (length (now image)) × Full segments slots plan ⌝ }
-    ensures { λ r. ⌜ Worked segments slots plan total budget r (now (image .entry)) (now (image .exit)) ⌝ }
+    requires { Plannable segments slots plan (length image.old) × Full segments slots plan }
+    ensures { Worked segments slots plan total budget result image.old image.new }
 {
     let mut left = budget;
     let mut slot = 0;
@@ -73,8 +74,8 @@ pub fn make_room(
     total: usize,
     budget: u64,
 ) -> Room
-    requires { ⌜ Plannable segments slots plan (length (now image)) ⌝ }
-    ensures { λ r. ⌜ Worked segments slots plan total budget r (now (image .entry)) (now (image .exit)) ⌝ }
+    requires { Plannable segments slots plan (length image.old) }
+    ensures { Worked segments slots plan total budget result image.old image.new }
 {
     let first = plan.first;
     let used = plan.used;

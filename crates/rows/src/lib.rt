@@ -1,26 +1,22 @@
 // The slots of one segment, looked at once, in order.
-use judge::Ending;
-use judge::Row;
-use model::BlockNumber;
-use model::SlotKind;
-ghost use mathlib.Core.Path.{_≡_};
-ghost use mathlib.Core.Bool.{cond};
-ghost use Prim.Native.Nat.{_+_, _*_, _≤_};
-ghost use lib.ListN.{length};
-ghost use Rattle·model.specs.Chip.{mostSlots};
-ghost use Rattle·judge.specs.Bitmap.{inBits, putBit};
-ghost use Rattle·judge.specs.Endings.{behind, leaveRoom};
-ghost use Rattle·judge.specs.Rows.{pass, see, seeAll, noRow, kindsAt, Small};
+ghost use Rattle.std.specs.Prelude.{◌≡◌, cond, ◌+◌, ◌*◌, ◌≤◌, length};
+ghost use Rattle.model.specs.Chip.{mostSlots};
+ghost use Rattle.judge.specs.Bitmap.{inBits, put_bit};
+ghost use Rattle.judge.specs.Endings.{behind, leaveRoom};
+ghost use Rattle.judge.specs.Rows.{pass, see, seeAll, noRow, kindsAt, Small};
+
+use judge::{Ending, Row};
+use model::{BlockNumber, SlotKind};
 
 fn wide(x: u16) -> usize
-    ensures { λ r. ⌜ r ≡ x ⌝ }
+    ensures { result ≡ x }
 {
     x as usize
 }
 
 // Puts a block number into the set of those met, one bit for each. Whether it was there.
 pub fn meet(seen: &mut [u64; 1024], block: BlockNumber) -> bool
-    ensures { λ r. ⌜ (r ≡ inBits 64 (now (seen .entry)) (block .0)) × (now (seen .exit) ≡ putBit 64 (now (seen .entry)) (block .0)) ⌝ }
+    ensures { (result ≡ inBits 64 seen.old block.0) × (seen.new ≡ put_bit 64 seen.old block.0) }
 {
     let x = block.0;
     let i = wide(x) / 64;
@@ -32,7 +28,7 @@ pub fn meet(seen: &mut [u64; 1024], block: BlockNumber) -> bool
 
 // A written slot follows: it may follow written ones only.
 pub fn behind(before: Ending, then: Ending) -> Ending
-    ensures { λ r. ⌜ r ≡ behind before then ⌝ }
+    ensures { result ≡ behind before then }
 {
     match before {
         Ending::Full => then,
@@ -42,7 +38,7 @@ pub fn behind(before: Ending, then: Ending) -> Ending
 
 // An empty slot follows.
 fn leave_room(before: Ending) -> Ending
-    ensures { λ r. ⌜ r ≡ leaveRoom before ⌝ }
+    ensures { result ≡ leaveRoom before }
 {
     match before {
         Ending::Full => Ending::Room,
@@ -55,7 +51,7 @@ fn leave_room(before: Ending) -> Ending
 
 // How a row ends with a live slot, by whether its number was met before.
 fn live_ending(again: bool) -> Ending
-    ensures { λ r. ⌜ r ≡ cond again Ending.TwinLast Ending.Full ⌝ }
+    ensures { result ≡ cond again Ending.TwinLast Ending.Full }
 {
     if again {
         Ending::TwinLast
@@ -66,7 +62,7 @@ fn live_ending(again: bool) -> Ending
 
 // A row of these counts.
 fn row_of(live: u8, dead: u8, cut: u8, ending: Ending, block: BlockNumber) -> Row
-    ensures { λ r. ⌜ r ≡ record { live = live; dead = dead; cut = cut; ending = ending; block = block } ⌝ }
+    ensures { result ≡ record { live = live; dead = dead; cut = cut; ending = ending; block = block } }
 {
     Row {
         live,
@@ -79,15 +75,15 @@ fn row_of(live: u8, dead: u8, cut: u8, ending: Ending, block: BlockNumber) -> Ro
 
 // A row before its first slot.
 pub fn no_row() -> Row
-    ensures { λ r. ⌜ r ≡ noRow ⌝ }
+    ensures { result ≡ noRow }
 {
     row_of(0, 0, 0, Ending::Full, BlockNumber(0))
 }
 
 // The next slot of a row: it is counted, and the number of a live one is met, whatever came before. A row of 255 has no next.
 fn count(row: Row, kind: SlotKind, seen: &mut [u64; 1024]) -> Row
-    requires { ⌜ Small row 254 ⌝ }
-    ensures { λ r. ⌜ pass r (now (seen .exit)) ≡ see kind (pass row (now (seen .entry))) ⌝ }
+    requires { Small row 254 }
+    ensures { pass result seen.new ≡ see kind (pass row seen.old) }
 {
     let live = row.live;
     let dead = row.dead;
@@ -112,8 +108,8 @@ fn count(row: Row, kind: SlotKind, seen: &mut [u64; 1024]) -> Row
 
 // The slots of a segment, from the offset of the first one.
 pub fn scan_row(image: &[u8], at: usize, slots: usize, seen: &mut [u64; 1024]) -> Row
-    requires { ⌜ (at + slots * 256 ≤ length (now image)) × (slots ≤ mostSlots) ⌝ }
-    ensures { λ r. ⌜ (pass r (now (seen .exit)) ≡ seeAll (kindsAt (now (image .entry)) at slots) (pass noRow (now (seen .entry)))) × Small r slots ⌝ }
+    requires { (at + slots * 256 ≤ length image.now) × (slots ≤ mostSlots) }
+    ensures { (pass result seen.new ≡ seeAll (kindsAt image.now at slots) (pass noRow seen.old)) × Small result slots }
 {
     let mut row = no_row();
     let mut i: usize = 0;

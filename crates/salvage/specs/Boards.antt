@@ -1,27 +1,23 @@
 -- Boards salvaged and rebuilt, computed: what the definitions give, and so which wrong ones they are not.
-use Prim.Native.Nat.{ℕ, suc, _+_, _*_}
+use Rattle.std.specs.Prelude.{ℕ, suc, ◌+◌, ◌*◌, ◌≡◌, refl, Bool, cond, ◌&&◌, length, replicate, eqb}
 use Prim.Native.String.{String}
-use mathlib.Core.Path.{_≡_, refl}
-use mathlib.Core.Bool.{Bool, cond, _&&_}
-use mathlib.Core.List.{List, [], _∷_, _++_, flatten}
-use lib.ListN.{length, replicate}
-use lib.Dec.{eqb}
-use Rattle·model.specs.Lists.{same, all}
-use Rattle·model.specs.Chip.{Image, Page, erased, imageLength, rightSize, pagesOf, withSegment, step, run}
-use Rattle·model.specs.Header.{opened, erasePending, compacted, version1}
-use Rattle·model.specs.Slot.{slotPage}
-use Rattle·model.specs.State.{segmentsOn, segmentsOf, State, clean, state, view}
-use Rattle·model.specs.Table.{Table, tableOf}
-use Rattle·model.specs.Answers.{Outcome}
-use Rattle·model.specs.Laws.Bench.{evaluate}
-use Rattle·text.specs.Text.{text}
-use Rattle·text.specs.Decimal.{decimalOf, decimal}
-use Rattle·text.specs.Buffer.{labelled}
-use Rattle·account_text.specs.Account.{liveAt, liveFrom, liveIn, liveSlots, insert, byBlock, blockText}
-use Rattle·account_text.specs.Boards.{used, status, deads, blanks, block, sample, v2, first, begun}
-use Rattle·account_text.specs.Samples.{joined}
-use Rattle·moves.specs.Moves.{byNumber, putEach, freshSteps, freshWork, insert as insertEntry}
-use Rattle·salvage·specs.specs.Salvage.{regarded, candidates, heldIn, given, agreed, givenLine, salvageOn, salvaged, rebuildRefusals, rebuildWork, rebuildOutcome}
+use mathlib.Core.List.{List, [], ◌∷◌, ◌++◌, flatten}
+use Rattle.model.specs.Lists.{same, all}
+use Rattle.model.specs.Chip.{Image, Page, erased, imageLength, rightSize, pagesOf, withSegment, step, run}
+use Rattle.model.specs.Header.{opened, erasePending, compacted, version1}
+use Rattle.model.specs.Slot.{slotPage}
+use Rattle.model.specs.State.{segmentsOn, segmentsOf, State, clean, state, view}
+use Rattle.model.specs.Table.{Table, table_of}
+use Rattle.model.specs.Answers.{Outcome}
+use Rattle.model.specs.Laws.Bench.{evaluate}
+use Rattle.text.specs.Text.{text}
+use Rattle.text.specs.Decimal.{decimalOf, decimal}
+use Rattle.text.specs.Buffer.{labelled}
+use Rattle.account_text.specs.Account.{liveAt, liveFrom, live_in, liveSlots, insert, byBlock, blockText}
+use Rattle.account_text.specs.Boards.{used, status, deads, blanks, block, sample, v2, first, begun}
+use Rattle.account_text.specs.Samples.{joined}
+use Rattle.moves.specs.Moves.{byNumber, putEach, freshSteps, freshWork, insert as insertEntry}
+use Rattle.salvage.specs.Salvage.{regarded, candidates, heldIn, given, agreed, givenLine, salvageOn, salvaged, rebuildRefusals, rebuildWork, rebuildOutcome}
 
 -- N, B, the image's pages, and the lines of its report behind the first
 pub record Wreck : Type 0 where
@@ -79,8 +75,8 @@ wrecks =
 -- ---- the reports
 
 unfoldable pub onPages : Wreck → Bool
-onPages w = let l = segmentsOn (w .segments) (w .slots) (w .pages) in
-    eqb (length (w .pages)) (w .segments * (w .slots + 1)) && same (salvageOn (candidates (w .segments) l)) (joined ("salvage promises nothing" ∷ w .report))
+onPages w = let l = segmentsOn w.segments w.slots w.pages in
+    eqb (length w.pages) (w.segments * (w.slots + 1)) && same (salvageOn (candidates w.segments l)) (joined ("salvage promises nothing" ∷ w.report))
 
 -- the places, from 0, of those that fail
 unfoldable pub failing : ℕ → List Wreck → List ℕ
@@ -89,7 +85,7 @@ failing i (w ∷ r) = cond (onPages w) (failing (suc i) r) (i ∷ failing (suc i
 
 -- every definition unfolds where this name does
 unfoldable computes : ℕ
-unfolding evaluate text decimalOf decimal labelled liveAt liveFrom liveIn liveSlots insert byBlock blockText joined regarded candidates heldIn given agreed givenLine salvageOn wrecks onPages failing
+unfolding evaluate text decimalOf decimal labelled liveAt liveFrom live_in liveSlots insert byBlock blockText joined regarded candidates heldIn given agreed givenLine salvageOn wrecks onPages failing
 computes = 0
 
 pub reports : failing 0 wrecks ≡ []
@@ -112,33 +108,33 @@ pub record Result : Type 0 where
   pub state : State
   pub table : Table
 
-abbrev resultOf : ℕ → ℕ → Outcome → Result
-resultOf M D o = record { code = o .code; count = o .count; state = state M D (o .image); table = tableOf M D (o .image) }
+abbrev result_of : ℕ → ℕ → Outcome → Result
+result_of M D o = record { code = o.code; count = o.count; state = state M D o.image; table = table_of M D o.image }
 
 abbrev blocks : Table
 blocks = record { block = 5; contents = [] } ∷ record { block = 7; contents = 1 ∷ 1 ∷ [] } ∷ []
 
 -- every definition unfolds where this name does
 unfoldable rebuilding : ℕ
-unfolding computes rightSize pagesOf withSegment step run segmentsOf state view tableOf insertEntry byNumber putEach freshSteps freshWork salvaged rebuildRefusals rebuildWork rebuildOutcome
+unfolding computes rightSize pagesOf withSegment step run segmentsOf state view table_of insertEntry byNumber putEach freshSteps freshWork salvaged rebuildRefusals rebuildWork rebuildOutcome
 rebuilding = 0
 
 -- two block numbers fill C = 2, whatever the count of candidates: 2 erases, 21 and 12 steps
-just-fits : resultOf 2 3 (rebuilds source 2 3 35) ≡ record { code = 0; count = 35; state = clean; table = blocks }
+just-fits : result_of 2 3 (rebuilds source 2 3 35) ≡ record { code = 0; count = 35; state = clean; table = blocks }
 unfolding rebuilding
 just-fits = refl
 
 -- a step less is a cut; C = 1 takes no two, and nothing is erased
-refused : (rebuilds source 2 3 34 .code ≡ 9) × (rebuilds source 2 2 1000 ≡ record { code = 7; count = 0; image = replicate 1536 0 })
+refused : ((rebuilds source 2 3 34).code ≡ 9) × (rebuilds source 2 2 1000 ≡ record { code = 7; count = 0; image = replicate 1536 0 })
 unfolding rebuilding
 refused = (refl, refl)
 
 -- no candidate: an empty formatted image
-empty-image : resultOf 2 2 (rebuilds (replicate 2304 0) 2 2 1000) ≡ record { code = 0; count = 23; state = clean; table = [] }
+empty-image : result_of 2 2 (rebuilds (replicate 2304 0) 2 2 1000) ≡ record { code = 0; count = 23; state = clean; table = [] }
 unfolding rebuilding
 empty-image = refl
 
 -- 1 for either image, and before 7
-sizes : (rebuildOutcome 4 2 source 2 3 (replicate 2048 0) 1000 .code ≡ 1) × (rebuildOutcome 3 2 source 2 3 (replicate 2047 0) 1000 .code ≡ 1) × (rebuildOutcome 3 2 source 2 2 (replicate 1535 0) 1000 .code ≡ 1)
+sizes : ((rebuildOutcome 4 2 source 2 3 (replicate 2048 0) 1000).code ≡ 1) × ((rebuildOutcome 3 2 source 2 3 (replicate 2047 0) 1000).code ≡ 1) × ((rebuildOutcome 3 2 source 2 2 (replicate 1535 0) 1000).code ≡ 1)
 unfolding rebuilding
 sizes = (refl, refl, refl)

@@ -1,25 +1,22 @@
 -- Request #113, "Salvage": the candidates in an image of a right size, whatever its damage; the report on them; and a fresh image built from those given.
-use Prim.Native.Nat.{ℕ}
-use mathlib.Core.Bool.{Bool, cond, _||_, _&&_, not}
-use mathlib.Core.List.{List, [], _∷_, _++_, flatMap, map}
-use lib.ListN.{length, getD}
-use lib.Dec.{ltb, eqb}
-use Rattle·model.specs.Lists.{same, all}
-use Rattle·model.specs.Chip.{Image, rightSize}
-use Rattle·model.specs.Slot.{Entry}
-use Rattle·model.specs.State.{Segment, blank, isOwing, segmentsOf, topIndex, nextBlanked, holds, capacity}
-use Rattle·model.specs.Table.{Table}
-use Rattle·model.specs.Answers.{Refusal, _when_, Work, Outcome, worked}
-use Rattle·text.specs.Text.{text}
-use Rattle·text.specs.Buffer.{Print, printIn}
-use Rattle·account_text.specs.Account.{LiveSlot, liveSlots, byBlock, blockText}
-use Rattle·moves.specs.Moves.{freshWork}
+use Rattle.std.specs.Prelude.{ℕ, Bool, cond, ◌||◌, ◌&&◌, not, length, get_or, ltb, eqb}
+use mathlib.Core.List.{List, [], ◌∷◌, ◌++◌, flat_map, map}
+use Rattle.model.specs.Lists.{same, all}
+use Rattle.model.specs.Chip.{Image, rightSize}
+use Rattle.model.specs.Slot.{Entry}
+use Rattle.model.specs.State.{Segment, blank, isOwing, segmentsOf, topIndex, nextBlanked, holds, capacity}
+use Rattle.model.specs.Table.{Table}
+use Rattle.model.specs.Answers.{Refusal, ◌when◌, Work, Outcome, worked}
+use Rattle.text.specs.Text.{text}
+use Rattle.text.specs.Buffer.{Print, printIn}
+use Rattle.account_text.specs.Account.{LiveSlot, liveSlots, byBlock, blockText}
+use Rattle.moves.specs.Moves.{freshWork}
 
 -- ---- candidates
 
 -- where the top is owing, the segment after it is left aside
 unfoldable pub regarded : ℕ → List Segment → List Segment
-regarded N l = cond (isOwing (getD l (topIndex N l) blank)) (nextBlanked N l) l
+regarded N l = cond (isOwing (get_or l (topIndex N l) blank)) (nextBlanked N l) l
 
 -- every slot of live form in a segment in use, by rising segment number, then slot
 unfoldable pub candidates : ℕ → List Segment → List LiveSlot
@@ -27,25 +24,25 @@ candidates N l = liveSlots N (regarded N l)
 
 -- what a candidate holds
 unfoldable pub heldIn : LiveSlot → Entry
-heldIn e = record { block = e .block; contents = e .contents }
+heldIn e = record { block = e.block; contents = e.contents }
 
 -- of each block number the last: the one in the highest segment number, and within a segment the last
 unfoldable pub given : List LiveSlot → List LiveSlot
 given [] = []
-given (e ∷ r) = cond (holds (e .block) (map heldIn r)) (given r) (e ∷ given r)
+given (e ∷ r) = cond (holds e.block (map heldIn r)) (given r) (e ∷ given r)
 
 -- none of the candidates disagrees with this one: has its block number and other contents, in length or bytes
 unfoldable pub agreed : List LiveSlot → LiveSlot → Bool
-agreed r e = all (λ x. not (eqb (x .block) (e .block)) || same (x .contents) (e .contents)) r
+agreed r e = all (λ x. not (eqb x.block e.block) || same x.contents e.contents) r
 
 -- ---- the report
 
 -- as "block 7 len 2 seg 0 slot 1 same"
 unfoldable pub givenLine : List LiveSlot → LiveSlot → List ℕ
-givenLine r e = blockText (e .block) (length (e .contents)) (e .segment) (e .slot) ++ cond (agreed r e) (text " same\n") (text " differs\n")
+givenLine r e = blockText e.block (length e.contents) e.segment e.slot ++ cond (agreed r e) (text " same\n") (text " differs\n")
 
 unfoldable pub salvageOn : List LiveSlot → List ℕ
-salvageOn r = text "salvage promises nothing\n" ++ flatMap (givenLine r) (byBlock (given r))
+salvageOn r = text "salvage promises nothing\n" ++ flat_map (givenLine r) (byBlock (given r))
 
 unfoldable pub salvageText : ℕ → ℕ → Image → List ℕ
 salvageText N B s = salvageOn (candidates N (segmentsOf N B s))

@@ -1,16 +1,15 @@
 // The report of salvage (request #113), in a lent buffer: the candidates given, of any image of a right size. Nothing is
 // required of a caller, and the image is only read. The text is put together twice, once where nothing holds it, so that its
 // length is known before its first byte is written.
+ghost use Rattle.std.specs.Prelude.{◌≡◌, true, ◌≤◌};
+ghost use Rattle.model.specs.Chip.{rightSize};
+ghost use Rattle.text.specs.Buffer.{printed, Wrote, mostText};
+ghost use Rattle.salvage.specs.Salvage.{salvageText, salvageOutcome};
+ghost use Rattle.meeting.specs.Sheet.{sheet};
+ghost use Rattle.candidates.specs.Gathered.{Gathered};
+
 use model::Answer;
 use text::Printed;
-ghost use mathlib.Core.Path.{_≡_};
-ghost use mathlib.Core.Bool.{true};
-ghost use Prim.Native.Nat.{_≤_};
-ghost use Rattle·model.specs.Chip.{rightSize};
-ghost use Rattle·text.specs.Buffer.{printed, Wrote, mostText};
-ghost use Rattle·salvage.specs.Salvage.{salvageText, salvageOutcome};
-ghost use Rattle·meeting.specs.Sheet.{sheet};
-ghost use Rattle·candidates.specs.Gathered.{Gathered};
 
 // The whole text, from the buffer's front on.
 fn compose(
@@ -22,8 +21,8 @@ fn compose(
     differs: &[bool; 65536],
     text: &mut [u8],
 ) -> usize
-    requires { ⌜ (rightSize segments slots (now image) ≡ true) × Gathered segments slots (now image) (sheet (now places) (now lengths) (now differs)) ⌝ }
-    ensures { λ r. ⌜ Wrote (salvageText segments slots (now (image .entry))) (now (text .entry)) 0 (now (text .exit)) r × (r ≤ mostText) ⌝ }
+    requires { (rightSize segments slots image.now ≡ true) × Gathered segments slots image.now (sheet places.now lengths.now differs.now) }
+    ensures { Wrote (salvageText segments slots image.now) text.old 0 text.new result × (result ≤ mostText) }
 {
     let head = text::add(text, 0, b"salvage promises nothing\n");
     given_lines::given_lines(image, segments, slots, places, lengths, differs, text, head)
@@ -32,7 +31,7 @@ fn compose(
 // The report on an image, whatever its damage: for each block number the candidate in the highest segment number, within a
 // segment the last, and whether another disagrees with it in contents. The tables are 384 KiB of stack.
 pub fn salvage(image: &[u8], segments: usize, slots: usize, text: &mut [u8]) -> Printed
-    ensures { λ r. ⌜ (printed r (now (text .exit)) ≡ salvageOutcome segments slots (now (image .entry)) (now (text .entry))) × (r .length ≤ mostText) ⌝ }
+    ensures { (printed result text.new ≡ salvageOutcome segments slots image.now text.old) × (result.length ≤ mostText) }
 {
     if !request::right_size(image.len(), segments, slots) {
         return Printed {
@@ -54,13 +53,7 @@ pub fn salvage(image: &[u8], segments: usize, slots: usize, text: &mut [u8]) -> 
     // shorter than any text, so that nothing of it matters
     let mut none = [0u8; 1];
     let length = compose(
-        image,
-        segments,
-        slots,
-        &places,
-        &lengths,
-        &differs,
-        &mut none,
+        image, segments, slots, &places, &lengths, &differs, &mut none,
     );
     if length > text.len() {
         return text::short();

@@ -1,40 +1,36 @@
 -- What a survey of an image says: its state, and what a request needs in that state.
-use Prim.Native.Nat.{ℕ, _+_, _-_, _*_, _≤_}
-use mathlib.Core.Path.{_≡_, refl}
-use mathlib.Core.Bool.{cond, _||_, _&&_, not}
-use mathlib.Core.List.{List}
-use lib.ListN.{length, getD}
-use lib.Dec.{eqb}
-use Rattle·model.specs.Chip.{Image}
-use Rattle·model.specs.State.{Segment, blank, segmentsOf, isInUse, isInvalid, nextNumber, nextIndex, viewOf, entriesIn, capacity, lastSlot, older, Exception, caseA, caseB, caseC, caseD, State, clean, unfinished, damaged, stateOf}
-use Rattle·model.specs.Steps.{slotAt, topRow, firstEmpty, compactions}
-use Rattle·flash.specs.Pages.{Sized}
-use Rattle·judge.specs.declared.Headers.{Headers}
-use Rattle·sums.specs.declared.Exam.{Exam}
-use Rattle·sums.specs.Exams.{examOf, Bounded}
-use Rattle·find.specs.declared.Found.{Found}
-use Rattle·find.specs.declared.Found.the-variants.{At, Nothing}
-use Rattle·scan·specs.specs.declared.Surveyed.{Surveyed}
-use Rattle·scan·specs.specs.declared.Surveyed.the-variants.{Clean, TornSegment, ErasePending, TornSlot, OldSlot, Damaged}
-use Rattle·judge.specs.Heads.{headersOf}
-use Rattle·judge.specs.Verdict.{orderly}
+use Rattle.std.specs.Prelude.{ℕ, ◌+◌, ◌-◌, ◌*◌, ◌≤◌, ◌≡◌, cond, ◌||◌, ◌&&◌, not, List, length, get_or, eqb}
+use Rattle.std.proofs.Math.Path.{refl}
+use Rattle.model.specs.Chip.{Image}
+use Rattle.model.specs.State.{Segment, blank, segmentsOf, isInUse, isInvalid, nextNumber, nextIndex, view_of, entriesIn, capacity, lastSlot, older, Exception, caseA, caseB, caseC, caseD, State, clean, unfinished, damaged, state_of}
+use Rattle.model.specs.Steps.{slot_at, topRow, firstEmpty, compactions}
+use Rattle.flash.specs.Pages.{Sized}
+use Rattle.judge.specs.declared.Headers.{Headers}
+use Rattle.sums.specs.declared.Exam.{Exam}
+use Rattle.sums.specs.Exams.{examOf, Bounded}
+use Rattle.find.specs.declared.Found.{Found}
+use Rattle.find.specs.declared.Found.TheVariants.{At, Nothing}
+use Rattle.scan.specs.declared.Surveyed.{Surveyed}
+use Rattle.scan.specs.declared.Surveyed.TheVariants.{Clean, TornSegment, ErasePending, TornSlot, OldSlot, Damaged}
+use Rattle.judge.specs.Heads.{headersOf}
+use Rattle.judge.specs.Verdict.{orderly}
 
 -- ---- a survey
 
 unfoldable pub mendIn : ℕ → ℕ → List Segment → Exception → Surveyed
 mendIn N B l caseA = TornSegment (record { 0 = nextNumber l - 1 })
-mendIn N B l caseB = ErasePending (record { 0 = nextNumber l - 1 }) (not (isInUse (getD l (nextIndex N l) blank) || isInvalid (getD l (nextIndex N l) blank)))
-mendIn N B l caseC = TornSlot (record { 0 = slotAt N B (nextNumber l - 1) (lastSlot N l) * 256 })
-mendIn N B l caseD = OldSlot (record { 0 = slotAt N B (older N l .number) (older N l .slot) * 256 })
+mendIn N B l caseB = ErasePending (record { 0 = nextNumber l - 1 }) (not (isInUse (get_or l (nextIndex N l) blank) || isInvalid (get_or l (nextIndex N l) blank)))
+mendIn N B l caseC = TornSlot (record { 0 = slot_at N B (nextNumber l - 1) (lastSlot N l) * 256 })
+mendIn N B l caseD = OldSlot (record { 0 = slot_at N B (older N l).number (older N l).slot * 256 })
 
 unfoldable pub surveyIn : ℕ → ℕ → List Segment → State → Surveyed
-surveyIn N B l clean = let v = viewOf N l in
-    Clean (record { 0 = v .first }) (length (v .slots)) (length (entriesIn v)) (firstEmpty (topRow (v .slots))) (compactions (v .slots))
+surveyIn N B l clean = let v = view_of N l in
+    Clean (record { 0 = v.first }) (length v.slots) (length (entriesIn v)) (firstEmpty (topRow v.slots)) (compactions v.slots)
 surveyIn N B l (unfinished x) = mendIn N B l x
 surveyIn N B l damaged = Damaged
 
 unfoldable pub surveyOf : ℕ → ℕ → List Segment → Surveyed
-surveyOf N B l = surveyIn N B l (stateOf N B l)
+surveyOf N B l = surveyIn N B l (state_of N B l)
 
 -- the state that a survey says
 unfoldable pub stateIn : Surveyed → State
@@ -45,9 +41,9 @@ stateIn (TornSlot p) = unfinished caseC
 stateIn (OldSlot p) = unfinished caseD
 stateIn Damaged = damaged
 
-pub survey-state : (N B : ℕ) (l : List Segment) → stateIn (surveyOf N B l) ≡ stateOf N B l
+pub survey-state : (N B : ℕ) (l : List Segment) → stateIn (surveyOf N B l) ≡ state_of N B l
 unfolding surveyOf
-survey-state N B l = go (stateOf N B l)
+survey-state N B l = go (state_of N B l)
   where
     go : (s : State) → stateIn (surveyIn N B l s) ≡ s
     go clean = unfold surveyIn stateIn in refl
@@ -61,14 +57,14 @@ survey-state N B l = go (stateOf N B l)
 
 -- the survey where the top is owing, and where the segment after it is torn
 unfoldable pub owingIn : ℕ → ℕ → Headers → Exam → Surveyed
-owingIn N B h e = cond (eqb (e .used + 1) N && orderly (capacity N B) (e .sum)) (ErasePending (record { 0 = h .next - 1 }) (h .blank)) Damaged
+owingIn N B h e = cond (eqb (e.used + 1) N && orderly (capacity N B) e.sum) (ErasePending (record { 0 = h.next - 1 }) h.blank) Damaged
 
 unfoldable pub tornIn : ℕ → ℕ → Headers → Exam → Surveyed
-tornIn N B h e = cond (orderly (capacity N B) (e .sum)) (TornSegment (record { 0 = h .next - 1 })) Damaged
+tornIn N B h e = cond (orderly (capacity N B) e.sum) (TornSegment (record { 0 = h.next - 1 })) Damaged
 
 -- the survey of a clean image, and of one with an older slot that was searched
 unfoldable pub cleanIn : Exam → Surveyed
-cleanIn e = Clean (record { 0 = e .first }) (e .used) (e .sum .live) (e .sum .written) (e .sum .compactions)
+cleanIn e = Clean (record { 0 = e.first }) e.used e.sum.live e.sum.written e.sum.compactions
 
 unfoldable pub oldIn : Found → Surveyed
 oldIn (At p n) = OldSlot p
@@ -80,6 +76,6 @@ pub record Looked (N B : ℕ) (s : Image) (h : Headers) (e : Exam) : Type 0 wher
   pub least : 2 ≤ N
   pub slots : 2 ≤ B
   pub headers : h ≡ headersOf N (segmentsOf N B s)
-  pub below : h .next ≤ 4294967296
-  pub exam : e ≡ examOf N B s (h .frame)
+  pub below : h.next ≤ 4294967296
+  pub exam : e ≡ examOf N B s h.frame
   pub bounded : Bounded e

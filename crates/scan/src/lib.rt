@@ -1,22 +1,20 @@
 // The state of an image and what requests need of it, decided in one pass.
+ghost use Rattle.std.specs.Prelude.{◌≡◌, true, false, ◌+◌, ◌-◌, ◌*◌, ◌<◌, ◌≤◌, length};
+ghost use Rattle.model.specs.Chip.{mostSegments, mostSlots, rightSize};
+ghost use Rattle.model.specs.State.{numbersFrom, segmentsOf, slotsFrom};
+ghost use Rattle.model.specs.Steps.{slot_at};
+ghost use Rattle.flash.specs.Pages.{Sized};
+ghost use Rattle.find.specs.Search.{foundIn};
+ghost use Rattle.judge.specs.Tally.{mostWritten};
+ghost use Rattle.scan.specs.Surveys.{surveyOf, owingIn, tornIn, cleanIn, oldIn, Looked};
+
 use find::Found;
 use judge::Headers;
-use model::SegmentNumber;
-use model::SlotPlace;
+use model::{SegmentNumber, SlotPlace};
 use sums::Exam;
-ghost use mathlib.Core.Path.{_≡_};
-ghost use mathlib.Core.Bool.{true, false};
-ghost use Prim.Native.Nat.{_+_, _-_, _*_, _<_, _≤_};
-ghost use lib.ListN.{length};
-ghost use Rattle·model.specs.Chip.{mostSegments, mostSlots, rightSize};
-ghost use Rattle·model.specs.State.{numbersFrom, segmentsOf, slotsFrom};
-ghost use Rattle·model.specs.Steps.{slotAt};
-ghost use Rattle·flash.specs.Pages.{Sized};
-ghost use Rattle·find.specs.Search.{foundIn};
-ghost use Rattle·judge.specs.Tally.{mostWritten};
-ghost use Rattle·scan·specs.specs.Surveys.{surveyOf, owingIn, tornIn, cleanIn, oldIn, Looked};
 
 // The state of an image, with what a request needs in that state.
+#[derive(Drop)]
 pub enum Surveyed {
     // The smallest number in use, how many segments are, how many slots are live, the top's first empty slot, or as
     // many as it has, and how many compactions make room when there is none.
@@ -49,24 +47,24 @@ pub enum Surveyed {
 
 // The number before the next one.
 fn top_number(next: usize) -> SegmentNumber
-    requires { ⌜ next ≤ 4294967296 ⌝ }
-    ensures { λ r. ⌜ r .0 ≡ next - 1 ⌝ }
+    requires { next ≤ 4294967296 }
+    ensures { result.0 ≡ next - 1 }
 {
     SegmentNumber(summary::less(next, 1) as u32)
 }
 
 // The place of a slot of the segment with a number.
 fn slot_place(segments: usize, slots: usize, number: usize, slot: usize) -> SlotPlace
-    requires { ⌜ (0 < segments) × (segments ≤ mostSegments) × (slots ≤ mostSlots) × (slot ≤ mostWritten) ⌝ }
-    ensures { λ r. ⌜ r .0 ≡ slotAt segments slots number slot * 256 ⌝ }
+    requires { (0 < segments) × (segments ≤ mostSegments) × (slots ≤ mostSlots) × (slot ≤ mostWritten) }
+    ensures { result.0 ≡ slot_at segments slots number slot * 256 }
 {
     SlotPlace((number % segments * (slots + 1) + 1 + slot) * 256)
 }
 
 // The survey where the top is owing: all is fine once its old segment, the one after it, is taken for erased.
 fn survey_owing(segments: usize, slots: usize, seen: Headers, exam: Exam) -> Surveyed
-    requires { ⌜ (2 ≤ segments) × (segments ≤ mostSegments) × (2 ≤ slots) × (slots ≤ mostSlots) × (seen .next ≤ 4294967296) × (exam .used ≤ mostSegments) ⌝ }
-    ensures { λ r. ⌜ r ≡ owingIn segments slots seen exam ⌝ }
+    requires { (2 ≤ segments) × (segments ≤ mostSegments) × (2 ≤ slots) × (slots ≤ mostSlots) × (seen.next ≤ 4294967296) × (exam.used ≤ mostSegments) }
+    ensures { result ≡ owingIn segments slots seen exam }
 {
     let sum = exam.sum;
     if exam.used + 1 != segments {
@@ -84,8 +82,8 @@ fn survey_owing(segments: usize, slots: usize, seen: Headers, exam: Exam) -> Sur
 
 // The survey where the segment after the top is neither in use nor blank: all is fine once it is taken for blank.
 fn survey_torn(segments: usize, slots: usize, seen: Headers, exam: Exam) -> Surveyed
-    requires { ⌜ (2 ≤ segments) × (segments ≤ mostSegments) × (2 ≤ slots) × (slots ≤ mostSlots) × (seen .next ≤ 4294967296) ⌝ }
-    ensures { λ r. ⌜ r ≡ tornIn segments slots seen exam ⌝ }
+    requires { (2 ≤ segments) × (segments ≤ mostSegments) × (2 ≤ slots) × (slots ≤ mostSlots) × (seen.next ≤ 4294967296) }
+    ensures { result ≡ tornIn segments slots seen exam }
 {
     let sum = exam.sum;
     if sums::orderly(sum, request::capacity(segments, slots)) {
@@ -97,8 +95,8 @@ fn survey_torn(segments: usize, slots: usize, seen: Headers, exam: Exam) -> Surv
 
 // The survey of a clean image.
 fn clean_survey(exam: Exam) -> Surveyed
-    requires { ⌜ exam .first < 4294967296 ⌝ }
-    ensures { λ r. ⌜ r ≡ cleanIn exam ⌝ }
+    requires { exam.first < 4294967296 }
+    ensures { result ≡ cleanIn exam }
 {
     let sum = exam.sum;
     let first = SegmentNumber(exam.first as u32);
@@ -113,8 +111,8 @@ fn clean_survey(exam: Exam) -> Surveyed
 
 // The survey where the block of the slot written last has an older live slot, which is searched.
 fn old_slot(image: &[u8], segments: usize, slots: usize, exam: Exam) -> Surveyed
-    requires { ⌜ Sized segments slots (length (now image)) × (exam .first < 4294967296) × (numbersFrom segments (segmentsOf segments slots (now image)) (exam .used) (exam .first) ≡ true) × (exam .first + exam .used ≤ 4294967296) ⌝ }
-    ensures { λ r. ⌜ r ≡ oldIn (foundIn segments slots (exam .first) (slotsFrom segments (segmentsOf segments slots (now (image .entry))) (exam .used) (exam .first)) (exam .sum .block .0)) ⌝ }
+    requires { Sized segments slots (length image.now) × (exam.first < 4294967296) × (numbersFrom segments (segmentsOf segments slots image.now) exam.used exam.first ≡ true) × (exam.first + exam.used ≤ 4294967296) }
+    ensures { result ≡ oldIn (foundIn segments slots exam.first (slotsFrom segments (segmentsOf segments slots image.now) exam.used exam.first) exam.sum.block.0) }
 {
     let sum = exam.sum;
     let block = sum.block;
@@ -128,8 +126,8 @@ fn old_slot(image: &[u8], segments: usize, slots: usize, exam: Exam) -> Surveyed
 
 // The survey where the top is not owing and the segment after it is blank or in use: the slots decide.
 fn survey_slots(image: &[u8], segments: usize, slots: usize, seen: Headers, exam: Exam) -> Surveyed
-    requires { ⌜ Looked segments slots (now image) seen exam × (seen .owing ≡ false) × (seen .torn ≡ false) ⌝ }
-    ensures { λ r. ⌜ r ≡ surveyOf segments slots (segmentsOf segments slots (now (image .entry))) ⌝ }
+    requires { Looked segments slots image.now seen exam × (seen.owing ≡ false) × (seen.torn ≡ false) }
+    ensures { result ≡ surveyOf segments slots (segmentsOf segments slots image.now) }
 {
     let sum = exam.sum;
     let most = request::capacity(segments, slots);
@@ -150,8 +148,8 @@ fn survey_slots(image: &[u8], segments: usize, slots: usize, seen: Headers, exam
 // The state of an image of a right size, and what a request needs in that state. Headers first, since the slots of the
 // segment after an owing top are not looked at; then each slot once, oldest segment first.
 pub fn survey(image: &[u8], segments: usize, slots: usize) -> Surveyed
-    requires { ⌜ rightSize segments slots (now image) ≡ true ⌝ }
-    ensures { λ r. ⌜ r ≡ surveyOf segments slots (segmentsOf segments slots (now (image .entry))) ⌝ }
+    requires { rightSize segments slots image.now ≡ true }
+    ensures { result ≡ surveyOf segments slots (segmentsOf segments slots image.now) }
 {
     let seen = segments::see_headers(image, segments, slots);
     let frame = seen.frame;

@@ -1,24 +1,17 @@
 // All segments by their headers, and the tests that need no more.
-use judge::Frame;
-use judge::HeaderCounts;
-use judge::Headers;
-use judge::SegmentState;
-use judge::Summary;
-use model::MOST_SEGMENTS;
-use model::SegmentNumber;
-ghost use mathlib.Core.Path.{_≡_};
-ghost use mathlib.Core.Bool.{cond, _||_};
-ghost use Prim.Native.Nat.{_+_, _<_, _≤_};
-ghost use lib.ListN.{length};
-ghost use Rattle·model.specs.Chip.{mostSegments};
-ghost use Rattle·model.specs.State.{blank, isInvalid, isOwing, segmentsOf, settled};
-ghost use Rattle·flash.specs.Pages.{Sized};
-ghost use Rattle·judge.specs.Heads.{bare, heads, noCounts, countOne, mayBeFine, frameOf, headersBy, headersOf};
-ghost use Rattle·judge.specs.Tally.{Ranged};
+ghost use Rattle.std.specs.Prelude.{◌≡◌, cond, ◌||◌, ◌+◌, ◌<◌, ◌≤◌, length};
+ghost use Rattle.model.specs.Chip.{mostSegments};
+ghost use Rattle.model.specs.State.{blank, isInvalid, isOwing, segmentsOf, settled};
+ghost use Rattle.flash.specs.Pages.{Sized};
+ghost use Rattle.judge.specs.Heads.{bare, heads, noCounts, countOne, mayBeFine, frame_of, headersBy, headersOf};
+ghost use Rattle.judge.specs.Tally.{Ranged};
+
+use judge::{Frame, HeaderCounts, Headers, SegmentState, Summary};
+use model::{MOST_SEGMENTS, SegmentNumber};
 
 // Before the first segment.
 pub fn none_counted() -> HeaderCounts
-    ensures { λ r. ⌜ r ≡ noCounts ⌝ }
+    ensures { result ≡ noCounts }
 {
     HeaderCounts {
         next: 0,
@@ -31,8 +24,8 @@ pub fn none_counted() -> HeaderCounts
 
 // One segment more.
 pub fn count_one(counts: HeaderCounts, s: Summary) -> HeaderCounts
-    requires { ⌜ (counts .used < mostSegments) × (counts .next ≤ 4294967296) ⌝ }
-    ensures { λ r. ⌜ (r ≡ countOne counts (bare s)) × (r .used ≤ counts .used + 1) × (r .next ≤ 4294967296) ⌝ }
+    requires { (counts.used < mostSegments) × (counts.next ≤ 4294967296) }
+    ensures { (result ≡ countOne counts (bare s)) × (result.used ≤ counts.used + 1) × (result.next ≤ 4294967296) }
 {
     let next = summary::larger(counts.next, summary::number_after(s));
     let settled = counts.settled && summary::is_settled(s);
@@ -58,7 +51,7 @@ pub fn count_one(counts: HeaderCounts, s: Summary) -> HeaderCounts
 
 // Whether the frame may be fine by what was counted: some are in use, not all, of one version, and none needs mending.
 fn may_be_fine(counts: HeaderCounts, segments: usize) -> bool
-    ensures { λ r. ⌜ r ≡ mayBeFine segments counts ⌝ }
+    ensures { result ≡ mayBeFine segments counts }
 {
     if counts.used == 0 {
         return false;
@@ -77,8 +70,8 @@ fn may_be_fine(counts: HeaderCounts, segments: usize) -> bool
 
 // The frame of the segments that a table shows.
 fn see_frame(table: [Summary; MOST_SEGMENTS], segments: usize) -> Frame
-    requires { ⌜ (0 < segments) × (segments ≤ mostSegments) ⌝ }
-    ensures { λ r. ⌜ (r ≡ frameOf segments (heads segments table)) × Ranged r ⌝ }
+    requires { (0 < segments) × (segments ≤ mostSegments) }
+    ensures { (result ≡ frame_of segments (heads segments table)) × Ranged result }
 {
     let mut counts = none_counted();
     let mut i: usize = 0;
@@ -119,7 +112,7 @@ fn see_frame(table: [Summary; MOST_SEGMENTS], segments: usize) -> Frame
 
 // The segment after the top: blank where the top is owing, whatever it holds, and where it is neither in use nor blank.
 fn next_mended(s: Summary, top: Summary) -> Summary
-    ensures { λ r. ⌜ bare r ≡ cond (isOwing (bare top) || isInvalid (bare s)) blank (bare s) ⌝ }
+    ensures { bare result ≡ cond (isOwing (bare top) || isInvalid (bare s)) blank (bare s) }
 {
     if summary::is_owing(top) {
         return summary::head(SegmentState::Blank, false, SegmentNumber(0));
@@ -132,7 +125,7 @@ fn next_mended(s: Summary, top: Summary) -> Summary
 
 // The top: its old segment is erased.
 fn settled(s: Summary) -> Summary
-    ensures { λ r. ⌜ bare r ≡ settled (bare s) ⌝ }
+    ensures { bare result ≡ settled (bare s) }
 {
     let number = s.number;
     if summary::is_owing(s) {
@@ -143,7 +136,7 @@ fn settled(s: Summary) -> Summary
 
 // What the top, the segment after it and the frame tell.
 fn tell(next: usize, top: Summary, after: Summary, frame: Frame) -> Headers
-    ensures { λ r. ⌜ r ≡ headersBy next (bare top) (bare after) frame ⌝ }
+    ensures { result ≡ headersBy next (bare top) (bare after) frame }
 {
     let owing = summary::is_owing(top);
     let torn = summary::is_invalid(after);
@@ -159,8 +152,8 @@ fn tell(next: usize, top: Summary, after: Summary, frame: Frame) -> Headers
 
 // What the headers of an image tell. The table is filled, counted and mended here, since a hand-over would copy it.
 pub fn see_headers(image: &[u8], segments: usize, slots: usize) -> Headers
-    requires { ⌜ Sized segments slots (length (now image)) × (2 ≤ segments) ⌝ }
-    ensures { λ r. ⌜ (r ≡ headersOf segments (segmentsOf segments slots (now (image .entry)))) × (r .next ≤ 4294967296) × Ranged (r .frame) ⌝ }
+    requires { Sized segments slots (length image.now) × (2 ≤ segments) }
+    ensures { (result ≡ headersOf segments (segmentsOf segments slots image.now)) × (result.next ≤ 4294967296) × Ranged result.frame }
 {
     let none = summary::head(SegmentState::Blank, false, SegmentNumber(0));
     let mut table = [none; MOST_SEGMENTS];

@@ -1,12 +1,9 @@
 // settings IMAGE P LAYOUT read ITEM, write ITEM [--budget STEPS], or list: one request on a board with the older partition
 // format (request #109), whose image is a file.
-use libc::STDERR_FILENO;
-use libc::STDIN_FILENO;
-use libc::STDOUT_FILENO;
-use settings_words::Command;
-use settings_words::Reading;
-use settings_words::Verb;
-ghost use Rattle·io.specs.Counts.{Counts};
+ghost use Rattle.io.specs.Counts.{IsPrefixLen};
+
+use libc::{STDERR_FILENO, STDIN_FILENO, STDOUT_FILENO};
+use settings_words::{Command, Reading, Verb};
 
 // How a command is written.
 fn show_forms(fd: i32) {
@@ -46,7 +43,7 @@ fn usage(fd: i32) {
 
 // A word of the command line. Of one that is too long the start is given, with dots, so that it means nothing.
 fn word(i: usize, buf: &mut [u8; 64]) -> usize
-    ensures { λ r. ⌜ Counts r (now (buf .exit)) ⌝ }
+    ensures { IsPrefixLen result buf.new }
 {
     let n = os::arg(i, buf);
     if os::errno() == libc::ENAMETOOLONG {

@@ -1,10 +1,6 @@
 -- Bytes in hex, two digits each.
-use Prim.Native.Nat.{ℕ, _+_, _/_, _%_}
-use mathlib.Core.Path.{_≡_, refl}
-use mathlib.Core.Bool.{cond}
-use mathlib.Core.List.{List, [], _∷_}
-use lib.Dec.{ltb}
-use Rattle·text.specs.Text.{text}
+use Rattle.std.specs.Prelude.{ℕ, ◌+◌, ◌/◌, ◌%◌, ◌≡◌, refl, cond, List, [], ◌∷◌, ltb}
+use Rattle.text.specs.Text.{text}
 
 -- 0 to 9, and then from a on
 unfoldable pub hexDigit : ℕ → ℕ

@@ -1,18 +1,18 @@
 -- Lines of a table's items, written one after the other.
-use Prim.Native.Nat.{ℕ, suc, _+_, _≤_, _<_}
-use mathlib.Core.Path.{_≡_, refl, sym, ap, _∙_}
-use mathlib.Core.List.{List, [], _∷_, _++_, append-nil, append-assoc}
+use Prim.Native.Nat.{ℕ, suc, ◌+◌, ◌≤◌, ◌<◌}
+use mathlib.Core.Path.{◌≡◌, refl, sym, ap, ◌∙◌}
+use mathlib.Core.List.{List, [], ◌∷◌, ◌++◌, append-nil, append_assoc}
 use native.Mathlib.Omega.{arith}
-use lib.ListN.{length, take, drop, getD, length-drop}
+use lib.ListN.{length, take, drop, get_or, length-drop}
 use lib.Seq.{drop-cons}
-use borrow.Author.Tests.{eq-eqb, ne-eqb}
-use Rattle·model.specs.Chip.{Image}
-use Rattle·model.specs.Answers.{ReadOutcome}
-use Rattle·text.specs.Buffer.{Wrote}
-use Rattle·text.proofs.Laws.{_then_, wrote-none, wrote-as}
-use Rattle·partitions.specs.declared.Spot.{Spot}
-use Rattle·partitions.specs.Answers.{numberOf, told}
-use Rattle·settings_item_lines·specs.specs.ItemLines.{writtenLine, unwrittenLine, itemLine, itemLines}
+use borrow.Author.Tests.{eq-eqb, ne_eqb}
+use Rattle.model.specs.Chip.{Image}
+use Rattle.model.specs.Answers.{ReadOutcome}
+use Rattle.text.specs.Buffer.{Wrote}
+use Rattle.text.proofs.Laws.{◌then◌, wrote_none, wrote_as}
+use Rattle.partitions.specs.declared.Spot.{Spot}
+use Rattle.partitions.specs.Answers.{number_of, told}
+use Rattle.settings_item_lines.specs.ItemLines.{writtenLine, unwrittenLine, itemLine, itemLines}
 
 -- some lines are written, and those from `at` on are left
 pub record Left (reads : ℕ → ReadOutcome) (s : Image) (layout start : List ℕ) (from at : ℕ) (buffer : List ℕ) (end : ℕ) : Type 0 where
@@ -21,7 +21,7 @@ pub record Left (reads : ℕ → ReadOutcome) (s : Image) (layout start : List �
   pub rest : lines ++ itemLines reads s (drop at layout) ≡ itemLines reads s layout
 
 pub left-all : (reads : ℕ → ReadOutcome) (s : Image) (layout start : List ℕ) (from : ℕ) → Left reads s layout start from 0 start from
-left-all reads s layout start from = record { lines = []; wrote = wrote-none start from; rest = refl }
+left-all reads s layout start from = record { lines = []; wrote = wrote_none start from; rest = refl }
 
 -- nothing is left behind a pair, or a single byte
 few : (reads : ℕ → ReadOutcome) (s : Image) (r : List ℕ) → length r ≤ 1 → itemLines reads s r ≡ []
@@ -31,33 +31,33 @@ few reads s (i ∷ []) h = refl
 few reads s (i ∷ n ∷ r) h = absurd (omega arith)
 
 module _ (reads : ℕ → ReadOutcome) (s : Image) (layout start : List ℕ) (from at : ℕ) {buffer : List ℕ} {end : ℕ} (x : Left reads s layout start from at buffer end) where
-  pub left-next : {after : List ℕ} {next : ℕ} → at + 1 < length layout → Wrote (itemLine s (getD layout at 0) (getD layout (at + 1) 0) (reads (getD layout at 0))) buffer end after next
+  pub left-next : {after : List ℕ} {next : ℕ} → at + 1 < length layout → Wrote (itemLine s (get_or layout at 0) (get_or layout (at + 1) 0) (reads (get_or layout at 0))) buffer end after next
       → Left reads s layout start from (at + 2) after next
   unfolding itemLines
   left-next h w =
-      let i = getD layout at 0 in
-      let n = getD layout (at + 1) 0 in
+      let i = get_or layout at 0 in
+      let n = get_or layout (at + 1) 0 in
       let a : at + 1 ≡ suc at = omega arith in
       let b : at + 2 ≡ suc (at + 1) = omega arith in
       let d : drop at layout ≡ i ∷ n ∷ drop (at + 2) layout = drop-cons layout at 0 (omega arith) ∙ ap (λ (l : List ℕ). i ∷ l) (ap (λ (k : ℕ). drop k layout) (sym a) ∙ drop-cons layout (at + 1) 0 h ∙ ap (λ (k : ℕ). n ∷ drop k layout) (sym b)) in
       record {
-        lines = x .lines ++ itemLine s i n (reads i);
-        wrote = _then_ (x .wrote) w;
-        rest = append-assoc (x .lines) (itemLine s i n (reads i)) (itemLines reads s (drop (at + 2) layout)) ∙ ap (λ (l : List ℕ). x .lines ++ itemLines reads s l) (sym d) ∙ x .rest;
+        lines = x.lines ++ itemLine s i n (reads i);
+        wrote = ◌then◌ x.wrote w;
+        rest = append_assoc x.lines (itemLine s i n (reads i)) (itemLines reads s (drop (at + 2) layout)) ∙ ap (λ (l : List ℕ). x.lines ++ itemLines reads s l) (sym d) ∙ x.rest;
       }
 
   pub left-none : length layout ≤ at + 1 → Wrote (itemLines reads s layout) start from buffer end
   left-none h =
       let z : itemLines reads s (drop at layout) ≡ [] = few reads s (drop at layout) (omega (arith, length-drop at layout)) in
-      wrote-as (itemLines reads s layout) (sym (append-nil (x .lines)) ∙ ap (λ (l : List ℕ). x .lines ++ l) (sym z) ∙ x .rest) (x .wrote)
+      wrote_as (itemLines reads s layout) (sym (append-nil x.lines) ∙ ap (λ (l : List ℕ). x.lines ++ l) (sym z) ∙ x.rest) x.wrote
 
 -- ---- one line, by what a read gave
 
 module _ (s : Image) (i n : ℕ) (spot : Spot) {o : ReadOutcome} (gave : told spot ≡ o) where
-  pub line-written : (stored : List ℕ) → numberOf (spot .answer) ≡ 0 → stored ≡ take (spot .length) (drop (spot .offset) s) → writtenLine i n (spot .offset) stored ≡ itemLine s i n o
+  pub line-written : (stored : List ℕ) → number_of spot.answer ≡ 0 → stored ≡ take spot.length (drop spot.offset s) → writtenLine i n spot.offset stored ≡ itemLine s i n o
   unfolding itemLine told
-  line-written stored z e = rw (← gave, eq-eqb (numberOf (spot .answer)) 0 z, e)
+  line-written stored z e = rw (← gave, eq-eqb (number_of spot.answer) 0 z, e)
 
-  pub line-unwritten : (numberOf (spot .answer) ≡ 0 → ⊥) → unwrittenLine i n ≡ itemLine s i n o
+  pub line-unwritten : (number_of spot.answer ≡ 0 → ⊥) → unwrittenLine i n ≡ itemLine s i n o
   unfolding itemLine told
-  line-unwritten z = rw (← gave, ne-eqb (numberOf (spot .answer)) 0 z)
+  line-unwritten z = rw (← gave, ne_eqb (number_of spot.answer) 0 z)

@@ -1,13 +1,12 @@
 -- The lines of a small board, computed.
-use mathlib.Core.Path.{_≡_, refl}
-use mathlib.Core.List.{[], _∷_, _++_}
-use Rattle·model.specs.Chip.{Image}
-use Rattle·text.specs.Text.{text}
-use Rattle·text.specs.Decimal.{decimalOf, decimal}
-use Rattle·partitions.specs.Answers.{readOutcome}
-use Rattle·partitions.specs.Instances.{computes, two}
-use Rattle·settings_hex.specs.Hex.{hexDigit, hex}
-use Rattle·settings_item_lines·specs.specs.ItemLines.{itemHead, writtenLine, unwrittenLine, itemLine, itemLines}
+use Rattle.std.specs.Prelude.{◌≡◌, refl, [], ◌∷◌, ◌++◌}
+use Rattle.model.specs.Chip.{Image}
+use Rattle.text.specs.Text.{text}
+use Rattle.text.specs.Decimal.{decimalOf, decimal}
+use Rattle.partitions.specs.Answers.{readOutcome}
+use Rattle.partitions.specs.Instances.{computes, two}
+use Rattle.settings_hex.specs.Hex.{hexDigit, hex}
+use Rattle.settings_item_lines.specs.ItemLines.{itemHead, writtenLine, unwrittenLine, itemLine, itemLines}
 
 -- two partitions of six bytes, of which the second is the newest; item 1 is written there and item 7 is not
 unfoldable pub board : Image

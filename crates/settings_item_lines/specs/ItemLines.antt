@@ -1,14 +1,10 @@
 -- A line for each item of a layout table: its identifier and length, and what a read of it gives.
-use Prim.Native.Nat.{ℕ}
-use mathlib.Core.Bool.{cond}
-use mathlib.Core.List.{List, [], _∷_, _++_}
-use lib.ListN.{take, drop}
-use lib.Dec.{eqb}
-use Rattle·model.specs.Chip.{Image}
-use Rattle·model.specs.Answers.{ReadOutcome}
-use Rattle·text.specs.Text.{text}
-use Rattle·text.specs.Decimal.{decimal}
-use Rattle·settings_hex.specs.Hex.{hex}
+use Rattle.std.specs.Prelude.{ℕ, cond, List, [], ◌∷◌, ◌++◌, take, drop, eqb}
+use Rattle.model.specs.Chip.{Image}
+use Rattle.model.specs.Answers.{ReadOutcome}
+use Rattle.text.specs.Text.{text}
+use Rattle.text.specs.Decimal.{decimal}
+use Rattle.settings_hex.specs.Hex.{hex}
 
 -- as "item 7 len 2"
 unfoldable pub itemHead : ℕ → ℕ → List ℕ
@@ -24,7 +20,7 @@ unwrittenLine i n = itemHead i n ++ text " unwritten\n"
 
 -- the line of an item of an image, by what a read gives: a read that is done tells where the data are
 unfoldable pub itemLine : Image → ℕ → ℕ → ReadOutcome → List ℕ
-itemLine s i n o = cond (eqb (o .code) 0) (writtenLine i n (o .offset) (take (o .length) (drop (o .offset) s))) (unwrittenLine i n)
+itemLine s i n o = cond (eqb o.code 0) (writtenLine i n o.offset (take o.length (drop o.offset s))) (unwrittenLine i n)
 
 -- one for each pair of a table, in its order, by what reads give
 unfoldable pub itemLines : (ℕ → ReadOutcome) → Image → List ℕ → List ℕ

@@ -1,18 +1,15 @@
 // A file of a layout table, read: its text has the identifier and the length of an item to a line. Lines and words are parted as
 // those of a file of shares.
-use qbx_share_file::Listing;
-use qbx_share_file::word;
-use settings_numbers::ParsedByte;
-use settings_numbers::byte;
-ghost use mathlib.Core.Path.{_≡_};
-ghost use mathlib.Core.List.{[], _∷_};
-ghost use Prim.Native.Nat.{_≤_};
-ghost use lib.ListN.{length};
-ghost use Rattle·qbx_share_file.specs.ShareFile.{wordsOf, listing, over};
-ghost use Rattle·qbx_share_file.specs.Steps.{Kept};
-ghost use Rattle·settings_layout_file·specs.specs.LayoutFile.{lineOf, bytesIn, isRight, layoutIn};
+ghost use Rattle.std.specs.Prelude.{◌≡◌, [], ◌∷◌, ◌≤◌, length};
+ghost use Rattle.qbx_share_file.specs.ShareFile.{words_of, listing, over};
+ghost use Rattle.qbx_share_file.specs.Steps.{Kept};
+ghost use Rattle.settings_layout_file.specs.LayoutFile.{line_of, bytesIn, isRight, layoutIn};
+
+use qbx_share_file::{Listing, word};
+use settings_numbers::{ParsedByte, byte};
 
 // What a line says: nothing, an item's identifier and length, or something else.
+#[derive(Drop)]
 pub enum PairRead {
     Blank,
     Pair(u8, u8),
@@ -21,7 +18,7 @@ pub enum PairRead {
 
 // A line's pair, if that is what it says.
 fn read_line(line: &[u8]) -> PairRead
-    ensures { λ r. ⌜ r ≡ lineOf (wordsOf (now (line .entry))) ⌝ }
+    ensures { result ≡ line_of (words_of line.now) }
 {
     if word(line, 0).len() == 0 {
         return PairRead::Blank;
@@ -40,8 +37,8 @@ fn read_line(line: &[u8]) -> PairRead
 
 // A byte behind those that are listed, if there is room for it.
 fn keep(layout: &mut [u8], count: usize, byte: u8) -> usize
-    requires { ⌜ count ≤ length (now layout) ⌝ }
-    ensures { λ r. ⌜ Kept (byte ∷ []) count (now (layout .entry)) r (now (layout .exit)) ⌝ }
+    requires { count ≤ length layout.old }
+    ensures { Kept (byte ∷ []) count layout.old result layout.new }
 {
     if count == layout.len() {
         return count;
@@ -52,8 +49,8 @@ fn keep(layout: &mut [u8], count: usize, byte: u8) -> usize
 
 // A pair behind what is listed.
 fn keep_pair(layout: &mut [u8], count: usize, identifier: u8, size: u8) -> usize
-    requires { ⌜ count ≤ length (now layout) ⌝ }
-    ensures { λ r. ⌜ Kept (identifier ∷ size ∷ []) count (now (layout .entry)) r (now (layout .exit)) ⌝ }
+    requires { count ≤ length layout.old }
+    ensures { Kept (identifier ∷ size ∷ []) count layout.old result layout.new }
 {
     let one = keep(layout, count, identifier);
     keep(layout, one, size)
@@ -61,8 +58,8 @@ fn keep_pair(layout: &mut [u8], count: usize, identifier: u8, size: u8) -> usize
 
 // What a line says, behind what is listed.
 fn keep_line(layout: &mut [u8], count: usize, line: PairRead) -> usize
-    requires { ⌜ count ≤ length (now layout) ⌝ }
-    ensures { λ r. ⌜ Kept (bytesIn line) count (now (layout .entry)) r (now (layout .exit)) ⌝ }
+    requires { count ≤ length layout.old }
+    ensures { Kept (bytesIn line) count layout.old result layout.new }
 {
     match line {
         PairRead::Blank => count,
@@ -73,7 +70,7 @@ fn keep_line(layout: &mut [u8], count: usize, line: PairRead) -> usize
 
 // Whether a line is as it should be.
 fn is_right(line: PairRead) -> bool
-    ensures { λ r. ⌜ r ≡ isRight line ⌝ }
+    ensures { result ≡ isRight line }
 {
     match line {
         PairRead::Blank => true,
@@ -84,7 +81,7 @@ fn is_right(line: PairRead) -> bool
 
 // The table that a file's text lists, in a lent slice; bytes that it does not hold are left out.
 pub fn read_layout(text: &[u8], layout: &mut [u8]) -> Listing
-    ensures { λ r. ⌜ (r ≡ listing (length (now (layout .entry))) (layoutIn (now (text .entry)))) × (now (layout .exit) ≡ over (layoutIn (now (text .entry)) .numbers) (now (layout .entry))) ⌝ }
+    ensures { (result ≡ listing (length layout.old) (layoutIn text.now)) × (layout.new ≡ over (layoutIn text.now).numbers layout.old) }
 {
     let mut at = 0;
     let mut number = 1;

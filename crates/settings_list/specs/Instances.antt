@@ -1,14 +1,13 @@
 -- Lists of small boards, computed.
-use mathlib.Core.Path.{_≡_, refl}
-use mathlib.Core.List.{[], _∷_, _++_, map}
-use Rattle·model.specs.Chip.{Image}
-use Rattle·text.specs.Text.{text}
-use Rattle·text.specs.Decimal.{decimalOf, decimal}
-use Rattle·partitions.specs.Instances.{computes, two}
-use Rattle·settings_hex.specs.Hex.{hexDigit, hex}
-use Rattle·settings_item_lines.specs.ItemLines.{itemHead, writtenLine, unwrittenLine, itemLine, itemLines}
-use Rattle·settings_item_lines.specs.Instances.{board}
-use Rattle·settings_list·specs.specs.BoardList.{partitionLine, newestLine, listText, listOutcome}
+use Rattle.std.specs.Prelude.{◌≡◌, refl, [], ◌∷◌, ◌++◌, map}
+use Rattle.model.specs.Chip.{Image}
+use Rattle.text.specs.Text.{text}
+use Rattle.text.specs.Decimal.{decimalOf, decimal}
+use Rattle.partitions.specs.Instances.{computes, two}
+use Rattle.settings_hex.specs.Hex.{hexDigit, hex}
+use Rattle.settings_item_lines.specs.ItemLines.{itemHead, writtenLine, unwrittenLine, itemLine, itemLines}
+use Rattle.settings_item_lines.specs.Instances.{board}
+use Rattle.settings_list.specs.BoardList.{partitionLine, newestLine, listText, listOutcome}
 
 -- two partitions of six bytes with nothing written, and with the second one newest
 abbrev blank : Image

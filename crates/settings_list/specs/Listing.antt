@@ -1,18 +1,14 @@
 -- What the code gives, and what it knows of a board.
-use Prim.Native.Nat.{ℕ, _/_, _≤_}
-use mathlib.Core.Path.{_≡_}
-use mathlib.Core.Bool.{true}
-use mathlib.Core.List.{List}
-use lib.ListN.{length}
-use Rattle·model.specs.Chip.{Image}
-use Rattle·text.specs.Buffer.{Wrote}
-use Rattle·partitions.specs.Layout.{layoutOk}
-use Rattle·partitions.specs.Partitions.{imageOk}
-use Rattle·partitions.specs.Answers.{numberOf}
-use Rattle·settings_item_lines.specs.ItemLines.{mostLayout}
-use Rattle·settings_list·specs.specs.declared.Listed.{Listed}
-use Rattle·settings_list·specs.specs.BoardList.{ListOutcome}
-use Rattle·settings_list·specs.specs.Instances.{shown}
+use Rattle.std.specs.Prelude.{ℕ, ◌/◌, ◌≤◌, ◌≡◌, true, List, length}
+use Rattle.model.specs.Chip.{Image}
+use Rattle.text.specs.Buffer.{Wrote}
+use Rattle.partitions.specs.Layout.{layoutOk}
+use Rattle.partitions.specs.Partitions.{imageOk}
+use Rattle.partitions.specs.Answers.{number_of}
+use Rattle.settings_item_lines.specs.ItemLines.{mostLayout}
+use Rattle.settings_list.specs.declared.Listed.{Listed}
+use Rattle.settings_list.specs.BoardList.{ListOutcome}
+use Rattle.settings_list.specs.Instances.{shown}
 
 -- every list is shorter
 abbrev pub mostList : ℕ
@@ -26,6 +22,6 @@ pub record Right (P : ℕ) (layout : List ℕ) (s : Image) : Type 0 where
 
 -- the answer is the outcome's, and its text stands at the buffer's start
 pub record Lists (o : ListOutcome) (r : Listed) (start buffer : List ℕ) : Type 0 where
-  pub answers : numberOf (r .answer) ≡ o .code
-  pub prints : Wrote (o .text) start 0 buffer (r .length)
-  pub within : r .length ≤ mostList
+  pub answers : number_of r.answer ≡ o.code
+  pub prints : Wrote o.text start 0 buffer r.length
+  pub within : r.length ≤ mostList

@@ -1,27 +1,23 @@
 // The list of a board: its newest partition and the items of its layout table, in a lent buffer.
+ghost use Rattle.std.specs.Prelude.{◌≡◌, ◌/◌, ◌≤◌, length};
+ghost use Rattle.text.specs.Buffer.{Wrote};
+ghost use Rattle.partitions.specs.Partitions as board;
+ghost use Rattle.partitions.specs.Answers.{readOutcome};
+ghost use Rattle.qbx_lines.specs.Lines.{said};
+ghost use Rattle.settings_item_lines.specs.ItemLines.{itemLines, mostLayout};
+ghost use Rattle.settings_list.specs.BoardList.{partitionLine, listOn, listOutcome};
+ghost use Rattle.settings_list.specs.Listing.{mostList, Right, Lists};
+
 use partition_status::Newest;
 use partitions::Reply;
-use qbx_lines::Line;
-use qbx_lines::add;
-use qbx_lines::add_count;
-use qbx_lines::empty;
-use settings_item_lines::add_line;
-use settings_item_lines::item_lines;
-ghost use mathlib.Core.Path.{_≡_};
-ghost use Prim.Native.Nat.{_/_, _≤_};
-ghost use lib.ListN.{length};
-ghost use Rattle·text.specs.Buffer.{Wrote};
-ghost use Rattle·partitions.specs.Partitions as board;
-ghost use Rattle·partitions.specs.Answers.{readOutcome};
-ghost use Rattle·qbx_lines.specs.Lines.{said};
-ghost use Rattle·settings_item_lines.specs.ItemLines.{itemLines, mostLayout};
-ghost use Rattle·settings_list·specs.specs.BoardList.{partitionLine, listOn, listOutcome};
-ghost use Rattle·settings_list·specs.specs.Listing.{mostList, Right, Lists};
+use qbx_lines::{Line, add, add_count, empty};
+use settings_item_lines::{add_line, item_lines};
 
 // The most bytes of a list; `mostList` in specs/.
 pub const MOST_LIST: usize = 180224;
 
 // An answer, and the length of the text.
+#[derive(Drop)]
 pub struct Listed {
     pub answer: Reply,
     pub length: usize,
@@ -29,7 +25,7 @@ pub struct Listed {
 
 // The line of the newest partition.
 fn partition_line(partition: usize, status: u8) -> Line
-    ensures { λ r. ⌜ (said r ≡ partitionLine partition status) × (r .count ≤ 60) ⌝ }
+    ensures { (said result ≡ partitionLine partition status) × (result.count ≤ 60) }
 {
     let named = add_count(empty(), b"partition ", partition as u64);
     let told = add_count(named, b" status ", status as u64);
@@ -38,15 +34,15 @@ fn partition_line(partition: usize, status: u8) -> Line
 
 // A list that is refused has no text.
 fn refused(answer: Reply) -> Listed
-    ensures { λ r. ⌜ r ≡ record { answer = answer; length = 0 } ⌝ }
+    ensures { result ≡ record { answer = answer; length = 0 } }
 {
     Listed { answer, length: 0 }
 }
 
 // The lines of the items behind a first line.
 fn list_items(text: &mut [u8], at: usize, image: &[u8], partitions: usize, layout: &[u8]) -> Listed
-    requires { ⌜ (at ≤ 1000) × (length (now layout) ≤ mostLayout) ⌝ }
-    ensures { λ r. ⌜ Wrote (itemLines (readOutcome partitions (now (layout .entry)) (now (image .entry))) (now (image .entry)) (now (layout .entry))) (now (text .entry)) at (now (text .exit)) (r .length) × (r ≡ record { answer = Reply.Done; length = r .length }) × (r .length ≤ mostList) ⌝ }
+    requires { (at ≤ 1000) × (length layout.now ≤ mostLayout) }
+    ensures { Wrote (itemLines (readOutcome partitions layout.now image.now) image.now layout.now) text.old at text.new result.length × (result ≡ record { answer = Reply.Done; length = result.length }) × (result.length ≤ mostList) }
 {
     Listed {
         answer: Reply::Done,
@@ -56,8 +52,8 @@ fn list_items(text: &mut [u8], at: usize, image: &[u8], partitions: usize, layou
 
 // The list of a board whose P and table are right, by its newest partition.
 fn list_board(text: &mut [u8], image: &[u8], partitions: usize, layout: &[u8]) -> Listed
-    requires { ⌜ Right partitions (now layout) (now image) ⌝ }
-    ensures { λ r. ⌜ Lists (listOn partitions (now (layout .entry)) (now (image .entry)) (board.newestIn partitions (length (now (image .entry)) / partitions) (now (image .entry)))) r (now (text .entry)) (now (text .exit)) ⌝ }
+    requires { Right partitions layout.now image.now }
+    ensures { Lists (listOn partitions layout.now image.now (board.newestIn partitions (length image.now / partitions) image.now)) result text.old text.new }
 {
     let size = image.len() / partitions;
     let newest = partition_status::find_newest(image, partitions, size);
@@ -77,7 +73,7 @@ fn list_board(text: &mut [u8], image: &[u8], partitions: usize, layout: &[u8]) -
 
 // The list of a board. P, image and table are tested as a request tests them.
 pub fn list(text: &mut [u8], image: &[u8], partitions: usize, layout: &[u8]) -> Listed
-    ensures { λ r. ⌜ Lists (listOutcome partitions (now (layout .entry)) (now (image .entry))) r (now (text .entry)) (now (text .exit)) ⌝ }
+    ensures { Lists (listOutcome partitions layout.now image.now) result text.old text.new }
 {
     if !partition_status::partitions_ok(partitions) {
         return refused(Reply::Partitions);

@@ -1,9 +1,10 @@
 // A number that fits a byte, read from a word.
-use qbx_numbers::Parsed;
-use qbx_numbers::number;
-ghost use mathlib.Core.Path.{_≡_};
-ghost use Rattle·settings_numbers·specs.specs.Byte.{byteOf};
+ghost use Rattle.std.specs.Prelude.{◌≡◌};
+ghost use Rattle.settings_numbers.specs.Byte.{byte_of};
 
+use qbx_numbers::{Parsed, number};
+
+#[derive(Drop)]
 pub enum ParsedByte {
     Byte(u8),
     NoByte,
@@ -11,7 +12,7 @@ pub enum ParsedByte {
 
 // A number as `number` reads it, if it is 0 to 255.
 pub fn byte(word: &[u8]) -> ParsedByte
-    ensures { λ r. ⌜ r ≡ byteOf (now (word .entry)) ⌝ }
+    ensures { result ≡ byte_of word.now }
 {
     let Parsed::Number(n) = number(word) else {
         return ParsedByte::NoByte;

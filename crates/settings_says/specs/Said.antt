@@ -1,16 +1,13 @@
 -- What the program settings says: an answer, with the steps of a write; and what is wrong with a command or a file.
-use Prim.Native.Nat.{ℕ}
-use mathlib.Core.Bool.{cond}
-use mathlib.Core.List.{List, [], _++_}
-use lib.Dec.{eqb}
-use Rattle·partitions.specs.declared.Reply.{Reply}
-use Rattle·partitions.specs.declared.Reply.the-variants.{Done, Partitions, Layout, Mismatch, Statuses, Unwritten, Cut}
-use Rattle·partitions.specs.Answers.{numberOf}
-use Rattle·text.specs.Text.{text}
-use Rattle·text.specs.Decimal.{decimal}
-use Rattle·qbx_says.specs.Said.{verdict, stepsWord}
-use Rattle·settings_words.specs.declared.Complaint.{Complaint}
-use Rattle·settings_words.specs.declared.Complaint.the-variants.{Partitions as NoPartitions, NoLayout, NoVerb, Item, NoOption, Budget}
+use Rattle.std.specs.Prelude.{ℕ, cond, List, [], ◌++◌, eqb}
+use Rattle.partitions.specs.declared.Reply.{Reply}
+use Rattle.partitions.specs.declared.Reply.TheVariants.{Done, Partitions, Layout, Mismatch, Statuses, Unwritten, Cut}
+use Rattle.partitions.specs.Answers.{number_of}
+use Rattle.text.specs.Text.{text}
+use Rattle.text.specs.Decimal.{decimal}
+use Rattle.qbx_says.specs.Said.{verdict, stepsWord}
+use Rattle.settings_words.specs.declared.Complaint.{Complaint}
+use Rattle.settings_words.specs.declared.Complaint.TheVariants.{Partitions as NoPartitions, NoLayout, NoVerb, Item, NoOption, Budget}
 
 -- ---- answers
 
@@ -26,7 +23,7 @@ reason Cut = []
 
 -- an answer, as "refused: 4 statuses"
 unfoldable pub replyText : Reply → List ℕ
-replyText a = verdict (numberOf a) ++ decimal (numberOf a) ++ reason a
+replyText a = verdict (number_of a) ++ decimal (number_of a) ++ reason a
 
 -- of a refusal by its number, on an image of so many bytes: what P is to be
 unfoldable pub boardText : ℕ → ℕ → List ℕ
@@ -34,11 +31,11 @@ boardText k bytes = cond (eqb k 1) ((text ": P is a power of two from 2 to 128 t
 
 -- as "done: 0", or "refused: 1 partitions: P is a power of two from 2 to 128 that divides the image; 10 bytes are there"
 unfoldable pub answerLine : Reply → ℕ → List ℕ
-answerLine a bytes = replyText a ++ boardText (numberOf a) bytes ++ text "\n"
+answerLine a bytes = replyText a ++ boardText (number_of a) bytes ++ text "\n"
 
 -- as "done: 0, 5 steps", or "refused: 4 statuses, 0 steps"
 unfoldable pub writtenLine : Reply → ℕ → ℕ → List ℕ
-writtenLine a n bytes = replyText a ++ (text ", " ++ decimal n) ++ stepsWord n ++ boardText (numberOf a) bytes ++ text "\n"
+writtenLine a n bytes = replyText a ++ (text ", " ++ decimal n) ++ stepsWord n ++ boardText (number_of a) bytes ++ text "\n"
 
 -- ---- complaints
 

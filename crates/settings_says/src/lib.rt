@@ -1,23 +1,18 @@
 // What settings says, a line each. Nothing is written here.
-use partitions::Reply;
-use partitions::Written;
-use qbx_lines::Line;
-use qbx_lines::add;
-use qbx_lines::add_count;
-use qbx_lines::add_number;
-use qbx_lines::empty;
+ghost use Rattle.std.specs.Prelude.{◌≡◌, ◌+◌, ◌≤◌};
+ghost use Rattle.qbx_lines.specs.Lines.{mostLine, said, Added};
+ghost use Rattle.partitions.specs.Answers.{number_of};
+ghost use Rattle.settings_says.specs.Said.{reason, replyText, boardText, answerLine, writtenLine, complaintText, wrongLine};
+
+use partitions::{Reply, Written};
+use qbx_lines::{Line, add, add_count, add_number, empty};
 use settings_words::Complaint;
-ghost use mathlib.Core.Path.{_≡_};
-ghost use Prim.Native.Nat.{_+_, _≤_};
-ghost use Rattle·qbx_lines.specs.Lines.{mostLine, said, Added};
-ghost use Rattle·partitions.specs.Answers.{numberOf};
-ghost use Rattle·settings_says·specs.specs.Said.{reason, replyText, boardText, answerLine, writtenLine, complaintText, wrongLine};
 
 // ---- answers
 
 fn add_reason(line: Line, answer: Reply) -> Line
-    requires { ⌜ line .count ≤ 100 ⌝ }
-    ensures { λ r. ⌜ Added line (reason answer) r × (r .count ≤ line .count + 11) ⌝ }
+    requires { line.count ≤ 100 }
+    ensures { Added line (reason answer) result × (result.count ≤ line.count + 11) }
 {
     match answer {
         Reply::Done => add(line, b""),
@@ -32,7 +27,7 @@ fn add_reason(line: Line, answer: Reply) -> Line
 
 // An answer, with no line end.
 fn say_reply(answer: Reply) -> Line
-    ensures { λ r. ⌜ (said r ≡ replyText answer) × (r .count ≤ 40) ⌝ }
+    ensures { (said result ≡ replyText answer) × (result.count ≤ 40) }
 {
     let number = partition_store::number_of(answer);
     let begun = qbx_says::add_verdict(empty(), number);
@@ -41,8 +36,8 @@ fn say_reply(answer: Reply) -> Line
 
 // Behind the refusal of P what it is to be, and the bytes that are there.
 fn add_board(line: Line, answer: Reply, there: u64) -> Line
-    requires { ⌜ line .count ≤ 70 ⌝ }
-    ensures { λ r. ⌜ Added line (boardText (numberOf answer) there) r × (r .count ≤ line .count + 110) ⌝ }
+    requires { line.count ≤ 70 }
+    ensures { Added line (boardText (number_of answer) there) result × (result.count ≤ line.count + 110) }
 {
     if partition_store::number_of(answer) == 1 {
         let counted = add_count(
@@ -57,7 +52,7 @@ fn add_board(line: Line, answer: Reply, there: u64) -> Line
 
 // The answer of a read or a list, on an image of so many bytes.
 pub fn say_answer(answer: Reply, there: u64) -> Line
-    ensures { λ r. ⌜ (said r ≡ answerLine answer there) × (r .count ≤ mostLine) ⌝ }
+    ensures { (said result ≡ answerLine answer there) × (result.count ≤ mostLine) }
 {
     let replied = add_board(say_reply(answer), answer, there);
     add(replied, b"\n")
@@ -65,7 +60,7 @@ pub fn say_answer(answer: Reply, there: u64) -> Line
 
 // The answer of a write and the steps done, on an image of so many bytes.
 pub fn say_written(written: Written, there: u64) -> Line
-    ensures { λ r. ⌜ (said r ≡ writtenLine (written .answer) (written .steps) there) × (r .count ≤ mostLine) ⌝ }
+    ensures { (said result ≡ writtenLine written.answer written.steps there) × (result.count ≤ mostLine) }
 {
     let answer = written.answer;
     let steps = written.steps;
@@ -77,7 +72,7 @@ pub fn say_written(written: Written, there: u64) -> Line
 // ---- complaints
 
 pub fn say_complaint(complaint: Complaint) -> Line
-    ensures { λ r. ⌜ (said r ≡ complaintText complaint) × (r .count ≤ mostLine) ⌝ }
+    ensures { (said result ≡ complaintText complaint) × (result.count ≤ mostLine) }
 {
     let line = empty();
     match complaint {
@@ -98,7 +93,7 @@ pub fn say_complaint(complaint: Complaint) -> Line
 
 // That a line of the file of the layout says something else.
 pub fn say_wrong_line(number: usize) -> Line
-    ensures { λ r. ⌜ (said r ≡ wrongLine number) × (r .count ≤ mostLine) ⌝ }
+    ensures { (said result ≡ wrongLine number) × (result.count ≤ mostLine) }
 {
     let counted = add_count(empty(), b"settings: line ", number as u64);
     add(counted, b" of LAYOUT is not two numbers up to 255\n")

@@ -1,8 +1,7 @@
 // Plays a script of commands, one to a line, each as settings would obey it: IMAGE P LAYOUT read ITEM, IMAGE P LAYOUT write ITEM
 // [--budget STEPS] [< data], or IMAGE P LAYOUT list. It goes as the scripts of qbx do, and is not theirs: no function is handed in.
 // All that is said goes to standard output, so that a whole story is one output to compare.
-use libc::STDIN_FILENO;
-use libc::STDOUT_FILENO;
+use libc::{STDIN_FILENO, STDOUT_FILENO};
 use qbx_script_words::word;
 use settings_words::Reading;
 

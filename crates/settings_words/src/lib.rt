@@ -1,14 +1,13 @@
 // The words of the command line of settings, read: IMAGE P LAYOUT read ITEM, IMAGE P LAYOUT write ITEM [--budget STEPS], or
 // IMAGE P LAYOUT list.
-use qbx_numbers::Parsed;
-use qbx_numbers::number;
-use qbx_words::is;
-use qbx_words::is_missing;
-use settings_numbers::ParsedByte;
-use settings_numbers::byte;
-ghost use mathlib.Core.Path.{_≡_};
-ghost use Rattle·settings_words·specs.specs.Command.{writes, ended, withBudget, ofItem, ofList, commandOf};
+ghost use Rattle.std.specs.Prelude.{◌≡◌};
+ghost use Rattle.settings_words.specs.Command.{writes, ended, withBudget, ofItem, of_list, commandOf};
 
+use qbx_numbers::{Parsed, number};
+use qbx_words::{is, is_missing};
+use settings_numbers::{ParsedByte, byte};
+
+#[derive(Drop)]
 pub enum Verb {
     Read,
     Write,
@@ -16,6 +15,7 @@ pub enum Verb {
 }
 
 // A command whose words were right. The file of the layout is named beside it; a list is of no item, and its item is 0.
+#[derive(Drop)]
 pub struct Command {
     pub partitions: u64,
     pub verb: Verb,
@@ -24,6 +24,7 @@ pub struct Command {
 }
 
 // The word of a command that is wrong.
+#[derive(Drop)]
 pub enum Complaint {
     Partitions,
     NoLayout,
@@ -33,13 +34,14 @@ pub enum Complaint {
     Budget,
 }
 
+#[derive(Drop)]
 pub enum Reading {
     Right(Command),
     Wrong(Complaint),
 }
 
 fn writes(verb: Verb) -> bool
-    ensures { λ r. ⌜ r ≡ writes verb ⌝ }
+    ensures { result ≡ writes verb }
 {
     match verb {
         Verb::Read => false,
@@ -50,7 +52,7 @@ fn writes(verb: Verb) -> bool
 
 // A command with no option: nothing may stand in place of its steps.
 fn ended(command: Command, steps: &[u8]) -> Reading
-    ensures { λ r. ⌜ r ≡ ended command (now (steps .entry)) ⌝ }
+    ensures { result ≡ ended command steps.now }
 {
     if is_missing(steps) {
         return Reading::Right(command);
@@ -60,7 +62,7 @@ fn ended(command: Command, steps: &[u8]) -> Reading
 
 // The option at the end.
 fn with_budget(command: Command, option: &[u8], steps: &[u8]) -> Reading
-    ensures { λ r. ⌜ r ≡ withBudget command (now (option .entry)) (now (steps .entry)) ⌝ }
+    ensures { result ≡ withBudget command option.now steps.now }
 {
     if is_missing(option) {
         return ended(command, steps);
@@ -85,7 +87,7 @@ fn with_budget(command: Command, option: &[u8], steps: &[u8]) -> Reading
 
 // The words after a verb that names an item.
 fn of_item(partitions: u64, verb: Verb, item: &[u8], option: &[u8], steps: &[u8]) -> Reading
-    ensures { λ r. ⌜ r ≡ ofItem partitions verb (now (item .entry)) (now (option .entry)) (now (steps .entry)) ⌝ }
+    ensures { result ≡ ofItem partitions verb item.now option.now steps.now }
 {
     let ParsedByte::Byte(number) = byte(item) else {
         return Reading::Wrong(Complaint::Item);
@@ -101,7 +103,7 @@ fn of_item(partitions: u64, verb: Verb, item: &[u8], option: &[u8], steps: &[u8]
 
 // The words after list: there are none.
 fn of_list(partitions: u64, item: &[u8], option: &[u8], steps: &[u8]) -> Reading
-    ensures { λ r. ⌜ r ≡ ofList partitions (now (item .entry)) (now (option .entry)) (now (steps .entry)) ⌝ }
+    ensures { result ≡ of_list partitions item.now option.now steps.now }
 {
     if !is_missing(item) {
         return Reading::Wrong(Complaint::NoOption);
@@ -124,7 +126,7 @@ pub fn command_of(
     option: &[u8],
     steps: &[u8],
 ) -> Reading
-    ensures { λ r. ⌜ r ≡ commandOf (now (partitions .entry)) (now (layout .entry)) (now (verb .entry)) (now (item .entry)) (now (option .entry)) (now (steps .entry)) ⌝ }
+    ensures { result ≡ commandOf partitions.now layout.now verb.now item.now option.now steps.now }
 {
     let Parsed::Number(p) = number(partitions) else {
         return Reading::Wrong(Complaint::Partitions);

@@ -5,9 +5,7 @@ use qbx_same::Clash;
 use qbx_share_file::Listing;
 use settings_list::MOST_LIST;
 use settings_says::say_answer;
-use settings_words::Command;
-use settings_words::Complaint;
-use settings_words::Verb;
+use settings_words::{Command, Complaint, Verb};
 
 // The most bytes of an image.
 const MOST_IMAGE: usize = 1048576;

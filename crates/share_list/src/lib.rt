@@ -1,20 +1,18 @@
 // A list of shares for tenants (request #110): three numbers for each, the first and the last of its block numbers, and how
 // many of them it may have stored. Nothing is required of who made the list: it is tested at every request.
+ghost use Rattle.std.specs.Prelude.{◌≡◌, true, ◌&&◌, ◌+◌, ◌-◌, ◌*◌, ◌≤◌, ◌<◌, length, leb};
+ghost use Rattle.model.specs.Lists.{all};
+ghost use Rattle.model.specs.Slot.{numberOk};
+ghost use Rattle.shares.specs.Shares.{shares_of, rangeOk, overlap, disjoint, quotaSum, sharesWithin, isTenant, share_of, owns};
+ghost use Rattle.share_list.specs.Places.{mostNumbers, Stands, shareAt, clearOf, shareIn};
+
 use model::BlockNumber;
-ghost use mathlib.Core.Path.{_≡_};
-ghost use mathlib.Core.Bool.{true, _&&_};
-ghost use Prim.Native.Nat.{_+_, _-_, _*_, _≤_, _<_};
-ghost use lib.ListN.{length};
-ghost use lib.Dec.{leb};
-ghost use Rattle·model.specs.Lists.{all};
-ghost use Rattle·model.specs.Slot.{numberOk};
-ghost use Rattle·shares.specs.Shares.{sharesOf, rangeOk, overlap, disjoint, quotaSum, sharesWithin, isTenant, shareOf, owns};
-ghost use Rattle·share_list·specs.specs.Places.{mostNumbers, Stands, shareAt, clearOf, shareIn};
 
 // Three numbers for each of 40 tenants.
 const MOST_NUMBERS: usize = 120;
 
 // A tenant's share, its range as block numbers.
+#[derive(Drop)]
 pub struct Part {
     pub first: BlockNumber,
     pub last: BlockNumber,
@@ -25,7 +23,7 @@ pub struct Part {
 
 // Whether two numbers make a range of block numbers.
 fn range_ok(first: u32, last: u32) -> bool
-    ensures { λ r. ⌜ r ≡ (numberOk first && (numberOk last && leb first last)) ⌝ }
+    ensures { result ≡ (numberOk first && (numberOk last && leb first last)) }
 {
     if first == 0 {
         return false;
@@ -38,8 +36,8 @@ fn range_ok(first: u32, last: u32) -> bool
 
 // Whether every range is one.
 fn ranges_ok(shares: &[u32]) -> bool
-    requires { ⌜ Stands (now shares) 0 ⌝ }
-    ensures { λ r. ⌜ r ≡ all rangeOk (sharesOf (now (shares .entry))) ⌝ }
+    requires { Stands shares.now 0 }
+    ensures { result ≡ all rangeOk (shares_of shares.now) }
 {
     let mut at = 0;
     while at < shares.len() {
@@ -53,8 +51,8 @@ fn ranges_ok(shares: &[u32]) -> bool
 
 // Whether a number is in both of two ranges.
 fn overlaps(shares: &[u32], one: usize, other: usize) -> bool
-    requires { ⌜ (one + 3 ≤ length (now shares)) × (other + 3 ≤ length (now shares)) ⌝ }
-    ensures { λ r. ⌜ r ≡ overlap (shareAt (now (shares .entry)) one) (shareAt (now (shares .entry)) other) ⌝ }
+    requires { (one + 3 ≤ length shares.now) × (other + 3 ≤ length shares.now) }
+    ensures { result ≡ overlap (shareAt shares.now one) (shareAt shares.now other) }
 {
     if shares[one] > shares[other + 1] {
         return false;
@@ -64,8 +62,8 @@ fn overlaps(shares: &[u32], one: usize, other: usize) -> bool
 
 // Whether a range overlaps none of those behind it.
 fn apart(shares: &[u32], one: usize) -> bool
-    requires { ⌜ Stands (now shares) one × (one < length (now shares)) ⌝ }
-    ensures { λ r. ⌜ r ≡ clearOf (now (shares .entry)) one (one + 3) ⌝ }
+    requires { Stands shares.now one × (one < length shares.now) }
+    ensures { result ≡ clearOf shares.now one (one + 3) }
 {
     let mut other = one + 3;
     while other < shares.len() {
@@ -79,8 +77,8 @@ fn apart(shares: &[u32], one: usize) -> bool
 
 // Whether no number is in two ranges.
 fn all_apart(shares: &[u32]) -> bool
-    requires { ⌜ Stands (now shares) 0 ⌝ }
-    ensures { λ r. ⌜ r ≡ disjoint (sharesOf (now (shares .entry))) ⌝ }
+    requires { Stands shares.now 0 }
+    ensures { result ≡ disjoint (shares_of shares.now) }
 {
     let mut at = 0;
     while at < shares.len() {
@@ -94,8 +92,8 @@ fn all_apart(shares: &[u32]) -> bool
 
 // All quotas together, which may be more than their 32 bits hold.
 fn quota_sum(shares: &[u32]) -> u64
-    requires { ⌜ Stands (now shares) 0 × (length (now shares) ≤ mostNumbers) ⌝ }
-    ensures { λ r. ⌜ r ≡ quotaSum (sharesOf (now (shares .entry))) ⌝ }
+    requires { Stands shares.now 0 × (length shares.now ≤ mostNumbers) }
+    ensures { result ≡ quotaSum (shares_of shares.now) }
 {
     let mut sum: u64 = 0;
     let mut at = 0;
@@ -108,7 +106,7 @@ fn quota_sum(shares: &[u32]) -> u64
 
 // Whether a list of shares is right, with so many blocks to share.
 pub fn shares_ok(shares: &[u32], most: usize) -> bool
-    ensures { λ r. ⌜ r ≡ sharesWithin most (now (shares .entry)) ⌝ }
+    ensures { result ≡ sharesWithin most shares.now }
 {
     if shares.len() % 3 != 0 {
         return false;
@@ -129,7 +127,7 @@ pub fn shares_ok(shares: &[u32], most: usize) -> bool
 
 // Whether the list has this tenant.
 fn is_tenant(shares: &[u32], tenant: u32) -> bool
-    ensures { λ r. ⌜ r ≡ isTenant (sharesOf (now (shares .entry))) tenant ⌝ }
+    ensures { result ≡ isTenant (shares_of shares.now) tenant }
 {
     if tenant < 1 {
         return false;
@@ -139,15 +137,15 @@ fn is_tenant(shares: &[u32], tenant: u32) -> bool
 
 // Where a tenant's three numbers begin.
 fn place_of(tenant: u32) -> usize
-    requires { ⌜ 0 < tenant ⌝ }
-    ensures { λ r. ⌜ r ≡ (tenant - 1) * 3 ⌝ }
+    requires { 0 < tenant }
+    ensures { result ≡ (tenant - 1) * 3 }
 {
     (tenant as usize - 1) * 3
 }
 
 // Whether a block is a tenant's.
 pub fn owns(shares: &[u32], tenant: u32, block: BlockNumber) -> bool
-    ensures { λ r. ⌜ r ≡ owns (sharesOf (now (shares .entry))) tenant (block .0) ⌝ }
+    ensures { result ≡ owns (shares_of shares.now) tenant block.0 }
 {
     if !is_tenant(shares, tenant) {
         return false;
@@ -162,8 +160,8 @@ pub fn owns(shares: &[u32], tenant: u32, block: BlockNumber) -> bool
 
 // A tenant's share.
 pub fn share_of(shares: &[u32], tenant: u32) -> Part
-    requires { ⌜ (all rangeOk (sharesOf (now shares)) ≡ true) × (isTenant (sharesOf (now shares)) tenant ≡ true) ⌝ }
-    ensures { λ r. ⌜ shareIn r ≡ shareOf (sharesOf (now (shares .entry))) tenant ⌝ }
+    requires { (all rangeOk (shares_of shares.now) ≡ true) × (isTenant (shares_of shares.now) tenant ≡ true) }
+    ensures { shareIn result ≡ share_of (shares_of shares.now) tenant }
 {
     let at = place_of(tenant);
     let first = shares[at] as u16;

@@ -1,22 +1,18 @@
 -- Lists of shares, and tenants on small chips, computed: what the definitions give, and so which wrong ones they are not.
-use Prim.Native.Nat.{ℕ, zero, suc}
-use mathlib.Core.Path.{_≡_, refl}
-use mathlib.Core.Bool.{Bool, true, false}
-use mathlib.Core.List.{List, [], _∷_, _++_, map}
-use lib.ListN.{replicate}
-use Rattle·model.specs.Chip.{Image, Step, rightSize, pagesOf, withSegment, step, run}
-use Rattle·model.specs.Header.{Version, version1, newVersion}
-use Rattle·model.specs.State.{segmentsOf, state, view}
-use Rattle·model.specs.Steps.{onPage, slotAt, programs, writeSlot, openSegment, eraseFirst}
-use Rattle·model.specs.Table.{liveBetween, tableOf}
-use Rattle·model.specs.Answers.{workOf}
-use Rattle·model.specs.Laws.Bench.{evaluate}
-use Rattle·shares·specs.specs.Shares.{sharesOf, rangeOk, overlap, disjoint, quotaSum, sharesWithin, sharesOk, isTenant, shareOf, owns}
-use Rattle·shares·specs.specs.Layer.{Asked, puts, deletes, reads, blockAsked, storeRequest, bounds, beforeFull, quotaUsed, rows, shareCode, shareWork, contentsAsked, Shared, shareOutcome, gaveIn}
+use Rattle.std.specs.Prelude.{ℕ, zero, suc, ◌≡◌, refl, Bool, true, false, List, [], ◌∷◌, ◌++◌, map, replicate}
+use Rattle.model.specs.Chip.{Image, Step, rightSize, pagesOf, withSegment, step, run}
+use Rattle.model.specs.Header.{Version, version1, newVersion}
+use Rattle.model.specs.State.{segmentsOf, state, view}
+use Rattle.model.specs.Steps.{onPage, slot_at, programs, writeSlot, openSegment, eraseFirst}
+use Rattle.model.specs.Table.{liveBetween, table_of}
+use Rattle.model.specs.Answers.{workOf}
+use Rattle.model.specs.Laws.Bench.{evaluate}
+use Rattle.shares.specs.Shares.{shares_of, rangeOk, overlap, disjoint, quotaSum, sharesWithin, sharesOk, isTenant, share_of, owns}
+use Rattle.shares.specs.Layer.{Asked, puts, deletes, reads, blockAsked, storeRequest, bounds, beforeFull, quotaUsed, rows, shareCode, shareWork, contentsAsked, Shared, shareOutcome, gaveIn}
 
 -- every definition unfolds where this name does
 unfoldable computes : ℕ
-unfolding evaluate rightSize pagesOf withSegment step run segmentsOf state view liveBetween tableOf workOf sharesOf rangeOk overlap disjoint quotaSum sharesWithin sharesOk isTenant shareOf owns blockAsked storeRequest bounds beforeFull quotaUsed rows shareCode shareWork contentsAsked shareOutcome
+unfolding evaluate rightSize pagesOf withSegment step run segmentsOf state view liveBetween table_of workOf shares_of rangeOk overlap disjoint quotaSum sharesWithin sharesOk isTenant share_of owns blockAsked storeRequest bounds beforeFull quotaUsed rows shareCode shareWork contentsAsked shareOutcome
 computes = 0
 
 -- ---- lists, on a chip of 3 segments with 2 slots, where C is 3
@@ -77,7 +73,7 @@ abbrev none : List ℕ
 none = 1 ∷ 5 ∷ 0 ∷ []
 
 abbrev slot : ℕ → ℕ → ℕ → List ℕ → List Step
-slot n j b c = onPage (slotAt 3 2 n j) (writeSlot b c)
+slot n j b c = onPage (slot_at 3 2 n j) (writeSlot b c)
 
 -- blocks 3 and 5 of the first, block 6 of the second
 unfoldable both : Version → Image
@@ -100,7 +96,7 @@ abbrev ask : ℕ → Asked → Ask
 ask a r = record { tenant = a; asked = r }
 
 abbrev codes : List ℕ → Image → List Ask → List ℕ
-codes ns s xs = map (λ x. shareCode 3 2 ns s (x .tenant) (x .asked)) xs
+codes ns s xs = map (λ x. shareCode 3 2 ns s x.tenant x.asked) xs
 
 -- 12 for foreign numbers and unknown tenants, after 2 and before 3; 7 for a new block while the own quota is used; 14 for a short buffer
 shared : codes two (both (newVersion 0)) (
@@ -138,11 +134,11 @@ unfolding computes both spent one
 states = refl
 
 -- contents come back where the answer is 0, and the image is the store's
-contents : (shareOutcome 3 2 two (both (newVersion 0)) 2 (reads 6 3) .given ≡ 66 ∷ 67 ∷ []) × (shareOutcome 3 2 two (both (newVersion 0)) 2 (reads 6 1) .given ≡ [])
+contents : ((shareOutcome 3 2 two (both (newVersion 0)) 2 (reads 6 3)).given ≡ 66 ∷ 67 ∷ []) × ((shareOutcome 3 2 two (both (newVersion 0)) 2 (reads 6 1)).given ≡ [])
 unfolding computes both
 contents = (refl, refl)
 
-written : tableOf 3 2 (shareOutcome 3 2 two one 1 (puts 4 (1 ∷ [])) .image) ≡ record { block = 3; contents = 65 ∷ [] } ∷ record { block = 4; contents = 1 ∷ [] } ∷ []
+written : table_of 3 2 (shareOutcome 3 2 two one 1 (puts 4 (1 ∷ []))).image ≡ record { block = 3; contents = 65 ∷ [] } ∷ record { block = 4; contents = 1 ∷ [] } ∷ []
 unfolding computes one
 written = refl
 

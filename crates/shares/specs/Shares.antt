@@ -1,12 +1,8 @@
 -- Request #110, "Shares for tenants": the list of shares, and whose a block is.
-use Prim.Native.Nat.{ℕ, _+_, _-_, _%_}
-use mathlib.Core.Bool.{Bool, true, _&&_, not}
-use mathlib.Core.List.{List, [], _∷_}
-use lib.ListN.{length, getD}
-use lib.Dec.{ltb, leb, eqb}
-use Rattle·model.specs.Lists.{all}
-use Rattle·model.specs.Slot.{numberOk}
-use Rattle·model.specs.State.{capacity}
+use Rattle.std.specs.Prelude.{ℕ, ◌+◌, ◌-◌, ◌%◌, Bool, true, ◌&&◌, not, List, [], ◌∷◌, length, get_or, ltb, leb, eqb}
+use Rattle.model.specs.Lists.{all}
+use Rattle.model.specs.Slot.{numberOk}
+use Rattle.model.specs.State.{capacity}
 
 -- a tenant's range of block numbers, first to last, and how many of them it may have stored
 pub record Share : Type 0 where
@@ -18,21 +14,21 @@ abbrev pub mostTenants : ℕ
 mostTenants = 40
 
 -- three numbers for each tenant
-unfoldable pub sharesOf : List ℕ → List Share
-sharesOf [] = []
-sharesOf (f ∷ []) = []
-sharesOf (f ∷ l ∷ []) = []
-sharesOf (f ∷ l ∷ q ∷ ns) = record { first = f; last = l; quota = q } ∷ sharesOf ns
+unfoldable pub shares_of : List ℕ → List Share
+shares_of [] = []
+shares_of (f ∷ []) = []
+shares_of (f ∷ l ∷ []) = []
+shares_of (f ∷ l ∷ q ∷ ns) = record { first = f; last = l; quota = q } ∷ shares_of ns
 
 -- ---- a list that is right; one that breaks this answers 13
 
 -- "a range of block numbers (first to last, not empty)"
 unfoldable pub rangeOk : Share → Bool
-rangeOk x = numberOk (x .first) && (numberOk (x .last) && leb (x .first) (x .last))
+rangeOk x = numberOk x.first && (numberOk x.last && leb x.first x.last)
 
 -- a number is in both ranges
 unfoldable pub overlap : Share → Share → Bool
-overlap x y = leb (x .first) (y .last) && leb (y .first) (x .last)
+overlap x y = leb x.first y.last && leb y.first x.last
 
 -- "ranges disjoint"
 unfoldable pub disjoint : List Share → Bool
@@ -41,11 +37,11 @@ disjoint (x ∷ xs) = all (λ y. not (overlap x y)) xs && disjoint xs
 
 unfoldable pub quotaSum : List Share → ℕ
 quotaSum [] = 0
-quotaSum (x ∷ xs) = x .quota + quotaSum xs
+quotaSum (x ∷ xs) = x.quota + quotaSum xs
 
 -- up to 40 tenants, whose quotas add up to at most so many blocks
 unfoldable pub sharesWithin : ℕ → List ℕ → Bool
-sharesWithin most ns = let xs = sharesOf ns in
+sharesWithin most ns = let xs = shares_of ns in
     eqb (length ns % 3) 0 && (leb (length xs) mostTenants && (all rangeOk xs && (disjoint xs && leb (quotaSum xs) most)))
 
 -- and that is C
@@ -58,9 +54,9 @@ unfoldable pub isTenant : List Share → ℕ → Bool
 isTenant xs a = ltb 0 a && leb a (length xs)
 
 -- its share; one that is not in the list has none, and nothing asks for it
-unfoldable pub shareOf : List Share → ℕ → Share
-shareOf xs a = getD xs (a - 1) (record { first = 0; last = 0; quota = 0 })
+unfoldable pub share_of : List Share → ℕ → Share
+share_of xs a = get_or xs (a - 1) (record { first = 0; last = 0; quota = 0 })
 
 -- block b is tenant a's; "foreign numbers and unknown tenants" are not
 unfoldable pub owns : List Share → ℕ → ℕ → Bool
-owns xs a b = let x = shareOf xs a in isTenant xs a && (leb (x .first) b && leb b (x .last))
+owns xs a b = let x = share_of xs a in isTenant xs a && (leb x.first b && leb b x.last)

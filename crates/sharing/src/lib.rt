@@ -1,20 +1,17 @@
 // Put, delete and read by tenant (request #110): a layer over the store, which knows no tenants. It asks the store by its
 // public requests alone, so that what the layer promises follows from their contracts. Nothing is required of a caller.
+ghost use Rattle.std.specs.Prelude.{◌≡◌, length, ◌≤◌, true};
+ghost use Rattle.model.specs.Chip.{rightSize};
+ghost use Rattle.model.specs.Slot.{mostContents, numberOk};
+ghost use Rattle.text.specs.Buffer.{printed};
+ghost use Rattle.shares.specs.Layer.{puts, deletes, reads, shareOutcome, wrote, gaveIn};
+ghost use Rattle.share_list.specs.Places.{shareIn};
+ghost use Rattle.sharing.specs.Within.{outcomeWithin};
+
 use admission::Admitted;
-use model::Answer;
-use model::BlockNumber;
+use model::{Answer, BlockNumber};
 use share_list::Part;
 use text::Printed;
-ghost use mathlib.Core.Path.{_≡_};
-ghost use lib.ListN.{length};
-ghost use Prim.Native.Nat.{_≤_};
-ghost use mathlib.Core.Bool.{true};
-ghost use Rattle·model.specs.Chip.{rightSize};
-ghost use Rattle·model.specs.Slot.{mostContents, numberOk};
-ghost use Rattle·text.specs.Buffer.{printed};
-ghost use Rattle·shares.specs.Layer.{puts, deletes, reads, shareOutcome, wrote, gaveIn};
-ghost use Rattle·share_list.specs.Places.{shareIn};
-ghost use Rattle·sharing·specs.specs.Within.{outcomeWithin};
 
 // More steps than any request takes: a tenant's request is never cut by its budget.
 const ALL_STEPS: u64 = 18446744073709551615;
@@ -30,8 +27,8 @@ fn put_within(
     block: BlockNumber,
     contents: &[u8],
 ) -> Answer
-    requires { ⌜ (rightSize segments slots (now image) ≡ true) × (numberOk (block .0) ≡ true) ⌝ }
-    ensures { λ r. ⌜ wrote r (now (image .exit)) ≡ outcomeWithin segments slots (shareIn part) (now (image .entry)) (puts (block .0) (now (contents .entry))) ⌝ }
+    requires { (rightSize segments slots image.old ≡ true) × (numberOk block.0 ≡ true) }
+    ensures { wrote result image.new ≡ outcomeWithin segments slots (shareIn part) image.old (puts block.0 contents.now) }
 {
     let counted = store::count(&image[..], segments, slots, part.first, part.last, block);
     if admission::quota_used(counted, part.quota) {
@@ -53,7 +50,7 @@ pub fn put(
     block: BlockNumber,
     contents: &[u8],
 ) -> Answer
-    ensures { λ r. ⌜ wrote r (now (image .exit)) ≡ shareOutcome segments slots (now (shares .entry)) (now (image .entry)) tenant (puts (block .0) (now (contents .entry))) ⌝ }
+    ensures { wrote result image.new ≡ shareOutcome segments slots shares.now image.old tenant (puts block.0 contents.now) }
 {
     let admitted = admission::admit(&image[..], segments, slots, shares, tenant, block);
     match admitted {
@@ -71,7 +68,7 @@ pub fn delete(
     tenant: u32,
     block: BlockNumber,
 ) -> Answer
-    ensures { λ r. ⌜ wrote r (now (image .exit)) ≡ shareOutcome segments slots (now (shares .entry)) (now (image .entry)) tenant (deletes (block .0)) ⌝ }
+    ensures { wrote result image.new ≡ shareOutcome segments slots shares.now image.old tenant (deletes block.0) }
 {
     let admitted = admission::admit(&image[..], segments, slots, shares, tenant, block);
     if let Admitted::Refused(answer) = admitted {
@@ -92,7 +89,7 @@ pub fn read(
     block: BlockNumber,
     contents: &mut [u8],
 ) -> Printed
-    ensures { λ r. ⌜ (printed r (now (contents .exit)) ≡ gaveIn (shareOutcome segments slots (now (shares .entry)) (now (image .entry)) tenant (reads (block .0) (length (now (contents .entry))))) (now (contents .entry))) × (r .length ≤ mostContents) ⌝ }
+    ensures { (printed result contents.new ≡ gaveIn (shareOutcome segments slots shares.now image.now tenant (reads block.0 (length contents.old))) contents.old) × (result.length ≤ mostContents) }
 {
     let admitted = admission::admit(image, segments, slots, shares, tenant, block);
     if let Admitted::Refused(answer) = admitted {

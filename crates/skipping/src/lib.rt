@@ -1,10 +1,7 @@
 // Entries of a table by block number that tell no place, passed over (requests #106 and #113).
-ghost use mathlib.Core.Path.{_≡_};
-ghost use mathlib.Core.Bool.{true};
-ghost use Prim.Native.Nat.{_≤_};
-ghost use lib.ListN.{length};
-ghost use Rattle·model.specs.Mounted.{leastPlaces};
-ghost use Rattle·skipping·specs.specs.Passed.{AllNone, Passed};
+ghost use Rattle.std.specs.Prelude.{◌≡◌, true, ◌≤◌, length};
+ghost use Rattle.model.specs.Mounted.{leastPlaces};
+ghost use Rattle.skipping.specs.Passed.{AllNone, Passed};
 
 // The entries of a table, and from where on fewer than eight are left.
 const ENTRIES: usize = 65536;
@@ -13,16 +10,16 @@ const LAST_EIGHT: usize = ENTRIES - 7;
 
 // Whether eight entries tell no place. They are joined, so that they are compared once.
 fn none_of(group: &[u32]) -> bool
-    requires { ⌜ length (now group) ≡ 8 ⌝ }
-    ensures { λ r. ⌜ (r ≡ true → AllNone (now (group .entry))) ⌝ }
+    requires { length group.now ≡ 8 }
+    ensures { result ≡ true → AllNone group.now }
 {
     (group[0] | group[1] | group[2] | group[3] | group[4] | group[5] | group[6] | group[7]) == 0
 }
 
 // Passes over entries of 0, eight at a time as far as it can: most block numbers are not stored.
 pub fn pass_empty(places: &[u32], from: usize) -> usize
-    requires { ⌜ (leastPlaces ≤ length (now places)) × (from ≤ leastPlaces) ⌝ }
-    ensures { λ r. ⌜ Passed (now (places .entry)) from r ⌝ }
+    requires { (leastPlaces ≤ length places.now) × (from ≤ leastPlaces) }
+    ensures { Passed places.now from result }
 {
     let mut block = from;
     while block < LAST_EIGHT {

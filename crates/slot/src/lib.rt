@@ -1,15 +1,12 @@
 // A slot page taken apart, or made up and programmed under a budget.
-use model::BlockNumber;
-use model::SlotKind;
-use model::SlotPlace;
-ghost use mathlib.Core.Path.{_≡_};
-ghost use Prim.Native.Nat.{_+_, _*_, _<_, _≤_};
-ghost use lib.ListN.{length, getD};
-ghost use Rattle·model.specs.Slot.{written, slotPage, slotFits, slotOf, kindOf};
-ghost use Rattle·model.specs.Steps.{writeSlot, markDead};
-ghost use Rattle·flash.specs.Ran.{Programmed};
-ghost use Rattle·flash.specs.Pages.{OnPageAt};
-ghost use Rattle·slot·specs.specs.Parts.{slotParts};
+ghost use Rattle.std.specs.Prelude.{◌≡◌, ◌+◌, ◌*◌, ◌<◌, ◌≤◌, length, get_or};
+ghost use Rattle.model.specs.Slot.{written, slotPage, slotFits, slot_of, kind_of};
+ghost use Rattle.model.specs.Steps.{writeSlot, markDead};
+ghost use Rattle.flash.specs.Ran.{Programmed};
+ghost use Rattle.flash.specs.Pages.{OnPageAt};
+ghost use Rattle.slot.specs.Parts.{slotParts};
+
+use model::{BlockNumber, SlotKind, SlotPlace};
 
 // Status bytes, by the names of the model's definitions.
 const WRITE_BEGUN: u8 = 0x7F;
@@ -27,14 +24,14 @@ const MARK_DEAD: u8 = 0xDF;
 const MOST_CONTENTS: usize = 248;
 
 fn wide(x: u8) -> usize
-    ensures { λ r. ⌜ r ≡ x ⌝ }
+    ensures { result ≡ x }
 {
     x as usize
 }
 
 // Two bytes as a number, low byte first.
 fn word(low: u8, high: u8) -> u16
-    ensures { λ r. ⌜ r ≡ low + 256 * high ⌝ }
+    ensures { result ≡ low + 256 * high }
 {
     low as u16 + 256 * (high as u16)
 }
@@ -43,8 +40,8 @@ fn word(low: u8, high: u8) -> u16
 
 // Whether the bytes of a written slot fit, beside its status.
 fn slot_fits(page: &[u8]) -> bool
-    requires { ⌜ (length (now page) ≡ 256) × (getD (now page) 0 0 ≡ written) ⌝ }
-    ensures { λ r. ⌜ r ≡ slotFits (now (page .entry)) ⌝ }
+    requires { (length page.now ≡ 256) × (get_or page.now 0 0 ≡ written) }
+    ensures { result ≡ slotFits page.now }
 {
     let length = wide(page[1]);
     if length > MOST_CONTENTS {
@@ -68,8 +65,8 @@ fn slot_fits(page: &[u8]) -> bool
 
 // The kind of a slot.
 pub fn slot_kind(page: &[u8]) -> SlotKind
-    requires { ⌜ length (now page) ≡ 256 ⌝ }
-    ensures { λ r. ⌜ r ≡ kindOf (slotOf (now (page .entry))) ⌝ }
+    requires { length page.now ≡ 256 }
+    ensures { result ≡ kind_of (slot_of page.now) }
 {
     let status = page[0];
     if status == WRITTEN {
@@ -102,8 +99,8 @@ pub fn slot_kind(page: &[u8]) -> SlotKind
 
 // The page of a live slot, made up among erased bytes.
 fn slot_page(block: BlockNumber, contents: &[u8]) -> [u8; 256]
-    requires { ⌜ length (now contents) ≤ 248 ⌝ }
-    ensures { λ r. ⌜ r ≡ slotPage (block .0) (now (contents .entry)) ⌝ }
+    requires { length contents.now ≤ 248 }
+    ensures { result ≡ slotPage block.0 contents.now }
 {
     let mut page = [255u8; 256];
     page[0] = WRITTEN;
@@ -120,8 +117,8 @@ fn slot_page(block: BlockNumber, contents: &[u8]) -> [u8; 256]
 
 // Programs a slot's page with one that was made up, of contents of some length.
 fn program_slot(slot: &mut [u8], made: &[u8], count: usize, budget: u64) -> u64
-    requires { ⌜ (length (now slot) ≡ 256) × (length (now made) ≡ 256) × (count ≤ 248) ⌝ }
-    ensures { λ r. ⌜ Programmed (slotParts (now (made .entry)) count) budget r (now (slot .entry)) (now (slot .exit)) ⌝ }
+    requires { (length slot.old ≡ 256) × (length made.now ≡ 256) × (count ≤ 248) }
+    ensures { Programmed (slotParts made.now count) budget result slot.old slot.new }
 {
     let begun = flash::program_byte(slot, 0, WRITE_BEGUN, budget);
     let headed = flash::program_part(slot, made, 1, 3, begun);
@@ -131,8 +128,8 @@ fn program_slot(slot: &mut [u8], made: &[u8], count: usize, budget: u64) -> u64
 
 // Writes a slot with the page of a live one: made up, or copied.
 pub fn write_page(image: &mut [u8], place: SlotPlace, page: &[u8], count: usize, budget: u64) -> u64
-    requires { ⌜ (place .0 + 256 ≤ length (now image)) × (length (now page) ≡ 256) × (count ≤ 248) ⌝ }
-    ensures { λ r. ⌜ OnPageAt (place .0) (slotParts (now (page .entry)) count) budget r (now (image .entry)) (now (image .exit)) ⌝ }
+    requires { (place.0 + 256 ≤ length image.old) × (length page.now ≡ 256) × (count ≤ 248) }
+    ensures { OnPageAt place.0 (slotParts page.now count) budget result image.old image.new }
 {
     let at = place.0;
     let end = at + 256;
@@ -147,8 +144,8 @@ pub fn write_slot(
     contents: &[u8],
     budget: u64,
 ) -> u64
-    requires { ⌜ (place .0 + 256 ≤ length (now image)) × (length (now contents) ≤ 248) ⌝ }
-    ensures { λ r. ⌜ OnPageAt (place .0) (writeSlot (block .0) (now (contents .entry))) budget r (now (image .entry)) (now (image .exit)) ⌝ }
+    requires { (place.0 + 256 ≤ length image.old) × (length contents.now ≤ 248) }
+    ensures { OnPageAt place.0 (writeSlot block.0 contents.now) budget result image.old image.new }
 {
     let made = slot_page(block, contents);
     write_page(image, place, &made, contents.len(), budget)
@@ -156,8 +153,8 @@ pub fn write_slot(
 
 // Clears bit 5 of a slot's status: live becomes dead, and torn cut, which document 01 calls dead too.
 pub fn mark_dead(image: &mut [u8], place: SlotPlace, budget: u64) -> u64
-    requires { ⌜ place .0 < length (now image) ⌝ }
-    ensures { λ r. ⌜ OnPageAt (place .0) markDead budget r (now (image .entry)) (now (image .exit)) ⌝ }
+    requires { place.0 < length image.old }
+    ensures { OnPageAt place.0 markDead budget result image.old image.new }
 {
     flash::program_byte(image, place.0, MARK_DEAD, budget)
 }

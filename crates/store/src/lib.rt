@@ -3,19 +3,14 @@
 // Forms that document 01 names: the budget (its allowance) falls with each flash step, and `request` counts the steps by it;
 // block numbers, segment numbers and slot places are the three tuple structs of `model`; `let .. else` takes the clean
 // survey or the slot that was found, and all else is a refusal; `read_or` returns a part of either of two slices.
+ghost use Rattle.std.specs.Prelude.{◌≡◌, false};
+ghost use Rattle.model.specs.Answers.{performed, outcomeOf, format, put, delete, recover, located, readOutcome, pieceOr, counted, countOutcome};
+
 use counting::Sought;
 use looking::Looked;
-use model::Answer;
-use model::BlockNumber;
-use model::Counted;
-use model::Located;
-use model::Performed;
-use model::SegmentNumber;
+use model::{Answer, BlockNumber, Counted, Located, Performed, SegmentNumber};
 use room::Plan;
 use scan::Surveyed;
-ghost use mathlib.Core.Path.{_≡_};
-ghost use mathlib.Core.Bool.{false};
-ghost use Rattle·model.specs.Answers.{performed, outcomeOf, format, put, delete, recover, located, readOutcome, pieceOr, counted, countOutcome};
 
 // The number of the answer that a block is not stored.
 const ABSENT: u8 = 6;
@@ -25,7 +20,7 @@ const OPENING: u64 = 21;
 
 // Erases every segment and opens the first.
 pub fn format(image: &mut [u8], segments: usize, slots: usize, budget: u64) -> Performed
-    ensures { λ r. ⌜ performed r (now (image .exit)) ≡ outcomeOf segments slots (now (image .entry)) budget format ⌝ }
+    ensures { performed result image.new ≡ outcomeOf segments slots image.old budget format }
 {
     if !request::right_size(image.len(), segments, slots) {
         return request::refused(Answer::Size);
@@ -44,7 +39,7 @@ pub fn put(
     contents: &[u8],
     budget: u64,
 ) -> Performed
-    ensures { λ r. ⌜ performed r (now (image .exit)) ≡ outcomeOf segments slots (now (image .entry)) budget (put (block .0) (now (contents .entry))) ⌝ }
+    ensures { performed result image.new ≡ outcomeOf segments slots image.old budget (put block.0 contents.now) }
 {
     if !request::right_size(image.len(), segments, slots) {
         return request::refused(Answer::Size);
@@ -83,7 +78,7 @@ pub fn delete(
     block: BlockNumber,
     budget: u64,
 ) -> Performed
-    ensures { λ r. ⌜ performed r (now (image .exit)) ≡ outcomeOf segments slots (now (image .entry)) budget (delete (block .0)) ⌝ }
+    ensures { performed result image.new ≡ outcomeOf segments slots image.old budget (delete block.0) }
 {
     let looked = looking::look(&image[..], segments, slots, block);
     match looked {
@@ -94,7 +89,7 @@ pub fn delete(
 
 // Where a block's contents are in the image.
 pub fn read(image: &[u8], segments: usize, slots: usize, block: BlockNumber) -> Located
-    ensures { λ r. ⌜ located r ≡ readOutcome segments slots (now (image .entry)) (block .0) ⌝ }
+    ensures { located result ≡ readOutcome segments slots image.now block.0 }
 {
     let looked = looking::look(image, segments, slots, block);
     match looked {
@@ -122,7 +117,7 @@ pub fn read_or<'a>(
     block: BlockNumber,
     code: &mut u8,
 ) -> &'a [u8]
-    ensures { λ r. ⌜ (now r ≡ pieceOr segments slots (now (image .entry)) (block .0) (now (factory .entry))) × (now (code .exit) ≡ readOutcome segments slots (now (image .entry)) (block .0) .code) ⌝ }
+    ensures { (result.now ≡ pieceOr segments slots image.now block.0 factory.now) × (code.new ≡ (readOutcome segments slots image.now block.0).code) }
 {
     let looked = looking::look(image, segments, slots, block);
     match looked {
@@ -145,7 +140,7 @@ pub fn read_or<'a>(
 
 // A count that was refused.
 fn uncounted(answer: Answer) -> Counted
-    ensures { λ r. ⌜ r ≡ record { answer = answer; blocks = 0; stored = false } ⌝ }
+    ensures { result ≡ record { answer = answer; blocks = 0; stored = false } }
 {
     Counted {
         answer,
@@ -163,7 +158,7 @@ pub fn count(
     last: BlockNumber,
     block: BlockNumber,
 ) -> Counted
-    ensures { λ r. ⌜ counted r ≡ countOutcome segments slots (now (image .entry)) (first .0) (last .0) (block .0) ⌝ }
+    ensures { counted result ≡ countOutcome segments slots image.now first.0 last.0 block.0 }
 {
     if !request::right_size(image.len(), segments, slots) {
         return uncounted(Answer::Size);
@@ -190,7 +185,7 @@ pub fn count(
 
 // Finishes what a power cut has left unfinished.
 pub fn recover(image: &mut [u8], segments: usize, slots: usize, budget: u64) -> Performed
-    ensures { λ r. ⌜ performed r (now (image .exit)) ≡ outcomeOf segments slots (now (image .entry)) budget recover ⌝ }
+    ensures { performed result image.new ≡ outcomeOf segments slots image.old budget recover }
 {
     if !request::right_size(image.len(), segments, slots) {
         return request::refused(Answer::Size);

@@ -1,22 +1,16 @@
 // One segment by its header: its summary, before its slots are looked at, and what that tells.
+ghost use Rattle.std.specs.Prelude.{◌≡◌, cond, not, ◌&&◌, ◌||◌, ◌-◌, ◌<◌, ◌≤◌, max, length, get_or};
+ghost use Rattle.model.specs.State.{blank, isInUse, isInvalid, isOwing, numberAfter, ofVersion, segmentsOf};
+ghost use Rattle.flash.specs.Pages.{Sized};
+ghost use Rattle.judge.specs.Heads.{bareOf, bare, outline, stateSeen};
+
 use header_seen::HeaderSeen;
-use judge::Ending;
-use judge::Row;
-use judge::SegmentState;
-use judge::Summary;
-use model::BlockNumber;
-use model::SegmentNumber;
-ghost use mathlib.Core.Path.{_≡_};
-ghost use mathlib.Core.Bool.{cond, not, _&&_, _||_};
-ghost use Prim.Native.Nat.{_-_, _<_, _≤_, max};
-ghost use lib.ListN.{length, getD};
-ghost use Rattle·model.specs.State.{blank, isInUse, isInvalid, isOwing, numberAfter, ofVersion, segmentsOf};
-ghost use Rattle·flash.specs.Pages.{Sized};
-ghost use Rattle·judge.specs.Heads.{bareOf, bare, outline, stateSeen};
+use judge::{Ending, Row, SegmentState, Summary};
+use model::{BlockNumber, SegmentNumber};
 
 // A segment before its slots are looked at.
 pub fn head(state: SegmentState, former: bool, number: SegmentNumber) -> Summary
-    ensures { λ r. ⌜ bare r ≡ bareOf state former (number .0) ⌝ }
+    ensures { bare result ≡ bareOf state former number.0 }
 {
     let row = Row {
         live: 0,
@@ -34,7 +28,7 @@ pub fn head(state: SegmentState, former: bool, number: SegmentNumber) -> Summary
 }
 
 fn state_seen(status: u8) -> SegmentState
-    ensures { λ r. ⌜ r ≡ stateSeen status ⌝ }
+    ensures { result ≡ stateSeen status }
 {
     if status == 0x9F {
         SegmentState::Owing
@@ -45,8 +39,8 @@ fn state_seen(status: u8) -> SegmentState
 
 // The segment at an index, by its header; one that is not in use is tested for blank as a whole.
 pub fn see_segment(image: &[u8], segments: usize, slots: usize, index: usize) -> Summary
-    requires { ⌜ Sized segments slots (length (now image)) × (index < segments) ⌝ }
-    ensures { λ r. ⌜ bare r ≡ outline (getD (segmentsOf segments slots (now (image .entry))) index blank) ⌝ }
+    requires { Sized segments slots (length image.now) × (index < segments) }
+    ensures { bare result ≡ outline (get_or (segmentsOf segments slots image.now) index blank) }
 {
     let at = index * (slots + 1) * 256;
     let first = at + 256;
@@ -69,7 +63,7 @@ pub fn see_segment(image: &[u8], segments: usize, slots: usize, index: usize) ->
 
 // One more than the number of a segment in use, or 0.
 pub fn number_after(s: Summary) -> usize
-    ensures { λ r. ⌜ (r ≡ numberAfter (bare s)) × (r ≤ 4294967296) ⌝ }
+    ensures { (result ≡ numberAfter (bare s)) × (result ≤ 4294967296) }
 {
     let state = s.state;
     let number = s.number;
@@ -82,7 +76,7 @@ pub fn number_after(s: Summary) -> usize
 }
 
 pub fn is_in_use(s: Summary) -> bool
-    ensures { λ r. ⌜ r ≡ isInUse (bare s) ⌝ }
+    ensures { result ≡ isInUse (bare s) }
 {
     let state = s.state;
     match state {
@@ -94,7 +88,7 @@ pub fn is_in_use(s: Summary) -> bool
 }
 
 pub fn is_invalid(s: Summary) -> bool
-    ensures { λ r. ⌜ r ≡ isInvalid (bare s) ⌝ }
+    ensures { result ≡ isInvalid (bare s) }
 {
     let state = s.state;
     match state {
@@ -106,7 +100,7 @@ pub fn is_invalid(s: Summary) -> bool
 }
 
 pub fn is_owing(s: Summary) -> bool
-    ensures { λ r. ⌜ r ≡ isOwing (bare s) ⌝ }
+    ensures { result ≡ isOwing (bare s) }
 {
     let state = s.state;
     match state {
@@ -119,7 +113,7 @@ pub fn is_owing(s: Summary) -> bool
 
 // Whether a segment is not in use, or of this version: 1 if `former`, else 2.
 pub fn of_version(s: Summary, former: bool) -> bool
-    ensures { λ r. ⌜ r ≡ ofVersion (cond former 1 2) (bare s) ⌝ }
+    ensures { result ≡ ofVersion (cond former 1 2) (bare s) }
 {
     if is_in_use(s) {
         if former {
@@ -132,7 +126,7 @@ pub fn of_version(s: Summary, former: bool) -> bool
 
 // Whether a summary shows a blank segment.
 pub fn shows_blank(s: Summary) -> bool
-    ensures { λ r. ⌜ r ≡ not (isInUse (bare s) || isInvalid (bare s)) ⌝ }
+    ensures { result ≡ not (isInUse (bare s) || isInvalid (bare s)) }
 {
     if is_in_use(s) {
         return false;
@@ -142,7 +136,7 @@ pub fn shows_blank(s: Summary) -> bool
 
 // Whether a segment needs no mending: it is in use and not owing, or blank.
 pub fn is_settled(s: Summary) -> bool
-    ensures { λ r. ⌜ r ≡ (not (isOwing (bare s)) && not (isInvalid (bare s))) ⌝ }
+    ensures { result ≡ (not (isOwing (bare s)) && not (isInvalid (bare s))) }
 {
     if is_owing(s) {
         return false;
@@ -151,13 +145,13 @@ pub fn is_settled(s: Summary) -> bool
 }
 
 pub fn larger(a: usize, b: usize) -> usize
-    ensures { λ r. ⌜ r ≡ max a b ⌝ }
+    ensures { result ≡ max a b }
 {
     if a < b { b } else { a }
 }
 
 pub fn less(a: usize, b: usize) -> usize
-    ensures { λ r. ⌜ r ≡ a - b ⌝ }
+    ensures { result ≡ a - b }
 {
     if a < b { 0 } else { a - b }
 }

@@ -1,26 +1,26 @@
 -- The rows of the segments in use gathered one by one, and added up one by one; what is examined from the two.
-use Prim.Native.Nat.{ℕ, suc, _+_, _-_, _*_, _%_, _≤_, _<_}
-use mathlib.Core.Path.{_≡_, refl, sym, ap, _∙_}
+use Prim.Native.Nat.{ℕ, suc, ◌+◌, ◌-◌, ◌*◌, ◌%◌, ◌≤◌, ◌<◌}
+use mathlib.Core.Path.{◌≡◌, refl, sym, ap, ◌∙◌}
 use mathlib.Core.Bool.{Bool, true, false, cond}
-use mathlib.Core.List.{List, _∷_, _++_, map, append-nil}
+use mathlib.Core.List.{List, ◌∷◌, ◌++◌, map, append-nil}
 use native.Mathlib.Omega.{arith}
-use native.Mathlib.Nat.{sub-zero, suc-mul, mul-le-mul-right}
+use native.Mathlib.Nat.{sub-zero, suc-mul, mul-le-mul_right}
 use native.Mathlib.Numerals.{add-one}
-use lib.ListN.{length, getD, take, drop, set}
-use lib.Seq.{drop-cons, take-suc-set, append-snoc}
-use Rattle·model.specs.Chip.{Image, mostSlots}
-use Rattle·judge.specs.declared.Row.{Row}
-use Rattle·judge.specs.declared.Summary.{Summary}
-use Rattle·judge.specs.declared.Sum.{Sum}
-use Rattle·judge.specs.declared.Frame.{Frame}
-use Rattle·judge.specs.Rows.{Pass, pass, seeAll, noRow, kindsAt}
-use Rattle·judge.specs.Parts.{slotsOffset, rowsOn}
-use Rattle·judge.specs.Tally.{noneMet, tallies, summaryOf, summariesOf, rowOf, rows-kept, writtenIn, mostWritten, addRow, addRows, noSum, badSum, Few}
-use Rattle·sums·specs.specs.Exams.{sumOn, examOf}
+use lib.ListN.{length, get_or, take, drop, set}
+use lib.Seq.{drop-cons, take-suc-set, append_snoc}
+use Rattle.model.specs.Chip.{Image, mostSlots}
+use Rattle.judge.specs.declared.Row.{Row}
+use Rattle.judge.specs.declared.Summary.{Summary}
+use Rattle.judge.specs.declared.Sum.{Sum}
+use Rattle.judge.specs.declared.Frame.{Frame}
+use Rattle.judge.specs.Rows.{Pass, pass, seeAll, noRow, kindsAt}
+use Rattle.judge.specs.Parts.{slotsOffset, rowsOn}
+use Rattle.judge.specs.Tally.{noneMet, tallies, summaryOf, summariesOf, row_of, rows-kept, writtenIn, mostWritten, addRow, addRows, noSum, badSum, Few}
+use Rattle.sums.specs.Exams.{sumOn, examOf}
 
 -- the slots of a segment lie inside the image
 pub slots-inside : (N B i : ℕ) → i < N → slotsOffset B i + B * 256 ≤ N * (B + 1) * 256
-slots-inside N B i h = omega (arith, suc-mul i (B + 1), mul-le-mul-right (B + 1) h)
+slots-inside N B i h = omega (arith, suc-mul i (B + 1), mul-le-mul_right (B + 1) h)
 
 module _ (m : Image) (N B u n : ℕ) where
   -- what is gathered and what is left, once i rows are
@@ -38,8 +38,8 @@ module _ (m : Image) (N B u n : ℕ) where
       let d : u - i ≡ suc (u - (i + 1)) = omega arith in
       let f : n + (i + 1) ≡ suc (n + i) = omega arith in
       rw (f, add-one i, take-suc-set ring i v k, ← (add-one i), q)
-      (append-snoc (take i ring) (summaryOf (n + i) r) (summariesOf (suc (n + i)) (tallies (rowsOn m N B (u - (i + 1)) (suc (n + i))) z))
-      ∙ (ap (λ (p : Pass). take i ring ++ (summaryOf (n + i) (p .row) ∷ summariesOf (suc (n + i)) (tallies (rowsOn m N B (u - (i + 1)) (suc (n + i))) (p .seen)))) e ∙ (rw d at w)))
+      (append_snoc (take i ring) (summaryOf (n + i) r) (summariesOf (suc (n + i)) (tallies (rowsOn m N B (u - (i + 1)) (suc (n + i))) z))
+      ∙ (ap (λ (p : Pass). take i ring ++ (summaryOf (n + i) p.row ∷ summariesOf (suc (n + i)) (tallies (rowsOn m N B (u - (i + 1)) (suc (n + i))) p.seen))) e ∙ (rw d at w)))
 
   pub gather-end : (i : ℕ) (ring : List Summary) (s : List ℕ) (whole : List Summary) → i ≡ u → gathered i ring s ≡ whole → take u ring ≡ whole
   unfolding gathered summariesOf tallies rowsOn
@@ -51,51 +51,51 @@ module _ (m : Image) (N B u n : ℕ) where
 
 module _ (ring : List Summary) (u : ℕ) where
   unfoldable pub rowsLeft : ℕ → List Row
-  rowsLeft i = map rowOf (take (u - i) (drop i ring))
+  rowsLeft i = map row_of (take (u - i) (drop i ring))
 
-  pub rows-start : addRows (rowsLeft 0) noSum ≡ addRows (map rowOf (take u ring)) noSum
+  pub rows_start : addRows (rowsLeft 0) noSum ≡ addRows (map row_of (take u ring)) noSum
   unfolding rowsLeft
-  rows-start = rw (sub-zero u)
+  rows_start = rw (sub-zero u)
 
-  pub rows-turn : (i : ℕ) (d : Summary) (f g : Sum) → i < u → i < length ring → g ≡ addRow f (rowOf (getD ring i d)) → addRows (rowsLeft (i + 1)) g ≡ addRows (rowsLeft i) f
+  pub rows-turn : (i : ℕ) (d : Summary) (f g : Sum) → i < u → i < length ring → g ≡ addRow f (row_of (get_or ring i d)) → addRows (rowsLeft (i + 1)) g ≡ addRows (rowsLeft i) f
   unfolding rowsLeft addRows
   rows-turn i d f g h k e = let q : u - i ≡ suc (u - (i + 1)) = omega arith in rw (q, drop-cons ring i d k, add-one i, e)
 
-  pub rows-end : (i : ℕ) (f : Sum) → u ≤ i → addRows (rowsLeft i) f ≡ f
+  pub rows_end : (i : ℕ) (f : Sum) → u ≤ i → addRows (rowsLeft i) f ≡ f
   unfolding rowsLeft addRows
-  rows-end i f h = let q : u - i ≡ 0 = omega arith in rw q
+  rows_end i f h = let q : u - i ≡ 0 = omega arith in rw q
 
 pub few-start : Few noSum 0
 unfolding noSum
 few-start = record { live = omega arith; written = omega arith; compactions = omega arith }
 
-pub few-more : (f : Sum) (r : Row) (i : ℕ) → r .live ≤ mostSlots → writtenIn r ≤ mostWritten → Few f i → Few (addRow f r) (i + 1)
-few-more f r i h m k = go (f .dead) refl
+pub few-more : (f : Sum) (r : Row) (i : ℕ) → r.live ≤ mostSlots → writtenIn r ≤ mostWritten → Few f i → Few (addRow f r) (i + 1)
+few-more f r i h m k = go f.dead refl
   where
-    live : addRow f r .live ≡ f .live + r .live
+    live : (addRow f r).live ≡ f.live + r.live
     live = unfold addRow in refl
 
-    last : addRow f r .written ≡ writtenIn r
+    last : (addRow f r).written ≡ writtenIn r
     last = unfold addRow in refl
 
-    one : addRow f r .compactions ≡ cond (f .dead) (f .compactions) (f .compactions + 1)
+    one : (addRow f r).compactions ≡ cond f.dead f.compactions (f.compactions + 1)
     one = unfold addRow in refl
 
-    go : (t : Bool) → f .dead ≡ t → Few (addRow f r) (i + 1)
-    go true e = let q : addRow f r .compactions ≡ f .compactions = one ∙ rw e in record { live = omega (arith, live, k .live); written = omega (arith, last); compactions = omega (arith, k .compactions) }
-    go false e = let q : addRow f r .compactions ≡ f .compactions + 1 = one ∙ rw e in record { live = omega (arith, live, k .live); written = omega (arith, last); compactions = omega (arith, k .compactions) }
+    go : (t : Bool) → f.dead ≡ t → Few (addRow f r) (i + 1)
+    go true e = let q : (addRow f r).compactions ≡ f.compactions = one ∙ rw e in record { live = omega (arith, live, k.live); written = omega (arith, last); compactions = omega (arith, k.compactions) }
+    go false e = let q : (addRow f r).compactions ≡ f.compactions + 1 = one ∙ rw e in record { live = omega (arith, live, k.live); written = omega (arith, last); compactions = omega (arith, k.compactions) }
 
 -- ---- examined
 
 module _ (N B : ℕ) (s : Image) (f : Frame) where
-  pub exam-looked : (ring : List Summary) (r : Sum) → f .fine ≡ true → take (f .used) ring ≡ summariesOf (f .first) (tallies (rowsOn s N B (f .used) (f .first)) noneMet)
-      → r ≡ addRows (map rowOf (take (f .used) ring)) noSum → record { first = f .first; used = f .used; sum = r } ≡ examOf N B s f
+  pub exam-looked : (ring : List Summary) (r : Sum) → f.fine ≡ true → take f.used ring ≡ summariesOf f.first (tallies (rowsOn s N B f.used f.first) noneMet)
+      → r ≡ addRows (map row_of (take f.used ring)) noSum → record { first = f.first; used = f.used; sum = r } ≡ examOf N B s f
   unfolding examOf sumOn
   exam-looked ring r t q a =
-      let z : r ≡ addRows (tallies (rowsOn s N B (f .used) (f .first)) noneMet) noSum =
-      a ∙ ap (λ (y : List Row). addRows y noSum) (ap (map rowOf) q ∙ rows-kept (f .first) (tallies (rowsOn s N B (f .used) (f .first)) noneMet)) in
+      let z : r ≡ addRows (tallies (rowsOn s N B f.used f.first) noneMet) noSum =
+      a ∙ ap (λ (y : List Row). addRows y noSum) (ap (map row_of) q ∙ rows-kept f.first (tallies (rowsOn s N B f.used f.first) noneMet)) in
       rw (t, z)
 
-  pub exam-skipped : f .fine ≡ false → record { first = f .first; used = f .used; sum = badSum } ≡ examOf N B s f
+  pub exam-skipped : f.fine ≡ false → record { first = f.first; used = f.used; sum = badSum } ≡ examOf N B s f
   unfolding examOf
   exam-skipped t = rw t

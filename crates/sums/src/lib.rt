@@ -1,26 +1,18 @@
 // The rows of the segments in use, oldest first, gathered and added up.
-use judge::Ending;
-use judge::Frame;
-use judge::Row;
-use judge::SegmentState;
-use judge::Sum;
-use judge::Summary;
-use model::BlockNumber;
-use model::MOST_SEGMENTS;
-use model::SegmentNumber;
-ghost use mathlib.Core.Path.{_≡_};
-ghost use mathlib.Core.List.{map};
-ghost use Prim.Native.Nat.{_+_, _≤_};
-ghost use lib.ListN.{length, take};
-ghost use Rattle·model.specs.Chip.{mostSegments, mostSlots};
-ghost use Rattle·flash.specs.Pages.{Sized};
-ghost use Rattle·judge.specs.Endings.{inOrder, endsTorn, endsTwin};
-ghost use Rattle·judge.specs.Verdict.{orderly, tornWithin, twinWithin};
-ghost use Rattle·sums·specs.specs.Exams.{examOf, Bounded};
-ghost use Rattle·judge.specs.Parts.{rowsOn};
-ghost use Rattle·judge.specs.Tally.{noneMet, tallies, summaryOf, summariesOf, rowOf, writtenIn, mostWritten, addRow, addRows, noSum, Few, Ranged};
+ghost use Rattle.std.specs.Prelude.{◌≡◌, map, ◌+◌, ◌≤◌, length, take};
+ghost use Rattle.model.specs.Chip.{mostSegments, mostSlots};
+ghost use Rattle.flash.specs.Pages.{Sized};
+ghost use Rattle.judge.specs.Endings.{inOrder, endsTorn, endsTwin};
+ghost use Rattle.judge.specs.Verdict.{orderly, tornWithin, twinWithin};
+ghost use Rattle.sums.specs.Exams.{examOf, Bounded};
+ghost use Rattle.judge.specs.Parts.{rowsOn};
+ghost use Rattle.judge.specs.Tally.{noneMet, tallies, summaryOf, summariesOf, row_of, writtenIn, mostWritten, addRow, addRows, noSum, Few, Ranged};
+
+use judge::{Ending, Frame, Row, SegmentState, Sum, Summary};
+use model::{BlockNumber, MOST_SEGMENTS, SegmentNumber};
 
 // The segments in use that a table of summaries shows, and their rows added up.
+#[derive(Drop)]
 pub struct Exam {
     pub first: usize,
     pub used: usize,
@@ -28,14 +20,14 @@ pub struct Exam {
 }
 
 fn wide(x: u8) -> usize
-    ensures { λ r. ⌜ r ≡ x ⌝ }
+    ensures { result ≡ x }
 {
     x as usize
 }
 
 // The summary of a segment in use whose slots were looked at.
 fn in_use(number: SegmentNumber, row: Row) -> Summary
-    ensures { λ r. ⌜ r ≡ summaryOf (number .0) row ⌝ }
+    ensures { result ≡ summaryOf number.0 row }
 {
     let state = SegmentState::InUse;
     Summary {
@@ -54,8 +46,8 @@ fn gather(
     first: usize,
     used: usize,
 ) -> [Summary; MOST_SEGMENTS]
-    requires { ⌜ Sized segments slots (length (now image)) × (first + used ≤ 4294967296) × (used ≤ mostSegments) ⌝ }
-    ensures { λ r. ⌜ take used r ≡ summariesOf first (tallies (rowsOn (now (image .entry)) segments slots used first) noneMet) ⌝ }
+    requires { Sized segments slots (length image.now) × (first + used ≤ 4294967296) × (used ≤ mostSegments) }
+    ensures { take used result ≡ summariesOf first (tallies (rowsOn image.now segments slots used first) noneMet) }
 {
     let mut seen = [0u64; 1024];
     let none = in_use(SegmentNumber(0), rows::no_row());
@@ -73,7 +65,7 @@ fn gather(
 
 // The slots of a row that are not empty, if it does not end against the rules.
 fn written(row: Row) -> usize
-    ensures { λ r. ⌜ (r ≡ writtenIn row) × (r ≤ mostWritten) ⌝ }
+    ensures { (result ≡ writtenIn row) × (result ≤ mostWritten) }
 {
     let ending = row.ending;
     let counted = wide(row.live) + wide(row.dead) + wide(row.cut);
@@ -85,8 +77,8 @@ fn written(row: Row) -> usize
 }
 
 fn add_row(sum: Sum, row: Row) -> Sum
-    requires { ⌜ Few sum 1000 ⌝ }
-    ensures { λ r. ⌜ (r ≡ addRow sum row) × (row .live ≤ mostSlots) × (writtenIn row ≤ mostWritten) ⌝ }
+    requires { Few sum 1000 }
+    ensures { (result ≡ addRow sum row) × (row.live ≤ mostSlots) × (writtenIn row ≤ mostWritten) }
 {
     let block = row.block;
     let before = sum.ending;
@@ -115,8 +107,8 @@ fn add_row(sum: Sum, row: Row) -> Sum
 }
 
 fn sum_rows(ring: [Summary; MOST_SEGMENTS], used: usize) -> Sum
-    requires { ⌜ used ≤ mostSegments ⌝ }
-    ensures { λ r. ⌜ (r ≡ addRows (map rowOf (take used ring)) noSum) × (r .written ≤ mostWritten) ⌝ }
+    requires { used ≤ mostSegments }
+    ensures { (result ≡ addRows (map row_of (take used ring)) noSum) × (result.written ≤ mostWritten) }
 {
     let mut sum = Sum {
         live: 0,
@@ -137,7 +129,7 @@ fn sum_rows(ring: [Summary; MOST_SEGMENTS], used: usize) -> Sum
 }
 
 fn in_order(ending: Ending) -> bool
-    ensures { λ r. ⌜ r ≡ inOrder ending ⌝ }
+    ensures { result ≡ inOrder ending }
 {
     match ending {
         Ending::Full => true,
@@ -149,7 +141,7 @@ fn in_order(ending: Ending) -> bool
 }
 
 fn ends_torn(ending: Ending) -> bool
-    ensures { λ r. ⌜ r ≡ endsTorn ending ⌝ }
+    ensures { result ≡ endsTorn ending }
 {
     match ending {
         Ending::Full => false,
@@ -161,7 +153,7 @@ fn ends_torn(ending: Ending) -> bool
 }
 
 fn ends_twin(ending: Ending) -> bool
-    ensures { λ r. ⌜ r ≡ endsTwin ending ⌝ }
+    ensures { result ≡ endsTwin ending }
 {
     match ending {
         Ending::Full => false,
@@ -174,7 +166,7 @@ fn ends_twin(ending: Ending) -> bool
 
 // Whether conditions 5 to 8 hold.
 pub fn orderly(sum: Sum, most: usize) -> bool
-    ensures { λ r. ⌜ r ≡ orderly most sum ⌝ }
+    ensures { result ≡ orderly most sum }
 {
     let ending = sum.ending;
     if in_order(ending) {
@@ -186,7 +178,7 @@ pub fn orderly(sum: Sum, most: usize) -> bool
 
 // Whether they hold but for a torn slot, written last.
 pub fn torn_within(sum: Sum, most: usize) -> bool
-    ensures { λ r. ⌜ r ≡ tornWithin most sum ⌝ }
+    ensures { result ≡ tornWithin most sum }
 {
     let ending = sum.ending;
     if ends_torn(ending) {
@@ -198,7 +190,7 @@ pub fn torn_within(sum: Sum, most: usize) -> bool
 
 // Whether they hold but for a live slot, written last, whose block was met before.
 pub fn twin_within(sum: Sum, most: usize) -> bool
-    ensures { λ r. ⌜ r ≡ twinWithin most sum ⌝ }
+    ensures { result ≡ twinWithin most sum }
 {
     let ending = sum.ending;
     if ends_twin(ending) {
@@ -210,8 +202,8 @@ pub fn twin_within(sum: Sum, most: usize) -> bool
 
 // The segments in use examined, where their frame is fine.
 pub fn examine(image: &[u8], segments: usize, slots: usize, frame: Frame) -> Exam
-    requires { ⌜ Sized segments slots (length (now image)) × Ranged frame ⌝ }
-    ensures { λ r. ⌜ (r ≡ examOf segments slots (now (image .entry)) frame) × Bounded r ⌝ }
+    requires { Sized segments slots (length image.now) × Ranged frame }
+    ensures { (result ≡ examOf segments slots image.now frame) × Bounded result }
 {
     let first = frame.first;
     let used = frame.used;

@@ -1,40 +1,35 @@
 -- Three histories on the smallest store, computed, and the theorem of each: each bound is reached. In the last a recovery loses the power inside its erase.
-use Prim.Native.Nat.{ℕ, _+_, _*_, _/_, _≤_, _<_}
-use mathlib.Core.Path.{_≡_, refl, sym, _∙_, subst}
-use mathlib.Core.Logic.{inl, inr}
-use mathlib.Core.Bool.{Bool, true, false, cond}
-use mathlib.Core.List.{List, [], _∷_, _++_}
-use native.Mathlib.Omega.{arith}
-use lib.ListN.{replicate, take, drop}
-use lib.Bits.{and-self, and-mask}
-use native.Mathlib.Nat.{mod-eq-of-lt}
-use Rattle·model.specs.Lists.{same, count}
-use Rattle·model.specs.Chip.{Image, Bytes, rightSize, pagesOf, Step, program, erase, clear, withSegment, segmentBytes, step, run, Raised}
-use Rattle·model.specs.State.{segmentsOf, view}
-use Rattle·model.specs.Steps.{formatSteps}
-use Rattle·model.specs.Table.{blocks}
-use Rattle·model.specs.Answers.{Request, put, recover, workOf, outcomeOf}
-use Rattle·model.specs.Histories.{lost, bytesRead, replyOf, shown}
-use Rattle·model.specs.Sequences.{Call, play, erasesIn}
-use Rattle·model.specs.Begun.{isMark, marksIn, CutBegun, Turn, Turns, cutSeen, cutsIn, byRecovery, recoveryErases, begunOn}
-use Rattle·model.specs.Bench.{call, whole}
-use Rattle·model.specs.Laws.Bench.{evaluate}
-use Rattle·model.specs.Laws.Begun.{turnsOf, AllProper, played, append-begun}
-use Rattle·model.specs.Laws.Bytes.{bytes-take, bytes-drop, run-bytes}
-use Rattle·bridge.specs.Format.{format-bytes}
-use Rattle·crash.specs.Machine.{OnTable}
-use Rattle·tallied·specs.specs.Law.{tallyIn, topIn, BitLeft, Unformatted}
-use Rattle·tallied·specs.specs.Theorem.{tally-tells}
+use Rattle.std.specs.Prelude.{ℕ, ◌+◌, ◌*◌, ◌/◌, ◌≤◌, ◌<◌, ◌≡◌, refl, Bool, true, false, cond, List, [], ◌∷◌, ◌++◌, replicate, take, drop}
+use Rattle.std.proofs.Common.{sym, ◌∙◌, subst, inl, inr, arith, mod-eq_of_lt}
+use Rattle.std.specs.Int.Bits.{and_self}
+use Rattle.std.proofs.lemmas.Nat.{and_mask}
+use Rattle.model.specs.Lists.{same, count}
+use Rattle.model.specs.Chip.{Image, Bytes, rightSize, pagesOf, Step, program, erase, clear, withSegment, segmentBytes, step, run, Raised}
+use Rattle.model.specs.State.{segmentsOf, view}
+use Rattle.model.specs.Steps.{formatSteps}
+use Rattle.model.specs.Table.{blocks}
+use Rattle.model.specs.Answers.{Request, put, recover, workOf, outcomeOf}
+use Rattle.model.specs.Histories.{lost, bytesRead, replyOf, shown}
+use Rattle.model.specs.Sequences.{Call, play, erasesIn}
+use Rattle.model.specs.Begun.{isMark, marksIn, CutBegun, Turn, Turns, cutSeen, cutsIn, byRecovery, recoveryErases, begunOn}
+use Rattle.model.specs.Bench.{call, whole}
+use Rattle.model.specs.Laws.Bench.{evaluate}
+use Rattle.model.specs.Laws.Begun.{turnsOf, AllProper, played, append-begun}
+use Rattle.model.specs.Laws.Bytes.{bytes_take, bytes_drop, run-bytes}
+use Rattle.bridge.specs.Format.{format-bytes}
+use Rattle.crash.specs.Machine.{OnTable}
+use Rattle.tallied.specs.Law.{tallyIn, topIn, BitLeft, Unformatted}
+use Rattle.tallied.specs.Theorem.{tally-tells}
 
 -- none of the calls is a format
 abbrev pub AllOnTable : List Call → Type 0
 AllOnTable [] = Unit {0}
-AllOnTable (x ∷ xs) = OnTable (x .request) × AllOnTable xs
+AllOnTable (x ∷ xs) = OnTable x.request × AllOnTable xs
 
 pub unformatted : (N B : ℕ) (xs : List Call) (s : Image) → AllOnTable xs → Unformatted (turnsOf N B s xs)
 unfolding turnsOf
 unformatted N B [] s p = tt
-unformatted N B (x ∷ xs) s p = (p .0, unformatted N B xs (outcomeOf N B s (x .allowance) (x .request) .image) (p .1))
+unformatted N B (x ∷ xs) s p = (p.0, unformatted N B xs (outcomeOf N B s x.allowance x.request).image p.1)
 
 -- N = 2, B = 2: block 7 put twice, which fills the first segment, and once more
 abbrev zeros : Image
@@ -116,12 +111,12 @@ counted-counts = (refl, refl, refl)
 raised-same : (s : List ℕ) → Bytes s → Raised s s
 unfolding clear
 raised-same [] y = refl
-raised-same (a ∷ s) y = ((and-self a, and-mask a 8 ∙ mod-eq-of-lt (y .0)), raised-same s (y .1))
+raised-same (a ∷ s) y = ((and_self a, and_mask a 8 ∙ mod-eq_of_lt y.0), raised-same s y.1)
 
 pub played-bytes : (N B : ℕ) (xs : List Call) (s : Image) → Bytes s → Bytes (play N B s xs)
 unfolding play outcomeOf
 played-bytes N B [] s y = y
-played-bytes N B (x ∷ xs) s y = played-bytes N B xs (outcomeOf N B s (x .allowance) (x .request) .image) (run-bytes B (take (x .allowance) (workOf N B s (x .request) .steps)) s y)
+played-bytes N B (x ∷ xs) s y = played-bytes N B xs (outcomeOf N B s x.allowance x.request).image (run-bytes B (take x.allowance (workOf N B s x.request).steps) s y)
 
 -- an erase is no owing mark, however much of it was done
 erase-unmarked : (B i : ℕ) (t : Bool) → cond t (marksIn B (erase i ∷ [])) 0 ≡ 0
@@ -137,7 +132,7 @@ pub in-erase : (B : ℕ) (xs : List Step) (i : ℕ) (rest : List Step) (s : Imag
 unfolding erasesIn segmentBytes
 in-erase B xs i rest s y =
     let t = run B xs s in
-    let bytes : Bytes (segmentBytes B i t) = bytes-take ((B + 1) * 256) (drop (i * (B + 1) * 256) t) (bytes-drop (i * (B + 1) * 256) t (run-bytes B xs s y)) in
+    let bytes : Bytes (segmentBytes B i t) = bytes_take ((B + 1) * 256) (drop (i * (B + 1) * 256) t) (bytes_drop (i * (B + 1) * 256) t (run-bytes B xs s y)) in
     append-begun B xs (erase i ∷ rest) s (fallen B xs i s) (i ∷ []) 0
     (inr (inl ((segmentBytes B i t, raised-same (segmentBytes B i t) bytes, refl), refl, sym (erase-unmarked B i (same (fallen B xs i s) (step B (erase i) t))))))
 
@@ -147,7 +142,7 @@ turns-append N B (e ∷ es) fs s m u (p, (n, d, kept, rest)) k = (p, (n, d, kept
 
 pub unformatted-append : (es fs : List Turn) → Unformatted es → Unformatted fs → Unformatted (es ++ fs)
 unformatted-append [] fs h k = k
-unformatted-append (e ∷ es) fs h k = (h .0, unformatted-append es fs (h .1) k)
+unformatted-append (e ∷ es) fs h k = (h.0, unformatted-append es fs h.1 k)
 
 -- cut at the owing mark; the recovery then counts, begins to erase segment 0, and is lost
 abbrev owing : List Call
@@ -165,14 +160,14 @@ lostTurns = seen owing ++ lostOne
 owing-proper : AllProper owing
 owing-proper = (one, (two, (three, tt)))
 
-recovery-steps : workOf 2 2 (left owing) recover .steps ≡ program 800 127 ∷ erase 0 ∷ drop 2 (workOf 2 2 (left owing) recover .steps)
+recovery-steps : (workOf 2 2 (left owing) recover).steps ≡ program 800 127 ∷ erase 0 ∷ drop 2 (workOf 2 2 (left owing) recover).steps
 unfolding evaluateTurns
 recovery-steps = refl
 
 -- the bit is no mark
-lost-does : CutBegun 2 (workOf 2 2 (left owing) recover .steps) (left owing) lostImage (0 ∷ []) 0
+lost-does : CutBegun 2 (workOf 2 2 (left owing) recover).steps (left owing) lostImage (0 ∷ []) 0
 unfolding erasesIn marksIn isMark count
-lost-does = rw recovery-steps (in-erase 2 (program 800 127 ∷ []) 0 (drop 2 (workOf 2 2 (left owing) recover .steps)) (left owing) (played-bytes 2 2 owing formatted (format-bytes 2 2 zeros right-size)))
+lost-does = rw recovery-steps (in-erase 2 (program 800 127 ∷ []) 0 (drop 2 (workOf 2 2 (left owing) recover).steps) (left owing) (played-bytes 2 2 owing formatted (format-bytes 2 2 zeros right-size)))
 
 pub lost-turns : Turns 2 2 formatted lostTurns lostImage
 lost-turns = turns-append 2 2 (seen owing) lostOne formatted (left owing) lostImage (played 2 2 owing formatted owing-proper)

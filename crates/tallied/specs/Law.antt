@@ -1,18 +1,15 @@
 -- Request #104, "recovery wears the chip too", as one statement over histories of any length, with cuts anywhere.
-use Prim.Native.Nat.{ℕ, _+_, _-_, _/_, _≤_, _<_}
-use mathlib.Core.Path.{_≡_}
-use mathlib.Core.Bool.{true, false}
-use mathlib.Core.List.{List, [], _∷_}
-use Rattle·model.specs.Chip.{Image, rightSize, run}
-use Rattle·model.specs.Header.{tallyOf, noBitLeft}
-use Rattle·model.specs.State.{segmentsOf, nextNumber, topVersion}
-use Rattle·model.specs.Steps.{formatSteps}
-use Rattle·model.specs.Begun.{Turn, Turns, cutsIn, recoveryErases, begunOn}
-use Rattle·crash.specs.Machine.{OnTable}
+use Rattle.std.specs.Prelude.{ℕ, ◌+◌, ◌-◌, ◌/◌, ◌≤◌, ◌<◌, ◌≡◌, true, false, List, [], ◌∷◌}
+use Rattle.model.specs.Chip.{Image, rightSize, run}
+use Rattle.model.specs.Header.{tally_of, noBitLeft}
+use Rattle.model.specs.State.{segmentsOf, nextNumber, topVersion}
+use Rattle.model.specs.Steps.{formatSteps}
+use Rattle.model.specs.Begun.{Turn, Turns, cutsIn, recoveryErases, begunOn}
+use Rattle.crash.specs.Machine.{OnTable}
 
 -- the tally of an image, and its top's number
 abbrev pub tallyIn : ℕ → ℕ → Image → ℕ
-tallyIn N B s = tallyOf (topVersion N (segmentsOf N B s))
+tallyIn N B s = tally_of (topVersion N (segmentsOf N B s))
 
 abbrev pub topIn : ℕ → ℕ → Image → ℕ
 topIn N B s = nextNumber (segmentsOf N B s) - 1
@@ -24,7 +21,7 @@ BitLeft N B s = noBitLeft (topVersion N (segmentsOf N B s)) ≡ false
 -- without another format
 abbrev pub Unformatted : List Turn → Type 0
 Unformatted [] = Unit {0}
-Unformatted (e ∷ es) = OnTable (e .request) × Unformatted es
+Unformatted (e ∷ es) = OnTable e.request × Unformatted es
 
 -- From a finished format on, while the top has a bit left: the tally is at least the number of erases that recoveries have begun,
 -- and at most the number of cuts; and the erases begun on any one segment are at most the top's number div N, plus the tally, plus 1.

@@ -1,17 +1,17 @@
 // The tally of recoveries' erases in a header of version 2: read, and one more counted under a budget.
+ghost use Rattle.std.specs.Prelude.{◌≡◌, ◌<◌, ◌≤◌, length};
+ghost use Rattle.model.specs.Header.{clearedIn, clearedBits, headerVersion};
+ghost use Rattle.model.specs.Steps.{onPage, header_at, highestBit, countErase};
+ghost use Rattle.flash.specs.Ran.{Programmed};
+ghost use Rattle.flash.specs.Pages.{Sized};
+ghost use Rattle.tally.specs.Seen.{zerosBefore, tallySeen, headerIn};
+
 use header::BITS;
 use model::SegmentNumber;
-ghost use mathlib.Core.Path.{_≡_};
-ghost use Prim.Native.Nat.{_<_, _≤_};
-ghost use lib.ListN.{length};
-ghost use Rattle·model.specs.Header.{clearedIn, clearedBits, headerVersion};
-ghost use Rattle·model.specs.Steps.{onPage, headerAt, highestBit, countErase};
-ghost use Rattle·flash.specs.Ran.{Programmed};
-ghost use Rattle·flash.specs.Pages.{Sized};
-ghost use Rattle·tally·specs.specs.Seen.{zerosBefore, tallySeen, headerIn};
 
 // What a header tells of recoveries' erases: whether it has version 1, which counts none; how many there are, those
 // carried on from earlier headers and those since; and whether it has no bit left to count one more.
+#[derive(Drop)]
 pub struct Tally {
     pub former: bool,
     pub count: usize,
@@ -22,15 +22,15 @@ pub struct Tally {
 const BIT_BYTES: usize = 224;
 
 fn cleared_in(x: u8) -> usize
-    ensures { λ r. ⌜ (r ≡ clearedIn x) × (r ≤ 8) ⌝ }
+    ensures { (result ≡ clearedIn x) × (result ≤ 8) }
 {
     8 - u8::count_ones(x) as usize
 }
 
 // How many bits are cleared. Mostly none is, which the blank test finds out sooner.
 fn cleared_bits(bytes: &[u8]) -> usize
-    requires { ⌜ length (now bytes) ≤ 256 ⌝ }
-    ensures { λ r. ⌜ (r ≡ clearedBits (now (bytes .entry))) × (r ≤ 2048) ⌝ }
+    requires { length bytes.now ≤ 256 }
+    ensures { (result ≡ clearedBits bytes.now) × (result ≤ 2048) }
 {
     let test = blank::blank_test(bytes);
     if test.blank {
@@ -47,7 +47,7 @@ fn cleared_bits(bytes: &[u8]) -> usize
 
 // How many bytes come before the first that is not 0.
 fn zeros_before(bytes: &[u8]) -> usize
-    ensures { λ r. ⌜ r ≡ zerosBefore (now (bytes .entry)) ⌝ }
+    ensures { result ≡ zerosBefore bytes.now }
 {
     let mut i: usize = 0;
     while i < bytes.len() {
@@ -61,8 +61,8 @@ fn zeros_before(bytes: &[u8]) -> usize
 
 // The highest set bit of a byte.
 fn highest_bit(x: u8) -> u8
-    requires { ⌜ 0 < x ⌝ }
-    ensures { λ r. ⌜ (r ≡ highestBit x) × (r ≤ x) ⌝ }
+    requires { 0 < x }
+    ensures { (result ≡ highestBit x) × (result ≤ x) }
 {
     128 >> u8::leading_zeros(x)
 }
@@ -71,8 +71,8 @@ fn highest_bit(x: u8) -> u8
 
 // What it tells of recoveries' erases.
 fn see_tally(page: &[u8]) -> Tally
-    requires { ⌜ length (now page) ≡ 256 ⌝ }
-    ensures { λ r. ⌜ (r ≡ tallySeen (headerVersion (now (page .entry)))) × (r .count < 4294969344) ⌝ }
+    requires { length page.now ≡ 256 }
+    ensures { (result ≡ tallySeen (headerVersion page.now)) × (result.count < 4294969344) }
 {
     if header::is_former(page) {
         return Tally {
@@ -92,8 +92,8 @@ fn see_tally(page: &[u8]) -> Tally
 
 // Counts one more: the highest set bit of the first byte that has one is cleared.
 fn count_in(page: &mut [u8], budget: u64) -> u64
-    requires { ⌜ length (now page) ≡ 256 ⌝ }
-    ensures { λ r. ⌜ Programmed (countErase (headerVersion (now (page .entry)))) budget r (now (page .entry)) (now (page .exit)) ⌝ }
+    requires { length page.old ≡ 256 }
+    ensures { Programmed (countErase (headerVersion page.old)) budget result page.old page.new }
 {
     let former = header::is_former(&page[..]);
     if former {
@@ -112,8 +112,8 @@ fn count_in(page: &mut [u8], budget: u64) -> u64
 
 // What the header of the segment that a number belongs to tells of recoveries' erases.
 pub fn tally_in(image: &[u8], segments: usize, slots: usize, number: SegmentNumber) -> Tally
-    requires { ⌜ Sized segments slots (length (now image)) ⌝ }
-    ensures { λ r. ⌜ (r ≡ tallySeen (headerVersion (headerIn segments slots (number .0) (now (image .entry))))) × (r .count < 4294969344) ⌝ }
+    requires { Sized segments slots (length image.now) }
+    ensures { (result ≡ tallySeen (headerVersion (headerIn segments slots number.0 image.now))) × (result.count < 4294969344) }
 {
     let at = header::header_place(segments, slots, number);
     let end = at + 256;
@@ -129,8 +129,8 @@ pub fn count_erase(
     number: SegmentNumber,
     budget: u64,
 ) -> u64
-    requires { ⌜ Sized segments slots (length (now image)) ⌝ }
-    ensures { λ r. ⌜ Programmed (onPage (headerAt segments slots (number .0)) (countErase (headerVersion (headerIn segments slots (number .0) (now (image .entry)))))) budget r (now (image .entry)) (now (image .exit)) ⌝ }
+    requires { Sized segments slots (length image.old) }
+    ensures { Programmed (onPage (header_at segments slots number.0) (countErase (headerVersion (headerIn segments slots number.0 image.old)))) budget result image.old image.new }
 {
     let at = header::header_place(segments, slots, number);
     let end = at + 256;

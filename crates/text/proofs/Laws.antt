@@ -1,25 +1,25 @@
 -- Pieces of a text in a buffer: one byte more, two pieces in a row; and the digits of a number.
-use Prim.Native.Nat.{ℕ, zero, suc, _+_, _-_, _*_, _/_, _%_, _^_, _<_, _≤_}
-use mathlib.Core.Path.{_≡_, refl, sym, ap, _∙_, subst}
+use Prim.Native.Nat.{ℕ, zero, suc, ◌+◌, ◌-◌, ◌*◌, ◌/◌, ◌%◌, ◌^◌, ◌<◌, ◌≤◌}
+use mathlib.Core.Path.{◌≡◌, refl, sym, ap, ◌∙◌, subst}
 use mathlib.Core.Bool.{Bool, true, false, cond}
-use mathlib.Core.List.{List, [], _∷_, _++_, append-assoc}
+use mathlib.Core.List.{List, [], ◌∷◌, ◌++◌, append_assoc}
 use native.Mathlib.Omega.{arith}
-use native.Mathlib.Nat.{mod-eq-of-lt, pow-suc}
-use lib.ListN.{length, take, drop, set, getD, length-append, take-append-drop}
-use lib.Seq.{paste-suc, drop-drop, length-take-le, take-at, drop-at, drop-cons}
+use native.Mathlib.Nat.{mod-eq_of_lt, pow-suc}
+use lib.ListN.{length, take, drop, set, get_or, length-append, take-append-drop}
+use lib.Seq.{paste-suc, drop-drop, length-take-le, take_at, drop_at, drop-cons}
 use lib.Dec.{leb, ltb}
 use borrow.Author.Tests.{lt-ltb, le-ltb, le-leb, lt-leb, ltb-true, ltb-false}
-use Rattle·text·specs.specs.Decimal.{decimalOf}
-use Rattle·model.specs.Answers.{codeOf}
-use Rattle·text·specs.specs.declared.Printed.{Printed}
-use Rattle·text·specs.specs.Buffer.{Print, printed, printIn, shortOf, doneOf, over, Wrote}
+use Rattle.text.specs.Decimal.{decimalOf}
+use Rattle.model.specs.Answers.{code_of}
+use Rattle.text.specs.declared.Printed.{Printed}
+use Rattle.text.specs.Buffer.{Print, printed, printIn, short_of, done_of, over, Wrote}
 
 -- ---- pieces
 
 -- nothing written over
-pub over-none : (d : List ℕ) (at : ℕ) → over d at [] ≡ d
+pub over_none : (d : List ℕ) (at : ℕ) → over d at [] ≡ d
 unfolding over
-over-none d at = let e : at + 0 ≡ at = omega arith in rw e (take-append-drop at d)
+over_none d at = let e : at + 0 ≡ at = omega arith in rw e (take-append-drop at d)
 
 -- two pieces in a row are one
 pub over-over : (d : List ℕ) (at : ℕ) (x y : List ℕ) → at + length x + length y ≤ length d → over (over d at x) (at + length x) y ≡ over d at (x ++ y)
@@ -29,49 +29,49 @@ over-over d at x y h =
     let p : length (take at d ++ x) ≡ at + length x = length-append (take at d) x ∙ ap (λ (k : ℕ). k + length x) a in
     let z = drop (at + length x) d in
     let n : at + length x + length y ≡ at + length (x ++ y) = let q = length-append x y in omega arith in
-    let e : take at d ++ (x ++ z) ≡ (take at d ++ x) ++ z = sym (append-assoc (take at d) x z) in
-    let t : take (at + length x) (take at d ++ (x ++ z)) ≡ take at d ++ x = ap (take (at + length x)) e ∙ take-at (take at d ++ x) z (at + length x) p in
-    let f : drop (at + length x) (take at d ++ (x ++ z)) ≡ z = ap (drop (at + length x)) e ∙ drop-at (take at d ++ x) z (at + length x) p in
+    let e : take at d ++ (x ++ z) ≡ (take at d ++ x) ++ z = sym (append_assoc (take at d) x z) in
+    let t : take (at + length x) (take at d ++ (x ++ z)) ≡ take at d ++ x = ap (take (at + length x)) e ∙ take_at (take at d ++ x) z (at + length x) p in
+    let f : drop (at + length x) (take at d ++ (x ++ z)) ≡ z = ap (drop (at + length x)) e ∙ drop_at (take at d ++ x) z (at + length x) p in
     let g : drop (at + length x + length y) (take at d ++ (x ++ z)) ≡ drop (at + length (x ++ y)) d =
     sym (drop-drop (length y) (at + length x) (take at d ++ (x ++ z))) ∙ (ap (drop (length y)) f
     ∙ (drop-drop (length y) (at + length x) d ∙ ap (λ (k : ℕ). drop k d) n)) in
-    rw (t, g, append-assoc (take at d) x (y ++ drop (at + length (x ++ y)) d), append-assoc x y (drop (at + length (x ++ y)) d))
+    rw (t, g, append_assoc (take at d) x (y ++ drop (at + length (x ++ y)) d), append_assoc x y (drop (at + length (x ++ y)) d))
 
-infixr 5 _then_
-pub _then_ : {x y start mid buffer : List ℕ} {at middle end : ℕ} → Wrote x start at mid middle → Wrote y mid middle buffer end → Wrote (x ++ y) start at buffer end
-_then_ {x} {y} {start} {mid} {buffer} {at} {middle} {end} a b =
+infixr 5 ◌then◌
+pub ◌then◌ : {x y start mid buffer : List ℕ} {at middle end : ℕ} → Wrote x start at mid middle → Wrote y mid middle buffer end → Wrote (x ++ y) start at buffer end
+◌then◌ {x} {y} {start} {mid} {buffer} {at} {middle} {end} a b =
     let n = length-append x y in
     record {
-      ends = omega (arith, a .ends, b .ends);
-      kept = b .kept ∙ a .kept;
+      ends = omega (arith, a.ends, b.ends);
+      kept = b.kept ∙ a.kept;
       there = λ h.
-          let e = a .ends in let f = b .ends in let k = a .kept in
-          let m : mid ≡ over start at x = a .there (omega arith) in
-          let q : buffer ≡ over mid middle y = b .there (omega arith) in
+          let e = a.ends in let f = b.ends in let k = a.kept in
+          let m : mid ≡ over start at x = a.there (omega arith) in
+          let q : buffer ≡ over mid middle y = b.there (omega arith) in
           q ∙ (rw (m, e) (over-over start at x y (omega arith)));
     }
 
-pub wrote-none : (start : List ℕ) (at : ℕ) → Wrote [] start at start at
-wrote-none start at = record { ends = omega arith; kept = refl; there = λ h. sym (over-none start at) }
+pub wrote_none : (start : List ℕ) (at : ℕ) → Wrote [] start at start at
+wrote_none start at = record { ends = omega arith; kept = refl; there = λ h. sym (over_none start at) }
 
 -- the same bytes by another name
-pub wrote-as : {x start buffer : List ℕ} {at end : ℕ} (y : List ℕ) → x ≡ y → Wrote x start at buffer end → Wrote y start at buffer end
-wrote-as {x} {start} {buffer} {at} {end} y e w = subst (λ (z : List ℕ). Wrote z start at buffer end) e w
+pub wrote_as : {x start buffer : List ℕ} {at end : ℕ} (y : List ℕ) → x ≡ y → Wrote x start at buffer end → Wrote y start at buffer end
+wrote_as {x} {start} {buffer} {at} {end} y e w = subst (λ (z : List ℕ). Wrote z start at buffer end) e w
 
 -- ---- bytes copied, one by one
 
 pub copy-none : (d : List ℕ) (at : ℕ) (s : List ℕ) → d ≡ over d at (take 0 s)
-copy-none d at s = sym (over-none d at)
+copy-none d at s = sym (over_none d at)
 
-pub copy-more : (d : List ℕ) (at : ℕ) (s : List ℕ) (j : ℕ) → j < length s → at + length s ≤ length d → set (over d at (take j s)) (at + j) (getD s j 0) ≡ over d at (take (j + 1) s)
+pub copy_more : (d : List ℕ) (at : ℕ) (s : List ℕ) (j : ℕ) → j < length s → at + length s ≤ length d → set (over d at (take j s)) (at + j) (get_or s j 0) ≡ over d at (take (j + 1) s)
 unfolding over
-copy-more d at s j h k =
+copy_more d at s j h k =
     let a : length (take j s) ≡ j = length-take-le j s (omega arith) in
     let b : length (take (suc j) s) ≡ suc j = length-take-le (suc j) s (omega arith) in
     let e : j + 1 ≡ suc j = omega arith in
-    let p : take at d ++ take j s ++ drop (at + j) d ≡ take at d ++ (take j s ++ drop (at + j) d) = append-assoc (take at d) (take j s) (drop (at + j) d) in
-    let q : take at d ++ take (suc j) s ++ drop (at + suc j) d ≡ take at d ++ (take (suc j) s ++ drop (at + suc j) d) = append-assoc (take at d) (take (suc j) s) (drop (at + suc j) d) in
-    rw (e, a, b) (ap (λ (z : List ℕ). set z (at + j) (getD s j 0)) (sym p) ∙ (paste-suc d at s j 0 (omega arith) h ∙ q))
+    let p : take at d ++ take j s ++ drop (at + j) d ≡ take at d ++ (take j s ++ drop (at + j) d) = append_assoc (take at d) (take j s) (drop (at + j) d) in
+    let q : take at d ++ take (suc j) s ++ drop (at + suc j) d ≡ take at d ++ (take (suc j) s ++ drop (at + suc j) d) = append_assoc (take at d) (take (suc j) s) (drop (at + suc j) d) in
+    rw (e, a, b) (ap (λ (z : List ℕ). set z (at + j) (get_or s j 0)) (sym p) ∙ (paste-suc d at s j 0 (omega arith) h ∙ q))
 
 -- ---- digits
 
@@ -95,9 +95,9 @@ digit-more t at d n h =
     let a : take at (set t (at + d) v) ≡ take at t = lib.Seq.take-set-le at t (at + d) v (omega arith) in
     let b : drop (at + d) (set t (at + d) v) ≡ v ∷ drop (suc (at + d)) t =
     drop-cons (set t (at + d) v) (at + d) 0 (lib.Seq.lt-length-set t (at + d) v (omega arith))
-    ∙ (rw (lib.Seq.getD-set-same t (at + d) v 0 (omega arith), lib.Seq.drop-set-lt (suc (at + d)) t (at + d) v (omega arith))) in
+    ∙ (rw (lib.Seq.get_or-set_same t (at + d) v 0 (omega arith), lib.Seq.drop-set-lt (suc (at + d)) t (at + d) v (omega arith))) in
     let e : at + suc d ≡ suc (at + d) = omega arith in
-    rw (l, m, a, b, e) (ap (λ (z : List ℕ). take at t ++ z) (sym (append-assoc x (v ∷ []) (drop (suc (at + d)) t))))
+    rw (l, m, a, b, e) (ap (λ (z : List ℕ). take at t ++ z) (sym (append_assoc x (v ∷ []) (drop (suc (at + d)) t))))
 
 -- the digits of a number are its last ones, as many as there are
 pub decimal-digits : (k n : ℕ) → decimalOf k n ≡ lastDigits (length (decimalOf k n)) n
@@ -107,7 +107,7 @@ decimal-digits (suc k) n = go (ltb n 10) refl (decimal-digits k (n / 10))
   where
     go : (t : Bool) → ltb n 10 ≡ t → decimalOf k (n / 10) ≡ lastDigits (length (decimalOf k (n / 10))) (n / 10) → cond t ((48 + n) ∷ []) (decimalOf k (n / 10) ++ ((48 + n % 10) ∷ []))
         ≡ lastDigits (length (cond t ((48 + n) ∷ []) (decimalOf k (n / 10) ++ ((48 + n % 10) ∷ [])))) n
-    go true e ih = let m : n % 10 ≡ n = mod-eq-of-lt (ltb-true n 10 e) in rw m
+    go true e ih = let m : n % 10 ≡ n = mod-eq_of_lt (ltb-true n 10 e) in rw m
     go false e ih =
         let d = decimalOf k (n / 10) in
         let l : length (d ++ ((48 + n % 10) ∷ [])) ≡ suc (length d) = length-append d ((48 + n % 10) ∷ []) ∙ omega arith in
@@ -148,26 +148,26 @@ count-some (suc k) n = go (ltb n 10)
 
 -- ---- printed
 
-pub print-short : (t buffer : List ℕ) (r : Printed) → length buffer < length t → r ≡ shortOf → printed r buffer ≡ printIn t buffer
-unfolding printed printIn shortOf codeOf
+pub print-short : (t buffer : List ℕ) (r : Printed) → length buffer < length t → r ≡ short_of → printed r buffer ≡ printIn t buffer
+unfolding printed printIn short_of code_of
 print-short t buffer r h e = rw (e, lt-leb (length t) (length buffer) h)
 
-pub print-done : (t start buffer : List ℕ) (r : Printed) (end : ℕ) → length t ≤ length start → Wrote t start 0 buffer end → r ≡ doneOf end → printed r buffer ≡ printIn t start
-unfolding printed printIn doneOf codeOf over
+pub print-done : (t start buffer : List ℕ) (r : Printed) (end : ℕ) → length t ≤ length start → Wrote t start 0 buffer end → r ≡ done_of end → printed r buffer ≡ printIn t start
+unfolding printed printIn done_of code_of over
 print-done t start buffer r end h w e =
-    let n : end ≡ length t = omega (arith, w .ends) in
+    let n : end ≡ length t = omega (arith, w.ends) in
     let z : 0 + length t ≡ length t = omega arith in
-    let b : buffer ≡ t ++ drop (0 + length t) start = w .there (omega (arith, w .ends)) in
+    let b : buffer ≡ t ++ drop (0 + length t) start = w.there (omega (arith, w.ends)) in
     rw (e, le-leb (length t) (length start) h, b, n, z)
 
 -- what was printed ends within the buffer
-pub print-within : (t start buffer : List ℕ) (p : Printed) → printed p buffer ≡ printIn t start → p .length ≤ length buffer
+pub print-within : (t start buffer : List ℕ) (p : Printed) → printed p buffer ≡ printIn t start → p.length ≤ length buffer
 unfolding printed printIn
 print-within t start buffer p e = go (leb (length t) (length start)) e
   where
-    go : (fits : Bool) → printed p buffer ≡ cond fits (record { code = 0; length = length t; buffer = t ++ drop (length t) start }) (record { code = 14; length = 0; buffer = start }) → p .length ≤ length buffer
+    go : (fits : Bool) → printed p buffer ≡ cond fits (record { code = 0; length = length t; buffer = t ++ drop (length t) start }) (record { code = 14; length = 0; buffer = start }) → p.length ≤ length buffer
     go true f =
-        let n : p .length ≡ length t = ap (λ (r : Print). r .length) f in
-        let b : buffer ≡ t ++ drop (length t) start = ap (λ (r : Print). r .buffer) f in
+        let n : p.length ≡ length t = ap (λ (r : Print). r.length) f in
+        let b : buffer ≡ t ++ drop (length t) start = ap (λ (r : Print). r.buffer) f in
         rw b (omega (arith, length-append t (drop (length t) start)))
-    go false f = let n : p .length ≡ 0 = ap (λ (r : Print). r .length) f in omega arith
+    go false f = let n : p.length ≡ 0 = ap (λ (r : Print). r.length) f in omega arith

@@ -1,16 +1,11 @@
 -- Text in a lent buffer: the rule of request #101, and how a text gets there piece by piece.
-use Prim.Native.Nat.{ℕ, _+_, _≤_}
-use mathlib.Core.Path.{_≡_}
-use mathlib.Core.Bool.{cond}
-use mathlib.Core.List.{List, _++_}
+use Rattle.std.specs.Prelude.{ℕ, ◌+◌, ◌≤◌, ◌≡◌, cond, List, ◌++◌, length, take, drop, leb}
 use Prim.Native.String.{String}
-use lib.ListN.{length, take, drop}
-use lib.Dec.{leb}
-use Rattle·model.specs.Answers.{codeOf}
-use Rattle·text·specs.specs.Text.{text}
-use Rattle·text·specs.specs.Decimal.{decimal}
-use Rattle·model.specs.declared.Answer.the-variants.{Done, ShortBuffer}
-use Rattle·text·specs.specs.declared.Printed.{Printed}
+use Rattle.model.specs.Answers.{code_of}
+use Rattle.text.specs.Text.{text}
+use Rattle.text.specs.Decimal.{decimal}
+use Rattle.model.specs.declared.Answer.TheVariants.{Done, ShortBuffer}
+use Rattle.text.specs.declared.Printed.{Printed}
 
 -- ---- the rule
 
@@ -22,7 +17,7 @@ pub record Print : Type 0 where
 
 -- what the code's answer says, with the buffer that it left
 unfoldable pub printed : Printed → List ℕ → Print
-printed p buffer = record { code = codeOf (p .answer); length = p .length; buffer = buffer }
+printed p buffer = record { code = code_of p.answer; length = p.length; buffer = buffer }
 
 -- a buffer too short for the text stays untouched: 14, and 0. Otherwise 0 and the text's length, the rest untouched
 unfoldable pub printIn : List ℕ → List ℕ → Print
@@ -32,11 +27,11 @@ printIn t buffer =
     (record { code = 14; length = 0; buffer = buffer })
 
 -- a buffer too short, and a text of so many bytes
-unfoldable pub shortOf : Printed
-shortOf = record { answer = ShortBuffer; length = 0 }
+unfoldable pub short_of : Printed
+short_of = record { answer = ShortBuffer; length = 0 }
 
-unfoldable pub doneOf : ℕ → Printed
-doneOf n = record { answer = Done; length = n }
+unfoldable pub done_of : ℕ → Printed
+done_of n = record { answer = Done; length = n }
 
 -- ---- pieces
 

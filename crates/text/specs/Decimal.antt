@@ -1,8 +1,5 @@
 -- Numbers written in decimal.
-use Prim.Native.Nat.{ℕ, zero, suc, _+_, _/_, _%_}
-use mathlib.Core.Bool.{cond}
-use mathlib.Core.List.{List, [], _∷_, _++_}
-use lib.Dec.{ltb}
+use Rattle.std.specs.Prelude.{ℕ, zero, suc, ◌+◌, ◌/◌, ◌%◌, cond, List, [], ◌∷◌, ◌++◌, ltb}
 
 -- the decimal digits of a number, of which there are at most so many and one
 unfoldable pub decimalOf : ℕ → ℕ → List ℕ

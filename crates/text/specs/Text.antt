@@ -1,10 +1,9 @@
 -- Texts as bytes.
-use Prim.Native.Nat.{ℕ}
+use Rattle.std.specs.Prelude.{ℕ, List, [], ◌∷◌}
 use Prim.Native.Char.{code}
-use Prim.Native.String.{String, [] as no-text, _∷_ as _then_}
-use mathlib.Core.List.{List, [], _∷_}
+use Prim.Native.String.{String, [] as no_text, ◌∷◌ as ◌then◌}
 
 -- the bytes of a text of ASCII characters
 unfoldable pub text : String → List ℕ
-text no-text = []
+text no_text = []
 text (c then s) = code c ∷ text s

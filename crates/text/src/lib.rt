@@ -1,14 +1,13 @@
 // Text put together in a lent buffer. A piece is written if the buffer holds it, and in any case the offset behind it comes
 // back: the same calls on an empty buffer tell how long a text is before its first byte is written.
+ghost use Rattle.std.specs.Prelude.{◌≡◌, ◌++◌, ◌+◌, ◌≤◌, length};
+ghost use Rattle.text.specs.Decimal.{decimal};
+ghost use Rattle.text.specs.Buffer.{printed, printIn, short_of, done_of, Wrote, mostText};
+
 use model::Answer;
-ghost use mathlib.Core.Path.{_≡_};
-ghost use mathlib.Core.List.{_++_};
-ghost use Prim.Native.Nat.{_+_, _≤_};
-ghost use lib.ListN.{length};
-ghost use Rattle·text·specs.specs.Decimal.{decimal};
-ghost use Rattle·text·specs.specs.Buffer.{printed, printIn, shortOf, doneOf, Wrote, mostText};
 
 // What printing gives: its answer, and the text's length.
+#[derive(Drop)]
 pub struct Printed {
     pub answer: Answer,
     pub length: usize,
@@ -16,8 +15,8 @@ pub struct Printed {
 
 // Bytes added to a text that ends at an offset.
 pub fn add(text: &mut [u8], at: usize, bytes: &[u8]) -> usize
-    requires { ⌜ (at ≤ mostText) × (length (now bytes) ≤ mostText) ⌝ }
-    ensures { λ r. ⌜ Wrote (now (bytes .entry)) (now (text .entry)) at (now (text .exit)) r ⌝ }
+    requires { (at ≤ mostText) × (length bytes.now ≤ mostText) }
+    ensures { Wrote bytes.now text.old at text.new result }
 {
     let end = at + bytes.len();
     if end > text.len() {
@@ -33,7 +32,7 @@ pub fn add(text: &mut [u8], at: usize, bytes: &[u8]) -> usize
 
 // How many digits a number has.
 pub fn digit_count(n: u32) -> usize
-    ensures { λ r. ⌜ (r ≡ length (decimal n)) × (r ≤ 10) ⌝ }
+    ensures { (result ≡ length (decimal n)) × (result ≤ 10) }
 {
     let mut count = 1;
     let mut rest = n;
@@ -46,8 +45,8 @@ pub fn digit_count(n: u32) -> usize
 
 // A number added to a text, in decimal.
 pub fn add_number(text: &mut [u8], at: usize, n: u32) -> usize
-    requires { ⌜ at ≤ mostText ⌝ }
-    ensures { λ r. ⌜ Wrote (decimal n) (now (text .entry)) at (now (text .exit)) r × (r ≤ at + 10) ⌝ }
+    requires { at ≤ mostText }
+    ensures { Wrote (decimal n) text.old at text.new result × (result ≤ at + 10) }
 {
     let end = at + digit_count(n);
     if end > text.len() {
@@ -65,8 +64,8 @@ pub fn add_number(text: &mut [u8], at: usize, n: u32) -> usize
 
 // A number behind its label.
 pub fn add_labelled(text: &mut [u8], at: usize, label: &[u8], n: u32) -> usize
-    requires { ⌜ (at + length (now label) ≤ mostText) ⌝ }
-    ensures { λ r. ⌜ Wrote (now (label .entry) ++ decimal n) (now (text .entry)) at (now (text .exit)) r × (r ≤ at + length (now (label .entry)) + 10) ⌝ }
+    requires { at + length label.now ≤ mostText }
+    ensures { Wrote (label.now ++ decimal n) text.old at text.new result × (result ≤ at + length label.now + 10) }
 {
     let behind = add(text, at, label);
     add_number(text, behind, n)
@@ -74,8 +73,8 @@ pub fn add_labelled(text: &mut [u8], at: usize, label: &[u8], n: u32) -> usize
 
 // A text that is at hand, printed by itself.
 pub fn print(text: &mut [u8], bytes: &[u8]) -> Printed
-    requires { ⌜ length (now bytes) ≤ mostText ⌝ }
-    ensures { λ r. ⌜ (printed r (now (text .exit)) ≡ printIn (now (bytes .entry)) (now (text .entry))) × (r .length ≤ length (now (bytes .entry))) ⌝ }
+    requires { length bytes.now ≤ mostText }
+    ensures { (printed result text.new ≡ printIn bytes.now text.old) × (result.length ≤ length bytes.now) }
 {
     if bytes.len() > text.len() {
         return short();
@@ -85,7 +84,7 @@ pub fn print(text: &mut [u8], bytes: &[u8]) -> Printed
 
 // The buffer is too short.
 pub fn short() -> Printed
-    ensures { λ r. ⌜ r ≡ shortOf ⌝ }
+    ensures { result ≡ short_of }
 {
     Printed {
         answer: Answer::ShortBuffer,
@@ -95,7 +94,7 @@ pub fn short() -> Printed
 
 // A text of so many bytes is there.
 pub fn done(length: usize) -> Printed
-    ensures { λ r. ⌜ r ≡ doneOf length ⌝ }
+    ensures { result ≡ done_of length }
 {
     Printed {
         answer: Answer::Done,

@@ -1,14 +1,12 @@
 -- The dead slots of rows: how a slot changed and a row added behind change their count.
-use Prim.Native.Nat.{ℕ, zero, suc, _+_, _≤_}
-use mathlib.Core.Path.{_≡_, refl}
-use mathlib.Core.List.{List, [], _∷_, _++_, flatten}
-use native.Mathlib.Omega.{arith}
-use lib.ListN.{length, getD, drop, set}
-use Rattle·model.specs.Lists.{count}
-use Rattle·model.specs.Slot.{Slot, isDead, Entry}
-use Rattle·model.specs.Steps.{copied}
-use Rattle·model.specs.Laws.Lists.{one, count-append, count-set-most, none-count}
-use Rattle·bridge.specs.Views.Slots.{copied-none-dead}
+use Rattle.std.specs.Prelude.{ℕ, zero, suc, ◌+◌, ◌≤◌, ◌≡◌, refl, length, get_or, drop, set}
+use mathlib.Core.List.{List, [], ◌∷◌, ◌++◌, flatten}
+use Rattle.std.proofs.Common.{arith}
+use Rattle.model.specs.Lists.{count}
+use Rattle.model.specs.Slot.{Slot, isDead, Entry}
+use Rattle.model.specs.Steps.{copied}
+use Rattle.model.specs.Laws.Lists.{one, count-append, count-set-most, none-count}
+use Rattle.bridge.specs.Views.Slots.{copied-none-dead}
 
 abbrev pub deads : List (List Slot) → ℕ
 deads r = count isDead (flatten r)
@@ -39,10 +37,10 @@ drop-behind zero (t ∷ r) s h = omega (arith, drop-behind zero r s h, deads-con
 drop-behind (suc p) (t ∷ r) s h = drop-behind p r s h
 
 -- one slot changed: they are more by one at most, and only if it becomes dead
-pub set-slot : (p : ℕ) (r : List (List Slot)) (i j : ℕ) (k : Slot) → deads (drop p (set r i (set (getD r i []) j k))) ≤ one (isDead k) + deads (drop p r)
+pub set-slot : (p : ℕ) (r : List (List Slot)) (i j : ℕ) (k : Slot) → deads (drop p (set r i (set (get_or r i []) j k))) ≤ one (isDead k) + deads (drop p r)
 set-slot p [] i j k = omega arith
 set-slot zero (s ∷ r) zero j k = omega (arith, count-set-most isDead s j k, deads-cons (set s j k) r, deads-cons s r)
-set-slot zero (s ∷ r) (suc i) j k = omega (arith, set-slot zero r i j k, deads-cons s (set r i (set (getD r i []) j k)), deads-cons s r)
+set-slot zero (s ∷ r) (suc i) j k = omega (arith, set-slot zero r i j k, deads-cons s (set r i (set (get_or r i []) j k)), deads-cons s r)
 set-slot (suc p) (s ∷ r) zero j k = omega arith
 set-slot (suc p) (s ∷ r) (suc i) j k = set-slot p r i j k
 

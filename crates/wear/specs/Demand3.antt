@@ -1,12 +1,9 @@
 -- Demand 3, as one statement over sequences of any length.
-use Prim.Native.Nat.{ℕ, suc, _-_, _*_, _/_, _≤_, _<_}
-use mathlib.Core.Path.{_≡_}
-use mathlib.Core.List.{List, [], _∷_}
-use lib.ListN.{length, take}
-use Rattle·model.specs.Chip.{Image}
-use Rattle·model.specs.Table.{Table, blocks}
-use Rattle·model.specs.Answers.{format, outcomeOf}
-use Rattle·model.specs.Sequences.{Call, Observed, observed, Uncut, Ledger, start, ledger, eraseCount, erasesOf}
+use Rattle.std.specs.Prelude.{ℕ, suc, ◌-◌, ◌*◌, ◌/◌, ◌≤◌, ◌<◌, ◌≡◌, List, [], ◌∷◌, length, take}
+use Rattle.model.specs.Chip.{Image}
+use Rattle.model.specs.Table.{Table, blocks}
+use Rattle.model.specs.Answers.{format, outcomeOf}
+use Rattle.model.specs.Sequences.{Call, Observed, observed, Uncut, Ledger, start, ledger, eraseCount, erasesOf}
 
 -- the count of a sequence that starts with a table stored: L counts its blocks. With none it is that of a sequence from a format
 unfoldable pub stocked : Table → Ledger
@@ -14,12 +11,12 @@ stocked t = record { stored = blocks t; largest = length t; replaced = 0; erased
 
 -- the whole part of E/(N-1), times ((N-1)B - L), is at most R
 abbrev pub ErasesPaid : ℕ → ℕ → Ledger → Type 0
-ErasesPaid N B t = eraseCount t / (N - 1) * ((N - 1) * B - t .largest) ≤ t .replaced
+ErasesPaid N B t = eraseCount t / (N - 1) * ((N - 1) * B - t.largest) ≤ t.replaced
 
 -- no request erases more than N-1 segments
 abbrev pub FewErases : ℕ → List Observed → Type 0
 FewErases N [] = Unit {0}
-FewErases N (o ∷ os) = (length (o .erases) ≤ N - 1) × FewErases N os
+FewErases N (o ∷ os) = (length o.erases ≤ N - 1) × FewErases N os
 
 -- the erases of any two segments differ by at most one
 abbrev pub Balanced : ℕ → Ledger → Type 0
@@ -32,6 +29,6 @@ Bounded N B t os = ErasesPaid N B (ledger os t) × FewErases N os × ((k : ℕ) 
 -- Every sequence of put, delete, read and recover, with any arguments, none of which answers 9, from the image that a format that answered 0 left.
 abbrev pub Demand3 : Type 0
 Demand3 = (N B : ℕ) (s : Image) (allowance : ℕ) (xs : List Call)
-    → outcomeOf N B s allowance format .code ≡ 0
-    → Uncut (observed N B (outcomeOf N B s allowance format .image) xs)
-    → Bounded N B start (observed N B (outcomeOf N B s allowance format .image) xs)
+    → (outcomeOf N B s allowance format).code ≡ 0
+    → Uncut (observed N B (outcomeOf N B s allowance format).image xs)
+    → Bounded N B start (observed N B (outcomeOf N B s allowance format).image xs)

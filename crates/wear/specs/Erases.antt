@@ -1,24 +1,17 @@
 -- Which steps erase: one for each tidying, of the smallest number in use. And the erases in strict turn differ by at most one.
-use Prim.Native.Nat.{ℕ, zero, suc, _+_, _*_, _%_, _≤_, _<_}
-use mathlib.Core.Path.{_≡_, refl, sym, ap, _∙_}
-use mathlib.Core.Logic.{⊎-elim}
-use mathlib.Core.Bool.{Bool, true, false, cond}
-use mathlib.Core.List.{List, [], _∷_, _++_}
-use native.Mathlib.Omega.{arith}
-use native.Mathlib.Nat.{mul-add-mod-self-right, mod-eq-of-lt, eq-or-lt-of-le}
-use native.Mathlib.Decide.{decLt}
-use lib.ListN.{length, length-append}
-use lib.Dec.{eqb}
-use borrow.Author.Tests.{eq-eqb, ne-eqb}
-use Rattle·model.specs.Lists.{count}
-use Rattle·model.specs.Chip.{Page, Step, program, erase}
-use Rattle·model.specs.Header.{Version}
-use Rattle·model.specs.Slot.{Entry}
-use Rattle·model.specs.State.{View, entriesIn, holds, Place, placeOf}
-use Rattle·model.specs.Steps.{programs, programPart, onPage, writeSlot, markDead, markPlace, openSegment, copyEntries, copyOut, settle, compact, markOld, writeAtTop, deleteSteps}
-use Rattle·model.specs.Sequences.{erasesIn}
-use Rattle·model.specs.Laws.Lists.{count-append}
-pub use Rattle·model.specs.Laws.Begun.{erases-append}
+use Rattle.std.specs.Prelude.{ℕ, zero, suc, ◌+◌, ◌*◌, ◌%◌, ◌≤◌, ◌<◌, ◌≡◌, refl, Bool, true, false, cond, List, [], ◌∷◌, ◌++◌, length, eqb}
+use Rattle.std.proofs.Common.{sym, ap, ◌∙◌, ⊎_elim, arith, mod-eq_of_lt, eq-or-lt_of_le, length-append, eq-eqb, ne_eqb}
+use Rattle.std.proofs.Math.Nat.{mul-add-mod_self_right}
+use Rattle.std.proofs.Math.Decide.{dec_lt}
+use Rattle.model.specs.Lists.{count}
+use Rattle.model.specs.Chip.{Page, Step, program, erase}
+use Rattle.model.specs.Header.{Version}
+use Rattle.model.specs.Slot.{Entry}
+use Rattle.model.specs.State.{View, entriesIn, holds, Place, place_of}
+use Rattle.model.specs.Steps.{programs, programPart, onPage, writeSlot, markDead, markPlace, openSegment, copyEntries, copyOut, settle, compact, markOld, writeAtTop, deleteSteps}
+use Rattle.model.specs.Sequences.{erasesIn}
+use Rattle.model.specs.Laws.Lists.{count-append}
+pub use Rattle.model.specs.Laws.Begun.{erases-append}
 
 -- ---- the erase steps of lists
 
@@ -33,30 +26,30 @@ unfolding erasesIn programs
 programs-none at [] = refl
 programs-none at (v ∷ vs) = programs-none (suc at) vs
 
-part-none : (p : Page) (at k : ℕ) → erasesIn (programPart p at k) ≡ []
+part_none : (p : Page) (at k : ℕ) → erasesIn (programPart p at k) ≡ []
 unfolding programPart
-part-none p at k = simp programs-none
+part_none p at k = simp programs-none
 
 write-none : (b : ℕ) (c : List ℕ) → erasesIn (writeSlot b c) ≡ []
 unfolding erasesIn writeSlot
-write-none b c = simp (erases-append, part-none)
+write-none b c = simp (erases-append, part_none)
 
 pub mark-none : (N B : ℕ) (p : Place) → erasesIn (markPlace N B p) ≡ []
 unfolding erasesIn markPlace markDead
 mark-none N B p = simp on-page
 
-pub open-none : (N B : ℕ) (ver : Version) (n : ℕ) → erasesIn (openSegment N B ver n) ≡ []
+pub open_none : (N B : ℕ) (ver : Version) (n : ℕ) → erasesIn (openSegment N B ver n) ≡ []
 unfolding erasesIn openSegment
-open-none N B ver n = simp (on-page, erases-append, part-none)
+open_none N B ver n = simp (on-page, erases-append, part_none)
 
 copy-none : (N B n j : ℕ) (es : List Entry) → erasesIn (copyEntries N B n j es) ≡ []
 unfolding erasesIn copyEntries
 copy-none N B n j [] = refl
 copy-none N B n j (e ∷ es) = simp (erases-append, on-page, write-none, copy-none N B n (suc j) es)
 
-pub copied-none : (N B : ℕ) (ver : Version) (o n : ℕ) (es : List Entry) → erasesIn (copyOut N B ver o n es) ≡ []
+pub copied_none : (N B : ℕ) (ver : Version) (o n : ℕ) (es : List Entry) → erasesIn (copyOut N B ver o n es) ≡ []
 unfolding erasesIn copyOut
-copied-none N B ver o n es = simp (erases-append, on-page, part-none, copy-none)
+copied_none N B ver o n es = simp (erases-append, on-page, part_none, copy-none)
 
 pub settle-none : (N B n : ℕ) → erasesIn (settle N B n) ≡ []
 unfolding erasesIn settle
@@ -65,20 +58,20 @@ settle-none N B n = simp on-page
 -- a tidying erases the old segment, and nothing else
 pub compact-one : (N B : ℕ) (ver : Version) (o n : ℕ) (es : List Entry) → erasesIn (compact N B ver o n es) ≡ o % N ∷ []
 unfolding erasesIn compact copyOut settle
-compact-one N B ver o n es = simp (erases-append, on-page, part-none, copy-none)
+compact-one N B ver o n es = simp (erases-append, on-page, part_none, copy-none)
 
 -- writing the slot and marking the old one erase nothing
-pub written-none : (N B b : ℕ) (c : List ℕ) (v : View) → erasesIn (writeAtTop N B b c v ++ markOld N B b v) ≡ []
+pub written_none : (N B b : ℕ) (c : List ℕ) (v : View) → erasesIn (writeAtTop N B b c v ++ markOld N B b v) ≡ []
 unfolding erasesIn writeAtTop markOld
-written-none N B b c v = go (holds b (entriesIn v))
+written_none N B b c v = go (holds b (entriesIn v))
   where
-    go : (t : Bool) → erasesIn (writeAtTop N B b c v ++ cond t (markPlace N B (placeOf b v)) []) ≡ []
+    go : (t : Bool) → erasesIn (writeAtTop N B b c v ++ cond t (markPlace N B (place_of b v)) []) ≡ []
     go true = simp (erases-append, on-page, write-none, mark-none)
     go false = simp (erases-append, on-page, write-none)
 
 pub delete-none : (N B b : ℕ) (v : View) → erasesIn (deleteSteps N B b v) ≡ []
 unfolding deleteSteps
-delete-none N B b v = mark-none N B (placeOf b v)
+delete-none N B b v = mark-none N B (place_of b v)
 
 -- ---- erases in strict turn: the numbers below e, each with its index
 
@@ -95,13 +88,13 @@ turns-length N (suc e) = omega (arith, length-append (turns N e) (e % N ∷ []),
 abbrev pub erasesAt : ℕ → ℕ → ℕ → ℕ
 erasesAt N e i = count (λ x. eqb i x) (turns N e)
 
-one-more : (N e i w : ℕ) → e % N ≡ w → i ≡ w → erasesAt N (suc e) i ≡ suc (erasesAt N e i)
+one_more : (N e i w : ℕ) → e % N ≡ w → i ≡ w → erasesAt N (suc e) i ≡ suc (erasesAt N e i)
 unfolding turns count
-one-more N e i w m h = rw (count-append (λ x. eqb i x) (turns N e) (e % N ∷ []), eq-eqb i (e % N) (h ∙ sym m)) (omega arith)
+one_more N e i w m h = rw (count-append (λ x. eqb i x) (turns N e) (e % N ∷ []), eq-eqb i (e % N) (h ∙ sym m)) (omega arith)
 
-no-more : (N e i w : ℕ) → e % N ≡ w → (i ≡ w → ⊥) → erasesAt N (suc e) i ≡ erasesAt N e i
+no_more : (N e i w : ℕ) → e % N ≡ w → (i ≡ w → ⊥) → erasesAt N (suc e) i ≡ erasesAt N e i
 unfolding turns count
-no-more N e i w m h = rw (count-append (λ x. eqb i x) (turns N e) (e % N ∷ []), ne-eqb i (e % N) (λ p. h (p ∙ m))) (omega arith)
+no_more N e i w m h = rw (count-append (λ x. eqb i x) (turns N e) (e % N ∷ []), ne_eqb i (e % N) (λ p. h (p ∙ m))) (omega arith)
 
 -- after q rounds over all N and w more, index i has q erases, and one more if i < w
 record Even (N e : ℕ) : Type 0 where
@@ -119,38 +112,38 @@ even N (suc e) h = go (even N e h)
   where
     go : Even N e → Even N (suc e)
     go v =
-        let s = v .split in
-        let sm = v .small in
-        let m : e % N ≡ v .w = rw (v .split) (mul-add-mod-self-right (v .q) N (v .w) ∙ mod-eq-of-lt (v .small)) in
-        ⊎-elim
+        let s = v.split in
+        let sm = v.small in
+        let m : e % N ≡ v.w = rw v.split (mul-add-mod_self_right v.q N v.w ∙ mod-eq_of_lt v.small) in
+        ⊎_elim
         (λ full. record {
-          q = suc (v .q);
+          q = suc v.q;
           w = 0;
           split = omega arith;
           small = h;
           low = λ i z. absurd (omega arith);
-          high = λ i a b. elim (decLt i (v .w)) [
-            | yes lt ↦ no-more N e i (v .w) m (λ p. omega arith) ∙ v .low i lt
-            | no ge ↦ one-more N e i (v .w) m (omega arith) ∙ ap suc (v .high i (omega arith) b)
+          high = λ i a b. elim (dec_lt i v.w) [
+            | yes lt ↦ no_more N e i v.w m (λ p. omega arith) ∙ v.low i lt
+            | no ge ↦ one_more N e i v.w m (omega arith) ∙ ap suc (v.high i (omega arith) b)
           ];
         })
         (λ more. record {
-          q = v .q;
-          w = suc (v .w);
+          q = v.q;
+          w = suc v.w;
           split = omega arith;
           small = more;
-          low = λ i z. elim (decLt i (v .w)) [
-            | yes lt ↦ no-more N e i (v .w) m (λ p. omega arith) ∙ v .low i lt
-            | no ge ↦ one-more N e i (v .w) m (omega arith) ∙ ap suc (v .high i (omega arith) (omega arith))
+          low = λ i z. elim (dec_lt i v.w) [
+            | yes lt ↦ no_more N e i v.w m (λ p. omega arith) ∙ v.low i lt
+            | no ge ↦ one_more N e i v.w m (omega arith) ∙ ap suc (v.high i (omega arith) (omega arith))
           ];
-          high = λ i a b. no-more N e i (v .w) m (λ p. omega arith) ∙ v .high i (omega arith) b;
+          high = λ i a b. no_more N e i v.w m (λ p. omega arith) ∙ v.high i (omega arith) b;
         })
-        (eq-or-lt-of-le (v .small))
+        (eq-or-lt_of_le v.small)
 
 pub balanced : (N e i j : ℕ) → i < N → j < N → erasesAt N e i ≤ suc (erasesAt N e j)
 balanced N e i j hi hj =
     let v = even N e (omega arith) in
-    elim (decLt i (v .w)) [
-      | yes a ↦ elim (decLt j (v .w)) [ yes b ↦ omega (arith, v .low i a, v .low j b) | no b ↦ omega (arith, v .low i a, v .high j (omega arith) hj) ]
-      | no a ↦ elim (decLt j (v .w)) [ yes b ↦ omega (arith, v .high i (omega arith) hi, v .low j b) | no b ↦ omega (arith, v .high i (omega arith) hi, v .high j (omega arith) hj) ]
+    elim (dec_lt i v.w) [
+      | yes a ↦ elim (dec_lt j v.w) [ yes b ↦ omega (arith, v.low i a, v.low j b) | no b ↦ omega (arith, v.low i a, v.high j (omega arith) hj) ]
+      | no a ↦ elim (dec_lt j v.w) [ yes b ↦ omega (arith, v.high i (omega arith) hi, v.low j b) | no b ↦ omega (arith, v.high i (omega arith) hi, v.high j (omega arith) hj) ]
     ]

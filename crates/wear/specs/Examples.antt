@@ -1,21 +1,17 @@
 -- Bench examples 5 and 9 as instances of demand 3: their sequences computed, their E, R and L, and the theorem applied to them.
-use Prim.Native.Nat.{ℕ, _<_}
-use mathlib.Core.Path.{_≡_, refl}
-use mathlib.Core.Logic.{_≢_}
-use mathlib.Core.List.{List, [], _∷_}
-use native.Mathlib.Omega.{arith}
-use lib.ListN.{replicate}
-use Rattle·model.specs.Chip.{Image, imageLength, rightSize, pagesOf, withSegment, step, run}
-use Rattle·model.specs.State.{segmentsOf}
-use Rattle·model.specs.Answers.{format, put, workOf, outcomeOf}
-use Rattle·model.specs.Sequences.{Call, Observed, observe, observed, Uncut, start, ledger}
-use Rattle·model.specs.Laws.Bench.{evaluate}
-use Rattle·wear·specs.specs.Demand3.{Bounded}
-use Rattle·wear·specs.specs.Sequence.{demand3}
+use Rattle.std.specs.Prelude.{ℕ, ◌<◌, ◌≡◌, refl, ◌≢◌, List, [], ◌∷◌, replicate}
+use Rattle.std.proofs.Common.{arith}
+use Rattle.model.specs.Chip.{Image, imageLength, rightSize, pagesOf, withSegment, step, run}
+use Rattle.model.specs.State.{segmentsOf}
+use Rattle.model.specs.Answers.{format, put, workOf, outcomeOf}
+use Rattle.model.specs.Sequences.{Call, Observed, observe, observed, Uncut, start, ledger}
+use Rattle.model.specs.Laws.Bench.{evaluate}
+use Rattle.wear.specs.Demand3.{Bounded}
+use Rattle.wear.specs.Sequence.{demand3}
 
 -- a chip full of zero bytes, formatted
 abbrev fresh : ℕ → ℕ → Image
-fresh N B = outcomeOf N B (replicate (imageLength N B) 0) 1000 format .image
+fresh N B = (outcomeOf N B (replicate (imageLength N B) 0) 1000 format).image
 
 -- each of these blocks put with one byte
 abbrev puts : List ℕ → List Call
@@ -29,12 +25,12 @@ done b es = record { request = put b (1 ∷ []); code = 0; erases = es }
 one : (b : ℕ) → (1 < 256) × Unit {0}
 one b = (omega arith, tt)
 
-other : _≢_ {A = ℕ} 0 9
+other : ◌≢◌ {A = ℕ} 0 9
 other p = omega arith
 
 -- ---- example 5: block 7 put three times
 
-formats-5 : outcomeOf 2 2 (replicate (imageLength 2 2) 0) 1000 format .code ≡ 0
+formats-5 : (outcomeOf 2 2 (replicate (imageLength 2 2) 0) 1000 format).code ≡ 0
 unfolding evaluate outcomeOf workOf rightSize segmentsOf pagesOf
 formats-5 = refl
 
@@ -55,7 +51,7 @@ bounded-5 = demand3 2 2 (replicate (imageLength 2 2) 0) 1000 (puts (7 ∷ 7 ∷ 
 
 -- ---- example 9: blocks 1, 2, 3, then 3 twice more, of which the last tidies twice
 
-formats-9 : outcomeOf 3 2 (replicate (imageLength 3 2) 0) 1000 format .code ≡ 0
+formats-9 : (outcomeOf 3 2 (replicate (imageLength 3 2) 0) 1000 format).code ≡ 0
 unfolding evaluate outcomeOf workOf rightSize segmentsOf pagesOf
 formats-9 = refl
 

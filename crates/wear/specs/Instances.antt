@@ -1,22 +1,18 @@
 -- A sequence on the smallest store, computed: demand 3's premises hold of it, and each must-fail edit of the statement is false of it.
-use Prim.Native.Nat.{ℕ, _-_, _*_, _/_, _≤_, _<_}
-use mathlib.Core.Path.{_≡_, refl}
-use mathlib.Core.Logic.{_≢_}
-use mathlib.Core.List.{List, [], _∷_, _++_}
-use native.Mathlib.Omega.{arith}
-use lib.ListN.{length, replicate, take}
-use Rattle·model.specs.Chip.{Image, Step, rightSize, pagesOf, withSegment, step, run}
-use Rattle·model.specs.Header.{newVersion}
-use Rattle·model.specs.State.{segmentsOf, view}
-use Rattle·model.specs.Steps.{onPage, slotAt, writeSlot, openSegment, formatSteps}
-use Rattle·model.specs.Table.{blocks, tableOf}
-use Rattle·model.specs.Answers.{format, put, delete, workOf, outcomeOf}
-use Rattle·model.specs.Sequences.{Call, Observed, observe, observed, Uncut, start, ledger, eraseCount, erasesOf}
-use Rattle·model.specs.Laws.Bench.{evaluate}
-use Rattle·wear·specs.specs.Demand3.{stocked, ErasesPaid}
+use Rattle.std.specs.Prelude.{ℕ, ◌-◌, ◌*◌, ◌/◌, ◌≤◌, ◌<◌, ◌≡◌, refl, ◌≢◌, List, [], ◌∷◌, ◌++◌, length, replicate, take}
+use Rattle.std.proofs.Common.{arith}
+use Rattle.model.specs.Chip.{Image, Step, rightSize, pagesOf, withSegment, step, run}
+use Rattle.model.specs.Header.{newVersion}
+use Rattle.model.specs.State.{segmentsOf, view}
+use Rattle.model.specs.Steps.{onPage, slot_at, writeSlot, openSegment, formatSteps}
+use Rattle.model.specs.Table.{blocks, table_of}
+use Rattle.model.specs.Answers.{format, put, delete, workOf, outcomeOf}
+use Rattle.model.specs.Sequences.{Call, Observed, observe, observed, Uncut, start, ledger, eraseCount, erasesOf}
+use Rattle.model.specs.Laws.Bench.{evaluate}
+use Rattle.wear.specs.Demand3.{stocked, ErasesPaid}
 
 abbrev pub made : Image
-made = outcomeOf 2 2 (replicate 1536 0) 1000 format .image
+made = (outcomeOf 2 2 (replicate 1536 0) 1000 format).image
 
 -- block 7 put five times, with one byte, and deleted
 abbrev pub calls : List ℕ → List Call
@@ -26,7 +22,7 @@ calls (v ∷ vs) = record { request = put 7 (v ∷ []); allowance = 1000 } ∷ c
 unfoldable pub seen : List Observed
 seen = observed 2 2 made (calls (1 ∷ 2 ∷ 3 ∷ 4 ∷ 5 ∷ []))
 
-pub format-answers : outcomeOf 2 2 (replicate 1536 0) 1000 format .code ≡ 0
+pub format-answers : (outcomeOf 2 2 (replicate 1536 0) 1000 format).code ≡ 0
 unfolding evaluate outcomeOf workOf rightSize segmentsOf pagesOf
 format-answers = refl
 
@@ -44,7 +40,7 @@ uncut = rw computed (byte 1 (omega arith), other, (byte 2 (omega arith), other, 
     byte : (v : ℕ) → v < 256 → (v < 256) × Unit {0}
     byte v h = (h, tt)
 
-    other : _≢_ {A = ℕ} 0 9
+    other : ◌≢◌ {A = ℕ} 0 9
     other p = omega arith
 
 pub counted : ledger seen start ≡ record { stored = []; largest = 1; replaced = 5; erased = 0 ∷ 1 ∷ 0 ∷ [] }
@@ -52,11 +48,11 @@ unfolding evaluate
 counted = rw computed
 
 -- E = 3 and R = 5: with (N-1)B in place of (N-1)B - L the bound fails, and so it does with the blocks stored at the end for L
-pub bound-needs-largest : eraseCount (ledger seen start) / (2 - 1) * ((2 - 1) * 2) ≤ ledger seen start .replaced → ⊥
+pub bound-needs-largest : eraseCount (ledger seen start) / (2 - 1) * ((2 - 1) * 2) ≤ (ledger seen start).replaced → ⊥
 unfolding evaluate
 bound-needs-largest h = let f = rw counted at h in omega arith
 
-pub bound-needs-most : eraseCount (ledger seen start) / (2 - 1) * ((2 - 1) * 2 - length (ledger seen start .stored)) ≤ ledger seen start .replaced → ⊥
+pub bound-needs-most : eraseCount (ledger seen start) / (2 - 1) * ((2 - 1) * 2 - length (ledger seen start).stored) ≤ (ledger seen start).replaced → ⊥
 unfolding evaluate
 bound-needs-most h = let f = rw counted at h in omega arith
 
@@ -73,7 +69,7 @@ request-needs-all = rw computed (refl, refl)
 -- ---- a sequence that starts with a table stored
 
 abbrev slot : ℕ → ℕ → ℕ → List Step
-slot n j b = onPage (slotAt 3 2 n j) (writeSlot b (65 ∷ []))
+slot n j b = onPage (slot_at 3 2 n j) (writeSlot b (65 ∷ []))
 
 -- three blocks on a chip of 3 segments with 2 slots: 4, 9, and 300 in the second segment
 unfoldable pub stock : Image
@@ -84,8 +80,8 @@ abbrev rewrites : List Call
 rewrites = record { request = put 9 (1 ∷ []); allowance = 1000 } ∷ record { request = put 9 (2 ∷ []); allowance = 1000 } ∷ record { request = put 300 (3 ∷ []); allowance = 1000 } ∷ []
 
 -- E = 2, R = 3 and L = 3, which counts the blocks that were there
-pub stocked-count : ledger (observed 3 2 stock rewrites) (stocked (tableOf 3 2 stock)) ≡ record { stored = 300 ∷ 9 ∷ 4 ∷ []; largest = 3; replaced = 3; erased = 0 ∷ 1 ∷ [] }
-unfolding evaluate stock stocked blocks tableOf view observed observe outcomeOf workOf rightSize segmentsOf pagesOf run step withSegment
+pub stocked-count : ledger (observed 3 2 stock rewrites) (stocked (table_of 3 2 stock)) ≡ record { stored = 300 ∷ 9 ∷ 4 ∷ []; largest = 3; replaced = 3; erased = 0 ∷ 1 ∷ [] }
+unfolding evaluate stock stocked blocks table_of view observed observe outcomeOf workOf rightSize segmentsOf pagesOf run step withSegment
 stocked-count = refl
 
 -- counted as from an empty store the bound fails: E = 2, R = 1 and L = 2

@@ -1,16 +1,12 @@
 -- The blocks stored, by the answers, are the blocks that the live slots hold; and so they are equally many.
-use Prim.Native.Nat.{ℕ, suc, _≤_, _<_}
-use mathlib.Core.Path.{_≡_, refl, sym, ap, _∙_}
-use mathlib.Core.Bool.{Bool, true, false, cond, _||_, _&&_, not, false≢true, and-false, and-eq-true-iff}
-use mathlib.Core.List.{List, [], _∷_}
-use native.Mathlib.Omega.{arith}
-use lib.ListN.{length}
-use lib.Dec.{eqb}
-use borrow.Author.Tests.{eqb-true, eq-eqb, not-true}
-use Rattle·model.specs.State.{holds, distinct}
-use Rattle·model.specs.Table.{Table, without, store, blocks, Agree}
-use Rattle·model.specs.Sequences.{among, removed, inserted}
-use Rattle·model.specs.Laws.Tables.{agree-holds}
+use Rattle.std.specs.Prelude.{ℕ, suc, ◌≤◌, ◌<◌, ◌≡◌, refl, Bool, true, false, cond, ◌||◌, ◌&&◌, not, List, [], ◌∷◌, length, eqb}
+use Rattle.std.proofs.Common.{sym, ap, ◌∙◌, arith, eqb-true, eq-eqb}
+use Rattle.std.proofs.lemmas.Bool.{false≢true, not-true}
+use Rattle.std.proofs.Math.Bool.{and-false, and-eq-true_iff}
+use Rattle.model.specs.State.{holds, distinct}
+use Rattle.model.specs.Table.{Table, without, store, blocks, Agree}
+use Rattle.model.specs.Sequences.{among, removed, inserted}
+use Rattle.model.specs.Laws.Tables.{agree-holds}
 
 -- ---- lists of block numbers
 
@@ -25,9 +21,9 @@ among-removed a b (x ∷ xs) = go (eqb b x) (eqb a b) (eqb a x) refl refl refl (
   where
     go : (t u w : Bool) → eqb b x ≡ t → eqb a b ≡ u → eqb a x ≡ w → among a (removed b xs) ≡ (not u && among a xs) → among a (cond t (removed b xs) (x ∷ removed b xs)) ≡ (not u && (w || among a xs))
     go true true w p q r ih = ih
-    go true false true p q r ih = let z : _≡_ {A = Bool} true false = sym (eq-eqb a b (eqb-true a x r ∙ sym (eqb-true b x p))) ∙ q in cc
+    go true false true p q r ih = let z : ◌≡◌ {A = Bool} true false = sym (eq-eqb a b (eqb-true a x r ∙ sym (eqb-true b x p))) ∙ q in cc
     go true false false p q r ih = ih
-    go false true true p q r ih = let z : _≡_ {A = Bool} true false = sym (eq-eqb b x (sym (eqb-true a b q) ∙ eqb-true a x r)) ∙ p in cc
+    go false true true p q r ih = let z : ◌≡◌ {A = Bool} true false = sym (eq-eqb b x (sym (eqb-true a b q) ∙ eqb-true a x r)) ∙ p in cc
     go false true false p q r ih = rw r ih
     go false false true p q r ih = rw r refl
     go false false false p q r ih = rw r ih
@@ -35,11 +31,11 @@ among-removed a b (x ∷ xs) = go (eqb b x) (eqb a b) (eqb a x) refl refl refl (
 removed-distinct : (b : ℕ) (xs : List ℕ) → Distinct xs → Distinct (removed b xs)
 unfolding removed
 removed-distinct b [] d = tt
-removed-distinct b (x ∷ xs) d = go (eqb b x) (removed-distinct b xs (d .1))
+removed-distinct b (x ∷ xs) d = go (eqb b x) (removed-distinct b xs d.1)
   where
     go : (t : Bool) → Distinct (removed b xs) → Distinct (cond t (removed b xs) (x ∷ removed b xs))
     go true h = h
-    go false h = (among-removed x b xs ∙ rw (d .0) (and-false (not (eqb x b))), h)
+    go false h = (among-removed x b xs ∙ rw d.0 (and-false (not (eqb x b))), h)
 
 inserted-distinct : (b : ℕ) (xs : List ℕ) → Distinct xs → Distinct (inserted b xs)
 unfolding inserted
@@ -64,15 +60,15 @@ removed-fewer b (x ∷ xs) h = go (eqb b x) h (λ m. removed-fewer b xs m)
     go false m ih = omega (arith, ih m)
 
 -- distinct numbers that are all among others are no more than those
-no-more : (xs ys : List ℕ) → Distinct xs → ((a : ℕ) → among a xs ≡ true → among a ys ≡ true) → length xs ≤ length ys
+no_more : (xs ys : List ℕ) → Distinct xs → ((a : ℕ) → among a xs ≡ true → among a ys ≡ true) → length xs ≤ length ys
 unfolding among
-no-more [] ys d h = omega arith
-no-more (x ∷ xs) ys d h =
-    let i = no-more xs (removed x ys) (d .1) (λ a m. among-removed a x ys ∙ rest a m (eqb a x) refl) in
+no_more [] ys d h = omega arith
+no_more (x ∷ xs) ys d h =
+    let i = no_more xs (removed x ys) d.1 (λ a m. among-removed a x ys ∙ rest a m (eqb a x) refl) in
     omega (arith, removed-fewer x ys (h x (rw (eq-eqb x x refl))))
   where
     rest : (a : ℕ) → among a xs ≡ true → (t : Bool) → eqb a x ≡ t → (not t && among a ys) ≡ true
-    rest a m true e = let z : _≡_ {A = Bool} true false = sym m ∙ ap (λ y. among y xs) (eqb-true a x e) ∙ d .0 in cc
+    rest a m true e = let z : ◌≡◌ {A = Bool} true false = sym m ∙ ap (λ y. among y xs) (eqb-true a x e) ∙ d.0 in cc
     rest a m false e = h a (rw (e, m))
 
 -- ---- the blocks of a table
@@ -85,23 +81,23 @@ blocks-length (e ∷ t) = ap suc (blocks-length t)
 holds-blocks : (b : ℕ) (t : Table) → holds b t ≡ among b (blocks t)
 unfolding blocks holds among
 holds-blocks b [] = refl
-holds-blocks b (e ∷ t) = ap (λ y. eqb b (e .block) || y) (holds-blocks b t)
+holds-blocks b (e ∷ t) = ap (λ y. eqb b e.block || y) (holds-blocks b t)
 
 blocks-without : (b : ℕ) (t : Table) → blocks (without b t) ≡ removed b (blocks t)
 unfolding blocks without removed
 blocks-without b [] = refl
-blocks-without b (e ∷ t) = go (eqb b (e .block)) (blocks-without b t)
+blocks-without b (e ∷ t) = go (eqb b e.block) (blocks-without b t)
   where
-    go : (u : Bool) → blocks (without b t) ≡ removed b (blocks t) → blocks (cond u (without b t) (e ∷ without b t)) ≡ cond u (removed b (blocks t)) (e .block ∷ removed b (blocks t))
+    go : (u : Bool) → blocks (without b t) ≡ removed b (blocks t) → blocks (cond u (without b t) (e ∷ without b t)) ≡ cond u (removed b (blocks t)) (e.block ∷ removed b (blocks t))
     go true h = h
-    go false h = ap {B = List ℕ} (λ y. e .block ∷ y) h
+    go false h = ap {B = List ℕ} (λ y. e.block ∷ y) h
 
 blocks-distinct : (t : Table) → distinct t ≡ true → Distinct (blocks t)
 unfolding blocks distinct
 blocks-distinct [] h = tt
 blocks-distinct (e ∷ t) h =
-    let p = and-eq-true-iff (not (holds (e .block) t)) (distinct t) .0 h in
-    (sym (holds-blocks (e .block) t) ∙ not-true (holds (e .block) t) (p .0), blocks-distinct t (p .1))
+    let p = (and-eq-true_iff (not (holds e.block t)) (distinct t)).0 h in
+    (sym (holds-blocks e.block t) ∙ not-true (holds e.block t) p.0, blocks-distinct t p.1)
 
 -- ---- the blocks stored
 
@@ -117,22 +113,22 @@ stored-length xs t s d =
     omega (
       arith,
       blocks-length t,
-      no-more xs (blocks t) (s .once) (λ a m. sym (s .same a ∙ holds-blocks a t) ∙ m),
-      no-more (blocks t) xs (blocks-distinct t d) (λ a m. s .same a ∙ holds-blocks a t ∙ m),
+      no_more xs (blocks t) s.once (λ a m. sym (s.same a ∙ holds-blocks a t) ∙ m),
+      no_more (blocks t) xs (blocks-distinct t d) (λ a m. s.same a ∙ holds-blocks a t ∙ m),
     )
 
 same-without : (xs : List ℕ) (t : Table) → Stored xs t → (b a : ℕ) → among a (removed b xs) ≡ holds a (without b t)
 same-without xs t s b a =
-    among-removed a b xs ∙ ap (λ y. not (eqb a b) && y) (s .same a ∙ holds-blocks a t)
+    among-removed a b xs ∙ ap (λ y. not (eqb a b) && y) (s.same a ∙ holds-blocks a t)
     ∙ sym (holds-blocks a (without b t) ∙ ap (λ y. among a y) (blocks-without b t) ∙ among-removed a b (blocks t))
 
 pub stored-delete : (xs : List ℕ) (t u : Table) (b : ℕ) → Stored xs t → Agree u (without b t) → Stored (removed b xs) u
-stored-delete xs t u b s h = record { same = λ a. same-without xs t s b a ∙ sym (agree-holds u (without b t) h a); once = removed-distinct b xs (s .once) }
+stored-delete xs t u b s h = record { same = λ a. same-without xs t s b a ∙ sym (agree-holds u (without b t) h a); once = removed-distinct b xs s.once }
 
 pub stored-put : (xs : List ℕ) (t u : Table) (b : ℕ) (c : List ℕ) → Stored xs t → Agree u (store b c t) → Stored (inserted b xs) u
 unfolding inserted store among holds
 stored-put xs t u b c s h =
     record {
       same = λ a. ap (λ y. eqb a b || y) (same-without xs t s b a) ∙ sym (agree-holds u (store b c t) h a);
-      once = inserted-distinct b xs (s .once);
+      once = inserted-distinct b xs s.once;
     }

@@ -1,26 +1,23 @@
 -- Three histories on the smallest store, N = 2 and B = 2, computed: each clause of the statement holds of one of them as it stands, and no longer with a number less; and it excludes what would follow by one more erase or tidying.
-use Prim.Native.Nat.{ℕ, _+_}
-use mathlib.Core.Path.{_≡_, refl}
-use mathlib.Core.List.{List, [], _∷_, _++_}
-use native.Mathlib.Omega.{arith}
-use lib.ListN.{replicate}
-use Rattle·model.specs.Lists.{count}
-use Rattle·model.specs.Chip.{Image, rightSize, pagesOf, withSegment, step, run}
-use Rattle·model.specs.State.{segmentsOf, state, view}
-use Rattle·model.specs.Table.{blocks, tableOf}
-use Rattle·model.specs.Answers.{Request, format, put, delete, recover, workOf, outcomeOf}
-use Rattle·model.specs.Histories.{answered, bytesRead, replyOf, recovered, shown}
-use Rattle·model.specs.Sequences.{Call, play, among, removed, inserted, storedAfter, replaces, start, noted, eraseCount, erasesOf}
-use Rattle·model.specs.Begun.{isMark, marksIn, Turn, cutSeen, cutsIn, byRecovery}
-use Rattle·model.specs.Bench.{call, whole}
-use Rattle·model.specs.Laws.Bench.{evaluate}
-use Rattle·model.specs.Laws.Begun.{turnsOf}
-use Rattle·wear_counts·specs.specs.Counts.{marksOf, notedCut, notedAs, ledgerOf}
-use Rattle·wear_counts·specs.specs.Law.{TidyingsPaid, FewBegun, Within, OneErase, FewEach, OldestIs}
+use Rattle.std.specs.Prelude.{ℕ, ◌+◌, ◌≡◌, refl, List, [], ◌∷◌, ◌++◌, replicate}
+use Rattle.std.proofs.Common.{arith}
+use Rattle.model.specs.Lists.{count}
+use Rattle.model.specs.Chip.{Image, rightSize, pagesOf, withSegment, step, run}
+use Rattle.model.specs.State.{segmentsOf, state, view}
+use Rattle.model.specs.Table.{blocks, table_of}
+use Rattle.model.specs.Answers.{Request, format, put, delete, recover, workOf, outcomeOf}
+use Rattle.model.specs.Histories.{answered, bytesRead, replyOf, recovered, shown}
+use Rattle.model.specs.Sequences.{Call, play, among, removed, inserted, storedAfter, replaces, start, noted, eraseCount, erasesOf}
+use Rattle.model.specs.Begun.{isMark, marksIn, Turn, cutSeen, cutsIn, byRecovery}
+use Rattle.model.specs.Bench.{call, whole}
+use Rattle.model.specs.Laws.Bench.{evaluate}
+use Rattle.model.specs.Laws.Begun.{turnsOf}
+use Rattle.wear_counts.specs.Counts.{marksOf, notedCut, notedAs, ledgerOf}
+use Rattle.wear_counts.specs.Law.{TidyingsPaid, FewBegun, Within, OneErase, FewEach, OldestIs}
 
 -- a chip full of zero bytes, formatted
 abbrev pub formatted : Image
-formatted = outcomeOf 2 2 (replicate 1536 0) 1000 format .image
+formatted = (outcomeOf 2 2 (replicate 1536 0) 1000 format).image
 
 abbrev pub seven : ℕ → Request
 seven v = put 7 (v ∷ [])
@@ -46,7 +43,7 @@ turnsFor xs = turnsOf 2 2 formatted xs
 
 -- all that the store computes with unfolds where this name does, and all that is counted where the next does
 unfoldable pub evaluateTurns : ℕ
-unfolding evaluate turnsOf play outcomeOf workOf rightSize segmentsOf pagesOf run step withSegment replyOf bytesRead view blocks tableOf recovered shown isMark marksIn state
+unfolding evaluate turnsOf play outcomeOf workOf rightSize segmentsOf pagesOf run step withSegment replyOf bytesRead view blocks table_of recovered shown isMark marksIn state
 evaluateTurns = 0
 
 unfoldable pub evaluateCounts : ℕ
@@ -118,7 +115,7 @@ unpaid-one = rw unpaid-turns (omega arith, (omega arith, (omega arith, (omega ar
 
 pub not-two : OneErase (saw recover 9 (0 ∷ 1 ∷ []) 0 ∷ []) → ⊥
 unfolding evaluateCounts
-not-two h = omega (arith, h .0)
+not-two h = omega (arith, h.0)
 
 -- the chip tells as much: the smallest number in use is 1
 pub unpaid-oldest : OldestIs 2 2 (play 2 2 formatted unpaid) (turnsFor unpaid)

@@ -1,14 +1,12 @@
 -- What is counted of turns written down by hand: after a cut what is kept is stored, and R counts only what was acknowledged.
-use Prim.Native.Nat.{ℕ}
-use mathlib.Core.Path.{_≡_, refl}
-use mathlib.Core.List.{List, [], _∷_, _++_}
-use native.Mathlib.Omega.{arith}
-use Rattle·model.specs.Answers.{Request, put, delete, recover}
-use Rattle·model.specs.Histories.{Seen, answered, lost}
-use Rattle·model.specs.Sequences.{among, removed, inserted, storedAfter, replaces, start, noted}
-use Rattle·model.specs.Begun.{Turn, cutSeen, cutsIn}
-use Rattle·wear_counts·specs.specs.Counts.{marksOf, notedCut, notedAs, ledgerOf}
-use Rattle·wear_counts·specs.specs.Law.{TidyingsPaid}
+use Rattle.std.specs.Prelude.{ℕ, ◌≡◌, refl, List, [], ◌∷◌, ◌++◌}
+use Rattle.std.proofs.Common.{arith}
+use Rattle.model.specs.Answers.{Request, put, delete, recover}
+use Rattle.model.specs.Histories.{Seen, answered, lost}
+use Rattle.model.specs.Sequences.{among, removed, inserted, storedAfter, replaces, start, noted}
+use Rattle.model.specs.Begun.{Turn, cutSeen, cutsIn}
+use Rattle.wear_counts.specs.Counts.{marksOf, notedCut, notedAs, ledgerOf}
+use Rattle.wear_counts.specs.Law.{TidyingsPaid}
 
 abbrev turn : Request → Seen → List ℕ → ℕ → List ℕ → Turn
 turn r o es f kept = record { request = r; seen = o; begun = es; marks = f; kept = kept }

@@ -1,95 +1,94 @@
 -- `blank::leading` counts the whole groups before the first that differs. The invariant: those looked at are blank. Assumes nothing.
-use Prim.Native.Nat.{_-_, _*_, _/_, _≤_}
-use mathlib.Core.Path.{_≡_, sym, _∙_}
+use Prim.Native.Nat.{◌-◌, ◌*◌, ◌/◌, ◌≤◌}
+use mathlib.Core.Path.{◌≡◌, sym, ◌∙◌}
 use mathlib.Core.Bool.{true}
 use native.Mathlib.Omega.{arith}
-use denote.Ref.{now}
 use lib.ListN.{length, take}
 use borrow.Author.Tests.{not-true, not-false}
-use Rattle·model.specs.Header.{isBlank}
-use Rattle·blank·proofs.proofs.Blank.{leads, part-turn, part-differs, parts-whole, stops-among}
-use borrow.Author.Needs.{needs}
-use Rattle·blank·proofs.proofs.leading.Statement.{statement}
-use Rattle·blank·proofs.proofs.leading.Tie as tie
+use Rattle.model.specs.Header.{isBlank}
+use Rattle.blank.proofs.Blank.{leads, part-turn, part-differs, parts_whole, stops-among}
+use borrow.Author.Rules.{rules}
+use Rattle.blank.proofs.leading.Statement.{statement}
+use Rattle.blank.proofs.leading.Tie as tie
 
-abbrev Inv-loop : tie.InvT-loop
-Inv-loop bytes whole groups₀ groups = (groups ≤ length bytes / 8) × (isBlank (take (groups * 8) bytes) ≡ true)
+abbrev invariant-loop : tie.invariant-loop
+invariant-loop bytes whole groups₀ groups = (groups ≤ length bytes / 8) × (isBlank (take (groups * 8) bytes) ≡ true)
 
-abbrev μ-loop : tie.MeasureT-loop
-μ-loop bytes whole groups₀ groups = length bytes / 8 - groups
+abbrev decreases-loop : tie.decreases-loop
+decreases-loop bytes whole groups₀ groups = length bytes / 8 - groups
 
-leading-fours-requires : tie.Need-leading-fours-requires Inv-loop μ-loop
-leading-fours-requires c κs = search needs
+leading-fours-requires : tie.Need-leading-fours-requires invariant-loop decreases-loop
+leading-fours-requires c κs = search rules
 
-mul-if1 : tie.Need-mul-if1 Inv-loop μ-loop
-mul-if1 c = search needs
+mul-if1 : tie.Need-overflow-mul-if1 invariant-loop decreases-loop
+mul-if1 c = search rules
 
-returns : tie.Need-returns Inv-loop μ-loop
+returns : tie.Need-returns invariant-loop decreases-loop
 returns c =
-    let s = now (c .before .before .before .args .bytes) in
-    stops-among 8 (4 * (length s / 32)) (length s / 8) s _ (c .before .leading-fours .ensures) (c .if1 .taken) (omega arith)
+    let s = c.before.before.before.args.bytes.now in
+    stops-among 8 (4 * (length s / 32)) (length s / 8) s _ c.before.leading-fours.ensures c.if1.true (omega arith)
 
-loop-holds : tie.Need-loop-holds Inv-loop μ-loop
+loop-holds : tie.Need-loop-init invariant-loop decreases-loop
 loop-holds c =
-    let s = now (c .before .before .before .args .bytes) in
-    let f = leads 8 (4 * (length s / 32)) s _ (c .before .leading-fours .ensures) in
-    (omega (arith, f .within), f .blank)
+    let s = c.before.before.before.args.bytes.now in
+    let f = leads 8 (4 * (length s / 32)) s _ c.before.leading-fours.ensures in
+    (omega (arith, f.within), f.blank)
 
-mul-at : tie.Need-mul-at Inv-loop μ-loop
-mul-at c = search needs
+mul_at : tie.Need-overflow-mul-at invariant-loop decreases-loop
+mul_at c = search rules
 
-add-end : tie.Need-add-end Inv-loop μ-loop
-add-end c = search needs
+add-end : tie.Need-overflow-add-end invariant-loop decreases-loop
+add-end c = search rules
 
-sub-group-blank : tie.Need-sub-group-blank Inv-loop μ-loop
-sub-group-blank c = search needs
+sub-group-blank : tie.Need-overflow-sub-group-blank invariant-loop decreases-loop
+sub-group-blank c = search rules
 
-part-group-blank-start : tie.Need-part-group-blank-start Inv-loop μ-loop
-part-group-blank-start c = search needs
+part-group-blank-start : tie.Need-slice-bounds-group-blank-start invariant-loop decreases-loop
+part-group-blank-start c = search rules
 
-part-group-blank-end : tie.Need-part-group-blank-end Inv-loop μ-loop
-part-group-blank-end c = search needs
+part-group-blank-end : tie.Need-slice-bounds-group-blank-end invariant-loop decreases-loop
+part-group-blank-end c = search rules
 
-group-blank-requires : tie.Need-group-blank-requires Inv-loop μ-loop
-group-blank-requires c κs = search needs
+group-blank-requires : tie.Need-group-blank-requires invariant-loop decreases-loop
+group-blank-requires c κs = search rules
 
-returns-2 : tie.Need-returns-2 Inv-loop μ-loop
+returns-2 : tie.Need-returns-2 invariant-loop decreases-loop
 returns-2 c =
-    let k = c .before .before .before .before in
-    let e = sym (c .before .group-blank .ensures) ∙ not-true _ (c .if2 .taken) in
-    let s = now (k .before .before .before .before .args .bytes) in
-    part-differs 8 s (k .loop .groups) (k .loop .inv .1) (length s / 8) (omega arith) e
+    let k = c.before.before.before.before in
+    let e = sym c.before.group-blank.ensures ∙ not-true _ c.if2.true in
+    let s = k.before.before.before.before.args.bytes.now in
+    part-differs 8 s k.loop.groups k.loop.invariant.1 (length s / 8) (omega arith) e
 
-add-groups : tie.Need-add-groups Inv-loop μ-loop
-add-groups c = search needs
+add-groups : tie.Need-overflow-add-groups invariant-loop decreases-loop
+add-groups c = search rules
 
-loop-less : tie.Need-loop-less Inv-loop μ-loop
-loop-less c = search needs
+loop-less : tie.Need-loop-smaller invariant-loop decreases-loop
+loop-less c = search rules
 
-loop-again : tie.Need-loop-again Inv-loop μ-loop
+loop-again : tie.Need-loop-preserved invariant-loop decreases-loop
 loop-again c =
-    let k = c .before .before .before .before in
-    let s = now (k .before .before .before .before .args .bytes) in
-    let e = sym (c .before .group-blank .ensures) ∙ not-false _ (c .if2 .left) in
-    (omega arith, part-turn 8 s (k .loop .groups) (k .loop .inv .1) e)
+    let k = c.before.before.before.before in
+    let s = k.before.before.before.before.args.bytes.now in
+    let e = sym c.before.group-blank.ensures ∙ not-false _ c.if2.false in
+    (omega arith, part-turn 8 s k.loop.groups k.loop.invariant.1 e)
 
-returns-3 : tie.Need-returns-3 Inv-loop μ-loop
+returns-3 : tie.Need-returns-3 invariant-loop decreases-loop
 returns-3 c =
-    let k = c .before in
-    let s = now (k .before .before .before .before .args .bytes) in
-    parts-whole 8 s (k .loop .groups) (k .loop .inv .1) (length s / 8) (omega arith)
+    let k = c.before in
+    let s = k.before.before.before.before.args.bytes.now in
+    parts_whole 8 s k.loop.groups k.loop.invariant.1 (length s / 8) (omega arith)
 
 pub leading-spec : {M : Type 1} → statement M
 leading-spec =
     tie.close
     (tie.spec
-    Inv-loop
-    μ-loop
+    invariant-loop
+    decreases-loop
     leading-fours-requires
     mul-if1
     returns
     loop-holds
-    mul-at
+    mul_at
     add-end
     sub-group-blank
     part-group-blank-start

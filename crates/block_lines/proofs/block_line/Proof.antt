@@ -1,30 +1,30 @@
 -- `block_lines::block_line`: two pieces in a row. Assumes nothing.
 use native.Mathlib.Omega.{arith}
-use Rattle·text.specs.Text.{text}
-use Rattle·text.proofs.Laws.{_then_}
-use borrow.Author.Needs.{needs}
-use Rattle·block_lines·proofs.proofs.block_line.Statement.{statement}
-use Rattle·block_lines·proofs.proofs.block_line.Tie as tie
+use Rattle.text.specs.Text.{text}
+use Rattle.text.proofs.Laws.{◌then◌}
+use borrow.Author.Rules.{rules}
+use Rattle.block_lines.proofs.block_line.Statement.{statement}
+use Rattle.block_lines.proofs.block_line.Tie as tie
 
 block-text-requires : tie.Need-block-text-requires
-block-text-requires c κs = search needs
+block-text-requires c κs = search rules
 
 slice-aggregate-add : tie.Need-slice-aggregate-add
-slice-aggregate-add c = search needs
+slice-aggregate-add c = search rules
 
 add-requires : tie.Need-add-requires
-add-requires c κs = search needs
+add-requires c κs = search rules
 
-same-length : tie.Need-same-length
-same-length c = search needs
+same_length : tie.Need-same-length
+same_length c = search rules
 
 returns : tie.Need-returns
 unfolding text
 returns c =
-    let k2 = c .before .before in
-    let k1 = k2 .before .before .before .before .before in
-    (k1 .block-text .ensures .0 then k2 .add .ensures, omega (arith, k1 .block-text .ensures .1, k2 .add .ensures .ends))
+    let k2 = c.before.before in
+    let k1 = k2.before.before.before.before.before in
+    (k1.block-text.ensures.0 then k2.add.ensures, omega (arith, k1.block-text.ensures.1, k2.add.ensures.ends))
 
 pub block-line-spec : {M : Type 1} → statement M
 block-line-spec =
-    tie.close (tie.spec block-text-requires slice-aggregate-add add-requires same-length returns)
+    tie.close (tie.spec block-text-requires slice-aggregate-add add-requires same_length returns)

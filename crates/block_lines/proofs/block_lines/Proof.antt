@@ -1,84 +1,83 @@
 -- `block_lines::block_lines`. The invariant (`Blocks`): the lines of the smaller block numbers are there. Assumes nothing.
-use Prim.Native.Nat.{_-_}
-use mathlib.Core.Logic.{⊎-elim}
+use Prim.Native.Nat.{◌-◌}
+use mathlib.Core.Logic.{⊎_elim}
 use native.Mathlib.Omega.{arith}
-use borrow.Author.Needs.{needs}
-use denote.Ref.{now}
-use lib.ListN.{getD}
-use Rattle·account_text.specs.Account.{blockLine, blockLines}
-use Rattle·index.specs.Tables.{mostPages, listOf}
-use Rattle·index.specs.Sorted.{of-few, stand-of, stand-below}
-use Rattle·block_lines·proofs.proofs.Laws.{chain-none, Blocks, blocks-start, blocks-more, blocks-none, blocks-as, blocks-room, blocks-end}
-use Rattle·block_lines·proofs.proofs.block_lines.Statement.{statement}
-use Rattle·block_lines·proofs.proofs.block_lines.Tie as tie
+use borrow.Author.Rules.{rules}
+use lib.ListN.{get_or}
+use Rattle.account_text.specs.Account.{block_line, block_lines}
+use Rattle.index.specs.Tables.{mostPages, list_of}
+use Rattle.index.specs.Sorted.{of-few, stand_of, stand-below}
+use Rattle.block_lines.proofs.Laws.{chain-none, Blocks, blocks_start, blocks_more, blocks-none, blocks-as, blocks-room, blocks_end}
+use Rattle.block_lines.proofs.block_lines.Statement.{statement}
+use Rattle.block_lines.proofs.block_lines.Tie as tie
 
-abbrev Inv-loop : tie.InvT-loop
-Inv-loop image segments slots firsts nexts lengths text₀ at end₀ block₀ text end block = Blocks blockLine (listOf segments slots image) text₀ at text block end
+abbrev invariant-loop : tie.invariant-loop
+invariant-loop image segments slots firsts nexts lengths text₀ at end₀ block₀ text end block = Blocks block_line (list_of segments slots image) text₀ at text block end
 
-abbrev μ-loop : tie.MeasureT-loop
-μ-loop image segments slots firsts nexts lengths text₀ at end₀ block₀ text end block = mostPages - block
+abbrev decreases-loop : tie.decreases-loop
+decreases-loop image segments slots firsts nexts lengths text₀ at end₀ block₀ text end block = mostPages - block
 
-loop-holds : tie.Need-loop-holds Inv-loop μ-loop
-loop-holds c = blocks-start _ _ _ _
+loop-holds : tie.Need-loop-init invariant-loop decreases-loop
+loop-holds c = blocks_start _ _ _ _
 
-mul-first : tie.Need-mul-first Inv-loop μ-loop
-mul-first c = search needs
+mul-first : tie.Need-overflow-mul-first invariant-loop decreases-loop
+mul-first c = search rules
 
-element-copy-out-first : tie.Need-element-copy-out-first Inv-loop μ-loop
-element-copy-out-first c = search needs
+element-copy-out-first : tie.Need-element-copy-out-first invariant-loop decreases-loop
+element-copy-out-first c = search rules
 
-cast-chain-lines : tie.Need-cast-chain-lines Inv-loop μ-loop
-cast-chain-lines c = search needs
+cast-chain-lines : tie.Need-overflow-cast-chain-lines invariant-loop decreases-loop
+cast-chain-lines c = search rules
 
-chain-lines-requires : tie.Need-chain-lines-requires Inv-loop μ-loop
+chain-lines-requires : tie.Need-chain-lines-requires invariant-loop decreases-loop
 chain-lines-requires c κs =
-    let s = c .before .before .before .before .before .before .before in
-    let a = s .args in
-    let l = c .before .before .before .before .loop in
-    let i = s .pre .1 in
-    let list = listOf (a .segments) (a .slots) (now (a .image)) in
-    let few = i .few in
-    let own = of-few (l .block) list in
-    let room = blocks-room (l .inv) in
-    let start = s .pre .2 in
-    (s .pre .0, c .before .before .before .loop-test .taken, i .listed (l .block), stand-of (a .segments) (a .slots) (l .block) list (i .stands), omega arith, omega arith)
+    let s = c.before.before.before.before.before.before.before in
+    let a = s.args in
+    let l = c.before.before.before.before.loop in
+    let i = s.requires.1 in
+    let list = list_of a.segments a.slots a.image.now in
+    let few = i.few in
+    let own = of-few l.block list in
+    let room = blocks-room l.invariant in
+    let start = s.requires.2 in
+    (s.requires.0, c.before.before.before.loop-test.true, i.listed l.block, stand_of a.segments a.slots l.block list i.stands, omega arith, omega arith)
 
-add-block : tie.Need-add-block Inv-loop μ-loop
-add-block c = search needs
+add-block : tie.Need-overflow-add-block invariant-loop decreases-loop
+add-block c = search rules
 
-loop-less : tie.Need-loop-less Inv-loop μ-loop
-loop-less c = search needs
+loop-less : tie.Need-loop-smaller invariant-loop decreases-loop
+loop-less c = search rules
 
-loop-again : tie.Need-loop-again Inv-loop μ-loop
-unfolding blockLines
+loop-again : tie.Need-loop-preserved invariant-loop decreases-loop
+unfolding block_lines
 loop-again c =
-    let s = c .before .before .before .before .before .before in
-    let a = s .args in
-    let l = c .before .before .before .loop in
-    let i = s .pre .1 in
-    let t = c .before .before .loop-test .taken in
-    ⊎-elim
-    (λ w. blocks-as (w .5) (w .6) (blocks-more (l .inv) t (w .2 .ensures .0) (w .2 .ensures .1)))
-    (λ w. blocks-as (w .1) (w .2) (blocks-none (chain-none (a .slots) (now (a .nexts)) (now (a .lengths)) (getD (now (a .firsts)) (l .block) 0) _ (i .listed (l .block)) (omega (arith, w .0 .left))) (l .inv) t))
-    (c .if1 .came)
+    let s = c.before.before.before.before.before.before in
+    let a = s.args in
+    let l = c.before.before.before.loop in
+    let i = s.requires.1 in
+    let t = c.before.before.loop-test.true in
+    ⊎_elim
+    (λ w. blocks-as w.5 w.6 (blocks_more l.invariant t w.2.ensures.0 w.2.ensures.1))
+    (λ w. blocks-as w.1 w.2 (blocks-none (chain-none a.slots a.nexts.now a.lengths.now (get_or a.firsts.now l.block 0) _ (i.listed l.block) (omega (arith, w.0.left))) l.invariant t))
+    c.if1.branch
 
-same-length : tie.Need-same-length Inv-loop μ-loop
-same-length c = search needs
+same_length : tie.Need-same-length invariant-loop decreases-loop
+same_length c = search rules
 
-returns : tie.Need-returns Inv-loop μ-loop
-unfolding blockLines
+returns : tie.Need-returns invariant-loop decreases-loop
+unfolding block_lines
 returns c =
-    let s = c .before .before .before .before in
-    let a = s .args in
-    let i = s .pre .1 in
-    blocks-end (stand-below (a .segments) (a .slots) (listOf (a .segments) (a .slots) (now (a .image))) (i .stands)) (i .few) (c .before .loop .inv) (c .loop-test .left)
+    let s = c.before.before.before.before in
+    let a = s.args in
+    let i = s.requires.1 in
+    blocks_end (stand-below a.segments a.slots (list_of a.segments a.slots a.image.now) i.stands) i.few c.before.loop.invariant c.loop-test.false
 
 pub block-lines-spec : {M : Type 1} → statement M
 block-lines-spec =
     tie.close
     (tie.spec
-    Inv-loop
-    μ-loop
+    invariant-loop
+    decreases-loop
     loop-holds
     mul-first
     element-copy-out-first
@@ -87,5 +86,5 @@ block-lines-spec =
     add-block
     loop-less
     loop-again
-    same-length
+    same_length
     returns)

@@ -1,49 +1,49 @@
 -- `block_lines::block_text`: four numbers behind their labels. Assumes nothing.
 use native.Mathlib.Omega.{arith}
-use Rattle·text.specs.Text.{text}
-use Rattle·text.specs.Buffer.{labelled}
-use Rattle·text.proofs.Laws.{_then_}
-use Rattle·account_text.specs.Account.{blockText}
-use borrow.Author.Needs.{needs}
-use Rattle·block_lines·proofs.proofs.block_text.Statement.{statement}
-use Rattle·block_lines·proofs.proofs.block_text.Tie as tie
+use Rattle.text.specs.Text.{text}
+use Rattle.text.specs.Buffer.{labelled}
+use Rattle.text.proofs.Laws.{◌then◌}
+use Rattle.account_text.specs.Account.{blockText}
+use borrow.Author.Rules.{rules}
+use Rattle.block_lines.proofs.block_text.Statement.{statement}
+use Rattle.block_lines.proofs.block_text.Tie as tie
 
 slice-aggregate-add-labelled : tie.Need-slice-aggregate-add-labelled
-slice-aggregate-add-labelled c = search needs
+slice-aggregate-add-labelled c = search rules
 
 add-labelled-requires : tie.Need-add-labelled-requires
-add-labelled-requires c κs = search needs
+add-labelled-requires c κs = search rules
 
 slice-aggregate-add-labelled-2 : tie.Need-slice-aggregate-add-labelled-2
-slice-aggregate-add-labelled-2 c = search needs
+slice-aggregate-add-labelled-2 c = search rules
 
 add-labelled-requires-2 : tie.Need-add-labelled-requires-2
-add-labelled-requires-2 c κs = search needs
+add-labelled-requires-2 c κs = search rules
 
 slice-aggregate-add-labelled-3 : tie.Need-slice-aggregate-add-labelled-3
-slice-aggregate-add-labelled-3 c = search needs
+slice-aggregate-add-labelled-3 c = search rules
 
 add-labelled-requires-3 : tie.Need-add-labelled-requires-3
-add-labelled-requires-3 c κs = search needs
+add-labelled-requires-3 c κs = search rules
 
 slice-aggregate-add-labelled-4 : tie.Need-slice-aggregate-add-labelled-4
-slice-aggregate-add-labelled-4 c = search needs
+slice-aggregate-add-labelled-4 c = search rules
 
 add-labelled-requires-4 : tie.Need-add-labelled-requires-4
-add-labelled-requires-4 c κs = search needs
+add-labelled-requires-4 c κs = search rules
 
-same-length : tie.Need-same-length
-same-length c = search needs
+same_length : tie.Need-same-length
+same_length c = search rules
 
 returns : tie.Need-returns
 unfolding blockText labelled text
 returns c =
-    let k4 = c .before .before in
-    let k3 = k4 .before .before .before .before .before in
-    let k2 = k3 .before .before .before .before .before in
-    let k1 = k2 .before .before .before .before .before in (
-      k1 .add-labelled .ensures .0 then k2 .add-labelled2 .ensures .0 then k3 .add-labelled3 .ensures .0 then k4 .add-labelled4 .ensures .0,
-      omega (arith, k1 .add-labelled .ensures .1, k2 .add-labelled2 .ensures .1, k3 .add-labelled3 .ensures .1, k4 .add-labelled4 .ensures .1),
+    let k4 = c.before.before in
+    let k3 = k4.before.before.before.before.before in
+    let k2 = k3.before.before.before.before.before in
+    let k1 = k2.before.before.before.before.before in (
+      k1.add-labelled.ensures.0 then k2.add-labelled2.ensures.0 then k3.add-labelled3.ensures.0 then k4.add-labelled4.ensures.0,
+      omega (arith, k1.add-labelled.ensures.1, k2.add-labelled2.ensures.1, k3.add-labelled3.ensures.1, k4.add-labelled4.ensures.1),
     )
 
 pub block-text-spec : {M : Type 1} → statement M
@@ -58,5 +58,5 @@ block-text-spec =
     add-labelled-requires-3
     slice-aggregate-add-labelled-4
     add-labelled-requires-4
-    same-length
+    same_length
     returns)

@@ -1,39 +1,40 @@
 -- The table of places that a view fills (request #102): entry by entry, and what making room, a put and a delete change of it.
-use Prim.Native.Nat.{ℕ, zero, suc, _+_, _-_, _*_, _≤_, _<_}
-use mathlib.Core.Path.{_≡_, refl, sym, ap, _∙_}
-use mathlib.Core.Bool.{Bool, true, false, cond, _||_, true≢false}
-use mathlib.Core.List.{List, [], _∷_, _++_, flatMap, flatten, append-assoc, append-nil}
-use native.Mathlib.Omega.{arith}
-use lib.ListN.{length, getD, drop, replicate, length-append}
-use lib.Dec.{ltb}
+use Prim.Native.Nat.{ℕ, zero, suc, ◌+◌, ◌-◌, ◌*◌, ◌≤◌, ◌<◌}
+use Rattle.std.specs.Prelude.{◌≡◌, Bool, cond, ◌||◌, get_or, drop}
+use Rattle.std.proofs.Math.Path.{refl, ap}
+use Rattle.std.proofs.Common.{sym, ◌∙◌, true≢false, arith}
+use Rattle.std.proofs.Math.Bool.{true, false}
+use mathlib.Core.List.{List, [], ◌∷◌, ◌++◌, flat_map, flatten, append_assoc, append-nil}
+use Rattle.std.proofs.Math.ListN.{length, replicate, length-append}
+use Rattle.std.proofs.Math.Dec.{ltb}
 use borrow.Author.Tests.{ltb-false}
-use Rattle·model.specs.Slot.{Slot, empty, dead}
-use Rattle·model.specs.State.{View, entries, entriesIn, holds, distinct, Place, placeFrom, placeOf}
-use Rattle·model.specs.Steps.{slotAt, topNumber, hasRoom, copied, openNext, compactOldest, roomFor, compactions, newNumbers}
-use Rattle·model.specs.Mounted.{placeEntry}
-use Rattle·model.specs.Laws.Lists.{flatten-append, flatten-one}
-use Rattle·model.specs.Laws.Tables.{holds-append, copies-append, distinct-copies, held-copies}
-use Rattle·bridge·specs.specs.Predicted.{CleanView}
-use Rattle·bridge·specs.specs.Views.Slots.{entries-append, copied-entries, copied-none}
-use Rattle·bridge·specs.specs.Views.Shape.{clean-distinct}
-use Rattle·bridge·specs.specs.Views.Room.{some-dead, compactions-length}
-use Rattle·bridge·specs.specs.Views.Times.{compactTimes, Needs, after-times, room-times}
+use Rattle.model.specs.Slot.{Slot, empty, dead}
+use Rattle.model.specs.State.{View, entries, entriesIn, holds, distinct, Place, placeFrom, place_of}
+use Rattle.model.specs.Steps.{slot_at, topNumber, hasRoom, copied, openNext, compactOldest, room_for, compactions, newNumbers}
+use Rattle.model.specs.Mounted.{placeEntry}
+use Rattle.model.specs.Laws.Lists.{flatten-append, flatten-one}
+use Rattle.model.specs.Laws.Tables.{holds-append, copies-append, distinct-copies, held-copies}
+use Rattle.bridge.specs.Predicted.{CleanView}
+use Rattle.bridge.specs.Views.Slots.{entries-append, copied-entries, copied_none}
+use Rattle.bridge.specs.Views.Shape.{clean-distinct}
+use Rattle.bridge.specs.Views.Room.{some-dead, compactions-length}
+use Rattle.bridge.specs.Views.Times.{compactTimes, Needs, after-times, room-times}
 
 -- entry k, of rows whose numbers start at n
 unfoldable pub rowsEntry : ℕ → ℕ → ℕ → List (List Slot) → ℕ → ℕ
-rowsEntry N B n rows k = let p = placeFrom k n rows in cond (holds k (entries (flatten rows))) (slotAt N B (p .number) (p .slot) * 256) 0
+rowsEntry N B n rows k = let p = placeFrom k n rows in cond (holds k (entries (flatten rows))) (slot_at N B p.number p.slot * 256) 0
 
-pub view-entry : (N B : ℕ) (v : View) (k : ℕ) → placeEntry N B v k ≡ rowsEntry N B (v .first) (v .slots) k
-unfolding placeEntry rowsEntry entriesIn placeOf
+pub view-entry : (N B : ℕ) (v : View) (k : ℕ) → placeEntry N B v k ≡ rowsEntry N B v.first v.slots k
+unfolding placeEntry rowsEntry entriesIn place_of
 view-entry N B v k = refl
 
 -- ---- rows joined
 
-pub held-rows : (k : ℕ) (x y : List (List Slot)) → holds k (entries (flatten (x ++ y))) ≡ (holds k (entries (flatten x)) || holds k (entries (flatten y)))
-held-rows k x y = rw (flatten-append x y, entries-append (flatten x) (flatten y), holds-append k (entries (flatten x)) (entries (flatten y)))
+pub held_rows : (k : ℕ) (x y : List (List Slot)) → holds k (entries (flatten (x ++ y))) ≡ (holds k (entries (flatten x)) || holds k (entries (flatten y)))
+held_rows k x y = rw (flatten-append x y, entries-append (flatten x) (flatten y), holds-append k (entries (flatten x)) (entries (flatten y)))
 
 place-append : (k n : ℕ) (x y : List (List Slot)) → placeFrom k n (x ++ y) ≡ cond (holds k (entries (flatten x))) (placeFrom k n x) (placeFrom k (n + length x) y)
-unfolding placeFrom flatten entries flatMap holds
+unfolding placeFrom flatten entries flat_map holds
 place-append k n [] y = ap (λ (m : ℕ). placeFrom k m y) (omega arith)
 place-append k n (s ∷ x) y =
     let next : suc n + length x ≡ n + suc (length x) = omega arith in
@@ -49,10 +50,10 @@ place-append k n (s ∷ x) y =
 pub entry-append : (N B n : ℕ) (x y : List (List Slot)) (k : ℕ)
     → rowsEntry N B n (x ++ y) k ≡ cond (holds k (entries (flatten x))) (rowsEntry N B n x k) (rowsEntry N B (n + length x) y k)
 unfolding rowsEntry
-entry-append N B n x y k = rw (held-rows k x y, place-append k n x y) (go (holds k (entries (flatten x))) refl)
+entry-append N B n x y k = rw (held_rows k x y, place-append k n x y) (go (holds k (entries (flatten x))) refl)
   where
     at : Place → ℕ
-    at p = slotAt N B (p .number) (p .slot) * 256
+    at p = slot_at N B p.number p.slot * 256
 
     go : (t : Bool) → holds k (entries (flatten x)) ≡ t
         → cond (t || holds k (entries (flatten y))) (at (cond t (placeFrom k n x) (placeFrom k (n + length x) y))) 0
@@ -60,9 +61,9 @@ entry-append N B n x y k = rw (held-rows k x y, place-append k n x y) (go (holds
     go true e = refl
     go false e = refl
 
-pub entry-absent : (N B n : ℕ) (x : List (List Slot)) (k : ℕ) → holds k (entries (flatten x)) ≡ false → rowsEntry N B n x k ≡ 0
+pub entry_absent : (N B n : ℕ) (x : List (List Slot)) (k : ℕ) → holds k (entries (flatten x)) ≡ false → rowsEntry N B n x k ≡ 0
 unfolding rowsEntry
-entry-absent N B n x k h = rw h
+entry_absent N B n x k h = rw h
 
 either : (x y : Bool) → (x || y) ≡ false → (x ≡ false) × (y ≡ false)
 either true y h = absurd (true≢false h)
@@ -86,29 +87,29 @@ apart k x y d h = go (holds k (entries (flatten x))) refl
 pub record Moved (N B : ℕ) (v w : View) (m : ℕ) : Type 0 where
   pub kept : List (List Slot)
   pub new : List (List Slot)
-  pub split : w .slots ≡ kept ++ new
+  pub split : w.slots ≡ kept ++ new
   pub count : length new ≡ m
-  pub next : w .first + length kept ≡ suc (topNumber v)
+  pub next : w.first + length kept ≡ suc (topNumber v)
   pub entry : (k : ℕ) → placeEntry N B w k ≡ cond (holds k (entries (flatten new))) (rowsEntry N B (suc (topNumber v)) new k) (placeEntry N B v k)
 
 -- nothing moved
-moved-none : (N B : ℕ) (v : View) → 1 ≤ length (v .slots) → Moved N B v v 0
-unfolding topNumber holds entries flatten flatMap
-moved-none N B v h = record { kept = v .slots; new = []; split = sym (append-nil (v .slots)); count = refl; next = omega arith; entry = λ k. refl }
+moved_none : (N B : ℕ) (v : View) → 1 ≤ length v.slots → Moved N B v v 0
+unfolding topNumber holds entries flatten flat_map
+moved_none N B v h = record { kept = v.slots; new = []; split = sym (append-nil v.slots); count = refl; next = omega arith; entry = λ k. refl }
 
 module _ (N B : ℕ) where
   -- one compaction more: its target is the last of the new rows
-  moved-more : (v w : View) (m : ℕ) → CleanView N B (compactOldest N B w .result) → Moved N B v w m → m < length (w .slots) → Moved N B v (compactOldest N B w .result) (suc m)
+  moved_more : (v w : View) (m : ℕ) → CleanView N B (compactOldest N B w).result → Moved N B v w m → m < length w.slots → Moved N B v (compactOldest N B w).result (suc m)
   unfolding compactOldest entriesIn
-  moved-more v w m c d h = go (d .kept) (d .split) (d .next)
+  moved_more v w m c d h = go d.kept d.split d.next
     where
-      go : (kept : List (List Slot)) → w .slots ≡ kept ++ d .new → w .first + length kept ≡ suc (topNumber v) → Moved N B v (compactOldest N B w .result) (suc m)
-      go [] e n = absurd (omega (arith, ap length e, d .count))
+      go : (kept : List (List Slot)) → w.slots ≡ kept ++ d.new → w.first + length kept ≡ suc (topNumber v) → Moved N B v (compactOldest N B w).result (suc m)
+      go [] e n = absurd (omega (arith, ap length e, d.count))
       go (s ∷ kept) e n = record {
         kept = kept;
         new = new;
         split = rows;
-        count = omega (arith, length-append (d .new) (target ∷ []), d .count);
+        count = omega (arith, length-append d.new (target ∷ []), d.count);
         next = omega arith;
         entry = λ k. whole k (holds k (entries (flatten new))) refl;
       }
@@ -117,64 +118,64 @@ module _ (N B : ℕ) where
           target = copied B (entries s)
 
           new : List (List Slot)
-          new = d .new ++ (target ∷ [])
+          new = d.new ++ (target ∷ [])
 
-          rows : drop 1 (w .slots) ++ (copied B (entries (getD (w .slots) 0 [])) ∷ []) ≡ kept ++ new
-          rows = rw e (append-assoc kept (d .new) (target ∷ []))
+          rows : drop 1 w.slots ++ (copied B (entries (get_or w.slots 0 [])) ∷ []) ≡ kept ++ new
+          rows = rw e (append_assoc kept d.new (target ∷ []))
 
-          next : suc (w .first) + length kept ≡ suc (topNumber v)
+          next : suc w.first + length kept ≡ suc (topNumber v)
           next = omega arith
 
-          after : (k : ℕ) → placeEntry N B (compactOldest N B w .result) k ≡ cond (holds k (entries (flatten kept))) (rowsEntry N B (suc (w .first)) kept k) (rowsEntry N B (suc (topNumber v)) new k)
-          after k = view-entry N B (compactOldest N B w .result) k ∙ (ap (λ y. rowsEntry N B (suc (w .first)) y k) rows ∙ (entry-append N B (suc (w .first)) kept new k
-              ∙ ap (λ (y : ℕ). cond (holds k (entries (flatten kept))) (rowsEntry N B (suc (w .first)) kept k) (rowsEntry N B y new k)) next))
+          after : (k : ℕ) → placeEntry N B (compactOldest N B w).result k ≡ cond (holds k (entries (flatten kept))) (rowsEntry N B (suc w.first) kept k) (rowsEntry N B (suc (topNumber v)) new k)
+          after k = view-entry N B (compactOldest N B w).result k ∙ (ap (λ y. rowsEntry N B (suc w.first) y k) rows ∙ (entry-append N B (suc w.first) kept new k
+              ∙ ap (λ (y : ℕ). cond (holds k (entries (flatten kept))) (rowsEntry N B (suc w.first) kept k) (rowsEntry N B y new k)) next))
 
-          whole : (k : ℕ) (t : Bool) → holds k (entries (flatten new)) ≡ t → placeEntry N B (compactOldest N B w .result) k ≡ cond t (rowsEntry N B (suc (topNumber v)) new k) (placeEntry N B v k)
+          whole : (k : ℕ) (t : Bool) → holds k (entries (flatten new)) ≡ t → placeEntry N B (compactOldest N B w).result k ≡ cond t (rowsEntry N B (suc (topNumber v)) new k) (placeEntry N B v k)
           whole k true p = after k ∙ rw (apart k kept new (rw rows at (clean-distinct c)) p)
           whole k false p =
-              let gone : rowsEntry N B (suc (topNumber v)) new k ≡ 0 = entry-absent N B (suc (topNumber v)) new k p in
-              let q = either (holds k (entries (flatten (d .new)))) (holds k (entries (flatten (target ∷ [])))) (sym (held-rows k (d .new) (target ∷ [])) ∙ p) in
-              let here : holds k (entries (flatten (s ∷ []))) ≡ false = rw (flatten-one s) (rw (flatten-one target, copied-entries B (entries s)) at (q .1)) in
-              let one : w .first + 1 ≡ suc (w .first) = omega arith in
-              let was : placeEntry N B w k ≡ cond (holds k (entries (flatten kept))) (rowsEntry N B (suc (w .first)) kept k) 0 =
-              view-entry N B w k ∙ (ap (λ y. rowsEntry N B (w .first) y k) e ∙ (entry-append N B (w .first) (s ∷ []) (kept ++ d .new) k
-              ∙ rw (here, one) (entry-append N B (suc (w .first)) kept (d .new) k ∙ rw (entry-absent N B (suc (w .first) + length kept) (d .new) k (q .0))))) in
-              after k ∙ (rw gone (sym was) ∙ (d .entry k ∙ rw (q .0)))
+              let gone : rowsEntry N B (suc (topNumber v)) new k ≡ 0 = entry_absent N B (suc (topNumber v)) new k p in
+              let q = either (holds k (entries (flatten d.new))) (holds k (entries (flatten (target ∷ [])))) (sym (held_rows k d.new (target ∷ [])) ∙ p) in
+              let here : holds k (entries (flatten (s ∷ []))) ≡ false = rw (flatten-one s) (rw (flatten-one target, copied-entries B (entries s)) at q.1) in
+              let one : w.first + 1 ≡ suc w.first = omega arith in
+              let was : placeEntry N B w k ≡ cond (holds k (entries (flatten kept))) (rowsEntry N B (suc w.first) kept k) 0 =
+              view-entry N B w k ∙ (ap (λ y. rowsEntry N B w.first y k) e ∙ (entry-append N B w.first (s ∷ []) (kept ++ d.new) k
+              ∙ rw (here, one) (entry-append N B (suc w.first) kept d.new k ∙ rw (entry_absent N B (suc w.first + length kept) d.new k q.0)))) in
+              after k ∙ (rw gone (sym was) ∙ (d.entry k ∙ rw q.0))
 
-  moved-times : (v : View) → Needs N B v → (i : ℕ) → i ≤ compactions (v .slots) → Moved N B v (compactTimes N B i v .result) i
+  moved-times : (v : View) → Needs N B v → (i : ℕ) → i ≤ compactions v.slots → Moved N B v (compactTimes N B i v).result i
   unfolding compactTimes
-  moved-times v n zero h = moved-none N B v (n .clean .some)
+  moved-times v n zero h = moved_none N B v n.clean.some
   moved-times v n (suc i) h =
       let a = after-times N B v n i (omega arith) in
-      moved-more v (compactTimes N B i v .result) i (after-times N B v n (suc i) h .clean) (moved-times v n i (omega arith)) (omega (arith, a .rows, compactions-length (v .slots)))
+      moved_more v (compactTimes N B i v).result i (after-times N B v n (suc i) h).clean (moved-times v n i (omega arith)) (omega (arith, a.rows, compactions-length v.slots))
 
   -- an opened segment holds nothing
-  moved-opened : (v : View) → 1 ≤ length (v .slots) → Moved N B v (openNext N B v .result) 1
+  moved-opened : (v : View) → 1 ≤ length v.slots → Moved N B v (openNext N B v).result 1
   unfolding openNext topNumber
   moved-opened v h = record {
-    kept = v .slots;
+    kept = v.slots;
     new = replicate B empty ∷ [];
     split = refl;
     count = refl;
     next = omega arith;
-    entry = λ k. view-entry N B (openNext N B v .result) k ∙ (entry-append N B (v .first) (v .slots) (replicate B empty ∷ []) k
-        ∙ rw (none k, entry-absent N B (v .first + length (v .slots)) (replicate B empty ∷ []) k (none k), view-entry N B v k) (same k (holds k (entries (flatten (v .slots)))) refl));
+    entry = λ k. view-entry N B (openNext N B v).result k ∙ (entry-append N B v.first v.slots (replicate B empty ∷ []) k
+        ∙ rw (none k, entry_absent N B (v.first + length v.slots) (replicate B empty ∷ []) k (none k), view-entry N B v k) (same k (holds k (entries (flatten v.slots))) refl));
   }
     where
       none : (k : ℕ) → holds k (entries (flatten (replicate B empty ∷ []))) ≡ false
-      none k = rw (flatten-one (replicate B empty), copied-none B, copied-entries B []) (unfold holds in refl)
+      none k = rw (flatten-one (replicate B empty), copied_none B, copied-entries B []) (unfold holds in refl)
 
-      same : (k : ℕ) (t : Bool) → holds k (entries (flatten (v .slots))) ≡ t → cond t (rowsEntry N B (v .first) (v .slots) k) 0 ≡ rowsEntry N B (v .first) (v .slots) k
+      same : (k : ℕ) (t : Bool) → holds k (entries (flatten v.slots)) ≡ t → cond t (rowsEntry N B v.first v.slots k) 0 ≡ rowsEntry N B v.first v.slots k
       same k true e = refl
-      same k false e = sym (entry-absent N B (v .first) (v .slots) k e)
+      same k false e = sym (entry_absent N B v.first v.slots k e)
 
-  pub room-moved : 2 ≤ N → 2 ≤ B → (v : View) → CleanView N B v → Moved N B v (roomFor N B v .result) (newNumbers N v)
+  pub room_moved : 2 ≤ N → 2 ≤ B → (v : View) → CleanView N B v → Moved N B v (room_for N B v).result (newNumbers N v)
   unfolding newNumbers
-  room-moved n b v c = go (hasRoom v) (ltb (length (v .slots)) (N - 1)) refl refl
+  room_moved n b v c = go (hasRoom v) (ltb (length v.slots) (N - 1)) refl refl
     where
-      go : (t u : Bool) → hasRoom v ≡ t → ltb (length (v .slots)) (N - 1) ≡ u → Moved N B v (roomFor N B v .result) (cond t 0 (cond u 1 (compactions (v .slots))))
-      go true u e f = unfold roomFor in (rw e (moved-none N B v (c .some)))
-      go false true e f = unfold roomFor in (rw (e, f) (moved-opened v (c .some)))
+      go : (t u : Bool) → hasRoom v ≡ t → ltb (length v.slots) (N - 1) ≡ u → Moved N B v (room_for N B v).result (cond t 0 (cond u 1 (compactions v.slots)))
+      go true u e f = unfold room_for in (rw e (moved_none N B v c.some))
+      go false true e f = unfold room_for in (rw (e, f) (moved-opened v c.some))
       go false false e f =
-          let all : N - 1 ≤ length (v .slots) = ltb-false (length (v .slots)) (N - 1) f in
-          rw (room-times N B n b v c e f) (moved-times v (record { clean = c; none = e; dead = some-dead N B n b v c e all }) (compactions (v .slots)) (omega arith))
+          let all : N - 1 ≤ length v.slots = ltb-false (length v.slots) (N - 1) f in
+          rw (room-times N B n b v c e f) (moved-times v (record { clean = c; none = e; dead = some-dead N B n b v c e all }) (compactions v.slots) (omega arith))

@@ -1,31 +1,31 @@
 -- Block numbers met one after the other: what the code's tests make of one, and what they all come to over a table.
-use Prim.Native.Nat.{ℕ, suc, _+_, _≤_}
-use mathlib.Core.Path.{_≡_, refl, _∙_}
-use mathlib.Core.Bool.{Bool, true, false, cond, _||_, _&&_, or-false, or-assoc}
-use mathlib.Core.List.{List, [], _∷_, _++_}
+use Prim.Native.Nat.{ℕ, suc, ◌+◌, ◌≤◌}
+use mathlib.Core.Path.{◌≡◌, refl, ◌∙◌}
+use mathlib.Core.Bool.{Bool, true, false, cond, ◌||◌, ◌&&◌, or-false, or_assoc}
+use mathlib.Core.List.{List, [], ◌∷◌, ◌++◌}
 use native.Mathlib.Omega.{arith}
 use lib.Dec.{eqb}
-use Rattle·model.specs.Lists.{count}
-use Rattle·model.specs.State.{holds}
-use Rattle·model.specs.Table.{Table, blocks, liveBetween}
-use Rattle·counting·specs.specs.declared.Sought.{Sought}
-use Rattle·counting·specs.specs.declared.Met.{Met}
-use Rattle·counting·specs.specs.Count.{inRange, meet, meetAll}
+use Rattle.model.specs.Lists.{count}
+use Rattle.model.specs.State.{holds}
+use Rattle.model.specs.Table.{Table, blocks, liveBetween}
+use Rattle.counting.specs.declared.Sought.{Sought}
+use Rattle.counting.specs.declared.Met.{Met}
+use Rattle.counting.specs.Count.{in_range, meet, meet_all}
 
 -- ---- one slot
 
 module _ (q : Sought) (m : Met) (b : ℕ) where
-  pub meet-made : (live t x : Bool) (n : ℕ) → t ≡ (live && inRange q b) → n ≡ cond t (m .blocks + 1) (m .blocks) → x ≡ (m .stored || (live && eqb (q .block .0) b))
+  pub meet-made : (live t x : Bool) (n : ℕ) → t ≡ (live && in_range q b) → n ≡ cond t (m.blocks + 1) m.blocks → x ≡ (m.stored || (live && eqb q.block.0 b))
       → record { blocks = n; stored = x } ≡ cond live (meet q m b) m
   unfolding meet
   meet-made true t x n e f g = rw (f, e, g)
-  meet-made false t x n e f g = rw (f, e, g, or-false (m .stored))
+  meet-made false t x n e f g = rw (f, e, g, or-false m.stored)
 
-  pub meet-few : (live : Bool) {r : Met} → r ≡ cond live (meet q m b) m → r .blocks ≤ m .blocks + 1
+  pub meet-few : (live : Bool) {r : Met} → r ≡ cond live (meet q m b) m → r.blocks ≤ m.blocks + 1
   unfolding meet
-  meet-few live e = rw e (go live (inRange q b))
+  meet-few live e = rw e (go live (in_range q b))
     where
-      go : (x y : Bool) → cond x (record { blocks = cond y (m .blocks + 1) (m .blocks); stored = m .stored || eqb (q .block .0) b }) m .blocks ≤ m .blocks + 1
+      go : (x y : Bool) → (cond x (record { blocks = cond y (m.blocks + 1) m.blocks; stored = m.stored || eqb q.block.0 b }) m).blocks ≤ m.blocks + 1
       go true true = omega arith
       go true false = omega arith
       go false y = omega arith
@@ -33,22 +33,22 @@ module _ (q : Sought) (m : Met) (b : ℕ) where
 -- ---- one after the other
 
 module _ (q : Sought) where
-  pub meet-append : (m : Met) (x y : List ℕ) → meetAll q m (x ++ y) ≡ meetAll q (meetAll q m x) y
-  unfolding meetAll
+  pub meet-append : (m : Met) (x y : List ℕ) → meet_all q m (x ++ y) ≡ meet_all q (meet_all q m x) y
+  unfolding meet_all
   meet-append m [] y = refl
   meet-append m (b ∷ x) y = meet-append (meet q m b) x y
 
   -- the blocks of a table: as many more as it has in the range, and the one if it has that
-  pub meet-table : (m : Met) (t : Table) → meetAll q m (blocks t) ≡ record { blocks = m .blocks + liveBetween (q .first .0) (q .last .0) t; stored = m .stored || holds (q .block .0) t }
-  unfolding meetAll meet blocks liveBetween count holds
-  meet-table m [] = let e : m .blocks + 0 ≡ m .blocks = omega arith in rw (e, or-false (m .stored))
-  meet-table m (e ∷ t) = meet-table (meet q m (e .block)) t ∙ go (inRange q (e .block))
+  pub meet-table : (m : Met) (t : Table) → meet_all q m (blocks t) ≡ record { blocks = m.blocks + liveBetween q.first.0 q.last.0 t; stored = m.stored || holds q.block.0 t }
+  unfolding meet_all meet blocks liveBetween count holds
+  meet-table m [] = let e : m.blocks + 0 ≡ m.blocks = omega arith in rw (e, or-false m.stored)
+  meet-table m (e ∷ t) = meet-table (meet q m e.block) t ∙ go (in_range q e.block)
     where
       n : ℕ
-      n = liveBetween (q .first .0) (q .last .0) t
+      n = liveBetween q.first.0 q.last.0 t
 
       go : (x : Bool)
-          → _≡_ {A = Met} (record { blocks = cond x (m .blocks + 1) (m .blocks) + n; stored = (m .stored || eqb (q .block .0) (e .block)) || holds (q .block .0) t })
-          (record { blocks = m .blocks + cond x (suc n) n; stored = m .stored || (eqb (q .block .0) (e .block) || holds (q .block .0) t) })
-      go true = let s : m .blocks + 1 + n ≡ m .blocks + suc n = omega arith in rw (s, or-assoc (m .stored) (eqb (q .block .0) (e .block)) (holds (q .block .0) t))
-      go false = rw (or-assoc (m .stored) (eqb (q .block .0) (e .block)) (holds (q .block .0) t))
+          → ◌≡◌ {A = Met} (record { blocks = cond x (m.blocks + 1) m.blocks + n; stored = (m.stored || eqb q.block.0 e.block) || holds q.block.0 t })
+          (record { blocks = m.blocks + cond x (suc n) n; stored = m.stored || (eqb q.block.0 e.block || holds q.block.0 t) })
+      go true = let s : m.blocks + 1 + n ≡ m.blocks + suc n = omega arith in rw (s, or_assoc m.stored (eqb q.block.0 e.block) (holds q.block.0 t))
+      go false = rw (or_assoc m.stored (eqb q.block.0 e.block) (holds q.block.0 t))

@@ -1,7 +1,7 @@
 -- `counting::counts` is the definition's test. Assumes nothing.
 use mathlib.Core.Path.{refl}
-use Rattle·counting·proofs.proofs.counts.Statement.{statement}
-use Rattle·counting·proofs.proofs.counts.Tie as tie
+use Rattle.counting.proofs.counts.Statement.{statement}
+use Rattle.counting.proofs.counts.Tie as tie
 
 returns : tie.Need-returns
 returns c = refl

@@ -1,26 +1,26 @@
 -- `counting::meet` counts one slot as the definition does. Assumes nothing.
-use mathlib.Core.Path.{_≡_, refl}
+use mathlib.Core.Path.{◌≡◌, refl}
 use mathlib.Core.Bool.{cond}
-use mathlib.Core.Logic.{⊎-elim}
-use Prim.Native.Nat.{_+_}
-use Rattle·counting·proofs.proofs.Laws.Meet.{meet-made}
-use borrow.Author.Needs.{needs}
-use Rattle·counting·proofs.proofs.meet.Statement.{statement}
-use Rattle·counting·proofs.proofs.meet.Tie as tie
+use mathlib.Core.Logic.{⊎_elim}
+use Prim.Native.Nat.{◌+◌}
+use Rattle.counting.proofs.Laws.Meet.{meet-made}
+use borrow.Author.Rules.{rules}
+use Rattle.counting.proofs.meet.Statement.{statement}
+use Rattle.counting.proofs.meet.Tie as tie
 
 counts-requires : tie.Need-counts-requires
-counts-requires c κs = search needs
+counts-requires c κs = search rules
 
-add-blocks : tie.Need-add-blocks
-add-blocks c = search needs
+add-blocks : tie.Need-overflow-add-blocks
+add-blocks c = search rules
 
 returns : tie.Need-returns
 returns c =
-    let met = c .before .before in
-    let test = met .before .counts in
-    let a = met .before .before .args in
-    let n : met .if1 .blocks ≡ cond (test .result) (a .met .blocks + 1) (a .met .blocks) = ⊎-elim (λ w. rw (w .0 .taken) (w .1)) (λ w. rw (w .0 .left) (w .1)) (met .if1 .came) in
-    meet-made (a .sought) (a .met) (a .block) (a .live) (test .result) _ _ (test .ensures) n refl
+    let met = c.before.before in
+    let test = met.before.counts in
+    let a = met.before.before.args in
+    let n : met.if1.blocks ≡ cond test.result (a.met.blocks + 1) a.met.blocks = ⊎_elim (λ w. rw w.0.taken w.1) (λ w. rw w.0.left w.1) met.if1.branch in
+    meet-made a.sought a.met a.block a.live test.result _ _ test.ensures n refl
 
 pub meet-spec : {M : Type 1} → statement M
 meet-spec = tie.close (tie.spec counts-requires add-blocks returns)

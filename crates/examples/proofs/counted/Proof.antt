@@ -1,47 +1,47 @@
-use Prim.Native.Nat.{_≤_, _-_}
-use mathlib.Core.Path.{_≡_}
+use Prim.Native.Nat.{◌≤◌, ◌-◌}
+use mathlib.Core.Path.{◌≡◌}
 use lib.ListN.{length}
-use borrow.Author.Needs.{needs}
-use Rattle·examples·proofs.proofs.counted.Statement.{statement}
-use Rattle·examples·proofs.proofs.counted.Tie as tie
+use borrow.Author.Rules.{rules}
+use Rattle.examples.proofs.counted.Statement.{statement}
+use Rattle.examples.proofs.counted.Tie as tie
 
-abbrev Inv-loop : tie.InvT-loop
-Inv-loop image₀ times i₀ image i = (length image ≡ length image₀) × (i ≤ times)
+abbrev invariant-loop : tie.invariant-loop
+invariant-loop image₀ times i₀ image i = (length image ≡ length image₀) × (i ≤ times)
 
-abbrev μ-loop : tie.MeasureT-loop
-μ-loop image₀ times i₀ image i = times - i
+abbrev decreases-loop : tie.decreases-loop
+decreases-loop image₀ times i₀ image i = times - i
 
-loop-holds : tie.Need-loop-holds Inv-loop μ-loop
-loop-holds c = search needs
+loop-holds : tie.Need-loop-init invariant-loop decreases-loop
+loop-holds c = search rules
 
-add-i : tie.Need-add-i Inv-loop μ-loop
-add-i c = search needs
+add-i : tie.Need-overflow-add-i invariant-loop decreases-loop
+add-i c = search rules
 
-recover-requires : tie.Need-recover-requires Inv-loop μ-loop
-recover-requires c κs = search needs
+recover-requires : tie.Need-recover-requires invariant-loop decreases-loop
+recover-requires c κs = search rules
 
-loop-less : tie.Need-loop-less Inv-loop μ-loop
-loop-less c = search needs
+loop-less : tie.Need-loop-smaller invariant-loop decreases-loop
+loop-less c = search rules
 
-loop-again : tie.Need-loop-again Inv-loop μ-loop
-loop-again c = search needs
+loop-again : tie.Need-loop-preserved invariant-loop decreases-loop
+loop-again c = search rules
 
-same-length : tie.Need-same-length Inv-loop μ-loop
-same-length c = search needs
+same_length : tie.Need-same-length invariant-loop decreases-loop
+same_length c = search rules
 
-returns : tie.Need-returns Inv-loop μ-loop
-returns c = search needs
+returns : tie.Need-returns invariant-loop decreases-loop
+returns c = search rules
 
-pub counted-spec : {M : Type 1} → statement M
-counted-spec =
+pub counted_spec : {M : Type 1} → statement M
+counted_spec =
     tie.close
     (tie.spec
-    Inv-loop
-    μ-loop
+    invariant-loop
+    decreases-loop
     loop-holds
     add-i
     recover-requires
     loop-less
     loop-again
-    same-length
+    same_length
     returns)

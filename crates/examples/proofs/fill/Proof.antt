@@ -1,47 +1,47 @@
-use Prim.Native.Nat.{_≤_, _-_}
-use mathlib.Core.Path.{_≡_}
+use Prim.Native.Nat.{◌≤◌, ◌-◌}
+use mathlib.Core.Path.{◌≡◌}
 use lib.ListN.{length}
-use borrow.Author.Needs.{needs}
-use Rattle·examples·proofs.proofs.fill.Statement.{statement}
-use Rattle·examples·proofs.proofs.fill.Tie as tie
+use borrow.Author.Rules.{rules}
+use Rattle.examples.proofs.fill.Statement.{statement}
+use Rattle.examples.proofs.fill.Tie as tie
 
-abbrev Inv-loop : tie.InvT-loop
-Inv-loop image₀ segments slots last contents block₀ image block = (length image ≡ length image₀) × (block ≤ last)
+abbrev invariant-loop : tie.invariant-loop
+invariant-loop image₀ segments slots last contents block₀ image block = (length image ≡ length image₀) × (block ≤ last)
 
-abbrev μ-loop : tie.MeasureT-loop
-μ-loop image₀ segments slots last contents block₀ image block = last - block
+abbrev decreases-loop : tie.decreases-loop
+decreases-loop image₀ segments slots last contents block₀ image block = last - block
 
-loop-holds : tie.Need-loop-holds Inv-loop μ-loop
-loop-holds c = search needs
+loop-holds : tie.Need-loop-init invariant-loop decreases-loop
+loop-holds c = search rules
 
-add-block : tie.Need-add-block Inv-loop μ-loop
-add-block c = search needs
+add-block : tie.Need-overflow-add-block invariant-loop decreases-loop
+add-block c = search rules
 
-put-requires : tie.Need-put-requires Inv-loop μ-loop
-put-requires c κs = search needs
+put-requires : tie.Need-put-requires invariant-loop decreases-loop
+put-requires c κs = search rules
 
-loop-less : tie.Need-loop-less Inv-loop μ-loop
-loop-less c = search needs
+loop-less : tie.Need-loop-smaller invariant-loop decreases-loop
+loop-less c = search rules
 
-loop-again : tie.Need-loop-again Inv-loop μ-loop
-loop-again c = search needs
+loop-again : tie.Need-loop-preserved invariant-loop decreases-loop
+loop-again c = search rules
 
-same-length : tie.Need-same-length Inv-loop μ-loop
-same-length c = search needs
+same_length : tie.Need-same-length invariant-loop decreases-loop
+same_length c = search rules
 
-returns : tie.Need-returns Inv-loop μ-loop
-returns c = search needs
+returns : tie.Need-returns invariant-loop decreases-loop
+returns c = search rules
 
-pub fill-spec : {M : Type 1} → statement M
-fill-spec =
+pub fill_spec : {M : Type 1} → statement M
+fill_spec =
     tie.close
     (tie.spec
-    Inv-loop
-    μ-loop
+    invariant-loop
+    decreases-loop
     loop-holds
     add-block
     put-requires
     loop-less
     loop-again
-    same-length
+    same_length
     returns)

@@ -1,49 +1,49 @@
-use Prim.Native.Nat.{_≤_, _-_}
-use mathlib.Core.Path.{_≡_}
+use Prim.Native.Nat.{◌≤◌, ◌-◌}
+use mathlib.Core.Path.{◌≡◌}
 use lib.ListN.{length}
-use borrow.Author.Needs.{needs}
-use Rattle·examples·proofs.proofs.small.Statement.{statement}
-use Rattle·examples·proofs.proofs.small.Tie as tie
+use borrow.Author.Rules.{rules}
+use Rattle.examples.proofs.small.Statement.{statement}
+use Rattle.examples.proofs.small.Tie as tie
 
-abbrev Inv-loop : tie.InvT-loop
-Inv-loop image₀ puts i₀ image i = (length image ≡ length image₀) × (i ≤ puts)
+abbrev invariant-loop : tie.invariant-loop
+invariant-loop image₀ puts i₀ image i = (length image ≡ length image₀) × (i ≤ puts)
 
-abbrev μ-loop : tie.MeasureT-loop
-μ-loop image₀ puts i₀ image i = puts - i
+abbrev decreases-loop : tie.decreases-loop
+decreases-loop image₀ puts i₀ image i = puts - i
 
-format-requires : tie.Need-format-requires Inv-loop μ-loop
-format-requires c κs = search needs
+format-requires : tie.Need-format-requires invariant-loop decreases-loop
+format-requires c κs = search rules
 
-loop-holds : tie.Need-loop-holds Inv-loop μ-loop
-loop-holds c = search needs
+loop-holds : tie.Need-loop-init invariant-loop decreases-loop
+loop-holds c = search rules
 
-add-i : tie.Need-add-i Inv-loop μ-loop
-add-i c = search needs
+add-i : tie.Need-overflow-add-i invariant-loop decreases-loop
+add-i c = search rules
 
-slice-aggregate-put : tie.Need-slice-aggregate-put Inv-loop μ-loop
-slice-aggregate-put c = search needs
+slice-aggregate-put : tie.Need-slice-aggregate-put invariant-loop decreases-loop
+slice-aggregate-put c = search rules
 
-put-requires : tie.Need-put-requires Inv-loop μ-loop
-put-requires c κs = search needs
+put-requires : tie.Need-put-requires invariant-loop decreases-loop
+put-requires c κs = search rules
 
-loop-less : tie.Need-loop-less Inv-loop μ-loop
-loop-less c = search needs
+loop-less : tie.Need-loop-smaller invariant-loop decreases-loop
+loop-less c = search rules
 
-loop-again : tie.Need-loop-again Inv-loop μ-loop
-loop-again c = search needs
+loop-again : tie.Need-loop-preserved invariant-loop decreases-loop
+loop-again c = search rules
 
-same-length : tie.Need-same-length Inv-loop μ-loop
-same-length c = search needs
+same_length : tie.Need-same-length invariant-loop decreases-loop
+same_length c = search rules
 
-returns : tie.Need-returns Inv-loop μ-loop
-returns c = search needs
+returns : tie.Need-returns invariant-loop decreases-loop
+returns c = search rules
 
-pub small-spec : {M : Type 1} → statement M
-small-spec =
+pub small_spec : {M : Type 1} → statement M
+small_spec =
     tie.close
     (tie.spec
-    Inv-loop
-    μ-loop
+    invariant-loop
+    decreases-loop
     format-requires
     loop-holds
     add-i
@@ -51,5 +51,5 @@ small-spec =
     put-requires
     loop-less
     loop-again
-    same-length
+    same_length
     returns)

@@ -1,14 +1,14 @@
 -- `faults::still`. Assumes nothing.
 use mathlib.Core.Path.{sym}
 use mathlib.Core.Bool.{and-false, and-true}
-use Rattle·faults·proofs.proofs.still.Statement.{statement}
-use Rattle·faults·proofs.proofs.still.Tie as tie
+use Rattle.faults.proofs.still.Statement.{statement}
+use Rattle.faults.proofs.still.Tie as tie
 
 returns : tie.Need-returns
-returns c = rw (c .if1 .taken) (sym (and-false (c .before .args .held)))
+returns c = rw c.if1.true (sym (and-false c.before.args.held))
 
 returns-2 : tie.Need-returns-2
-returns-2 c = rw (c .if1 .left) (sym (and-true (c .before .args .held)))
+returns-2 c = rw c.if1.false (sym (and-true c.before.args.held))
 
 pub still-spec : {M : Type 1} → statement M
 still-spec = tie.close (tie.spec returns returns-2)

@@ -1,101 +1,100 @@
 -- `faults::test_rows`. The invariant: what is left of the rows, behind what was tested, gives the whole. Assumes nothing.
-use Prim.Native.Nat.{_+_, _-_, _*_, _≤_}
-use mathlib.Core.Path.{_≡_}
+use Prim.Native.Nat.{◌+◌, ◌-◌, ◌*◌, ◌≤◌}
+use mathlib.Core.Path.{◌≡◌}
 use native.Mathlib.Omega.{arith}
 use native.Mathlib.Nat.{mod-lt}
-use borrow.Author.Needs.{needs}
-use denote.Ref.{now}
-use Rattle·model.specs.Chip.{mostSlots}
-use Rattle·judge.specs.Parts.{rowsOn}
-use Rattle·sums.proofs.Laws.{slots-inside}
-use Rattle·faults·specs.specs.Tests.{look, noTests, testRows, rowsTested}
-use Rattle·faults·proofs.proofs.Laws.Slots.{next-live, rows-start, rows-turn, rows-end}
-use Rattle·faults·proofs.proofs.test_rows.Statement.{statement}
-use Rattle·faults·proofs.proofs.test_rows.Tie as tie
+use borrow.Author.Rules.{rules}
+use Rattle.model.specs.Chip.{mostSlots}
+use Rattle.judge.specs.Parts.{rowsOn}
+use Rattle.sums.proofs.Laws.{slots-inside}
+use Rattle.faults.specs.Tests.{look, noTests, testRows, rowsTested}
+use Rattle.faults.proofs.Laws.Slots.{next-live, rows_start, rows-turn, rows_end}
+use Rattle.faults.proofs.test_rows.Statement.{statement}
+use Rattle.faults.proofs.test_rows.Tie as tie
 
-abbrev Inv-loop : tie.InvT-loop
-Inv-loop image segments slots first used seen₀ tests₀ k₀ seen tests k =
-    (testRows (rowsOn image segments slots (used - k) (first + k)) (look tests seen) .tests ≡ rowsTested (rowsOn image segments slots used first)) × (k ≤ used) × (tests .live ≤ mostSlots * k)
+abbrev invariant-loop : tie.invariant-loop
+invariant-loop image segments slots first used seen₀ tests₀ k₀ seen tests k =
+    ((testRows (rowsOn image segments slots (used - k) (first + k)) (look tests seen)).tests ≡ rowsTested (rowsOn image segments slots used first)) × (k ≤ used) × (tests.live ≤ mostSlots * k)
 
-abbrev μ-loop : tie.MeasureT-loop
-μ-loop image segments slots first used seen₀ tests₀ k₀ seen tests k = used - k
+abbrev decreases-loop : tie.decreases-loop
+decreases-loop image segments slots first used seen₀ tests₀ k₀ seen tests k = used - k
 
-loop-holds : tie.Need-loop-holds Inv-loop μ-loop
+loop-holds : tie.Need-loop-init invariant-loop decreases-loop
 unfolding noTests
-loop-holds c = let a = c .before .args in (rows-start (now (a .image)) (a .segments) (a .slots) (a .used) (a .first), omega arith, omega arith)
+loop-holds c = let a = c.before.args in (rows_start a.image.now a.segments a.slots a.used a.first, omega arith, omega arith)
 
-add-at : tie.Need-add-at Inv-loop μ-loop
-add-at c = omega (arith, c .before .before .before .pre)
+add_at : tie.Need-overflow-add-at invariant-loop decreases-loop
+add_at c = omega (arith, c.before.before.before.requires)
 
-rem-at : tie.Need-rem-at Inv-loop μ-loop
-rem-at c = omega (arith, c .before .before .before .pre .0 .some)
+rem-at : tie.Need-nonzero-rem-at invariant-loop decreases-loop
+rem-at c = omega (arith, c.before.before.before.requires.0.some)
 
-add-at-2 : tie.Need-add-at-2 Inv-loop μ-loop
-add-at-2 c = omega (arith, c .before .before .before .pre .0 .slots)
+add-at-2 : tie.Need-overflow-add-at-2 invariant-loop decreases-loop
+add-at-2 c = omega (arith, c.before.before.before.requires.0.slots)
 
-mul-at : tie.Need-mul-at Inv-loop μ-loop
-mul-at c =
-    let s = c .before .before .before in
-    let m = mod-lt (s .args .first + c .before .loop .k) (s .pre .0 .some) in
-    omega (arith, s .pre .0 .whole, slots-inside (s .args .segments) (s .args .slots) _ m)
+mul_at : tie.Need-overflow-mul-at invariant-loop decreases-loop
+mul_at c =
+    let s = c.before.before.before in
+    let m = mod-lt (s.args.first + c.before.loop.k) s.requires.0.some in
+    omega (arith, s.requires.0.whole, slots-inside s.args.segments s.args.slots _ m)
 
-add-at-3 : tie.Need-add-at-3 Inv-loop μ-loop
+add-at-3 : tie.Need-overflow-add-at-3 invariant-loop decreases-loop
 add-at-3 c =
-    let s = c .before .before .before in
-    let m = mod-lt (s .args .first + c .before .loop .k) (s .pre .0 .some) in
-    omega (arith, s .pre .0 .whole, slots-inside (s .args .segments) (s .args .slots) _ m)
+    let s = c.before.before.before in
+    let m = mod-lt (s.args.first + c.before.loop.k) s.requires.0.some in
+    omega (arith, s.requires.0.whole, slots-inside s.args.segments s.args.slots _ m)
 
-mul-at-2 : tie.Need-mul-at-2 Inv-loop μ-loop
+mul-at-2 : tie.Need-overflow-mul-at-2 invariant-loop decreases-loop
 mul-at-2 c =
-    let s = c .before .before .before in
-    let m = mod-lt (s .args .first + c .before .loop .k) (s .pre .0 .some) in
-    omega (arith, s .pre .0 .whole, slots-inside (s .args .segments) (s .args .slots) _ m)
+    let s = c.before.before.before in
+    let m = mod-lt (s.args.first + c.before.loop.k) s.requires.0.some in
+    omega (arith, s.requires.0.whole, slots-inside s.args.segments s.args.slots _ m)
 
-next-row-requires : tie.Need-next-row-requires Inv-loop μ-loop
-next-row-requires c κs = search needs
+next-row-requires : tie.Need-next-row-requires invariant-loop decreases-loop
+next-row-requires c κs = search rules
 
-test-row-requires : tie.Need-test-row-requires Inv-loop μ-loop
+test-row-requires : tie.Need-test-row-requires invariant-loop decreases-loop
 test-row-requires c κs =
-    let s = c .before .before .before .before .before in
-    let l = c .before .before .before .loop in
-    let m = mod-lt (s .args .first + l .k) (s .pre .0 .some) in
-    (omega (arith, s .pre .0 .whole, slots-inside (s .args .segments) (s .args .slots) _ m), s .pre .0 .slots, omega (arith, l .inv, s .pre .2, next-live _ _ (c .before .next-row .ensures)))
+    let s = c.before.before.before.before.before in
+    let l = c.before.before.before.loop in
+    let m = mod-lt (s.args.first + l.k) s.requires.0.some in
+    (omega (arith, s.requires.0.whole, slots-inside s.args.segments s.args.slots _ m), s.requires.0.slots, omega (arith, l.invariant, s.requires.2, next-live _ _ c.before.next_row.ensures))
 
-add-k : tie.Need-add-k Inv-loop μ-loop
-add-k c = search needs
+add-k : tie.Need-overflow-add-k invariant-loop decreases-loop
+add-k c = search rules
 
-loop-less : tie.Need-loop-less Inv-loop μ-loop
-loop-less c = search needs
+loop-less : tie.Need-loop-smaller invariant-loop decreases-loop
+loop-less c = search rules
 
-loop-again : tie.Need-loop-again Inv-loop μ-loop
+loop-again : tie.Need-loop-preserved invariant-loop decreases-loop
 loop-again c =
-    let s = c .before .before .before .before .before .before in
-    let a = s .args in
-    let l = c .before .before .before .before .loop in
-    let z = c .before .before .next-row in
-    let r = c .test-row in (
-      rows-turn (now (a .image)) (a .segments) (a .slots) (a .used) (a .first) (l .k) (l .tests) (z .result) (r .result) (l .seen) _ _ (c .before .before .before .loop-test .taken) (z .ensures) (r .ensures .0) (l .inv .0),
+    let s = c.before.before.before.before.before.before in
+    let a = s.args in
+    let l = c.before.before.before.before.loop in
+    let z = c.before.before.next_row in
+    let r = c.test-row in (
+      rows-turn a.image.now a.segments a.slots a.used a.first l.k l.tests z.result r.result l.seen _ _ c.before.before.before.loop-test.true z.ensures r.ensures.0 l.invariant.0,
       omega arith,
-      omega (arith, l .inv .2, s .pre .0 .slots, r .ensures .1, next-live _ _ (z .ensures)),
+      omega (arith, l.invariant.2, s.requires.0.slots, r.ensures.1, next-live _ _ z.ensures),
     )
 
-returns : tie.Need-returns Inv-loop μ-loop
+returns : tie.Need-returns invariant-loop decreases-loop
 returns c =
-    let a = c .before .before .before .args in
-    let l = c .before .loop in
-    rows-end (now (a .image)) (a .segments) (a .slots) (a .used) (a .first) (l .k) (l .tests) _ (l .seen) (c .loop-test .left) (l .inv .0)
+    let a = c.before.before.before.args in
+    let l = c.before.loop in
+    rows_end a.image.now a.segments a.slots a.used a.first l.k l.tests _ l.seen c.loop-test.false l.invariant.0
 
 pub test-rows-spec : {M : Type 1} → statement M
 test-rows-spec =
     tie.close
     (tie.spec
-    Inv-loop
-    μ-loop
+    invariant-loop
+    decreases-loop
     loop-holds
-    add-at
+    add_at
     rem-at
     add-at-2
-    mul-at
+    mul_at
     add-at-3
     mul-at-2
     next-row-requires

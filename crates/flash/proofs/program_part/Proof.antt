@@ -1,29 +1,29 @@
 -- `flash::program_part` programs the bytes of a part of the page made up. Assumes nothing.
-use Rattle·flash·proofs.proofs.Pages.{programmed-part}
-use borrow.Author.Needs.{needs}
-use Rattle·flash·proofs.proofs.program_part.Statement.{statement}
-use Rattle·flash·proofs.proofs.program_part.Tie as tie
+use Rattle.flash.proofs.Pages.{programmed-part}
+use borrow.Author.Rules.{rules}
+use Rattle.flash.proofs.program_part.Statement.{statement}
+use Rattle.flash.proofs.program_part.Tie as tie
 
-add-end : tie.Need-add-end
-add-end c = search needs
+add-end : tie.Need-overflow-add-end
+add-end c = search rules
 
-sub-program-run : tie.Need-sub-program-run
-sub-program-run c = search needs
+sub-program-run : tie.Need-overflow-sub-program-run
+sub-program-run c = search rules
 
-part-program-run-start : tie.Need-part-program-run-start
-part-program-run-start c = search needs
+part-program-run-start : tie.Need-slice-bounds-program-run-start
+part-program-run-start c = search rules
 
-part-program-run-end : tie.Need-part-program-run-end
-part-program-run-end c = search needs
+part-program-run-end : tie.Need-slice-bounds-program-run-end
+part-program-run-end c = search rules
 
 program-run-requires : tie.Need-program-run-requires
-program-run-requires c κs = search needs
+program-run-requires c κs = search rules
 
-same-length : tie.Need-same-length
-same-length c = search needs
+same_length : tie.Need-same-length
+same_length c = search rules
 
 returns : tie.Need-returns
-returns c = programmed-part _ _ _ (c .before .before .program-run .ensures)
+returns c = programmed-part _ _ _ c.before.before.program-run.ensures
 
 pub program-part-spec : {M : Type 1} → statement M
 program-part-spec =
@@ -34,5 +34,5 @@ program-part-spec =
     part-program-run-start
     part-program-run-end
     program-run-requires
-    same-length
+    same_length
     returns)

@@ -1,50 +1,50 @@
 -- Laws of header pages: numbers and the version in them, and the fields made up byte by byte.
-use Prim.Native.Nat.{ℕ, suc, _+_, _-_, _*_, _/_, _%_, _≤_}
-use mathlib.Core.Path.{_≡_, refl}
-use mathlib.Core.Logic.{_⊎_, inl, inr}
+use Prim.Native.Nat.{ℕ, suc, ◌+◌, ◌-◌, ◌*◌, ◌/◌, ◌%◌, ◌≤◌}
+use mathlib.Core.Path.{◌≡◌, refl}
+use mathlib.Core.Logic.{◌⊎◌, inl, inr}
 use mathlib.Core.Bool.{Bool, true, false, cond, not}
-use mathlib.Core.List.{[], _∷_}
+use mathlib.Core.List.{[], ◌∷◌}
 use native.Mathlib.Nat.{add-zero}
 use native.Mathlib.Omega.{arith}
-use lib.ListN.{length, getD, take, drop, replicate}
+use lib.ListN.{length, get_or, take, drop, replicate}
 use lib.Seq.{drop-cons}
 use lib.Dec.{eqb}
-use Rattle·model.specs.Chip.{Page, erased}
-use Rattle·model.specs.Header.{numberBytes, inverted, value, Version, version1, version2, newVersion, isFormer, versionNumber, headerPage, headerNumber, headerVersion}
-use Rattle·header·specs.specs.Parts.{headerTotal, headerFields}
+use Rattle.model.specs.Chip.{Page, erased}
+use Rattle.model.specs.Header.{numberBytes, inverted, value, Version, version1, version2, newVersion, isFormer, versionNumber, headerPage, headerNumber, headerVersion}
+use Rattle.header.specs.Parts.{headerTotal, headerFields}
 
 -- ---- numbers
 
-pub four-bytes : (h : Page) (k : ℕ) → k + 4 ≤ length h → take 4 (drop k h) ≡ getD h k 0 ∷ getD h (suc k) 0 ∷ getD h (suc (suc k)) 0 ∷ getD h (suc (suc (suc k))) 0 ∷ []
-four-bytes h k l =
+pub four_bytes : (h : Page) (k : ℕ) → k + 4 ≤ length h → take 4 (drop k h) ≡ get_or h k 0 ∷ get_or h (suc k) 0 ∷ get_or h (suc (suc k)) 0 ∷ get_or h (suc (suc (suc k))) 0 ∷ []
+four_bytes h k l =
     rw (drop-cons h k 0 (omega arith), drop-cons h (suc k) 0 (omega arith), drop-cons h (suc (suc k)) 0 (omega arith), drop-cons h (suc (suc (suc k))) 0 (omega arith))
 
-value-read : (h : Page) (k : ℕ) → length h ≡ 256 → k + 4 ≤ 256
-    → getD h k 0 + 256 * (getD h (suc k) 0 + 256 * (getD h (suc (suc k)) 0 + 256 * getD h (suc (suc (suc k))) 0)) ≡ value (take 4 (drop k h))
+value_read : (h : Page) (k : ℕ) → length h ≡ 256 → k + 4 ≤ 256
+    → get_or h k 0 + 256 * (get_or h (suc k) 0 + 256 * (get_or h (suc (suc k)) 0 + 256 * get_or h (suc (suc (suc k))) 0)) ≡ value (take 4 (drop k h))
 unfolding value
-value-read h k e l = rw (four-bytes h k (omega arith), add-zero)
+value_read h k e l = rw (four_bytes h k (omega arith), add-zero)
 
-pub number-read : (h : Page) → length h ≡ 256 → getD h 8 0 + 256 * (getD h 9 0 + 256 * (getD h 10 0 + 256 * getD h 11 0)) ≡ headerNumber h
+pub number_read : (h : Page) → length h ≡ 256 → get_or h 8 0 + 256 * (get_or h 9 0 + 256 * (get_or h 10 0 + 256 * get_or h 11 0)) ≡ headerNumber h
 unfolding headerNumber
-number-read h e = value-read h 8 e (omega arith)
+number_read h e = value_read h 8 e (omega arith)
 
-pub total-read : (h : Page) → length h ≡ 256 → getD h 17 0 + 256 * (getD h 18 0 + 256 * (getD h 19 0 + 256 * getD h 20 0)) ≡ headerTotal h
+pub total-read : (h : Page) → length h ≡ 256 → get_or h 17 0 + 256 * (get_or h 18 0 + 256 * (get_or h 19 0 + 256 * get_or h 20 0)) ≡ headerTotal h
 unfolding headerTotal
-total-read h e = value-read h 17 e (omega arith)
+total-read h e = value_read h 17 e (omega arith)
 
 -- ---- the page
 
-pub fields-made : (N B : ℕ) (former : Bool) (st n old v a b c d : ℕ) → v ≡ cond former 1 2 → a ≡ n % 256 → b ≡ n / 256 % 256 → c ≡ n / 256 / 256 % 256 → d ≡ n / 256 / 256 / 256 % 256
+pub fields_made : (N B : ℕ) (former : Bool) (st n old v a b c d : ℕ) → v ≡ cond former 1 2 → a ≡ n % 256 → b ≡ n / 256 % 256 → c ≡ n / 256 / 256 % 256 → d ≡ n / 256 / 256 / 256 % 256
     → 0x53 ∷ 0x4C ∷ 0x54 ∷ v ∷ 0 ∷ st ∷ B ∷ N ∷ a ∷ b ∷ c ∷ d ∷ (255 - a) ∷ (255 - b) ∷ (255 - c) ∷ (255 - d) ∷ old ∷ replicate 239 255 ≡ headerFields N B former st n old
 unfolding headerFields headerPage numberBytes inverted erased newVersion versionNumber
-fields-made N B true st n old v a b c d ev ea eb ec ed = rw (ev, ea, eb, ec, ed)
-fields-made N B false st n old v a b c d ev ea eb ec ed = rw (ev, ea, eb, ec, ed)
+fields_made N B true st n old v a b c d ev ea eb ec ed = rw (ev, ea, eb, ec, ed)
+fields_made N B false st n old v a b c d ev ea eb ec ed = rw (ev, ea, eb, ec, ed)
 
 -- ---- version
 
-pub former-read : (h : Page) → not (eqb (getD h 3 0) 2) ≡ isFormer (headerVersion h)
+pub former-read : (h : Page) → not (eqb (get_or h 3 0) 2) ≡ isFormer (headerVersion h)
 unfolding headerVersion isFormer
-former-read h = go (eqb (getD h 3 0) 2)
+former-read h = go (eqb (get_or h 3 0) 2)
   where
     go : (t : Bool) → not t ≡ isFormer (cond t (version2 (value (take 4 (drop 17 h))) (drop 32 h)) version1)
     go true = refl
@@ -52,7 +52,7 @@ former-read h = go (eqb (getD h 3 0) 2)
 
 pub either-version : (h : Page) → (headerVersion h ≡ version1) ⊎ (headerVersion h ≡ version2 (headerTotal h) (drop 32 h))
 unfolding headerVersion headerTotal
-either-version h = go (eqb (getD h 3 0) 2) (version2 (value (take 4 (drop 17 h))) (drop 32 h))
+either-version h = go (eqb (get_or h 3 0) 2) (version2 (value (take 4 (drop 17 h))) (drop 32 h))
   where
     go : (t : Bool) (e : Version) → (cond t e version1 ≡ version1) ⊎ (cond t e version1 ≡ e)
     go true e = inr refl

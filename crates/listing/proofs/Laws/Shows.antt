@@ -1,24 +1,24 @@
 -- Segments as they are shown.
-use Prim.Native.Nat.{ℕ, suc, _+_, _-_, _%_, _<_}
-use mathlib.Core.Path.{_≡_, refl, sym, ap, ap₂, _∙_}
-use mathlib.Core.Bool.{Bool, true, false, cond, _||_, _&&_, not, false≢true}
-use mathlib.Core.List.{List, [], _∷_, map}
+use Prim.Native.Nat.{ℕ, suc, ◌+◌, ◌-◌, ◌%◌, ◌<◌}
+use mathlib.Core.Path.{◌≡◌, refl, sym, ap, ap₂, ◌∙◌}
+use mathlib.Core.Bool.{Bool, true, false, cond, ◌||◌, ◌&&◌, not, false≢true}
+use mathlib.Core.List.{List, [], ◌∷◌, map}
 use native.Mathlib.Omega.{arith}
 use native.Mathlib.Nat.{mod-lt}
-use lib.ListN.{length, getD, take, set}
-use lib.Seq.{take-set-lt, map-set-same}
+use lib.ListN.{length, get_or, take, set}
+use lib.Seq.{take-set-lt, map-set_same}
 use lib.Dec.{eqb}
-use Rattle·model.specs.Header.{erasePending, compacted}
-use Rattle·model.specs.State.{Segment, blank, invalid, inUse, isInUse, isInvalid, isOwing, numberAfter, nextNumber, nextIndex, topIndex, usedCount, isClean, topSettled, isA, isB, isC, isD, stateOf, State, clean, unfinished, damaged, caseA, caseB, caseC, caseD}
-use Rattle·model.specs.Laws.Lists.{and-left, map-set}
-use Rattle·model.specs.Laws.Ring.{next-ge}
-use Rattle·judge.specs.Heads.{outline, stateSeen}
-use Rattle·judge.specs.declared.SegmentState.the-variants.{Invalid, InUse, Owing}
-use Rattle·scan.specs.Surveys.{mendIn, surveyIn, surveyOf}
-use Rattle·account_text.specs.Account.{unseen, shownIn, shown}
-use Rattle·index.specs.declared.Shown.{Shown}
-use Rattle·index.specs.Shows.{noCounts, shownAs, uncounted, afterBy, afterShown}
-use Rattle·listing·specs.specs.Walk.{hidden}
+use Rattle.model.specs.Header.{erasePending, compacted}
+use Rattle.model.specs.State.{Segment, blank, invalid, inUse, isInUse, isInvalid, isOwing, numberAfter, nextNumber, nextIndex, topIndex, usedCount, isClean, topSettled, is_a, is_b, isC, isD, state_of, State, clean, unfinished, damaged, caseA, caseB, caseC, caseD}
+use Rattle.model.specs.Laws.Lists.{and_left, map-set}
+use Rattle.model.specs.Laws.Ring.{next-ge}
+use Rattle.judge.specs.Heads.{outline, stateSeen}
+use Rattle.judge.specs.declared.SegmentState.TheVariants.{Invalid, InUse, Owing}
+use Rattle.scan.specs.Surveys.{mendIn, surveyIn, surveyOf}
+use Rattle.account_text.specs.Account.{unseen, shownIn, shown}
+use Rattle.index.specs.declared.Shown.{Shown}
+use Rattle.index.specs.Shows.{noCounts, shownAs, uncounted, afterBy, afterShown}
+use Rattle.listing.specs.Walk.{hidden}
 
 -- ---- uncounted
 
@@ -63,18 +63,18 @@ owing-some blank h = absurd (false≢true h)
 owing-some invalid h = absurd (false≢true h)
 owing-some (inUse ver st n ks) h = omega arith
 
-some-b : (N B : ℕ) (l : List Segment) → stateOf N B l ≡ unfinished caseB → 0 < nextNumber l
-unfolding stateOf
-some-b N B l e = go (isClean N B l) (isA N B l) (isB N B l) (isC N B l) (isD N B l) refl (ap byB e)
+some-b : (N B : ℕ) (l : List Segment) → state_of N B l ≡ unfinished caseB → 0 < nextNumber l
+unfolding state_of
+some-b N B l e = go (isClean N B l) (is_a N B l) (is_b N B l) (isC N B l) (isD N B l) refl (ap byB e)
   where
-    top : isB N B l ≡ true → 0 < nextNumber l
+    top : is_b N B l ≡ true → 0 < nextNumber l
     top h =
-        let x = getD l (topIndex N l) blank in
-        let o = owing-some x (and-left (isOwing x) (eqb (usedCount (topSettled N l)) (N - 1) && isClean N B (topSettled N l)) (unfold isB in h)) in
+        let x = get_or l (topIndex N l) blank in
+        let o = owing-some x (and_left (isOwing x) (eqb (usedCount (topSettled N l)) (N - 1) && isClean N B (topSettled N l)) (unfold is_b in h)) in
         let g = next-ge l (topIndex N l) in
         omega arith
 
-    go : (c a b q d : Bool) → isB N B l ≡ b → byB (cond c clean (cond a (unfinished caseA) (cond b (unfinished caseB) (cond q (unfinished caseC) (cond d (unfinished caseD) damaged))))) ≡ true → 0 < nextNumber l
+    go : (c a b q d : Bool) → is_b N B l ≡ b → byB (cond c clean (cond a (unfinished caseA) (cond b (unfinished caseB) (cond q (unfinished caseC) (cond d (unfinished caseD) damaged))))) ≡ true → 0 < nextNumber l
     go true a b q d z h = absurd (false≢true h)
     go false true b q d z h = absurd (false≢true h)
     go false false true q d z h = top z
@@ -91,26 +91,26 @@ unseen-shown (inUse ver st n ks) = refl
 
 pub hidden-shown : (N B : ℕ) (l : List Segment) (table : List Shown) → 0 < N → length l ≡ N → take N table ≡ map uncounted l → take N (hidden (surveyOf N B l) N table) ≡ map uncounted (shown N B l)
 unfolding surveyOf shown
-hidden-shown N B l table p z e = go (stateOf N B l) refl
+hidden-shown N B l table p z e = go (state_of N B l) refl
   where
-    torn : (t : Bool) → t ≡ not (isInUse (getD l (nextIndex N l) blank) || isInvalid (getD l (nextIndex N l) blank))
-        → take N (cond t table (set table (nextIndex N l) (shownAs Invalid 0 noCounts))) ≡ map uncounted (set l (nextIndex N l) (unseen (getD l (nextIndex N l) blank)))
-    torn true q = e ∙ (sym (map-set-same uncounted l (nextIndex N l) (unseen (getD l (nextIndex N l) blank)) blank
-        (unseen-shown (getD l (nextIndex N l) blank) ∙ ap (λ (b : Bool). cond b (uncounted (getD l (nextIndex N l) blank)) (shownAs Invalid 0 noCounts)) (sym q))))
+    torn : (t : Bool) → t ≡ not (isInUse (get_or l (nextIndex N l) blank) || isInvalid (get_or l (nextIndex N l) blank))
+        → take N (cond t table (set table (nextIndex N l) (shownAs Invalid 0 noCounts))) ≡ map uncounted (set l (nextIndex N l) (unseen (get_or l (nextIndex N l) blank)))
+    torn true q = e ∙ (sym (map-set_same uncounted l (nextIndex N l) (unseen (get_or l (nextIndex N l) blank)) blank
+        (unseen-shown (get_or l (nextIndex N l) blank) ∙ ap (λ (b : Bool). cond b (uncounted (get_or l (nextIndex N l) blank)) (shownAs Invalid 0 noCounts)) (sym q))))
     torn false q = take-set-lt N table (nextIndex N l) (shownAs Invalid 0 noCounts) (unfold nextIndex in (mod-lt (nextNumber l) p))
         ∙ (ap (λ (y : List Shown). set y (nextIndex N l) (shownAs Invalid 0 noCounts)) e
-        ∙ sym (map-set uncounted l (nextIndex N l) (unseen (getD l (nextIndex N l) blank))
-        ∙ ap (set (map uncounted l) (nextIndex N l)) (unseen-shown (getD l (nextIndex N l) blank) ∙ ap (λ (b : Bool). cond b (uncounted (getD l (nextIndex N l) blank)) (shownAs Invalid 0 noCounts)) (sym q))))
+        ∙ sym (map-set uncounted l (nextIndex N l) (unseen (get_or l (nextIndex N l) blank))
+        ∙ ap (set (map uncounted l) (nextIndex N l)) (unseen-shown (get_or l (nextIndex N l) blank) ∙ ap (λ (b : Bool). cond b (uncounted (get_or l (nextIndex N l) blank)) (shownAs Invalid 0 noCounts)) (sym q))))
 
-    after : stateOf N B l ≡ unfinished caseB → take N (cond (not (isInUse (getD l (nextIndex N l) blank) || isInvalid (getD l (nextIndex N l) blank))) table (set table ((nextNumber l - 1 + 1) % N) (shownAs Invalid 0 noCounts)))
-        ≡ map uncounted (set l (nextIndex N l) (unseen (getD l (nextIndex N l) blank)))
+    after : state_of N B l ≡ unfinished caseB → take N (cond (not (isInUse (get_or l (nextIndex N l) blank) || isInvalid (get_or l (nextIndex N l) blank))) table (set table ((nextNumber l - 1 + 1) % N) (shownAs Invalid 0 noCounts)))
+        ≡ map uncounted (set l (nextIndex N l) (unseen (get_or l (nextIndex N l) blank)))
     after w =
         let k = some-b N B l w in
         let m : nextNumber l - 1 + 1 ≡ nextNumber l = omega arith in
         let n : (nextNumber l - 1 + 1) % N ≡ nextIndex N l = ap (λ (y : ℕ). y % N) m ∙ (unfold nextIndex in refl) in
-        rw n (torn (not (isInUse (getD l (nextIndex N l) blank) || isInvalid (getD l (nextIndex N l) blank))) refl)
+        rw n (torn (not (isInUse (get_or l (nextIndex N l) blank) || isInvalid (get_or l (nextIndex N l) blank))) refl)
 
-    go : (st : State) → stateOf N B l ≡ st → take N (hidden (surveyIn N B l st) N table) ≡ map uncounted (shownIn N l st)
+    go : (st : State) → state_of N B l ≡ st → take N (hidden (surveyIn N B l st) N table) ≡ map uncounted (shownIn N l st)
     go clean w = unfold surveyIn hidden shownIn in e
     go (unfinished caseA) w = unfold surveyIn mendIn hidden shownIn in e
     go (unfinished caseB) w = unfold surveyIn mendIn hidden shownIn in (after w)

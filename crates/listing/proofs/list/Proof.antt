@@ -1,32 +1,31 @@
 -- `listing::list`: tables that hold none yet list what is put into them. Assumes nothing.
 use Prim.Native.Nat.{ℕ}
-use mathlib.Core.Path.{sym, ap, _∙_, subst}
+use mathlib.Core.Path.{sym, ap, ◌∙◌, subst}
 use mathlib.Core.List.{List}
-use denote.Ref.{now}
 use lib.ListN.{length, length-replicate}
-use Rattle·scan.proofs.Laws.Surveys.{right-size}
-use Rattle·index.specs.Tables.{Tables, tables, Indexed}
-use Rattle·index.specs.Chains.{Whole, Bare, zeros-bare}
-use Rattle·index.specs.Walks.{indexed}
-use borrow.Author.Needs.{needs}
-use Rattle·listing·proofs.proofs.list.Statement.{statement}
-use Rattle·listing·proofs.proofs.list.Tie as tie
+use Rattle.scan.proofs.Laws.Surveys.{right-size}
+use Rattle.index.specs.Tables.{Tables, tables, Indexed}
+use Rattle.index.specs.Chains.{Whole, Bare, zeros-bare}
+use Rattle.index.specs.Walks.{indexed}
+use borrow.Author.Rules.{rules}
+use Rattle.listing.proofs.list.Statement.{statement}
+use Rattle.listing.proofs.list.Tie as tie
 
 see-requires : tie.Need-see-requires
-see-requires c κs = search needs
+see-requires c κs = search rules
 
 list-segments-requires : tie.Need-list-segments-requires
-list-segments-requires c κs = (right-size _ _ _ (c .before .before .before .before .before .pre .0) .0, c .before .before .before .see .ensures)
+list-segments-requires c κs = ((right-size _ _ _ c.before.before.before.before.before.requires.0).0, c.before.before.before.see.ensures)
 
 returns : tie.Need-returns
 returns c =
-    let s = c .before .before .before .before .before .before in
-    let a = s .args in
-    let z = right-size _ _ _ (s .pre .0) .0 in
-    let t = tables (now (a .firsts)) (now (a .nexts)) (now (a .lengths)) in
-    let w : Whole t = (ap length (s .pre .2) ∙ length-replicate {A = ℕ} 65536 0, ap length (s .pre .3) ∙ length-replicate {A = ℕ} 65536 0, ap length (s .pre .4) ∙ length-replicate {A = ℕ} 65536 0) in
-    let b : Bare t = λ k. ap (λ (l : List ℕ). lib.ListN.getD l k 0) (s .pre .2) ∙ zeros-bare 65536 (now (a .nexts)) (now (a .lengths)) k in
-    (c .list-segments .ensures .0, subst (λ (u : Tables). Indexed (a .segments) (a .slots) (now (a .image)) u) (sym (c .list-segments .ensures .1)) (indexed (a .segments) (a .slots) (now (a .image)) (z .some) (z .segments) (z .slots) t w b))
+    let s = c.before.before.before.before.before.before in
+    let a = s.args in
+    let z = (right-size _ _ _ s.requires.0).0 in
+    let t = tables a.firsts.now a.nexts.now a.lengths.now in
+    let w : Whole t = (ap length s.requires.2 ∙ length-replicate {A = ℕ} 65536 0, ap length s.requires.3 ∙ length-replicate {A = ℕ} 65536 0, ap length s.requires.4 ∙ length-replicate {A = ℕ} 65536 0) in
+    let b : Bare t = λ k. ap (λ (l : List ℕ). lib.ListN.get_or l k 0) s.requires.2 ∙ zeros-bare 65536 a.nexts.now a.lengths.now k in
+    (c.list-segments.ensures.0, subst (λ (u : Tables). Indexed a.segments a.slots a.image.now u) (sym c.list-segments.ensures.1) (indexed a.segments a.slots a.image.now z.some z.segments z.slots t w b))
 
 pub list-spec : {M : Type 1} → statement M
 list-spec = tie.close (tie.spec see-requires list-segments-requires returns)

@@ -1,23 +1,23 @@
 -- `mapping::add_legend`: the text of the definition. Assumes nothing.
 use native.Mathlib.Omega.{arith}
-use Rattle·text.specs.Text.{text}
-use Rattle·account_text.specs.Map.{legend}
-use borrow.Author.Needs.{needs}
-use Rattle·mapping·proofs.proofs.add_legend.Statement.{statement}
-use Rattle·mapping·proofs.proofs.add_legend.Tie as tie
+use Rattle.text.specs.Text.{text}
+use Rattle.account_text.specs.Map.{legend}
+use borrow.Author.Rules.{rules}
+use Rattle.mapping.proofs.add_legend.Statement.{statement}
+use Rattle.mapping.proofs.add_legend.Tie as tie
 
 slice-aggregate-add : tie.Need-slice-aggregate-add
-slice-aggregate-add c = search needs
+slice-aggregate-add c = search rules
 
 add-requires : tie.Need-add-requires
-add-requires c κs = search needs
+add-requires c κs = search rules
 
-same-length : tie.Need-same-length
-same-length c = search needs
+same_length : tie.Need-same-length
+same_length c = search rules
 
 returns : tie.Need-returns
 unfolding legend text
-returns c = let k = c .before .before in (k .add .ensures, omega (arith, k .add .ensures .ends))
+returns c = let k = c.before.before in (k.add.ensures, omega (arith, k.add.ensures.ends))
 
 pub add-legend-spec : {M : Type 1} → statement M
-add-legend-spec = tie.close (tie.spec slice-aggregate-add add-requires same-length returns)
+add-legend-spec = tie.close (tie.spec slice-aggregate-add add-requires same_length returns)

@@ -1,83 +1,82 @@
 -- `mapping::map_rows`. The invariant: whatever adds the rows that are left finishes them all. Assumes nothing.
-use Prim.Native.Nat.{_+_, _-_, _*_, _≤_}
+use Prim.Native.Nat.{◌+◌, ◌-◌, ◌*◌, ◌≤◌}
 use native.Mathlib.Omega.{arith}
-use denote.Ref.{now}
 use lib.ListN.{length, drop}
-use Rattle·model.specs.State.{segmentsOf}
-use Rattle·account_text.specs.Account.{shown}
-use Rattle·account_text.specs.Map.{mapRows, allRows}
-use Rattle·index.specs.Walks.{held-shown}
-use Rattle·marking.specs.Finishes.{Finishes}
-use Rattle·marking.proofs.Laws.{finish-begin, finish-more, finish-end}
-use Rattle·mapping·proofs.proofs.Laws.{rows-next, rows-end}
-use borrow.Author.Needs.{needs}
-use Rattle·mapping·proofs.proofs.map_rows.Statement.{statement}
-use Rattle·mapping·proofs.proofs.map_rows.Tie as tie
+use Rattle.model.specs.State.{segmentsOf}
+use Rattle.account_text.specs.Account.{shown}
+use Rattle.account_text.specs.Map.{mapRows, all_rows}
+use Rattle.index.specs.Walks.{held-shown}
+use Rattle.marking.specs.Finishes.{Finishes}
+use Rattle.marking.proofs.Laws.{finish-begin, finish-more, finish-end}
+use Rattle.mapping.proofs.Laws.{rows_next, rows_end}
+use borrow.Author.Rules.{rules}
+use Rattle.mapping.proofs.map_rows.Statement.{statement}
+use Rattle.mapping.proofs.map_rows.Tie as tie
 
-abbrev Inv-loop : tie.InvT-loop
-Inv-loop image segments slots next text₀ at table end₀ i₀ text end i =
+abbrev invariant-loop : tie.invariant-loop
+invariant-loop image segments slots next text₀ at table end₀ i₀ text end i =
     Finishes (mapRows next i (drop i (shown segments slots (segmentsOf segments slots image)))) (mapRows next 0 (shown segments slots (segmentsOf segments slots image))) text₀ at text end
     × (i ≤ segments)
     × (end ≤ at + 6000 * i)
 
-abbrev μ-loop : tie.MeasureT-loop
-μ-loop image segments slots next text₀ at table end₀ i₀ text end i = segments - i
+abbrev decreases-loop : tie.decreases-loop
+decreases-loop image segments slots next text₀ at table end₀ i₀ text end i = segments - i
 
-loop-holds : tie.Need-loop-holds Inv-loop μ-loop
+loop-holds : tie.Need-loop-init invariant-loop decreases-loop
 loop-holds c =
-    let a = c .before .before .args in
-    (finish-begin (mapRows (a .next) 0 (shown (a .segments) (a .slots) (segmentsOf (a .segments) (a .slots) (now (a .image))))) (now (a .text)) (a .at), omega arith, omega arith)
+    let a = c.before.before.args in
+    (finish-begin (mapRows a.next 0 (shown a.segments a.slots (segmentsOf a.segments a.slots a.image.now))) a.text.now a.at, omega arith, omega arith)
 
-mul-row : tie.Need-mul-row Inv-loop μ-loop
-mul-row c = omega (arith, c .before .before .before .before .pre .0 .segments)
+mul-row : tie.Need-overflow-mul-row invariant-loop decreases-loop
+mul-row c = omega (arith, c.before.before.before.before.requires.0.segments)
 
-array-copy-out-row : tie.Need-array-copy-out-row Inv-loop μ-loop
-array-copy-out-row c = omega (arith, c .before .before .before .before .pre .0 .segments)
+array-copy-out-row : tie.Need-array-copy-out-row invariant-loop decreases-loop
+array-copy-out-row c = omega (arith, c.before.before.before.before.requires.0.segments)
 
-map-row-requires : tie.Need-map-row-requires Inv-loop μ-loop
+map-row-requires : tie.Need-map-row-requires invariant-loop decreases-loop
 map-row-requires c κs =
-    let k = c .before .before .before in
-    let s = k .before .before .before in
-    (s .pre .0, c .before .before .loop-test .taken, omega (arith, k .loop .inv .1, k .loop .inv .2, s .pre .0 .segments, s .pre .3))
+    let k = c.before.before.before in
+    let s = k.before.before.before in
+    (s.requires.0, c.before.before.loop-test.true, omega (arith, k.loop.invariant.1, k.loop.invariant.2, s.requires.0.segments, s.requires.3))
 
-add-i : tie.Need-add-i Inv-loop μ-loop
-add-i c = search needs
+add-i : tie.Need-overflow-add-i invariant-loop decreases-loop
+add-i c = search rules
 
-loop-less : tie.Need-loop-less Inv-loop μ-loop
-loop-less c = search needs
+loop-less : tie.Need-loop-smaller invariant-loop decreases-loop
+loop-less c = search rules
 
-loop-again : tie.Need-loop-again Inv-loop μ-loop
+loop-again : tie.Need-loop-preserved invariant-loop decreases-loop
 loop-again c =
-    let m = c .before .before in
-    let k = m .before .before .before in
-    let s = k .before .before .before .before in
-    let a = s .args in
-    let i = k .before .loop .i in
-    let t = k .loop-test .taken in (
-      finish-more (rows-next (a .segments) (a .slots) (a .next) (now (a .image)) (a .t4) i _ (s .pre .0 .some) t (s .pre .1)) (k .before .loop .inv .0) (m .map-row .ensures .0),
+    let m = c.before.before in
+    let k = m.before.before.before in
+    let s = k.before.before.before.before in
+    let a = s.args in
+    let i = k.before.loop.i in
+    let t = k.loop-test.true in (
+      finish-more (rows_next a.segments a.slots a.next a.image.now a.t4 i _ s.requires.0.some t s.requires.1) k.before.loop.invariant.0 m.map_row.ensures.0,
       omega arith,
-      omega (arith, k .before .loop .inv .2, m .map-row .ensures .1),
+      omega (arith, k.before.loop.invariant.2, m.map_row.ensures.1),
     )
 
-same-length : tie.Need-same-length Inv-loop μ-loop
-same-length c = c .before .loop .inv .0 .kept
+same_length : tie.Need-same-length invariant-loop decreases-loop
+same_length c = c.before.loop.invariant.0.kept
 
-returns : tie.Need-returns Inv-loop μ-loop
-unfolding allRows
+returns : tie.Need-returns invariant-loop decreases-loop
+unfolding all_rows
 returns c =
-    let k = c .before in
-    let s = k .before .before .before in
-    let a = s .args in
-    let l = shown (a .segments) (a .slots) (segmentsOf (a .segments) (a .slots) (now (a .image))) in
-    let n : length l ≤ k .loop .i = omega (arith, c .loop-test .left, held-shown (a .segments) (a .slots) (now (a .image)) (s .pre .0 .some) .count) in
-    (rw (← s .pre .2) (finish-end (rows-end (a .next) (k .loop .i) l n) (k .loop .inv .0)), omega (arith, k .loop .inv .1, k .loop .inv .2))
+    let k = c.before in
+    let s = k.before.before.before in
+    let a = s.args in
+    let l = shown a.segments a.slots (segmentsOf a.segments a.slots a.image.now) in
+    let n : length l ≤ k.loop.i = omega (arith, c.loop-test.false, (held-shown a.segments a.slots a.image.now s.requires.0.some).count) in
+    (rw (← s.requires.2) (finish-end (rows_end a.next k.loop.i l n) k.loop.invariant.0), omega (arith, k.loop.invariant.1, k.loop.invariant.2))
 
 pub map-rows-spec : {M : Type 1} → statement M
 map-rows-spec =
     tie.close
     (tie.spec
-    Inv-loop
-    μ-loop
+    invariant-loop
+    decreases-loop
     loop-holds
     mul-row
     array-copy-out-row
@@ -85,5 +84,5 @@ map-rows-spec =
     add-i
     loop-less
     loop-again
-    same-length
+    same_length
     returns)

@@ -1,13 +1,9 @@
 -- Request #103's corners, proved of its definitions: entries of one table under one statement.
-use Prim.Native.Nat.{ℕ}
-use mathlib.Core.Path.{_≡_, refl}
-use mathlib.Core.Bool.{Bool, true, false, cond, not, _&&_}
-use mathlib.Core.List.{List, [], _∷_, _++_}
-use lib.Dec.{eqb}
-use Rattle·model·specs.specs.Lists.{all, chunk}
-use Rattle·model·specs.specs.Chip.{erased}
-use Rattle·model·specs.specs.Header.{isBlank}
-use Rattle·model·specs.specs.Blank.{groupsOf, lookedAt, blankGroups}
+use Rattle.std.specs.Prelude.{ℕ, ◌≡◌, refl, Bool, true, false, cond, not, ◌&&◌, List, [], ◌∷◌, ◌++◌, eqb}
+use Rattle.model.specs.Lists.{all, chunk}
+use Rattle.model.specs.Chip.{erased}
+use Rattle.model.specs.Header.{isBlank}
+use Rattle.model.specs.Blank.{groups_of, lookedAt, blankGroups}
 
 -- bytes, whether all are 255, and the groups looked at
 pub record Corner : Type 0 where
@@ -39,8 +35,8 @@ corners =
     []
 
 abbrev holds : Corner → Bool
-holds c = cond (c .yes) (isBlank (c .bytes)) (not (isBlank (c .bytes))) && eqb (blankGroups (c .bytes)) (c .groups)
+holds c = cond c.yes (isBlank c.bytes) (not (isBlank c.bytes)) && eqb (blankGroups c.bytes) c.groups
 
 pub corners-hold : all holds corners ≡ true
-unfolding all corners erased isBlank blankGroups groupsOf lookedAt chunk
+unfolding all corners erased isBlank blankGroups groups_of lookedAt chunk
 corners-hold = refl

@@ -1,38 +1,34 @@
 -- Laws of bytes: what clearing leaves; bytes one bit apart; a number in four bytes; equal lists; erased bytes.
-use Prim.Native.Nat.{ℕ, zero, suc, _+_, _*_, _/_, _%_, _^_, min, _≤_, _<_}
-use mathlib.Core.Path.{_≡_, refl, sym, ap, ap₂, _∙_, subst}
-use mathlib.Core.Logic.{_⊎_, inl, inr, ⊎-elim}
-use mathlib.Core.Bool.{Bool, true, false, cond, _||_, _&&_, not, false≢true}
-use mathlib.Core.List.{List, [], _∷_, _++_}
-use native.Mathlib.Omega.{arith}
-use native.Mathlib.Nat.{min-le-right, mod-eq-of-lt}
-use native.Mathlib.Decide.{decLt}
-use lib.ListN.{length, getD, take, drop, set, length-replicate, getD-replicate, replicate-append-replicate}
-use lib.Bits.{and-comm, and-mask, and-le-l, and-le-r, and-zero-l, and-shr, and-step}
-use lib.Dec.{eqb, leb}
-use borrow.Author.Tests.{eq-eqb, eqb-true}
-use Rattle·model·specs.specs.Lists.{same, chunk}
-use Rattle·model·specs.specs.Chip.{Image, Bytes, Step, program, erase, clear, erased, withSegment, segmentBytes, step, run, Between, Raised, Inside, Cut}
-use Rattle·model·specs.specs.Header.{numberBytes, inverted, value, isBlank, compactionBegun, erasePending, compacted}
-use Rattle·model·specs.specs.Slot.{writeBegun, written}
-use Rattle·model·specs.specs.Laws.Lists.{and-left, and-right, and-both}
+use Rattle.std.specs.Prelude.{ℕ, zero, suc, ◌+◌, ◌*◌, ◌/◌, ◌%◌, ◌^◌, min, ◌≤◌, ◌<◌, ◌≡◌, refl, ◌⊎◌, Bool, true, false, cond, ◌||◌, ◌&&◌, not, List, [], ◌∷◌, ◌++◌, length, get_or, take, drop, set, eqb, leb}
+use Rattle.std.proofs.Common.{sym, ap, ap₂, ◌∙◌, subst, inl, inr, ⊎_elim, arith, mod-eq_of_lt, eq-eqb, eqb-true}
+use Rattle.std.proofs.lemmas.Bool.{false≢true}
+use Rattle.std.proofs.Math.Nat.{min-le_right}
+use Rattle.std.proofs.Math.Decide.{dec_lt}
+use Rattle.std.proofs.lemmas.List.{length-replicate, get_or-replicate, replicate-append-replicate}
+use Rattle.std.proofs.lemmas.Nat.{and_comm, and_mask, and_le_l, and_le_r, and_shr}
+use Rattle.std.specs.Int.Bits.{and_zero_l, and_step}
+use Rattle.model.specs.Lists.{same, chunk}
+use Rattle.model.specs.Chip.{Image, Bytes, Step, program, erase, clear, erased, withSegment, segmentBytes, step, run, Between, Raised, Inside, Cut}
+use Rattle.model.specs.Header.{numberBytes, inverted, value, isBlank, compactionBegun, erasePending, compacted}
+use Rattle.model.specs.Slot.{writeBegun, written}
+use Rattle.model.specs.Laws.Lists.{and_left, and_right, and_both}
 
 -- ---- clearing
 
 pub clear-byte : (v : ℕ) → clear 255 v ≡ v % 256
 unfolding clear
-clear-byte v = and-comm 255 v ∙ and-mask v 8
+clear-byte v = and_comm 255 v ∙ and_mask v 8
 
 pub clear-erased : (v : ℕ) → v < 256 → clear 255 v ≡ v
-clear-erased v h = clear-byte v ∙ mod-eq-of-lt h
+clear-erased v h = clear-byte v ∙ mod-eq_of_lt h
 
 pub clear-le : (a v : ℕ) → clear a v ≤ a
 unfolding clear
-clear-le a v = and-le-l a v
+clear-le a v = and_le_l a v
 
 pub clear-le-value : (a v : ℕ) → clear a v ≤ v
 unfolding clear
-clear-le-value a v = and-le-r a v
+clear-le-value a v = and_le_r a v
 
 -- the bits of a are bits of b
 pub within-le : (a b : ℕ) → clear a b ≡ a → a ≤ b
@@ -43,7 +39,7 @@ bit x i = x / 2 ^ i % 2
 
 pub clear-bit : (a b i : ℕ) → bit (clear a b) i ≡ min (bit a i) (bit b i)
 unfolding clear
-clear-bit a b i = rw (and-shr a b i, and-step (a / 2 ^ i) (b / 2 ^ i)) (omega (arith, min-le-right (a / 2 ^ i % 2) (b / 2 ^ i % 2)))
+clear-bit a b i = rw (and_shr a b i, and_step (a / 2 ^ i) (b / 2 ^ i)) (omega (arith, min-le_right (a / 2 ^ i % 2) (b / 2 ^ i % 2)))
 
 pub within-bit : (a b i : ℕ) → clear a b ≡ a → bit a i ≤ bit b i
 within-bit a b i e =
@@ -54,12 +50,12 @@ within-bit a b i e =
 pub bit-6-kept : (a x : ℕ) → clear a x ≡ a → a / 64 % 2 ≡ 1 → x / 64 % 2 ≡ 1
 bit-6-kept a x e h = let q : a / 64 % 2 ≤ x / 64 % 2 = within-bit a x 6 e in omega arith
 
-pub raised-get : (s t : List ℕ) → Raised s t → (j : ℕ) → clear (getD s j 0) (getD t j 0) ≡ getD s j 0
+pub raised-get : (s t : List ℕ) → Raised s t → (j : ℕ) → clear (get_or s j 0) (get_or t j 0) ≡ get_or s j 0
 unfolding clear
-raised-get [] t r j = and-zero-l (getD t j 0)
+raised-get [] t r j = and_zero_l (get_or t j 0)
 raised-get (a ∷ s) [] r j = absurd r
-raised-get (a ∷ s) (x ∷ t) r zero = r .0 .0
-raised-get (a ∷ s) (x ∷ t) r (suc j) = raised-get s t (r .1) j
+raised-get (a ∷ s) (x ∷ t) r zero = r.0.0
+raised-get (a ∷ s) (x ∷ t) r (suc j) = raised-get s t r.1 j
 
 -- ---- bytes one bit apart have nothing between them
 
@@ -67,78 +63,78 @@ abbrev pub OneBit : ℕ → ℕ → Type 0
 OneBit lo hi = (x : ℕ) → Between lo x hi → (x ≡ lo) ⊎ (x ≡ hi)
 
 -- a test of each of the numbers below n
-unfoldable pub allBelow : (ℕ → Bool) → ℕ → Bool
-allBelow f zero = true
-allBelow f (suc n) = f n && allBelow f n
+unfoldable pub all_below : (ℕ → Bool) → ℕ → Bool
+all_below f zero = true
+all_below f (suc n) = f n && all_below f n
 
-pub below : (f : ℕ → Bool) (n : ℕ) → allBelow f n ≡ true → (x : ℕ) → x < n → f x ≡ true
-unfolding allBelow
+pub below : (f : ℕ → Bool) (n : ℕ) → all_below f n ≡ true → (x : ℕ) → x < n → f x ≡ true
+unfolding all_below
 below f zero t x h = absurd (omega arith)
-below f (suc n) t x h = elim (decLt x n) [
-  | yes l ↦ below f n (and-right (f n) (allBelow f n) t) x l
-  | no g ↦ (let e : n ≡ x = omega arith in rw (← e) (and-left (f n) (allBelow f n) t))
+below f (suc n) t x h = elim (dec_lt x n) [
+  | yes l ↦ below f n (and_right (f n) (all_below f n) t) x l
+  | no g ↦ (let e : n ≡ x = omega arith in rw (← e) (and_left (f n) (all_below f n) t))
 ]
 
 -- the bits of a are bits of b: the lowest one, and the others
-within-low : (a b : ℕ) → clear a b ≡ a → a % 2 ≤ b % 2
-within-low a b e = let q : a / 1 % 2 ≤ b / 1 % 2 = within-bit a b 0 e in omega arith
+within_low : (a b : ℕ) → clear a b ≡ a → a % 2 ≤ b % 2
+within_low a b e = let q : a / 1 % 2 ≤ b / 1 % 2 = within-bit a b 0 e in omega arith
 
 within-half : (a b : ℕ) → clear a b ≡ a → clear (a / 2) (b / 2) ≡ a / 2
 unfolding clear
-within-half a b e = omega (arith, e, and-step a b, min-le-right (a % 2) (b % 2))
+within-half a b e = omega (arith, e, and_step a b, min-le_right (a % 2) (b % 2))
 
 -- of the lowest k bits hi has one that lo has not, and above that they are equal
 unfoldable pub oneApart : ℕ → ℕ → ℕ → Bool
 oneApart zero lo hi = false
 oneApart (suc k) lo hi = cond (eqb (lo % 2) (hi % 2)) (oneApart k (lo / 2) (hi / 2)) (eqb (lo / 2) (hi / 2))
 
-pub one-bit : (k lo hi : ℕ) → oneApart k lo hi ≡ true → OneBit lo hi
+pub one_bit : (k lo hi : ℕ) → oneApart k lo hi ≡ true → OneBit lo hi
 unfolding oneApart
-one-bit zero lo hi h x c = absurd (false≢true h)
-one-bit (suc k) lo hi h x (u, v) = go (eqb (lo % 2) (hi % 2)) refl h (λ q. one-bit k (lo / 2) (hi / 2) q (x / 2) (within-half lo x u, within-half x hi v))
+one_bit zero lo hi h x c = absurd (false≢true h)
+one_bit (suc k) lo hi h x (u, v) = go (eqb (lo % 2) (hi % 2)) refl h (λ q. one_bit k (lo / 2) (hi / 2) q (x / 2) (within-half lo x u, within-half x hi v))
   where
     go : (t : Bool) → eqb (lo % 2) (hi % 2) ≡ t → cond t (oneApart k (lo / 2) (hi / 2)) (eqb (lo / 2) (hi / 2)) ≡ true
         → (oneApart k (lo / 2) (hi / 2) ≡ true → (x / 2 ≡ lo / 2) ⊎ (x / 2 ≡ hi / 2)) → (x ≡ lo) ⊎ (x ≡ hi)
     go true e q ih =
         let f = eqb-true (lo % 2) (hi % 2) e in
-        ⊎-elim (λ g. inl (omega (arith, f, g, within-low lo x u, within-low x hi v))) (λ g. inr (omega (arith, f, g, within-low lo x u, within-low x hi v))) (ih q)
+        ⊎_elim (λ g. inl (omega (arith, f, g, within_low lo x u, within_low x hi v))) (λ g. inr (omega (arith, f, g, within_low lo x u, within_low x hi v))) (ih q)
     go false e q ih =
         let f = eqb-true (lo / 2) (hi / 2) q in
-        elim (decLt x hi) [
-          | yes l ↦ inl (omega (arith, f, l, within-le lo x u, within-low lo x u, within-low x hi v))
+        elim (dec_lt x hi) [
+          | yes l ↦ inl (omega (arith, f, l, within-le lo x u, within_low lo x u, within_low x hi v))
           | no g ↦ inr (omega (arith, g, within-le x hi v))
         ]
 
 -- FF to 7F, 7F to 3F: a slot written, a segment opened
 pub begun-bit : OneBit writeBegun 255
 unfolding oneApart
-begun-bit = one-bit 8 writeBegun 255 refl
+begun-bit = one_bit 8 writeBegun 255 refl
 
 pub written-bit : OneBit written writeBegun
 unfolding oneApart
-written-bit = one-bit 8 written writeBegun refl
+written-bit = one_bit 8 written writeBegun refl
 
 -- 3F to 1F, 7F to 5F: a slot marked
 pub live-dead-bit : OneBit 0x1F written
 unfolding oneApart
-live-dead-bit = one-bit 8 0x1F written refl
+live-dead-bit = one_bit 8 0x1F written refl
 
 pub torn-cut-bit : OneBit 0x5F writeBegun
 unfolding oneApart
-torn-cut-bit = one-bit 8 0x5F writeBegun refl
+torn-cut-bit = one_bit 8 0x5F writeBegun refl
 
 -- FF to DF, DF to 9F, 9F to 8F: a segment tidied
 pub compaction-begun-bit : OneBit compactionBegun 255
 unfolding oneApart
-compaction-begun-bit = one-bit 8 compactionBegun 255 refl
+compaction-begun-bit = one_bit 8 compactionBegun 255 refl
 
 pub erase-pending-bit : OneBit erasePending compactionBegun
 unfolding oneApart
-erase-pending-bit = one-bit 8 erasePending compactionBegun refl
+erase-pending-bit = one_bit 8 erasePending compactionBegun refl
 
 pub compacted-bit : OneBit compacted erasePending
 unfolding oneApart
-compacted-bit = one-bit 8 compacted erasePending refl
+compacted-bit = one_bit 8 compacted erasePending refl
 
 -- ---- a number in four bytes
 
@@ -168,47 +164,47 @@ inverted-bytes (x ∷ s) = (omega arith, inverted-bytes s)
 
 pub bytes-append : (s t : List ℕ) → Bytes s → Bytes t → Bytes (s ++ t)
 bytes-append [] t p q = q
-bytes-append (x ∷ s) t p q = (p .0, bytes-append s t (p .1) q)
+bytes-append (x ∷ s) t p q = (p.0, bytes-append s t p.1 q)
 
 pub bytes-behind : (s t : List ℕ) → Bytes (s ++ t) → Bytes t
 bytes-behind [] t p = p
-bytes-behind (x ∷ s) t p = bytes-behind s t (p .1)
+bytes-behind (x ∷ s) t p = bytes-behind s t p.1
 
-pub bytes-take : (k : ℕ) (s : List ℕ) → Bytes s → Bytes (take k s)
-bytes-take zero s p = tt
-bytes-take (suc k) [] p = tt
-bytes-take (suc k) (x ∷ s) p = (p .0, bytes-take k s (p .1))
+pub bytes_take : (k : ℕ) (s : List ℕ) → Bytes s → Bytes (take k s)
+bytes_take zero s p = tt
+bytes_take (suc k) [] p = tt
+bytes_take (suc k) (x ∷ s) p = (p.0, bytes_take k s p.1)
 
-pub bytes-drop : (k : ℕ) (s : List ℕ) → Bytes s → Bytes (drop k s)
-bytes-drop zero s p = p
-bytes-drop (suc k) [] p = tt
-bytes-drop (suc k) (x ∷ s) p = bytes-drop k s (p .1)
+pub bytes_drop : (k : ℕ) (s : List ℕ) → Bytes s → Bytes (drop k s)
+bytes_drop zero s p = p
+bytes_drop (suc k) [] p = tt
+bytes_drop (suc k) (x ∷ s) p = bytes_drop k s p.1
 
-pub bytes-get : (s : List ℕ) (i : ℕ) → Bytes s → getD s i 0 < 256
+pub bytes-get : (s : List ℕ) (i : ℕ) → Bytes s → get_or s i 0 < 256
 bytes-get [] i p = omega arith
-bytes-get (x ∷ s) zero p = p .0
-bytes-get (x ∷ s) (suc i) p = bytes-get s i (p .1)
+bytes-get (x ∷ s) zero p = p.0
+bytes-get (x ∷ s) (suc i) p = bytes-get s i p.1
 
-pub bytes-known : (s : List ℕ) → ((i : ℕ) → getD s i 0 < 256) → Bytes s
+pub bytes-known : (s : List ℕ) → ((i : ℕ) → get_or s i 0 < 256) → Bytes s
 bytes-known [] h = tt
 bytes-known (x ∷ s) h = (h 0, bytes-known s (λ i. h (suc i)))
 
 pub bytes-set : (s : List ℕ) (i x : ℕ) → Bytes s → x < 256 → Bytes (set s i x)
 bytes-set [] i x p h = tt
-bytes-set (y ∷ s) zero x p h = (h, p .1)
-bytes-set (y ∷ s) (suc i) x p h = (p .0, bytes-set s i x (p .1) h)
+bytes-set (y ∷ s) zero x p h = (h, p.1)
+bytes-set (y ∷ s) (suc i) x p h = (p.0, bytes-set s i x p.1 h)
 
 pub same-eq : (a b : List ℕ) → same a b ≡ true → a ≡ b
 unfolding same
 same-eq [] [] h = refl
 same-eq [] (y ∷ b) h = absurd (false≢true h)
 same-eq (x ∷ a) [] h = absurd (false≢true h)
-same-eq (x ∷ a) (y ∷ b) h = ap₂ {C = List ℕ} (λ p q. p ∷ q) (eqb-true x y (and-left (eqb x y) (same a b) h)) (same-eq a b (and-right (eqb x y) (same a b) h))
+same-eq (x ∷ a) (y ∷ b) h = ap₂ {C = List ℕ} (λ p q. p ∷ q) (eqb-true x y (and_left (eqb x y) (same a b) h)) (same-eq a b (and_right (eqb x y) (same a b) h))
 
-pub same-refl : (s : List ℕ) → same s s ≡ true
+pub same_refl : (s : List ℕ) → same s s ≡ true
 unfolding same
-same-refl [] = refl
-same-refl (x ∷ s) = and-both (eqb x x) (same s s) (eq-eqb x x refl) (same-refl s)
+same_refl [] = refl
+same_refl (x ∷ s) = and_both (eqb x x) (same s s) (eq-eqb x x refl) (same_refl s)
 
 -- ---- erased bytes
 
@@ -220,9 +216,9 @@ pub erased-length : (n : ℕ) → length (erased n) ≡ n
 unfolding erased
 erased-length n = length-replicate n 255
 
-pub erased-get : (n i : ℕ) → i < n → getD (erased n) i 0 ≡ 255
+pub erased-get : (n i : ℕ) → i < n → get_or (erased n) i 0 ≡ 255
 unfolding erased
-erased-get n i h = getD-replicate n i 255 0 h
+erased-get n i h = get_or-replicate n i 255 0 h
 
 pub erased-add : (n m : ℕ) → erased n ++ erased m ≡ erased (n + m)
 unfolding erased
@@ -241,7 +237,7 @@ erased-blank (suc n) = erased-blank n
 pub blank-erased : (p : List ℕ) → isBlank p ≡ true → p ≡ erased (length p)
 unfolding isBlank erased
 blank-erased [] h = refl
-blank-erased (x ∷ p) h = ap₂ {C = List ℕ} (λ a b. a ∷ b) (eqb-true x 255 (and-left (eqb x 255) (isBlank p) h)) (blank-erased p (and-right (eqb x 255) (isBlank p) h))
+blank-erased (x ∷ p) h = ap₂ {C = List ℕ} (λ a b. a ∷ b) (eqb-true x 255 (and_left (eqb x 255) (isBlank p) h)) (blank-erased p (and_right (eqb x 255) (isBlank p) h))
 
 -- ---- an image of bytes stays one, through steps and cuts
 
@@ -250,11 +246,11 @@ unfolding withSegment
 segment-bytes B i u s p q =
     let a = i * (B + 1) * 256 in
     let b = (i * (B + 1) + (B + 1)) * 256 in
-    bytes-append (take a s) (u ++ drop b s) (bytes-take a s q) (bytes-append u (drop b s) p (bytes-drop b s q))
+    bytes-append (take a s) (u ++ drop b s) (bytes_take a s q) (bytes-append u (drop b s) p (bytes_drop b s q))
 
 pub step-bytes : (B : ℕ) (x : Step) (s : Image) → Bytes s → Bytes (step B x s)
 unfolding step
-step-bytes B (program at v) s p = bytes-set s at (clear (getD s at 0) v) p (omega (arith, clear-le (getD s at 0) v, bytes-get s at p))
+step-bytes B (program at v) s p = bytes-set s at (clear (get_or s at 0) v) p (omega (arith, clear-le (get_or s at 0) v, bytes-get s at p))
 step-bytes B (erase i) s p = go (leb ((i * (B + 1) + (B + 1)) * 256) (length s))
   where
     go : (t : Bool) → Bytes (cond t (withSegment B i (erased ((B + 1) * 256)) s) s)
@@ -269,10 +265,10 @@ run-bytes B (x ∷ xs) s p = run-bytes B xs (step B x s) (step-bytes B x s p)
 raised-bytes : (s t : List ℕ) → Raised s t → Bytes t
 raised-bytes [] t r = rw r tt
 raised-bytes (a ∷ s) [] r = absurd r
-raised-bytes (a ∷ s) (x ∷ t) r = (omega (arith, within-le x 255 (r .0 .1)), raised-bytes s t (r .1))
+raised-bytes (a ∷ s) (x ∷ t) r = (omega (arith, within-le x 255 r.0.1), raised-bytes s t r.1)
 
 inside-bytes : (B : ℕ) (x : Step) (s t : Image) → Inside B x s t → Bytes s → Bytes t
-inside-bytes B (program at v) s t (x, b, e) p = subst Bytes (sym e) (bytes-set s at x p (omega (arith, within-le x (getD s at 0) (b .1), bytes-get s at p)))
+inside-bytes B (program at v) s t (x, b, e) p = subst Bytes (sym e) (bytes-set s at x p (omega (arith, within-le x (get_or s at 0) b.1, bytes-get s at p)))
 inside-bytes B (erase i) s t (u, r, e) p = subst Bytes (sym e) (segment-bytes B i u s (raised-bytes (segmentBytes B i s) u r) p)
 
 pub cut-bytes : (B : ℕ) (xs : List Step) (s t : Image) → Cut B xs s t → Bytes s → Bytes t
@@ -282,8 +278,8 @@ cut-bytes B (x ∷ xs) s t (inr (inl i)) p = inside-bytes B x s t i p
 cut-bytes B (x ∷ xs) s t (inr (inr c)) p = cut-bytes B xs (step B x s) t c (step-bytes B x s p)
 
 -- and its pages are of bytes
-pub chunk-bytes : (c z i : ℕ) (s : List ℕ) → Bytes s → Bytes (getD (chunk c z s) i [])
+pub chunk_bytes : (c z i : ℕ) (s : List ℕ) → Bytes s → Bytes (get_or (chunk c z s) i [])
 unfolding chunk
-chunk-bytes zero z i s p = tt
-chunk-bytes (suc c) z zero s p = bytes-take z s p
-chunk-bytes (suc c) z (suc i) s p = chunk-bytes c z i (drop z s) (bytes-drop z s p)
+chunk_bytes zero z i s p = tt
+chunk_bytes (suc c) z zero s p = bytes_take z s p
+chunk_bytes (suc c) z (suc i) s p = chunk_bytes c z i (drop z s) (bytes_drop z s p)

@@ -1,15 +1,9 @@
 -- Laws of steps and cuts: an append, the first k steps, the length of the image.
-use Prim.Native.Nat.{ℕ, zero, suc, _+_, _-_, _*_, _≤_, _<_}
-use mathlib.Core.Path.{_≡_, refl, ap, _∙_}
-use mathlib.Core.Logic.{_⊎_, inl, inr, ⊎-elim}
-use mathlib.Core.Bool.{Bool, true, false, cond, _&&_}
-use mathlib.Core.List.{List, [], _∷_, _++_}
-use native.Mathlib.Omega.{arith}
-use lib.ListN.{length, getD, take, length-set, length-append, length-take, length-drop, length-replicate}
-use lib.Dec.{leb, eqb}
-use borrow.Author.Tests.{leb-true, eqb-true}
-use Rattle·model·specs.specs.Chip.{Image, Step, program, erase, clear, erased, withSegment, segmentBytes, step, run, runFirst, Raised, Inside, Cut, mostSegments, imageLength, inRange, rightSize}
-use Rattle·model·specs.specs.Laws.Lists.{and-left, and-right}
+use Rattle.std.specs.Prelude.{ℕ, zero, suc, ◌+◌, ◌-◌, ◌*◌, ◌≤◌, ◌<◌, ◌≡◌, refl, ◌⊎◌, Bool, true, false, cond, ◌&&◌, List, [], ◌∷◌, ◌++◌, length, get_or, take, leb, eqb}
+use Rattle.std.proofs.Common.{ap, ◌∙◌, inl, inr, ⊎_elim, arith, length-set, length-append, length-take, length-drop, leb-true, eqb-true}
+use Rattle.std.proofs.lemmas.List.{length-replicate}
+use Rattle.model.specs.Chip.{Image, Step, program, erase, clear, erased, withSegment, segmentBytes, step, run, runFirst, Raised, Inside, Cut, mostSegments, imageLength, in_range, rightSize}
+use Rattle.model.specs.Laws.Lists.{and_left, and_right}
 
 -- ---- lists of steps
 
@@ -37,7 +31,7 @@ first-append B k xs ys s = rw (take-append k xs ys) (run-append B (take k xs) (t
 pub raised-length : (s t : List ℕ) → Raised s t → length t ≡ length s
 raised-length [] t e = ap length e
 raised-length (a ∷ s) [] r = absurd r
-raised-length (a ∷ s) (x ∷ t) r = ap suc (raised-length s t (r .1))
+raised-length (a ∷ s) (x ∷ t) r = ap suc (raised-length s t r.1)
 
 pub segment-length : (B i : ℕ) (u : List ℕ) (s : Image) → length u ≡ length (segmentBytes B i s) → length (withSegment B i u s) ≡ length s
 unfolding withSegment segmentBytes
@@ -45,7 +39,7 @@ segment-length B i u s h = simp (length-append, length-take, length-drop) (omega
 
 pub step-length : (B : ℕ) (x : Step) (s : Image) → length (step B x s) ≡ length s
 unfolding step erased segmentBytes
-step-length B (program at v) s = length-set s at (clear (getD s at 0) v)
+step-length B (program at v) s = length-set s at (clear (get_or s at 0) v)
 step-length B (erase i) s = go (leb ((i * (B + 1) + (B + 1)) * 256) (length s)) refl
   where
     go : (t : Bool) → leb ((i * (B + 1) + (B + 1)) * 256) (length s) ≡ t → length (cond t (withSegment B i (erased ((B + 1) * 256)) s) s) ≡ length s
@@ -53,10 +47,10 @@ step-length B (erase i) s = go (leb ((i * (B + 1) + (B + 1)) * 256) (length s)) 
         segment-length B i (erased ((B + 1) * 256)) s (simp (length-replicate, length-take, length-drop) (omega arith))
     go false e = refl
 
-pub run-length : (B : ℕ) (xs : List Step) (s : Image) → length (run B xs s) ≡ length s
+pub run_length : (B : ℕ) (xs : List Step) (s : Image) → length (run B xs s) ≡ length s
 unfolding run
-run-length B [] s = refl
-run-length B (x ∷ xs) s = run-length B xs (step B x s) ∙ step-length B x s
+run_length B [] s = refl
+run_length B (x ∷ xs) s = run_length B xs (step B x s) ∙ step-length B x s
 
 pub inside-length : (B : ℕ) (x : Step) (s t : Image) → Inside B x s t → length t ≡ length s
 inside-length B (program at v) s t (x, b, e) = ap length e ∙ length-set s at x
@@ -70,7 +64,7 @@ cut-length B (x ∷ xs) s t (inr (inr c)) = cut-length B xs (step B x s) t c ∙
 
 pub run-size : (N B : ℕ) (xs : List Step) (s : Image) → rightSize N B (run B xs s) ≡ rightSize N B s
 unfolding rightSize
-run-size N B xs s = rw (run-length B xs s)
+run-size N B xs s = rw (run_length B xs s)
 
 pub cut-size : (N B : ℕ) (xs : List Step) (s t : Image) → Cut B xs s t → rightSize N B t ≡ rightSize N B s
 unfolding rightSize
@@ -98,7 +92,7 @@ unfolding run
 cut-append B [] ys s t c = inr c
 cut-append B (x ∷ xs) ys s t (inl e) = inl (inl e)
 cut-append B (x ∷ xs) ys s t (inr (inl i)) = inl (inr (inl i))
-cut-append B (x ∷ xs) ys s t (inr (inr c)) = ⊎-elim (λ d. inl (inr (inr d))) (λ d. inr d) (cut-append B xs ys (step B x s) t c)
+cut-append B (x ∷ xs) ys s t (inr (inr c)) = ⊎_elim (λ d. inl (inr (inr d))) (λ d. inr d) (cut-append B xs ys (step B x s) t c)
 
 -- ---- a right size, taken apart
 
@@ -110,14 +104,14 @@ pub record SizeFacts (N B : ℕ) (s : Image) : Type 0 where
   pub whole : length s ≡ imageLength N B
 
 pub size-facts : (N B : ℕ) (s : Image) → rightSize N B s ≡ true → SizeFacts N B s
-unfolding rightSize inRange
+unfolding rightSize in_range
 size-facts N B s z =
-    let a = and-left (inRange N B) (eqb (length s) (imageLength N B)) z in
-    let b = and-right (leb 2 N) (leb N mostSegments && (leb 2 B && leb B 255)) a in
-    let c = and-right (leb N mostSegments) (leb 2 B && leb B 255) b in record {
-      two = leb-true 2 N (and-left (leb 2 N) (leb N mostSegments && (leb 2 B && leb B 255)) a);
-      most = leb-true N mostSegments (and-left (leb N mostSegments) (leb 2 B && leb B 255) b);
-      slots = leb-true 2 B (and-left (leb 2 B) (leb B 255) c);
-      mostB = omega (arith, leb-true B 255 (and-right (leb 2 B) (leb B 255) c));
-      whole = eqb-true (length s) (imageLength N B) (and-right (inRange N B) (eqb (length s) (imageLength N B)) z);
+    let a = and_left (in_range N B) (eqb (length s) (imageLength N B)) z in
+    let b = and_right (leb 2 N) (leb N mostSegments && (leb 2 B && leb B 255)) a in
+    let c = and_right (leb N mostSegments) (leb 2 B && leb B 255) b in record {
+      two = leb-true 2 N (and_left (leb 2 N) (leb N mostSegments && (leb 2 B && leb B 255)) a);
+      most = leb-true N mostSegments (and_left (leb N mostSegments) (leb 2 B && leb B 255) b);
+      slots = leb-true 2 B (and_left (leb 2 B) (leb B 255) c);
+      mostB = omega (arith, leb-true B 255 (and_right (leb 2 B) (leb B 255) c));
+      whole = eqb-true (length s) (imageLength N B) (and_right (in_range N B) (eqb (length s) (imageLength N B)) z);
     }

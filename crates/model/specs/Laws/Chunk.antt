@@ -1,11 +1,13 @@
 -- Laws of a list cut into parts.
-use Prim.Native.Nat.{ℕ, zero, suc, _+_, _-_, _*_, _≤_, _<_}
-use mathlib.Core.Path.{_≡_, refl, sym, ap, _∙_}
-use mathlib.Core.List.{List, [], _∷_, _++_, append-assoc}
+use Prim.Native.Nat.{ℕ, zero, suc, ◌+◌, ◌-◌, ◌*◌, ◌≤◌, ◌<◌}
+use Rattle.std.specs.Prelude.{◌≡◌}
+use Rattle.std.proofs.Math.Path.{refl, sym, ap}
+use Rattle.std.proofs.Common.{◌∙◌}
+use mathlib.Core.List.{List, [], ◌∷◌, ◌++◌, append_assoc}
 use native.Mathlib.Omega.{arith}
-use lib.ListN.{length, getD, take, drop, set, replicate, length-take, length-drop, length-replicate, replicate-append-replicate}
-use lib.Seq.{take-set-lt, drop-set-lt, take-set-le, drop-set-add, getD-take, getD-drop, take-at, drop-at, length-take-le, take-add, drop-drop}
-use Rattle·model·specs.specs.Lists.{chunk}
+use lib.ListN.{length, get_or, take, drop, set, replicate, length-take, length-drop, length-replicate, replicate-append-replicate}
+use lib.Seq.{take-set-lt, drop-set-lt, take-set-le, drop-set-add, get_or-take, get_or-drop, take_at, drop_at, length-take-le, take-add, drop-drop}
+use Rattle.model.specs.Lists.{chunk}
 
 pub chunk-length : {A : Type 0} (c z : ℕ) (s : List A) → length (chunk c z s) ≡ c
 unfolding chunk
@@ -18,11 +20,11 @@ chunk-suc c z s = refl
 
 chunk-cons : {A : Type 0} (c z : ℕ) (p r : List A) → length p ≡ z → chunk (suc c) z (p ++ r) ≡ p ∷ chunk c z r
 unfolding chunk
-chunk-cons c z p r h = rw (take-at p r z h, drop-at p r z h)
+chunk-cons c z p r h = rw (take_at p r z h, drop_at p r z h)
 
 module _ {A : Type 0} (z : ℕ) where
   -- an element changed: one part changed
-  pub chunk-set : (c p q : ℕ) (v : A) (s : List A) → q < z → chunk c z (set s (p * z + q) v) ≡ set (chunk c z s) p (set (getD (chunk c z s) p []) q v)
+  pub chunk-set : (c p q : ℕ) (v : A) (s : List A) → q < z → chunk c z (set s (p * z + q) v) ≡ set (chunk c z s) p (set (get_or (chunk c z s) p []) q v)
   unfolding chunk
   chunk-set zero p q v s h = refl
   chunk-set (suc c) zero q v s h =
@@ -32,30 +34,30 @@ module _ {A : Type 0} (z : ℕ) where
       let e : suc p * z + q ≡ z + (p * z + q) = omega arith in
       rw (e, take-set-le z s (z + (p * z + q)) v (omega arith), drop-set-add z s (p * z + q) v, chunk-set c p q v (drop z s) h)
 
-  pub chunk-get : (c p q : ℕ) (d : A) (s : List A) → p < c → q < z → getD (getD (chunk c z s) p []) q d ≡ getD s (p * z + q) d
+  pub chunk-get : (c p q : ℕ) (d : A) (s : List A) → p < c → q < z → get_or (get_or (chunk c z s) p []) q d ≡ get_or s (p * z + q) d
   unfolding chunk
   chunk-get zero p q d s h k = absurd (omega arith)
   chunk-get (suc c) zero q d s h k =
       let e : 0 * z + q ≡ q = omega arith in
-      rw e (getD-take z s q d k)
+      rw e (get_or-take z s q d k)
   chunk-get (suc c) (suc p) q d s h k =
       let e : suc p * z + q ≡ z + (p * z + q) = omega arith in
-      rw e (chunk-get c p q d (drop z s) (omega arith) k ∙ getD-drop z s (p * z + q) d)
+      rw e (chunk-get c p q d (drop z s) (omega arith) k ∙ get_or-drop z s (p * z + q) d)
 
   -- one part
-  pub chunk-part : (c p : ℕ) (s : List A) → p < c → getD (chunk c z s) p [] ≡ take z (drop (p * z) s)
+  pub chunk_part : (c p : ℕ) (s : List A) → p < c → get_or (chunk c z s) p [] ≡ take z (drop (p * z) s)
   unfolding chunk
-  chunk-part zero p s h = absurd (omega arith)
-  chunk-part (suc c) zero s h = let e : 0 * z ≡ 0 = omega arith in rw e
-  chunk-part (suc c) (suc p) s h =
+  chunk_part zero p s h = absurd (omega arith)
+  chunk_part (suc c) zero s h = let e : 0 * z ≡ 0 = omega arith in rw e
+  chunk_part (suc c) (suc p) s h =
       let e : suc p * z ≡ z + p * z = omega arith in
-      rw (e, ← (drop-drop (p * z) z s)) (chunk-part c p (drop z s) (omega arith))
+      rw (e, ← (drop-drop (p * z) z s)) (chunk_part c p (drop z s) (omega arith))
 
-  pub part-length : (c p : ℕ) (s : List A) → p < c → c * z ≤ length s → length (getD (chunk c z s) p []) ≡ z
+  pub part_length : (c p : ℕ) (s : List A) → p < c → c * z ≤ length s → length (get_or (chunk c z s) p []) ≡ z
   unfolding chunk
-  part-length zero p s h k = absurd (omega arith)
-  part-length (suc c) zero s h k = length-take z s ∙ omega arith
-  part-length (suc c) (suc p) s h k = part-length c p (drop z s) (omega arith) (omega (arith, length-drop z s))
+  part_length zero p s h k = absurd (omega arith)
+  part_length (suc c) zero s h k = length-take z s ∙ omega arith
+  part_length (suc c) (suc p) s h k = part_length c p (drop z s) (omega arith) (omega (arith, length-drop z s))
 
   -- m parts replaced
   replace-front : (c m : ℕ) (u s : List A) → m ≤ c → length u ≡ m * z → m * z ≤ length s → chunk c z (u ++ drop (m * z) s) ≡ chunk m z u ++ drop m (chunk c z s)
@@ -73,13 +75,13 @@ module _ {A : Type 0} (z : ℕ) where
       let e : suc m * z ≡ z + m * z = omega arith in
       let lu : length (take z u) ≡ z = length-take-le z u (omega arith) in
       let f : u ≡ take z u ++ drop z u = sym (lib.ListN.take-append-drop z u) in
-      let g : u ++ drop (z + m * z) s ≡ take z u ++ (drop z u ++ drop (z + m * z) s) = ap (λ (y : List A). y ++ drop (z + m * z) s) f ∙ append-assoc (take z u) (drop z u) (drop (z + m * z) s) in
+      let g : u ++ drop (z + m * z) s ≡ take z u ++ (drop z u ++ drop (z + m * z) s) = ap (λ (y : List A). y ++ drop (z + m * z) s) f ∙ append_assoc (take z u) (drop z u) (drop (z + m * z) s) in
       rw (
         e,
         g,
         ← (drop-drop (m * z) z s),
-        take-at (take z u) (drop z u ++ drop (m * z) (drop z s)) z lu,
-        drop-at (take z u) (drop z u ++ drop (m * z) (drop z s)) z lu,
+        take_at (take z u) (drop z u ++ drop (m * z) (drop z s)) z lu,
+        drop_at (take z u) (drop z u ++ drop (m * z) (drop z s)) z lu,
         replace-front c m (drop z u) (drop z s) (omega arith) (omega (arith, length-drop z u)) (omega (arith, length-drop z s)),
       )
 
@@ -98,7 +100,7 @@ module _ {A : Type 0} (z : ℕ) where
         e,
         f,
         take-add z (a * z) s,
-        append-assoc,
+        append_assoc,
         ← (drop-drop ((a + m) * z) z s),
         chunk-cons c z (take z s) _ (length-take-le z s (omega arith)),
         chunk-replace c a m u (drop z s) (omega arith) l (omega (arith, length-drop z s)),
@@ -114,11 +116,11 @@ chunk-replicate (suc c) z x = let e : suc c * z ≡ z + c * z = omega arith in
     rw (
       e,
       ← (replicate-append-replicate z (c * z) x),
-      take-at (replicate z x) (replicate (c * z) x) z (length-replicate z x),
-      drop-at (replicate z x) (replicate (c * z) x) z (length-replicate z x),
+      take_at (replicate z x) (replicate (c * z) x) z (length-replicate z x),
+      drop_at (replicate z x) (replicate (c * z) x) z (length-replicate z x),
       chunk-replicate c z x,
     )
 
 -- a replaced part, by index
 pub replace-part : {A : Type 0} (l : List A) (i : ℕ) (x : A) → i < length l → take i l ++ ((x ∷ []) ++ drop (i + 1) l) ≡ set l i x
-replace-part l i x h = let e : i + 1 ≡ suc i = omega arith in rw e (sym (lib.Seq.set-split l i x h))
+replace-part l i x h = let e : i + 1 ≡ suc i = omega arith in rw e (sym (lib.Seq.set_split l i x h))

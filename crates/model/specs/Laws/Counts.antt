@@ -1,14 +1,12 @@
 -- What a sequence counts, on a short one: rewrites and deletes that answer 0 are counted, refused requests are not, and L is the most that was stored.
 -- And what a cut has begun: the owing marks reached, and the erases.
-use Prim.Native.Nat.{ℕ, _+_}
-use mathlib.Core.Path.{_≡_, refl}
-use mathlib.Core.Logic.{inl, inr}
-use mathlib.Core.List.{List, [], _∷_}
-use Rattle·model·specs.specs.Lists.{same, count}
-use Rattle·model·specs.specs.Chip.{Image, Step, program, erase, clear, segmentBytes, withSegment, step}
-use Rattle·model·specs.specs.Answers.{Request, put, delete, read, recover}
-use Rattle·model·specs.specs.Sequences.{erasesIn, Observed, among, removed, inserted, storedAfter, replaces, start, noted, ledger, eraseCount, erasesOf}
-use Rattle·model·specs.specs.Begun.{isMark, marksIn, CutBegun}
+use Rattle.std.specs.Prelude.{ℕ, ◌+◌, ◌≡◌, refl, List, [], ◌∷◌}
+use Rattle.std.proofs.Common.{inl, inr}
+use Rattle.model.specs.Lists.{same, count}
+use Rattle.model.specs.Chip.{Image, Step, program, erase, clear, segmentBytes, withSegment, step}
+use Rattle.model.specs.Answers.{Request, put, delete, read, recover}
+use Rattle.model.specs.Sequences.{erasesIn, Observed, among, removed, inserted, storedAfter, replaces, start, noted, ledger, eraseCount, erasesOf}
+use Rattle.model.specs.Begun.{isMark, marksIn, CutBegun}
 
 abbrev saw : Request → ℕ → List ℕ → Observed
 saw r code erases = record { request = r; code = code; erases = erases }

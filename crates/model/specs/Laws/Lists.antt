@@ -1,77 +1,75 @@
 -- Laws of lists: tests and counts, rows joined, elements of a map. And numbers modulo N.
-use Prim.Native.Nat.{ℕ, zero, suc, _+_, _-_, _*_, _/_, _%_, _≤_, _<_}
-use mathlib.Core.Path.{_≡_, refl, sym, ap, _∙_}
-use mathlib.Core.Bool.{Bool, true, false, cond, _&&_, not, true≢false, false≢true, and-assoc, and-eq-true-iff}
-use mathlib.Core.List.{List, [], _∷_, _++_, map, flatten, append-assoc, append-nil}
-use native.Mathlib.Omega.{arith}
-use native.Mathlib.Nat.{div-add-mod', mul-le-mul-right}
-use native.Mathlib.Decide.{decLt}
-use lib.ListN.{length, getD, set, replicate}
-use Rattle·model·specs.specs.Lists.{all, count}
+use Rattle.std.specs.Prelude.{ℕ, zero, suc, ◌+◌, ◌-◌, ◌*◌, ◌/◌, ◌%◌, ◌≤◌, ◌<◌, ◌≡◌, refl, Bool, true, false, cond, ◌&&◌, not, length, get_or, set, replicate}
+use Rattle.std.proofs.Common.{sym, ap, ◌∙◌, true≢false, arith, div-add-mod', mul-le-mul_right}
+use Rattle.std.proofs.lemmas.Bool.{false≢true}
+use Rattle.std.proofs.Math.Bool.{and_assoc, and-eq-true_iff}
+use mathlib.Core.List.{List, [], ◌∷◌, ◌++◌, map, flatten, append_assoc, append-nil}
+use Rattle.std.proofs.Math.Decide.{dec_lt}
+use Rattle.model.specs.Lists.{all, count}
 
 -- ---- conjunction
 
-pub and-left : (a b : Bool) → a && b ≡ true → a ≡ true
-and-left true b h = refl
-and-left false b h = h
+pub and_left : (a b : Bool) → a && b ≡ true → a ≡ true
+and_left true b h = refl
+and_left false b h = h
 
-pub and-right : (a b : Bool) → a && b ≡ true → b ≡ true
-and-right true b h = h
-and-right false b h = absurd (false≢true h)
+pub and_right : (a b : Bool) → a && b ≡ true → b ≡ true
+and_right true b h = h
+and_right false b h = absurd (false≢true h)
 
-pub and-both : (a b : Bool) → a ≡ true → b ≡ true → a && b ≡ true
-and-both a b h k = rw (h, k)
+pub and_both : (a b : Bool) → a ≡ true → b ≡ true → a && b ≡ true
+and_both a b h k = rw (h, k)
 
 -- ---- every element
 
-pub all-append : {A : Type 0} (f : A → Bool) (xs ys : List A) → all f (xs ++ ys) ≡ all f xs && all f ys
+pub all_append : {A : Type 0} (f : A → Bool) (xs ys : List A) → all f (xs ++ ys) ≡ all f xs && all f ys
 unfolding all
-all-append f [] ys = refl
-all-append f (x ∷ xs) ys = ap (λ y. f x && y) (all-append f xs ys) ∙ sym (and-assoc (f x) (all f xs) (all f ys))
+all_append f [] ys = refl
+all_append f (x ∷ xs) ys = ap (λ y. f x && y) (all_append f xs ys) ∙ sym (and_assoc (f x) (all f xs) (all f ys))
 
-pub all-join : {A : Type 0} (f : A → Bool) (x y : List A) → all f x ≡ true → all f y ≡ true → all f (x ++ y) ≡ true
-all-join f x y p q = rw (all-append f x y, p) q
+pub all_join : {A : Type 0} (f : A → Bool) (x y : List A) → all f x ≡ true → all f y ≡ true → all f (x ++ y) ≡ true
+all_join f x y p q = rw (all_append f x y, p) q
 
 pub all-parts : {A : Type 0} (f : A → Bool) (x y : List A) → all f (x ++ y) ≡ true → (all f x ≡ true) × (all f y ≡ true)
-all-parts f x y h = and-eq-true-iff (all f x) (all f y) .0 (sym (all-append f x y) ∙ h)
+all-parts f x y h = (and-eq-true_iff (all f x) (all f y)).0 (sym (all_append f x y) ∙ h)
 
 pub all-flatten : {A : Type 0} (f : A → Bool) (l : List (List A)) → all f (flatten l) ≡ all (λ s. all f s) l
 unfolding all flatten
 all-flatten f [] = refl
-all-flatten f (s ∷ l) = all-append f s (flatten l) ∙ ap (λ t. all f s && t) (all-flatten f l)
+all-flatten f (s ∷ l) = all_append f s (flatten l) ∙ ap (λ t. all f s && t) (all-flatten f l)
 
-pub all-replicate : {A : Type 0} (f : A → Bool) (a : A) → f a ≡ true → (n : ℕ) → all f (replicate n a) ≡ true
+pub all_replicate : {A : Type 0} (f : A → Bool) (a : A) → f a ≡ true → (n : ℕ) → all f (replicate n a) ≡ true
 unfolding all
-all-replicate f a h zero = refl
-all-replicate f a h (suc n) = rw h (all-replicate f a h n)
+all_replicate f a h zero = refl
+all_replicate f a h (suc n) = rw h (all_replicate f a h n)
 
 -- of rows: of each row
-pub all-row : {A : Type 0} (f : A → Bool) (rows : List (List A)) (i : ℕ) → all f (flatten rows) ≡ true → all f (getD rows i []) ≡ true
+pub all_row : {A : Type 0} (f : A → Bool) (rows : List (List A)) (i : ℕ) → all f (flatten rows) ≡ true → all f (get_or rows i []) ≡ true
 unfolding all flatten
-all-row f [] i q = refl
-all-row f (x ∷ rows) zero q = all-parts f x (flatten rows) q .0
-all-row f (x ∷ rows) (suc i) q = all-row f rows i (all-parts f x (flatten rows) q .1)
+all_row f [] i q = refl
+all_row f (x ∷ rows) zero q = (all-parts f x (flatten rows) q).0
+all_row f (x ∷ rows) (suc i) q = all_row f rows i (all-parts f x (flatten rows) q).1
 
-pub all-get : {A : Type 0} (f : A → Bool) (xs : List A) (i : ℕ) (d : A) → all f xs ≡ true → i < length xs → f (getD xs i d) ≡ true
+pub all-get : {A : Type 0} (f : A → Bool) (xs : List A) (i : ℕ) (d : A) → all f xs ≡ true → i < length xs → f (get_or xs i d) ≡ true
 unfolding all
 all-get f [] i d h l = absurd (omega arith)
-all-get f (x ∷ xs) zero d h l = and-left (f x) (all f xs) h
-all-get f (x ∷ xs) (suc i) d h l = all-get f xs i d (and-right (f x) (all f xs) h) (omega arith)
+all-get f (x ∷ xs) zero d h l = and_left (f x) (all f xs) h
+all-get f (x ∷ xs) (suc i) d h l = all-get f xs i d (and_right (f x) (all f xs) h) (omega arith)
 
-pub all-same : {A : Type 0} (f : A → Bool) (l : List A) (i : ℕ) (y d : A) → f y ≡ f (getD l i d) → all f (set l i y) ≡ all f l
+pub all_same : {A : Type 0} (f : A → Bool) (l : List A) (i : ℕ) (y d : A) → f y ≡ f (get_or l i d) → all f (set l i y) ≡ all f l
 unfolding all
-all-same f [] i y d e = refl
-all-same f (x ∷ l) zero y d e = ap (λ t. t && all f l) e
-all-same f (x ∷ l) (suc i) y d e = ap (λ t. f x && t) (all-same f l i y d e)
+all_same f [] i y d e = refl
+all_same f (x ∷ l) zero y d e = ap (λ t. t && all f l) e
+all_same f (x ∷ l) (suc i) y d e = ap (λ t. f x && t) (all_same f l i y d e)
 
-pub all-set : {A : Type 0} (f : A → Bool) (xs : List A) (i : ℕ) (y : A) → all f xs ≡ true → f y ≡ true → all f (set xs i y) ≡ true
+pub all_set : {A : Type 0} (f : A → Bool) (xs : List A) (i : ℕ) (y : A) → all f xs ≡ true → f y ≡ true → all f (set xs i y) ≡ true
 unfolding all
-all-set f [] i y h k = refl
-all-set f (x ∷ xs) zero y h k = and-both (f y) (all f xs) k (and-right (f x) (all f xs) h)
-all-set f (x ∷ xs) (suc i) y h k = and-both (f x) (all f (set xs i y)) (and-left (f x) (all f xs) h) (all-set f xs i y (and-right (f x) (all f xs) h) k)
+all_set f [] i y h k = refl
+all_set f (x ∷ xs) zero y h k = and_both (f y) (all f xs) k (and_right (f x) (all f xs) h)
+all_set f (x ∷ xs) (suc i) y h k = and_both (f x) (all f (set xs i y)) (and_left (f x) (all f xs) h) (all_set f xs i y (and_right (f x) (all f xs) h) k)
 
 -- a test that fails at one element fails of the list
-pub all-fails : {A : Type 0} (f : A → Bool) (xs : List A) (i : ℕ) (d : A) → i < length xs → f (getD xs i d) ≡ false → all f xs ≡ false
+pub all-fails : {A : Type 0} (f : A → Bool) (xs : List A) (i : ℕ) (d : A) → i < length xs → f (get_or xs i d) ≡ false → all f xs ≡ false
 unfolding all
 all-fails f [] i d l h = absurd (omega arith)
 all-fails f (x ∷ xs) zero d l h = rw h
@@ -96,20 +94,20 @@ count-append f (e ∷ x) y = go (f e) (count-append f x y)
     go true h = omega arith
     go false h = h
 
-pub count-set : {A : Type 0} (f : A → Bool) (xs : List A) (i : ℕ) (y d : A) → i < length xs → count f (set xs i y) + one (f (getD xs i d)) ≡ count f xs + one (f y)
+pub count_set : {A : Type 0} (f : A → Bool) (xs : List A) (i : ℕ) (y d : A) → i < length xs → count f (set xs i y) + one (f (get_or xs i d)) ≡ count f xs + one (f y)
 unfolding count one
-count-set f [] i y d h = absurd (omega arith)
-count-set f (x ∷ xs) zero y d h = go (f x) (f y)
+count_set f [] i y d h = absurd (omega arith)
+count_set f (x ∷ xs) zero y d h = go (f x) (f y)
   where
     go : (a b : Bool) → cond b (suc (count f xs)) (count f xs) + one a ≡ cond a (suc (count f xs)) (count f xs) + one b
     go true true = refl
     go true false = omega arith
     go false true = omega arith
     go false false = refl
-count-set f (x ∷ xs) (suc i) y d h = go (f x) (count-set f xs i y d (omega arith))
+count_set f (x ∷ xs) (suc i) y d h = go (f x) (count_set f xs i y d (omega arith))
   where
-    go : (a : Bool) → count f (set xs i y) + one (f (getD xs i d)) ≡ count f xs + one (f y)
-        → cond a (suc (count f (set xs i y))) (count f (set xs i y)) + one (f (getD xs i d)) ≡ cond a (suc (count f xs)) (count f xs) + one (f y)
+    go : (a : Bool) → count f (set xs i y) + one (f (get_or xs i d)) ≡ count f xs + one (f y)
+        → cond a (suc (count f (set xs i y))) (count f (set xs i y)) + one (f (get_or xs i d)) ≡ cond a (suc (count f xs)) (count f xs) + one (f y)
     go true e = omega arith
     go false e = e
 
@@ -130,15 +128,15 @@ count-set-most f (x ∷ xs) (suc i) y = go (f x) (count-set-most f xs i y)
     go true h = omega arith
     go false h = h
 
-pub count-none : {A : Type 0} (f : A → Bool) (xs : List A) (i : ℕ) (d : A) → count f xs ≡ 0 → i < length xs → f (getD xs i d) ≡ false
+pub count_none : {A : Type 0} (f : A → Bool) (xs : List A) (i : ℕ) (d : A) → count f xs ≡ 0 → i < length xs → f (get_or xs i d) ≡ false
 unfolding count
-count-none f [] i d h l = absurd (omega arith)
-count-none f (x ∷ xs) zero d h l = go (f x) h
+count_none f [] i d h l = absurd (omega arith)
+count_none f (x ∷ xs) zero d h l = go (f x) h
   where
     go : (a : Bool) → cond a (suc (count f xs)) (count f xs) ≡ 0 → a ≡ false
     go true e = absurd (omega arith)
     go false e = refl
-count-none f (x ∷ xs) (suc i) d h l = count-none f xs i d (go (f x) h) (omega arith)
+count_none f (x ∷ xs) (suc i) d h l = count_none f xs i d (go (f x) h) (omega arith)
   where
     go : (a : Bool) → cond a (suc (count f xs)) (count f xs) ≡ 0 → count f xs ≡ 0
     go true e = absurd (omega arith)
@@ -168,7 +166,7 @@ some-count f (k ∷ s) h = go (f k) h (λ p. some-count f s p)
 pub flatten-append : {A : Type 0} (a b : List (List A)) → flatten (a ++ b) ≡ flatten a ++ flatten b
 unfolding flatten
 flatten-append [] b = refl
-flatten-append (s ∷ a) b = rw (flatten-append a b) (sym (append-assoc s (flatten a) (flatten b)))
+flatten-append (s ∷ a) b = rw (flatten-append a b) (sym (append_assoc s (flatten a) (flatten b)))
 
 pub flatten-one : {A : Type 0} (s : List A) → flatten (s ∷ []) ≡ s
 unfolding flatten
@@ -188,10 +186,10 @@ pub map-length : {A B : Type 0} (f : A → B) (xs : List A) → length (map f xs
 map-length f [] = refl
 map-length f (x ∷ xs) = ap suc (map-length f xs)
 
-pub map-get : {A B : Type 0} (f : A → B) (xs : List A) (i : ℕ) (d : A) (e : B) → i < length xs → getD (map f xs) i e ≡ f (getD xs i d)
-map-get f [] i d e h = absurd (omega arith)
-map-get f (x ∷ xs) zero d e h = refl
-map-get f (x ∷ xs) (suc i) d e h = map-get f xs i d e (omega arith)
+pub map_get : {A B : Type 0} (f : A → B) (xs : List A) (i : ℕ) (d : A) (e : B) → i < length xs → get_or (map f xs) i e ≡ f (get_or xs i d)
+map_get f [] i d e h = absurd (omega arith)
+map_get f (x ∷ xs) zero d e h = refl
+map_get f (x ∷ xs) (suc i) d e h = map_get f xs i d e (omega arith)
 
 -- ---- numbers modulo N
 
@@ -200,9 +198,9 @@ pub mod-inj : (N a b : ℕ) → a ≤ b → b < a + N → a % N ≡ b % N → a 
 mod-inj N a b h k e =
     let da = div-add-mod' a N in
     let db = div-add-mod' b N in
-    elim (decLt (a / N) (b / N)) [
-      | yes l ↦ absurd (omega (arith, mul-le-mul-right N l))
-      | no l ↦ elim (decLt (b / N) (a / N)) [ yes r ↦ absurd (omega (arith, mul-le-mul-right N r)) | no r ↦ omega (arith, ap (λ (y : ℕ). y * N) (quotients (a / N) (b / N) l r)) ]
+    elim (dec_lt (a / N) (b / N)) [
+      | yes l ↦ absurd (omega (arith, mul-le-mul_right N l))
+      | no l ↦ elim (dec_lt (b / N) (a / N)) [ yes r ↦ absurd (omega (arith, mul-le-mul_right N r)) | no r ↦ omega (arith, ap (λ (y : ℕ). y * N) (quotients (a / N) (b / N) l r)) ]
     ]
   where
     quotients : (x y : ℕ) → ¬ (x < y) → ¬ (y < x) → x ≡ y

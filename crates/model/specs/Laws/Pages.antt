@@ -1,39 +1,35 @@
 -- The pages of a run are the run of the pages. A step inside a page changes that page only; an erase, that segment only.
-use Prim.Native.Nat.{ℕ, zero, suc, _+_, _-_, _*_, _/_, _%_, _≤_, _<_}
-use mathlib.Core.Path.{_≡_, refl, sym, ap, _∙_}
-use mathlib.Core.Logic.{inl, inr}
-use mathlib.Core.List.{List, [], _∷_, _++_, append-nil, append-assoc}
-use native.Mathlib.Omega.{arith}
-use native.Mathlib.Nat.{div-add-mod'}
-use native.Mathlib.Decide.{decLt, decLe}
-use lib.ListN.{length, getD, take, drop, set, replicate, length-set, length-replicate, length-append, length-take, length-drop, drop-of-length-le, replicate-append-replicate}
-use lib.Seq.{take-at, drop-at, drop-drop, set-out, set-set, set-getD, getD-set-same}
-use borrow.Author.Tests.{le-leb, lt-leb}
-use Rattle·model·specs.specs.Lists.{chunk}
-use Rattle·model·specs.specs.Chip.{Image, Page, Step, program, erase, clear, erased, withSegment, step, run, imageLength, pagesOf, Cut}
-use Rattle·model·specs.specs.Steps.{programs, programPart, onPage, eraseFirst}
-use Rattle·model·specs.specs.Pages.{programPage, stepPages, runPages}
-use Rattle·model·specs.specs.Laws.Chunk.{chunk-length, chunk-set, chunk-get, chunk-replace, chunk-replicate}
-use Rattle·model·specs.specs.Laws.Chip.{step-length}
+use Rattle.std.specs.Prelude.{ℕ, zero, suc, ◌+◌, ◌-◌, ◌*◌, ◌/◌, ◌%◌, ◌≤◌, ◌<◌, ◌≡◌, refl, List, [], ◌∷◌, ◌++◌, length, get_or, take, drop, set, replicate}
+use Rattle.std.proofs.Common.{sym, ap, ◌∙◌, inl, inr, append-nil, append_assoc, arith, div-add-mod', length-set, length-append, length-take, length-drop, drop_of_length-le, take_at, drop_at, drop-drop, set-set, get_or-set_same, le-leb}
+use Rattle.std.proofs.Math.Decide.{dec_lt, dec_le}
+use Rattle.std.proofs.lemmas.List.{length-replicate, replicate-append-replicate, set-get_or}
+use Rattle.std.proofs.Math.Seq.{set_out}
+use Rattle.std.proofs.lemmas.Bool.{lt-leb}
+use Rattle.model.specs.Lists.{chunk}
+use Rattle.model.specs.Chip.{Image, Page, Step, program, erase, clear, erased, withSegment, step, run, imageLength, pagesOf, Cut}
+use Rattle.model.specs.Steps.{programs, programPart, onPage, eraseFirst}
+use Rattle.model.specs.Pages.{programPage, stepPages, runPages}
+use Rattle.model.specs.Laws.Chunk.{chunk-length, chunk-set, chunk-get, chunk-replace, chunk-replicate}
+use Rattle.model.specs.Laws.Chip.{step-length}
 
 -- ---- the pages of a run
 
-pages-program : (c at v : ℕ) (s : List ℕ) → chunk c 256 (set s at (clear (getD s at 0) v)) ≡ set (chunk c 256 s) (at / 256) (programPage (at % 256) v (getD (chunk c 256 s) (at / 256) []))
+pages-program : (c at v : ℕ) (s : List ℕ) → chunk c 256 (set s at (clear (get_or s at 0) v)) ≡ set (chunk c 256 s) (at / 256) (programPage (at % 256) v (get_or (chunk c 256 s) (at / 256) []))
 unfolding programPage
 pages-program c at v s =
     let e = div-add-mod' at 256 in
     let l : at % 256 < 256 = omega arith in
-    let g = chunk-set 256 c (at / 256) (at % 256) (clear (getD s at 0) v) s l in
-    elim (decLt (at / 256) c) [
+    let g = chunk-set 256 c (at / 256) (at % 256) (clear (get_or s at 0) v) s l in
+    elim (dec_lt (at / 256) c) [
       | yes p ↦ (rw e at g) ∙ rw (chunk-get 256 c (at / 256) (at % 256) 0 s p l, e)
-      | no p ↦ (rw e at g) ∙ (rw (set-out (chunk c 256 s) (at / 256) _ (omega (arith, chunk-length c 256 s)), set-out (chunk c 256 s) (at / 256) _ (omega (arith, chunk-length c 256 s))))
+      | no p ↦ (rw e at g) ∙ (rw (set_out (chunk c 256 s) (at / 256) _ (omega (arith, chunk-length c 256 s)), set_out (chunk c 256 s) (at / 256) _ (omega (arith, chunk-length c 256 s))))
     ]
 
 pages-erase : (N B i : ℕ) (s : List ℕ) → length s ≡ N * (B + 1) * 256 → chunk (N * (B + 1)) 256 (step B (erase i) s) ≡ stepPages B (erase i) (chunk (N * (B + 1)) 256 s)
 unfolding step stepPages withSegment erased
 pages-erase N B i s h =
     let n = chunk-length (N * (B + 1)) 256 s in
-    elim (decLe (i * (B + 1) + (B + 1)) (N * (B + 1))) [
+    elim (dec_le (i * (B + 1) + (B + 1)) (N * (B + 1))) [
       | yes p ↦ rw (le-leb ((i * (B + 1) + (B + 1)) * 256) (length s) (omega arith), le-leb (i * (B + 1) + (B + 1)) (length (chunk (N * (B + 1)) 256 s)) (omega arith))
           (chunk-replace 256 (N * (B + 1)) (i * (B + 1)) (B + 1) (replicate ((B + 1) * 256) 255) s p (length-replicate ((B + 1) * 256) 255) (omega arith)
           ∙ ap (λ (y : List Page). take (i * (B + 1)) (chunk (N * (B + 1)) 256 s) ++ (y ++ drop (i * (B + 1) + (B + 1)) (chunk (N * (B + 1)) 256 s))) (chunk-replicate (B + 1) 256 255))
@@ -66,10 +62,10 @@ erase-one-more B i ps h =
     let l = length-replicate n (erased 256) in
     let size : length (done ++ drop n ps) ≡ length ps = length-append done (drop n ps) ∙ omega (arith, l, length-drop n ps) in
     let rest : drop (n + (B + 1)) (done ++ drop n ps) ≡ drop (n + (B + 1)) ps =
-    sym (drop-drop (B + 1) n (done ++ drop n ps)) ∙ ap (λ (y : List Page). drop (B + 1) y) (drop-at done (drop n ps) n l) ∙ drop-drop (B + 1) n ps in
+    sym (drop-drop (B + 1) n (done ++ drop n ps)) ∙ ap (λ (y : List Page). drop (B + 1) y) (drop_at done (drop n ps) n l) ∙ drop-drop (B + 1) n ps in
     let total : suc i * (B + 1) ≡ n + (B + 1) = omega arith in
-    rw (le-leb (n + (B + 1)) (length (done ++ drop n ps)) (omega arith), take-at done (drop n ps) n l, rest, total)
-    (sym (append-assoc done (replicate (B + 1) (erased 256)) (drop (n + (B + 1)) ps))
+    rw (le-leb (n + (B + 1)) (length (done ++ drop n ps)) (omega arith), take_at done (drop n ps) n l, rest, total)
+    (sym (append_assoc done (replicate (B + 1) (erased 256)) (drop (n + (B + 1)) ps))
     ∙ ap (λ (y : List Page). y ++ drop (n + (B + 1)) ps) (replicate-append-replicate n (B + 1) (erased 256)))
 
 pub first-erased : (B k : ℕ) (ps : List Page) → k * (B + 1) ≤ length ps → runPages B (eraseFirst k) ps ≡ replicate (k * (B + 1)) (erased 256) ++ drop (k * (B + 1)) ps
@@ -83,7 +79,7 @@ pub all-erased : (N B : ℕ) (xs : List Step) (ps : List Page) → length ps ≡
 all-erased N B xs ps h =
     pages-append B (eraseFirst N) xs ps
     ∙ ap (λ (y : List Page). runPages B xs y)
-    (first-erased B N ps (omega arith) ∙ ap (λ (y : List Page). replicate (N * (B + 1)) (erased 256) ++ y) (drop-of-length-le ps {i = N * (B + 1)} (omega arith)) ∙ append-nil (replicate (N * (B + 1)) (erased 256)))
+    (first-erased B N ps (omega arith) ∙ ap (λ (y : List Page). replicate (N * (B + 1)) (erased 256) ++ y) (drop_of_length-le ps {i = N * (B + 1)} (omega arith)) ∙ append-nil (replicate (N * (B + 1)) (erased 256)))
 
 -- ---- steps inside one page
 
@@ -101,7 +97,7 @@ InPage (erase i ∷ xs) = ⊥
 
 pub in-append : (xs ys : List Step) → InPage xs → InPage ys → InPage (xs ++ ys)
 in-append [] ys p q = q
-in-append (program at v ∷ xs) ys p q = (p .0, in-append xs ys (p .1) q)
+in-append (program at v ∷ xs) ys p q = (p.0, in-append xs ys p.1 q)
 in-append (erase i ∷ xs) ys p q = p
 
 pub in-programs : (at : ℕ) (vs : List ℕ) → at + length vs ≤ 256 → InPage (programs at vs)
@@ -113,7 +109,7 @@ pub in-part : (p : Page) (at k : ℕ) → at + k ≤ 256 → InPage (programPart
 unfolding programPart
 in-part p at k h = in-programs at (take k (drop at p)) (omega (arith, length-take k (drop at p)))
 
-one-program : (B p at v : ℕ) (ps : List Page) → at < 256 → stepPages B (program (p * 256 + at) v) ps ≡ set ps p (step B (program at v) (getD ps p []))
+one-program : (B p at v : ℕ) (ps : List Page) → at < 256 → stepPages B (program (p * 256 + at) v) ps ≡ set ps p (step B (program at v) (get_or ps p []))
 unfolding stepPages programPage step
 one-program B p at v ps h =
     let e : (p * 256 + at) / 256 ≡ p = omega arith in
@@ -121,24 +117,24 @@ one-program B p at v ps h =
     rw (e, f)
 
 -- steps inside page p change that page only, as they would change it alone
-pub run-on-page : (B p : ℕ) (xs : List Step) (ps : List Page) → p < length ps → InPage xs → runPages B (onPage p xs) ps ≡ set ps p (run B xs (getD ps p []))
+pub run-on-page : (B p : ℕ) (xs : List Step) (ps : List Page) → p < length ps → InPage xs → runPages B (onPage p xs) ps ≡ set ps p (run B xs (get_or ps p []))
 unfolding runPages onPage run
-run-on-page B p [] ps h i = sym (set-getD ps p [])
+run-on-page B p [] ps h i = sym (set-get_or ps p [])
 run-on-page B p (erase k ∷ xs) ps h i = absurd i
 run-on-page B p (program at v ∷ xs) ps h i =
-    let q = step B (program at v) (getD ps p []) in
-    ap (λ y. runPages B (onPage p xs) y) (one-program B p at v ps (i .0))
-    ∙ run-on-page B p xs (set ps p q) (omega (arith, length-set ps p q)) (i .1)
-    ∙ rw (getD-set-same ps p q [] h) (set-set ps p q (run B xs q))
+    let q = step B (program at v) (get_or ps p []) in
+    ap (λ y. runPages B (onPage p xs) y) (one-program B p at v ps i.0)
+    ∙ run-on-page B p xs (set ps p q) (omega (arith, length-set ps p q)) i.1
+    ∙ rw (get_or-set_same ps p q [] h) (set-set ps p q (run B xs q))
 
 -- ---- a cut inside one page
 
 -- a cut of steps inside page p is a cut of that page alone
 abbrev pub CutPage : ℕ → ℕ → ℕ → List Step → Image → Image → Type 0
-CutPage B c p xs s t = (u : Page) × Cut B xs (getD (chunk c 256 s) p []) u × (chunk c 256 t ≡ set (chunk c 256 s) p u)
+CutPage B c p xs s t = (u : Page) × Cut B xs (get_or (chunk c 256 s) p []) u × (chunk c 256 t ≡ set (chunk c 256 s) p u)
 
-uncut : (B c p : ℕ) (xs : List Step) (s t : Image) → t ≡ s → Cut B xs (getD (chunk c 256 s) p []) (getD (chunk c 256 s) p []) → CutPage B c p xs s t
-uncut B c p xs s t e k = (getD (chunk c 256 s) p [], k, ap (λ y. chunk c 256 y) e ∙ sym (set-getD (chunk c 256 s) p []))
+uncut : (B c p : ℕ) (xs : List Step) (s t : Image) → t ≡ s → Cut B xs (get_or (chunk c 256 s) p []) (get_or (chunk c 256 s) p []) → CutPage B c p xs s t
+uncut B c p xs s t e k = (get_or (chunk c 256 s) p [], k, ap (λ y. chunk c 256 y) e ∙ sym (set-get_or (chunk c 256 s) p []))
 
 pub cut-on-page : (B c p : ℕ) (xs : List Step) (s t : Image) → p < c → InPage xs → Cut B (onPage p xs) s t → CutPage B c p xs s t
 unfolding onPage step
@@ -146,13 +142,13 @@ cut-on-page B c p [] s t h i k = uncut B c p [] s t k refl
 cut-on-page B c p (erase n ∷ xs) s t h i k = absurd i
 cut-on-page B c p (program at v ∷ xs) s t h i (inl e) = uncut B c p (program at v ∷ xs) s t e (inl refl)
 cut-on-page B c p (program at v ∷ xs) s t h i (inr (inl (x, b, e))) =
-    let g = chunk-get 256 c p at 0 s h (i .0) in
-    (set (getD (chunk c 256 s) p []) at x, inr (inl (x, rw g b, refl)), ap (λ y. chunk c 256 y) e ∙ chunk-set 256 c p at x s (i .0))
+    let g = chunk-get 256 c p at 0 s h i.0 in
+    (set (get_or (chunk c 256 s) p []) at x, inr (inl (x, rw g b, refl)), ap (λ y. chunk c 256 y) e ∙ chunk-set 256 c p at x s i.0)
 cut-on-page B c p (program at v ∷ xs) s t h i (inr (inr k)) =
-    let w = clear (getD s (p * 256 + at) 0) v in
-    let g = chunk-get 256 c p at 0 s h (i .0) in
-    let q = chunk-set 256 c p at w s (i .0) in
-    let r = cut-on-page B c p xs (set s (p * 256 + at) w) t h (i .1) k in
-    let o : getD (chunk c 256 (set s (p * 256 + at) w)) p [] ≡ set (getD (chunk c 256 s) p []) at w =
-    rw q (getD-set-same (chunk c 256 s) p (set (getD (chunk c 256 s) p []) at w) [] (omega (arith, chunk-length c 256 s))) in
-    (r .0, inr (inr (rw g (rw o at (r .1)))), r .2 ∙ rw q (set-set (chunk c 256 s) p (set (getD (chunk c 256 s) p []) at w) (r .0)))
+    let w = clear (get_or s (p * 256 + at) 0) v in
+    let g = chunk-get 256 c p at 0 s h i.0 in
+    let q = chunk-set 256 c p at w s i.0 in
+    let r = cut-on-page B c p xs (set s (p * 256 + at) w) t h i.1 k in
+    let o : get_or (chunk c 256 (set s (p * 256 + at) w)) p [] ≡ set (get_or (chunk c 256 s) p []) at w =
+    rw q (get_or-set_same (chunk c 256 s) p (set (get_or (chunk c 256 s) p []) at w) [] (omega (arith, chunk-length c 256 s))) in
+    (r.0, inr (inr (rw g (rw o at r.1))), r.2 ∙ rw q (set-set (chunk c 256 s) p (set (get_or (chunk c 256 s) p []) at w) r.0))

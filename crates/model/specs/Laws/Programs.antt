@@ -1,14 +1,10 @@
 -- Laws of bytes programmed in a row: a byte that no step programs is kept, through a cut too; erased bytes become what was programmed.
-use Prim.Native.Nat.{ℕ, suc, _+_, _≤_, _<_}
-use mathlib.Core.Path.{_≡_, refl, sym, ap, _∙_}
-use mathlib.Core.Logic.{_⊎_, inl, inr, _≢_}
-use mathlib.Core.List.{List, [], _∷_, _++_, append-assoc}
-use native.Mathlib.Omega.{arith}
-use lib.ListN.{length, getD, take, drop, set, length-append, length-take}
-use lib.Seq.{getD-set-other, set-at, getD-at}
-use Rattle·model·specs.specs.Chip.{Image, Page, Bytes, Step, program, erase, clear, erased, step, run, Cut}
-use Rattle·model·specs.specs.Steps.{programs, programPart}
-use Rattle·model·specs.specs.Laws.Bytes.{clear-erased}
+use Rattle.std.specs.Prelude.{ℕ, suc, ◌+◌, ◌≤◌, ◌<◌, ◌≡◌, refl, ◌⊎◌, ◌≢◌, List, [], ◌∷◌, ◌++◌, length, get_or, take, drop, set}
+use Rattle.std.proofs.Common.{sym, ap, ◌∙◌, inl, inr, append_assoc, arith, length-append, length-take, get_or-set_other}
+use Rattle.std.proofs.lemmas.List.{set_at, get_or_at}
+use Rattle.model.specs.Chip.{Image, Page, Bytes, Step, program, erase, clear, erased, step, run, Cut}
+use Rattle.model.specs.Steps.{programs, programPart}
+use Rattle.model.specs.Laws.Bytes.{clear-erased}
 
 -- ---- a byte that is kept
 
@@ -24,7 +20,7 @@ Outside i at k = (i < at) ⊎ (at + k ≤ i)
 
 pub spares-append : (i : ℕ) (xs ys : List Step) → Spares i xs → Spares i ys → Spares i (xs ++ ys)
 spares-append i [] ys p q = q
-spares-append i (program at v ∷ xs) ys p q = (p .0, spares-append i xs ys (p .1) q)
+spares-append i (program at v ∷ xs) ys p q = (p.0, spares-append i xs ys p.1 q)
 spares-append i (erase k ∷ xs) ys p q = p
 
 pub spares-programs : (i at : ℕ) (vs : List ℕ) → Outside i at (length vs) → Spares i (programs at vs)
@@ -38,29 +34,29 @@ unfolding programPart
 spares-part i p at k (inl h) = spares-programs i at (take k (drop at p)) (inl h)
 spares-part i p at k (inr h) = spares-programs i at (take k (drop at p)) (inr (omega (arith, length-take k (drop at p))))
 
-pub spared-run : (B i : ℕ) (xs : List Step) (s : Image) → Spares i xs → getD (run B xs s) i 0 ≡ getD s i 0
+pub spared-run : (B i : ℕ) (xs : List Step) (s : Image) → Spares i xs → get_or (run B xs s) i 0 ≡ get_or s i 0
 unfolding run step
 spared-run B i [] s p = refl
 spared-run B i (program at v ∷ xs) s p =
-    let w = clear (getD s at 0) v in
-    spared-run B i xs (set s at w) (p .1) ∙ getD-set-other s at i w 0 (p .0)
+    let w = clear (get_or s at 0) v in
+    spared-run B i xs (set s at w) p.1 ∙ get_or-set_other s at i w 0 p.0
 spared-run B i (erase k ∷ xs) s p = absurd p
 
-pub spared-cut : (B i : ℕ) (xs : List Step) (s t : Image) → Spares i xs → Cut B xs s t → getD t i 0 ≡ getD s i 0
+pub spared-cut : (B i : ℕ) (xs : List Step) (s t : Image) → Spares i xs → Cut B xs s t → get_or t i 0 ≡ get_or s i 0
 unfolding step
-spared-cut B i [] s t p e = ap (λ y. getD y i 0) e
+spared-cut B i [] s t p e = ap (λ y. get_or y i 0) e
 spared-cut B i (erase k ∷ xs) s t p c = absurd p
-spared-cut B i (program at v ∷ xs) s t p (inl e) = ap (λ y. getD y i 0) e
-spared-cut B i (program at v ∷ xs) s t p (inr (inl (x, b, e))) = ap (λ y. getD y i 0) e ∙ getD-set-other s at i x 0 (p .0)
+spared-cut B i (program at v ∷ xs) s t p (inl e) = ap (λ y. get_or y i 0) e
+spared-cut B i (program at v ∷ xs) s t p (inr (inl (x, b, e))) = ap (λ y. get_or y i 0) e ∙ get_or-set_other s at i x 0 p.0
 spared-cut B i (program at v ∷ xs) s t p (inr (inr c)) =
-    let w = clear (getD s at 0) v in
-    spared-cut B i xs (set s at w) t (p .1) c ∙ getD-set-other s at i w 0 (p .0)
+    let w = clear (get_or s at 0) v in
+    spared-cut B i xs (set s at w) t p.1 c ∙ get_or-set_other s at i w 0 p.0
 
 -- ---- erased bytes
 
 pub program-at : (B at v : ℕ) (before after : List ℕ) → length before ≡ at → v < 256 → step B (program at v) (before ++ (255 ∷ after)) ≡ before ++ (v ∷ after)
 unfolding step
-program-at B at v before after h b = rw (getD-at before 255 after 0 at h, clear-erased v b) (set-at before 255 after v at h)
+program-at B at v before after h b = rw (get_or_at before 255 after 0 at h, clear-erased v b) (set_at before 255 after v at h)
 
 -- erased bytes between others
 pub programs-between : (B at : ℕ) (before vs after : List ℕ) → length before ≡ at → Bytes vs → run B (programs at vs) (before ++ (erased (length vs) ++ after)) ≡ before ++ (vs ++ after)
@@ -69,6 +65,6 @@ programs-between B at before [] after h b = refl
 programs-between B at before (v ∷ vs) after h b =
     let rest = erased (length vs) ++ after in
     let front = before ++ (v ∷ []) in
-    ap (λ y. run B (programs (suc at) vs) y) (program-at B at v before rest h (b .0) ∙ sym (append-assoc before (v ∷ []) rest))
-    ∙ programs-between B (suc at) front vs after (omega (arith, length-append before (v ∷ []))) (b .1)
-    ∙ append-assoc before (v ∷ []) (vs ++ after)
+    ap (λ y. run B (programs (suc at) vs) y) (program-at B at v before rest h b.0 ∙ sym (append_assoc before (v ∷ []) rest))
+    ∙ programs-between B (suc at) front vs after (omega (arith, length-append before (v ∷ []))) b.1
+    ∙ append_assoc before (v ∷ []) (vs ++ after)

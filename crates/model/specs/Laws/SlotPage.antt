@@ -1,24 +1,19 @@
 -- Laws of a slot page: its kind, what each kind says of the page, what writing a slot and marking it leave.
-use Prim.Native.Nat.{ℕ, _+_, _-_, _/_, _%_, _≤_, _<_}
-use mathlib.Core.Path.{_≡_, refl, sym, ap, ap₂, _∙_}
-use mathlib.Core.Logic.{_⊎_, inl, inr}
-use mathlib.Core.Bool.{Bool, true, false, cond, _&&_}
-use mathlib.Core.List.{List, [], _∷_, _++_, append-assoc}
-use native.Mathlib.Omega.{arith}
-use lib.ListN.{length, getD, take, drop, length-take}
-use lib.Seq.{take-append-seam}
-use lib.Dec.{leb, ltb, eqb}
-use borrow.Author.Tests.{eqb-true, le-leb, leb-true, ltb-true}
-use Rattle·model·specs.specs.Lists.{same}
-use Rattle·model·specs.specs.Chip.{Page, Bytes, Step, program, clear, erased, step, run}
-use Rattle·model·specs.specs.Header.{isBlank}
-use Rattle·model·specs.specs.Slot.{mostContents, numberOk, writeBegun, written, slotPage, pageBlock, pageContents, slotFits, Slot, empty, torn, dead, cut, wrong, live, slotOf}
-use Rattle·model·specs.specs.Steps.{programs, programPart, writeSlot, markDead}
-use Rattle·model·specs.specs.Laws.Lists.{and-left, and-right}
-use Rattle·model·specs.specs.Laws.Chip.{run-append}
-use Rattle·model·specs.specs.Laws.Bytes.{clear-erased, bytes-take, bytes-drop, same-eq, same-refl, erased-suc, erased-add, blank-erased}
-use Rattle·model·specs.specs.Laws.Pages.{InPage, in-append, in-part}
-use Rattle·model·specs.specs.Laws.Programs.{programs-between}
+use Rattle.std.specs.Prelude.{ℕ, ◌+◌, ◌-◌, ◌/◌, ◌%◌, ◌≤◌, ◌<◌, ◌≡◌, ◌⊎◌, Bool, true, false, cond, ◌&&◌, List, [], ◌∷◌, ◌++◌, get_or, take, drop, leb, ltb, eqb}
+use Rattle.std.proofs.Math.Path.{refl, ap, ap₂}
+use Rattle.std.proofs.Common.{sym, ◌∙◌, inl, inr, append_assoc, arith, length-take, eqb-true, le-leb, leb-true, ltb-true}
+use Rattle.std.proofs.Math.ListN.{length}
+use Rattle.std.proofs.Math.Seq.{take-append_seam}
+use Rattle.model.specs.Lists.{same}
+use Rattle.model.specs.Chip.{Page, Bytes, Step, program, clear, erased, step, run}
+use Rattle.model.specs.Header.{isBlank}
+use Rattle.model.specs.Slot.{mostContents, numberOk, writeBegun, written, slotPage, pageBlock, pageContents, slotFits, Slot, empty, torn, dead, cut, wrong, live, slot_of}
+use Rattle.model.specs.Steps.{programs, programPart, writeSlot, markDead}
+use Rattle.model.specs.Laws.Lists.{and_left, and_right}
+use Rattle.model.specs.Laws.Chip.{run-append}
+use Rattle.model.specs.Laws.Bytes.{clear-erased, bytes_take, bytes_drop, same-eq, same_refl, erased-suc, erased-add, blank-erased}
+use Rattle.model.specs.Laws.Pages.{InPage, in-append, in-part}
+use Rattle.model.specs.Laws.Programs.{programs-between}
 
 -- a block number and contents that a slot can hold
 pub record Valid (b : ℕ) (c : List ℕ) : Type 0 where
@@ -28,7 +23,7 @@ pub record Valid (b : ℕ) (c : List ℕ) : Type 0 where
 
 pub number-below : (b : ℕ) → numberOk b ≡ true → b < 65535
 unfolding numberOk
-number-below b h = ltb-true b 65535 (and-right (ltb 0 b) (ltb b 65535) h)
+number-below b h = ltb-true b 65535 (and_right (ltb 0 b) (ltb b 65535) h)
 
 -- ---- an encoded page
 
@@ -38,30 +33,30 @@ slot-block b c = omega arith
 
 slot-contents : (b : ℕ) (c : List ℕ) → pageContents (slotPage b c) ≡ c
 unfolding pageContents slotPage
-slot-contents b c = take-append-seam c (erased (mostContents - length c))
+slot-contents b c = take-append_seam c (erased (mostContents - length c))
 
-slot-size : (b : ℕ) (c : List ℕ) → getD (slotPage b c) 1 0 ≡ length c
+slot-size : (b : ℕ) (c : List ℕ) → get_or (slotPage b c) 1 0 ≡ length c
 unfolding slotPage
 slot-size b c = refl
 
-pub slot-status : (b : ℕ) (c : List ℕ) → getD (slotPage b c) 0 0 ≡ written
+pub slot-status : (b : ℕ) (c : List ℕ) → get_or (slotPage b c) 0 0 ≡ written
 unfolding slotPage
 slot-status b c = refl
 
 slot-fits : (b : ℕ) (c : List ℕ) → numberOk b ≡ true → length c ≤ mostContents → slotFits (slotPage b c) ≡ true
 unfolding slotFits
-slot-fits b c h k = rw (slot-block b c, slot-contents b c, slot-size b c, h, le-leb (length c) mostContents k) (same-refl (slotPage b c))
+slot-fits b c h k = rw (slot-block b c, slot-contents b c, slot-size b c, h, le-leb (length c) mostContents k) (same_refl (slotPage b c))
 
-pub slot-live : (b : ℕ) (c : List ℕ) → numberOk b ≡ true → length c ≤ mostContents → slotOf (slotPage b c) ≡ live b c
-unfolding slotOf
+pub slot-live : (b : ℕ) (c : List ℕ) → numberOk b ≡ true → length c ≤ mostContents → slot_of (slotPage b c) ≡ live b c
+unfolding slot_of
 slot-live b c h k = rw (slot-status b c, slot-fits b c h k, slot-block b c, slot-contents b c)
 
-pub erased-empty : slotOf (erased 256) ≡ empty
-unfolding slotOf isBlank erased
+pub erased-empty : slot_of (erased 256) ≡ empty
+unfolding slot_of isBlank erased
 erased-empty = refl
 
-pub begun-torn : (p : Page) → getD p 0 0 ≡ writeBegun → slotOf p ≡ torn
-unfolding slotOf
+pub begun-torn : (p : Page) → get_or p 0 0 ≡ writeBegun → slot_of p ≡ torn
+unfolding slot_of
 begun-torn p e = rw e
 
 -- ---- what a kind says of the page
@@ -73,28 +68,28 @@ pub record LiveFacts (p : Page) (b : ℕ) (c : List ℕ) : Type 0 where
 
 abbrev pub KindFacts : Page → Slot → Type 0
 KindFacts p empty = p ≡ erased (length p)
-KindFacts p torn = getD p 0 0 ≡ writeBegun
-KindFacts p dead = getD p 0 0 ≡ 0x1F
-KindFacts p cut = getD p 0 0 ≡ 0x5F
+KindFacts p torn = get_or p 0 0 ≡ writeBegun
+KindFacts p dead = get_or p 0 0 ≡ 0x1F
+KindFacts p cut = get_or p 0 0 ≡ 0x5F
 KindFacts p wrong = Unit {0}
 KindFacts p (live b c) = LiveFacts p b c
 
 fits-facts : (p : Page) → slotFits p ≡ true → LiveFacts p (pageBlock p) (pageContents p)
 unfolding slotFits pageContents
 fits-facts p e =
-    let a = leb (getD p 1 0) mostContents in
+    let a = leb (get_or p 1 0) mostContents in
     let b = numberOk (pageBlock p) in
     let q = slotPage (pageBlock p) (pageContents p) in
-    let e1 = and-right a (b && same p q) e in
+    let e1 = and_right a (b && same p q) e in
     record {
-      number = and-left b (same p q) e1;
-      short = omega (arith, length-take (getD p 1 0) (drop 8 p), leb-true (getD p 1 0) mostContents (and-left a (b && same p q) e));
-      page = same-eq p q (and-right b (same p q) e1);
+      number = and_left b (same p q) e1;
+      short = omega (arith, length-take (get_or p 1 0) (drop 8 p), leb-true (get_or p 1 0) mostContents (and_left a (b && same p q) e));
+      page = same-eq p q (and_right b (same p q) e1);
     }
 
 module _ (p : Page) where
   abbrev st : ℕ
-  st = getD p 0 0
+  st = get_or p 0 0
 
   if-blank : (t : Bool) → isBlank p ≡ t → KindFacts p (cond t empty wrong)
   if-blank true e = blank-erased p e
@@ -118,30 +113,30 @@ module _ (p : Page) where
   if-written true e = if-fits (slotFits p) refl
   if-written false e = if-begun (eqb st writeBegun) refl
 
-  pub kind-facts : KindFacts p (slotOf p)
-  unfolding slotOf
+  pub kind-facts : KindFacts p (slot_of p)
+  unfolding slot_of
   kind-facts = if-written (eqb st written) refl
 
-pub live-facts : (p : Page) (b : ℕ) (c : List ℕ) → slotOf p ≡ live b c → LiveFacts p b c
-live-facts p b c e = rw e at (kind-facts p)
+pub live_facts : (p : Page) (b : ℕ) (c : List ℕ) → slot_of p ≡ live b c → LiveFacts p b c
+live_facts p b c e = rw e at (kind-facts p)
 
-pub torn-status : (p : Page) → slotOf p ≡ torn → getD p 0 0 ≡ writeBegun
+pub torn-status : (p : Page) → slot_of p ≡ torn → get_or p 0 0 ≡ writeBegun
 torn-status p e = rw e at (kind-facts p)
 
-pub empty-erased : (p : Page) → slotOf p ≡ empty → p ≡ erased (length p)
+pub empty-erased : (p : Page) → slot_of p ≡ empty → p ≡ erased (length p)
 empty-erased p e = rw e at (kind-facts p)
 
-pub live-status : (p : Page) (b : ℕ) (c : List ℕ) → slotOf p ≡ live b c → getD p 0 0 ≡ written
-live-status p b c e = ap (λ y. getD y 0 0) (live-facts p b c e .page) ∙ slot-status b c
+pub live-status : (p : Page) (b : ℕ) (c : List ℕ) → slot_of p ≡ live b c → get_or p 0 0 ≡ written
+live-status p b c e = ap (λ y. get_or y 0 0) (live_facts p b c e).page ∙ slot-status b c
 
 -- what a page of bytes holds can be copied
-pub live-valid : (p : Page) (b : ℕ) (c : List ℕ) → slotOf p ≡ live b c → Bytes p → Valid b c
+pub live-valid : (p : Page) (b : ℕ) (c : List ℕ) → slot_of p ≡ live b c → Bytes p → Valid b c
 unfolding slotPage
-live-valid p b c e v = let f = live-facts p b c e in
-    record { number = f .number; short = f .short; bytes = rw (contents (f .page)) (bytes-take (length c) (drop 8 p) (bytes-drop 8 p v)) }
+live-valid p b c e v = let f = live_facts p b c e in
+    record { number = f.number; short = f.short; bytes = rw (contents f.page) (bytes_take (length c) (drop 8 p) (bytes_drop 8 p v)) }
   where
     contents : p ≡ slotPage b c → c ≡ take (length c) (drop 8 p)
-    contents g = sym (ap (λ y. take (length c) (drop 8 y)) g ∙ take-append-seam c (erased (mostContents - length c)))
+    contents g = sym (ap (λ y. take (length c) (drop 8 y)) g ∙ take-append_seam c (erased (mostContents - length c)))
 
 -- ---- a slot marked
 
@@ -149,10 +144,10 @@ live-valid p b c e v = let f = live-facts p b c e in
 abbrev pub Markable : ℕ → Slot → Type 0
 Markable st k = ((st ≡ written) × (k ≡ dead)) ⊎ ((st ≡ writeBegun) × (k ≡ cut))
 
-pub live-markable : (p : Page) (b : ℕ) (c : List ℕ) → slotOf p ≡ live b c → Markable (getD p 0 0) dead
+pub live-markable : (p : Page) (b : ℕ) (c : List ℕ) → slot_of p ≡ live b c → Markable (get_or p 0 0) dead
 live-markable p b c e = inl (live-status p b c e, refl)
 
-pub torn-markable : (p : Page) → slotOf p ≡ torn → Markable (getD p 0 0) cut
+pub torn-markable : (p : Page) → slot_of p ≡ torn → Markable (get_or p 0 0) cut
 torn-markable p e = inr (torn-status p e, refl)
 
 pub clear-live : clear written 0xDF ≡ 0x1F
@@ -163,8 +158,8 @@ pub clear-torn : clear writeBegun 0xDF ≡ 0x5F
 unfolding clear
 clear-torn = refl
 
-pub marked-kind : (B : ℕ) (p : Page) (k : Slot) → Markable (getD p 0 0) k → slotOf (run B markDead p) ≡ k
-unfolding slotOf markDead run step
+pub marked-kind : (B : ℕ) (p : Page) (k : Slot) → Markable (get_or p 0 0) k → slot_of (run B markDead p) ≡ k
+unfolding slot_of markDead run step
 marked-kind B [] k (inl (e, q)) = absurd (omega (arith, e))
 marked-kind B [] k (inr (e, q)) = absurd (omega (arith, e))
 marked-kind B (x ∷ p) k (inl (e, q)) = rw (e, clear-live, q)
@@ -190,15 +185,15 @@ begunSlot b c = writeBegun ∷ length c ∷ b % 256 ∷ b / 256 ∷ 255 ∷ 255 
 
 pub write-parts : (b : ℕ) (c : List ℕ) → writeSlot b c ≡ program 0 writeBegun ∷ (writeMiddle b c ++ (program 0 written ∷ []))
 unfolding writeSlot writeMiddle
-write-parts b c = rw append-assoc
+write-parts b c = rw append_assoc
 
 pub clear-written : clear writeBegun written ≡ written
 unfolding clear
 clear-written = refl
 
-first-step : (B : ℕ) → step B (program 0 writeBegun) (erased 256) ≡ writeBegun ∷ erased 255
+first_step : (B : ℕ) → step B (program 0 writeBegun) (erased 256) ≡ writeBegun ∷ erased 255
 unfolding step
-first-step B = ap (λ y. step B (program 0 writeBegun) y) (erased-suc 255) ∙ rw (clear-erased writeBegun (omega arith))
+first_step B = ap (λ y. step B (program 0 writeBegun) y) (erased-suc 255) ∙ rw (clear-erased writeBegun (omega arith))
 
 front : (n : ℕ) → n ≤ mostContents → erased 255 ≡ 255 ∷ 255 ∷ 255 ∷ 255 ∷ 255 ∷ 255 ∷ 255 ∷ (erased n ++ erased (mostContents - n))
 unfolding mostContents
@@ -209,30 +204,30 @@ module _ (B b : ℕ) (c : List ℕ) (v : Valid b c) where
       ≡ writeBegun ∷ length c ∷ b % 256 ∷ b / 256 ∷ 255 ∷ 255 ∷ 255 ∷ 255 ∷ (erased (length c) ++ erased (mostContents - length c))
   unfolding run step programPart programs slotPage
   fields-run =
-      let l : length c ≤ 248 = unfold mostContents in v .short in
-      ap (λ y. run B (programPart (slotPage b c) 1 3) (writeBegun ∷ y)) (front (length c) (v .short))
-      ∙ rw (clear-erased (length c) (omega arith), clear-erased (b % 256) (omega arith), clear-erased (b / 256) (omega (arith, number-below b (v .number))))
+      let l : length c ≤ 248 = unfold mostContents in v.short in
+      ap (λ y. run B (programPart (slotPage b c) 1 3) (writeBegun ∷ y)) (front (length c) v.short)
+      ∙ rw (clear-erased (length c) (omega arith), clear-erased (b % 256) (omega arith), clear-erased (b / 256) (omega (arith, number-below b v.number)))
 
   contents-steps : programPart (slotPage b c) 8 (length c) ≡ programs 8 c
   unfolding programPart slotPage
-  contents-steps = ap (λ y. programs 8 y) (take-append-seam c (erased (mostContents - length c)))
+  contents-steps = ap (λ y. programs 8 y) (take-append_seam c (erased (mostContents - length c)))
 
   middle-run : run B (writeMiddle b c) (writeBegun ∷ erased 255) ≡ begunSlot b c
   unfolding writeMiddle begunSlot
   middle-run =
       run-append B (programPart (slotPage b c) 1 3) (programPart (slotPage b c) 8 (length c)) (writeBegun ∷ erased 255)
       ∙ ap₂ (λ xs y. run B xs y) contents-steps fields-run
-      ∙ programs-between B 8 (writeBegun ∷ length c ∷ b % 256 ∷ b / 256 ∷ 255 ∷ 255 ∷ 255 ∷ 255 ∷ []) c (erased (mostContents - length c)) refl (v .bytes)
+      ∙ programs-between B 8 (writeBegun ∷ length c ∷ b % 256 ∷ b / 256 ∷ 255 ∷ 255 ∷ 255 ∷ 255 ∷ []) c (erased (mostContents - length c)) refl v.bytes
 
-  last-step : step B (program 0 written) (begunSlot b c) ≡ slotPage b c
+  last_step : step B (program 0 written) (begunSlot b c) ≡ slotPage b c
   unfolding step begunSlot slotPage
-  last-step = rw clear-written
+  last_step = rw clear-written
 
   pub write-run : run B (writeSlot b c) (erased 256) ≡ slotPage b c
   unfolding run
   write-run =
       ap (λ y. run B y (erased 256)) (write-parts b c)
-      ∙ ap (λ y. run B (writeMiddle b c ++ (program 0 written ∷ [])) y) (first-step B)
+      ∙ ap (λ y. run B (writeMiddle b c ++ (program 0 written ∷ [])) y) (first_step B)
       ∙ run-append B (writeMiddle b c) (program 0 written ∷ []) (writeBegun ∷ erased 255)
       ∙ ap (λ y. step B (program 0 written) y) middle-run
-      ∙ last-step
+      ∙ last_step

@@ -1,50 +1,50 @@
 -- A mounted put, by what refuses it, and by how it is performed.
 use Prim.Native.Nat.{ℕ}
-use mathlib.Core.Path.{_≡_, refl, sym, _∙_}
-use mathlib.Core.Logic.{_≢_, ⊎-elim}
+use mathlib.Core.Path.{◌≡◌, refl, sym, ◌∙◌}
+use mathlib.Core.Logic.{◌≢◌, ⊎_elim}
 use mathlib.Core.Bool.{Bool, true, false, not, false≢true}
-use mathlib.Core.List.{List, [], _∷_}
+use mathlib.Core.List.{List, [], ◌∷◌}
 use native.Mathlib.Omega.{arith}
-use denote.Enum.Declared.{tagOf}
+use denote.Enum.Declared.{tag_of}
 use types.Run.{OneOf}
-use lib.ListN.{length, getD}
-use Rattle·model.specs.Chip.{Image, Bytes}
-use Rattle·model.specs.Slot.{numberOk}
-use Rattle·model.specs.State.{entriesIn, holds, view}
-use Rattle·model.specs.Answers.{codeOf, lengthOk, put, performed}
-use Rattle·model.specs.Sequences.{among}
-use Rattle·model.specs.declared.Answer.{Answer}
-use Rattle·model.specs.declared.Answer.the-variants.{Done, Size, Number, Length, Damaged, Unfinished, Absent as NotStored, Full, Worn, Cut, ShortTable, FormerVersion, Foreign, Shares, ShortBuffer}
-use Rattle·model.specs.declared.Performed.{Performed}
-use Rattle·model.specs.declared.SlotPlace.{SlotPlace}
-use Rattle·model.specs.Mounted.{Places, mountedRefusal, InStep, MountedPut}
-use Rattle·bridge.specs.Accepted.{refusal, read-passed}
-use Rattle·bridge.specs.Refusals.{put-number, put-length}
-use Rattle·request.specs.Request.{Refused}
-use Rattle·find.specs.declared.Found.{Found}
-use Rattle·find.specs.declared.Found.the-variants as finds
-use Rattle·find.specs.Search.{rowsAt, foundIn}
-use Rattle·places.specs.declared.Entry.{Entry}
-use Rattle·places.specs.declared.Entry.the-variants.{At, Absent, Stale}
-use Rattle·places.proofs.Entry.{the-type}
-use Rattle·places.specs.Places.{entrySeen}
-use Rattle·bridge.specs.Mounting.{Kept, in-step-kept, kept-in-step}
-use Rattle·room.specs.declared.Plan.{Plan}
-use Rattle·put.specs.Writing.{Accepted}
-use Rattle·mounted_plan.specs.declared.Decision.{Decision}
-use Rattle·mounted_plan.specs.declared.Decision.the-variants as decisions
-use Rattle·mounted_plan.specs.Decided.{Decides}
-use Rattle·mounted_plan.proofs.Callers.{refused-listed, refused-exact, accepted-agreed}
-use Rattle·mounted_write.specs.Continuing.{entryFor, foundFor}
-use Rattle·mounted_put.specs.Performing.{Performs}
-use Rattle·mounted·specs.specs.Puts.{noneFound, Puts}
-use Rattle·mounted_read.proofs.Laws.Refusals.{passed, bound-not-cut, none-refuses}
-use Rattle·mounted_read.proofs.Laws.Reads.{kept-refusal, seen-there, seen-none, seen-stale}
-use Rattle·mounted·proofs.proofs.Laws.Writes.{refused-writes}
+use lib.ListN.{length, get_or}
+use Rattle.model.specs.Chip.{Image, Bytes}
+use Rattle.model.specs.Slot.{numberOk}
+use Rattle.model.specs.State.{entriesIn, holds, view}
+use Rattle.model.specs.Answers.{code_of, lengthOk, put, performed}
+use Rattle.model.specs.Sequences.{among}
+use Rattle.model.specs.declared.Answer.{Answer}
+use Rattle.model.specs.declared.Answer.TheVariants.{Done, Size, Number, Length, Damaged, Unfinished, Absent as NotStored, Full, Worn, Cut, ShortTable, FormerVersion, Foreign, Shares, ShortBuffer}
+use Rattle.model.specs.declared.Performed.{Performed}
+use Rattle.model.specs.declared.SlotPlace.{SlotPlace}
+use Rattle.model.specs.Mounted.{Places, mountedRefusal, InStep, MountedPut}
+use Rattle.bridge.specs.Accepted.{refusal, read-passed}
+use Rattle.bridge.specs.Refusals.{put-number, put-length}
+use Rattle.request.specs.Request.{Refused}
+use Rattle.find.specs.declared.Found.{Found}
+use Rattle.find.specs.declared.Found.TheVariants as finds
+use Rattle.find.specs.Search.{rows_at, foundIn}
+use Rattle.places.specs.declared.Entry.{Entry}
+use Rattle.places.specs.declared.Entry.TheVariants.{At, Absent, Stale}
+use Rattle.places.specs.contracts.Entry.{the_type}
+use Rattle.places.specs.Places.{entrySeen}
+use Rattle.bridge.specs.Mounting.{Kept, in-step-kept, kept-in-step}
+use Rattle.room.specs.declared.Plan.{Plan}
+use Rattle.put.specs.Writing.{Accepted}
+use Rattle.mounted_plan.specs.declared.Decision.{Decision}
+use Rattle.mounted_plan.specs.declared.Decision.TheVariants as decisions
+use Rattle.mounted_plan.specs.Decided.{Decides}
+use Rattle.mounted_plan.proofs.Callers.{refused-listed, refused-exact, accepted-agreed}
+use Rattle.mounted_write.specs.Continuing.{entryFor, foundFor}
+use Rattle.mounted_put.specs.Performing.{Performs}
+use Rattle.mounted.specs.Puts.{noneFound, Puts}
+use Rattle.mounted_read.proofs.Laws.Refusals.{passed, bound-not-cut, none-refuses}
+use Rattle.mounted_read.proofs.Laws.Reads.{kept-refusal, seen-there, seen_none, seen-stale}
+use Rattle.mounted.proofs.Laws.Writes.{refused-writes}
 
 -- the refusals of a plan are among those of a put
-planned-listed : (a : Answer) → among (codeOf a) (4 ∷ 7 ∷ 8 ∷ 11 ∷ []) ≡ true → (among (codeOf a) (0 ∷ 4 ∷ 5 ∷ 7 ∷ 8 ∷ 9 ∷ 11 ∷ []) ≡ true) × (codeOf a ≢ 0) × (codeOf a ≢ 9)
-unfolding codeOf among
+planned-listed : (a : Answer) → among (code_of a) (4 ∷ 7 ∷ 8 ∷ 11 ∷ []) ≡ true → (among (code_of a) (0 ∷ 4 ∷ 5 ∷ 7 ∷ 8 ∷ 9 ∷ 11 ∷ []) ≡ true) × (code_of a ≢ 0) × (code_of a ≢ 9)
+unfolding code_of among
 planned-listed Done h = absurd (false≢true h)
 planned-listed Size h = absurd (false≢true h)
 planned-listed Number h = absurd (false≢true h)
@@ -66,79 +66,79 @@ module _ (N B : ℕ) (s : Image) (t : Places) (b : ℕ) (c : List ℕ) (budget :
   taken = lengthOk (length c)
 
   -- refused before the table is looked at
-  pub put-bound : (k : Bool) → k ≡ lengthOk (length c) → (a : Answer) {p : Performed} → codeOf a ≡ mountedRefusal N B s t b k → mountedRefusal N B s t b k ≢ 0 → Refused a p → MountedPut N B b c budget (performed p s) s t t
+  pub put-bound : (k : Bool) → k ≡ lengthOk (length c) → (a : Answer) {p : Performed} → code_of a ≡ mountedRefusal N B s t b k → mountedRefusal N B s t b k ≢ 0 → Refused a p → MountedPut N B b c budget (performed p s) s t t
   put-bound k l a {p} e h q = go (rw l at e) (rw l at h)
     where
-      go : codeOf a ≡ mountedRefusal N B s t b taken → mountedRefusal N B s t b taken ≢ 0 → MountedPut N B b c budget (performed p s) s t t
+      go : code_of a ≡ mountedRefusal N B s t b taken → mountedRefusal N B s t b taken ≢ 0 → MountedPut N B b c budget (performed p s) s t t
       go e h = refused-writes N B s t b taken _ (put b c) budget a q (λ z. h (sym e ∙ z)) (λ z. bound-not-cut N B s t b taken (sym e ∙ z)) (λ n. e) (λ z. absurd (h z)) (λ k. same k (numberOk b) taken refl refl)
         where
-          same : Kept N B s t → (n m : Bool) → numberOk b ≡ n → taken ≡ m → refusal N B s (put b c) ≡ codeOf a
-          same k false m x y = put-number N B s (k .size) b c x ∙ sym (e ∙ (kept-refusal N B s t b taken k ∙ rw x))
-          same k true false x y = put-length N B s (k .size) b c x y ∙ sym (e ∙ (kept-refusal N B s t b taken k ∙ rw (x, y)))
+          same : Kept N B s t → (n m : Bool) → numberOk b ≡ n → taken ≡ m → refusal N B s (put b c) ≡ code_of a
+          same k false m x y = put-number N B s k.size b c x ∙ sym (e ∙ (kept-refusal N B s t b taken k ∙ rw x))
+          same k true false x y = put-length N B s k.size b c x y ∙ sym (e ∙ (kept-refusal N B s t b taken k ∙ rw (x, y)))
           same k true true x y = absurd (h (kept-refusal N B s t b taken k ∙ rw (x, y)))
 
-  pub put-unbound : (k : Bool) → k ≡ lengthOk (length c) → (a : Answer) → codeOf a ≡ mountedRefusal N B s t b k → a ≡ Done → mountedRefusal N B s t b (lengthOk (length c)) ≡ 0
+  pub put-unbound : (k : Bool) → k ≡ lengthOk (length c) → (a : Answer) → code_of a ≡ mountedRefusal N B s t b k → a ≡ Done → mountedRefusal N B s t b (lengthOk (length c)) ≡ 0
   put-unbound k l a e d = rw l at (none-refuses N B s t b k a e d)
 
   module _ (p : mountedRefusal N B s t b (lengthOk (length c)) ≡ 0) where
-    pub put-stale : entrySeen B s (getD t b 0) ≡ Stale → {q : Performed} → Refused Damaged q → MountedPut N B b c budget (performed q s) s t t
-    unfolding codeOf among
+    pub put-stale : entrySeen B s (get_or t b 0) ≡ Stale → {q : Performed} → Refused Damaged q → MountedPut N B b c budget (performed q s) s t t
+    unfolding code_of among
     put-stale e q = refused-writes N B s t b taken _ (put b c) budget Damaged q (λ z. omega arith) (λ z. omega arith) (λ n. absurd (n p)) (λ z. refl)
-        (λ k. absurd (seen-stale N B s t b k (passed N B s t b taken p .number) e))
+        (λ k. absurd (seen-stale N B s t b k (passed N B s t b taken p).number e))
 
     -- what the entry tells
-    puts-stored : (q : SlotPlace) (l : ℕ) → entrySeen B s (getD t b 0) ≡ At q l → Puts N B (finds.At q l) b c s t
+    puts-stored : (q : SlotPlace) (l : ℕ) → entrySeen B s (get_or t b 0) ≡ At q l → Puts N B (finds.At q l) b c s t
     unfolding entryFor noneFound
-    puts-stored q l e = record { passed = p; seen = e; told = λ step. let k = in-step-kept N B s t step in rw (read-passed N B s b (seen-there N B s t b k (passed N B s t b taken p .number) q l e .code)) }
+    puts-stored q l e = record { passed = p; seen = e; told = λ step. let k = in-step-kept N B s t step in rw (read-passed N B s b (seen-there N B s t b k (passed N B s t b taken p).number q l e).code) }
 
-    puts-new : entrySeen B s (getD t b 0) ≡ Absent → Puts N B finds.Nothing b c s t
+    puts-new : entrySeen B s (get_or t b 0) ≡ Absent → Puts N B finds.Nothing b c s t
     unfolding entryFor noneFound
-    puts-new e = record { passed = p; seen = e; told = λ step. rw (seen-none N B s t b (in-step-kept N B s t step) (passed N B s t b taken p .number) e) }
+    puts-new e = record { passed = p; seen = e; told = λ step. rw (seen_none N B s t b (in-step-kept N B s t step) (passed N B s t b taken p).number e) }
 
-    pub puts-told : (e : Entry) → e ≡ entrySeen B s (getD t b 0) → OneOf (0 ∷ 1 ∷ []) (tagOf the-type e) → (f : Found) → f ≡ foundFor e → Puts N B f b c s t
+    pub puts-told : (e : Entry) → e ≡ entrySeen B s (get_or t b 0) → OneOf (0 ∷ 1 ∷ []) (tag_of the_type e) → (f : Found) → f ≡ foundFor e → Puts N B f b c s t
     unfolding foundFor
     puts-told (At q l) i k f j = rw j (puts-stored q l (sym i))
     puts-told Absent i k f j = rw j (puts-new (sym i))
-    puts-told Stale i k f j = absurd (⊎-elim (λ z. omega arith) (λ z. omega arith) k)
+    puts-told Stale i k f j = absurd (⊎_elim (λ z. omega arith) (λ z. omega arith) k)
 
   module _ (f : Found) (g : Puts N B f b c s t) (absent : Bool) (i : absent ≡ noneFound f) (d : Decision) (w : Decides N B absent s d) where
     told : InStep N B s t → absent ≡ not (holds b (entriesIn (view N B s)))
-    told step = i ∙ g .told step
+    told step = i ∙ g.told step
 
     -- a plan refuses
-    pub put-refused : (a : Answer) → d ≡ decisions.Refused a → {q : Performed} → Refused a q → MountedPut N B b c budget (performed q s) s t t
-    put-refused a e q =
-        let i = passed N B s t b taken (g .passed) in
+    pub put_refused : (a : Answer) → d ≡ decisions.Refused a → {q : Performed} → Refused a q → MountedPut N B b c budget (performed q s) s t t
+    put_refused a e q =
+        let i = passed N B s t b taken g.passed in
         let l = planned-listed a (refused-listed N B absent s d w a e) in
-        refused-writes N B s t b taken _ (put b c) budget a q (l .1) (l .2) (λ n. absurd (n (g .passed))) (λ z. l .0)
-        (λ k. refused-exact N B absent s d w a e (k .fine) b (told (kept-in-step N B s t k)) c (i .number) (i .right) .0)
+        refused-writes N B s t b taken _ (put b c) budget a q l.1 l.2 (λ n. absurd (n g.passed)) (λ z. l.0)
+        (λ k. (refused-exact N B absent s d w a e k.fine b (told (kept-in-step N B s t k)) c i.number i.right).0)
 
     -- performed by a plan
     pub put-performed : (pl : Plan) (total : ℕ) → d ≡ decisions.Accepted pl total → Bytes s → {q : Performed} {u : Image} {x : Places} → Performs N B pl total b c budget q s u t x → MountedPut N B b c budget (performed q u) s t x
     unfolding performed among
     put-performed pl total e bytes {q} {u} {x} r = record {
-      bound = λ n. absurd (n (g .passed));
-      listed = λ z. ⊎-elim (λ y. rw y) (λ y. rw y) (r .codes);
-      refused = λ n m. absurd (⊎-elim (λ y. n y) (λ y. m y) (r .codes));
-      cut = r .cut;
-      past = r .past;
-      few = r .few;
-      same = λ step. r .exact (in-step-kept N B s t step) there (agreed step) .0;
-      kept = λ step z. kept-in-step N B u x (r .exact (in-step-kept N B s t step) there (agreed step) .1 z);
+      bound = λ n. absurd (n g.passed);
+      listed = λ z. ⊎_elim (λ y. rw y) (λ y. rw y) r.codes;
+      refused = λ n m. absurd (⊎_elim (λ y. n y) (λ y. m y) r.codes);
+      cut = r.cut;
+      past = r.past;
+      few = r.few;
+      same = λ step. (r.exact (in-step-kept N B s t step) there (agreed step)).0;
+      kept = λ step z. kept-in-step N B u x ((r.exact (in-step-kept N B s t step) there (agreed step)).1 z);
     }
       where
         there : Found
-        there = foundIn N B (pl .first .0) (rowsAt N B s (pl .used) (pl .first .0)) b
+        there = foundIn N B pl.first.0 (rows_at N B s pl.used pl.first.0) b
 
         agreed : InStep N B s t → Accepted N B pl total there b c s
         agreed step =
-            let i = passed N B s t b taken (g .passed) in
+            let i = passed N B s t b taken g.passed in
             let k = in-step-kept N B s t step in
-            let a = accepted-agreed N B absent s d w pl total e (k .fine) b (told step) in record {
-              put = record { plan = a .plan; bytes = bytes; number = i .number; taken = i .right };
-              second = a .second;
+            let a = accepted-agreed N B absent s d w pl total e k.fine b (told step) in record {
+              put = record { plan = a.plan; bytes = bytes; number = i.number; taken = i.right };
+              second = a.second;
               found = λ h. refl;
-              space = a .space;
-              fresh = a .fresh;
-              tally = a .tally;
+              space = a.space;
+              fresh = a.fresh;
+              tally = a.tally;
             }

@@ -2,42 +2,41 @@
 use mathlib.Core.Path.{sym, subst}
 use native.Mathlib.Omega.{arith}
 use lib.ListN.{length}
-use denote.Ref.{now}
-use Rattle·room.specs.declared.Plan.{Plan}
-use Rattle·room.specs.Room.{Plannable}
-use Rattle·put_answers.proofs.Laws.{ranged}
-use Rattle·mounted_plan·proofs.proofs.Laws.Seen.{seen-fits, header-worn, header-fresh}
-use borrow.Author.Needs.{needs}
-use Rattle·mounted_plan·proofs.proofs.decide_header.Statement.{statement}
-use Rattle·mounted_plan·proofs.proofs.decide_header.Tie as tie
+use Rattle.room.specs.declared.Plan.{Plan}
+use Rattle.room.specs.Room.{Plannable}
+use Rattle.put_answers.proofs.Laws.{ranged}
+use Rattle.mounted_plan.proofs.Laws.Seen.{seen-fits, header-worn, header-fresh}
+use borrow.Author.Rules.{rules}
+use Rattle.mounted_plan.proofs.decide_header.Statement.{statement}
+use Rattle.mounted_plan.proofs.decide_header.Tie as tie
 
 count-compactions-requires : tie.Need-count-compactions-requires
-count-compactions-requires c κs = search needs
+count-compactions-requires c κs = search rules
 
 top-number-requires : tie.Need-top-number-requires
-top-number-requires c κs = search needs
+top-number-requires c κs = search rules
 
 tally-in-requires : tie.Need-tally-in-requires
-tally-in-requires c κs = search needs
+tally-in-requires c κs = search rules
 
 is-worn-requires : tie.Need-is-worn-requires
 is-worn-requires c κs =
-    let x = c .before .before .before .before in
-    let a = x .args in
-    let s = now (a .image) in
-    let k = c .before .before .count-compactions in
-    let w : Plannable (a .segments) (a .slots) (k .result) (length s) = subst (λ (y : Plan). Plannable (a .segments) (a .slots) y (length s)) (sym (k .ensures)) (seen-fits (a .segments) (a .slots) (a .plan) s (x .pre .1)) in
-    (ranged (a .segments) (a .slots) (k .result) s (x .pre .0) w, omega (arith, w .number), c .tally-in .ensures .1)
+    let x = c.before.before.before.before in
+    let a = x.args in
+    let s = a.image.now in
+    let k = c.before.before.count-compactions in
+    let w : Plannable a.segments a.slots k.result (length s) = subst (λ (y : Plan). Plannable a.segments a.slots y (length s)) (sym k.ensures) (seen-fits a.segments a.slots a.plan s x.requires.1) in
+    (ranged a.segments a.slots k.result s x.requires.0 w, omega (arith, w.number), c.tally-in.ensures.1)
 
 returns : tie.Need-returns
 returns c =
-    let a = c .before .before .before .before .before .before .args in
-    header-worn (a .segments) (a .slots) (a .plan) (now (a .image)) _ _ _ _ (c .before .before .before .before .count-compactions .ensures) (c .before .before .before .top-number .ensures) (c .before .before .tally-in .ensures .0) (c .before .is-worn .ensures) (c .if1 .taken)
+    let a = c.before.before.before.before.before.before.args in
+    header-worn a.segments a.slots a.plan a.image.now _ _ _ _ c.before.before.before.before.count-compactions.ensures c.before.before.before.top-number.ensures c.before.before.tally-in.ensures.0 c.before.is-worn.ensures c.if1.true
 
 returns-2 : tie.Need-returns-2
 returns-2 c =
-    let a = c .before .before .before .before .before .before .args in
-    header-fresh (a .segments) (a .slots) (a .plan) (now (a .image)) _ _ _ _ (c .before .before .before .before .count-compactions .ensures) (c .before .before .before .top-number .ensures) (c .before .before .tally-in .ensures .0) (c .before .is-worn .ensures) (c .if1 .left)
+    let a = c.before.before.before.before.before.before.args in
+    header-fresh a.segments a.slots a.plan a.image.now _ _ _ _ c.before.before.before.before.count-compactions.ensures c.before.before.before.top-number.ensures c.before.before.tally-in.ensures.0 c.before.is-worn.ensures c.if1.false
 
 pub decide-header-spec : {M : Type 1} → statement M
 decide-header-spec =

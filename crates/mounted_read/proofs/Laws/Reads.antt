@@ -1,48 +1,48 @@
 -- A mounted read, by what refuses it and by what the table's entry says.
-use Prim.Native.Nat.{ℕ, _+_, _*_}
-use mathlib.Core.Path.{_≡_, refl, sym, ap, _∙_}
-use mathlib.Core.Logic.{_≢_}
+use Prim.Native.Nat.{ℕ, ◌+◌, ◌*◌}
+use mathlib.Core.Path.{◌≡◌, refl, sym, ap, ◌∙◌}
+use mathlib.Core.Logic.{◌≢◌}
 use mathlib.Core.Bool.{Bool, true, false, cond, not}
-use mathlib.Core.List.{[], _∷_}
+use mathlib.Core.List.{[], ◌∷◌}
 use native.Mathlib.Omega.{arith}
-use lib.ListN.{length, getD}
+use lib.ListN.{length, get_or}
 use borrow.Author.Tests.{le-ltb}
-use Rattle·model.specs.Chip.{Image}
-use Rattle·model.specs.Slot.{mostContents, numberOk}
-use Rattle·model.specs.State.{holds, entriesIn, placeOf, view}
-use Rattle·model.specs.Steps.{slotAt}
-use Rattle·model.specs.Table.{lookup, contentsFound}
-use Rattle·model.specs.Answers.{codeOf, _when_, firstOf}
-use Rattle·model.specs.Sequences.{among}
-use Rattle·model.specs.declared.Answer.{Answer}
-use Rattle·model.specs.declared.Answer.the-variants.{Damaged, Absent as NotStored}
-use Rattle·model.specs.declared.SlotPlace.{SlotPlace}
-use Rattle·model.specs.Mounted.{Places, leastPlaces, mountedRefusals, mountedRefusal, MountedRead}
-use Rattle·bridge.specs.Refusals.{read-number, read-absent, read-found}
-use Rattle·places.specs.declared.Entry.the-variants.{At, Absent, Stale}
-use Rattle·places.specs.Places.{entrySeen}
-use Rattle·bridge.specs.Mounting.{Kept, in-step-kept}
-use Rattle·places.proofs.Laws.Found.{foundEntry, kept-seen}
-use Rattle·places.proofs.Laws.Seen.{Believed, seen-believed}
-use Rattle·looking.specs.Look.{There, Kept as Refuses}
-use Rattle·store.proofs.Laws.Requests.{read-refused, read-there}
-use Rattle·mounted_read·proofs.proofs.Laws.Refusals.{passed}
+use Rattle.model.specs.Chip.{Image}
+use Rattle.model.specs.Slot.{mostContents, numberOk}
+use Rattle.model.specs.State.{holds, entriesIn, place_of, view}
+use Rattle.model.specs.Steps.{slot_at}
+use Rattle.model.specs.Table.{lookup, contentsFound}
+use Rattle.model.specs.Answers.{code_of, ◌when◌, first_of}
+use Rattle.model.specs.Sequences.{among}
+use Rattle.model.specs.declared.Answer.{Answer}
+use Rattle.model.specs.declared.Answer.TheVariants.{Damaged, Absent as NotStored}
+use Rattle.model.specs.declared.SlotPlace.{SlotPlace}
+use Rattle.model.specs.Mounted.{Places, leastPlaces, mountedRefusals, mountedRefusal, MountedRead}
+use Rattle.bridge.specs.Refusals.{read_number, read-absent, read_found}
+use Rattle.places.specs.declared.Entry.TheVariants.{At, Absent, Stale}
+use Rattle.places.specs.Places.{entrySeen}
+use Rattle.bridge.specs.Mounting.{Kept, in-step-kept}
+use Rattle.places.proofs.Laws.Found.{foundEntry, kept_seen}
+use Rattle.places.proofs.Laws.Seen.{Believed, seen-believed}
+use Rattle.looking.specs.Look.{There, Kept as Refuses}
+use Rattle.store.proofs.Laws.Requests.{read-refused, read-there}
+use Rattle.mounted_read.proofs.Laws.Refusals.{passed}
 
 -- ---- in step
 
 -- only the block's number and the contents' length refuse a call there
 pub kept-refusal : (N B : ℕ) (s : Image) (t : Places) (b : ℕ) (taken : Bool) → Kept N B s t → mountedRefusal N B s t b taken ≡ cond (numberOk b) (cond taken 0 3) 2
-unfolding mountedRefusal mountedRefusals firstOf
-kept-refusal N B s t b taken k = rw (k .size, le-ltb (length t) leastPlaces (k .long), k .usable) (go (numberOk b) taken)
+unfolding mountedRefusal mountedRefusals first_of
+kept-refusal N B s t b taken k = rw (k.size, le-ltb (length t) leastPlaces k.long, k.usable) (go (numberOk b) taken)
   where
-    go : (n m : Bool) → firstOf ((1 when false) ∷ (10 when false) ∷ (2 when not n) ∷ (3 when not m) ∷ (5 when false) ∷ []) ≡ cond n (cond m 0 3) 2
+    go : (n m : Bool) → first_of ((1 when false) ∷ (10 when false) ∷ (2 when not n) ∷ (3 when not m) ∷ (5 when false) ∷ []) ≡ cond n (cond m 0 3) 2
     go true true = refl
     go true false = refl
     go false m = refl
 
 module _ (N B : ℕ) (s : Image) (t : Places) (b : ℕ) (k : Kept N B s t) where
   -- what a read or a delete is refused for before the table is looked at
-  pub refuses-absent : (a : Answer) → codeOf a ≡ mountedRefusal N B s t b true → mountedRefusal N B s t b true ≢ 0 → Refuses N B s b a
+  pub refuses-absent : (a : Answer) → code_of a ≡ mountedRefusal N B s t b true → mountedRefusal N B s t b true ≢ 0 → Refuses N B s b a
   refuses-absent a e h = go (numberOk b) refl
     where
       r : mountedRefusal N B s t b true ≡ cond (numberOk b) 0 2
@@ -50,58 +50,58 @@ module _ (N B : ℕ) (s : Image) (t : Places) (b : ℕ) (k : Kept N B s t) where
 
       go : (n : Bool) → numberOk b ≡ n → Refuses N B s b a
       go true n = absurd (h (r ∙ rw n))
-      go false n = let two : codeOf a ≡ 2 = e ∙ (r ∙ rw n) in record { code = read-number N B s (k .size) b n ∙ sym two; some = rw two }
+      go false n = let two : code_of a ≡ 2 = e ∙ (r ∙ rw n) in record { code = read_number N B s k.size b n ∙ sym two; some = rw two }
 
   -- where the block's slot is, and the length of its contents
   abbrev slot : SlotPlace
-  slot = record { 0 = slotAt N B (placeOf b (view N B s) .number) (placeOf b (view N B s) .slot) * 256 }
+  slot = record { 0 = slot_at N B (place_of b (view N B s)).number (place_of b (view N B s)).slot * 256 }
 
   abbrev size : ℕ
   size = length (contentsFound (lookup b (entriesIn (view N B s))))
 
   module _ (n : numberOk b ≡ true) where
-    seen : entrySeen B s (getD t b 0) ≡ foundEntry N B b (view N B s)
-    seen = kept-seen N B b s t k n
+    seen : entrySeen B s (get_or t b 0) ≡ foundEntry N B b (view N B s)
+    seen = kept_seen N B b s t k n
 
-    pub seen-there : (p : SlotPlace) (l : ℕ) → entrySeen B s (getD t b 0) ≡ At p l → There N B s b (p .0) l
+    pub seen-there : (p : SlotPlace) (l : ℕ) → entrySeen B s (get_or t b 0) ≡ At p l → There N B s b p.0 l
     seen-there p l e = go (holds b (entriesIn (view N B s))) refl
       where
-        i : Believed B s (getD t b 0) p l
-        i = seen-believed B s (getD t b 0) p l e
+        i : Believed B s (get_or t b 0) p l
+        i = seen-believed B s (get_or t b 0) p l e
 
-        go : (x : Bool) → holds b (entriesIn (view N B s)) ≡ x → There N B s b (p .0) l
+        go : (x : Bool) → holds b (entriesIn (view N B s)) ≡ x → There N B s b p.0 l
         go true h = let q : At p l ≡ At slot size = sym e ∙ (seen ∙ rw h) in record {
-          code = read-found N B s (k .size) b n (k .fine) h;
-          place = let z : p ≡ slot = cc in ap (λ (y : SlotPlace). y .0) z;
+          code = read_found N B s k.size b n k.fine h;
+          place = let z : p ≡ slot = cc in ap (λ (y : SlotPlace). y.0) z;
           count = cc;
-          inside = omega (arith, i .place, i .inside);
-          short = i .short;
+          inside = omega (arith, i.place, i.inside);
+          short = i.short;
         }
-        go false h = let q : At p l ≡ Absent = sym e ∙ (seen ∙ rw h) in absurd (let z : _≡_ {A = ℕ} 0 1 = cc in omega arith)
+        go false h = let q : At p l ≡ Absent = sym e ∙ (seen ∙ rw h) in absurd (let z : ◌≡◌ {A = ℕ} 0 1 = cc in omega arith)
 
-    pub seen-none : entrySeen B s (getD t b 0) ≡ Absent → holds b (entriesIn (view N B s)) ≡ false
-    seen-none e = go (holds b (entriesIn (view N B s))) refl
+    pub seen_none : entrySeen B s (get_or t b 0) ≡ Absent → holds b (entriesIn (view N B s)) ≡ false
+    seen_none e = go (holds b (entriesIn (view N B s))) refl
       where
         go : (x : Bool) → holds b (entriesIn (view N B s)) ≡ x → x ≡ false
         go false h = refl
-        go true h = let q : Absent ≡ At slot size = sym e ∙ (seen ∙ rw h) in absurd (let z : _≡_ {A = ℕ} 0 1 = cc in omega arith)
+        go true h = let q : Absent ≡ At slot size = sym e ∙ (seen ∙ rw h) in absurd (let z : ◌≡◌ {A = ℕ} 0 1 = cc in omega arith)
 
-    pub seen-absent : entrySeen B s (getD t b 0) ≡ Absent → Refuses N B s b NotStored
-    unfolding codeOf
-    seen-absent e = record { code = read-absent N B s (k .size) b n (k .fine) (seen-none e); some = refl }
+    pub seen-absent : entrySeen B s (get_or t b 0) ≡ Absent → Refuses N B s b NotStored
+    unfolding code_of
+    seen-absent e = record { code = read-absent N B s k.size b n k.fine (seen_none e); some = refl }
 
-    pub seen-stale : entrySeen B s (getD t b 0) ≡ Stale → ⊥
+    pub seen-stale : entrySeen B s (get_or t b 0) ≡ Stale → ⊥
     seen-stale e = go (holds b (entriesIn (view N B s))) refl
       where
         go : (x : Bool) → holds b (entriesIn (view N B s)) ≡ x → ⊥
-        go true h = let q : Stale ≡ At slot size = sym e ∙ (seen ∙ rw h) in let z : _≡_ {A = ℕ} 0 1 = cc in omega arith
-        go false h = let q : Stale ≡ Absent = sym e ∙ (seen ∙ rw h) in let z : _≡_ {A = ℕ} 0 1 = cc in omega arith
+        go true h = let q : Stale ≡ At slot size = sym e ∙ (seen ∙ rw h) in let z : ◌≡◌ {A = ℕ} 0 1 = cc in omega arith
+        go false h = let q : Stale ≡ Absent = sym e ∙ (seen ∙ rw h) in let z : ◌≡◌ {A = ℕ} 0 1 = cc in omega arith
 
 -- ---- the contract
 
 module _ (N B : ℕ) (s : Image) (t : Places) (b : ℕ) where
   -- refused before the table is looked at
-  pub read-bound : (a : Answer) → codeOf a ≡ mountedRefusal N B s t b true → mountedRefusal N B s t b true ≢ 0 → MountedRead N B b (record { code = codeOf a; offset = 0; length = 0 }) s t
+  pub read-bound : (a : Answer) → code_of a ≡ mountedRefusal N B s t b true → mountedRefusal N B s t b true ≢ 0 → MountedRead N B b (record { code = code_of a; offset = 0; length = 0 }) s t
   read-bound a e h = record {
     bound = λ n. e;
     listed = λ z. absurd (h z);
@@ -111,32 +111,32 @@ module _ (N B : ℕ) (s : Image) (t : Places) (b : ℕ) where
   }
 
   module _ (p : mountedRefusal N B s t b true ≡ 0) where
-    pub read-absent-entry : entrySeen B s (getD t b 0) ≡ Absent → MountedRead N B b (record { code = codeOf NotStored; offset = 0; length = 0 }) s t
-    unfolding codeOf among
+    pub read-absent-entry : entrySeen B s (get_or t b 0) ≡ Absent → MountedRead N B b (record { code = code_of NotStored; offset = 0; length = 0 }) s t
+    unfolding code_of among
     read-absent-entry e = record {
       bound = λ n. absurd (n p);
       listed = λ z. refl;
       refused = λ n. (refl, refl);
       inside = (omega arith, omega arith);
-      same = λ step. read-refused N B s b NotStored (seen-absent N B s t b (in-step-kept N B s t step) (passed N B s t b true p .number) e);
+      same = λ step. read-refused N B s b NotStored (seen-absent N B s t b (in-step-kept N B s t step) (passed N B s t b true p).number e);
     }
 
-    pub read-stale-entry : entrySeen B s (getD t b 0) ≡ Stale → MountedRead N B b (record { code = codeOf Damaged; offset = 0; length = 0 }) s t
-    unfolding codeOf among
+    pub read-stale-entry : entrySeen B s (get_or t b 0) ≡ Stale → MountedRead N B b (record { code = code_of Damaged; offset = 0; length = 0 }) s t
+    unfolding code_of among
     read-stale-entry e = record {
       bound = λ n. absurd (n p);
       listed = λ z. refl;
       refused = λ n. (refl, refl);
       inside = (omega arith, omega arith);
-      same = λ step. absurd (seen-stale N B s t b (in-step-kept N B s t step) (passed N B s t b true p .number) e);
+      same = λ step. absurd (seen-stale N B s t b (in-step-kept N B s t step) (passed N B s t b true p).number e);
     }
 
-    pub read-entry : (q : SlotPlace) (l : ℕ) → entrySeen B s (getD t b 0) ≡ At q l → MountedRead N B b (record { code = 0; offset = q .0 + 8; length = l }) s t
+    pub read-entry : (q : SlotPlace) (l : ℕ) → entrySeen B s (get_or t b 0) ≡ At q l → MountedRead N B b (record { code = 0; offset = q.0 + 8; length = l }) s t
     unfolding among mostContents
-    read-entry q l e = let i = seen-believed B s (getD t b 0) q l e in record {
+    read-entry q l e = let i = seen-believed B s (get_or t b 0) q l e in record {
       bound = λ n. absurd (n p);
       listed = λ z. refl;
       refused = λ n. absurd (n refl);
-      inside = (omega (arith, i .place, i .inside, i .short), i .short);
-      same = λ step. read-there N B s b (q .0) l (seen-there N B s t b (in-step-kept N B s t step) (passed N B s t b true p .number) q l e);
+      inside = (omega (arith, i.place, i.inside, i.short), i.short);
+      same = λ step. read-there N B s b q.0 l (seen-there N B s t b (in-step-kept N B s t step) (passed N B s t b true p).number q l e);
     }

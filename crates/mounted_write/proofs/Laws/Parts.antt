@@ -1,30 +1,30 @@
 -- The parts of a put once room was made, as the code takes them one after the other, on any image with any table.
-use Prim.Native.Nat.{ℕ, _+_, _-_, _*_, _≤_, _<_}
-use mathlib.Core.Path.{_≡_, refl, sym, ap, _∙_}
-use mathlib.Core.Logic.{inl, inr, ⊎-elim}
-use mathlib.Core.List.{List, [], _∷_}
+use Prim.Native.Nat.{ℕ, ◌+◌, ◌-◌, ◌*◌, ◌≤◌, ◌<◌}
+use mathlib.Core.Path.{◌≡◌, refl, sym, ap, ◌∙◌}
+use mathlib.Core.Logic.{inl, inr, ⊎_elim}
+use mathlib.Core.List.{List, [], ◌∷◌}
 use native.Mathlib.Omega.{arith}
-use denote.Enum.Declared.{tagOf}
+use denote.Enum.Declared.{tag_of}
 use types.Run.{OneOf}
-use lib.ListN.{length, getD, set}
-use Rattle·model.specs.Chip.{Image}
-use Rattle·model.specs.Steps.{slotAt}
-use Rattle·model.specs.Answers.{codeOf}
-use Rattle·model.specs.Mounted.{Places, unusable}
-use Rattle·model.specs.declared.Performed.{Performed}
-use Rattle·find.specs.declared.Found.{Found}
-use Rattle·find.specs.declared.Found.the-variants.{At, Nothing}
-use Rattle·request.specs.Request.{Finished}
-use Rattle·places.specs.declared.Entry.{Entry}
-use Rattle·places.specs.declared.Entry.the-variants as entries
-use Rattle·places.proofs.Entry.{the-type}
-use Rattle·places.specs.Places.{entrySeen, noted}
-use Rattle·places.proofs.Laws.Seen.{seen-believed}
-use Rattle·places.proofs.Laws.Walk.{few-bytes}
-use Rattle·room.specs.declared.Room.{Room}
-use Rattle·put.specs.Writing.{OldInside, Placed, Wrote}
-use Rattle·put.proofs.Laws.LastSteps.{place-inside}
-use Rattle·mounted_write·specs.specs.Continuing.{RoomMade, entryFor, foundFor, Continued}
+use lib.ListN.{length, get_or, set}
+use Rattle.model.specs.Chip.{Image}
+use Rattle.model.specs.Steps.{slot_at}
+use Rattle.model.specs.Answers.{code_of}
+use Rattle.model.specs.Mounted.{Places, unusable}
+use Rattle.model.specs.declared.Performed.{Performed}
+use Rattle.find.specs.declared.Found.{Found}
+use Rattle.find.specs.declared.Found.TheVariants.{At, Nothing}
+use Rattle.request.specs.Request.{Finished}
+use Rattle.places.specs.declared.Entry.{Entry}
+use Rattle.places.specs.declared.Entry.TheVariants as entries
+use Rattle.places.specs.contracts.Entry.{the_type}
+use Rattle.places.specs.Places.{entrySeen, noted}
+use Rattle.places.proofs.Laws.Seen.{seen-believed}
+use Rattle.places.proofs.Laws.Walk.{few_bytes}
+use Rattle.room.specs.declared.Room.{Room}
+use Rattle.put.specs.Writing.{OldInside, Placed, Wrote}
+use Rattle.put.proofs.Laws.LastSteps.{place_inside}
+use Rattle.mounted_write.specs.Continuing.{RoomMade, entryFor, foundFor, Continued}
 
 pub made-unusable : (t : Places) → set t 0 0 ≡ unusable t
 unfolding unusable
@@ -35,43 +35,43 @@ pub noted-at : (t w : Places) (b at place code : ℕ) → w ≡ noted t b at cod
 noted-at t w b at place code d e = d ∙ ap (λ (y : ℕ). noted t b y code) e
 
 -- a slot's place fits an entry
-pub place-fits : (N B : ℕ) (r : Room) (f : Found) (b : ℕ) (c : List ℕ) (budget : ℕ) (s : Image) → Placed N B r f c budget (length s) → (at : ℕ) → at ≡ slotAt N B (r .first .0 + r .used - 1) (r .slot) * 256 → at < 4294967296
-place-fits N B r f b c budget s k at e = omega (arith, place-inside N B r f b c budget s k at e, few-bytes N B (length s) (k .sized))
+pub place-fits : (N B : ℕ) (r : Room) (f : Found) (b : ℕ) (c : List ℕ) (budget : ℕ) (s : Image) → Placed N B r f c budget (length s) → (at : ℕ) → at ≡ slot_at N B (r.first.0 + r.used - 1) r.slot * 256 → at < 4294967296
+place-fits N B r f b c budget s k at e = omega (arith, place_inside N B r f b c budget s k at e, few_bytes N B (length s) k.sized)
 
 -- an entry that can be tells of what was found
-told-back : (e : Entry) → OneOf (0 ∷ 1 ∷ []) (tagOf the-type e) → entryFor (foundFor e) ≡ e
+told_back : (e : Entry) → OneOf (0 ∷ 1 ∷ []) (tag_of the_type e) → entryFor (foundFor e) ≡ e
 unfolding entryFor foundFor
-told-back (entries.At q n) k = refl
-told-back entries.Absent k = refl
-told-back entries.Stale k = absurd (⊎-elim (λ q. omega arith) (λ q. omega arith) k)
+told_back (entries.At q n) k = refl
+told_back entries.Absent k = refl
+told_back entries.Stale k = absurd (⊎_elim (λ q. omega arith) (λ q. omega arith) k)
 
 module _ (N B : ℕ) (r : Room) (b : ℕ) (c : List ℕ) (budget : ℕ) (s : Image) (t : Places) where
   -- ---- a slot may be written
 
-  placed : RoomMade N B r c budget (length s) → r .slot < B → (f : Found) → OldInside f (length s) → Placed N B r f c budget (length s)
-  placed m h f o = record { sized = m .sized; some = m .some; few = m .few; room = h; old = o; short = m .short; left = m .left }
+  placed : RoomMade N B r c budget (length s) → r.slot < B → (f : Found) → OldInside f (length s) → Placed N B r f c budget (length s)
+  placed m h f o = record { sized = m.sized; some = m.some; few = m.few; room = h; old = o; short = m.short; left = m.left }
 
   -- what an entry says lies in the image
-  old-inside : (f : Found) → entrySeen B s (getD t b 0) ≡ entryFor f → OldInside f (length s)
+  old-inside : (f : Found) → entrySeen B s (get_or t b 0) ≡ entryFor f → OldInside f (length s)
   unfolding entryFor
-  old-inside (At q n) e = let y = seen-believed B s (getD t b 0) q n e in omega (arith, y .place, y .inside)
+  old-inside (At q n) e = let y = seen-believed B s (get_or t b 0) q n e in omega (arith, y.place, y.inside)
   old-inside Nothing e = tt
 
   -- ---- it was written, or nothing was
 
-  pub found-told : (e : Entry) → e ≡ entrySeen B s (getD t b 0) → OneOf (0 ∷ 1 ∷ []) (tagOf the-type e) → (f : Found) → f ≡ foundFor e → entrySeen B s (getD t b 0) ≡ entryFor f
-  found-told e seen k f i = rw i (sym seen ∙ sym (told-back e k))
+  pub found-told : (e : Entry) → e ≡ entrySeen B s (get_or t b 0) → OneOf (0 ∷ 1 ∷ []) (tag_of the_type e) → (f : Found) → f ≡ foundFor e → entrySeen B s (get_or t b 0) ≡ entryFor f
+  found-told e seen k f i = rw i (sym seen ∙ sym (told_back e k))
 
-  pub found-placed : RoomMade N B r c budget (length s) → r .slot < B → (f : Found) → entrySeen B s (getD t b 0) ≡ entryFor f → Placed N B r f c budget (length s)
+  pub found-placed : RoomMade N B r c budget (length s) → r.slot < B → (f : Found) → entrySeen B s (get_or t b 0) ≡ entryFor f → Placed N B r f c budget (length s)
   found-placed m h f e = placed m h f (old-inside f e)
 
-  module _ (e : Entry) (seen : e ≡ entrySeen B s (getD t b 0)) {p : Performed} {u : Image} {w : Places} where
-    pub continued-written : OneOf (0 ∷ 1 ∷ []) (tagOf the-type e) → (f : Found) → f ≡ foundFor e → Wrote N B r f b c budget p s u → w ≡ noted t b (slotAt N B (r .first .0 + r .used - 1) (r .slot) * 256) (codeOf (p .answer))
+  module _ (e : Entry) (seen : e ≡ entrySeen B s (get_or t b 0)) {p : Performed} {u : Image} {w : Places} where
+    pub continued-written : OneOf (0 ∷ 1 ∷ []) (tag_of the_type e) → (f : Found) → f ≡ foundFor e → Wrote N B r f b c budget p s u → w ≡ noted t b (slot_at N B (r.first.0 + r.used - 1) r.slot * 256) (code_of p.answer)
         → Continued N B r b c budget p s u t w
     continued-written k f i d j = inl (f, record { seen = found-told e seen k f i; wrote = d; table = j })
 
-    pub continued-stale : e ≡ entries.Stale → u ≡ s → Finished budget (r .left) 0 1 p → w ≡ unusable t → Continued N B r b c budget p s u t w
+    pub continued-stale : e ≡ entries.Stale → u ≡ s → Finished budget r.left 0 1 p → w ≡ unusable t → Continued N B r b c budget p s u t w
     continued-stale i same fin j = inr (record { why = inr (sym seen ∙ i); image = same; finished = fin; table = j })
 
-  pub continued-full : {p : Performed} {w : Places} → B ≤ r .slot → Finished budget (r .left) 0 1 p → w ≡ unusable t → Continued N B r b c budget p s s t w
+  pub continued-full : {p : Performed} {w : Places} → B ≤ r.slot → Finished budget r.left 0 1 p → w ≡ unusable t → Continued N B r b c budget p s s t w
   continued-full h fin j = inr (record { why = inl h; image = refl; finished = fin; table = j })

@@ -1,67 +1,67 @@
 -- The outcome of a move, from what its parts did.
-use Prim.Native.Nat.{ℕ, _≤_, _<_}
-use mathlib.Core.Path.{_≡_, refl, sym, ap, _∙_}
-use mathlib.Core.Bool.{true, false, cond, _&&_}
-use mathlib.Core.List.{[], _∷_, _++_}
+use Prim.Native.Nat.{ℕ, ◌≤◌, ◌<◌}
+use mathlib.Core.Path.{◌≡◌, refl, sym, ap, ◌∙◌}
+use mathlib.Core.Bool.{true, false, cond, ◌&&◌}
+use mathlib.Core.List.{[], ◌∷◌, ◌++◌}
 use lib.ListN.{length}
 use lib.Dec.{ltb, eqb}
 use borrow.Author.Tests.{lt-ltb, le-ltb}
-use Rattle·model.specs.Chip.{Image, Bytes, rightSize}
-use Rattle·model.specs.State.{capacity, clean, state, view}
-use Rattle·model.specs.Steps.{formatSteps}
-use Rattle·model.specs.Table.{tableOf}
-use Rattle·model.specs.Answers.{codeOf, _when_, firstOf, isDamaged, isUnfinished, performed, worked}
-use Rattle·model.specs.Mounted.{Places, leastPlaces, filledPlaces}
-use Rattle·model.specs.declared.Answer.{Answer}
-use Rattle·model.specs.declared.Answer.the-variants.{Size, Full}
-use Rattle·model.specs.declared.Performed.{Performed}
-use Rattle·bridge.specs.Refusals.{answerIn, unclean, unclean-code}
-use Rattle·request.specs.Request.{Refused}
-use Rattle·request.proofs.Answered.{refused-worked}
-use Rattle·moves.specs.Moves.{byNumber, freshWork, moveRefusals, moveWork, moveOutcome}
-use Rattle·moves.specs.Placed.{placed}
-use Rattle·moves.specs.Fresh.{fresh-list}
-use Rattle·moves.specs.Facts.{Movable, movable-fits}
-use Rattle·fresh.specs.Fresh.{listed}
-use Rattle·moving·proofs.proofs.Laws.Listed.{listed-table}
+use Rattle.model.specs.Chip.{Image, Bytes, rightSize}
+use Rattle.model.specs.State.{capacity, clean, state, view}
+use Rattle.model.specs.Steps.{formatSteps}
+use Rattle.model.specs.Table.{table_of}
+use Rattle.model.specs.Answers.{code_of, ◌when◌, first_of, isDamaged, isUnfinished, performed, worked}
+use Rattle.model.specs.Mounted.{Places, leastPlaces, filledPlaces}
+use Rattle.model.specs.declared.Answer.{Answer}
+use Rattle.model.specs.declared.Answer.TheVariants.{Size, Full}
+use Rattle.model.specs.declared.Performed.{Performed}
+use Rattle.bridge.specs.Refusals.{answer_in, unclean, unclean-code}
+use Rattle.request.specs.Request.{Refused}
+use Rattle.request.proofs.Answered.{refused-worked}
+use Rattle.moves.specs.Moves.{byNumber, freshWork, moveRefusals, moveWork, moveOutcome}
+use Rattle.moves.specs.Placed.{placed}
+use Rattle.moves.specs.Fresh.{fresh-list}
+use Rattle.moves.specs.Facts.{Movable, movable-fits}
+use Rattle.fresh.specs.Fresh.{listed}
+use Rattle.moving.proofs.Laws.Listed.{listed-table}
 
 module _ (N B : ℕ) (s : Image) (M D : ℕ) (t : Image) (budget : ℕ) where
   abbrev refusal : ℕ
-  refusal = firstOf (moveRefusals N B s M D t)
+  refusal = first_of (moveRefusals N B s M D t)
 
   -- ---- refused
 
-  refused-move : (a : Answer) {p : Performed} → refusal ≡ codeOf a → eqb (codeOf a) 0 ≡ false → Refused a p → performed p t ≡ moveOutcome N B s M D t budget
+  refused-move : (a : Answer) {p : Performed} → refusal ≡ code_of a → eqb (code_of a) 0 ≡ false → Refused a p → performed p t ≡ moveOutcome N B s M D t budget
   unfolding moveOutcome moveWork freshWork
   refused-move a {p} e n r = rw (e, n) (refused-worked D t budget a p r)
 
   -- whichever image it is
-  wrong-size : {p : Performed} → rightSize N B s && rightSize M D t ≡ false → Refused Size p → performed p t ≡ moveOutcome N B s M D t budget
-  unfolding moveRefusals firstOf codeOf
-  wrong-size z r = refused-move Size (rw z) refl r
+  wrong_size : {p : Performed} → rightSize N B s && rightSize M D t ≡ false → Refused Size p → performed p t ≡ moveOutcome N B s M D t budget
+  unfolding moveRefusals first_of code_of
+  wrong_size z r = refused-move Size (rw z) refl r
 
   pub wrong-source : {p : Performed} → rightSize N B s ≡ false → Refused Size p → performed p t ≡ moveOutcome N B s M D t budget
-  wrong-source z r = wrong-size (rw z) r
+  wrong-source z r = wrong_size (rw z) r
 
-  pub wrong-target : {p : Performed} → rightSize N B s ≡ true → rightSize M D t ≡ false → Refused Size p → performed p t ≡ moveOutcome N B s M D t budget
-  wrong-target z y r = wrong-size (rw (z, y)) r
+  pub wrong_target : {p : Performed} → rightSize N B s ≡ true → rightSize M D t ≡ false → Refused Size p → performed p t ≡ moveOutcome N B s M D t budget
+  wrong_target z y r = wrong_size (rw (z, y)) r
 
   module _ (z : rightSize N B s ≡ true) (y : rightSize M D t ≡ true) where
-    unclean-row : (state N B s ≡ clean → ⊥) → refusal ≡ codeOf (answerIn (state N B s))
-    unfolding moveRefusals firstOf
-    unclean-row u = rw (z, y) (unclean (state N B s) u ((7 when ltb (capacity M D) (length (tableOf N B s))) ∷ []))
+    unclean-row : (state N B s ≡ clean → ⊥) → refusal ≡ code_of (answer_in (state N B s))
+    unfolding moveRefusals first_of
+    unclean-row u = rw (z, y) (unclean (state N B s) u ((7 when ltb (capacity M D) (length (table_of N B s))) ∷ []))
 
-    pub not-clean : (a : Answer) {p : Performed} → (state N B s ≡ clean → ⊥) → a ≡ answerIn (state N B s) → Refused a p → performed p t ≡ moveOutcome N B s M D t budget
-    not-clean a u e r = refused-move a (unclean-row u ∙ ap codeOf (sym e)) (rw e (unclean-code (state N B s) u)) r
+    pub not-clean : (a : Answer) {p : Performed} → (state N B s ≡ clean → ⊥) → a ≡ answer_in (state N B s) → Refused a p → performed p t ≡ moveOutcome N B s M D t budget
+    not-clean a u e r = refused-move a (unclean-row u ∙ ap code_of (sym e)) (rw e (unclean-code (state N B s) u)) r
 
     -- clean, what is left to ask is whether the blocks fit
-    clean-row : state N B s ≡ clean → refusal ≡ cond (ltb (capacity M D) (length (tableOf N B s))) 7 0
-    unfolding moveRefusals firstOf isDamaged isUnfinished
+    clean-row : state N B s ≡ clean → refusal ≡ cond (ltb (capacity M D) (length (table_of N B s))) 7 0
+    unfolding moveRefusals first_of isDamaged isUnfinished
     clean-row c = rw (z, y, c)
 
-    pub too-many : {p : Performed} → state N B s ≡ clean → capacity M D < length (tableOf N B s) → Refused Full p → performed p t ≡ moveOutcome N B s M D t budget
-    unfolding codeOf
-    too-many c h r = refused-move Full (clean-row c ∙ rw (lt-ltb (capacity M D) (length (tableOf N B s)) h)) refl r
+    pub too_many : {p : Performed} → state N B s ≡ clean → capacity M D < length (table_of N B s) → Refused Full p → performed p t ≡ moveOutcome N B s M D t budget
+    unfolding code_of
+    too_many c h r = refused-move Full (clean-row c ∙ rw (lt-ltb (capacity M D) (length (table_of N B s)) h)) refl r
 
   -- ---- performed
 
@@ -72,6 +72,6 @@ module _ (N B : ℕ) (s : Image) (M D : ℕ) (t : Image) (budget : ℕ) where
   unfolding moveOutcome moveWork freshWork
   carried-move m b w x l made p u e =
       let f = movable-fits N B s M D t b m in
-      let none : refusal ≡ 0 = clean-row (m .source) (m .target) (m .fine) ∙ rw (le-ltb (capacity M D) (length (tableOf N B s)) (m .few)) in
-      let list : listed s x 1 65535 ≡ byNumber (tableOf N B s) = ap (λ (y : Places). listed s y 1 65535) made ∙ listed-table N B s (m .source) (m .fine) w l b in
-      rw (none, fresh-list M D (byNumber (tableOf N B s)) t (m .target) f, ← list) e
+      let none : refusal ≡ 0 = clean-row m.source m.target m.fine ∙ rw (le-ltb (capacity M D) (length (table_of N B s)) m.few) in
+      let list : listed s x 1 65535 ≡ byNumber (table_of N B s) = ap (λ (y : Places). listed s y 1 65535) made ∙ listed-table N B s m.source m.fine w l b in
+      rw (none, fresh-list M D (byNumber (table_of N B s)) t m.target f, ← list) e

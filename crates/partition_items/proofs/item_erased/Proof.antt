@@ -1,32 +1,31 @@
 -- `partition_items::item_erased` is the blank test of the item's bytes. Assumes nothing.
-use denote.Ref.{now}
-use Rattle·partition_items·proofs.proofs.Laws.{part-blank}
-use borrow.Author.Needs.{needs}
-use Rattle·partition_items·proofs.proofs.item_erased.Statement.{statement}
-use Rattle·partition_items·proofs.proofs.item_erased.Tie as tie
+use Rattle.partition_items.proofs.Laws.{part-blank}
+use borrow.Author.Rules.{rules}
+use Rattle.partition_items.proofs.item_erased.Statement.{statement}
+use Rattle.partition_items.proofs.item_erased.Tie as tie
 
-add-end : tie.Need-add-end
-add-end c = search needs
+add-end : tie.Need-overflow-add-end
+add-end c = search rules
 
-add-end-2 : tie.Need-add-end-2
-add-end-2 c = search needs
+add-end-2 : tie.Need-overflow-add-end-2
+add-end-2 c = search rules
 
-sub-blank-test : tie.Need-sub-blank-test
-sub-blank-test c = search needs
+sub-blank-test : tie.Need-overflow-sub-blank-test
+sub-blank-test c = search rules
 
-part-blank-test-start : tie.Need-part-blank-test-start
-part-blank-test-start c = search needs
+part-blank-test-start : tie.Need-slice-bounds-blank-test-start
+part-blank-test-start c = search rules
 
-part-blank-test-end : tie.Need-part-blank-test-end
-part-blank-test-end c = search needs
+part-blank-test-end : tie.Need-slice-bounds-blank-test-end
+part-blank-test-end c = search rules
 
 blank-test-requires : tie.Need-blank-test-requires
-blank-test-requires c κs = search needs
+blank-test-requires c κs = search rules
 
 returns : tie.Need-returns
 returns c =
-    let a = c .before .before .before .args in
-    part-blank (now (a .image)) (a .at) (a .size) (c .blank-test .ensures .0)
+    let a = c.before.before.before.args in
+    part-blank a.image.now a.at a.size c.blank-test.ensures.0
 
 pub item-erased-spec : {M : Type 1} → statement M
 item-erased-spec =

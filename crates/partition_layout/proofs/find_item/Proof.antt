@@ -1,64 +1,64 @@
 -- `partition_layout::find_item`. The invariant: the item looked for is among those left, and the bytes so far and those of the items left are all of them. Assumes nothing.
-use Prim.Native.Nat.{_+_, _-_}
+use Prim.Native.Nat.{◌+◌, ◌-◌}
 use native.Mathlib.Omega.{arith}
 use lib.ListN.{length}
-use borrow.Author.Needs.{needs}
-use Rattle·partition_layout·proofs.proofs.Walk.{Sought, search-start, search-end, search-within, search-found, search-next}
-use Rattle·partition_layout·proofs.proofs.find_item.Statement.{statement}
-use Rattle·partition_layout·proofs.proofs.find_item.Tie as tie
+use borrow.Author.Rules.{rules}
+use Rattle.partition_layout.proofs.Walk.{Sought, search-start, search-end, search-within, search-found, search-next}
+use Rattle.partition_layout.proofs.find_item.Statement.{statement}
+use Rattle.partition_layout.proofs.find_item.Tie as tie
 
-abbrev Inv-loop : tie.InvT-loop
-Inv-loop layout item offset₀ at₀ offset at = Sought layout item offset at
+abbrev invariant-loop : tie.invariant-loop
+invariant-loop layout item offset₀ at₀ offset at = Sought layout item offset at
 
-abbrev μ-loop : tie.MeasureT-loop
-μ-loop layout item offset₀ at₀ offset at = length layout - at
+abbrev decreases-loop : tie.decreases-loop
+decreases-loop layout item offset₀ at₀ offset at = length layout - at
 
-loop-holds : tie.Need-loop-holds Inv-loop μ-loop
-loop-holds c = search-start _ _ (c .pre .0)
+loop-holds : tie.Need-loop-init invariant-loop decreases-loop
+loop-holds c = search-start _ _ c.requires.0
 
-add-length : tie.Need-add-length Inv-loop μ-loop
-add-length c = search needs
+add-length : tie.Need-overflow-add-length invariant-loop decreases-loop
+add-length c = search rules
 
-shared-slice-read-length : tie.Need-shared-slice-read-length Inv-loop μ-loop
-shared-slice-read-length c = search needs
+shared-slice-read-length : tie.Need-shared-slice-read-length invariant-loop decreases-loop
+shared-slice-read-length c = search rules
 
-cast-length : tie.Need-cast-length Inv-loop μ-loop
-cast-length c = omega (arith, c .shared-slice-known .given (c .before .before .loop .at + 1))
+cast-length : tie.Need-overflow-cast-length invariant-loop decreases-loop
+cast-length c = omega (arith, c.shared-slice-known.given (c.before.before.loop.at + 1))
 
-shared-slice-read-if1 : tie.Need-shared-slice-read-if1 Inv-loop μ-loop
-shared-slice-read-if1 c = search needs
+shared-slice-read-if1 : tie.Need-shared-slice-read-if1 invariant-loop decreases-loop
+shared-slice-read-if1 c = search rules
 
-returns : tie.Need-returns Inv-loop μ-loop
-returns c = search-found (c .before .before .before .before .loop .inv) (c .before .before .before .loop-test .taken) (c .if1 .taken)
+returns : tie.Need-returns invariant-loop decreases-loop
+returns c = search-found c.before.before.before.before.loop.invariant c.before.before.before.loop-test.true c.if1.true
 
-add-offset : tie.Need-add-offset Inv-loop μ-loop
+add-offset : tie.Need-overflow-add-offset invariant-loop decreases-loop
 add-offset c =
-    let l = c .before .before .before .before in
-    omega (arith, l .before .pre .1, search-within (l .loop .inv) (c .before .before .before .loop-test .taken))
+    let l = c.before.before.before.before in
+    omega (arith, l.before.requires.1, search-within l.loop.invariant c.before.before.before.loop-test.true)
 
-add-offset-2 : tie.Need-add-offset-2 Inv-loop μ-loop
+add-offset-2 : tie.Need-overflow-add-offset-2 invariant-loop decreases-loop
 add-offset-2 c =
-    let l = c .before .before .before .before in
-    omega (arith, l .before .pre .1, search-within (l .loop .inv) (c .before .before .before .loop-test .taken))
+    let l = c.before.before.before.before in
+    omega (arith, l.before.requires.1, search-within l.loop.invariant c.before.before.before.loop-test.true)
 
-add-at : tie.Need-add-at Inv-loop μ-loop
-add-at c = search needs
+add_at : tie.Need-overflow-add-at invariant-loop decreases-loop
+add_at c = search rules
 
-loop-less : tie.Need-loop-less Inv-loop μ-loop
-loop-less c = search needs
+loop-less : tie.Need-loop-smaller invariant-loop decreases-loop
+loop-less c = search rules
 
-loop-again : tie.Need-loop-again Inv-loop μ-loop
-loop-again c = search-next (c .before .before .before .before .loop .inv) (c .before .before .before .loop-test .taken) (c .if1 .left)
+loop-again : tie.Need-loop-preserved invariant-loop decreases-loop
+loop-again c = search-next c.before.before.before.before.loop.invariant c.before.before.before.loop-test.true c.if1.false
 
-returns-2 : tie.Need-returns-2 Inv-loop μ-loop
-returns-2 c = search-end (c .before .loop .inv) (c .loop-test .left)
+returns-2 : tie.Need-returns-2 invariant-loop decreases-loop
+returns-2 c = search-end c.before.loop.invariant c.loop-test.false
 
 pub find-item-spec : {M : Type 1} → statement M
 find-item-spec =
     tie.close
     (tie.spec
-    Inv-loop
-    μ-loop
+    invariant-loop
+    decreases-loop
     loop-holds
     add-length
     shared-slice-read-length
@@ -67,7 +67,7 @@ find-item-spec =
     returns
     add-offset
     add-offset-2
-    add-at
+    add_at
     loop-less
     loop-again
     returns-2)

@@ -1,20 +1,20 @@
 -- `partition_status::partitions_ok` is the list of the definition. Assumes nothing.
 use mathlib.Core.Path.{refl}
-use mathlib.Core.Logic.{⊎-elim}
-use mathlib.Core.List.{[], _∷_}
-use Rattle·model.specs.Sequences.{among}
-use Rattle·partitions.specs.Partitions.{partitionsOk}
-use Rattle·partition_status·proofs.proofs.Laws.{accepted, unlisted}
-use Rattle·partition_status·proofs.proofs.partitions_ok.Statement.{statement}
-use Rattle·partition_status·proofs.proofs.partitions_ok.Tie as tie
+use mathlib.Core.Logic.{⊎_elim}
+use mathlib.Core.List.{[], ◌∷◌}
+use Rattle.model.specs.Sequences.{among}
+use Rattle.partitions.specs.Partitions.{partitionsOk}
+use Rattle.partition_status.proofs.Laws.{accepted, unlisted}
+use Rattle.partition_status.proofs.partitions_ok.Statement.{statement}
+use Rattle.partition_status.proofs.partitions_ok.Tie as tie
 
 returns : tie.Need-returns
 unfolding partitionsOk among
-returns c = ⊎-elim (λ e. accepted e refl) (⊎-elim (λ e. accepted e refl) (⊎-elim (λ e. accepted e refl) (⊎-elim (λ e. accepted e refl) (⊎-elim (λ e. accepted e refl) (⊎-elim (λ e. accepted e refl) (λ e. accepted e refl)))))) (c .match .keys1)
+returns c = ⊎_elim (λ e. accepted e refl) (⊎_elim (λ e. accepted e refl) (⊎_elim (λ e. accepted e refl) (⊎_elim (λ e. accepted e refl) (⊎_elim (λ e. accepted e refl) (⊎_elim (λ e. accepted e refl) (λ e. accepted e refl)))))) c.match.keys1
 
 returns-2 : tie.Need-returns-2
 unfolding partitionsOk
-returns-2 c = unlisted (c .before .args .partitions) 2 (4 ∷ 8 ∷ 16 ∷ 32 ∷ 64 ∷ 128 ∷ []) (c .match .rest .1)
+returns-2 c = unlisted c.before.args.partitions 2 (4 ∷ 8 ∷ 16 ∷ 32 ∷ 64 ∷ 128 ∷ []) c.match.rest.1
 
 pub partitions-ok-spec : {M : Type 1} → statement M
 partitions-ok-spec = tie.close (tie.spec returns returns-2)

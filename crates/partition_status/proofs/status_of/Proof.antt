@@ -1,15 +1,15 @@
 -- `partition_status::status_of` is the definition. Assumes nothing.
 use mathlib.Core.Path.{refl}
-use borrow.Author.Needs.{needs}
-use Rattle·partitions.specs.Partitions.{statusOf}
-use Rattle·partition_status·proofs.proofs.status_of.Statement.{statement}
-use Rattle·partition_status·proofs.proofs.status_of.Tie as tie
+use borrow.Author.Rules.{rules}
+use Rattle.partitions.specs.Partitions.{statusOf}
+use Rattle.partition_status.proofs.status_of.Statement.{statement}
+use Rattle.partition_status.proofs.status_of.Tie as tie
 
-mul-result : tie.Need-mul-result
-mul-result c = search needs
+mul-result : tie.Need-overflow-mul-result
+mul-result c = search rules
 
 shared-slice-read-result : tie.Need-shared-slice-read-result
-shared-slice-read-result c = search needs
+shared-slice-read-result c = search rules
 
 returns : tie.Need-returns
 unfolding statusOf

@@ -1,25 +1,25 @@
 -- `partition_store::finished` answers by the budget that was left before the last part. Assumes nothing.
 use borrow.Author.Tests.{lt-ltb, le-ltb}
 use mathlib.Core.Path.{refl}
-use Rattle·partitions.specs.Answers.{numberOf}
+use Rattle.partitions.specs.Answers.{number_of}
 use native.Mathlib.Omega.{arith}
-use borrow.Author.Needs.{needs}
-use Rattle·partition_store·proofs.proofs.finished.Statement.{statement}
-use Rattle·partition_store·proofs.proofs.finished.Tie as tie
+use borrow.Author.Rules.{rules}
+use Rattle.partition_store.proofs.finished.Statement.{statement}
+use Rattle.partition_store.proofs.finished.Tie as tie
 
-sub-t7 : tie.Need-sub-t7
-sub-t7 c = search needs
+sub-t7 : tie.Need-overflow-sub-t7
+sub-t7 c = search rules
 
 returns : tie.Need-returns
-unfolding numberOf
-returns c = let a = c .before .args in record { code = rw (lt-ltb (a .before) (a .last) (omega (arith, c .if1 .taken))); count = refl }
+unfolding number_of
+returns c = let a = c.before.args in record { code = rw (lt-ltb a.before a.last (omega (arith, c.if1.true))); count = refl }
 
-sub-t9 : tie.Need-sub-t9
-sub-t9 c = search needs
+sub-t9 : tie.Need-overflow-sub-t9
+sub-t9 c = search rules
 
 returns-2 : tie.Need-returns-2
-unfolding numberOf
-returns-2 c = let a = c .before .args in record { code = rw (le-ltb (a .before) (a .last) (omega (arith, c .if1 .left))); count = refl }
+unfolding number_of
+returns-2 c = let a = c.before.args in record { code = rw (le-ltb a.before a.last (omega (arith, c.if1.false))); count = refl }
 
 pub finished-spec : {M : Type 1} → statement M
 finished-spec = tie.close (tie.spec sub-t7 returns sub-t9 returns-2)

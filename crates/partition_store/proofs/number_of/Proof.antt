@@ -1,64 +1,64 @@
 -- `partition_store::number_of` is the number of the definition. Assumes nothing.
 use native.Mathlib.Omega.{arith}
-use Rattle·partitions.specs.Answers.{numberOf}
-use borrow.Author.Needs.{needs}
-use Rattle·partition_store·proofs.proofs.number_of.Statement.{statement}
-use Rattle·partition_store·proofs.proofs.number_of.Tie as tie
+use Rattle.partitions.specs.Answers.{number_of}
+use borrow.Author.Rules.{rules}
+use Rattle.partition_store.proofs.number_of.Statement.{statement}
+use Rattle.partition_store.proofs.number_of.Tie as tie
 
-enum-told : tie.Need-enum-told
-enum-told c = search needs
+enum_told : tie.Need-enum-told
+enum_told c = search rules
 
 enum-told-2 : tie.Need-enum-told-2
-enum-told-2 c = search needs
+enum-told-2 c = search rules
 
 enum-told-3 : tie.Need-enum-told-3
-enum-told-3 c = search needs
+enum-told-3 c = search rules
 
 enum-told-4 : tie.Need-enum-told-4
-enum-told-4 c = search needs
+enum-told-4 c = search rules
 
 enum-told-5 : tie.Need-enum-told-5
-enum-told-5 c = search needs
+enum-told-5 c = search rules
 
 enum-told-6 : tie.Need-enum-told-6
-enum-told-6 c = search needs
+enum-told-6 c = search rules
 
 enum-told-7 : tie.Need-enum-told-7
-enum-told-7 c = search needs
+enum-told-7 c = search rules
 
 returns : tie.Need-returns
-unfolding numberOf
-returns c = (rw (c .enum-told .given .1), omega arith)
+unfolding number_of
+returns c = (rw c.enum_told.given.1, omega arith)
 
 returns-2 : tie.Need-returns-2
-unfolding numberOf
-returns-2 c = (rw (c .enum-told2 .given .1), omega arith)
+unfolding number_of
+returns-2 c = (rw c.enum-told2.given.1, omega arith)
 
 returns-3 : tie.Need-returns-3
-unfolding numberOf
-returns-3 c = (rw (c .enum-told3 .given .1), omega arith)
+unfolding number_of
+returns-3 c = (rw c.enum-told3.given.1, omega arith)
 
 returns-4 : tie.Need-returns-4
-unfolding numberOf
-returns-4 c = (rw (c .enum-told4 .given .1), omega arith)
+unfolding number_of
+returns-4 c = (rw c.enum-told4.given.1, omega arith)
 
 returns-5 : tie.Need-returns-5
-unfolding numberOf
-returns-5 c = (rw (c .enum-told5 .given .1), omega arith)
+unfolding number_of
+returns-5 c = (rw c.enum-told5.given.1, omega arith)
 
 returns-6 : tie.Need-returns-6
-unfolding numberOf
-returns-6 c = (rw (c .enum-told6 .given .1), omega arith)
+unfolding number_of
+returns-6 c = (rw c.enum-told6.given.1, omega arith)
 
 returns-7 : tie.Need-returns-7
-unfolding numberOf
-returns-7 c = (rw (c .enum-told7 .given .1), omega arith)
+unfolding number_of
+returns-7 c = (rw c.enum-told7.given.1, omega arith)
 
 pub number-of-spec : {M : Type 1} → statement M
 number-of-spec =
     tie.close
     (tie.spec
-    enum-told
+    enum_told
     enum-told-2
     enum-told-3
     enum-told-4

@@ -1,7 +1,7 @@
 -- `partition_store::refused` takes no step. Assumes nothing.
 use mathlib.Core.Path.{refl}
-use Rattle·partition_store·proofs.proofs.refused.Statement.{statement}
-use Rattle·partition_store·proofs.proofs.refused.Tie as tie
+use Rattle.partition_store.proofs.refused.Statement.{statement}
+use Rattle.partition_store.proofs.refused.Tie as tie
 
 returns : tie.Need-returns
 returns c = refl

@@ -1,7 +1,7 @@
 -- `partition_store::unread` tells no place. Assumes nothing.
 use mathlib.Core.Path.{refl}
-use Rattle·partition_store·proofs.proofs.unread.Statement.{statement}
-use Rattle·partition_store·proofs.proofs.unread.Tie as tie
+use Rattle.partition_store.proofs.unread.Statement.{statement}
+use Rattle.partition_store.proofs.unread.Tie as tie
 
 returns : tie.Need-returns
 returns c = refl

@@ -1,71 +1,70 @@
 -- `partition_store::write` answers as the definition says. Assumes nothing.
-use Rattle·partitions.specs.declared.Written.{Written}
-use Rattle·partition_store·specs.specs.Asking.{Asks}
+use Rattle.partitions.specs.declared.Written.{Written}
+use Rattle.partition_store.specs.Asking.{Asks}
 use native.Mathlib.Omega.{arith}
-use Rattle·partitions.specs.Answers.{wrote}
-use mathlib.Core.Path.{ap, _∙_, subst}
-use denote.Ref.{now}
-use Rattle·partition_store·specs.specs.declared.Asked.{Asked}
-use Rattle·partition_store·proofs.proofs.Answering.{write-refused, write-mismatched, write-accepted}
-use Rattle·partition_store·proofs.proofs.Asking.{fitting}
-use borrow.Author.Needs.{needs}
-use Rattle·partition_store·proofs.proofs.write.Statement.{statement}
-use Rattle·partition_store·proofs.proofs.write.Tie as tie
+use Rattle.partitions.specs.Answers.{wrote}
+use mathlib.Core.Path.{ap, ◌∙◌, subst}
+use Rattle.partition_store.specs.declared.Asked.{Asked}
+use Rattle.partition_store.proofs.Answering.{write-refused, write-mismatched, write-accepted}
+use Rattle.partition_store.proofs.Asking.{fitting}
+use borrow.Author.Rules.{rules}
+use Rattle.partition_store.proofs.write.Statement.{statement}
+use Rattle.partition_store.proofs.write.Tie as tie
 
 find-requires : tie.Need-find-requires
-find-requires c κs = search needs
+find-requires c κs = search rules
 
 enum-known-asked : tie.Need-enum-known-asked
-enum-known-asked c = search needs
+enum-known-asked c = search rules
 
 refused-requires : tie.Need-refused-requires
-refused-requires c κs = search needs
+refused-requires c κs = search rules
 
 enum-known-asked-2 : tie.Need-enum-known-asked-2
-enum-known-asked-2 c = search needs
+enum-known-asked-2 c = search rules
 
 refused-requires-2 : tie.Need-refused-requires-2
-refused-requires-2 c κs = search needs
+refused-requires-2 c κs = search rules
 
-same-length : tie.Need-same-length
-same-length c = search needs
+same_length : tie.Need-same-length
+same_length c = search rules
 
 returns : tie.Need-returns
 returns c =
-    let found = c .before .before .before .before .before in
-    let a = found .before .before .before .before .before .args in
-    let asks = subst (λ (r : Asked). Asks (a .partitions) (now (a .layout)) (now (a .image)) (a .item) r) (c .before .before .before .asked2 .given .1) (found .find .ensures) in
-    ap (λ (w : Written). wrote w (now (a .image))) (c .refused2 .ensures) ∙ write-mismatched (a .partitions) (now (a .layout)) (now (a .image)) (a .item) (now (a .contents)) (a .budget) _ _ asks (λ e. omega (arith, c .before .if1 .taken))
+    let found = c.before.before.before.before.before in
+    let a = found.before.before.before.before.before.args in
+    let asks = subst (λ (r : Asked). Asks a.partitions a.layout.now a.image.now a.item r) c.before.before.before.asked2.given.1 found.find.ensures in
+    ap (λ (w : Written). wrote w a.image.now) c.refused2.ensures ∙ write-mismatched a.partitions a.layout.now a.image.now a.item a.contents.now a.budget _ _ asks (λ e. omega (arith, c.before.if1.true))
 
 write-found-requires : tie.Need-write-found-requires
 write-found-requires c κs =
-    let found = c .before .before .before .before .before in
-    let a = found .before .before .before .before .before .args in
-    let asks = subst (λ (r : Asked). Asks (a .partitions) (now (a .layout)) (now (a .image)) (a .item) r) (c .before .before .before .asked2 .given .1) (found .find .ensures) in
-    fitting (a .partitions) (now (a .layout)) (now (a .image)) (a .item) _ _ asks _ (omega (arith, c .before .if1 .left))
+    let found = c.before.before.before.before.before in
+    let a = found.before.before.before.before.before.args in
+    let asks = subst (λ (r : Asked). Asks a.partitions a.layout.now a.image.now a.item r) c.before.before.before.asked2.given.1 found.find.ensures in
+    fitting a.partitions a.layout.now a.image.now a.item _ _ asks _ (omega (arith, c.before.if1.false))
 
 same-length-2 : tie.Need-same-length-2
-same-length-2 c = search needs
+same-length-2 c = search rules
 
 returns-2 : tie.Need-returns-2
 returns-2 c =
-    let found = c .before .before .before .before in
-    let a = found .before .before .before .before .before .args in
-    let asks = subst (λ (r : Asked). Asks (a .partitions) (now (a .layout)) (now (a .image)) (a .item) r) (c .before .before .asked .given .1) (found .find .ensures) in
-    ap (λ (w : Written). wrote w (now (a .image))) (c .refused .ensures) ∙ write-refused (a .partitions) (now (a .layout)) (now (a .image)) (a .item) (now (a .contents)) (a .budget) _ asks
+    let found = c.before.before.before.before in
+    let a = found.before.before.before.before.before.args in
+    let asks = subst (λ (r : Asked). Asks a.partitions a.layout.now a.image.now a.item r) c.before.before.asked.given.1 found.find.ensures in
+    ap (λ (w : Written). wrote w a.image.now) c.refused.ensures ∙ write-refused a.partitions a.layout.now a.image.now a.item a.contents.now a.budget _ asks
 
 same-length-3 : tie.Need-same-length-3
-same-length-3 c = search needs
+same-length-3 c = search rules
 
 returns-3 : tie.Need-returns-3
 returns-3 c =
-    let found = c .before .before .before .before .before .before .before .before in
-    let a = found .before .before .before .before .before .args in
-    let asks = subst (λ (r : Asked). Asks (a .partitions) (now (a .layout)) (now (a .image)) (a .item) r) (c .before .before .before .before .before .before .asked2 .given .1) (found .find .ensures) in
-    c .before .before .write-found .ensures ∙ write-accepted (a .partitions) (now (a .layout)) (now (a .image)) (a .item) (now (a .contents)) (a .budget) _ _ asks (omega (arith, c .before .before .before .before .if1 .left))
+    let found = c.before.before.before.before.before.before.before.before in
+    let a = found.before.before.before.before.before.args in
+    let asks = subst (λ (r : Asked). Asks a.partitions a.layout.now a.image.now a.item r) c.before.before.before.before.before.before.asked2.given.1 found.find.ensures in
+    c.before.before.write-found.ensures ∙ write-accepted a.partitions a.layout.now a.image.now a.item a.contents.now a.budget _ _ asks (omega (arith, c.before.before.before.before.if1.false))
 
-pub write-spec : {M : Type 1} → statement M
-write-spec =
+pub write_spec : {M : Type 1} → statement M
+write_spec =
     tie.close
     (tie.spec
     find-requires
@@ -73,7 +72,7 @@ write-spec =
     refused-requires
     enum-known-asked-2
     refused-requires-2
-    same-length
+    same_length
     returns
     write-found-requires
     same-length-2

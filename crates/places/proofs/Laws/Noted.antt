@@ -1,34 +1,34 @@
 -- The table after a call for a block: by the answer, and what stays.
-use Prim.Native.Nat.{ℕ, _≤_, _<_}
-use mathlib.Core.Path.{_≡_, refl}
-use mathlib.Core.Logic.{_≢_, ⊎-elim}
+use Prim.Native.Nat.{ℕ, ◌≤◌, ◌<◌}
+use mathlib.Core.Path.{◌≡◌, refl}
+use mathlib.Core.Logic.{◌≢◌, ⊎_elim}
 use mathlib.Core.Bool.{Bool, true, false, cond}
-use mathlib.Core.List.{[], _∷_}
+use mathlib.Core.List.{[], ◌∷◌}
 use native.Mathlib.Omega.{arith}
-use denote.Enum.Declared.{tagOf}
+use denote.Enum.Declared.{tag_of}
 use types.Run.{OneOf}
-use lib.ListN.{length, getD, drop, set}
-use lib.Seq.{drop-set-lt, getD-set-same}
+use lib.ListN.{length, get_or, drop, set}
+use lib.Seq.{drop-set-lt, get_or-set_same}
 use lib.Dec.{eqb}
-use borrow.Author.Tests.{ne-eqb}
-use Rattle·model.specs.Answers.{codeOf}
-use Rattle·model.specs.Mounted.{Places, leastPlaces, unusable}
-use Rattle·model.specs.declared.Answer.{Answer}
-use Rattle·model.specs.declared.Answer.the-variants.{Done, Size, Number, Length, Damaged, Unfinished, Absent, Full, Worn, Cut, ShortTable, FormerVersion, Foreign, Shares, ShortBuffer}
-use Rattle·model.proofs.Answer.{the-type}
-use Rattle·places·specs.specs.Places.{noted}
+use borrow.Author.Tests.{ne_eqb}
+use Rattle.model.specs.Answers.{code_of}
+use Rattle.model.specs.Mounted.{Places, leastPlaces, unusable}
+use Rattle.model.specs.declared.Answer.{Answer}
+use Rattle.model.specs.declared.Answer.TheVariants.{Done, Size, Number, Length, Damaged, Unfinished, Absent, Full, Worn, Cut, ShortTable, FormerVersion, Foreign, Shares, ShortBuffer}
+use Rattle.model.specs.contracts.Answer.{the_type}
+use Rattle.places.specs.Places.{noted}
 
 -- ---- by the answer
 
 -- an answer other than 0
 abbrev Other : Answer → Type 0
-Other a = OneOf (1 ∷ 2 ∷ 3 ∷ 4 ∷ 5 ∷ 6 ∷ 7 ∷ 8 ∷ 9 ∷ 10 ∷ 11 ∷ 12 ∷ 13 ∷ 14 ∷ []) (tagOf the-type a)
+Other a = OneOf (1 ∷ 2 ∷ 3 ∷ 4 ∷ 5 ∷ 6 ∷ 7 ∷ 8 ∷ 9 ∷ 10 ∷ 11 ∷ 12 ∷ 13 ∷ 14 ∷ []) (tag_of the_type a)
 
 done-not : Other Done → ⊥
-done-not h = ⊎-elim (λ q. omega arith) (⊎-elim (λ q. omega arith) (⊎-elim (λ q. omega arith) (⊎-elim (λ q. omega arith) (⊎-elim (λ q. omega arith) (⊎-elim (λ q. omega arith) (⊎-elim (λ q. omega arith) (⊎-elim (λ q. omega arith) (⊎-elim (λ q. omega arith) (⊎-elim (λ q. omega arith) (⊎-elim (λ q. omega arith) (⊎-elim (λ q. omega arith) (⊎-elim (λ q. omega arith) (λ q. omega arith))))))))))))) h
+done-not h = ⊎_elim (λ q. omega arith) (⊎_elim (λ q. omega arith) (⊎_elim (λ q. omega arith) (⊎_elim (λ q. omega arith) (⊎_elim (λ q. omega arith) (⊎_elim (λ q. omega arith) (⊎_elim (λ q. omega arith) (⊎_elim (λ q. omega arith) (⊎_elim (λ q. omega arith) (⊎_elim (λ q. omega arith) (⊎_elim (λ q. omega arith) (⊎_elim (λ q. omega arith) (⊎_elim (λ q. omega arith) (λ q. omega arith))))))))))))) h
 
-other-code : (a : Answer) → Other a → eqb (codeOf a) 0 ≡ false
-unfolding codeOf
+other-code : (a : Answer) → Other a → eqb (code_of a) 0 ≡ false
+unfolding code_of
 other-code Done h = absurd (done-not h)
 other-code Size h = refl
 other-code Number h = refl
@@ -47,13 +47,13 @@ other-code ShortBuffer h = refl
 
 -- an answer other than 9
 abbrev Uncut : Answer → Type 0
-Uncut a = OneOf (0 ∷ 1 ∷ 2 ∷ 3 ∷ 4 ∷ 5 ∷ 6 ∷ 7 ∷ 8 ∷ 10 ∷ 11 ∷ 12 ∷ 13 ∷ 14 ∷ []) (tagOf the-type a)
+Uncut a = OneOf (0 ∷ 1 ∷ 2 ∷ 3 ∷ 4 ∷ 5 ∷ 6 ∷ 7 ∷ 8 ∷ 10 ∷ 11 ∷ 12 ∷ 13 ∷ 14 ∷ []) (tag_of the_type a)
 
 cut-not : Uncut Cut → ⊥
-cut-not h = ⊎-elim (λ q. omega arith) (⊎-elim (λ q. omega arith) (⊎-elim (λ q. omega arith) (⊎-elim (λ q. omega arith) (⊎-elim (λ q. omega arith) (⊎-elim (λ q. omega arith) (⊎-elim (λ q. omega arith) (⊎-elim (λ q. omega arith) (⊎-elim (λ q. omega arith) (⊎-elim (λ q. omega arith) (⊎-elim (λ q. omega arith) (⊎-elim (λ q. omega arith) (⊎-elim (λ q. omega arith) (λ q. omega arith))))))))))))) h
+cut-not h = ⊎_elim (λ q. omega arith) (⊎_elim (λ q. omega arith) (⊎_elim (λ q. omega arith) (⊎_elim (λ q. omega arith) (⊎_elim (λ q. omega arith) (⊎_elim (λ q. omega arith) (⊎_elim (λ q. omega arith) (⊎_elim (λ q. omega arith) (⊎_elim (λ q. omega arith) (⊎_elim (λ q. omega arith) (⊎_elim (λ q. omega arith) (⊎_elim (λ q. omega arith) (⊎_elim (λ q. omega arith) (λ q. omega arith))))))))))))) h
 
-uncut-code : (a : Answer) → Uncut a → eqb (codeOf a) 9 ≡ false
-unfolding codeOf
+uncut-code : (a : Answer) → Uncut a → eqb (code_of a) 9 ≡ false
+unfolding code_of
 uncut-code Done h = refl
 uncut-code Size h = refl
 uncut-code Number h = refl
@@ -71,15 +71,15 @@ uncut-code Shares h = refl
 uncut-code ShortBuffer h = refl
 
 module _ (t : Places) (b place : ℕ) (a : Answer) where
-  pub noted-done : a ≡ Done → set t b place ≡ noted t b place (codeOf a)
-  unfolding noted codeOf
+  pub noted-done : a ≡ Done → set t b place ≡ noted t b place (code_of a)
+  unfolding noted code_of
   noted-done e = rw e
 
-  pub noted-cut : a ≡ Cut → set t 0 0 ≡ noted t b place (codeOf a)
-  unfolding noted unusable codeOf
+  pub noted-cut : a ≡ Cut → set t 0 0 ≡ noted t b place (code_of a)
+  unfolding noted unusable code_of
   noted-cut e = rw e
 
-  pub noted-refused : OneOf (1 ∷ 2 ∷ 3 ∷ 4 ∷ 5 ∷ 6 ∷ 7 ∷ 8 ∷ 9 ∷ 10 ∷ 11 ∷ 12 ∷ 13 ∷ 14 ∷ []) (tagOf the-type a) → OneOf (0 ∷ 1 ∷ 2 ∷ 3 ∷ 4 ∷ 5 ∷ 6 ∷ 7 ∷ 8 ∷ 10 ∷ 11 ∷ 12 ∷ 13 ∷ 14 ∷ []) (tagOf the-type a) → t ≡ noted t b place (codeOf a)
+  pub noted-refused : OneOf (1 ∷ 2 ∷ 3 ∷ 4 ∷ 5 ∷ 6 ∷ 7 ∷ 8 ∷ 9 ∷ 10 ∷ 11 ∷ 12 ∷ 13 ∷ 14 ∷ []) (tag_of the_type a) → OneOf (0 ∷ 1 ∷ 2 ∷ 3 ∷ 4 ∷ 5 ∷ 6 ∷ 7 ∷ 8 ∷ 10 ∷ 11 ∷ 12 ∷ 13 ∷ 14 ∷ []) (tag_of the_type a) → t ≡ noted t b place (code_of a)
   unfolding noted
   noted-refused h k = rw (other-code a h, uncut-code a k)
 
@@ -96,9 +96,9 @@ module _ (t : Places) (b place code : ℕ) where
       go false true = drop-set-lt leastPlaces t 0 0 (omega arith)
       go false false = refl
 
-  pub noted-unusable : leastPlaces ≤ length t → code ≡ 9 → getD (noted t b place code) 0 0 ≡ 0
+  pub noted-unusable : leastPlaces ≤ length t → code ≡ 9 → get_or (noted t b place code) 0 0 ≡ 0
   unfolding noted unusable
-  noted-unusable l e = rw e (getD-set-same t 0 0 0 (omega arith))
+  noted-unusable l e = rw e (get_or-set_same t 0 0 0 (omega arith))
 
   pub noted-zero : code ≡ 0 → noted t b place code ≡ set t b place
   unfolding noted
@@ -106,4 +106,4 @@ module _ (t : Places) (b place code : ℕ) where
 
   pub noted-kept : code ≢ 0 → code ≢ 9 → noted t b place code ≡ t
   unfolding noted
-  noted-kept n m = rw (ne-eqb code 0 n, ne-eqb code 9 m)
+  noted-kept n m = rw (ne_eqb code 0 n, ne_eqb code 9 m)

@@ -1,39 +1,39 @@
 -- The walk over slots: what is still to be entered gives the whole table.
-use Prim.Native.Nat.{ℕ, zero, suc, _+_, _-_, _*_, _%_, _≤_, _<_}
-use mathlib.Core.Path.{_≡_, refl, sym, ap, _∙_}
+use Prim.Native.Nat.{ℕ, zero, suc, ◌+◌, ◌-◌, ◌*◌, ◌%◌, ◌≤◌, ◌<◌}
+use mathlib.Core.Path.{◌≡◌, refl, sym, ap, ◌∙◌}
 use mathlib.Core.Bool.{Bool, true, false, cond}
-use mathlib.Core.List.{List, [], _∷_}
+use mathlib.Core.List.{List, [], ◌∷◌}
 use native.Mathlib.Omega.{arith}
-use native.Mathlib.Nat.{mod-lt, mul-le-mul-right}
-use lib.ListN.{length, getD, take, drop, set, length-set, length-drop}
-use lib.Seq.{getD-take, getD-drop, drop-drop, ext-getD}
+use native.Mathlib.Nat.{mod-lt, mul-le-mul_right}
+use lib.ListN.{length, get_or, take, drop, set, length-set, length-drop}
+use lib.Seq.{get_or-take, get_or-drop, drop-drop, ext_get_or}
 use lib.Dec.{eqb}
-use borrow.Author.Tests.{eq-eqb, ne-eqb}
-use Rattle·model.specs.Lists.{chunk}
-use Rattle·model.specs.Chip.{Image, Page, pagesOf}
-use Rattle·model.specs.Slot.{written, pageBlock}
-use Rattle·model.specs.Steps.{slotAt}
-use Rattle·model.specs.Mounted.{Places}
-use Rattle·model.specs.Laws.Chunk.{chunk-length, chunk-part}
-use Rattle·model.specs.Laws.Segments.{partOf, part-page, part-size, page-in}
-use Rattle·flash.specs.Pages.{Sized}
-use Rattle·find.proofs.Laws.{slots-inside}
-use Rattle·places·specs.specs.Places.{entered, enteredFrom}
+use borrow.Author.Tests.{eq-eqb, ne_eqb}
+use Rattle.model.specs.Lists.{chunk}
+use Rattle.model.specs.Chip.{Image, Page, pagesOf}
+use Rattle.model.specs.Slot.{written, pageBlock}
+use Rattle.model.specs.Steps.{slot_at}
+use Rattle.model.specs.Mounted.{Places}
+use Rattle.model.specs.Laws.Chunk.{chunk-length, chunk_part}
+use Rattle.model.specs.Laws.Segments.{part_of, part-page, part-size, page-in}
+use Rattle.flash.specs.Pages.{Sized}
+use Rattle.find.proofs.Laws.{slots-inside}
+use Rattle.places.specs.Places.{entered, enteredFrom}
 
 -- ---- one page more
 
 module _ (at : ℕ) (p : Page) (ps : List Page) (t : Places) where
-  pub entered-stop : getD p 0 0 ≡ 255 → entered at (p ∷ ps) t ≡ t
+  pub entered-stop : get_or p 0 0 ≡ 255 → entered at (p ∷ ps) t ≡ t
   unfolding entered
-  entered-stop e = rw (eq-eqb (getD p 0 0) 255 e)
+  entered-stop e = rw (eq-eqb (get_or p 0 0) 255 e)
 
-  pub entered-live : getD p 0 0 ≡ written → entered at (p ∷ ps) t ≡ entered (at + 256) ps (set t (pageBlock p) at)
+  pub entered-live : get_or p 0 0 ≡ written → entered at (p ∷ ps) t ≡ entered (at + 256) ps (set t (pageBlock p) at)
   unfolding entered
   entered-live e = rw (e)
 
-  pub entered-over : (getD p 0 0 ≡ 255 → ⊥) → (getD p 0 0 ≡ written → ⊥) → entered at (p ∷ ps) t ≡ entered (at + 256) ps t
+  pub entered-over : (get_or p 0 0 ≡ 255 → ⊥) → (get_or p 0 0 ≡ written → ⊥) → entered at (p ∷ ps) t ≡ entered (at + 256) ps t
   unfolding entered
-  entered-over e f = rw (ne-eqb (getD p 0 0) 255 e, ne-eqb (getD p 0 0) written f)
+  entered-over e f = rw (ne_eqb (get_or p 0 0) 255 e, ne_eqb (get_or p 0 0) written f)
 
 -- ---- the slots of one segment
 
@@ -52,7 +52,7 @@ entering-start s B from t =
 module _ (s : Image) (B from slot : ℕ) (t t₀ : Places) (w : Entering s B from slot t t₀) where
   pub entering-end : B ≤ slot → t ≡ entered from (chunk B 256 (drop from s)) t₀
   unfolding chunk entered
-  entering-end h = let e : B - slot ≡ 0 = omega arith in rw e at (w .rest)
+  entering-end h = let e : B - slot ≡ 0 = omega arith in rw e at w.rest
 
   module _ (h : slot < B) where
     abbrev at : ℕ
@@ -64,31 +64,31 @@ module _ (s : Image) (B from slot : ℕ) (t t₀ : Places) (w : Entering s B fro
     abbrev later : List Page
     later = chunk (B - (slot + 1)) 256 (drop (from + (slot + 1) * 256) s)
 
-    byte : (k : ℕ) → k < 256 → getD page k 0 ≡ getD s (at + k) 0
-    byte k l = getD-take 256 (drop at s) k 0 l ∙ getD-drop at s k 0
+    byte : (k : ℕ) → k < 256 → get_or page k 0 ≡ get_or s (at + k) 0
+    byte k l = get_or-take 256 (drop at s) k 0 l ∙ get_or-drop at s k 0
 
     unread : entered at (page ∷ later) t ≡ entered from (chunk B 256 (drop from s)) t₀
     unfolding chunk
     unread =
         let e : B - slot ≡ suc (B - (slot + 1)) = omega arith in
         let f : at + 256 ≡ from + (slot + 1) * 256 = omega arith in
-        rw (e, drop-drop 256 at s, f) at (w .rest)
+        rw (e, drop-drop 256 at s, f) at w.rest
 
-    status : getD page 0 0 ≡ getD s at 0
+    status : get_or page 0 0 ≡ get_or s at 0
     status = let e : at + 0 ≡ at = omega arith in rw e at (byte 0 (omega arith))
 
     next : (u : Places) → length u ≡ length t → entered at (page ∷ later) t ≡ entered (at + 256) later u → Entering s B from (slot + 1) u t₀
     next u l e =
         let f : at + 256 ≡ from + (slot + 1) * 256 = omega arith in
-        record { within = omega arith; long = l ∙ w .long; rest = rw f at (sym e ∙ unread) }
+        record { within = omega arith; long = l ∙ w.long; rest = rw f at (sym e ∙ unread) }
 
-    pub entering-stop : getD s at 0 ≡ 255 → t ≡ entered from (chunk B 256 (drop from s)) t₀
+    pub entering-stop : get_or s at 0 ≡ 255 → t ≡ entered from (chunk B 256 (drop from s)) t₀
     entering-stop e = sym (entered-stop at page later t (status ∙ e)) ∙ unread
 
-    pub entering-over : (getD s at 0 ≡ 255 → ⊥) → (getD s at 0 ≡ written → ⊥) → Entering s B from (slot + 1) t t₀
+    pub entering-over : (get_or s at 0 ≡ 255 → ⊥) → (get_or s at 0 ≡ written → ⊥) → Entering s B from (slot + 1) t t₀
     entering-over e f = next t refl (entered-over at page later t (λ x. e (sym status ∙ x)) (λ x. f (sym status ∙ x)))
 
-    pub entering-live : getD s at 0 ≡ written → (b : ℕ) → b ≡ getD s (at + 2) 0 + 256 * getD s (at + 3) 0 → Entering s B from (slot + 1) (set t b at) t₀
+    pub entering-live : get_or s at 0 ≡ written → (b : ℕ) → b ≡ get_or s (at + 2) 0 + 256 * get_or s (at + 3) 0 → Entering s B from (slot + 1) (set t b at) t₀
     unfolding pageBlock
     entering-live e b q =
         let f : pageBlock page ≡ b = rw (byte 2 (omega arith), byte 3 (omega arith)) (sym q) in
@@ -99,7 +99,7 @@ module _ (s : Image) (B from slot : ℕ) (t t₀ : Places) (w : Entering s B fro
 pub entered-length : (at : ℕ) (ps : List Page) (t : Places) → length (entered at ps t) ≡ length t
 unfolding entered
 entered-length at [] t = refl
-entered-length at (p ∷ ps) t = go (eqb (getD p 0 0) 255) (eqb (getD p 0 0) written) (entered-length (at + 256) ps t) (entered-length (at + 256) ps (set t (pageBlock p) at))
+entered-length at (p ∷ ps) t = go (eqb (get_or p 0 0) 255) (eqb (get_or p 0 0) written) (entered-length (at + 256) ps t) (entered-length (at + 256) ps (set t (pageBlock p) at))
   where
     go : (x y : Bool) → length (entered (at + 256) ps t) ≡ length t → length (entered (at + 256) ps (set t (pageBlock p) at)) ≡ length (set t (pageBlock p) at)
         → length (cond x t (entered (at + 256) ps (cond y (set t (pageBlock p) at) t))) ≡ length t
@@ -110,18 +110,18 @@ entered-length at (p ∷ ps) t = go (eqb (getD p 0 0) 255) (eqb (getD p 0 0) wri
 pub entered-from-length : (N B : ℕ) (s : Image) (u n : ℕ) (t : Places) → length (enteredFrom N B s u n t) ≡ length t
 unfolding enteredFrom
 entered-from-length N B s zero n t = refl
-entered-from-length N B s (suc u) n t = let ps = drop 1 (partOf N B (n % N) s) in
-    entered-from-length N B s u (suc n) (entered (slotAt N B n 0 * 256) ps t) ∙ entered-length (slotAt N B n 0 * 256) ps t
+entered-from-length N B s (suc u) n t = let ps = drop 1 (part_of N B (n % N) s) in
+    entered-from-length N B s u (suc n) (entered (slot_at N B n 0 * 256) ps t) ∙ entered-length (slot_at N B n 0 * 256) ps t
 
 -- ---- segment by segment
 
 -- the pages of the slots, as they lie in the image
-pub slot-pages : (N B : ℕ) (s : Image) (n : ℕ) → n % N < N → drop 1 (partOf N B (n % N) s) ≡ chunk B 256 (drop (slotAt N B n 0 * 256) s)
-unfolding pagesOf slotAt
-slot-pages N B s n i = ext-getD [] (drop 1 part) (chunk B 256 (drop from s)) (long ∙ sym (chunk-length B 256 (drop from s))) (λ q h. page q (omega (arith, long)))
+pub slot-pages : (N B : ℕ) (s : Image) (n : ℕ) → n % N < N → drop 1 (part_of N B (n % N) s) ≡ chunk B 256 (drop (slot_at N B n 0 * 256) s)
+unfolding pagesOf slot_at
+slot-pages N B s n i = ext_get_or [] (drop 1 part) (chunk B 256 (drop from s)) (long ∙ sym (chunk-length B 256 (drop from s))) (λ q h. page q (omega (arith, long)))
   where
     part : List Page
-    part = partOf N B (n % N) s
+    part = part_of N B (n % N) s
 
     from : ℕ
     from = (n % N * (B + 1) + 1) * 256
@@ -129,13 +129,13 @@ slot-pages N B s n i = ext-getD [] (drop 1 part) (chunk B 256 (drop from s)) (lo
     long : length (drop 1 part) ≡ B
     long = length-drop 1 part ∙ omega (arith, part-size N B (n % N) s i)
 
-    page : (q : ℕ) → q < B → getD (drop 1 part) q [] ≡ getD (chunk B 256 (drop from s)) q []
+    page : (q : ℕ) → q < B → get_or (drop 1 part) q [] ≡ get_or (chunk B 256 (drop from s)) q []
     page q h =
         let e : (n % N * (B + 1) + (1 + q)) * 256 ≡ from + q * 256 = omega arith in
-        let f : getD part (1 + q) [] ≡ take 256 (drop (from + q * 256) s) =
-        part-page N B (n % N) (1 + q) s i (omega arith) ∙ rw e at (chunk-part 256 (N * (B + 1)) (n % N * (B + 1) + (1 + q)) s (page-in N B (n % N) (1 + q) i (omega arith))) in
-        let g : getD (chunk B 256 (drop from s)) q [] ≡ take 256 (drop (from + q * 256) s) = rw (drop-drop (q * 256) from s) at (chunk-part 256 B q (drop from s) h) in
-        getD-drop 1 part q [] ∙ f ∙ sym g
+        let f : get_or part (1 + q) [] ≡ take 256 (drop (from + q * 256) s) =
+        part-page N B (n % N) (1 + q) s i (omega arith) ∙ rw e at (chunk_part 256 (N * (B + 1)) (n % N * (B + 1) + (1 + q)) s (page-in N B (n % N) (1 + q) i (omega arith))) in
+        let g : get_or (chunk B 256 (drop from s)) q [] ≡ take 256 (drop (from + q * 256) s) = rw (drop-drop (q * 256) from s) at (chunk_part 256 B q (drop from s) h) in
+        get_or-drop 1 part q [] ∙ f ∙ sym g
 
 -- the segments from a turn on, entered into what there is, give the whole
 pub record Rounding (N B : ℕ) (s : Image) (first count turn : ℕ) (t t₀ : Places) : Type 0 where
@@ -152,26 +152,26 @@ rounding-start N B s first count t =
 module _ (N B : ℕ) (s : Image) (first count turn : ℕ) (t t₀ : Places) (w : Rounding N B s first count turn t t₀) where
   pub rounding-end : count ≤ turn → t ≡ enteredFrom N B s count first t₀
   unfolding enteredFrom
-  rounding-end h = let e : count - turn ≡ 0 = omega arith in rw e at (w .rest)
+  rounding-end h = let e : count - turn ≡ 0 = omega arith in rw e at w.rest
 
-  pub rounding-next : (from : ℕ) (u : Places) → turn < count → 0 < N → from ≡ slotAt N B (first + turn) 0 * 256 → u ≡ entered from (chunk B 256 (drop from s)) t
+  pub rounding-next : (from : ℕ) (u : Places) → turn < count → 0 < N → from ≡ slot_at N B (first + turn) 0 * 256 → u ≡ entered from (chunk B 256 (drop from s)) t
       → Rounding N B s first count (turn + 1) u t₀
   unfolding enteredFrom
   rounding-next from u h z e f =
       let n = first + turn in
       let k : count - turn ≡ suc (count - (turn + 1)) = omega arith in
       let g : suc n ≡ first + (turn + 1) = omega arith in
-      let whole : enteredFrom N B s (count - (turn + 1)) (suc n) (entered (slotAt N B n 0 * 256) (drop 1 (partOf N B (n % N) s)) t) ≡ enteredFrom N B s count first t₀ = rw k at (w .rest) in
-      let p : u ≡ entered (slotAt N B n 0 * 256) (drop 1 (partOf N B (n % N) s)) t = rw (slot-pages N B s n (mod-lt n {m = N} z)) (rw e at f) in
+      let whole : enteredFrom N B s (count - (turn + 1)) (suc n) (entered (slot_at N B n 0 * 256) (drop 1 (part_of N B (n % N) s)) t) ≡ enteredFrom N B s count first t₀ = rw k at w.rest in
+      let p : u ≡ entered (slot_at N B n 0 * 256) (drop 1 (part_of N B (n % N) s)) t = rw (slot-pages N B s n (mod-lt n {m = N} z)) (rw e at f) in
       record {
         within = omega arith;
-        long = ap length f ∙ entered-length from (chunk B 256 (drop from s)) t ∙ w .long;
+        long = ap length f ∙ entered-length from (chunk B 256 (drop from s)) t ∙ w.long;
         rest = rw g at (ap (λ (y : Places). enteredFrom N B s (count - (turn + 1)) (suc n) y) p ∙ whole);
       }
 
 -- the slots of a segment lie in the image, which has few bytes
-pub slots-within : (N B n bytes : ℕ) → Sized N B bytes → slotAt N B n 0 * 256 + B * 256 ≤ bytes
-slots-within N B n bytes z = omega (arith, z .whole, slots-inside N B n (mod-lt n {m = N} (z .some)))
+pub slots-within : (N B n bytes : ℕ) → Sized N B bytes → slot_at N B n 0 * 256 + B * 256 ≤ bytes
+slots-within N B n bytes z = omega (arith, z.whole, slots-inside N B n (mod-lt n {m = N} z.some))
 
-pub few-bytes : (N B bytes : ℕ) → Sized N B bytes → bytes ≤ 16711680
-few-bytes N B bytes z = omega (arith, z .whole, mul-le-mul-right (B + 1) (z .segments), z .slots)
+pub few_bytes : (N B bytes : ℕ) → Sized N B bytes → bytes ≤ 16711680
+few_bytes N B bytes z = omega (arith, z.whole, mul-le-mul_right (B + 1) z.segments, z.slots)

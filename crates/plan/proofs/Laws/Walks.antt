@@ -1,27 +1,27 @@
 -- Laws of the walks over slots: what is still to be looked at gives the whole answer.
-use Prim.Native.Nat.{ℕ, suc, _+_, _-_, _*_, _%_, _≤_, _<_}
-use mathlib.Core.Path.{_≡_, sym, ap, _∙_}
-use mathlib.Core.Logic.{_≢_}
+use Prim.Native.Nat.{ℕ, suc, ◌+◌, ◌-◌, ◌*◌, ◌%◌, ◌≤◌, ◌<◌}
+use mathlib.Core.Path.{◌≡◌, sym, ap, ◌∙◌}
+use mathlib.Core.Logic.{◌≢◌}
 use mathlib.Core.Bool.{Bool, true, false}
-use mathlib.Core.List.{List, [], _∷_, flatten}
-use native.Mathlib.Nat.{mod-lt, mul-le-mul-right, suc-mul}
+use mathlib.Core.List.{List, [], ◌∷◌, flatten}
+use native.Mathlib.Nat.{mod-lt, mul-le-mul_right, suc-mul}
 use native.Mathlib.Omega.{arith}
-use lib.ListN.{length, getD}
+use lib.ListN.{length, get_or}
 use lib.Dec.{eqb}
-use borrow.Author.Tests.{eq-eqb, ne-eqb}
-use Rattle·model.specs.Lists.{all, count}
-use Rattle·model.specs.Chip.{Image}
-use Rattle·model.specs.Slot.{written}
-use Rattle·model.specs.Steps.{slotAt}
-use Rattle·model.specs.Laws.Lists.{count-append}
-use Rattle·flash.specs.Pages.{Sized}
-use Rattle·plan·specs.specs.Statuses.{spaced, slotStatus, statusRow, statusRows, isMarked, noneMarked, firstMarked, notLive, FreeFrom}
+use borrow.Author.Tests.{eq-eqb, ne_eqb}
+use Rattle.model.specs.Lists.{all, count}
+use Rattle.model.specs.Chip.{Image}
+use Rattle.model.specs.Slot.{written}
+use Rattle.model.specs.Steps.{slot_at}
+use Rattle.model.specs.Laws.Lists.{count-append}
+use Rattle.flash.specs.Pages.{Sized}
+use Rattle.plan.specs.Statuses.{spaced, slotStatus, statusRow, statusRows, isMarked, noneMarked, firstMarked, notLive, FreeFrom}
 
 -- ---- the slots of one segment
 
-pub row-inside : (N B n bytes from : ℕ) → Sized N B bytes → from ≡ slotAt N B n 0 * 256 → from + B * 256 ≤ bytes
-unfolding slotAt
-row-inside N B n bytes from z e = omega (arith, z .whole, e, mul-le-mul-right (B + 1) (mod-lt n {m = N} (z .some)), suc-mul (n % N) (B + 1))
+pub row_inside : (N B n bytes from : ℕ) → Sized N B bytes → from ≡ slot_at N B n 0 * 256 → from + B * 256 ≤ bytes
+unfolding slot_at
+row_inside N B n bytes from z e = omega (arith, z.whole, e, mul-le-mul_right (B + 1) (mod-lt n {m = N} z.some), suc-mul (n % N) (B + 1))
 
 -- those from slot j on
 abbrev pub left : Image → ℕ → ℕ → ℕ → List ℕ
@@ -33,61 +33,61 @@ left-all s B from =
     let f : from + 0 * 256 ≡ from = omega arith in
     rw (e, f)
 
-left-next : (s : Image) (B from j : ℕ) → j < B → left s B from j ≡ getD s (from + j * 256) 0 ∷ left s B from (j + 1)
+left-next : (s : Image) (B from j : ℕ) → j < B → left s B from j ≡ get_or s (from + j * 256) 0 ∷ left s B from (j + 1)
 unfolding spaced
 left-next s B from j h =
     let e : B - j ≡ suc (B - (j + 1)) = omega arith in
     let f : from + j * 256 + 256 ≡ from + (j + 1) * 256 = omega arith in
     rw (e, f)
 
-left-end : (s : Image) (B from j : ℕ) → B ≤ j → left s B from j ≡ []
+left_end : (s : Image) (B from j : ℕ) → B ≤ j → left s B from j ≡ []
 unfolding spaced
-left-end s B from j h = let e : B - j ≡ 0 = omega arith in rw e
+left_end s B from j h = let e : B - j ≡ 0 = omega arith in rw e
 
 module _ (s : Image) (B from : ℕ) where
   -- ---- none marked
 
-  pub marked-start : noneMarked (left s B from 0) ≡ noneMarked (spaced s 256 B from)
-  marked-start = ap noneMarked (left-all s B from)
+  pub marked_start : noneMarked (left s B from 0) ≡ noneMarked (spaced s 256 B from)
+  marked_start = ap noneMarked (left-all s B from)
 
-  pub marked-next : (j : ℕ) {t : Bool} → j < B → t ≡ isMarked (getD s (from + j * 256) 0) → t ≡ false → noneMarked (left s B from j) ≡ noneMarked (left s B from (j + 1))
+  pub marked_next : (j : ℕ) {t : Bool} → j < B → t ≡ isMarked (get_or s (from + j * 256) 0) → t ≡ false → noneMarked (left s B from j) ≡ noneMarked (left s B from (j + 1))
   unfolding noneMarked all
-  marked-next j h d e = let f : isMarked (getD s (from + j * 256) 0) ≡ false = sym d ∙ e in rw (left-next s B from j h, f)
+  marked_next j h d e = let f : isMarked (get_or s (from + j * 256) 0) ≡ false = sym d ∙ e in rw (left-next s B from j h, f)
 
-  pub marked-stop : (j : ℕ) {t : Bool} → j < B → t ≡ isMarked (getD s (from + j * 256) 0) → t ≡ true → noneMarked (left s B from j) ≡ false
+  pub marked-stop : (j : ℕ) {t : Bool} → j < B → t ≡ isMarked (get_or s (from + j * 256) 0) → t ≡ true → noneMarked (left s B from j) ≡ false
   unfolding noneMarked all
-  marked-stop j h d e = let f : isMarked (getD s (from + j * 256) 0) ≡ true = sym d ∙ e in rw (left-next s B from j h, f)
+  marked-stop j h d e = let f : isMarked (get_or s (from + j * 256) 0) ≡ true = sym d ∙ e in rw (left-next s B from j h, f)
 
   pub marked-end : (j : ℕ) → B ≤ j → noneMarked (left s B from j) ≡ true
   unfolding noneMarked all
-  marked-end j h = rw (left-end s B from j h)
+  marked-end j h = rw (left_end s B from j h)
 
   -- ---- those that are not live
 
   pub not-live-start : count notLive (left s B from 0) ≡ count notLive (spaced s 256 B from)
   not-live-start = ap (count notLive) (left-all s B from)
 
-  pub not-live-more : (j : ℕ) → j < B → getD s (from + j * 256) 0 ≢ written → count notLive (left s B from j) ≡ suc (count notLive (left s B from (j + 1)))
+  pub not-live-more : (j : ℕ) → j < B → get_or s (from + j * 256) 0 ≢ written → count notLive (left s B from j) ≡ suc (count notLive (left s B from (j + 1)))
   unfolding count notLive
-  not-live-more j h e = rw (left-next s B from j h, ne-eqb (getD s (from + j * 256) 0) written e)
+  not-live-more j h e = rw (left-next s B from j h, ne_eqb (get_or s (from + j * 256) 0) written e)
 
-  pub not-live-same : (j : ℕ) → j < B → getD s (from + j * 256) 0 ≡ written → count notLive (left s B from j) ≡ count notLive (left s B from (j + 1))
+  pub not-live-same : (j : ℕ) → j < B → get_or s (from + j * 256) 0 ≡ written → count notLive (left s B from j) ≡ count notLive (left s B from (j + 1))
   unfolding count notLive
-  not-live-same j h e = rw (left-next s B from j h, eq-eqb (getD s (from + j * 256) 0) written e)
+  not-live-same j h e = rw (left-next s B from j h, eq-eqb (get_or s (from + j * 256) 0) written e)
 
   pub not-live-end : (j : ℕ) → B ≤ j → count notLive (left s B from j) ≡ 0
   unfolding count
-  not-live-end j h = rw (left-end s B from j h)
+  not-live-end j h = rw (left_end s B from j h)
 
 -- the row of a number
-pub row-read : (N B n from : ℕ) (s : Image) → from ≡ slotAt N B n 0 * 256 → spaced s 256 B from ≡ statusRow N B s n
+pub row_read : (N B n from : ℕ) (s : Image) → from ≡ slot_at N B n 0 * 256 → spaced s 256 B from ≡ statusRow N B s n
 unfolding statusRow
-row-read N B n from s e = rw e
+row_read N B n from s e = rw e
 
 -- ---- the first that is free
 
-pub status-read : (N B n from j : ℕ) (s : Image) → from ≡ slotAt N B n 0 * 256 → slotStatus N B s n j ≡ getD s (from + j * 256) 0
-unfolding slotStatus slotAt
+pub status-read : (N B n from j : ℕ) (s : Image) → from ≡ slot_at N B n 0 * 256 → slotStatus N B s n j ≡ get_or s (from + j * 256) 0
+unfolding slotStatus slot_at
 status-read N B n from j s e = let f : (n % N * (B + 1) + suc j) * 256 ≡ from + j * 256 = omega (arith, e) in rw f
 
 -- the slots from high on begin with a free one, and those below low end with one that is not
@@ -95,32 +95,32 @@ pub record Halving (s : Image) (B from low high : ℕ) : Type 0 where
   pub order : low ≤ high
   pub within : high ≤ B
   pub reads : from + B * 256 ≤ length s
-  pub free : high < B → getD s (from + high * 256) 0 ≡ 255
-  pub taken : 0 < low → getD s (from + (low - 1) * 256) 0 ≢ 255
+  pub free : high < B → get_or s (from + high * 256) 0 ≡ 255
+  pub taken : 0 < low → get_or s (from + (low - 1) * 256) 0 ≢ 255
 
 module _ (s : Image) (B from low high : ℕ) (w : Halving s B from low high) (h : low < high) where
-  pub halving-low : (m : ℕ) → low ≤ m → m < high → getD s (from + m * 256) 0 ≡ 255 → Halving s B from low m
-  halving-low m p q e = record { order = p; within = omega (arith, w .within); reads = w .reads; free = λ k. e; taken = w .taken }
+  pub halving-low : (m : ℕ) → low ≤ m → m < high → get_or s (from + m * 256) 0 ≡ 255 → Halving s B from low m
+  halving-low m p q e = record { order = p; within = omega (arith, w.within); reads = w.reads; free = λ k. e; taken = w.taken }
 
-  pub halving-high : (m : ℕ) → low ≤ m → m < high → getD s (from + m * 256) 0 ≢ 255 → Halving s B from (m + 1) high
-  halving-high m p q e = let f : m + 1 - 1 ≡ m = omega arith in record { order = omega arith; within = w .within; reads = w .reads; free = w .free; taken = λ k. rw f e }
+  pub halving-high : (m : ℕ) → low ≤ m → m < high → get_or s (from + m * 256) 0 ≢ 255 → Halving s B from (m + 1) high
+  halving-high m p q e = let f : m + 1 - 1 ≡ m = omega arith in record { order = omega arith; within = w.within; reads = w.reads; free = w.free; taken = λ k. rw f e }
 
-pub halving-start : (N B n from : ℕ) (s : Image) → Sized N B (length s) → from ≡ slotAt N B n 0 * 256 → Halving s B from 0 B
+pub halving-start : (N B n from : ℕ) (s : Image) → Sized N B (length s) → from ≡ slot_at N B n 0 * 256 → Halving s B from 0 B
 halving-start N B n from s z e = record {
   order = omega arith;
   within = omega arith;
-  reads = row-inside N B n (length s) from z e;
+  reads = row_inside N B n (length s) from z e;
   free = λ k. absurd (omega arith);
   taken = λ k. absurd (omega arith);
 }
 
-pub halving-end : (N B n from low high : ℕ) (s : Image) → from ≡ slotAt N B n 0 * 256 → Halving s B from low high → high ≤ low → FreeFrom N B n s low
+pub halving-end : (N B n from low high : ℕ) (s : Image) → from ≡ slot_at N B n 0 * 256 → Halving s B from low high → high ≤ low → FreeFrom N B n s low
 halving-end N B n from low high s e w h =
-    let f : high ≡ low = omega (arith, w .order) in
+    let f : high ≡ low = omega (arith, w.order) in
     record {
-      within = omega (arith, w .within);
-      free = λ k. status-read N B n from low s e ∙ (rw f at (w .free)) k;
-      taken = λ k. rw (status-read N B n from (low - 1) s e) (w .taken k);
+      within = omega (arith, w.within);
+      free = λ k. status-read N B n from low s e ∙ (rw f at w.free) k;
+      taken = λ k. rw (status-read N B n from (low - 1) s e) (w.taken k);
     }
 
 -- ---- the segments with some numbers
@@ -130,37 +130,37 @@ module _ (N B : ℕ) (s : Image) (first used : ℕ) where
   abbrev pub rowsLeft : ℕ → List (List ℕ)
   rowsLeft turn = statusRows N B s (used - turn) (first + turn)
 
-  rows-all : rowsLeft 0 ≡ statusRows N B s used first
-  rows-all =
+  rows_all : rowsLeft 0 ≡ statusRows N B s used first
+  rows_all =
       let e : used - 0 ≡ used = omega arith in
       let f : first + 0 ≡ first = omega arith in
       rw (e, f)
 
-  rows-next : (turn : ℕ) → turn < used → rowsLeft turn ≡ statusRow N B s (first + turn) ∷ rowsLeft (turn + 1)
+  rows_next : (turn : ℕ) → turn < used → rowsLeft turn ≡ statusRow N B s (first + turn) ∷ rowsLeft (turn + 1)
   unfolding statusRows
-  rows-next turn h =
+  rows_next turn h =
       let e : used - turn ≡ suc (used - (turn + 1)) = omega arith in
       let f : suc (first + turn) ≡ first + (turn + 1) = omega arith in
       rw (e, f)
 
-  rows-end : (turn : ℕ) → used ≤ turn → rowsLeft turn ≡ []
+  rows_end : (turn : ℕ) → used ≤ turn → rowsLeft turn ≡ []
   unfolding statusRows
-  rows-end turn h = let e : used - turn ≡ 0 = omega arith in rw e
+  rows_end turn h = let e : used - turn ≡ 0 = omega arith in rw e
 
   pub first-start : firstMarked (rowsLeft 0) ≡ firstMarked (statusRows N B s used first)
-  first-start = ap firstMarked rows-all
+  first-start = ap firstMarked rows_all
 
-  pub first-next : (turn : ℕ) {t : Bool} → turn < used → t ≡ noneMarked (statusRow N B s (first + turn)) → t ≡ true → firstMarked (rowsLeft turn) ≡ suc (firstMarked (rowsLeft (turn + 1)))
+  pub first_next : (turn : ℕ) {t : Bool} → turn < used → t ≡ noneMarked (statusRow N B s (first + turn)) → t ≡ true → firstMarked (rowsLeft turn) ≡ suc (firstMarked (rowsLeft (turn + 1)))
   unfolding firstMarked
-  first-next turn h d e = let f : noneMarked (statusRow N B s (first + turn)) ≡ true = sym d ∙ e in rw (rows-next turn h, f)
+  first_next turn h d e = let f : noneMarked (statusRow N B s (first + turn)) ≡ true = sym d ∙ e in rw (rows_next turn h, f)
 
   pub first-stop : (turn : ℕ) {t : Bool} → turn < used → t ≡ noneMarked (statusRow N B s (first + turn)) → t ≡ false → firstMarked (rowsLeft turn) ≡ 1
   unfolding firstMarked
-  first-stop turn h d e = let f : noneMarked (statusRow N B s (first + turn)) ≡ false = sym d ∙ e in rw (rows-next turn h, f)
+  first-stop turn h d e = let f : noneMarked (statusRow N B s (first + turn)) ≡ false = sym d ∙ e in rw (rows_next turn h, f)
 
   pub first-end : (turn : ℕ) → used ≤ turn → firstMarked (rowsLeft turn) ≡ 0
   unfolding firstMarked
-  first-end turn h = rw (rows-end turn h)
+  first-end turn h = rw (rows_end turn h)
 
   -- how many slots are not live, from a turn on
   abbrev pub others : ℕ → ℕ
@@ -170,15 +170,15 @@ module _ (N B : ℕ) (s : Image) (first used : ℕ) where
   total = count notLive (flatten (statusRows N B s used first))
 
   pub others-start : others 0 ≡ total
-  others-start = ap (λ (r : List (List ℕ)). count notLive (flatten r)) rows-all
+  others-start = ap (λ (r : List (List ℕ)). count notLive (flatten r)) rows_all
 
   pub others-next : (turn : ℕ) → turn < used → others turn ≡ count notLive (statusRow N B s (first + turn)) + others (turn + 1)
   unfolding flatten
-  others-next turn h = rw (rows-next turn h) (count-append notLive (statusRow N B s (first + turn)) (flatten (rowsLeft (turn + 1))))
+  others-next turn h = rw (rows_next turn h) (count-append notLive (statusRow N B s (first + turn)) (flatten (rowsLeft (turn + 1))))
 
   pub others-end : (turn : ℕ) → used ≤ turn → others turn ≡ 0
   unfolding flatten count
-  others-end turn h = rw (rows-end turn h)
+  others-end turn h = rw (rows_end turn h)
 
 -- ---- the status of a dead slot
 
@@ -188,4 +188,4 @@ marked-dead x e = rw e
 
 pub marked-cut : (x : ℕ) → x ≢ 0x1F → eqb x 0x5F ≡ isMarked x
 unfolding isMarked
-marked-cut x e = rw (ne-eqb x 0x1F e)
+marked-cut x e = rw (ne_eqb x 0x1F e)

@@ -1,26 +1,26 @@
 -- `printing::used_line`: the label with the number, then the counts. Assumes nothing.
 use native.Mathlib.Omega.{arith}
-use Rattle·text.proofs.Laws.{_then_}
-use borrow.Author.Needs.{needs}
-use Rattle·printing·proofs.proofs.used_line.Statement.{statement}
-use Rattle·printing·proofs.proofs.used_line.Tie as tie
+use Rattle.text.proofs.Laws.{◌then◌}
+use borrow.Author.Rules.{rules}
+use Rattle.printing.proofs.used_line.Statement.{statement}
+use Rattle.printing.proofs.used_line.Tie as tie
 
 add-labelled-requires : tie.Need-add-labelled-requires
-add-labelled-requires c κs = search needs
+add-labelled-requires c κs = search rules
 
 counts-line-requires : tie.Need-counts-line-requires
-counts-line-requires c κs = search needs
+counts-line-requires c κs = search rules
 
-same-length : tie.Need-same-length
-same-length c = search needs
+same_length : tie.Need-same-length
+same_length c = search rules
 
 returns : tie.Need-returns
 returns c =
-    let k2 = c .before .before in
-    let k1 = k2 .before .before .before .before in
-    let s = k1 .before .before .before .before in
-    (k1 .add-labelled .ensures .0 then k2 .counts-line .ensures .0, omega (arith, k1 .add-labelled .ensures .1, k2 .counts-line .ensures .1, s .pre .1))
+    let k2 = c.before.before in
+    let k1 = k2.before.before.before.before in
+    let s = k1.before.before.before.before in
+    (k1.add-labelled.ensures.0 then k2.counts-line.ensures.0, omega (arith, k1.add-labelled.ensures.1, k2.counts-line.ensures.1, s.requires.1))
 
 pub used-line-spec : {M : Type 1} → statement M
 used-line-spec =
-    tie.close (tie.spec add-labelled-requires counts-line-requires same-length returns)
+    tie.close (tie.spec add-labelled-requires counts-line-requires same_length returns)

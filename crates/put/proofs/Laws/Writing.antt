@@ -1,54 +1,54 @@
 -- Laws of a put on a clean image: it is refused, or accepted, as the answer says.
 use Prim.Native.Nat.{ℕ}
-use mathlib.Core.Path.{_≡_, refl, sym, ap, _∙_, subst}
-use mathlib.Core.Logic.{⊎-elim}
+use mathlib.Core.Path.{◌≡◌, refl, sym, ap, ◌∙◌, subst}
+use mathlib.Core.Logic.{⊎_elim}
 use mathlib.Core.Bool.{Bool, true, false, cond}
-use mathlib.Core.List.{List, [], _∷_}
+use mathlib.Core.List.{List, [], ◌∷◌}
 use native.Mathlib.Omega.{arith}
-use denote.Enum.Declared.{tagOf}
+use denote.Enum.Declared.{tag_of}
 use types.Run.{OneOf}
 use lib.Dec.{eqb}
 use lib.ListN.{length}
 use borrow.Author.Tests.{lt-ltb, leb-false}
-use Rattle·model.specs.Chip.{Image}
-use Rattle·model.specs.Header.{isFormer}
-use Rattle·model.specs.State.{entriesIn, view}
-use Rattle·model.specs.Steps.{isWorn}
-use Rattle·model.specs.Answers.{codeOf, put, isFull}
-use Rattle·model.specs.declared.Answer.{Answer}
-use Rattle·model.specs.declared.Answer.the-variants.{Done, Full, Worn, FormerVersion}
-use Rattle·model.proofs.Answer.{the-type}
-use Rattle·bridge.specs.Accepted.{refusal}
-use Rattle·find.specs.declared.Found.{Found}
-use Rattle·tally.specs.declared.Tally.{Tally}
-use Rattle·tally.specs.Seen.{tallySeen}
-use Rattle·room.specs.declared.Plan.{Plan}
-use Rattle·room.specs.Room.{Planned}
-use Rattle·put_answers.specs.Answering.{wornBy, fullBy, answerFor, foundBefore}
-use Rattle·put_answers.proofs.Laws.{former-same, worn-same, full-found, full-before}
-use Rattle·put·specs.specs.Writing.{Puttable, Accepted}
-use Rattle·bridge.specs.Refusals.{put-former, put-full, put-worn}
+use Rattle.model.specs.Chip.{Image}
+use Rattle.model.specs.Header.{isFormer}
+use Rattle.model.specs.State.{entriesIn, view}
+use Rattle.model.specs.Steps.{isWorn}
+use Rattle.model.specs.Answers.{code_of, put, isFull}
+use Rattle.model.specs.declared.Answer.{Answer}
+use Rattle.model.specs.declared.Answer.TheVariants.{Done, Full, Worn, FormerVersion}
+use Rattle.model.specs.contracts.Answer.{the_type}
+use Rattle.bridge.specs.Accepted.{refusal}
+use Rattle.find.specs.declared.Found.{Found}
+use Rattle.tally.specs.declared.Tally.{Tally}
+use Rattle.tally.specs.Seen.{tallySeen}
+use Rattle.room.specs.declared.Plan.{Plan}
+use Rattle.room.specs.Room.{Planned}
+use Rattle.put_answers.specs.Answering.{wornBy, fullBy, answerFor, foundBefore}
+use Rattle.put_answers.proofs.Laws.{former-same, worn-same, full-found, full-before}
+use Rattle.put.specs.Writing.{Puttable, Accepted}
+use Rattle.bridge.specs.Refusals.{put-former, put_full, put-worn}
 
 -- ---- the answer, from a plan, the count of live slots and a search
 
 -- an answer other than 0
 abbrev pub Refusing : Answer → Type 0
-Refusing a = OneOf (1 ∷ 2 ∷ 3 ∷ 4 ∷ 5 ∷ 6 ∷ 7 ∷ 8 ∷ 9 ∷ 10 ∷ 11 ∷ 12 ∷ 13 ∷ 14 ∷ []) (tagOf the-type a)
+Refusing a = OneOf (1 ∷ 2 ∷ 3 ∷ 4 ∷ 5 ∷ 6 ∷ 7 ∷ 8 ∷ 9 ∷ 10 ∷ 11 ∷ 12 ∷ 13 ∷ 14 ∷ []) (tag_of the_type a)
 
 pub refusing-not : Refusing Done → ⊥
-refusing-not h = ⊎-elim (λ q. omega arith) (⊎-elim (λ q. omega arith) (⊎-elim (λ q. omega arith) (⊎-elim (λ q. omega arith) (⊎-elim (λ q. omega arith) (⊎-elim (λ q. omega arith) (⊎-elim (λ q. omega arith) (⊎-elim (λ q. omega arith) (⊎-elim (λ q. omega arith) (⊎-elim (λ q. omega arith) (⊎-elim (λ q. omega arith) (⊎-elim (λ q. omega arith) (⊎-elim (λ q. omega arith) (λ q. omega arith))))))))))))) h
+refusing-not h = ⊎_elim (λ q. omega arith) (⊎_elim (λ q. omega arith) (⊎_elim (λ q. omega arith) (⊎_elim (λ q. omega arith) (⊎_elim (λ q. omega arith) (⊎_elim (λ q. omega arith) (⊎_elim (λ q. omega arith) (⊎_elim (λ q. omega arith) (⊎_elim (λ q. omega arith) (⊎_elim (λ q. omega arith) (⊎_elim (λ q. omega arith) (⊎_elim (λ q. omega arith) (⊎_elim (λ q. omega arith) (λ q. omega arith))))))))))))) h
 
-module _ (N B : ℕ) (p : Plan) (live b : ℕ) (c : List ℕ) (s : Image) (u : Puttable N B p b c s) (t : Tally) (seen : t ≡ tallySeen (view N B s .version)) where
+module _ (N B : ℕ) (p : Plan) (live b : ℕ) (c : List ℕ) (s : Image) (u : Puttable N B p b c s) (t : Tally) (seen : t ≡ tallySeen (view N B s).version) where
   abbrev k : Planned N B p s
-  k = u .plan
+  k = u.plan
 
   -- version 1
-  pub former-refuses : t .former ≡ true → (refusal N B s (put b c) ≡ codeOf FormerVersion) × (eqb (codeOf FormerVersion) 0 ≡ false)
-  unfolding codeOf
-  former-refuses o = (put-former N B s (k .size) b c (u .number) (u .taken) (k .state) (sym (former-same N B p s k t seen) ∙ o), refl)
+  pub former-refuses : t.former ≡ true → (refusal N B s (put b c) ≡ code_of FormerVersion) × (eqb (code_of FormerVersion) 0 ≡ false)
+  unfolding code_of
+  former-refuses o = (put-former N B s k.size b c u.number u.taken k.state (sym (former-same N B p s k t seen) ∙ o), refl)
 
-  module _ (l : live ≡ length (entriesIn (view N B s))) (o : t .former ≡ false) (f : Found) (e : f ≡ foundBefore N B p live s b) where
-    second : isFormer (view N B s .version) ≡ false
+  module _ (l : live ≡ length (entriesIn (view N B s))) (o : t.former ≡ false) (f : Found) (e : f ≡ foundBefore N B p live s b) where
+    second : isFormer (view N B s).version ≡ false
     second = sym (former-same N B p s k t seen) ∙ o
 
     full-same : fullBy N B live f ≡ isFull N B b (view N B s)
@@ -58,28 +58,28 @@ module _ (N B : ℕ) (p : Plan) (live b : ℕ) (c : List ℕ) (s : Image) (u : P
     fresh-same = worn-same N B p s k t (λ h. seen)
 
     -- a refusal
-    pub answer-refuses : (a : Answer) → a ≡ answerFor N B p live t f → Refusing a → (refusal N B s (put b c) ≡ codeOf a) × (eqb (codeOf a) 0 ≡ false)
-    unfolding answerFor codeOf
+    pub answer-refuses : (a : Answer) → a ≡ answerFor N B p live t f → Refusing a → (refusal N B s (put b c) ≡ code_of a) × (eqb (code_of a) 0 ≡ false)
+    unfolding answerFor code_of
     answer-refuses a w m = go (fullBy N B live f) (wornBy N B p t) refl refl a w m
       where
-        go : (x y : Bool) → fullBy N B live f ≡ x → wornBy N B p t ≡ y → (a : Answer) → a ≡ cond x Full (cond y Worn Done) → Refusing a → (refusal N B s (put b c) ≡ codeOf a) × (eqb (codeOf a) 0 ≡ false)
-        go true y q r a w m = rw w (put-full N B s (k .size) b c (u .number) (u .taken) second (k .state) (sym full-same ∙ q), refl)
-        go false true q r a w m = rw w (put-worn N B s (k .size) b c (u .number) (u .taken) second (k .state) (sym full-same ∙ q) (sym fresh-same ∙ r), refl)
+        go : (x y : Bool) → fullBy N B live f ≡ x → wornBy N B p t ≡ y → (a : Answer) → a ≡ cond x Full (cond y Worn Done) → Refusing a → (refusal N B s (put b c) ≡ code_of a) × (eqb (code_of a) 0 ≡ false)
+        go true y q r a w m = rw w (put_full N B s k.size b c u.number u.taken second k.state (sym full-same ∙ q), refl)
+        go false true q r a w m = rw w (put-worn N B s k.size b c u.number u.taken second k.state (sym full-same ∙ q) (sym fresh-same ∙ r), refl)
         go false false q r a w m = absurd (refusing-not (subst Refusing w m))
 
     -- no refusal
-    pub answer-accepts : (a : Answer) → a ≡ answerFor N B p live t f → a ≡ Done → Accepted N B p (t .count) f b c s
+    pub answer-accepts : (a : Answer) → a ≡ answerFor N B p live t f → a ≡ Done → Accepted N B p t.count f b c s
     unfolding answerFor foundBefore tallySeen
     answer-accepts a w m = go (fullBy N B live f) (wornBy N B p t) refl refl (sym m ∙ w)
       where
-        go : (x y : Bool) → fullBy N B live f ≡ x → wornBy N B p t ≡ y → Done ≡ cond x Full (cond y Worn Done) → Accepted N B p (t .count) f b c s
-        go true y q r w = absurd (let z : _≡_ {A = ℕ} 0 1 = cc in omega arith)
-        go false true q r w = absurd (let z : _≡_ {A = ℕ} 0 1 = cc in omega arith)
+        go : (x y : Bool) → fullBy N B live f ≡ x → wornBy N B p t ≡ y → Done ≡ cond x Full (cond y Worn Done) → Accepted N B p t.count f b c s
+        go true y q r w = absurd (let z : ◌≡◌ {A = ℕ} 0 1 = cc in omega arith)
+        go false true q r w = absurd (let z : ◌≡◌ {A = ℕ} 0 1 = cc in omega arith)
         go false false q r w = record {
           put = u;
           second = second;
-          found = λ h. rw (lt-ltb (p .slot) B (leb-false B (p .slot) h)) at e;
+          found = λ h. rw (lt-ltb p.slot B (leb-false B p.slot h)) at e;
           space = sym full-same ∙ q;
           fresh = sym fresh-same ∙ r;
-          tally = λ h. ap (λ (y : Tally). y .count) seen;
+          tally = λ h. ap (λ (y : Tally). y.count) seen;
         }

@@ -1,32 +1,32 @@
 -- `put_answers::put_answer` is the answer of the definition, from a plan and a search. Assumes nothing.
-use mathlib.Core.Path.{sym, _∙_}
-use Rattle·put_answers·specs.specs.Answering.{answerFor}
-use borrow.Author.Needs.{needs}
-use Rattle·put_answers·proofs.proofs.put_answer.Statement.{statement}
-use Rattle·put_answers·proofs.proofs.put_answer.Tie as tie
+use mathlib.Core.Path.{sym, ◌∙◌}
+use Rattle.put_answers.specs.Answering.{answerFor}
+use borrow.Author.Rules.{rules}
+use Rattle.put_answers.proofs.put_answer.Statement.{statement}
+use Rattle.put_answers.proofs.put_answer.Tie as tie
 
 is-full-requires : tie.Need-is-full-requires
-is-full-requires c κs = search needs
+is-full-requires c κs = search rules
 
 returns : tie.Need-returns
 unfolding answerFor
-returns c = let f = sym (c .before .is-full .ensures) ∙ c .if1 .taken in rw f
+returns c = let f = sym c.before.is-full.ensures ∙ c.if1.true in rw f
 
 is-worn-requires : tie.Need-is-worn-requires
-is-worn-requires c κs = search needs
+is-worn-requires c κs = search rules
 
 returns-2 : tie.Need-returns-2
 unfolding answerFor
 returns-2 c =
-    let f = sym (c .before .before .before .is-full .ensures) ∙ c .before .before .if1 .left in
-    let w = sym (c .before .is-worn .ensures) ∙ c .if2 .taken in
+    let f = sym c.before.before.before.is-full.ensures ∙ c.before.before.if1.false in
+    let w = sym c.before.is-worn.ensures ∙ c.if2.true in
     rw (f, w)
 
 returns-3 : tie.Need-returns-3
 unfolding answerFor
 returns-3 c =
-    let f = sym (c .before .before .before .is-full .ensures) ∙ c .before .before .if1 .left in
-    let w = sym (c .before .is-worn .ensures) ∙ c .if2 .left in
+    let f = sym c.before.before.before.is-full.ensures ∙ c.before.before.if1.false in
+    let w = sym c.before.is-worn.ensures ∙ c.if2.false in
     rw (f, w)
 
 pub put-answer-spec : {M : Type 1} → statement M

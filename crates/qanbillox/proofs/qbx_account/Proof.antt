@@ -1,20 +1,20 @@
 -- `qanbillox::qbx_account` gives the packed print of the definition. Assumes nothing.
-use Rattle·qanbillox·proofs.proofs.Laws.{prints}
-use borrow.Author.Needs.{needs}
-use Rattle·qanbillox·proofs.proofs.qbx_account.Statement.{statement}
-use Rattle·qanbillox·proofs.proofs.qbx_account.Tie as tie
+use Rattle.qanbillox.proofs.Laws.{prints}
+use borrow.Author.Rules.{rules}
+use Rattle.qanbillox.proofs.qbx_account.Statement.{statement}
+use Rattle.qanbillox.proofs.qbx_account.Tie as tie
 
 account-requires : tie.Need-account-requires
-account-requires c κs = search needs
+account-requires c κs = search rules
 
 packed-print-requires : tie.Need-packed-print-requires
-packed-print-requires c κs = c .before .before .account .ensures .1
+packed-print-requires c κs = c.before.before.account.ensures.1
 
-same-length : tie.Need-same-length
-same-length c = search needs
+same_length : tie.Need-same-length
+same_length c = search rules
 
 returns : tie.Need-returns
-returns c = prints _ _ _ _ (c .before .before .before .account .ensures .0) (c .packed-print .ensures)
+returns c = prints _ _ _ _ c.before.before.before.account.ensures.0 c.packed-print.ensures
 
 pub qbx-account-spec : {M : Type 1} → statement M
-qbx-account-spec = tie.close (tie.spec account-requires packed-print-requires same-length returns)
+qbx-account-spec = tie.close (tie.spec account-requires packed-print-requires same_length returns)

@@ -1,24 +1,23 @@
 -- `qanbillox::qbx_format` gives the packed outcome of the definition. Assumes nothing.
-use denote.Ref.{now}
-use Rattle·model.specs.Answers.{format}
-use Rattle·qanbillox·proofs.proofs.Laws.{few, gives}
-use borrow.Author.Needs.{needs}
-use Rattle·qanbillox·proofs.proofs.qbx_format.Statement.{statement}
-use Rattle·qanbillox·proofs.proofs.qbx_format.Tie as tie
+use Rattle.model.specs.Answers.{format}
+use Rattle.qanbillox.proofs.Laws.{few, gives}
+use borrow.Author.Rules.{rules}
+use Rattle.qanbillox.proofs.qbx_format.Statement.{statement}
+use Rattle.qanbillox.proofs.qbx_format.Tie as tie
 
 format-requires : tie.Need-format-requires
-format-requires c κs = search needs
+format-requires c κs = search rules
 
 packed-requires : tie.Need-packed-requires
 packed-requires c κs =
-    let a = c .before .before .before .before .before in
-    few (a .args .n) (a .args .b) (now (a .args .image)) (a .args .budget) (format) _ _ (c .before .before .format .ensures)
+    let a = c.before.before.before.before.before in
+    few a.args.n a.args.b a.args.image.now a.args.budget (format) _ _ c.before.before.format.ensures
 
-same-length : tie.Need-same-length
-same-length c = search needs
+same_length : tie.Need-same-length
+same_length c = search rules
 
 returns : tie.Need-returns
-returns c = gives _ _ _ _ (c .before .before .before .format .ensures) (c .packed .ensures)
+returns c = gives _ _ _ _ c.before.before.before.format.ensures c.packed.ensures
 
 pub qbx-format-spec : {M : Type 1} → statement M
-qbx-format-spec = tie.close (tie.spec format-requires packed-requires same-length returns)
+qbx-format-spec = tie.close (tie.spec format-requires packed-requires same_length returns)

@@ -1,24 +1,24 @@
 -- `qanbillox::qbx_mounted_put` gives a packed outcome that the contract allows. Assumes nothing.
-use Rattle·qanbillox·proofs.proofs.Laws.{packs}
-use borrow.Author.Needs.{needs}
-use Rattle·qanbillox·proofs.proofs.qbx_mounted_put.Statement.{statement}
-use Rattle·qanbillox·proofs.proofs.qbx_mounted_put.Tie as tie
+use Rattle.qanbillox.proofs.Laws.{packs}
+use borrow.Author.Rules.{rules}
+use Rattle.qanbillox.proofs.qbx_mounted_put.Statement.{statement}
+use Rattle.qanbillox.proofs.qbx_mounted_put.Tie as tie
 
 put-requires : tie.Need-put-requires
-put-requires c κs = search needs
+put-requires c κs = search rules
 
 packed-mounted-requires : tie.Need-packed-mounted-requires
-packed-mounted-requires c κs = search needs
+packed-mounted-requires c κs = search rules
 
-same-length : tie.Need-same-length
-same-length c = search needs
+same_length : tie.Need-same-length
+same_length c = search rules
 
 same-length-2 : tie.Need-same-length-2
-same-length-2 c = search needs
+same-length-2 c = search rules
 
 returns : tie.Need-returns
-returns c = (_, (c .before .before .before .before .before .put .ensures, packs _ _ _ (c .packed-mounted .ensures)))
+returns c = (_, (c.before.before.before.before.before.put.ensures, packs _ _ _ c.packed-mounted.ensures))
 
 pub qbx-mounted-put-spec : {M : Type 1} → statement M
 qbx-mounted-put-spec =
-    tie.close (tie.spec put-requires packed-mounted-requires same-length same-length-2 returns)
+    tie.close (tie.spec put-requires packed-mounted-requires same_length same-length-2 returns)

@@ -1,28 +1,27 @@
 -- `qanbillox::qbx_rebuild` gives the packed outcome of the definition. Assumes nothing.
 use native.Mathlib.Omega.{arith}
-use denote.Ref.{now}
-use Rattle·model.specs.Laws.Bytes.{bytes-known}
-use Rattle·salvage.specs.Facts.{rebuilt-few}
-use Rattle·qanbillox·proofs.proofs.Laws.{few-given, gives}
-use borrow.Author.Needs.{needs}
-use Rattle·qanbillox·proofs.proofs.qbx_rebuild.Statement.{statement}
-use Rattle·qanbillox·proofs.proofs.qbx_rebuild.Tie as tie
+use Rattle.model.specs.Laws.Bytes.{bytes-known}
+use Rattle.salvage.specs.Facts.{rebuilt-few}
+use Rattle.qanbillox.proofs.Laws.{few-given, gives}
+use borrow.Author.Rules.{rules}
+use Rattle.qanbillox.proofs.qbx_rebuild.Statement.{statement}
+use Rattle.qanbillox.proofs.qbx_rebuild.Tie as tie
 
 rebuild-requires : tie.Need-rebuild-requires
-rebuild-requires c κs = search needs
+rebuild-requires c κs = search rules
 
 packed-requires : tie.Need-packed-requires
 packed-requires c κs =
-    let m = c .before .before in
-    let k = m .before .before .before in
-    let a = k .before .args in
-    few-given _ _ _ (rebuilt-few (a .n) (a .b) (now (a .source)) (a .target-n) (a .target-b) (now (a .target)) (a .budget) (bytes-known (now (a .source)) (λ i. omega (arith, k .shared-slice-known .given i)))) (m .rebuild .ensures)
+    let m = c.before.before in
+    let k = m.before.before.before in
+    let a = k.before.args in
+    few-given _ _ _ (rebuilt-few a.n a.b a.source.now a.target-n a.target-b a.target.now a.budget (bytes-known a.source.now (λ i. omega (arith, k.shared-slice-known.given i)))) m.rebuild.ensures
 
-same-length : tie.Need-same-length
-same-length c = search needs
+same_length : tie.Need-same-length
+same_length c = search rules
 
 returns : tie.Need-returns
-returns c = gives _ _ _ _ (c .before .before .before .rebuild .ensures) (c .packed .ensures)
+returns c = gives _ _ _ _ c.before.before.before.rebuild.ensures c.packed.ensures
 
 pub qbx-rebuild-spec : {M : Type 1} → statement M
-qbx-rebuild-spec = tie.close (tie.spec rebuild-requires packed-requires same-length returns)
+qbx-rebuild-spec = tie.close (tie.spec rebuild-requires packed-requires same_length returns)

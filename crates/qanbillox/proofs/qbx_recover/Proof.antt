@@ -1,24 +1,23 @@
 -- `qanbillox::qbx_recover` gives the packed outcome of the definition. Assumes nothing.
-use denote.Ref.{now}
-use Rattle·model.specs.Answers.{recover}
-use Rattle·qanbillox·proofs.proofs.Laws.{few, gives}
-use borrow.Author.Needs.{needs}
-use Rattle·qanbillox·proofs.proofs.qbx_recover.Statement.{statement}
-use Rattle·qanbillox·proofs.proofs.qbx_recover.Tie as tie
+use Rattle.model.specs.Answers.{recover}
+use Rattle.qanbillox.proofs.Laws.{few, gives}
+use borrow.Author.Rules.{rules}
+use Rattle.qanbillox.proofs.qbx_recover.Statement.{statement}
+use Rattle.qanbillox.proofs.qbx_recover.Tie as tie
 
 recover-requires : tie.Need-recover-requires
-recover-requires c κs = search needs
+recover-requires c κs = search rules
 
 packed-requires : tie.Need-packed-requires
 packed-requires c κs =
-    let a = c .before .before .before .before .before in
-    few (a .args .n) (a .args .b) (now (a .args .image)) (a .args .budget) (recover) _ _ (c .before .before .recover .ensures)
+    let a = c.before.before.before.before.before in
+    few a.args.n a.args.b a.args.image.now a.args.budget (recover) _ _ c.before.before.recover.ensures
 
-same-length : tie.Need-same-length
-same-length c = search needs
+same_length : tie.Need-same-length
+same_length c = search rules
 
 returns : tie.Need-returns
-returns c = gives _ _ _ _ (c .before .before .before .recover .ensures) (c .packed .ensures)
+returns c = gives _ _ _ _ c.before.before.before.recover.ensures c.packed.ensures
 
 pub qbx-recover-spec : {M : Type 1} → statement M
-qbx-recover-spec = tie.close (tie.spec recover-requires packed-requires same-length returns)
+qbx-recover-spec = tie.close (tie.spec recover-requires packed-requires same_length returns)

@@ -1,20 +1,20 @@
 -- `qanbillox::qbx_salvage` gives the packed print of the definition. Assumes nothing.
-use Rattle·qanbillox·proofs.proofs.Laws.{prints}
-use borrow.Author.Needs.{needs}
-use Rattle·qanbillox·proofs.proofs.qbx_salvage.Statement.{statement}
-use Rattle·qanbillox·proofs.proofs.qbx_salvage.Tie as tie
+use Rattle.qanbillox.proofs.Laws.{prints}
+use borrow.Author.Rules.{rules}
+use Rattle.qanbillox.proofs.qbx_salvage.Statement.{statement}
+use Rattle.qanbillox.proofs.qbx_salvage.Tie as tie
 
 salvage-requires : tie.Need-salvage-requires
-salvage-requires c κs = search needs
+salvage-requires c κs = search rules
 
 packed-print-requires : tie.Need-packed-print-requires
-packed-print-requires c κs = c .before .before .salvage .ensures .1
+packed-print-requires c κs = c.before.before.salvage.ensures.1
 
-same-length : tie.Need-same-length
-same-length c = search needs
+same_length : tie.Need-same-length
+same_length c = search rules
 
 returns : tie.Need-returns
-returns c = prints _ _ _ _ (c .before .before .before .salvage .ensures .0) (c .packed-print .ensures)
+returns c = prints _ _ _ _ c.before.before.before.salvage.ensures.0 c.packed-print.ensures
 
 pub qbx-salvage-spec : {M : Type 1} → statement M
-qbx-salvage-spec = tie.close (tie.spec salvage-requires packed-print-requires same-length returns)
+qbx-salvage-spec = tie.close (tie.spec salvage-requires packed-print-requires same_length returns)

@@ -2,33 +2,33 @@
 use mathlib.Core.Path.{sym}
 use native.Mathlib.Omega.{arith}
 use lib.Seq.{length-take-le}
-use borrow.Author.Needs.{needs}
-use Rattle·qbx·proofs.proofs.put.Statement.{statement}
-use Rattle·qbx·proofs.proofs.put.Tie as tie
+use borrow.Author.Rules.{rules}
+use Rattle.qbx.proofs.put.Statement.{statement}
+use Rattle.qbx.proofs.put.Tie as tie
 
 slice-aggregate-read-contents : tie.Need-slice-aggregate-read-contents
-slice-aggregate-read-contents c = search needs
+slice-aggregate-read-contents c = search rules
 
 read-contents-requires : tie.Need-read-contents-requires
-read-contents-requires c κs = search needs
+read-contents-requires c κs = search rules
 
 returns : tie.Need-returns
-returns c = search needs
+returns c = search rules
 
 array-share-prefix-contents : tie.Need-array-share-prefix-contents
-array-share-prefix-contents c = search needs
+array-share-prefix-contents c = search rules
 
 slice-aggregate-obey : tie.Need-slice-aggregate-obey
 slice-aggregate-obey c = sym (length-take-le _ _ (omega arith))
 
 obey-requires : tie.Need-obey-requires
-obey-requires c κs = search needs
+obey-requires c κs = search rules
 
 returns-2 : tie.Need-returns-2
-returns-2 c = search needs
+returns-2 c = search rules
 
-pub put-spec : {M : Type 1} → statement M
-put-spec =
+pub put_spec : {M : Type 1} → statement M
+put_spec =
     tie.close
     (tie.spec
     slice-aggregate-read-contents

@@ -1,40 +1,40 @@
 -- `qbx_buffers::within`. It calls itself at last - 1, so its measure is last. Assumes nothing.
-use Prim.Native.Nat.{ℕ, suc, _-_, _<_}
-use mathlib.Core.Path.{_≡_, sym, ap, _∙_, subst}
+use Prim.Native.Nat.{ℕ, suc, ◌-◌, ◌<◌}
+use mathlib.Core.Path.{◌≡◌, sym, ap, ◌∙◌, subst}
 use mathlib.Core.Bool.{true, false}
 use native.Mathlib.Omega.{arith}
 use lib.Dec.{leb}
 use borrow.Fn.Kinds.{In}
 use borrow.Fn.PlainCycle.{Measures, is, falls, and}
-use Rattle·request.specs.Request.{sizeOf}
-use Rattle·qbx_rooms.specs.Rooms.{forBuffer, roomOf, needOf}
-use Rattle·qbx_rooms.proofs.Laws.{grows, last-one, held, not-held, lacks, taken}
-use Rattle·qbx_buffers·proofs.proofs.within.Reads as within
-use Rattle·qbx_buffers·proofs.proofs.within.Kinds as within-kinds
-use Rattle·qbx_buffers·proofs.proofs.+within.Lts-within as within-lts
-use Rattle·qbx_frames.proofs.large.Reads as large-reads
-use Rattle·qbx_frames.proofs.large_text.Reads as large-text-reads
-use Rattle·qbx_frames.proofs.middle.Reads as middle-reads
-use Rattle·qbx_frames.proofs.middle_text.Reads as middle-text-reads
-use Rattle·qbx_rooms.proofs.lacking.Reads as lacking-reads
-use Rattle·qbx_rooms.proofs.room_of.Reads as room-of-reads
-use Rattle·qbx_frames.proofs.small.Reads as small-reads
-use Rattle·qbx_frames.proofs.small_text.Reads as small-text-reads
-use Rattle·qbx_verbs.proofs.prints.Reads as prints-reads
-use Rattle·qbx_out.proofs.lack_stack.Reads as lack-stack-reads
-use Rattle·request.proofs.size_of.Reads as size-of-reads
-use Rattle·qbx_buffers·proofs.proofs.+within.{statement}
-use Rattle·qbx_buffers·proofs.proofs.+within.Tie.{close}
+use Rattle.request.specs.Request.{size_of}
+use Rattle.qbx_rooms.specs.Rooms.{forBuffer, roomOf, need_of}
+use Rattle.qbx_rooms.proofs.Laws.{grows, last_one, held, not-held, lacks, taken}
+use Rattle.qbx_buffers.proofs.within.Reads as within
+use Rattle.qbx_buffers.proofs.within.Kinds as within-kinds
+use Rattle.qbx_buffers.proofs.+within.Lts-within as within-lts
+use Rattle.qbx_frames.proofs.large.Reads as large-reads
+use Rattle.qbx_frames.proofs.large_text.Reads as large-text-reads
+use Rattle.qbx_frames.proofs.middle.Reads as middle-reads
+use Rattle.qbx_frames.proofs.middle_text.Reads as middle-text-reads
+use Rattle.qbx_rooms.proofs.lacking.Reads as lacking-reads
+use Rattle.qbx_rooms.proofs.room_of.Reads as room-of-reads
+use Rattle.qbx_frames.proofs.small.Reads as small-reads
+use Rattle.qbx_frames.proofs.small_text.Reads as small-text-reads
+use Rattle.qbx_verbs.proofs.prints.Reads as prints-reads
+use Rattle.qbx_out.proofs.lack_stack.Reads as lack-stack-reads
+use Rattle.request.proofs.size_of.Reads as size-of-reads
+use Rattle.qbx_buffers.proofs.+within.{statement}
+use Rattle.qbx_buffers.proofs.+within.Tie.{close}
 
 abbrev μ-within : Measures 2 within-kinds.ps ℕ
-μ-within κs a = a .0
+μ-within κs a = a.0
 
 abbrev at : ℕ → In 2 within-kinds.ps
 at t = and 2 within-kinds.ps (is 2 within-kinds.ps μ-within t) within.Pre
 
 abbrev claims : ℕ → within-lts.Claims
 claims t = (
-  and 2 within-kinds.ps (falls 2 within-kinds.ps _<_ μ-within t) within.Pre,
+  and 2 within-kinds.ps (falls 2 within-kinds.ps ◌<◌ μ-within t) within.Pre,
   within.Post,
   size-of-reads.Asked,
   size-of-reads.Learnt,
@@ -62,55 +62,55 @@ claims t = (
 
 -- what is asked of the buffers and of what is told stands first: an edit is refused for that
 large-text-requires : (t : ℕ) → within-lts.Need-large-text-requires (claims t) (at t) within.Post
-unfolding roomOf needOf forBuffer
+unfolding roomOf need_of forBuffer
 large-text-requires t c κs =
-    let k = c .before .before .before .before in
-    taken (k .before .before .before .before .before .before .before .before .args .last) _ (k .before .before .before .before .size-of .ensures .0) (k .before .before .before .room-of .ensures) 2 _ true (omega (arith, k .before .before .if3 .left)) (k .lacking .ensures) (omega (arith, c .before .before .before .if4 .left)) (c .before .before .if5 .taken) (last-one _ _ _ (k .before .before .before .before .before .before .before .before .args .last) (c .before .if6 .left) (c .if7 .left)) (last-one _ _ _ (k .before .before .before .before .before .before .before .before .args .last) (c .before .if6 .left) (c .if7 .left))
+    let k = c.before.before.before.before in
+    taken k.before.before.before.before.before.before.before.before.args.last _ k.before.before.before.before.size-of.ensures.0 k.before.before.before.room_of.ensures 2 _ true (omega (arith, k.before.before.if3.false)) k.lacking.ensures (omega (arith, c.before.before.before.if4.false)) c.before.before.if5.true (last_one _ _ _ k.before.before.before.before.before.before.before.before.args.last c.before.if6.false c.if7.false) (last_one _ _ _ k.before.before.before.before.before.before.before.before.args.last c.before.if6.false c.if7.false)
 
 middle-text-requires : (t : ℕ) → within-lts.Need-middle-text-requires (claims t) (at t) within.Post
 middle-text-requires t c κs =
-    let k = c .before .before .before .before in
-    taken (k .before .before .before .before .before .before .before .before .args .last) _ (k .before .before .before .before .size-of .ensures .0) (k .before .before .before .room-of .ensures) 1 _ true (omega (arith, k .before .before .if3 .left)) (k .lacking .ensures) (omega (arith, c .before .before .before .if4 .left)) (c .before .before .if5 .taken) (ap roomOf (c .if7 .taken)) (ap (needOf true) (c .if7 .taken))
+    let k = c.before.before.before.before in
+    taken k.before.before.before.before.before.before.before.before.args.last _ k.before.before.before.before.size-of.ensures.0 k.before.before.before.room_of.ensures 1 _ true (omega (arith, k.before.before.if3.false)) k.lacking.ensures (omega (arith, c.before.before.before.if4.false)) c.before.before.if5.true (ap roomOf c.if7.true) (ap (need_of true) c.if7.true)
 
 small-text-requires : (t : ℕ) → within-lts.Need-small-text-requires (claims t) (at t) within.Post
 small-text-requires t c κs =
-    let k = c .before .before .before in
-    taken (k .before .before .before .before .before .before .before .before .args .last) _ (k .before .before .before .before .size-of .ensures .0) (k .before .before .before .room-of .ensures) 0 _ true (omega (arith, k .before .before .if3 .left)) (k .lacking .ensures) (omega (arith, c .before .before .if4 .left)) (c .before .if5 .taken) (ap roomOf (c .if6 .taken)) (ap (needOf true) (c .if6 .taken))
+    let k = c.before.before.before in
+    taken k.before.before.before.before.before.before.before.before.args.last _ k.before.before.before.before.size-of.ensures.0 k.before.before.before.room_of.ensures 0 _ true (omega (arith, k.before.before.if3.false)) k.lacking.ensures (omega (arith, c.before.before.if4.false)) c.before.if5.true (ap roomOf c.if6.true) (ap (need_of true) c.if6.true)
 
 large-requires : (t : ℕ) → within-lts.Need-large-requires (claims t) (at t) within.Post
-unfolding roomOf needOf forBuffer
+unfolding roomOf need_of forBuffer
 large-requires t c κs =
-    let k = c .before .before .before .before in
-    let h = taken (k .before .before .before .before .before .before .before .before .args .last) _ (k .before .before .before .before .size-of .ensures .0) (k .before .before .before .room-of .ensures) 2 _ false {allowed = k .before .before .before .before .before .before .before .before .args .process .allowed} (omega (arith, k .before .before .if3 .left)) (k .lacking .ensures) (omega (arith, c .before .before .before .if4 .left)) (c .before .before .if5 .left) (last-one _ _ _ (k .before .before .before .before .before .before .before .before .args .last) (c .before .if8 .left) (c .if9 .left)) (last-one _ _ _ (k .before .before .before .before .before .before .before .before .args .last) (c .before .if8 .left) (c .if9 .left)) in
-    (h .0, h .1, sym (k .before .prints .ensures) ∙ c .before .before .if5 .left)
+    let k = c.before.before.before.before in
+    let h = taken k.before.before.before.before.before.before.before.before.args.last _ k.before.before.before.before.size-of.ensures.0 k.before.before.before.room_of.ensures 2 _ false {allowed = k.before.before.before.before.before.before.before.before.args.process.allowed} (omega (arith, k.before.before.if3.false)) k.lacking.ensures (omega (arith, c.before.before.before.if4.false)) c.before.before.if5.false (last_one _ _ _ k.before.before.before.before.before.before.before.before.args.last c.before.if8.false c.if9.false) (last_one _ _ _ k.before.before.before.before.before.before.before.before.args.last c.before.if8.false c.if9.false) in
+    (h.0, h.1, sym k.before.prints.ensures ∙ c.before.before.if5.false)
 
 middle-requires : (t : ℕ) → within-lts.Need-middle-requires (claims t) (at t) within.Post
 middle-requires t c κs =
-    let k = c .before .before .before .before in
-    let h = taken (k .before .before .before .before .before .before .before .before .args .last) _ (k .before .before .before .before .size-of .ensures .0) (k .before .before .before .room-of .ensures) 1 _ false {allowed = k .before .before .before .before .before .before .before .before .args .process .allowed} (omega (arith, k .before .before .if3 .left)) (k .lacking .ensures) (omega (arith, c .before .before .before .if4 .left)) (c .before .before .if5 .left) (ap roomOf (c .if9 .taken)) (ap (needOf false) (c .if9 .taken)) in
-    (h .0, h .1, sym (k .before .prints .ensures) ∙ c .before .before .if5 .left)
+    let k = c.before.before.before.before in
+    let h = taken k.before.before.before.before.before.before.before.before.args.last _ k.before.before.before.before.size-of.ensures.0 k.before.before.before.room_of.ensures 1 _ false {allowed = k.before.before.before.before.before.before.before.before.args.process.allowed} (omega (arith, k.before.before.if3.false)) k.lacking.ensures (omega (arith, c.before.before.before.if4.false)) c.before.before.if5.false (ap roomOf c.if9.true) (ap (need_of false) c.if9.true) in
+    (h.0, h.1, sym k.before.prints.ensures ∙ c.before.before.if5.false)
 
 small-requires : (t : ℕ) → within-lts.Need-small-requires (claims t) (at t) within.Post
 small-requires t c κs =
-    let k = c .before .before .before in
-    let h = taken (k .before .before .before .before .before .before .before .before .args .last) _ (k .before .before .before .before .size-of .ensures .0) (k .before .before .before .room-of .ensures) 0 _ false {allowed = k .before .before .before .before .before .before .before .before .args .process .allowed} (omega (arith, k .before .before .if3 .left)) (k .lacking .ensures) (omega (arith, c .before .before .if4 .left)) (c .before .if5 .left) (ap roomOf (c .if8 .taken)) (ap (needOf false) (c .if8 .taken)) in
-    (h .0, h .1, sym (k .before .prints .ensures) ∙ c .before .if5 .left)
+    let k = c.before.before.before in
+    let h = taken k.before.before.before.before.before.before.before.before.args.last _ k.before.before.before.before.size-of.ensures.0 k.before.before.before.room_of.ensures 0 _ false {allowed = k.before.before.before.before.before.before.before.before.args.process.allowed} (omega (arith, k.before.before.if3.false)) k.lacking.ensures (omega (arith, c.before.before.if4.false)) c.before.if5.false (ap roomOf c.if8.true) (ap (need_of false) c.if8.true) in
+    (h.0, h.1, sym k.before.prints.ensures ∙ c.before.if5.false)
 
 lack-stack-requires : (t : ℕ) → within-lts.Need-lack-stack-requires (claims t) (at t) within.Post
-lack-stack-requires t c κs = lacks _ _ (c .before .before .lacking .ensures) (omega (arith, c .before .if4 .taken))
+lack-stack-requires t c κs = lacks _ _ c.before.before.lacking.ensures (omega (arith, c.before.if4.true))
 
-sub-within : (t : ℕ) → within-lts.Need-sub-within (claims t) (at t) within.Post
-sub-within t c = omega arith
+sub_within : (t : ℕ) → within-lts.Need-overflow-sub-within (claims t) (at t) within.Post
+sub_within t c = omega arith
 
 within-requires : (t : ℕ) → within-lts.Need-within-requires (claims t) (at t) within.Post
-within-requires t c κs = (omega (arith, c .before .before .before .pre .0), tt)
+within-requires t c κs = (omega (arith, c.before.before.before.requires.0), tt)
 
 returns : (t : ℕ) → within-lts.Need-returns (claims t) (at t) within.Post
 returns t c =
-    let k = c .before .before in
-    let a = k .before .before .before .args in
-    let n : suc (a .last - 1) ≡ a .last = omega (arith, k .if1 .taken) in
-    subst (λ (y : ℕ). true ≡ leb (sizeOf (a .command .segments) (a .command .slots)) (roomOf y)) n (grows (a .last - 1) _ (sym (c .before .within .ensures) ∙ c .if2 .taken))
+    let k = c.before.before in
+    let a = k.before.before.before.args in
+    let n : suc (a.last - 1) ≡ a.last = omega (arith, k.if1.true) in
+    subst (λ (y : ℕ). true ≡ leb (size_of a.command.segments a.command.slots) (roomOf y)) n (grows (a.last - 1) _ (sym c.before.within.ensures ∙ c.if2.true))
 
 size-of-requires : (t : ℕ) → within-lts.Need-size-of-requires (claims t) (at t) within.Post
 size-of-requires t c κs = tt
@@ -125,46 +125,46 @@ lacking-requires : (t : ℕ) → within-lts.Need-lacking-requires (claims t) (at
 lacking-requires t c κs = tt
 
 returns-2 : (t : ℕ) → within-lts.Need-returns-2 (claims t) (at t) within.Post
-returns-2 t c = not-held (c .before .before .before .before .before .before .args .last) _ (c .before .before .size-of .ensures .0) (c .before .room-of .ensures) (c .if3 .taken)
+returns-2 t c = not-held c.before.before.before.before.before.before.args.last _ c.before.before.size-of.ensures.0 c.before.room_of.ensures c.if3.true
 
 returns-3 : (t : ℕ) → within-lts.Need-returns-3 (claims t) (at t) within.Post
 returns-3 t c =
-    let k = c .before .before .before in
-    held (k .before .before .before .before .before .before .before .before .args .last) _ (k .before .before .before .before .size-of .ensures .0) (k .before .before .before .room-of .ensures) (omega (arith, k .before .before .if3 .left))
+    let k = c.before.before.before in
+    held k.before.before.before.before.before.before.before.before.args.last _ k.before.before.before.before.size-of.ensures.0 k.before.before.before.room_of.ensures (omega (arith, k.before.before.if3.false))
 
 returns-4 : (t : ℕ) → within-lts.Need-returns-4 (claims t) (at t) within.Post
 returns-4 t c =
-    let k = c .before .before .before .before in
-    c .small-text .ensures ∙ held (k .before .before .before .before .before .before .before .before .args .last) _ (k .before .before .before .before .size-of .ensures .0) (k .before .before .before .room-of .ensures) (omega (arith, k .before .before .if3 .left))
+    let k = c.before.before.before.before in
+    c.small-text.ensures ∙ held k.before.before.before.before.before.before.before.before.args.last _ k.before.before.before.before.size-of.ensures.0 k.before.before.before.room_of.ensures (omega (arith, k.before.before.if3.false))
 
 returns-5 : (t : ℕ) → within-lts.Need-returns-5 (claims t) (at t) within.Post
 returns-5 t c =
-    let k = c .before .before .before .before .before in
-    c .middle-text .ensures ∙ held (k .before .before .before .before .before .before .before .before .args .last) _ (k .before .before .before .before .size-of .ensures .0) (k .before .before .before .room-of .ensures) (omega (arith, k .before .before .if3 .left))
+    let k = c.before.before.before.before.before in
+    c.middle-text.ensures ∙ held k.before.before.before.before.before.before.before.before.args.last _ k.before.before.before.before.size-of.ensures.0 k.before.before.before.room_of.ensures (omega (arith, k.before.before.if3.false))
 
 returns-6 : (t : ℕ) → within-lts.Need-returns-6 (claims t) (at t) within.Post
 returns-6 t c =
-    let k = c .before .before .before .before .before in
-    c .large-text .ensures ∙ held (k .before .before .before .before .before .before .before .before .args .last) _ (k .before .before .before .before .size-of .ensures .0) (k .before .before .before .room-of .ensures) (omega (arith, k .before .before .if3 .left))
+    let k = c.before.before.before.before.before in
+    c.large-text.ensures ∙ held k.before.before.before.before.before.before.before.before.args.last _ k.before.before.before.before.size-of.ensures.0 k.before.before.before.room_of.ensures (omega (arith, k.before.before.if3.false))
 
 returns-7 : (t : ℕ) → within-lts.Need-returns-7 (claims t) (at t) within.Post
 returns-7 t c =
-    let k = c .before .before .before .before in
-    c .small .ensures ∙ held (k .before .before .before .before .before .before .before .before .args .last) _ (k .before .before .before .before .size-of .ensures .0) (k .before .before .before .room-of .ensures) (omega (arith, k .before .before .if3 .left))
+    let k = c.before.before.before.before in
+    c.small.ensures ∙ held k.before.before.before.before.before.before.before.before.args.last _ k.before.before.before.before.size-of.ensures.0 k.before.before.before.room_of.ensures (omega (arith, k.before.before.if3.false))
 
 returns-8 : (t : ℕ) → within-lts.Need-returns-8 (claims t) (at t) within.Post
 returns-8 t c =
-    let k = c .before .before .before .before .before in
-    c .middle .ensures ∙ held (k .before .before .before .before .before .before .before .before .args .last) _ (k .before .before .before .before .size-of .ensures .0) (k .before .before .before .room-of .ensures) (omega (arith, k .before .before .if3 .left))
+    let k = c.before.before.before.before.before in
+    c.middle.ensures ∙ held k.before.before.before.before.before.before.before.before.args.last _ k.before.before.before.before.size-of.ensures.0 k.before.before.before.room_of.ensures (omega (arith, k.before.before.if3.false))
 
 returns-9 : (t : ℕ) → within-lts.Need-returns-9 (claims t) (at t) within.Post
 returns-9 t c =
-    let k = c .before .before .before .before .before in
-    c .large .ensures ∙ held (k .before .before .before .before .before .before .before .before .args .last) _ (k .before .before .before .before .size-of .ensures .0) (k .before .before .before .room-of .ensures) (omega (arith, k .before .before .if3 .left))
+    let k = c.before.before.before.before.before in
+    c.large.ensures ∙ held k.before.before.before.before.before.before.before.before.args.last _ k.before.before.before.before.size-of.ensures.0 k.before.before.before.room_of.ensures (omega (arith, k.before.before.if3.false))
 
 pub +within-spec : {M : Type 1} → statement M
 +within-spec = close μ-within (λ t. within-lts.spec (claims t) (at t) within.Post
-    (sub-within t)
+    (sub_within t)
     (within-requires t)
     (returns t)
     (size-of-requires t)

@@ -1,36 +1,36 @@
 -- `qbx_move_buffers::within`. It calls itself at last - 1, so its measure is last. Assumes nothing.
-use Prim.Native.Nat.{ℕ, suc, _-_, _<_}
-use mathlib.Core.Path.{_≡_, sym, ap, _∙_, subst}
+use Prim.Native.Nat.{ℕ, suc, ◌-◌, ◌<◌}
+use mathlib.Core.Path.{◌≡◌, sym, ap, ◌∙◌, subst}
 use mathlib.Core.Bool.{true}
 use native.Mathlib.Omega.{arith}
 use lib.Dec.{leb}
 use borrow.Fn.Kinds.{In}
 use borrow.Fn.PlainCycle.{Measures, is, falls, and}
-use Rattle·qbx_move_words.specs.Move.{largerSize}
-use Rattle·qbx_rooms.specs.Rooms.{forBuffer, roomOf, moveNeedOf}
-use Rattle·qbx_rooms.proofs.Laws.{grows, last-one, held, not-held, lacks, taken-both}
-use Rattle·qbx_move_buffers·proofs.proofs.within.Reads as within
-use Rattle·qbx_move_buffers·proofs.proofs.within.Kinds as within-kinds
-use Rattle·qbx_move_buffers·proofs.proofs.+within.Lts-within as within-lts
-use Rattle·qbx_move_words.proofs.larger_size.Reads as larger-size-reads
-use Rattle·qbx_move_frames.proofs.large.Reads as large-reads
-use Rattle·qbx_move_frames.proofs.middle.Reads as middle-reads
-use Rattle·qbx_move_frames.proofs.small.Reads as small-reads
-use Rattle·qbx_out.proofs.lack_stack.Reads as lack-stack-reads
-use Rattle·qbx_rooms.proofs.lacking_for_move.Reads as lacking-for-move-reads
-use Rattle·qbx_rooms.proofs.room_of.Reads as room-of-reads
-use Rattle·qbx_move_buffers·proofs.proofs.+within.{statement}
-use Rattle·qbx_move_buffers·proofs.proofs.+within.Tie.{close}
+use Rattle.qbx_move_words.specs.Move.{largerSize}
+use Rattle.qbx_rooms.specs.Rooms.{forBuffer, roomOf, moveNeedOf}
+use Rattle.qbx_rooms.proofs.Laws.{grows, last_one, held, not-held, lacks, taken-both}
+use Rattle.qbx_move_buffers.proofs.within.Reads as within
+use Rattle.qbx_move_buffers.proofs.within.Kinds as within-kinds
+use Rattle.qbx_move_buffers.proofs.+within.Lts-within as within-lts
+use Rattle.qbx_move_words.proofs.larger_size.Reads as larger-size-reads
+use Rattle.qbx_move_frames.proofs.large.Reads as large-reads
+use Rattle.qbx_move_frames.proofs.middle.Reads as middle-reads
+use Rattle.qbx_move_frames.proofs.small.Reads as small-reads
+use Rattle.qbx_out.proofs.lack_stack.Reads as lack-stack-reads
+use Rattle.qbx_rooms.proofs.lacking_for_move.Reads as lacking-for-move-reads
+use Rattle.qbx_rooms.proofs.room_of.Reads as room-of-reads
+use Rattle.qbx_move_buffers.proofs.+within.{statement}
+use Rattle.qbx_move_buffers.proofs.+within.Tie.{close}
 
 abbrev μ-within : Measures 2 within-kinds.ps ℕ
-μ-within κs a = a .0
+μ-within κs a = a.0
 
 abbrev at : ℕ → In 2 within-kinds.ps
 at t = and 2 within-kinds.ps (is 2 within-kinds.ps μ-within t) within.Pre
 
 abbrev claims : ℕ → within-lts.Claims
 claims t = (
-  and 2 within-kinds.ps (falls 2 within-kinds.ps _<_ μ-within t) within.Pre,
+  and 2 within-kinds.ps (falls 2 within-kinds.ps ◌<◌ μ-within t) within.Pre,
   within.Post,
   larger-size-reads.Asked,
   larger-size-reads.Learnt,
@@ -52,36 +52,36 @@ claims t = (
 large-requires : (t : ℕ) → within-lts.Need-large-requires (claims t) (at t) within.Post
 unfolding largerSize roomOf moveNeedOf forBuffer
 large-requires t c κs =
-    let k = c .before .before .before in
-    taken-both (k .before .before .before .before .before .before .before .args .last) _ _ (k .before .before .before .larger-size .ensures) (k .before .before .room-of .ensures) 2 (omega (arith, k .before .if3 .left)) (k .lacking-for-move .ensures) (omega (arith, c .before .before .if4 .left)) (last-one _ _ _ (k .before .before .before .before .before .before .before .args .last) (c .before .if5 .left) (c .if6 .left)) (last-one _ _ _ (k .before .before .before .before .before .before .before .args .last) (c .before .if5 .left) (c .if6 .left))
+    let k = c.before.before.before in
+    taken-both k.before.before.before.before.before.before.before.args.last _ _ k.before.before.before.larger-size.ensures k.before.before.room_of.ensures 2 (omega (arith, k.before.if3.false)) k.lacking-for-move.ensures (omega (arith, c.before.before.if4.false)) (last_one _ _ _ k.before.before.before.before.before.before.before.args.last c.before.if5.false c.if6.false) (last_one _ _ _ k.before.before.before.before.before.before.before.args.last c.before.if5.false c.if6.false)
 
 middle-requires : (t : ℕ) → within-lts.Need-middle-requires (claims t) (at t) within.Post
 unfolding largerSize
 middle-requires t c κs =
-    let k = c .before .before .before in
-    taken-both (k .before .before .before .before .before .before .before .args .last) _ _ (k .before .before .before .larger-size .ensures) (k .before .before .room-of .ensures) 1 (omega (arith, k .before .if3 .left)) (k .lacking-for-move .ensures) (omega (arith, c .before .before .if4 .left)) (ap roomOf (c .if6 .taken)) (ap moveNeedOf (c .if6 .taken))
+    let k = c.before.before.before in
+    taken-both k.before.before.before.before.before.before.before.args.last _ _ k.before.before.before.larger-size.ensures k.before.before.room_of.ensures 1 (omega (arith, k.before.if3.false)) k.lacking-for-move.ensures (omega (arith, c.before.before.if4.false)) (ap roomOf c.if6.true) (ap moveNeedOf c.if6.true)
 
 small-requires : (t : ℕ) → within-lts.Need-small-requires (claims t) (at t) within.Post
 unfolding largerSize
 small-requires t c κs =
-    let k = c .before .before in
-    taken-both (k .before .before .before .before .before .before .before .args .last) _ _ (k .before .before .before .larger-size .ensures) (k .before .before .room-of .ensures) 0 (omega (arith, k .before .if3 .left)) (k .lacking-for-move .ensures) (omega (arith, c .before .if4 .left)) (ap roomOf (c .if5 .taken)) (ap moveNeedOf (c .if5 .taken))
+    let k = c.before.before in
+    taken-both k.before.before.before.before.before.before.before.args.last _ _ k.before.before.before.larger-size.ensures k.before.before.room_of.ensures 0 (omega (arith, k.before.if3.false)) k.lacking-for-move.ensures (omega (arith, c.before.if4.false)) (ap roomOf c.if5.true) (ap moveNeedOf c.if5.true)
 
 lack-stack-requires : (t : ℕ) → within-lts.Need-lack-stack-requires (claims t) (at t) within.Post
-lack-stack-requires t c κs = lacks _ _ (c .before .before .lacking-for-move .ensures) (omega (arith, c .before .if4 .taken))
+lack-stack-requires t c κs = lacks _ _ c.before.before.lacking-for-move.ensures (omega (arith, c.before.if4.true))
 
-sub-within : (t : ℕ) → within-lts.Need-sub-within (claims t) (at t) within.Post
-sub-within t c = omega arith
+sub_within : (t : ℕ) → within-lts.Need-overflow-sub-within (claims t) (at t) within.Post
+sub_within t c = omega arith
 
 within-requires : (t : ℕ) → within-lts.Need-within-requires (claims t) (at t) within.Post
-within-requires t c κs = (omega (arith, c .before .before .before .pre .0), tt)
+within-requires t c κs = (omega (arith, c.before.before.before.requires.0), tt)
 
 returns : (t : ℕ) → within-lts.Need-returns (claims t) (at t) within.Post
 returns t c =
-    let k = c .before .before in
-    let a = k .before .before .before .args in
-    let n : suc (a .last - 1) ≡ a .last = omega (arith, k .if1 .taken) in
-    subst (λ (y : ℕ). true ≡ leb (largerSize (a .command)) (roomOf y)) n (grows (a .last - 1) _ (sym (c .before .within .ensures) ∙ c .if2 .taken))
+    let k = c.before.before in
+    let a = k.before.before.before.args in
+    let n : suc (a.last - 1) ≡ a.last = omega (arith, k.if1.true) in
+    subst (λ (y : ℕ). true ≡ leb (largerSize a.command) (roomOf y)) n (grows (a.last - 1) _ (sym c.before.within.ensures ∙ c.if2.true))
 
 larger-size-requires : (t : ℕ) → within-lts.Need-larger-size-requires (claims t) (at t) within.Post
 larger-size-requires t c κs = tt
@@ -93,31 +93,31 @@ lacking-for-move-requires : (t : ℕ) → within-lts.Need-lacking-for-move-requi
 lacking-for-move-requires t c κs = tt
 
 returns-2 : (t : ℕ) → within-lts.Need-returns-2 (claims t) (at t) within.Post
-returns-2 t c = not-held (c .before .before .before .before .before .before .args .last) _ (c .before .before .larger-size .ensures) (c .before .room-of .ensures) (c .if3 .taken)
+returns-2 t c = not-held c.before.before.before.before.before.before.args.last _ c.before.before.larger-size.ensures c.before.room_of.ensures c.if3.true
 
 returns-3 : (t : ℕ) → within-lts.Need-returns-3 (claims t) (at t) within.Post
 returns-3 t c =
-    let k = c .before .before .before in
-    held (k .before .before .before .before .before .before .before .args .last) _ (k .before .before .before .larger-size .ensures) (k .before .before .room-of .ensures) (omega (arith, k .before .if3 .left))
+    let k = c.before.before.before in
+    held k.before.before.before.before.before.before.before.args.last _ k.before.before.before.larger-size.ensures k.before.before.room_of.ensures (omega (arith, k.before.if3.false))
 
 returns-4 : (t : ℕ) → within-lts.Need-returns-4 (claims t) (at t) within.Post
 returns-4 t c =
-    let k = c .before .before .before in
-    c .small .ensures ∙ held (k .before .before .before .before .before .before .before .args .last) _ (k .before .before .before .larger-size .ensures) (k .before .before .room-of .ensures) (omega (arith, k .before .if3 .left))
+    let k = c.before.before.before in
+    c.small.ensures ∙ held k.before.before.before.before.before.before.before.args.last _ k.before.before.before.larger-size.ensures k.before.before.room_of.ensures (omega (arith, k.before.if3.false))
 
 returns-5 : (t : ℕ) → within-lts.Need-returns-5 (claims t) (at t) within.Post
 returns-5 t c =
-    let k = c .before .before .before .before in
-    c .middle .ensures ∙ held (k .before .before .before .before .before .before .before .args .last) _ (k .before .before .before .larger-size .ensures) (k .before .before .room-of .ensures) (omega (arith, k .before .if3 .left))
+    let k = c.before.before.before.before in
+    c.middle.ensures ∙ held k.before.before.before.before.before.before.before.args.last _ k.before.before.before.larger-size.ensures k.before.before.room_of.ensures (omega (arith, k.before.if3.false))
 
 returns-6 : (t : ℕ) → within-lts.Need-returns-6 (claims t) (at t) within.Post
 returns-6 t c =
-    let k = c .before .before .before .before in
-    c .large .ensures ∙ held (k .before .before .before .before .before .before .before .args .last) _ (k .before .before .before .larger-size .ensures) (k .before .before .room-of .ensures) (omega (arith, k .before .if3 .left))
+    let k = c.before.before.before.before in
+    c.large.ensures ∙ held k.before.before.before.before.before.before.before.args.last _ k.before.before.before.larger-size.ensures k.before.before.room_of.ensures (omega (arith, k.before.if3.false))
 
 pub +within-spec : {M : Type 1} → statement M
 +within-spec = close μ-within (λ t. within-lts.spec (claims t) (at t) within.Post
-    (sub-within t)
+    (sub_within t)
     (within-requires t)
     (returns t)
     (larger-size-requires t)

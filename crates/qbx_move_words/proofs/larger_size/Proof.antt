@@ -1,15 +1,15 @@
 -- `qbx_move_words::larger_size`: the larger of the two. Assumes nothing.
 use native.Mathlib.Omega.{arith}
-use Rattle·qbx_move_words·specs.specs.Move.{largerSize}
-use borrow.Author.Needs.{needs}
-use Rattle·qbx_move_words·proofs.proofs.larger_size.Statement.{statement}
-use Rattle·qbx_move_words·proofs.proofs.larger_size.Tie as tie
+use Rattle.qbx_move_words.specs.Move.{largerSize}
+use borrow.Author.Rules.{rules}
+use Rattle.qbx_move_words.proofs.larger_size.Statement.{statement}
+use Rattle.qbx_move_words.proofs.larger_size.Tie as tie
 
 size-of-requires : tie.Need-size-of-requires
-size-of-requires c κs = search needs
+size-of-requires c κs = search rules
 
 size-of-requires-2 : tie.Need-size-of-requires-2
-size-of-requires-2 c κs = search needs
+size-of-requires-2 c κs = search rules
 
 returns : tie.Need-returns
 unfolding largerSize

@@ -1,35 +1,34 @@
 -- `qbx_report::left_aside`: in (b) the segment after the top. Assumes nothing.
 use mathlib.Core.Path.{sym}
 use native.Mathlib.Omega.{arith}
-use denote.Ref.{now}
-use Rattle·model.specs.State.{segmentsOf}
-use Rattle·scan.proofs.Laws.Surveys.{right-size}
-use Rattle·qbx_report·proofs.proofs.Laws.{aside-none, aside-next}
-use borrow.Author.Needs.{needs}
-use Rattle·qbx_report·proofs.proofs.left_aside.Statement.{statement}
-use Rattle·qbx_report·proofs.proofs.left_aside.Tie as tie
+use Rattle.model.specs.State.{segmentsOf}
+use Rattle.scan.proofs.Laws.Surveys.{right-size}
+use Rattle.qbx_report.proofs.Laws.{aside_none, aside-next}
+use borrow.Author.Rules.{rules}
+use Rattle.qbx_report.proofs.left_aside.Statement.{statement}
+use Rattle.qbx_report.proofs.left_aside.Tie as tie
 
-enum-told : tie.Need-enum-told
-enum-told c = search needs
+enum_told : tie.Need-enum-told
+enum_told c = search rules
 
 returns : tie.Need-returns
 returns c =
-    let a = c .before .before .args in
-    sym (aside-none (a .segments) (segmentsOf (a .segments) (a .slots) (now (a .image))) (a .condition) (c .match .keys2))
+    let a = c.before.before.args in
+    sym (aside_none a.segments (segmentsOf a.segments a.slots a.image.now) a.condition c.match.keys2)
 
 see-headers-requires : tie.Need-see-headers-requires
 see-headers-requires c κs =
-    let r = right-size _ _ _ (c .before .before .before .pre) in
-    (r .0, r .1)
+    let r = right-size _ _ _ c.before.before.before.requires in
+    (r.0, r.1)
 
-rem-result : tie.Need-rem-result
-rem-result c = let r = right-size _ _ _ (c .before .before .before .before .before .pre) in omega (arith, r .1)
+rem-result : tie.Need-nonzero-rem-result
+rem-result c = let r = right-size _ _ _ c.before.before.before.before.before.requires in omega (arith, r.1)
 
 returns-2 : tie.Need-returns-2
 returns-2 c =
-    let s = c .before .before .before .before .before in
-    let a = s .args in
-    aside-next (a .segments) (a .slots) (now (a .image)) (right-size _ _ _ (s .pre) .0 .some) _ (c .before .see-headers .ensures .0) (a .condition) (c .before .before .enum-told .given .1)
+    let s = c.before.before.before.before.before in
+    let a = s.args in
+    aside-next a.segments a.slots a.image.now (right-size _ _ _ s.requires).0.some _ c.before.see-headers.ensures.0 a.condition c.before.before.enum_told.given.1
 
 pub left-aside-spec : {M : Type 1} → statement M
-left-aside-spec = tie.close (tie.spec enum-told returns see-headers-requires rem-result returns-2)
+left-aside-spec = tie.close (tie.spec enum_told returns see-headers-requires rem-result returns-2)

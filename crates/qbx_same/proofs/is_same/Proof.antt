@@ -1,24 +1,24 @@
 -- `qbx_same::is_same`: both numbers compared. Assumes nothing.
-use mathlib.Core.Path.{_≡_}
+use mathlib.Core.Path.{◌≡◌}
 use mathlib.Core.Bool.{true, false}
 use lib.Dec.{eqb}
-use borrow.Author.Tests.{eq-eqb, ne-eqb}
-use Rattle·qbx_same·specs.specs.Same.{isSame}
-use Rattle·qbx_same·proofs.proofs.is_same.Statement.{statement}
-use Rattle·qbx_same·proofs.proofs.is_same.Tie as tie
+use borrow.Author.Tests.{eq-eqb, ne_eqb}
+use Rattle.qbx_same.specs.Same.{isSame}
+use Rattle.qbx_same.proofs.is_same.Statement.{statement}
+use Rattle.qbx_same.proofs.is_same.Tie as tie
 
 returns : tie.Need-returns
 unfolding isSame
 returns c =
-    let a = c .before .before .before .before .before .args in
-    let e : eqb (a .a .device) (a .b .device) ≡ true = eq-eqb _ _ (c .before .before .if1 .taken) in
+    let a = c.before.before.before.before.before.args in
+    let e : eqb a.a.device a.b.device ≡ true = eq-eqb _ _ c.before.before.if1.true in
     rw e
 
 returns-2 : tie.Need-returns-2
 unfolding isSame
 returns-2 c =
-    let a = c .before .before .before .args in
-    let e : eqb (a .a .device) (a .b .device) ≡ false = ne-eqb _ _ (c .if1 .left) in
+    let a = c.before.before.before.args in
+    let e : eqb a.a.device a.b.device ≡ false = ne_eqb _ _ c.if1.false in
     rw e
 
 pub is-same-spec : {M : Type 1} → statement M

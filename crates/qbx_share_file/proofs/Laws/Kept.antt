@@ -1,30 +1,30 @@
 -- Numbers put behind those that are listed.
-use Prim.Native.Nat.{ℕ, suc, _+_, _≤_, _<_}
-use mathlib.Core.Path.{_≡_, refl, _∙_}
-use mathlib.Core.List.{List, [], _∷_, _++_, append-assoc}
+use Prim.Native.Nat.{ℕ, suc, ◌+◌, ◌≤◌, ◌<◌}
+use mathlib.Core.Path.{◌≡◌, refl, ◌∙◌}
+use mathlib.Core.List.{List, [], ◌∷◌, ◌++◌, append_assoc}
 use native.Mathlib.Numerals.{add-one}
 use native.Mathlib.Omega.{arith}
-use lib.ListN.{length, set, length-set, length-append, take-append-drop, drop-of-length-le}
-use lib.Seq.{drop-cons, take-suc-set, drop-set-lt, append-snoc}
-use Rattle·qbx_share_file·specs.specs.ShareFile.{over}
-use Rattle·qbx_share_file·specs.specs.Steps.{behind, Kept}
+use lib.ListN.{length, set, length-set, length-append, take-append-drop, drop_of_length-le}
+use lib.Seq.{drop-cons, take-suc-set, drop-set-lt, append_snoc}
+use Rattle.qbx_share_file.specs.ShareFile.{over}
+use Rattle.qbx_share_file.specs.Steps.{behind, Kept}
 
 pub behind-none : (count : ℕ) (lent : List ℕ) → behind count [] lent ≡ lent
 unfolding behind over
 behind-none count lent = take-append-drop count lent
 
-over-nothing : (ns : List ℕ) → over ns [] ≡ []
+over_nothing : (ns : List ℕ) → over ns [] ≡ []
 unfolding over
-over-nothing [] = refl
-over-nothing (n ∷ ns) = refl
+over_nothing [] = refl
+over_nothing (n ∷ ns) = refl
 
 pub kept-none : (count : ℕ) (lent : List ℕ) → count ≤ length lent → Kept [] count lent count lent
 kept-none count lent h = record { puts = λ more. refl; counts = λ more. omega arith; within = h; long = refl }
 
-pub kept-full : (n count : ℕ) (lent : List ℕ) → count ≡ length lent → Kept (n ∷ []) count lent count lent
+pub kept_full : (n count : ℕ) (lent : List ℕ) → count ≡ length lent → Kept (n ∷ []) count lent count lent
 unfolding behind over
-kept-full n count lent e = record {
-  puts = λ more. let h : length lent ≤ count = omega arith in rw (drop-of-length-le lent h, over-nothing more);
+kept_full n count lent e = record {
+  puts = λ more. let h : length lent ≤ count = omega arith in rw (drop_of_length-le lent h, over_nothing more);
   counts = λ more. omega arith;
   within = omega arith;
   long = refl;
@@ -33,7 +33,7 @@ kept-full n count lent e = record {
 pub kept-one : (n count : ℕ) (lent : List ℕ) → count < length lent → Kept (n ∷ []) count lent (count + 1) (set lent count n)
 unfolding behind over
 kept-one n count lent h = record {
-  puts = λ more. rw (add-one count, drop-cons lent count 0 h, take-suc-set lent count n h, drop-set-lt (suc count) lent count n (omega arith), append-snoc);
+  puts = λ more. rw (add-one count, drop-cons lent count 0 h, take-suc-set lent count n h, drop-set-lt (suc count) lent count n (omega arith), append_snoc);
   counts = λ more. omega arith;
   within = omega arith;
   long = length-set lent count n;
@@ -42,8 +42,8 @@ kept-one n count lent h = record {
 -- one after the other
 pub kept-two : {ns ks : List ℕ} {a b c : ℕ} {l m o : List ℕ} → Kept ns a l b m → Kept ks b m c o → Kept (ns ++ ks) a l c o
 kept-two {ns} {ks} {a} {b} {c} {l} {m} {o} x y = record {
-  puts = λ more. rw (append-assoc ns ks more) (x .puts (ks ++ more) ∙ y .puts more);
-  counts = λ more. omega (arith, length-append ns ks, x .counts (length ks + more), y .counts more, x .long);
-  within = omega (arith, x .long, y .within);
-  long = y .long ∙ x .long;
+  puts = λ more. rw (append_assoc ns ks more) (x.puts (ks ++ more) ∙ y.puts more);
+  counts = λ more. omega (arith, length-append ns ks, x.counts (length ks + more), y.counts more, x.long);
+  within = omega (arith, x.long, y.within);
+  long = y.long ∙ x.long;
 }

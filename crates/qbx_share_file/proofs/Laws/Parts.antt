@@ -1,27 +1,27 @@
 -- Parts of a text, one after the other: how far the first reaches, and what is left behind it.
-use Prim.Native.Nat.{ℕ, suc, _+_, _≤_, _<_}
-use mathlib.Core.Path.{_≡_, refl}
+use Prim.Native.Nat.{ℕ, suc, ◌+◌, ◌≤◌, ◌<◌}
+use mathlib.Core.Path.{◌≡◌, refl}
 use mathlib.Core.Bool.{Bool, true, false}
-use mathlib.Core.List.{List, [], _∷_}
+use mathlib.Core.List.{List, [], ◌∷◌}
 use native.Mathlib.Numerals.{add-one}
-use lib.ListN.{length, take, drop, getD, drop-of-length-le}
+use lib.ListN.{length, take, drop, get_or, drop_of_length-le}
 use lib.Seq.{drop-cons}
-use Rattle·qbx_share_file·specs.specs.ShareFile.{before, parts, filled}
-use Rattle·qbx_share_file·specs.specs.Steps.{reach}
+use Rattle.qbx_share_file.specs.ShareFile.{before, parts, filled}
+use Rattle.qbx_share_file.specs.Steps.{reach}
 
 -- ---- how far a part reaches
 
-pub reach-here : (f : ℕ → Bool) (s : List ℕ) (i : ℕ) → i < length s → f (getD s i 0) ≡ true → reach f (drop i s) ≡ 0
+pub reach_here : (f : ℕ → Bool) (s : List ℕ) (i : ℕ) → i < length s → f (get_or s i 0) ≡ true → reach f (drop i s) ≡ 0
 unfolding reach
-reach-here f s i h e = rw (drop-cons s i 0 h, e)
+reach_here f s i h e = rw (drop-cons s i 0 h, e)
 
-pub reach-on : (f : ℕ → Bool) (s : List ℕ) (i : ℕ) → i < length s → f (getD s i 0) ≡ false → reach f (drop i s) ≡ suc (reach f (drop (i + 1) s))
+pub reach-on : (f : ℕ → Bool) (s : List ℕ) (i : ℕ) → i < length s → f (get_or s i 0) ≡ false → reach f (drop i s) ≡ suc (reach f (drop (i + 1) s))
 unfolding reach
 reach-on f s i h e = rw (drop-cons s i 0 h, e, add-one)
 
 pub reach-none : (f : ℕ → Bool) (s : List ℕ) (i : ℕ) → length s ≤ i → reach f (drop i s) ≡ 0
 unfolding reach
-reach-none f s i h = rw (drop-of-length-le s h)
+reach-none f s i h = rw (drop_of_length-le s h)
 
 -- ---- the first part, and the others
 
@@ -33,15 +33,15 @@ others f (b ∷ s) = parts f s
 abbrev FirstOf : (ℕ → Bool) → List ℕ → Type 0
 FirstOf f s = parts f s ≡ take (reach f s) s ∷ others f (drop (reach f s) s)
 
-first-by : (f : ℕ → Bool) (b : ℕ) (s : List ℕ) (t : Bool) → f b ≡ t → FirstOf f s → FirstOf f (b ∷ s)
+first_by : (f : ℕ → Bool) (b : ℕ) (s : List ℕ) (t : Bool) → f b ≡ t → FirstOf f s → FirstOf f (b ∷ s)
 unfolding parts reach others before
-first-by f b s true e h = rw e
-first-by f b s false e h = rw (e, h)
+first_by f b s true e h = rw e
+first_by f b s false e h = rw (e, h)
 
-pub parts-first : (f : ℕ → Bool) (s : List ℕ) → parts f s ≡ take (reach f s) s ∷ others f (drop (reach f s) s)
+pub parts_first : (f : ℕ → Bool) (s : List ℕ) → parts f s ≡ take (reach f s) s ∷ others f (drop (reach f s) s)
 unfolding parts reach others
-parts-first f [] = refl
-parts-first f (b ∷ s) = first-by f b s (f b) refl (parts-first f s)
+parts_first f [] = refl
+parts_first f (b ∷ s) = first_by f b s (f b) refl (parts_first f s)
 
 abbrev FilledOf : (ℕ → Bool) → List ℕ → Type 0
 FilledOf f s = filled (others f (drop (reach f s) s)) ≡ filled (parts f (drop (reach f s) s))

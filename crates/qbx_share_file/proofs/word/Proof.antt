@@ -1,92 +1,91 @@
 -- `qbx_share_file::word`. The invariant: the word is behind `left` others from `at` on. Assumes nothing.
-use Prim.Native.Nat.{_-_, _≤_}
-use mathlib.Core.Path.{_≡_, refl, sym, _∙_}
+use Prim.Native.Nat.{◌-◌, ◌≤◌}
+use mathlib.Core.Path.{◌≡◌, refl, sym, ◌∙◌}
 use mathlib.Core.List.{[]}
 use native.Mathlib.Omega.{arith}
-use denote.Ref.{now}
-use lib.ListN.{length, drop, getD}
-use borrow.Author.Needs.{needs}
-use Rattle·qbx_share_file·specs.specs.ShareFile.{wordsOf}
-use Rattle·qbx_share_file·proofs.proofs.Laws.Words.{words-blank, word-here, word-over, word-none}
-use Rattle·qbx_share_file·proofs.proofs.word.Statement.{statement}
-use Rattle·qbx_share_file·proofs.proofs.word.Tie as tie
+use lib.ListN.{length, drop, get_or}
+use borrow.Author.Rules.{rules}
+use Rattle.qbx_share_file.specs.ShareFile.{words_of}
+use Rattle.qbx_share_file.proofs.Laws.Words.{words-blank, word-here, word_over, word_none}
+use Rattle.qbx_share_file.proofs.word.Statement.{statement}
+use Rattle.qbx_share_file.proofs.word.Tie as tie
 
-abbrev Inv-loop : tie.InvT-loop
-Inv-loop line k at₀ left₀ at left = (at ≤ length line) × (getD (wordsOf (drop at line)) left [] ≡ getD (wordsOf line) k [])
+abbrev invariant-loop : tie.invariant-loop
+invariant-loop line k at₀ left₀ at left = (at ≤ length line) × (get_or (words_of (drop at line)) left [] ≡ get_or (words_of line) k [])
 
-abbrev μ-loop : tie.MeasureT-loop
-μ-loop line k at₀ left₀ at left = length line - at
+abbrev decreases-loop : tie.decreases-loop
+decreases-loop line k at₀ left₀ at left = length line - at
 
-loop-holds : tie.Need-loop-holds Inv-loop μ-loop
+loop-holds : tie.Need-loop-init invariant-loop decreases-loop
 loop-holds c = (omega arith, refl)
 
-blank-from-requires : tie.Need-blank-from-requires Inv-loop μ-loop
-blank-from-requires c κs = search needs
+blank-from-requires : tie.Need-blank-from-requires invariant-loop decreases-loop
+blank-from-requires c κs = search rules
 
-add-at : tie.Need-add-at Inv-loop μ-loop
-add-at c = search needs
+add_at : tie.Need-overflow-add-at invariant-loop decreases-loop
+add_at c = search rules
 
-loop-less : tie.Need-loop-less Inv-loop μ-loop
-loop-less c = search needs
+loop-less : tie.Need-loop-smaller invariant-loop decreases-loop
+loop-less c = search rules
 
-loop-again : tie.Need-loop-again Inv-loop μ-loop
+loop-again : tie.Need-loop-preserved invariant-loop decreases-loop
 loop-again c =
-    let k = c .before .before .before in
-    let f = c .before .blank-from in
-    let e = words-blank (now (k .before .before .args .line)) (k .loop .at) (f .result) (f .ensures .0) (c .before .before .loop-test .taken) (c .if1 .taken) in
-    (omega arith, rw e at (k .loop .inv .1))
+    let k = c.before.before.before in
+    let f = c.before.blank-from in
+    let e = words-blank k.before.before.args.line.now k.loop.at f.result f.ensures.0 c.before.before.loop-test.true c.if1.true in
+    (omega arith, rw e at k.loop.invariant.1)
 
-sub-result : tie.Need-sub-result Inv-loop μ-loop
-sub-result c = omega (arith, c .before .before .blank-from .ensures .0)
+sub-result : tie.Need-overflow-sub-result invariant-loop decreases-loop
+sub-result c = omega (arith, c.before.before.blank-from.ensures.0)
 
-part-result-start : tie.Need-part-result-start Inv-loop μ-loop
-part-result-start c = omega (arith, c .before .before .blank-from .ensures .0)
+part-result-start : tie.Need-slice-bounds-result-start invariant-loop decreases-loop
+part-result-start c = omega (arith, c.before.before.blank-from.ensures.0)
 
-part-result-end : tie.Need-part-result-end Inv-loop μ-loop
-part-result-end c = search needs
+part-result-end : tie.Need-slice-bounds-result-end invariant-loop decreases-loop
+part-result-end c = search rules
 
-returns : tie.Need-returns Inv-loop μ-loop
+returns : tie.Need-returns invariant-loop decreases-loop
 returns c =
-    let k = c .before .before .before .before .before in
-    let f = c .before .before .before .blank-from in
-    word-here (now (k .before .before .args .line)) (k .loop .at) (f .result) (f .ensures .0) (k .loop .left) (omega (arith, f .ensures .0, c .before .before .if1 .left)) (c .before .if2 .taken) ∙ k .loop .inv .1
+    let k = c.before.before.before.before.before in
+    let f = c.before.before.before.blank-from in
+    word-here k.before.before.args.line.now k.loop.at f.result f.ensures.0 k.loop.left (omega (arith, f.ensures.0, c.before.before.if1.false)) c.before.if2.true ∙ k.loop.invariant.1
 
-sub-left : tie.Need-sub-left Inv-loop μ-loop
-sub-left c = search needs
+sub-left : tie.Need-overflow-sub-left invariant-loop decreases-loop
+sub-left c = search rules
 
-loop-less-2 : tie.Need-loop-less-2 Inv-loop μ-loop
-loop-less-2 c = omega (arith, c .before .before .blank-from .ensures, c .before .if1 .left)
+loop-less-2 : tie.Need-loop-smaller-2 invariant-loop decreases-loop
+loop-less-2 c = omega (arith, c.before.before.blank-from.ensures, c.before.if1.false)
 
-loop-again-2 : tie.Need-loop-again-2 Inv-loop μ-loop
+loop-again-2 : tie.Need-loop-preserved-2 invariant-loop decreases-loop
 loop-again-2 c =
-    let k = c .before .before .before .before in
-    let f = c .before .before .blank-from in
-    let e = word-over (now (k .before .before .args .line)) (k .loop .at) (f .result) (f .ensures .0) (k .loop .left) (omega (arith, f .ensures .0, c .before .if1 .left)) (omega (arith, c .if2 .left)) in
-    (f .ensures .1, sym e ∙ k .loop .inv .1)
+    let k = c.before.before.before.before in
+    let f = c.before.before.blank-from in
+    let e = word_over k.before.before.args.line.now k.loop.at f.result f.ensures.0 k.loop.left (omega (arith, f.ensures.0, c.before.if1.false)) (omega (arith, c.if2.false)) in
+    (f.ensures.1, sym e ∙ k.loop.invariant.1)
 
-sub-result-2 : tie.Need-sub-result-2 Inv-loop μ-loop
-sub-result-2 c = search needs
+sub-result-2 : tie.Need-overflow-sub-result-2 invariant-loop decreases-loop
+sub-result-2 c = search rules
 
-part-result-start-2 : tie.Need-part-result-start-2 Inv-loop μ-loop
-part-result-start-2 c = search needs
+part-result-start-2 : tie.Need-slice-bounds-result-start-2 invariant-loop decreases-loop
+part-result-start-2 c = search rules
 
-part-result-end-2 : tie.Need-part-result-end-2 Inv-loop μ-loop
-part-result-end-2 c = search needs
+part-result-end-2 : tie.Need-slice-bounds-result-end-2 invariant-loop decreases-loop
+part-result-end-2 c = search rules
 
-returns-2 : tie.Need-returns-2 Inv-loop μ-loop
+returns-2 : tie.Need-returns-2 invariant-loop decreases-loop
 returns-2 c =
-    let k = c .before .before in
-    word-none (now (k .before .before .args .line)) (k .loop .at) (k .loop .left) (c .before .loop-test .left) ∙ k .loop .inv .1
+    let k = c.before.before in
+    word_none k.before.before.args.line.now k.loop.at k.loop.left c.before.loop-test.false ∙ k.loop.invariant.1
 
 pub word-spec : {M : Type 1} → statement M
 word-spec =
     tie.close
     (tie.spec
-    Inv-loop
-    μ-loop
+    invariant-loop
+    decreases-loop
     loop-holds
     blank-from-requires
-    add-at
+    add_at
     loop-less
     loop-again
     sub-result

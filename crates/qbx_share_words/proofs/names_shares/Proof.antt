@@ -1,51 +1,50 @@
 -- `qbx_share_words::names_shares`: one of three words. Assumes nothing.
-use mathlib.Core.Path.{_≡_, sym, _∙_}
+use mathlib.Core.Path.{◌≡◌, sym, ◌∙◌}
 use mathlib.Core.Bool.{true, false}
-use denote.Ref.{now}
-use Rattle·model.specs.Lists.{same}
-use Rattle·text.specs.Text.{text}
-use Rattle·qbx_share_words·specs.specs.Share.{namesShares}
-use borrow.Author.Needs.{needs}
-use Rattle·qbx_share_words·proofs.proofs.names_shares.Statement.{statement}
-use Rattle·qbx_share_words·proofs.proofs.names_shares.Tie as tie
+use Rattle.model.specs.Lists.{same}
+use Rattle.text.specs.Text.{text}
+use Rattle.qbx_share_words.specs.Share.{namesShares}
+use borrow.Author.Rules.{rules}
+use Rattle.qbx_share_words.proofs.names_shares.Statement.{statement}
+use Rattle.qbx_share_words.proofs.names_shares.Tie as tie
 
 slice-aggregate-is : tie.Need-slice-aggregate-is
-slice-aggregate-is c = search needs
+slice-aggregate-is c = search rules
 
 is-requires : tie.Need-is-requires
-is-requires c κs = search needs
+is-requires c κs = search rules
 
 returns : tie.Need-returns
 unfolding text namesShares
 returns c =
-    let put : same (now (c .before .before .before .before .args .verb)) (text "share-put") ≡ true = sym (c .before .is .ensures) ∙ c .if1 .taken in
+    let put : same c.before.before.before.before.args.verb.now (text "share-put") ≡ true = sym c.before.is.ensures ∙ c.if1.true in
     rw put
 
 slice-aggregate-is-2 : tie.Need-slice-aggregate-is-2
-slice-aggregate-is-2 c = search needs
+slice-aggregate-is-2 c = search rules
 
 is-requires-2 : tie.Need-is-requires-2
-is-requires-2 c κs = search needs
+is-requires-2 c κs = search rules
 
 returns-2 : tie.Need-returns-2
 unfolding text namesShares
 returns-2 c =
-    let put : same (now (c .before .before .before .before .before .before .before .args .verb)) (text "share-put") ≡ false = sym (c .before .before .before .before .is .ensures) ∙ c .before .before .before .if1 .left in
-    let get : same (now (c .before .before .before .before .before .before .before .args .verb)) (text "share-get") ≡ true = sym (c .before .is2 .ensures) ∙ c .if2 .taken in
+    let put : same c.before.before.before.before.before.before.before.args.verb.now (text "share-put") ≡ false = sym c.before.before.before.before.is.ensures ∙ c.before.before.before.if1.false in
+    let get : same c.before.before.before.before.before.before.before.args.verb.now (text "share-get") ≡ true = sym c.before.is2.ensures ∙ c.if2.true in
     rw (put, get)
 
 slice-aggregate-is-3 : tie.Need-slice-aggregate-is-3
-slice-aggregate-is-3 c = search needs
+slice-aggregate-is-3 c = search rules
 
 is-requires-3 : tie.Need-is-requires-3
-is-requires-3 c κs = search needs
+is-requires-3 c κs = search rules
 
 returns-3 : tie.Need-returns-3
 unfolding text namesShares
 returns-3 c =
-    let put : same (now (c .before .before .before .before .before .before .before .before .before .args .verb)) (text "share-put") ≡ false = sym (c .before .before .before .before .before .before .is .ensures) ∙ c .before .before .before .before .before .if1 .left in
-    let get : same (now (c .before .before .before .before .before .before .before .before .before .args .verb)) (text "share-get") ≡ false = sym (c .before .before .before .is2 .ensures) ∙ c .before .before .if2 .left in
-    rw (put, get) (c .is3 .ensures)
+    let put : same c.before.before.before.before.before.before.before.before.before.args.verb.now (text "share-put") ≡ false = sym c.before.before.before.before.before.before.is.ensures ∙ c.before.before.before.before.before.if1.false in
+    let get : same c.before.before.before.before.before.before.before.before.before.args.verb.now (text "share-get") ≡ false = sym c.before.before.before.is2.ensures ∙ c.before.before.if2.false in
+    rw (put, get) c.is3.ensures
 
 pub names-shares-spec : {M : Type 1} → statement M
 names-shares-spec =

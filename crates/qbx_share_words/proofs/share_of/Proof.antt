@@ -1,60 +1,59 @@
 -- `qbx_share_words::share_of`: word by word, as the definition. Assumes nothing.
-use mathlib.Core.Path.{_≡_, sym, _∙_}
+use mathlib.Core.Path.{◌≡◌, sym, ◌∙◌}
 use mathlib.Core.Bool.{true, false}
-use denote.Ref.{now}
-use Rattle·qbx_words.specs.Command.{isMissing}
-use Rattle·qbx_share_words·specs.specs.Share.{asNumber, shareVerbOf, shareOf}
-use borrow.Author.Needs.{needs}
-use Rattle·qbx_share_words·proofs.proofs.share_of.Statement.{statement}
-use Rattle·qbx_share_words·proofs.proofs.share_of.Tie as tie
+use Rattle.qbx_words.specs.Command.{isMissing}
+use Rattle.qbx_share_words.specs.Share.{as_number, shareVerbOf, share_of}
+use borrow.Author.Rules.{rules}
+use Rattle.qbx_share_words.proofs.share_of.Statement.{statement}
+use Rattle.qbx_share_words.proofs.share_of.Tie as tie
 
 number-requires : tie.Need-number-requires
-number-requires c κs = search needs
+number-requires c κs = search rules
 
 enum-known-n : tie.Need-enum-known-n
-enum-known-n c = search needs
+enum-known-n c = search rules
 
-enum-told : tie.Need-enum-told
-enum-told c = search needs
+enum_told : tie.Need-enum-told
+enum_told c = search rules
 
 returns : tie.Need-returns
-unfolding shareOf asNumber
-returns c = rw (sym (c .before .before .number .ensures) ∙ c .enum-told .given .1)
+unfolding share_of as_number
+returns c = rw (sym c.before.before.number.ensures ∙ c.enum_told.given.1)
 
 number-requires-2 : tie.Need-number-requires-2
-number-requires-2 c κs = search needs
+number-requires-2 c κs = search rules
 
 enum-known-b : tie.Need-enum-known-b
-enum-known-b c = search needs
+enum-known-b c = search rules
 
 enum-told-2 : tie.Need-enum-told-2
-enum-told-2 c = search needs
+enum-told-2 c = search rules
 
 returns-2 : tie.Need-returns-2
-unfolding shareOf asNumber
-returns-2 c = rw (sym (c .before .before .before .before .before .before .number .ensures) ∙ c .before .before .before .before .n .given .1, sym (c .before .before .number2 .ensures) ∙ c .enum-told2 .given .1)
+unfolding share_of as_number
+returns-2 c = rw (sym c.before.before.before.before.before.before.number.ensures ∙ c.before.before.before.before.n.given.1, sym c.before.before.number2.ensures ∙ c.enum-told2.given.1)
 
 is-missing-requires : tie.Need-is-missing-requires
-is-missing-requires c κs = search needs
+is-missing-requires c κs = search rules
 
 returns-3 : tie.Need-returns-3
-unfolding shareOf asNumber
+unfolding share_of as_number
 returns-3 c =
-    let e : isMissing (now (c .before .before .before .before .before .before .before .before .before .before .before .before .before .before .before .before .args .shares)) ≡ true = sym (c .before .is-missing .ensures) ∙ c .if1 .taken in
-    rw (sym (c .before .before .before .before .before .before .before .before .before .number .ensures) ∙ c .before .before .before .before .before .before .before .n .given .1, sym (c .before .before .before .before .before .number2 .ensures) ∙ c .before .before .before .b .given .1, e)
+    let e : isMissing c.before.before.before.before.before.before.before.before.before.before.before.before.before.before.before.before.args.shares.now ≡ true = sym c.before.is-missing.ensures ∙ c.if1.true in
+    rw (sym c.before.before.before.before.before.before.before.before.before.number.ensures ∙ c.before.before.before.before.before.before.before.n.given.1, sym c.before.before.before.before.before.number2.ensures ∙ c.before.before.before.b.given.1, e)
 
 share-verb-of-requires : tie.Need-share-verb-of-requires
-share-verb-of-requires c κs = search needs
+share-verb-of-requires c κs = search rules
 
 of-tenant-requires : tie.Need-of-tenant-requires
-of-tenant-requires c κs = search needs
+of-tenant-requires c κs = search rules
 
 returns-4 : tie.Need-returns-4
-unfolding shareOf asNumber
+unfolding share_of as_number
 returns-4 c =
-    let e : isMissing (now (c .before .before .before .before .before .before .before .before .before .before .before .before .before .before .before .before .before .before .args .shares)) ≡ false = sym (c .before .before .before .is-missing .ensures) ∙ c .before .before .if1 .left in
-    let v : shareVerbOf (now (c .before .before .before .before .before .before .before .before .before .before .before .before .before .before .before .before .before .before .args .verb)) ≡ c .before .share-verb-of .result = sym (c .before .share-verb-of .ensures) in
-    rw (sym (c .before .before .before .before .before .before .before .before .before .before .before .number .ensures) ∙ c .before .before .before .before .before .before .before .before .before .n .given .1, sym (c .before .before .before .before .before .before .before .number2 .ensures) ∙ c .before .before .before .before .before .b .given .1, e, v) (c .of-tenant .ensures)
+    let e : isMissing c.before.before.before.before.before.before.before.before.before.before.before.before.before.before.before.before.before.before.args.shares.now ≡ false = sym c.before.before.before.is-missing.ensures ∙ c.before.before.if1.false in
+    let v : shareVerbOf c.before.before.before.before.before.before.before.before.before.before.before.before.before.before.before.before.before.before.args.verb.now ≡ c.before.share-verb-of.result = sym c.before.share-verb-of.ensures in
+    rw (sym c.before.before.before.before.before.before.before.before.before.before.before.number.ensures ∙ c.before.before.before.before.before.before.before.before.before.n.given.1, sym c.before.before.before.before.before.before.before.number2.ensures ∙ c.before.before.before.before.before.b.given.1, e, v) c.of-tenant.ensures
 
 pub share-of-spec : {M : Type 1} → statement M
 share-of-spec =
@@ -62,7 +61,7 @@ share-of-spec =
     (tie.spec
     number-requires
     enum-known-n
-    enum-told
+    enum_told
     returns
     number-requires-2
     enum-known-b

@@ -1,44 +1,43 @@
 -- `qbx_share_words::share_verb_of`: the tests of the definition, in its order. Assumes nothing.
-use mathlib.Core.Path.{_≡_, sym, _∙_}
+use mathlib.Core.Path.{◌≡◌, sym, ◌∙◌}
 use mathlib.Core.Bool.{true, false}
-use denote.Ref.{now}
-use Rattle·model.specs.Lists.{same}
-use Rattle·text.specs.Text.{text}
-use Rattle·qbx_share_words·specs.specs.Share.{shareVerbOf}
-use borrow.Author.Needs.{needs}
-use Rattle·qbx_share_words·proofs.proofs.share_verb_of.Statement.{statement}
-use Rattle·qbx_share_words·proofs.proofs.share_verb_of.Tie as tie
+use Rattle.model.specs.Lists.{same}
+use Rattle.text.specs.Text.{text}
+use Rattle.qbx_share_words.specs.Share.{shareVerbOf}
+use borrow.Author.Rules.{rules}
+use Rattle.qbx_share_words.proofs.share_verb_of.Statement.{statement}
+use Rattle.qbx_share_words.proofs.share_verb_of.Tie as tie
 
 slice-aggregate-is : tie.Need-slice-aggregate-is
-slice-aggregate-is c = search needs
+slice-aggregate-is c = search rules
 
 is-requires : tie.Need-is-requires
-is-requires c κs = search needs
+is-requires c κs = search rules
 
 returns : tie.Need-returns
 unfolding text shareVerbOf
 returns c =
-    let put : same (now (c .before .before .before .before .args .verb)) (text "share-put") ≡ true = sym (c .before .is .ensures) ∙ c .if1 .taken in
+    let put : same c.before.before.before.before.args.verb.now (text "share-put") ≡ true = sym c.before.is.ensures ∙ c.if1.true in
     rw put
 
 slice-aggregate-is-2 : tie.Need-slice-aggregate-is-2
-slice-aggregate-is-2 c = search needs
+slice-aggregate-is-2 c = search rules
 
 is-requires-2 : tie.Need-is-requires-2
-is-requires-2 c κs = search needs
+is-requires-2 c κs = search rules
 
 returns-2 : tie.Need-returns-2
 unfolding text shareVerbOf
 returns-2 c =
-    let put : same (now (c .before .before .before .before .before .before .before .args .verb)) (text "share-put") ≡ false = sym (c .before .before .before .before .is .ensures) ∙ c .before .before .before .if1 .left in
-    let get : same (now (c .before .before .before .before .before .before .before .args .verb)) (text "share-get") ≡ true = sym (c .before .is2 .ensures) ∙ c .if2 .taken in
+    let put : same c.before.before.before.before.before.before.before.args.verb.now (text "share-put") ≡ false = sym c.before.before.before.before.is.ensures ∙ c.before.before.before.if1.false in
+    let get : same c.before.before.before.before.before.before.before.args.verb.now (text "share-get") ≡ true = sym c.before.is2.ensures ∙ c.if2.true in
     rw (put, get)
 
 returns-3 : tie.Need-returns-3
 unfolding text shareVerbOf
 returns-3 c =
-    let put : same (now (c .before .before .before .before .before .before .before .args .verb)) (text "share-put") ≡ false = sym (c .before .before .before .before .is .ensures) ∙ c .before .before .before .if1 .left in
-    let get : same (now (c .before .before .before .before .before .before .before .args .verb)) (text "share-get") ≡ false = sym (c .before .is2 .ensures) ∙ c .if2 .left in
+    let put : same c.before.before.before.before.before.before.before.args.verb.now (text "share-put") ≡ false = sym c.before.before.before.before.is.ensures ∙ c.before.before.before.if1.false in
+    let get : same c.before.before.before.before.before.before.before.args.verb.now (text "share-get") ≡ false = sym c.before.is2.ensures ∙ c.if2.false in
     rw (put, get)
 
 pub share-verb-of-spec : {M : Type 1} → statement M

@@ -1,99 +1,99 @@
 -- `qbx_state::say_condition`: each text is the definition's. Assumes nothing.
 use native.Mathlib.Omega.{arith}
-use Rattle·text.specs.Text.{text}
-use Rattle·qbx_state·specs.specs.State.{conditionText}
-use Rattle·qbx_lines.proofs.Laws.Lines.{more}
-use borrow.Author.Needs.{needs}
-use Rattle·qbx_state·proofs.proofs.say_condition.Statement.{statement}
-use Rattle·qbx_state·proofs.proofs.say_condition.Tie as tie
+use Rattle.text.specs.Text.{text}
+use Rattle.qbx_state.specs.State.{conditionText}
+use Rattle.qbx_lines.proofs.Laws.Lines.{more}
+use borrow.Author.Rules.{rules}
+use Rattle.qbx_state.proofs.say_condition.Statement.{statement}
+use Rattle.qbx_state.proofs.say_condition.Tie as tie
 
 empty-requires : tie.Need-empty-requires
-empty-requires c κs = search needs
+empty-requires c κs = search rules
 
-enum-told : tie.Need-enum-told
-enum-told c = search needs
+enum_told : tie.Need-enum-told
+enum_told c = search rules
 
 slice-aggregate-add : tie.Need-slice-aggregate-add
-slice-aggregate-add c = search needs
+slice-aggregate-add c = search rules
 
 add-requires : tie.Need-add-requires
-add-requires c κs = search needs
+add-requires c κs = search rules
 
 enum-told-2 : tie.Need-enum-told-2
-enum-told-2 c = search needs
+enum-told-2 c = search rules
 
 slice-aggregate-add-2 : tie.Need-slice-aggregate-add-2
-slice-aggregate-add-2 c = search needs
+slice-aggregate-add-2 c = search rules
 
 add-requires-2 : tie.Need-add-requires-2
-add-requires-2 c κs = search needs
+add-requires-2 c κs = search rules
 
 enum-told-3 : tie.Need-enum-told-3
-enum-told-3 c = search needs
+enum-told-3 c = search rules
 
 slice-aggregate-add-3 : tie.Need-slice-aggregate-add-3
-slice-aggregate-add-3 c = search needs
+slice-aggregate-add-3 c = search rules
 
 add-requires-3 : tie.Need-add-requires-3
-add-requires-3 c κs = search needs
+add-requires-3 c κs = search rules
 
 enum-told-4 : tie.Need-enum-told-4
-enum-told-4 c = search needs
+enum-told-4 c = search rules
 
 slice-aggregate-add-4 : tie.Need-slice-aggregate-add-4
-slice-aggregate-add-4 c = search needs
+slice-aggregate-add-4 c = search rules
 
 add-requires-4 : tie.Need-add-requires-4
-add-requires-4 c κs = search needs
+add-requires-4 c κs = search rules
 
 enum-told-5 : tie.Need-enum-told-5
-enum-told-5 c = search needs
+enum-told-5 c = search rules
 
 slice-aggregate-add-5 : tie.Need-slice-aggregate-add-5
-slice-aggregate-add-5 c = search needs
+slice-aggregate-add-5 c = search rules
 
 add-requires-5 : tie.Need-add-requires-5
-add-requires-5 c κs = search needs
+add-requires-5 c κs = search rules
 
 enum-told-6 : tie.Need-enum-told-6
-enum-told-6 c = search needs
+enum-told-6 c = search rules
 
 slice-aggregate-add-6 : tie.Need-slice-aggregate-add-6
-slice-aggregate-add-6 c = search needs
+slice-aggregate-add-6 c = search rules
 
 add-requires-6 : tie.Need-add-requires-6
-add-requires-6 c κs = search needs
+add-requires-6 c κs = search rules
 
 returns : tie.Need-returns
 unfolding text conditionText
-returns c = rw (c .before .before .enum-told .given .1) (more (c .add .ensures) (c .before .before .before .before .empty .ensures .0), omega arith)
+returns c = rw c.before.before.enum_told.given.1 (more c.add.ensures c.before.before.before.before.empty.ensures.0, omega arith)
 
 returns-2 : tie.Need-returns-2
 unfolding text conditionText
-returns-2 c = rw (c .before .before .enum-told2 .given .1) (more (c .add2 .ensures) (c .before .before .before .before .empty .ensures .0), omega arith)
+returns-2 c = rw c.before.before.enum-told2.given.1 (more c.add2.ensures c.before.before.before.before.empty.ensures.0, omega arith)
 
 returns-3 : tie.Need-returns-3
 unfolding text conditionText
-returns-3 c = rw (c .before .before .enum-told3 .given .1) (more (c .add3 .ensures) (c .before .before .before .before .empty .ensures .0), omega arith)
+returns-3 c = rw c.before.before.enum-told3.given.1 (more c.add3.ensures c.before.before.before.before.empty.ensures.0, omega arith)
 
 returns-4 : tie.Need-returns-4
 unfolding text conditionText
-returns-4 c = rw (c .before .before .enum-told4 .given .1) (more (c .add4 .ensures) (c .before .before .before .before .empty .ensures .0), omega arith)
+returns-4 c = rw c.before.before.enum-told4.given.1 (more c.add4.ensures c.before.before.before.before.empty.ensures.0, omega arith)
 
 returns-5 : tie.Need-returns-5
 unfolding text conditionText
-returns-5 c = rw (c .before .before .enum-told5 .given .1) (more (c .add5 .ensures) (c .before .before .before .before .empty .ensures .0), omega arith)
+returns-5 c = rw c.before.before.enum-told5.given.1 (more c.add5.ensures c.before.before.before.before.empty.ensures.0, omega arith)
 
 returns-6 : tie.Need-returns-6
 unfolding text conditionText
-returns-6 c = rw (c .before .before .enum-told6 .given .1) (more (c .add6 .ensures) (c .before .before .before .before .empty .ensures .0), omega arith)
+returns-6 c = rw c.before.before.enum-told6.given.1 (more c.add6.ensures c.before.before.before.before.empty.ensures.0, omega arith)
 
 pub say-condition-spec : {M : Type 1} → statement M
 say-condition-spec =
     tie.close
     (tie.spec
     empty-requires
-    enum-told
+    enum_told
     slice-aggregate-add
     add-requires
     enum-told-2

@@ -2,39 +2,39 @@
 use mathlib.Core.Path.{sym}
 use native.Mathlib.Omega.{arith}
 use lib.Seq.{length-take-le}
-use borrow.Author.Needs.{needs}
-use Rattle·qbx_work·proofs.proofs.obey.Statement.{statement}
-use Rattle·qbx_work·proofs.proofs.obey.Tie as tie
+use borrow.Author.Rules.{rules}
+use Rattle.qbx_work.proofs.obey.Statement.{statement}
+use Rattle.qbx_work.proofs.obey.Tie as tie
 
 present-requires : tie.Need-present-requires
-present-requires c κs = search needs
+present-requires c κs = search rules
 
 slice-aggregate-fail : tie.Need-slice-aggregate-fail
-slice-aggregate-fail c = search needs
+slice-aggregate-fail c = search rules
 
 fail-requires : tie.Need-fail-requires
-fail-requires c κs = search needs
+fail-requires c κs = search rules
 
-same-length : tie.Need-same-length
-same-length c = search needs
+same_length : tie.Need-same-length
+same_length c = search rules
 
 returns : tie.Need-returns
-returns c = search needs
+returns c = search rules
 
 slice-relend-prefix-act : tie.Need-slice-relend-prefix-act
-slice-relend-prefix-act c = search needs
+slice-relend-prefix-act c = search rules
 
 slice-aggregate-act : tie.Need-slice-aggregate-act
 slice-aggregate-act c = sym (length-take-le _ _ (omega arith))
 
 act-requires : tie.Need-act-requires
-act-requires c κs = search needs
+act-requires c κs = search rules
 
 same-length-2 : tie.Need-same-length-2
-same-length-2 c = search needs
+same-length-2 c = search rules
 
 returns-2 : tie.Need-returns-2
-returns-2 c = search needs
+returns-2 c = search rules
 
 pub obey-spec : {M : Type 1} → statement M
 obey-spec =
@@ -43,7 +43,7 @@ obey-spec =
     present-requires
     slice-aggregate-fail
     fail-requires
-    same-length
+    same_length
     returns
     slice-relend-prefix-act
     slice-aggregate-act

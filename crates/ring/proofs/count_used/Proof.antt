@@ -1,55 +1,55 @@
 -- `ring::count_used` goes by the second after the top, then by index 0. Assumes nothing.
-use mathlib.Core.Path.{refl, sym, _∙_}
+use mathlib.Core.Path.{refl, sym, ◌∙◌}
 use mathlib.Core.Logic.{inl, inr}
 use native.Mathlib.Nat.{mod-lt}
-use borrow.Author.Needs.{needs}
-use Rattle·ring·proofs.proofs.count_used.Statement.{statement}
-use Rattle·ring·proofs.proofs.count_used.Tie as tie
+use borrow.Author.Rules.{rules}
+use Rattle.ring.proofs.count_used.Statement.{statement}
+use Rattle.ring.proofs.count_used.Tie as tie
 
-add-status-at : tie.Need-add-status-at
-add-status-at c = search needs
+add-status-at : tie.Need-overflow-add-status-at
+add-status-at c = search rules
 
-rem-status-at : tie.Need-rem-status-at
-rem-status-at c = search needs
+rem-status-at : tie.Need-nonzero-rem-status-at
+rem-status-at c = search rules
 
 status-at-requires : tie.Need-status-at-requires
-status-at-requires c κs = let a = c .before in (a .pre .0, mod-lt _ (a .pre .0 .some))
+status-at-requires c κs = let a = c.before in (a.requires.0, mod-lt _ a.requires.0.some)
 
-sub-result : tie.Need-sub-result
-sub-result c = search needs
+sub-result : tie.Need-overflow-sub-result
+sub-result c = search rules
 
 returns : tie.Need-returns
-returns c = inl (λ e. c .if1 .taken (c .before .status-at .ensures ∙ e), refl)
+returns c = inl (λ e. c.if1.true (c.before.status-at.ensures ∙ e), refl)
 
 status-at-requires-2 : tie.Need-status-at-requires-2
-status-at-requires-2 c κs = search needs
+status-at-requires-2 c κs = search rules
 
-add-result : tie.Need-add-result
-add-result c = search needs
+add-result : tie.Need-overflow-add-result
+add-result c = search rules
 
 run-start-requires : tie.Need-run-start-requires
-run-start-requires c κs = search needs
+run-start-requires c κs = search rules
 
-sub-result-2 : tie.Need-sub-result-2
-sub-result-2 c = search needs
+sub-result-2 : tie.Need-overflow-sub-result-2
+sub-result-2 c = search rules
 
 returns-2 : tie.Need-returns-2
-returns-2 c = inr (inr (sym (c .before .before .status-at2 .ensures) ∙ c .before .if2 .taken, (c .run-start .result, c .run-start .ensures, refl)))
+returns-2 c = inr (inr (sym c.before.before.status-at2.ensures ∙ c.before.if2.true, (c.run-start.result, c.run-start.ensures, refl)))
 
-add-result-2 : tie.Need-add-result-2
-add-result-2 c = search needs
+add-result-2 : tie.Need-overflow-add-result-2
+add-result-2 c = search rules
 
 run-start-requires-2 : tie.Need-run-start-requires-2
-run-start-requires-2 c κs = search needs
+run-start-requires-2 c κs = search rules
 
-sub-result-3 : tie.Need-sub-result-3
-sub-result-3 c = search needs
+sub-result-3 : tie.Need-overflow-sub-result-3
+sub-result-3 c = search rules
 
-add-result-3 : tie.Need-add-result-3
-add-result-3 c = search needs
+add-result-3 : tie.Need-overflow-add-result-3
+add-result-3 c = search rules
 
 returns-3 : tie.Need-returns-3
-returns-3 c = inr (inl (λ e. c .before .if2 .left (c .before .before .status-at2 .ensures ∙ e), (c .run-start2 .result, c .run-start2 .ensures, refl)))
+returns-3 c = inr (inl (λ e. c.before.if2.false (c.before.before.status-at2.ensures ∙ e), (c.run-start2.result, c.run-start2.ensures, refl)))
 
 pub count-used-spec : {M : Type 1} → statement M
 count-used-spec =

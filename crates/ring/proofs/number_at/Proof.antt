@@ -1,58 +1,57 @@
 -- `ring::number_at` reads the number in a header. Assumes nothing.
 use mathlib.Core.Path.{refl}
 use native.Mathlib.Omega.{arith}
-use denote.Ref.{now}
-use Rattle·ring·proofs.proofs.Laws.Search.{header-inside, header-number}
-use borrow.Author.Needs.{needs}
-use Rattle·ring·proofs.proofs.number_at.Statement.{statement}
-use Rattle·ring·proofs.proofs.number_at.Tie as tie
+use Rattle.ring.proofs.Laws.Search.{header-inside, header-number}
+use borrow.Author.Rules.{rules}
+use Rattle.ring.proofs.number_at.Statement.{statement}
+use Rattle.ring.proofs.number_at.Tie as tie
 
-add-at : tie.Need-add-at
-add-at c = search needs
+add_at : tie.Need-overflow-add-at
+add_at c = search rules
 
-mul-at : tie.Need-mul-at
-mul-at c =
-    let a = c .before in
-    record { fits = omega (arith, header-inside (a .args .segments) (a .args .slots) (a .args .index) _ (a .pre .0) (a .pre .1)) }
+mul_at : tie.Need-overflow-mul-at
+mul_at c =
+    let a = c.before in
+    record { fits = omega (arith, header-inside a.args.segments a.args.slots a.args.index _ a.requires.0 a.requires.1) }
 
-mul-at-2 : tie.Need-mul-at-2
+mul-at-2 : tie.Need-overflow-mul-at-2
 mul-at-2 c =
-    let a = c .before in
-    record { fits = omega (arith, header-inside (a .args .segments) (a .args .slots) (a .args .index) _ (a .pre .0) (a .pre .1)) }
+    let a = c.before in
+    record { fits = omega (arith, header-inside a.args.segments a.args.slots a.args.index _ a.requires.0 a.requires.1) }
 
-add-end : tie.Need-add-end
+add-end : tie.Need-overflow-add-end
 add-end c =
-    let a = c .before in
-    record { fits = omega (arith, header-inside (a .args .segments) (a .args .slots) (a .args .index) _ (a .pre .0) (a .pre .1)) }
+    let a = c.before in
+    record { fits = omega (arith, header-inside a.args.segments a.args.slots a.args.index _ a.requires.0 a.requires.1) }
 
-sub-header-number : tie.Need-sub-header-number
-sub-header-number c = search needs
+sub-header-number : tie.Need-overflow-sub-header-number
+sub-header-number c = search rules
 
-part-header-number-start : tie.Need-part-header-number-start
-part-header-number-start c = search needs
+part-header-number-start : tie.Need-slice-bounds-header-number-start
+part-header-number-start c = search rules
 
-part-header-number-end : tie.Need-part-header-number-end
+part-header-number-end : tie.Need-slice-bounds-header-number-end
 part-header-number-end c =
-    let a = c .before in
-    omega (arith, header-inside (a .args .segments) (a .args .slots) (a .args .index) _ (a .pre .0) (a .pre .1))
+    let a = c.before in
+    omega (arith, header-inside a.args.segments a.args.slots a.args.index _ a.requires.0 a.requires.1)
 
 header-number-requires : tie.Need-header-number-requires
-header-number-requires c κs = search needs
+header-number-requires c κs = search rules
 
-cast-result : tie.Need-cast-result
-cast-result c = search needs
+cast-result : tie.Need-overflow-cast-result
+cast-result c = search rules
 
 returns : tie.Need-returns
 returns c =
-    let a = c .before .before .before .before .args in
-    (header-number (a .slots) (a .index) _ _ (now (a .image)) refl (c .before .header-number .ensures), omega arith)
+    let a = c.before.before.before.before.args in
+    (header-number a.slots a.index _ _ a.image.now refl c.before.header-number.ensures, omega arith)
 
 pub number-at-spec : {M : Type 1} → statement M
 number-at-spec =
     tie.close
     (tie.spec
-    add-at
-    mul-at
+    add_at
+    mul_at
     mul-at-2
     add-end
     sub-header-number

@@ -1,19 +1,19 @@
 -- What a match leaves to say of an enum.
-use mathlib.Core.Path.{_≡_, refl}
-use mathlib.Core.Logic.{⊎-elim}
-use mathlib.Core.List.{[], _∷_}
+use mathlib.Core.Path.{◌≡◌, refl}
+use mathlib.Core.Logic.{⊎_elim}
+use mathlib.Core.List.{[], ◌∷◌}
 use native.Mathlib.Omega.{arith}
-use denote.Enum.Declared.{tagOf}
+use denote.Enum.Declared.{tag_of}
 use types.Run.{OneOf}
-use Rattle·judge.specs.declared.Ending.{Ending}
-use Rattle·judge.specs.declared.Ending.the-variants.{Full, Room, TornLast, TwinLast, Bad}
-use Rattle·judge.specs.Endings.{behind}
-use Rattle·judge.proofs.Ending.{the-type}
+use Rattle.judge.specs.declared.Ending.{Ending}
+use Rattle.judge.specs.declared.Ending.TheVariants.{Full, Room, TornLast, TwinLast, Bad}
+use Rattle.judge.specs.Endings.{behind}
+use Rattle.judge.specs.contracts.Ending.{the_type}
 
 -- the tag of an ending that is not full
-pub behind-other : (e f : Ending) → OneOf (1 ∷ 2 ∷ 3 ∷ 4 ∷ []) (tagOf the-type e) → behind e f ≡ Bad
+pub behind-other : (e f : Ending) → OneOf (1 ∷ 2 ∷ 3 ∷ 4 ∷ []) (tag_of the_type e) → behind e f ≡ Bad
 unfolding behind
-behind-other Full f h = absurd (⊎-elim (λ q. omega arith) (⊎-elim (λ q. omega arith) (⊎-elim (λ q. omega arith) (λ q. omega arith))) h)
+behind-other Full f h = absurd (⊎_elim (λ q. omega arith) (⊎_elim (λ q. omega arith) (⊎_elim (λ q. omega arith) (λ q. omega arith))) h)
 behind-other Room f h = refl
 behind-other TornLast f h = refl
 behind-other TwinLast f h = refl

@@ -1,21 +1,21 @@
 -- A row of slots: one slot more, the end, and counts that fit.
-use Prim.Native.Nat.{ℕ, suc, _+_, _-_, _*_, _≤_, _<_}
-use mathlib.Core.Path.{_≡_}
-use mathlib.Core.List.{List, _∷_}
+use Prim.Native.Nat.{ℕ, suc, ◌+◌, ◌-◌, ◌*◌, ◌≤◌, ◌<◌}
+use mathlib.Core.Path.{◌≡◌}
+use mathlib.Core.List.{List, ◌∷◌}
 use native.Mathlib.Omega.{arith}
 use lib.ListN.{take, drop}
 use lib.Seq.{drop-drop}
-use Rattle·model.specs.Lists.{chunk}
-use Rattle·model.specs.Slot.{slotOf, kindOf}
-use Rattle·model.specs.declared.SlotKind.{SlotKind}
-use Rattle·model.specs.declared.SlotKind.the-variants.{Empty, Torn, Live, Dead, Cut, Wrong}
-use Rattle·judge.specs.Rows.{Pass, noRow, see, seeAll, kindsAt, slotsAt, Small}
+use Rattle.model.specs.Lists.{chunk}
+use Rattle.model.specs.Slot.{slot_of, kind_of}
+use Rattle.model.specs.declared.SlotKind.{SlotKind}
+use Rattle.model.specs.declared.SlotKind.TheVariants.{Empty, Torn, Live, Dead, Cut, Wrong}
+use Rattle.judge.specs.Rows.{Pass, noRow, see, seeAll, kindsAt, slotsAt, Small}
 
 pub none-small : Small noRow 0
 unfolding noRow
 none-small = record { live = omega arith; dead = omega arith; cut = omega arith }
 
-pub see-small : (k : SlotKind) (p : Pass) (i : ℕ) → Small (p .row) i → Small (see k p .row) (i + 1)
+pub see-small : (k : SlotKind) (p : Pass) (i : ℕ) → Small p.row i → Small (see k p).row (i + 1)
 unfolding see
 see-small Empty p i h = record { live = omega arith; dead = omega arith; cut = omega arith }
 see-small Torn p i h = record { live = omega arith; dead = omega arith; cut = omega arith }
@@ -24,14 +24,14 @@ see-small Dead p i h = record { live = omega arith; dead = omega arith; cut = om
 see-small Cut p i h = record { live = omega arith; dead = omega arith; cut = omega arith }
 see-small Wrong p i h = record { live = omega arith; dead = omega arith; cut = omega arith }
 
-pub kinds-next : (m : List ℕ) (o c : ℕ) → kindsAt m o (suc c) ≡ kindOf (slotOf (take 256 (drop o m))) ∷ kindsAt m (o + 256) c
+pub kinds-next : (m : List ℕ) (o c : ℕ) → kindsAt m o (suc c) ≡ kind_of (slot_of (take 256 (drop o m))) ∷ kindsAt m (o + 256) c
 unfolding kindsAt slotsAt chunk
 kinds-next m o c = rw (drop-drop 256 o m)
 
-pub row-next : (m : List ℕ) (at i slots : ℕ) (p : Pass) → i < slots
-    → seeAll (kindsAt m (at + i * 256) (slots - i)) p ≡ seeAll (kindsAt m (at + (i + 1) * 256) (slots - (i + 1))) (see (kindOf (slotOf (take 256 (drop (at + i * 256) m)))) p)
+pub row_next : (m : List ℕ) (at i slots : ℕ) (p : Pass) → i < slots
+    → seeAll (kindsAt m (at + i * 256) (slots - i)) p ≡ seeAll (kindsAt m (at + (i + 1) * 256) (slots - (i + 1))) (see (kind_of (slot_of (take 256 (drop (at + i * 256) m)))) p)
 unfolding seeAll
-row-next m at i slots p h =
+row_next m at i slots p h =
     let d : slots - i ≡ suc (slots - (i + 1)) = omega arith in
     let e : at + i * 256 + 256 ≡ at + (i + 1) * 256 = omega arith in
     rw (d, kinds-next m (at + i * 256) (slots - (i + 1)), e)

@@ -1,20 +1,20 @@
 -- `rows::behind` is the definition's. Assumes nothing.
 use mathlib.Core.Path.{sym}
-use Rattle·judge.specs.Endings.{behind}
-use Rattle·rows·proofs.proofs.Laws.Enums.{behind-other}
-use borrow.Author.Needs.{needs}
-use Rattle·rows·proofs.proofs.behind.Statement.{statement}
-use Rattle·rows·proofs.proofs.behind.Tie as tie
+use Rattle.judge.specs.Endings.{behind}
+use Rattle.rows.proofs.Laws.Enums.{behind-other}
+use borrow.Author.Rules.{rules}
+use Rattle.rows.proofs.behind.Statement.{statement}
+use Rattle.rows.proofs.behind.Tie as tie
 
-enum-told : tie.Need-enum-told
-enum-told c = search needs
+enum_told : tie.Need-enum-told
+enum_told c = search rules
 
 returns : tie.Need-returns
 unfolding behind
-returns c = rw (c .enum-told .given .1)
+returns c = rw c.enum_told.given.1
 
 returns-2 : tie.Need-returns-2
-returns-2 c = sym (behind-other (c .before .args .before) (c .before .args .then) (c .match .keys2))
+returns-2 c = sym (behind-other c.before.args.before c.before.args.then c.match.keys2)
 
 pub behind-spec : {M : Type 1} → statement M
-behind-spec = tie.close (tie.spec enum-told returns returns-2)
+behind-spec = tie.close (tie.spec enum_told returns returns-2)

@@ -1,45 +1,45 @@
 -- `scan::slot_place` is the place of the definition. Assumes nothing.
-use Prim.Native.Nat.{_+_, _*_, _%_, _≤_}
+use Prim.Native.Nat.{◌+◌, ◌*◌, ◌%◌, ◌≤◌}
 use native.Mathlib.Omega.{arith}
-use native.Mathlib.Nat.{mod-lt, mul-le-mul-right}
-use Rattle·model.specs.Chip.{mostSegments}
-use Rattle·model.specs.Steps.{slotAt}
-use borrow.Author.Needs.{needs}
-use Rattle·scan·proofs.proofs.slot_place.Statement.{statement}
-use Rattle·scan·proofs.proofs.slot_place.Tie as tie
+use native.Mathlib.Nat.{mod-lt, mul-le-mul_right}
+use Rattle.model.specs.Chip.{mostSegments}
+use Rattle.model.specs.Steps.{slot_at}
+use borrow.Author.Rules.{rules}
+use Rattle.scan.proofs.slot_place.Statement.{statement}
+use Rattle.scan.proofs.slot_place.Tie as tie
 
-rem-t5 : tie.Need-rem-t5
-rem-t5 c = search needs
+rem-t5 : tie.Need-nonzero-rem-t5
+rem-t5 c = search rules
 
-add-t6 : tie.Need-add-t6
-add-t6 c = search needs
+add-t6 : tie.Need-overflow-add-t6
+add-t6 c = search rules
 
-mul-t7 : tie.Need-mul-t7
+mul-t7 : tie.Need-overflow-mul-t7
 mul-t7 c =
-    let m = mod-lt (c .args .number) (c .pre .0) in
-    let a : c .args .number % c .args .segments * (c .args .slots + 1) ≤ mostSegments * (c .args .slots + 1) = mul-le-mul-right (c .args .slots + 1) (omega (arith, c .pre .1)) in
-    omega (arith, c .pre .2, c .pre .3)
+    let m = mod-lt c.args.number c.requires.0 in
+    let a : c.args.number % c.args.segments * (c.args.slots + 1) ≤ mostSegments * (c.args.slots + 1) = mul-le-mul_right (c.args.slots + 1) (omega (arith, c.requires.1)) in
+    omega (arith, c.requires.2, c.requires.3)
 
-add-t8 : tie.Need-add-t8
+add-t8 : tie.Need-overflow-add-t8
 add-t8 c =
-    let m = mod-lt (c .args .number) (c .pre .0) in
-    let a : c .args .number % c .args .segments * (c .args .slots + 1) ≤ mostSegments * (c .args .slots + 1) = mul-le-mul-right (c .args .slots + 1) (omega (arith, c .pre .1)) in
-    omega (arith, c .pre .2, c .pre .3)
+    let m = mod-lt c.args.number c.requires.0 in
+    let a : c.args.number % c.args.segments * (c.args.slots + 1) ≤ mostSegments * (c.args.slots + 1) = mul-le-mul_right (c.args.slots + 1) (omega (arith, c.requires.1)) in
+    omega (arith, c.requires.2, c.requires.3)
 
-add-t9 : tie.Need-add-t9
+add-t9 : tie.Need-overflow-add-t9
 add-t9 c =
-    let m = mod-lt (c .args .number) (c .pre .0) in
-    let a : c .args .number % c .args .segments * (c .args .slots + 1) ≤ mostSegments * (c .args .slots + 1) = mul-le-mul-right (c .args .slots + 1) (omega (arith, c .pre .1)) in
-    omega (arith, c .pre .2, c .pre .3)
+    let m = mod-lt c.args.number c.requires.0 in
+    let a : c.args.number % c.args.segments * (c.args.slots + 1) ≤ mostSegments * (c.args.slots + 1) = mul-le-mul_right (c.args.slots + 1) (omega (arith, c.requires.1)) in
+    omega (arith, c.requires.2, c.requires.3)
 
-mul-t10 : tie.Need-mul-t10
+mul-t10 : tie.Need-overflow-mul-t10
 mul-t10 c =
-    let m = mod-lt (c .args .number) (c .pre .0) in
-    let a : c .args .number % c .args .segments * (c .args .slots + 1) ≤ mostSegments * (c .args .slots + 1) = mul-le-mul-right (c .args .slots + 1) (omega (arith, c .pre .1)) in
-    omega (arith, c .pre .2, c .pre .3)
+    let m = mod-lt c.args.number c.requires.0 in
+    let a : c.args.number % c.args.segments * (c.args.slots + 1) ≤ mostSegments * (c.args.slots + 1) = mul-le-mul_right (c.args.slots + 1) (omega (arith, c.requires.1)) in
+    omega (arith, c.requires.2, c.requires.3)
 
 returns : tie.Need-returns
-unfolding slotAt
+unfolding slot_at
 returns c = omega arith
 
 pub slot-place-spec : {M : Type 1} → statement M

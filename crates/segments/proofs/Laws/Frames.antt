@@ -1,30 +1,30 @@
 -- The frame from its parts, and tables with a summary changed.
-use Prim.Native.Nat.{ℕ, _-_, _%_, _≤_, _<_}
-use mathlib.Core.Path.{_≡_, refl, sym, ap, ap₂, _∙_}
-use mathlib.Core.Logic.{_≢_}
-use mathlib.Core.Bool.{Bool, true, false, cond, _||_, _&&_, and-false, and-true, false≢true, true≢false}
+use Prim.Native.Nat.{ℕ, ◌-◌, ◌%◌, ◌≤◌, ◌<◌}
+use mathlib.Core.Path.{◌≡◌, refl, sym, ap, ap₂, ◌∙◌}
+use mathlib.Core.Logic.{◌≢◌}
+use mathlib.Core.Bool.{Bool, true, false, cond, ◌||◌, ◌&&◌, and-false, and-true, false≢true, true≢false}
 use mathlib.Core.List.{List, map}
 use native.Mathlib.Omega.{arith}
 use native.Mathlib.Nat.{mod-lt}
-use lib.ListN.{length, getD, take, set}
-use lib.Seq.{take-set-lt, set-getD, set-comm}
+use lib.ListN.{length, get_or, take, set}
+use lib.Seq.{take-set-lt, set-get_or, set_comm}
 use lib.Dec.{ltb}
 use borrow.Author.Tests.{le-leb, lt-leb, ltb-true, ltb-false}
-use Rattle·model.specs.State.{Segment, blank, invalid, inUse, isInvalid, isOwing, numberAfter, nextNumber, usedCount, firstNumber, someInUse, numbersFrom, consecutive, oneVersion, nextIndex, topIndex, nextBlanked, settled, topSettled}
-use Rattle·model.specs.Laws.Lists.{and-left, and-right, map-set, mod-inj}
-use Rattle·model.specs.Laws.Ring.{next-ge}
-use Rattle·judge.specs.declared.SegmentState.{SegmentState}
-use Rattle·judge.specs.declared.SegmentState.the-variants.{Blank, Invalid, InUse, Owing}
-use Rattle·judge.specs.declared.Summary.{Summary}
-use Rattle·judge.specs.declared.HeaderCounts.{HeaderCounts}
-use Rattle·judge.specs.declared.Frame.{Frame}
-use Rattle·judge.specs.declared.Headers.{Headers}
-use Rattle·judge.specs.Cases.{frame}
-use Rattle·judge.specs.Heads.{bareOf, bare, outline, heads, allSettled, countsOf, mayBeFine, frameOf, headsMended, headersBy, headersOf, outline-headers}
-use Rattle·segments·proofs.proofs.Laws.Tables.{heads-get}
+use Rattle.model.specs.State.{Segment, blank, invalid, inUse, isInvalid, isOwing, numberAfter, nextNumber, usedCount, firstNumber, someInUse, numbersFrom, consecutive, oneVersion, nextIndex, topIndex, nextBlanked, settled, topSettled}
+use Rattle.model.specs.Laws.Lists.{and_left, and_right, map-set, mod-inj}
+use Rattle.model.specs.Laws.Ring.{next-ge}
+use Rattle.judge.specs.declared.SegmentState.{SegmentState}
+use Rattle.judge.specs.declared.SegmentState.TheVariants.{Blank, Invalid, InUse, Owing}
+use Rattle.judge.specs.declared.Summary.{Summary}
+use Rattle.judge.specs.declared.HeaderCounts.{HeaderCounts}
+use Rattle.judge.specs.declared.Frame.{Frame}
+use Rattle.judge.specs.declared.Headers.{Headers}
+use Rattle.judge.specs.Cases.{frame}
+use Rattle.judge.specs.Heads.{bareOf, bare, outline, heads, allSettled, countsOf, mayBeFine, frame_of, headsMended, headersBy, headersOf, outline-headers}
+use Rattle.segments.proofs.Laws.Tables.{heads-get}
 
-pub counted-next : (l : List Segment) (c : HeaderCounts) → c ≡ countsOf l → c .next ≡ nextNumber l
-counted-next l c e = ap (λ (y : HeaderCounts). y .next) e ∙ (unfold countsOf in refl)
+pub counted_next : (l : List Segment) (c : HeaderCounts) → c ≡ countsOf l → c.next ≡ nextNumber l
+counted_next l c e = ap (λ (y : HeaderCounts). y.next) e ∙ (unfold countsOf in refl)
 
 module _ (N : ℕ) (l : List Segment) where
   frame-none : usedCount l ≡ 0 → frame N l ≡ false
@@ -39,45 +39,45 @@ module _ (N : ℕ) (l : List Segment) where
   unfolding frame someInUse consecutive allSettled
   frame-inside p h = rw (le-leb 1 (usedCount l) (omega arith), le-leb (usedCount l) (N - 1) (omega arith))
 
-  module _ (c : HeaderCounts) (e : c ≡ countsOf l) (f : ℕ) (q : f ≡ c .next - c .used) where
-    used-is : c .used ≡ usedCount l
-    used-is = ap (λ (y : HeaderCounts). y .used) e ∙ (unfold countsOf in refl)
+  module _ (c : HeaderCounts) (e : c ≡ countsOf l) (f : ℕ) (q : f ≡ c.next - c.used) where
+    used-is : c.used ≡ usedCount l
+    used-is = ap (λ (y : HeaderCounts). y.used) e ∙ (unfold countsOf in refl)
 
-    rest-is : ((c .«all_version_1» || c .«all_version_2») && c .settled) ≡ (oneVersion l && allSettled l)
-    rest-is = ap (λ (y : HeaderCounts). (y .«all_version_1» || y .«all_version_2») && y .settled) e ∙ (unfold countsOf oneVersion in refl)
+    rest-is : ((c.all_version_1 || c.all_version_2) && c.settled) ≡ (oneVersion l && allSettled l)
+    rest-is = ap (λ (y : HeaderCounts). (y.all_version_1 || y.all_version_2) && y.settled) e ∙ (unfold countsOf oneVersion in refl)
 
     first-is : f ≡ firstNumber l
-    first-is = q ∙ (ap (λ (y : HeaderCounts). y .next - y .used) e ∙ (unfold countsOf firstNumber in refl))
+    first-is = q ∙ (ap (λ (y : HeaderCounts). y.next - y.used) e ∙ (unfold countsOf firstNumber in refl))
 
-    frame-is : (t : Bool) → t ≡ frame N l → record { first = f; used = c .used; fine = t } ≡ frameOf N l
-    unfolding frameOf
-    frame-is t h = rw (← first-is, ← used-is, ← h)
+    frame_is : (t : Bool) → t ≡ frame N l → record { first = f; used = c.used; fine = t } ≡ frame_of N l
+    unfolding frame_of
+    frame_is t h = rw (← first-is, ← used-is, ← h)
 
     -- the test of the counts, and the numbers
-    pub frame-refused : 0 < N → mayBeFine N c ≡ false → record { first = f; used = c .used; fine = false } ≡ frameOf N l
+    pub frame_refused : 0 < N → mayBeFine N c ≡ false → record { first = f; used = c.used; fine = false } ≡ frame_of N l
     unfolding mayBeFine
-    frame-refused p h = frame-is false (sym (go (ltb 0 (c .used)) (ltb (c .used) N) ((c .«all_version_1» || c .«all_version_2») && c .settled) refl refl refl h))
+    frame_refused p h = frame_is false (sym (go (ltb 0 c.used) (ltb c.used N) ((c.all_version_1 || c.all_version_2) && c.settled) refl refl refl h))
       where
-        go : (a b t : Bool) → ltb 0 (c .used) ≡ a → ltb (c .used) N ≡ b → ((c .«all_version_1» || c .«all_version_2») && c .settled) ≡ t → (a && (b && t)) ≡ false → frame N l ≡ false
-        go false b t i j k z = frame-none (let e = ltb-false 0 (c .used) i in omega (arith, used-is))
-        go true false t i j k z = frame-many p (let e = ltb-false (c .used) N j in omega (arith, used-is))
+        go : (a b t : Bool) → ltb 0 c.used ≡ a → ltb c.used N ≡ b → ((c.all_version_1 || c.all_version_2) && c.settled) ≡ t → (a && (b && t)) ≡ false → frame N l ≡ false
+        go false b t i j k z = frame-none (let e = ltb-false 0 c.used i in omega (arith, used-is))
+        go true false t i j k z = frame-many p (let e = ltb-false c.used N j in omega (arith, used-is))
         go true true false i j k z =
-            let d = ltb-true 0 (c .used) i in
-            let e = ltb-true (c .used) N j in
+            let d = ltb-true 0 c.used i in
+            let e = ltb-true c.used N j in
             frame-inside (omega (arith, used-is)) (omega (arith, used-is)) ∙ rw (sym rest-is ∙ k) (and-false (numbersFrom N l (usedCount l) (firstNumber l)))
         go true true true i j k z = absurd (true≢false z)
 
-    pub frame-tested : mayBeFine N c ≡ true → (t : Bool) → t ≡ numbersFrom N l (c .used) f → record { first = f; used = c .used; fine = t } ≡ frameOf N l
+    pub frame-tested : mayBeFine N c ≡ true → (t : Bool) → t ≡ numbersFrom N l c.used f → record { first = f; used = c.used; fine = t } ≡ frame_of N l
     unfolding mayBeFine
     frame-tested h t w =
-        let a = ltb 0 (c .used) in
-        let b = ltb (c .used) N in
-        let o = (c .«all_version_1» || c .«all_version_2») && c .settled in
-        let i = ltb-true 0 (c .used) (and-left a (b && o) h) in
-        let r = and-right a (b && o) h in
-        let j = ltb-true (c .used) N (and-left b o r) in
-        let k : (oneVersion l && allSettled l) ≡ true = sym rest-is ∙ and-right b o r in
-        frame-is t (w ∙ (ap₂ (numbersFrom N l) used-is first-is ∙ sym (frame-inside (omega (arith, used-is)) (omega (arith, used-is)) ∙ rw k (and-true (numbersFrom N l (usedCount l) (firstNumber l))))))
+        let a = ltb 0 c.used in
+        let b = ltb c.used N in
+        let o = (c.all_version_1 || c.all_version_2) && c.settled in
+        let i = ltb-true 0 c.used (and_left a (b && o) h) in
+        let r = and_right a (b && o) h in
+        let j = ltb-true c.used N (and_left b o r) in
+        let k : (oneVersion l && allSettled l) ≡ true = sym rest-is ∙ and_right b o r in
+        frame_is t (w ∙ (ap₂ (numbersFrom N l) used-is first-is ∙ sym (frame-inside (omega (arith, used-is)) (omega (arith, used-is)) ∙ rw k (and-true (numbersFrom N l (usedCount l) (firstNumber l))))))
 
 -- ---- a summary changed
 
@@ -99,9 +99,9 @@ settled-other Invalid t n h = refl
 settled-other InUse t n h = refl
 settled-other Owing t n h = absurd (true≢false h)
 
-settled-same : (x : Summary) → isOwing (bare x) ≡ false → settled (bare x) ≡ bare x
+settled_same : (x : Summary) → isOwing (bare x) ≡ false → settled (bare x) ≡ bare x
 unfolding bare
-settled-same x h = sym (settled-other (x .state) (x .former) (x .number .0) h)
+settled_same x h = sym (settled-other x.state x.former x.number.0 h)
 
 -- the segment before a number is not the one at it
 apart : (N n : ℕ) → 2 ≤ N → 0 < n → (n - 1) % N ≢ n % N
@@ -121,21 +121,21 @@ module _ (N : ℕ) (table : List Summary) (d : Summary) (two : 2 ≤ N) (long : 
   some : 0 < N
   some = omega arith
 
-  pub top-get : getD h (topIndex N h) blank ≡ bare (getD table (top % N) d)
+  pub top-get : get_or h (topIndex N h) blank ≡ bare (get_or table (top % N) d)
   unfolding topIndex
   top-get = let k : nextNumber h - 1 ≡ top = omega arith in rw k (heads-get N (top % N) table d (mod-lt top some) (omega (arith, mod-lt top some)))
 
-  pub after-get : getD h (nextIndex N h) blank ≡ bare (getD table (next % N) d)
+  pub after-get : get_or h (nextIndex N h) blank ≡ bare (get_or table (next % N) d)
   unfolding nextIndex
   after-get = rw (← e) (heads-get N (next % N) table d (mod-lt next some) (omega (arith, mod-lt next some)))
 
-  pub mended-table : (v w : Summary) → bare v ≡ settled (bare (getD table (top % N) d))
-      → bare w ≡ cond (isOwing (bare (getD table (top % N) d)) || isInvalid (bare (getD table (next % N) d))) blank (bare (getD table (next % N) d))
+  pub mended-table : (v w : Summary) → bare v ≡ settled (bare (get_or table (top % N) d))
+      → bare w ≡ cond (isOwing (bare (get_or table (top % N) d)) || isInvalid (bare (get_or table (next % N) d))) blank (bare (get_or table (next % N) d))
       → heads N (set (set table (top % N) v) (next % N) w) ≡ headsMended N h
   mended-table v w p q =
       heads-set N (next % N) (set table (top % N) v) w (mod-lt next some)
       ∙ (ap₂ (λ (x : List Segment) (y : Segment). set x (next % N) y) (heads-set N (top % N) table v (mod-lt top some)) q
-      ∙ go (isOwing (bare (getD table (top % N) d))) (isInvalid (bare (getD table (next % N) d))) refl refl)
+      ∙ go (isOwing (bare (get_or table (top % N) d))) (isInvalid (bare (get_or table (next % N) d))) refl refl)
     where
       index : topIndex N h ≡ top % N
       index = unfold topIndex in (let k : nextNumber h - 1 ≡ top = omega arith in rw k)
@@ -147,37 +147,37 @@ module _ (N : ℕ) (table : List Summary) (d : Summary) (two : 2 ≤ N) (long : 
       blanked = unfold nextBlanked in rw after
 
       -- the top stays where it is not owing
-      same : isOwing (bare (getD table (top % N) d)) ≡ false → set h (top % N) (bare v) ≡ h
+      same : isOwing (bare (get_or table (top % N) d)) ≡ false → set h (top % N) (bare v) ≡ h
       same o =
-          let b : bare v ≡ getD h (top % N) blank = p ∙ (settled-same (getD table (top % N) d) o ∙ (sym top-get ∙ ap (λ (k : ℕ). getD h k blank) index)) in
-          ap (λ (y : Segment). set h (top % N) y) b ∙ set-getD h (top % N) blank
+          let b : bare v ≡ get_or h (top % N) blank = p ∙ (settled_same (get_or table (top % N) d) o ∙ (sym top-get ∙ ap (λ (k : ℕ). get_or h k blank) index)) in
+          ap (λ (y : Segment). set h (top % N) y) b ∙ set-get_or h (top % N) blank
 
-      go : (o i : Bool) → isOwing (bare (getD table (top % N) d)) ≡ o → isInvalid (bare (getD table (next % N) d)) ≡ i
-          → set (set h (top % N) (bare v)) (next % N) (cond (o || i) blank (bare (getD table (next % N) d))) ≡ headsMended N h
+      go : (o i : Bool) → isOwing (bare (get_or table (top % N) d)) ≡ o → isInvalid (bare (get_or table (next % N) d)) ≡ i
+          → set (set h (top % N) (bare v)) (next % N) (cond (o || i) blank (bare (get_or table (next % N) d))) ≡ headsMended N h
       go true i a b =
-          let n : 0 < next = omega (arith, owing-some (getD h (topIndex N h) blank) (ap isOwing top-get ∙ a), next-ge h (topIndex N h)) in
+          let n : 0 < next = omega (arith, owing-some (get_or h (topIndex N h) blank) (ap isOwing top-get ∙ a), next-ge h (topIndex N h)) in
           let f : top % N ≢ next % N = (λ z. apart N next two n (ap (λ (k : ℕ). k % N) (sym t) ∙ z)) in
-          set-comm h (top % N) (next % N) (bare v) blank f
+          set_comm h (top % N) (next % N) (bare v) blank f
           ∙ (ap₂ (λ (x : List Segment) (y : Segment). set x (top % N) y) (sym blanked) (p ∙ ap settled (sym top-get))
           ∙ (unfold headsMended topSettled in rw (ap isOwing top-get ∙ a, index)))
       go false true a b = ap (λ (x : List Segment). set x (next % N) blank) (same a) ∙ (sym blanked ∙ (unfold headsMended in rw (ap isOwing top-get ∙ a, ap isInvalid after-get ∙ b)))
       go false false a b =
-          ap₂ (λ (x : List Segment) (y : Segment). set x (next % N) y) (same a) (sym after-get ∙ ap (λ (k : ℕ). getD h k blank) after)
-          ∙ (set-getD h (next % N) blank ∙ (unfold headsMended in rw (ap isOwing top-get ∙ a, ap isInvalid after-get ∙ b)))
+          ap₂ (λ (x : List Segment) (y : Segment). set x (next % N) y) (same a) (sym after-get ∙ ap (λ (k : ℕ). get_or h k blank) after)
+          ∙ (set-get_or h (next % N) blank ∙ (unfold headsMended in rw (ap isOwing top-get ∙ a, ap isInvalid after-get ∙ b)))
 
   -- all that the headers tell, once the table is mended
-  pub headers-found : (l : List Segment) (v w : Summary) (f : Frame) → h ≡ map outline l → bare v ≡ settled (bare (getD table (top % N) d))
-      → bare w ≡ cond (isOwing (bare (getD table (top % N) d)) || isInvalid (bare (getD table (next % N) d))) blank (bare (getD table (next % N) d))
-      → f ≡ frameOf N (heads N (set (set table (top % N) v) (next % N) w)) → headersBy next (bare (getD table (top % N) d)) (bare (getD table (next % N) d)) f ≡ headersOf N l
+  pub headers-found : (l : List Segment) (v w : Summary) (f : Frame) → h ≡ map outline l → bare v ≡ settled (bare (get_or table (top % N) d))
+      → bare w ≡ cond (isOwing (bare (get_or table (top % N) d)) || isInvalid (bare (get_or table (next % N) d))) blank (bare (get_or table (next % N) d))
+      → f ≡ frame_of N (heads N (set (set table (top % N) v) (next % N) w)) → headersBy next (bare (get_or table (top % N) d)) (bare (get_or table (next % N) d)) f ≡ headersOf N l
   headers-found l v w f shown p q r = found ∙ (ap (headersOf N) shown ∙ outline-headers N l)
     where
-      found : headersBy next (bare (getD table (top % N) d)) (bare (getD table (next % N) d)) f ≡ headersOf N h
-      found = unfold headersOf in rw (top-get, after-get, ← e) (ap (headersBy next (bare (getD table (top % N) d)) (bare (getD table (next % N) d))) (r ∙ ap (frameOf N) (mended-table v w p q)))
+      found : headersBy next (bare (get_or table (top % N) d)) (bare (get_or table (next % N) d)) f ≡ headersOf N h
+      found = unfold headersOf in rw (top-get, after-get, ← e) (ap (headersBy next (bare (get_or table (top % N) d)) (bare (get_or table (next % N) d))) (r ∙ ap (frame_of N) (mended-table v w p q)))
 
 -- the number and the frame that are told
 module _ (next : ℕ) (x y : Segment) (f : Frame) (r : Headers) (e : r ≡ headersBy next x y f) where
-  pub told-next : r .next ≡ next
-  told-next = ap (λ (z : Headers). z .next) e ∙ (unfold headersBy in refl)
+  pub told-next : r.next ≡ next
+  told-next = ap (λ (z : Headers). z.next) e ∙ (unfold headersBy in refl)
 
-  pub told-frame : r .frame ≡ f
-  told-frame = ap (λ (z : Headers). z .frame) e ∙ (unfold headersBy in refl)
+  pub told-frame : r.frame ≡ f
+  told-frame = ap (λ (z : Headers). z.frame) e ∙ (unfold headersBy in refl)

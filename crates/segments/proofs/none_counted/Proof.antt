@@ -1,8 +1,8 @@
 -- `segments::none_counted` is what the definition begins with. Assumes nothing.
 use mathlib.Core.Path.{refl}
-use Rattle·judge.specs.Heads.{noCounts}
-use Rattle·segments·proofs.proofs.none_counted.Statement.{statement}
-use Rattle·segments·proofs.proofs.none_counted.Tie as tie
+use Rattle.judge.specs.Heads.{noCounts}
+use Rattle.segments.proofs.none_counted.Statement.{statement}
+use Rattle.segments.proofs.none_counted.Tie as tie
 
 returns : tie.Need-returns
 unfolding noCounts

@@ -1,36 +1,36 @@
 -- `settings_list::partition_line`: its parts, one after the other. Assumes nothing.
 use native.Mathlib.Omega.{arith}
-use Rattle·text.specs.Text.{text}
-use Rattle·qbx_lines.proofs.Laws.Lines.{more}
-use Rattle·settings_list·specs.specs.BoardList.{partitionLine}
-use borrow.Author.Needs.{needs}
-use Rattle·settings_list·proofs.proofs.partition_line.Statement.{statement}
-use Rattle·settings_list·proofs.proofs.partition_line.Tie as tie
+use Rattle.text.specs.Text.{text}
+use Rattle.qbx_lines.proofs.Laws.Lines.{more}
+use Rattle.settings_list.specs.BoardList.{partitionLine}
+use borrow.Author.Rules.{rules}
+use Rattle.settings_list.proofs.partition_line.Statement.{statement}
+use Rattle.settings_list.proofs.partition_line.Tie as tie
 
 empty-requires : tie.Need-empty-requires
-empty-requires c κs = search needs
+empty-requires c κs = search rules
 
 slice-aggregate-add-count : tie.Need-slice-aggregate-add-count
-slice-aggregate-add-count c = search needs
+slice-aggregate-add-count c = search rules
 
 add-count-requires : tie.Need-add-count-requires
-add-count-requires c κs = search needs
+add-count-requires c κs = search rules
 
 slice-aggregate-add-count-2 : tie.Need-slice-aggregate-add-count-2
-slice-aggregate-add-count-2 c = search needs
+slice-aggregate-add-count-2 c = search rules
 
 add-count-requires-2 : tie.Need-add-count-requires-2
-add-count-requires-2 c κs = search needs
+add-count-requires-2 c κs = search rules
 
 slice-aggregate-add : tie.Need-slice-aggregate-add
-slice-aggregate-add c = search needs
+slice-aggregate-add c = search rules
 
 add-requires : tie.Need-add-requires
-add-requires c κs = search needs
+add-requires c κs = search rules
 
 returns : tie.Need-returns
 unfolding text partitionLine
-returns c = (more (c .add .ensures) (more (c .before .before .add-count2 .ensures .0) (more (c .before .before .before .before .add-count .ensures .0) (c .before .before .before .before .before .before .empty .ensures .0))), omega arith)
+returns c = (more c.add.ensures (more c.before.before.add-count2.ensures.0 (more c.before.before.before.before.add-count.ensures.0 c.before.before.before.before.before.before.empty.ensures.0)), omega arith)
 
 pub partition-line-spec : {M : Type 1} → statement M
 partition-line-spec =

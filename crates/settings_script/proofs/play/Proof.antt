@@ -2,30 +2,30 @@
 use mathlib.Core.Path.{sym}
 use native.Mathlib.Omega.{arith}
 use lib.Seq.{length-take-le}
-use borrow.Author.Needs.{needs}
-use Rattle·settings_script·proofs.proofs.play.Statement.{statement}
-use Rattle·settings_script·proofs.proofs.play.Tie as tie
+use borrow.Author.Rules.{rules}
+use Rattle.settings_script.proofs.play.Statement.{statement}
+use Rattle.settings_script.proofs.play.Tie as tie
 
 large-buffer-requires : tie.Need-large-buffer-requires
-large-buffer-requires c κs = search needs
+large-buffer-requires c κs = search rules
 
 slice-aggregate-fill : tie.Need-slice-aggregate-fill
-slice-aggregate-fill c = search needs
+slice-aggregate-fill c = search rules
 
 fill-requires : tie.Need-fill-requires
-fill-requires c κs = search needs
+fill-requires c κs = search rules
 
 array-share-prefix-script : tie.Need-array-share-prefix-script
-array-share-prefix-script c = search needs
+array-share-prefix-script c = search rules
 
 slice-aggregate-play-lines : tie.Need-slice-aggregate-play-lines
 slice-aggregate-play-lines c = sym (length-take-le _ _ (omega arith))
 
 play-lines-requires : tie.Need-play-lines-requires
-play-lines-requires c κs = search needs
+play-lines-requires c κs = search rules
 
 returns : tie.Need-returns
-returns c = search needs
+returns c = search rules
 
 pub play-spec : {M : Type 1} → statement M
 play-spec =

@@ -1,55 +1,55 @@
 -- `settings_script::play_lines`. The invariant: each line begins within the script. Assumes nothing.
-use Prim.Native.Nat.{_-_, _≤_}
+use Prim.Native.Nat.{◌-◌, ◌≤◌}
 use lib.ListN.{length}
-use borrow.Author.Needs.{needs}
-use Rattle·settings_script·proofs.proofs.play_lines.Statement.{statement}
-use Rattle·settings_script·proofs.proofs.play_lines.Tie as tie
+use borrow.Author.Rules.{rules}
+use Rattle.settings_script.proofs.play_lines.Statement.{statement}
+use Rattle.settings_script.proofs.play_lines.Tie as tie
 
-abbrev Inv-loop : tie.InvT-loop
-Inv-loop script at₀ at = at ≤ length script
+abbrev invariant-loop : tie.invariant-loop
+invariant-loop script at₀ at = at ≤ length script
 
-abbrev μ-loop : tie.MeasureT-loop
-μ-loop script at₀ at = length script - at
+abbrev decreases-loop : tie.decreases-loop
+decreases-loop script at₀ at = length script - at
 
-loop-holds : tie.Need-loop-holds Inv-loop μ-loop
-loop-holds c = search needs
+loop-holds : tie.Need-loop-init invariant-loop decreases-loop
+loop-holds c = search rules
 
-find-requires : tie.Need-find-requires Inv-loop μ-loop
-find-requires c κs = search needs
+find-requires : tie.Need-find-requires invariant-loop decreases-loop
+find-requires c κs = search rules
 
-sub-step : tie.Need-sub-step Inv-loop μ-loop
-sub-step c = search needs
+sub-step : tie.Need-overflow-sub-step invariant-loop decreases-loop
+sub-step c = search rules
 
-part-step-start : tie.Need-part-step-start Inv-loop μ-loop
-part-step-start c = search needs
+part-step-start : tie.Need-slice-bounds-step-start invariant-loop decreases-loop
+part-step-start c = search rules
 
-part-step-end : tie.Need-part-step-end Inv-loop μ-loop
-part-step-end c = search needs
+part-step-end : tie.Need-slice-bounds-step-end invariant-loop decreases-loop
+part-step-end c = search rules
 
-step-requires : tie.Need-step-requires Inv-loop μ-loop
-step-requires c κs = search needs
+step-requires : tie.Need-step-requires invariant-loop decreases-loop
+step-requires c κs = search rules
 
-returns : tie.Need-returns Inv-loop μ-loop
-returns c = search needs
+returns : tie.Need-returns invariant-loop decreases-loop
+returns c = search rules
 
-add-at : tie.Need-add-at Inv-loop μ-loop
-add-at c = search needs
+add_at : tie.Need-overflow-add-at invariant-loop decreases-loop
+add_at c = search rules
 
-loop-less : tie.Need-loop-less Inv-loop μ-loop
-loop-less c = search needs
+loop-less : tie.Need-loop-smaller invariant-loop decreases-loop
+loop-less c = search rules
 
-loop-again : tie.Need-loop-again Inv-loop μ-loop
-loop-again c = search needs
+loop-again : tie.Need-loop-preserved invariant-loop decreases-loop
+loop-again c = search rules
 
-returns-2 : tie.Need-returns-2 Inv-loop μ-loop
-returns-2 c = search needs
+returns-2 : tie.Need-returns-2 invariant-loop decreases-loop
+returns-2 c = search rules
 
 pub play-lines-spec : {M : Type 1} → statement M
 play-lines-spec =
     tie.close
     (tie.spec
-    Inv-loop
-    μ-loop
+    invariant-loop
+    decreases-loop
     loop-holds
     find-requires
     sub-step
@@ -57,7 +57,7 @@ play-lines-spec =
     part-step-end
     step-requires
     returns
-    add-at
+    add_at
     loop-less
     loop-again
     returns-2)

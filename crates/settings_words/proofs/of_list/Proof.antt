@@ -1,24 +1,24 @@
 -- `settings_words::of_list`: no item, and nothing behind it. Assumes nothing.
-use mathlib.Core.Path.{sym, _∙_}
+use mathlib.Core.Path.{sym, ◌∙◌}
 use borrow.Author.Tests.{not-true, not-false}
-use Rattle·settings_words·specs.specs.Command.{ofList}
-use borrow.Author.Needs.{needs}
-use Rattle·settings_words·proofs.proofs.of_list.Statement.{statement}
-use Rattle·settings_words·proofs.proofs.of_list.Tie as tie
+use Rattle.settings_words.specs.Command.{of_list}
+use borrow.Author.Rules.{rules}
+use Rattle.settings_words.proofs.of_list.Statement.{statement}
+use Rattle.settings_words.proofs.of_list.Tie as tie
 
 is-missing-requires : tie.Need-is-missing-requires
-is-missing-requires c κs = search needs
+is-missing-requires c κs = search rules
 
 returns : tie.Need-returns
-unfolding ofList
-returns c = rw (sym (c .before .is-missing .ensures) ∙ not-true _ (c .if1 .taken))
+unfolding of_list
+returns c = rw (sym c.before.is-missing.ensures ∙ not-true _ c.if1.true)
 
 with-budget-requires : tie.Need-with-budget-requires
-with-budget-requires c κs = search needs
+with-budget-requires c κs = search rules
 
 returns-2 : tie.Need-returns-2
-unfolding ofList
-returns-2 c = rw (sym (c .before .before .is-missing .ensures) ∙ not-false _ (c .before .if1 .left)) (c .with-budget .ensures)
+unfolding of_list
+returns-2 c = rw (sym c.before.before.is-missing.ensures ∙ not-false _ c.before.if1.false) c.with-budget.ensures
 
 pub of-list-spec : {M : Type 1} → statement M
 of-list-spec = tie.close (tie.spec is-missing-requires returns with-budget-requires returns-2)

@@ -1,29 +1,29 @@
 -- `settings_words::writes` is the definition. Assumes nothing.
-use Rattle·settings_words·specs.specs.Command.{writes}
-use borrow.Author.Needs.{needs}
-use Rattle·settings_words·proofs.proofs.writes.Statement.{statement}
-use Rattle·settings_words·proofs.proofs.writes.Tie as tie
+use Rattle.settings_words.specs.Command.{writes}
+use borrow.Author.Rules.{rules}
+use Rattle.settings_words.proofs.writes.Statement.{statement}
+use Rattle.settings_words.proofs.writes.Tie as tie
 
-enum-told : tie.Need-enum-told
-enum-told c = search needs
+enum_told : tie.Need-enum-told
+enum_told c = search rules
 
 enum-told-2 : tie.Need-enum-told-2
-enum-told-2 c = search needs
+enum-told-2 c = search rules
 
 enum-told-3 : tie.Need-enum-told-3
-enum-told-3 c = search needs
+enum-told-3 c = search rules
 
 returns : tie.Need-returns
 unfolding writes
-returns c = rw (c .enum-told .given .1)
+returns c = rw c.enum_told.given.1
 
 returns-2 : tie.Need-returns-2
 unfolding writes
-returns-2 c = rw (c .enum-told2 .given .1)
+returns-2 c = rw c.enum-told2.given.1
 
 returns-3 : tie.Need-returns-3
 unfolding writes
-returns-3 c = rw (c .enum-told3 .given .1)
+returns-3 c = rw c.enum-told3.given.1
 
 pub writes-spec : {M : Type 1} → statement M
-writes-spec = tie.close (tie.spec enum-told enum-told-2 enum-told-3 returns returns-2 returns-3)
+writes-spec = tie.close (tie.spec enum_told enum-told-2 enum-told-3 returns returns-2 returns-3)

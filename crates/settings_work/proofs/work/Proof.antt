@@ -2,51 +2,51 @@
 use mathlib.Core.Path.{sym}
 use native.Mathlib.Omega.{arith}
 use lib.Seq.{length-take-le}
-use borrow.Author.Needs.{needs}
-use Rattle·settings_work·proofs.proofs.work.Statement.{statement}
-use Rattle·settings_work·proofs.proofs.work.Tie as tie
+use borrow.Author.Rules.{rules}
+use Rattle.settings_work.proofs.work.Statement.{statement}
+use Rattle.settings_work.proofs.work.Tie as tie
 
 present-requires : tie.Need-present-requires
-present-requires c κs = search needs
+present-requires c κs = search rules
 
 slice-aggregate-fail : tie.Need-slice-aggregate-fail
-slice-aggregate-fail c = search needs
+slice-aggregate-fail c = search rules
 
 fail-requires : tie.Need-fail-requires
-fail-requires c κs = search needs
+fail-requires c κs = search rules
 
-same-length : tie.Need-same-length
-same-length c = search needs
+same_length : tie.Need-same-length
+same_length c = search rules
 
 returns : tie.Need-returns
-returns c = search needs
+returns c = search rules
 
 slice-aggregate-write-all : tie.Need-slice-aggregate-write-all
-slice-aggregate-write-all c = search needs
+slice-aggregate-write-all c = search rules
 
 write-all-requires : tie.Need-write-all-requires
-write-all-requires c κs = search needs
+write-all-requires c κs = search rules
 
 same-length-2 : tie.Need-same-length-2
-same-length-2 c = search needs
+same-length-2 c = search rules
 
 returns-2 : tie.Need-returns-2
-returns-2 c = search needs
+returns-2 c = search rules
 
 slice-relend-prefix-act : tie.Need-slice-relend-prefix-act
-slice-relend-prefix-act c = search needs
+slice-relend-prefix-act c = search rules
 
 slice-aggregate-act : tie.Need-slice-aggregate-act
 slice-aggregate-act c = sym (length-take-le _ _ (omega arith))
 
 act-requires : tie.Need-act-requires
-act-requires c κs = search needs
+act-requires c κs = search rules
 
 same-length-3 : tie.Need-same-length-3
-same-length-3 c = search needs
+same-length-3 c = search rules
 
 returns-3 : tie.Need-returns-3
-returns-3 c = search needs
+returns-3 c = search rules
 
 pub work-spec : {M : Type 1} → statement M
 work-spec =
@@ -55,7 +55,7 @@ work-spec =
     present-requires
     slice-aggregate-fail
     fail-requires
-    same-length
+    same_length
     returns
     slice-aggregate-write-all
     write-all-requires

@@ -1,60 +1,59 @@
 -- `share_list::all_apart`. The invariant: whether all ranges are disjoint is whether those left are. Assumes nothing.
-use Prim.Native.Nat.{_-_}
-use mathlib.Core.Path.{_≡_, refl, sym, ap, _∙_}
-use denote.Ref.{now}
+use Prim.Native.Nat.{◌-◌}
+use mathlib.Core.Path.{◌≡◌, refl, sym, ap, ◌∙◌}
 use lib.ListN.{length}
-use borrow.Author.Needs.{needs}
+use borrow.Author.Rules.{rules}
 use borrow.Author.Tests.{not-true, not-false}
-use Rattle·shares.specs.Shares.{sharesOf, disjoint}
-use Rattle·share_list·specs.specs.Places.{Stands, sharesFrom}
-use Rattle·share_list·proofs.proofs.Laws.{shares-end, stands-next, disjoint-next, goes-on, stops}
-use Rattle·share_list·proofs.proofs.all_apart.Statement.{statement}
-use Rattle·share_list·proofs.proofs.all_apart.Tie as tie
+use Rattle.shares.specs.Shares.{shares_of, disjoint}
+use Rattle.share_list.specs.Places.{Stands, sharesFrom}
+use Rattle.share_list.proofs.Laws.{shares-end, stands-next, disjoint-next, goes_on, stops}
+use Rattle.share_list.proofs.all_apart.Statement.{statement}
+use Rattle.share_list.proofs.all_apart.Tie as tie
 
-abbrev Inv-loop : tie.InvT-loop
-Inv-loop shares at₀ at = Stands shares at × (disjoint (sharesOf shares) ≡ disjoint (sharesFrom shares at))
+abbrev invariant-loop : tie.invariant-loop
+invariant-loop shares at₀ at = Stands shares at × (disjoint (shares_of shares) ≡ disjoint (sharesFrom shares at))
 
-abbrev μ-loop : tie.MeasureT-loop
-μ-loop shares at₀ at = length shares - at
+abbrev decreases-loop : tie.decreases-loop
+decreases-loop shares at₀ at = length shares - at
 
-loop-holds : tie.Need-loop-holds Inv-loop μ-loop
-loop-holds c = (c .before .pre, refl)
+loop-holds : tie.Need-loop-init invariant-loop decreases-loop
+loop-holds c = (c.before.requires, refl)
 
-apart-requires : tie.Need-apart-requires Inv-loop μ-loop
-apart-requires c κs = (c .before .loop .inv .0, c .loop-test .taken)
+apart-requires : tie.Need-apart-requires invariant-loop decreases-loop
+apart-requires c κs = (c.before.loop.invariant.0, c.loop-test.true)
 
-returns : tie.Need-returns Inv-loop μ-loop
+returns : tie.Need-returns invariant-loop decreases-loop
 returns c =
-    let l = c .before .before .before in
-    stops _ _ (l .loop .inv .1 ∙ disjoint-next (now (l .before .before .args .shares)) (l .loop .at) (l .loop .inv .0) (c .before .before .loop-test .taken)) (sym (c .before .apart .ensures) ∙ not-true _ (c .if1 .taken))
+    let l = c.before.before.before in
+    stops _ _ (l.loop.invariant.1 ∙ disjoint-next l.before.before.args.shares.now l.loop.at l.loop.invariant.0 c.before.before.loop-test.true) (sym c.before.apart.ensures ∙ not-true _ c.if1.true)
 
-add-at : tie.Need-add-at Inv-loop μ-loop
-add-at c = search needs
+add_at : tie.Need-overflow-add-at invariant-loop decreases-loop
+add_at c = search rules
 
-loop-less : tie.Need-loop-less Inv-loop μ-loop
-loop-less c = search needs
+loop-less : tie.Need-loop-smaller invariant-loop decreases-loop
+loop-less c = search rules
 
-loop-again : tie.Need-loop-again Inv-loop μ-loop
+loop-again : tie.Need-loop-preserved invariant-loop decreases-loop
 loop-again c =
-    let l = c .before .before .before in
-    let ns = now (l .before .before .args .shares) in
-    let here = c .before .before .loop-test .taken in
-    (stands-next ns (l .loop .at) (l .loop .inv .0) here, goes-on _ _ (l .loop .inv .1 ∙ disjoint-next ns (l .loop .at) (l .loop .inv .0) here) (sym (c .before .apart .ensures) ∙ not-false _ (c .if1 .left)))
+    let l = c.before.before.before in
+    let ns = l.before.before.args.shares.now in
+    let here = c.before.before.loop-test.true in
+    (stands-next ns l.loop.at l.loop.invariant.0 here, goes_on _ _ (l.loop.invariant.1 ∙ disjoint-next ns l.loop.at l.loop.invariant.0 here) (sym c.before.apart.ensures ∙ not-false _ c.if1.false))
 
-returns-2 : tie.Need-returns-2 Inv-loop μ-loop
+returns-2 : tie.Need-returns-2 invariant-loop decreases-loop
 unfolding disjoint
-returns-2 c = let l = c .before .loop in sym (l .inv .1 ∙ ap disjoint (shares-end _ (l .at) (l .inv .0) (c .loop-test .left)))
+returns-2 c = let l = c.before.loop in sym (l.invariant.1 ∙ ap disjoint (shares-end _ l.at l.invariant.0 c.loop-test.false))
 
 pub all-apart-spec : {M : Type 1} → statement M
 all-apart-spec =
     tie.close
     (tie.spec
-    Inv-loop
-    μ-loop
+    invariant-loop
+    decreases-loop
     loop-holds
     apart-requires
     returns
-    add-at
+    add_at
     loop-less
     loop-again
     returns-2)

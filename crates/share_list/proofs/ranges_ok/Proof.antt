@@ -1,75 +1,74 @@
 -- `share_list::ranges_ok`. The invariant: whether all ranges are right is whether those left are. Assumes nothing.
-use Prim.Native.Nat.{_-_}
-use mathlib.Core.Path.{_≡_, refl, sym, ap, _∙_}
-use denote.Ref.{now}
+use Prim.Native.Nat.{◌-◌}
+use mathlib.Core.Path.{◌≡◌, refl, sym, ap, ◌∙◌}
 use lib.ListN.{length}
-use borrow.Author.Needs.{needs}
+use borrow.Author.Rules.{rules}
 use borrow.Author.Tests.{not-true, not-false}
-use Rattle·model.specs.Lists.{all}
-use Rattle·shares.specs.Shares.{sharesOf, rangeOk}
-use Rattle·share_list·specs.specs.Places.{Stands, sharesFrom}
-use Rattle·share_list·proofs.proofs.Laws.{shares-end, stands-next, all-next, goes-on, stops}
-use Rattle·share_list·proofs.proofs.ranges_ok.Statement.{statement}
-use Rattle·share_list·proofs.proofs.ranges_ok.Tie as tie
+use Rattle.model.specs.Lists.{all}
+use Rattle.shares.specs.Shares.{shares_of, rangeOk}
+use Rattle.share_list.specs.Places.{Stands, sharesFrom}
+use Rattle.share_list.proofs.Laws.{shares-end, stands-next, all-next, goes_on, stops}
+use Rattle.share_list.proofs.ranges_ok.Statement.{statement}
+use Rattle.share_list.proofs.ranges_ok.Tie as tie
 
-abbrev Inv-loop : tie.InvT-loop
-Inv-loop shares at₀ at = Stands shares at × (all rangeOk (sharesOf shares) ≡ all rangeOk (sharesFrom shares at))
+abbrev invariant-loop : tie.invariant-loop
+invariant-loop shares at₀ at = Stands shares at × (all rangeOk (shares_of shares) ≡ all rangeOk (sharesFrom shares at))
 
-abbrev μ-loop : tie.MeasureT-loop
-μ-loop shares at₀ at = length shares - at
+abbrev decreases-loop : tie.decreases-loop
+decreases-loop shares at₀ at = length shares - at
 
-loop-holds : tie.Need-loop-holds Inv-loop μ-loop
-loop-holds c = (c .before .pre, refl)
+loop-holds : tie.Need-loop-init invariant-loop decreases-loop
+loop-holds c = (c.before.requires, refl)
 
-mul-range-ok : tie.Need-mul-range-ok Inv-loop μ-loop
-mul-range-ok c = search needs
+mul-range-ok : tie.Need-overflow-mul-range-ok invariant-loop decreases-loop
+mul-range-ok c = search rules
 
-shared-slice-read-range-ok : tie.Need-shared-slice-read-range-ok Inv-loop μ-loop
-shared-slice-read-range-ok c = search needs
+shared-slice-read-range-ok : tie.Need-shared-slice-read-range-ok invariant-loop decreases-loop
+shared-slice-read-range-ok c = search rules
 
-add-range-ok : tie.Need-add-range-ok Inv-loop μ-loop
-add-range-ok c = search needs
+add-range-ok : tie.Need-overflow-add-range-ok invariant-loop decreases-loop
+add-range-ok c = search rules
 
-mul-range-ok-2 : tie.Need-mul-range-ok-2 Inv-loop μ-loop
-mul-range-ok-2 c = search needs
+mul-range-ok-2 : tie.Need-overflow-mul-range-ok-2 invariant-loop decreases-loop
+mul-range-ok-2 c = search rules
 
-shared-slice-read-range-ok-2 : tie.Need-shared-slice-read-range-ok-2 Inv-loop μ-loop
-shared-slice-read-range-ok-2 c = search needs
+shared-slice-read-range-ok-2 : tie.Need-shared-slice-read-range-ok-2 invariant-loop decreases-loop
+shared-slice-read-range-ok-2 c = search rules
 
-range-ok-requires : tie.Need-range-ok-requires Inv-loop μ-loop
-range-ok-requires c κs = search needs
+range-ok-requires : tie.Need-range-ok-requires invariant-loop decreases-loop
+range-ok-requires c κs = search rules
 
-returns : tie.Need-returns Inv-loop μ-loop
+returns : tie.Need-returns invariant-loop decreases-loop
 unfolding rangeOk
 returns c =
-    let l = c .before .before .before .before .before in
-    let ns = now (l .before .before .args .shares) in
-    stops _ _ (l .loop .inv .1 ∙ all-next ns (l .loop .at) (l .loop .inv .0) (c .before .before .before .before .loop-test .taken) rangeOk) (sym (c .before .range-ok .ensures) ∙ not-true _ (c .if1 .taken))
+    let l = c.before.before.before.before.before in
+    let ns = l.before.before.args.shares.now in
+    stops _ _ (l.loop.invariant.1 ∙ all-next ns l.loop.at l.loop.invariant.0 c.before.before.before.before.loop-test.true rangeOk) (sym c.before.range-ok.ensures ∙ not-true _ c.if1.true)
 
-add-at : tie.Need-add-at Inv-loop μ-loop
-add-at c = search needs
+add_at : tie.Need-overflow-add-at invariant-loop decreases-loop
+add_at c = search rules
 
-loop-less : tie.Need-loop-less Inv-loop μ-loop
-loop-less c = search needs
+loop-less : tie.Need-loop-smaller invariant-loop decreases-loop
+loop-less c = search rules
 
-loop-again : tie.Need-loop-again Inv-loop μ-loop
+loop-again : tie.Need-loop-preserved invariant-loop decreases-loop
 unfolding rangeOk
 loop-again c =
-    let l = c .before .before .before .before .before in
-    let ns = now (l .before .before .args .shares) in
-    let here = c .before .before .before .before .loop-test .taken in
-    (stands-next ns (l .loop .at) (l .loop .inv .0) here, goes-on _ _ (l .loop .inv .1 ∙ all-next ns (l .loop .at) (l .loop .inv .0) here rangeOk) (sym (c .before .range-ok .ensures) ∙ not-false _ (c .if1 .left)))
+    let l = c.before.before.before.before.before in
+    let ns = l.before.before.args.shares.now in
+    let here = c.before.before.before.before.loop-test.true in
+    (stands-next ns l.loop.at l.loop.invariant.0 here, goes_on _ _ (l.loop.invariant.1 ∙ all-next ns l.loop.at l.loop.invariant.0 here rangeOk) (sym c.before.range-ok.ensures ∙ not-false _ c.if1.false))
 
-returns-2 : tie.Need-returns-2 Inv-loop μ-loop
+returns-2 : tie.Need-returns-2 invariant-loop decreases-loop
 unfolding all
-returns-2 c = let l = c .before .loop in sym (l .inv .1 ∙ ap (all rangeOk) (shares-end _ (l .at) (l .inv .0) (c .loop-test .left)))
+returns-2 c = let l = c.before.loop in sym (l.invariant.1 ∙ ap (all rangeOk) (shares-end _ l.at l.invariant.0 c.loop-test.false))
 
 pub ranges-ok-spec : {M : Type 1} → statement M
 ranges-ok-spec =
     tie.close
     (tie.spec
-    Inv-loop
-    μ-loop
+    invariant-loop
+    decreases-loop
     loop-holds
     mul-range-ok
     shared-slice-read-range-ok
@@ -78,7 +77,7 @@ ranges-ok-spec =
     shared-slice-read-range-ok-2
     range-ok-requires
     returns
-    add-at
+    add_at
     loop-less
     loop-again
     returns-2)

@@ -1,26 +1,26 @@
 -- Laws of slot pages: the test of a live slot byte by byte is the test of the definition; a slot of another kind than live holds nothing.
-use Prim.Native.Nat.{ℕ, zero, suc, _+_, _-_, _*_, _/_, _%_, _≤_, _<_}
-use mathlib.Core.Path.{_≡_, refl, _∙_}
-use mathlib.Core.Logic.{⊎-elim}
-use mathlib.Core.Bool.{Bool, true, false, cond, _&&_, and-false}
-use mathlib.Core.List.{List, [], _∷_, _++_}
+use Prim.Native.Nat.{ℕ, zero, suc, ◌+◌, ◌-◌, ◌*◌, ◌/◌, ◌%◌, ◌≤◌, ◌<◌}
+use mathlib.Core.Path.{◌≡◌, refl, ◌∙◌}
+use mathlib.Core.Logic.{⊎_elim}
+use mathlib.Core.Bool.{Bool, true, false, cond, ◌&&◌, and-false}
+use mathlib.Core.List.{List, [], ◌∷◌, ◌++◌}
 use native.Mathlib.Omega.{arith}
-use lib.ListN.{length, getD, take, drop, length-drop}
-use lib.Seq.{length-take-le, take-all, drop-drop}
+use lib.ListN.{length, get_or, take, drop, length-drop}
+use lib.Seq.{length-take-le, take_all, drop-drop}
 use lib.Dec.{leb, eqb}
-use borrow.Author.Tests.{leb-true, eq-eqb, ne-eqb, le-leb, lt-leb, lt-ltb}
-use denote.Enum.Declared.{tagOf}
+use borrow.Author.Tests.{leb-true, eq-eqb, ne_eqb, le-leb, lt-leb, lt-ltb}
+use denote.Enum.Declared.{tag_of}
 use types.Run.{OneOf}
-use Rattle·model.specs.Lists.{same}
-use Rattle·model.specs.Chip.{Page, erased}
-use Rattle·model.specs.Header.{isBlank}
-use Rattle·model.specs.Slot.{mostContents, writeBegun, written, numberOk, slotPage, pageBlock, pageContents, slotFits, Slot, empty, torn, dead, cut, wrong, live, slotOf, kindOf, entryOf}
-use Rattle·model.specs.declared.BlockNumber.{BlockNumber}
-use Rattle·model.specs.declared.SlotKind.{SlotKind}
-use Rattle·model.specs.declared.SlotKind.the-variants.{Empty, Torn, Live, Dead, Cut, Wrong}
-use Rattle·model.proofs.SlotKind.{the-type}
-use Rattle·model.specs.Laws.Lists.{and-left}
-use Rattle·blank.proofs.Blank.{same-erased}
+use Rattle.model.specs.Lists.{same}
+use Rattle.model.specs.Chip.{Page, erased}
+use Rattle.model.specs.Header.{isBlank}
+use Rattle.model.specs.Slot.{mostContents, writeBegun, written, numberOk, slotPage, pageBlock, pageContents, slotFits, Slot, empty, torn, dead, cut, wrong, live, slot_of, kind_of, entry_of}
+use Rattle.model.specs.declared.BlockNumber.{BlockNumber}
+use Rattle.model.specs.declared.SlotKind.{SlotKind}
+use Rattle.model.specs.declared.SlotKind.TheVariants.{Empty, Torn, Live, Dead, Cut, Wrong}
+use Rattle.model.specs.contracts.SlotKind.{the_type}
+use Rattle.model.specs.Laws.Lists.{and_left}
+use Rattle.blank.proofs.Blank.{same-erased}
 
 -- contents, then erased bytes to the end
 same-tail : (n : ℕ) (q : List ℕ) → n ≤ length q → same q (take n q ++ erased (length q - n)) ≡ isBlank (drop n q)
@@ -50,8 +50,8 @@ page-fits x₀ x₁ x₂ x₃ x₄ x₅ x₆ x₇ q l e b h =
     (and-assoc-four (eqb x₄ 255) (eqb x₅ 255) (eqb x₆ 255) (eqb x₇ 255) (isBlank (drop x₁ q)))
 
 -- a written page of 256 bytes equals the page of its block and contents just if bytes 4 to 7 and those after the contents are erased
-pub same-slot : (p : Page) → length p ≡ 256 → getD p 0 0 ≡ written → getD p 2 0 < 256 → getD p 1 0 ≤ 248
-    → same p (slotPage (pageBlock p) (pageContents p)) ≡ (isBlank (take 4 (drop 4 p)) && isBlank (drop (getD p 1 0) (drop 8 p)))
+pub same-slot : (p : Page) → length p ≡ 256 → get_or p 0 0 ≡ written → get_or p 2 0 < 256 → get_or p 1 0 ≤ 248
+    → same p (slotPage (pageBlock p) (pageContents p)) ≡ (isBlank (take 4 (drop 4 p)) && isBlank (drop (get_or p 1 0) (drop 8 p)))
 unfolding pageBlock pageContents
 same-slot [] l e b h = absurd (omega arith)
 same-slot (x₀ ∷ []) l e b h = absurd (omega arith)
@@ -65,107 +65,107 @@ same-slot (x₀ ∷ x₁ ∷ x₂ ∷ x₃ ∷ x₄ ∷ x₅ ∷ x₆ ∷ x₇ �
 
 -- ---- the ways out of the test of a written slot
 
-pub fits-long : (p : Page) → 248 < getD p 1 0 → slotFits p ≡ false
+pub fits-long : (p : Page) → 248 < get_or p 1 0 → slotFits p ≡ false
 unfolding slotFits mostContents
-fits-long p h = rw (lt-leb (getD p 1 0) 248 h)
+fits-long p h = rw (lt-leb (get_or p 1 0) 248 h)
 
 fits-misnumbered : (p : Page) → numberOk (pageBlock p) ≡ false → slotFits p ≡ false
 unfolding slotFits
-fits-misnumbered p e = rw e (and-false (leb (getD p 1 0) mostContents))
+fits-misnumbered p e = rw e (and-false (leb (get_or p 1 0) mostContents))
 
-pub fits-zero : (p : Page) → getD p 2 0 + 256 * getD p 3 0 ≡ 0 → slotFits p ≡ false
+pub fits-zero : (p : Page) → get_or p 2 0 + 256 * get_or p 3 0 ≡ 0 → slotFits p ≡ false
 unfolding numberOk pageBlock
 fits-zero p h = fits-misnumbered p (rw h)
 
-pub fits-most : (p : Page) → getD p 2 0 + 256 * getD p 3 0 ≡ 65535 → slotFits p ≡ false
+pub fits-most : (p : Page) → get_or p 2 0 + 256 * get_or p 3 0 ≡ 65535 → slotFits p ≡ false
 unfolding numberOk pageBlock
 fits-most p h = fits-misnumbered p (rw h)
 
 -- the length and the number fit
 pub record Numbered (p : Page) : Type 0 where
   pub whole : length p ≡ 256
-  pub status : getD p 0 0 ≡ written
-  pub short : getD p 1 0 ≤ 248
-  pub low : getD p 2 0 < 256
-  pub high : getD p 3 0 < 256
-  pub some : getD p 2 0 + 256 * getD p 3 0 ≡ 0 → ⊥
-  pub most : getD p 2 0 + 256 * getD p 3 0 ≡ 65535 → ⊥
+  pub status : get_or p 0 0 ≡ written
+  pub short : get_or p 1 0 ≤ 248
+  pub low : get_or p 2 0 < 256
+  pub high : get_or p 3 0 < 256
+  pub some : get_or p 2 0 + 256 * get_or p 3 0 ≡ 0 → ⊥
+  pub most : get_or p 2 0 + 256 * get_or p 3 0 ≡ 65535 → ⊥
 
-fits-rest : (p : Page) → Numbered p → slotFits p ≡ (isBlank (take 4 (drop 4 p)) && isBlank (drop (8 + getD p 1 0) p))
+fits-rest : (p : Page) → Numbered p → slotFits p ≡ (isBlank (take 4 (drop 4 p)) && isBlank (drop (8 + get_or p 1 0) p))
 unfolding slotFits mostContents numberOk pageBlock
 fits-rest p h =
-    let n : ℕ = getD p 2 0 + 256 * getD p 3 0 in
-    rw (le-leb (getD p 1 0) 248 (h .short), lt-ltb 0 n (omega arith), lt-ltb n 65535 (omega arith), ← (drop-drop (getD p 1 0) 8 p))
-    (same-slot p (h .whole) (h .status) (h .low) (h .short))
+    let n : ℕ = get_or p 2 0 + 256 * get_or p 3 0 in
+    rw (le-leb (get_or p 1 0) 248 h.short, lt-ltb 0 n (omega arith), lt-ltb n 65535 (omega arith), ← (drop-drop (get_or p 1 0) 8 p))
+    (same-slot p h.whole h.status h.low h.short)
 
 pub fits-gap : (p : Page) → Numbered p → isBlank (take 4 (drop 4 p)) ≡ false → slotFits p ≡ false
 fits-gap p h e = fits-rest p h ∙ rw e
 
-pub fits-tail : (p : Page) (end : ℕ) → Numbered p → isBlank (take 4 (drop 4 p)) ≡ true → end ≡ 8 + getD p 1 0 → slotFits p ≡ isBlank (take (length p - end) (drop end p))
+pub fits-tail : (p : Page) (end : ℕ) → Numbered p → isBlank (take 4 (drop 4 p)) ≡ true → end ≡ 8 + get_or p 1 0 → slotFits p ≡ isBlank (take (length p - end) (drop end p))
 fits-tail p end h e k =
-    let t : take (length p - end) (drop end p) ≡ drop end p = take-all (length p - end) (drop end p) (omega (arith, length-drop end p)) in
+    let t : take (length p - end) (drop end p) ≡ drop end p = take_all (length p - end) (drop end p) (omega (arith, length-drop end p)) in
     fits-rest p h ∙ rw (e, t, k)
 
 -- ---- the kinds
 
 module _ (p : Page) where
-  pub kind-live : (l b : ℕ) → getD p 0 0 ≡ written → slotFits p ≡ true → l ≡ getD p 1 0 → b ≡ getD p 2 0 + 256 * getD p 3 0 → length p ≡ 256
-      → kindOf (slotOf p) ≡ Live l (record { 0 = b })
-  unfolding slotOf kindOf pageBlock pageContents slotFits mostContents
+  pub kind-live : (l b : ℕ) → get_or p 0 0 ≡ written → slotFits p ≡ true → l ≡ get_or p 1 0 → b ≡ get_or p 2 0 + 256 * get_or p 3 0 → length p ≡ 256
+      → kind_of (slot_of p) ≡ Live l (record { 0 = b })
+  unfolding slot_of kind_of pageBlock pageContents slotFits mostContents
   kind-live l b st f lb bb w =
-      let short : getD p 1 0 ≤ 248 = leb-true (getD p 1 0) 248 (and-left (leb (getD p 1 0) 248) _ f) in
-      let c : length (take (getD p 1 0) (drop 8 p)) ≡ getD p 1 0 = length-take-le (getD p 1 0) (drop 8 p) (omega (arith, length-drop 8 p)) in
-      rw (eq-eqb (getD p 0 0) 63 st, f, c, lb, bb)
+      let short : get_or p 1 0 ≤ 248 = leb-true (get_or p 1 0) 248 (and_left (leb (get_or p 1 0) 248) _ f) in
+      let c : length (take (get_or p 1 0) (drop 8 p)) ≡ get_or p 1 0 = length-take-le (get_or p 1 0) (drop 8 p) (omega (arith, length-drop 8 p)) in
+      rw (eq-eqb (get_or p 0 0) 63 st, f, c, lb, bb)
 
-  pub kind-unfit : getD p 0 0 ≡ written → slotFits p ≡ false → kindOf (slotOf p) ≡ Wrong
-  unfolding slotOf kindOf
-  kind-unfit st f = rw (eq-eqb (getD p 0 0) 63 st, f)
+  pub kind-unfit : get_or p 0 0 ≡ written → slotFits p ≡ false → kind_of (slot_of p) ≡ Wrong
+  unfolding slot_of kind_of
+  kind-unfit st f = rw (eq-eqb (get_or p 0 0) 63 st, f)
 
-  pub kind-torn : getD p 0 0 ≡ writeBegun → kindOf (slotOf p) ≡ Torn
-  unfolding slotOf kindOf
+  pub kind-torn : get_or p 0 0 ≡ writeBegun → kind_of (slot_of p) ≡ Torn
+  unfolding slot_of kind_of
   kind-torn st = rw st
 
-  pub kind-dead : getD p 0 0 ≡ 0x1F → kindOf (slotOf p) ≡ Dead
-  unfolding slotOf kindOf
+  pub kind-dead : get_or p 0 0 ≡ 0x1F → kind_of (slot_of p) ≡ Dead
+  unfolding slot_of kind_of
   kind-dead st = rw st
 
-  pub kind-cut : getD p 0 0 ≡ 0x5F → kindOf (slotOf p) ≡ Cut
-  unfolding slotOf kindOf
+  pub kind-cut : get_or p 0 0 ≡ 0x5F → kind_of (slot_of p) ≡ Cut
+  unfolding slot_of kind_of
   kind-cut st = rw st
 
   -- no status of the other kinds
   pub record Unmarked : Type 0 where
-    pub written : getD p 0 0 ≡ 0x3F → ⊥
-    pub begun : getD p 0 0 ≡ 0x7F → ⊥
-    pub dead : getD p 0 0 ≡ 0x1F → ⊥
-    pub cut : getD p 0 0 ≡ 0x5F → ⊥
+    pub written : get_or p 0 0 ≡ 0x3F → ⊥
+    pub begun : get_or p 0 0 ≡ 0x7F → ⊥
+    pub dead : get_or p 0 0 ≡ 0x1F → ⊥
+    pub cut : get_or p 0 0 ≡ 0x5F → ⊥
 
-  unmarked : Unmarked → kindOf (slotOf p) ≡ cond (isBlank p) Empty Wrong
-  unfolding slotOf kindOf
+  unmarked : Unmarked → kind_of (slot_of p) ≡ cond (isBlank p) Empty Wrong
+  unfolding slot_of kind_of
   unmarked h =
-      rw (ne-eqb (getD p 0 0) 0x3F (h .written), ne-eqb (getD p 0 0) 0x7F (h .begun), ne-eqb (getD p 0 0) 0x1F (h .dead), ne-eqb (getD p 0 0) 0x5F (h .cut)) (go (isBlank p))
+      rw (ne_eqb (get_or p 0 0) 0x3F h.written, ne_eqb (get_or p 0 0) 0x7F h.begun, ne_eqb (get_or p 0 0) 0x1F h.dead, ne_eqb (get_or p 0 0) 0x5F h.cut) (go (isBlank p))
     where
-      go : (t : Bool) → kindOf (cond t empty wrong) ≡ cond t Empty Wrong
+      go : (t : Bool) → kind_of (cond t empty wrong) ≡ cond t Empty Wrong
       go true = refl
       go false = refl
 
-  pub kind-blank : Unmarked → isBlank p ≡ true → kindOf (slotOf p) ≡ Empty
+  pub kind-blank : Unmarked → isBlank p ≡ true → kind_of (slot_of p) ≡ Empty
   kind-blank h e = unmarked h ∙ rw e
 
-  pub kind-other : Unmarked → isBlank p ≡ false → kindOf (slotOf p) ≡ Wrong
+  pub kind-other : Unmarked → isBlank p ≡ false → kind_of (slot_of p) ≡ Wrong
   kind-other h e = unmarked h ∙ rw e
 
 -- ---- the kinds that `let SlotKind::Live .. else` tells apart
 
 abbrev pub Other : SlotKind → Type 0
-Other k = OneOf (0 ∷ 1 ∷ 3 ∷ 4 ∷ 5 ∷ []) (tagOf the-type k)
+Other k = OneOf (0 ∷ 1 ∷ 3 ∷ 4 ∷ 5 ∷ []) (tag_of the_type k)
 
 no-live : (l : ℕ) (b : BlockNumber) → Other (Live l b) → ⊥
-no-live l b h = ⊎-elim (λ e. omega arith) (⊎-elim (λ e. omega arith) (⊎-elim (λ e. omega arith) (⊎-elim (λ e. omega arith) (λ e. omega arith)))) h
+no-live l b h = ⊎_elim (λ e. omega arith) (⊎_elim (λ e. omega arith) (⊎_elim (λ e. omega arith) (⊎_elim (λ e. omega arith) (λ e. omega arith)))) h
 
 -- a slot of another kind holds nothing
-pub other-holds : (k : Slot) → Other (kindOf k) → entryOf k ≡ []
-unfolding kindOf entryOf
+pub other-holds : (k : Slot) → Other (kind_of k) → entry_of k ≡ []
+unfolding kind_of entry_of
 other-holds empty h = refl
 other-holds torn h = refl
 other-holds dead h = refl

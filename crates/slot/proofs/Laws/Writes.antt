@@ -1,24 +1,24 @@
 -- Laws of slots that are made up and then programmed, where they belong in the image.
-use Prim.Native.Nat.{ℕ, zero, suc, _+_, _-_, _/_, _%_, _≤_}
-use mathlib.Core.Path.{_≡_, refl, sym, ap, ap₂, _∙_}
-use mathlib.Core.List.{List, [], _∷_, _++_}
+use Prim.Native.Nat.{ℕ, zero, suc, ◌+◌, ◌-◌, ◌/◌, ◌%◌, ◌≤◌}
+use mathlib.Core.Path.{◌≡◌, refl, sym, ap, ap₂, ◌∙◌}
+use mathlib.Core.List.{List, [], ◌∷◌, ◌++◌}
 use native.Mathlib.Nat.{add-zero, sub-zero, zero-sub, suc-sub-suc}
 use native.Mathlib.Omega.{arith}
 use lib.ListN.{length, take, drop, set, replicate}
 use lib.Seq.{paste, take-length, drop-drop}
-use Rattle·model.specs.Chip.{Image, Page, program, erased}
-use Rattle·model.specs.Slot.{mostContents, slotPage}
-use Rattle·model.specs.Steps.{programPart, writeSlot, markDead}
-use Rattle·flash.specs.Ran.{Programmed, shifted, Within}
-use Rattle·flash.specs.Pages.{OnPageAt}
-use Rattle·flash.proofs.Laws.{_then_, within-append}
-use Rattle·flash.proofs.Pages.{within-part, on-page}
-use Rattle·slot·specs.specs.Parts.{slotParts}
+use Rattle.model.specs.Chip.{Image, Page, program, erased}
+use Rattle.model.specs.Slot.{mostContents, slotPage}
+use Rattle.model.specs.Steps.{programPart, writeSlot, markDead}
+use Rattle.flash.specs.Ran.{Programmed, shifted, Within}
+use Rattle.flash.specs.Pages.{OnPageAt}
+use Rattle.flash.proofs.Laws.{◌then◌, within-append}
+use Rattle.flash.proofs.Pages.{within-part, on-page}
+use Rattle.slot.specs.Parts.{slotParts}
 
 pub programmed-slot : (p : Page) (k : ℕ) {n n₁ n₂ n₃ n₄ : ℕ} {s s₁ s₂ s₃ s₄ : Image} → Programmed (program 0 0x7F ∷ []) n n₁ s s₁ → Programmed (programPart p 1 3) n₁ n₂ s₁ s₂
     → Programmed (programPart p 8 k) n₂ n₃ s₂ s₃ → Programmed (program 0 0x3F ∷ []) n₃ n₄ s₃ s₄ → Programmed (slotParts p k) n n₄ s s₄
 unfolding slotParts
-programmed-slot p k d₁ d₂ d₃ d₄ B = _then_ (d₁ B) (_then_ (d₂ B) (_then_ (d₃ B) (d₄ B)))
+programmed-slot p k d₁ d₂ d₃ d₄ B = ◌then◌ (d₁ B) (◌then◌ (d₂ B) (◌then◌ (d₃ B) (d₄ B)))
 
 slot-within : (p : Page) (k : ℕ) → k ≤ 248 → Within 256 (slotParts p k)
 unfolding slotParts

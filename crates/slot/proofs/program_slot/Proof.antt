@@ -1,26 +1,26 @@
 -- `slot::program_slot` does the steps of a written slot, call by call. Assumes nothing.
-use Rattle·slot·proofs.proofs.Laws.Writes.{programmed-slot}
-use borrow.Author.Needs.{needs}
-use Rattle·slot·proofs.proofs.program_slot.Statement.{statement}
-use Rattle·slot·proofs.proofs.program_slot.Tie as tie
+use Rattle.slot.proofs.Laws.Writes.{programmed-slot}
+use borrow.Author.Rules.{rules}
+use Rattle.slot.proofs.program_slot.Statement.{statement}
+use Rattle.slot.proofs.program_slot.Tie as tie
 
 program-byte-requires : tie.Need-program-byte-requires
-program-byte-requires c κs = search needs
+program-byte-requires c κs = search rules
 
 program-part-requires : tie.Need-program-part-requires
-program-part-requires c κs = search needs
+program-part-requires c κs = search rules
 
 program-part-requires-2 : tie.Need-program-part-requires-2
-program-part-requires-2 c κs = search needs
+program-part-requires-2 c κs = search rules
 
 program-byte-requires-2 : tie.Need-program-byte-requires-2
-program-byte-requires-2 c κs = search needs
+program-byte-requires-2 c κs = search rules
 
-same-length : tie.Need-same-length
-same-length c = search needs
+same_length : tie.Need-same-length
+same_length c = search rules
 
 returns : tie.Need-returns
-returns c = search (needs, programmed-slot)
+returns c = search (rules, programmed-slot)
 
 pub program-slot-spec : {M : Type 1} → statement M
 program-slot-spec =
@@ -30,5 +30,5 @@ program-slot-spec =
     program-part-requires
     program-part-requires-2
     program-byte-requires-2
-    same-length
+    same_length
     returns)

@@ -1,39 +1,39 @@
 -- `summary::is_owing` is the test of the definition. Assumes nothing.
-use Rattle·model.specs.State.{isOwing}
-use Rattle·judge.specs.Heads.{bare, bareOf}
-use borrow.Author.Needs.{needs}
-use Rattle·summary·proofs.proofs.is_owing.Statement.{statement}
-use Rattle·summary·proofs.proofs.is_owing.Tie as tie
+use Rattle.model.specs.State.{isOwing}
+use Rattle.judge.specs.Heads.{bare, bareOf}
+use borrow.Author.Rules.{rules}
+use Rattle.summary.proofs.is_owing.Statement.{statement}
+use Rattle.summary.proofs.is_owing.Tie as tie
 
-enum-told : tie.Need-enum-told
-enum-told c = search needs
+enum_told : tie.Need-enum-told
+enum_told c = search rules
 
 enum-told-2 : tie.Need-enum-told-2
-enum-told-2 c = search needs
+enum-told-2 c = search rules
 
 enum-told-3 : tie.Need-enum-told-3
-enum-told-3 c = search needs
+enum-told-3 c = search rules
 
 enum-told-4 : tie.Need-enum-told-4
-enum-told-4 c = search needs
+enum-told-4 c = search rules
 
 returns : tie.Need-returns
 unfolding isOwing bare bareOf
-returns c = rw (c .enum-told .given .1)
+returns c = rw c.enum_told.given.1
 
 returns-2 : tie.Need-returns-2
 unfolding isOwing bare bareOf
-returns-2 c = rw (c .enum-told2 .given .1)
+returns-2 c = rw c.enum-told2.given.1
 
 returns-3 : tie.Need-returns-3
 unfolding isOwing bare bareOf
-returns-3 c = rw (c .enum-told3 .given .1)
+returns-3 c = rw c.enum-told3.given.1
 
 returns-4 : tie.Need-returns-4
 unfolding isOwing bare bareOf
-returns-4 c = rw (c .enum-told4 .given .1)
+returns-4 c = rw c.enum-told4.given.1
 
 pub is-owing-spec : {M : Type 1} → statement M
 is-owing-spec =
     tie.close
-    (tie.spec enum-told enum-told-2 enum-told-3 enum-told-4 returns returns-2 returns-3 returns-4)
+    (tie.spec enum_told enum-told-2 enum-told-3 enum-told-4 returns returns-2 returns-3 returns-4)

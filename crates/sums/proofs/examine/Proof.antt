@@ -1,31 +1,30 @@
 -- `sums::examine` examines the segments in use as the definition does. Assumes nothing.
 use native.Mathlib.Omega.{arith}
-use denote.Ref.{now}
-use Rattle·judge.specs.Tally.{badSum}
-use Rattle·sums·proofs.proofs.Laws.{exam-looked, exam-skipped}
-use borrow.Author.Needs.{needs}
-use Rattle·sums·proofs.proofs.examine.Statement.{statement}
-use Rattle·sums·proofs.proofs.examine.Tie as tie
+use Rattle.judge.specs.Tally.{badSum}
+use Rattle.sums.proofs.Laws.{exam-looked, exam-skipped}
+use borrow.Author.Rules.{rules}
+use Rattle.sums.proofs.examine.Statement.{statement}
+use Rattle.sums.proofs.examine.Tie as tie
 
 gather-requires : tie.Need-gather-requires
-gather-requires c κs = search needs
+gather-requires c κs = search rules
 
 sum-rows-requires : tie.Need-sum-rows-requires
-sum-rows-requires c κs = search needs
+sum-rows-requires c κs = search rules
 
 returns : tie.Need-returns
 returns c =
-    let s = c .before .before .before .before in (
-      exam-looked (s .args .segments) (s .args .slots) (now (s .args .image)) (s .args .frame) (c .before .gather .result) (c .sum-rows .result) (c .before .before .if1 .taken) (c .before .gather .ensures) (c .sum-rows .ensures .0),
-      record { whole = s .pre .1 .whole; used = s .pre .1 .used; written = c .sum-rows .ensures .1 },
+    let s = c.before.before.before.before in (
+      exam-looked s.args.segments s.args.slots s.args.image.now s.args.frame c.before.gather.result c.sum_rows.result c.before.before.if1.true c.before.gather.ensures c.sum_rows.ensures.0,
+      record { whole = s.requires.1.whole; used = s.requires.1.used; written = c.sum_rows.ensures.1 },
     )
 
 returns-2 : tie.Need-returns-2
 unfolding badSum
 returns-2 c =
-    let s = c .before .before in (
-      exam-skipped (s .args .segments) (s .args .slots) (now (s .args .image)) (s .args .frame) (c .if1 .left),
-      record { whole = s .pre .1 .whole; used = s .pre .1 .used; written = omega arith },
+    let s = c.before.before in (
+      exam-skipped s.args.segments s.args.slots s.args.image.now s.args.frame c.if1.false,
+      record { whole = s.requires.1.whole; used = s.requires.1.used; written = omega arith },
     )
 
 pub examine-spec : {M : Type 1} → statement M

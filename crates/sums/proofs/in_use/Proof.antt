@@ -1,8 +1,8 @@
 -- `sums::in_use` is the summary of the definition. Assumes nothing.
 use mathlib.Core.Path.{refl}
-use Rattle·judge.specs.Tally.{summaryOf}
-use Rattle·sums·proofs.proofs.in_use.Statement.{statement}
-use Rattle·sums·proofs.proofs.in_use.Tie as tie
+use Rattle.judge.specs.Tally.{summaryOf}
+use Rattle.sums.proofs.in_use.Statement.{statement}
+use Rattle.sums.proofs.in_use.Tie as tie
 
 returns : tie.Need-returns
 unfolding summaryOf

@@ -1,74 +1,73 @@
 -- `text::add`. The invariant: the first `i` bytes are there. Assumes nothing.
-use Prim.Native.Nat.{ℕ, _+_, _-_, _≤_}
-use mathlib.Core.Path.{_≡_, refl, ap, _∙_}
+use Prim.Native.Nat.{ℕ, ◌+◌, ◌-◌, ◌≤◌}
+use mathlib.Core.Path.{◌≡◌, refl, ap, ◌∙◌}
 use mathlib.Core.List.{List}
 use native.Mathlib.Omega.{arith}
-use denote.Ref.{now}
-use lib.ListN.{length, take, set, getD, length-set}
-use lib.Seq.{take-all}
-use Rattle·text·specs.specs.Buffer.{over}
-use Rattle·text·proofs.proofs.Laws.{copy-none, copy-more}
-use borrow.Author.Needs.{needs}
-use Rattle·text·proofs.proofs.add.Statement.{statement}
-use Rattle·text·proofs.proofs.add.Tie as tie
+use lib.ListN.{length, take, set, get_or, length-set}
+use lib.Seq.{take_all}
+use Rattle.text.specs.Buffer.{over}
+use Rattle.text.proofs.Laws.{copy-none, copy_more}
+use borrow.Author.Rules.{rules}
+use Rattle.text.proofs.add.Statement.{statement}
+use Rattle.text.proofs.add.Tie as tie
 
-abbrev Inv-loop : tie.InvT-loop
-Inv-loop text₀ at bytes end i₀ text i = (i ≤ length bytes) × (at + length bytes ≤ length text₀) × (length text ≡ length text₀) × (text ≡ over text₀ at (take i bytes))
+abbrev invariant-loop : tie.invariant-loop
+invariant-loop text₀ at bytes end i₀ text i = (i ≤ length bytes) × (at + length bytes ≤ length text₀) × (length text ≡ length text₀) × (text ≡ over text₀ at (take i bytes))
 
-abbrev μ-loop : tie.MeasureT-loop
-μ-loop text₀ at bytes end i₀ text i = length bytes - i
+abbrev decreases-loop : tie.decreases-loop
+decreases-loop text₀ at bytes end i₀ text i = length bytes - i
 
-add-end : tie.Need-add-end Inv-loop μ-loop
-add-end c = search needs
+add-end : tie.Need-overflow-add-end invariant-loop decreases-loop
+add-end c = search rules
 
-returns : tie.Need-returns Inv-loop μ-loop
-returns c = record { ends = refl; kept = refl; there = λ h. absurd (omega (arith, c .if1 .taken)) }
+returns : tie.Need-returns invariant-loop decreases-loop
+returns c = record { ends = refl; kept = refl; there = λ h. absurd (omega (arith, c.if1.true)) }
 
-loop-holds : tie.Need-loop-holds Inv-loop μ-loop
-loop-holds c = (omega arith, omega (arith, c .if1 .left), refl, copy-none (now (c .before .args .text)) (c .before .args .at) (now (c .before .args .bytes)))
+loop-holds : tie.Need-loop-init invariant-loop decreases-loop
+loop-holds c = (omega arith, omega (arith, c.if1.false), refl, copy-none c.before.args.text.now c.before.args.at c.before.args.bytes.now)
 
-shared-slice-read-text : tie.Need-shared-slice-read-text Inv-loop μ-loop
-shared-slice-read-text c = search needs
+shared-slice-read-text : tie.Need-shared-slice-read-text invariant-loop decreases-loop
+shared-slice-read-text c = search rules
 
-add-text : tie.Need-add-text Inv-loop μ-loop
-add-text c = search needs
+add-text : tie.Need-overflow-add-text invariant-loop decreases-loop
+add-text c = search rules
 
-slice-write-text : tie.Need-slice-write-text Inv-loop μ-loop
-slice-write-text c = search needs
+slice-write-text : tie.Need-slice-write-text invariant-loop decreases-loop
+slice-write-text c = search rules
 
-add-i : tie.Need-add-i Inv-loop μ-loop
-add-i c = search needs
+add-i : tie.Need-overflow-add-i invariant-loop decreases-loop
+add-i c = search rules
 
-loop-less : tie.Need-loop-less Inv-loop μ-loop
-loop-less c = search needs
+loop-less : tie.Need-loop-smaller invariant-loop decreases-loop
+loop-less c = search rules
 
-loop-again : tie.Need-loop-again Inv-loop μ-loop
+loop-again : tie.Need-loop-preserved invariant-loop decreases-loop
 loop-again c =
-    let k = c .before .before in
-    let t = c .before .loop-test .taken in
-    let e = k .loop .inv .3 in (
+    let k = c.before.before in
+    let t = c.before.loop-test.true in
+    let e = k.loop.invariant.3 in (
       omega arith,
-      k .loop .inv .1,
-      length-set (k .loop .text) (k .before .before .args .at + k .loop .i) (getD (now (k .before .before .args .bytes)) (k .loop .i) 0) ∙ k .loop .inv .2,
-      ap (λ (z : List ℕ). set z (k .before .before .args .at + k .loop .i) (getD (now (k .before .before .args .bytes)) (k .loop .i) 0)) e ∙ copy-more _ _ _ _ t (k .loop .inv .1),
+      k.loop.invariant.1,
+      length-set k.loop.text (k.before.before.args.at + k.loop.i) (get_or k.before.before.args.bytes.now k.loop.i 0) ∙ k.loop.invariant.2,
+      ap (λ (z : List ℕ). set z (k.before.before.args.at + k.loop.i) (get_or k.before.before.args.bytes.now k.loop.i 0)) e ∙ copy_more _ _ _ _ t k.loop.invariant.1,
     )
 
-same-length : tie.Need-same-length Inv-loop μ-loop
-same-length c = search needs
+same_length : tie.Need-same-length invariant-loop decreases-loop
+same_length c = search rules
 
-returns-2 : tie.Need-returns-2 Inv-loop μ-loop
+returns-2 : tie.Need-returns-2 invariant-loop decreases-loop
 returns-2 c =
-    let k = c .before in
-    let a = k .before .before .args in
-    let w : take (k .loop .i) (now (a .bytes)) ≡ now (a .bytes) = take-all (k .loop .i) (now (a .bytes)) (c .loop-test .left) in
-    record { ends = refl; kept = k .loop .inv .2; there = λ h. k .loop .inv .3 ∙ ap (over (now (a .text)) (a .at)) w }
+    let k = c.before in
+    let a = k.before.before.args in
+    let w : take k.loop.i a.bytes.now ≡ a.bytes.now = take_all k.loop.i a.bytes.now c.loop-test.false in
+    record { ends = refl; kept = k.loop.invariant.2; there = λ h. k.loop.invariant.3 ∙ ap (over a.text.now a.at) w }
 
-pub add-spec : {M : Type 1} → statement M
-add-spec =
+pub add_spec : {M : Type 1} → statement M
+add_spec =
     tie.close
     (tie.spec
-    Inv-loop
-    μ-loop
+    invariant-loop
+    decreases-loop
     add-end
     returns
     loop-holds
@@ -78,5 +77,5 @@ add-spec =
     add-i
     loop-less
     loop-again
-    same-length
+    same_length
     returns-2)

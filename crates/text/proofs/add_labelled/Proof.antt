@@ -1,24 +1,24 @@
 -- `text::add_labelled`: two pieces in a row. Assumes nothing.
 use native.Mathlib.Omega.{arith}
-use Rattle·text·proofs.proofs.Laws.{_then_}
-use borrow.Author.Needs.{needs}
-use Rattle·text·proofs.proofs.add_labelled.Statement.{statement}
-use Rattle·text·proofs.proofs.add_labelled.Tie as tie
+use Rattle.text.proofs.Laws.{◌then◌}
+use borrow.Author.Rules.{rules}
+use Rattle.text.proofs.add_labelled.Statement.{statement}
+use Rattle.text.proofs.add_labelled.Tie as tie
 
 add-requires : tie.Need-add-requires
-add-requires c κs = search needs
+add-requires c κs = search rules
 
 add-number-requires : tie.Need-add-number-requires
-add-number-requires c κs = let k = c .before .before .before in omega (arith, k .add .ensures .ends, k .before .before .before .before .pre)
+add-number-requires c κs = let k = c.before.before.before in omega (arith, k.add.ensures.ends, k.before.before.before.before.requires)
 
-same-length : tie.Need-same-length
-same-length c = search needs
+same_length : tie.Need-same-length
+same_length c = search rules
 
 returns : tie.Need-returns
 returns c =
-    let k = c .before .before in
-    let j = k .before .before .before .before in
-    (j .add .ensures then k .add-number .ensures .0, omega (arith, j .add .ensures .ends, k .add-number .ensures .1))
+    let k = c.before.before in
+    let j = k.before.before.before.before in
+    (j.add.ensures then k.add-number.ensures.0, omega (arith, j.add.ensures.ends, k.add-number.ensures.1))
 
 pub add-labelled-spec : {M : Type 1} → statement M
-add-labelled-spec = tie.close (tie.spec add-requires add-number-requires same-length returns)
+add-labelled-spec = tie.close (tie.spec add-requires add-number-requires same_length returns)

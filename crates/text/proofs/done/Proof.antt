@@ -1,11 +1,11 @@
 -- `text::done`. Assumes nothing.
 use mathlib.Core.Path.{refl}
-use Rattle·text·specs.specs.Buffer.{doneOf}
-use Rattle·text·proofs.proofs.done.Statement.{statement}
-use Rattle·text·proofs.proofs.done.Tie as tie
+use Rattle.text.specs.Buffer.{done_of}
+use Rattle.text.proofs.done.Statement.{statement}
+use Rattle.text.proofs.done.Tie as tie
 
 returns : tie.Need-returns
-unfolding doneOf
+unfolding done_of
 returns c = refl
 
 pub done-spec : {M : Type 1} → statement M

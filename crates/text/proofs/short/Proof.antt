@@ -1,11 +1,11 @@
 -- `text::short`. Assumes nothing.
 use mathlib.Core.Path.{refl}
-use Rattle·text·specs.specs.Buffer.{shortOf}
-use Rattle·text·proofs.proofs.short.Statement.{statement}
-use Rattle·text·proofs.proofs.short.Tie as tie
+use Rattle.text.specs.Buffer.{short_of}
+use Rattle.text.proofs.short.Statement.{statement}
+use Rattle.text.proofs.short.Tie as tie
 
 returns : tie.Need-returns
-unfolding shortOf
+unfolding short_of
 returns c = refl
 
 pub short-spec : {M : Type 1} → statement M

@@ -1,57 +1,57 @@
 -- `looking::check::state_answer` goes by the state that a survey says. Assumes nothing.
-use Rattle·scan.specs.Surveys.{stateIn}
-use Rattle·bridge.specs.Refusals.{answerIn}
-use borrow.Author.Needs.{needs}
-use Rattle·looking·proofs.proofs.check.state_answer.Statement.{statement}
-use Rattle·looking·proofs.proofs.check.state_answer.Tie as tie
+use Rattle.scan.specs.Surveys.{stateIn}
+use Rattle.bridge.specs.Refusals.{answer_in}
+use borrow.Author.Rules.{rules}
+use Rattle.looking.proofs.check.state_answer.Statement.{statement}
+use Rattle.looking.proofs.check.state_answer.Tie as tie
 
-enum-told : tie.Need-enum-told
-enum-told c = search needs
+enum_told : tie.Need-enum-told
+enum_told c = search rules
 
 enum-told-2 : tie.Need-enum-told-2
-enum-told-2 c = search needs
+enum-told-2 c = search rules
 
 enum-told-3 : tie.Need-enum-told-3
-enum-told-3 c = search needs
+enum-told-3 c = search rules
 
 enum-told-4 : tie.Need-enum-told-4
-enum-told-4 c = search needs
+enum-told-4 c = search rules
 
 enum-told-5 : tie.Need-enum-told-5
-enum-told-5 c = search needs
+enum-told-5 c = search rules
 
 enum-told-6 : tie.Need-enum-told-6
-enum-told-6 c = search needs
+enum-told-6 c = search rules
 
 returns : tie.Need-returns
-unfolding stateIn answerIn
-returns c = rw (c .enum-told .given .1)
+unfolding stateIn answer_in
+returns c = rw c.enum_told.given.1
 
 returns-2 : tie.Need-returns-2
-unfolding stateIn answerIn
-returns-2 c = rw (c .enum-told2 .given .1)
+unfolding stateIn answer_in
+returns-2 c = rw c.enum-told2.given.1
 
 returns-3 : tie.Need-returns-3
-unfolding stateIn answerIn
-returns-3 c = rw (c .enum-told3 .given .1)
+unfolding stateIn answer_in
+returns-3 c = rw c.enum-told3.given.1
 
 returns-4 : tie.Need-returns-4
-unfolding stateIn answerIn
-returns-4 c = rw (c .enum-told4 .given .1)
+unfolding stateIn answer_in
+returns-4 c = rw c.enum-told4.given.1
 
 returns-5 : tie.Need-returns-5
-unfolding stateIn answerIn
-returns-5 c = rw (c .enum-told5 .given .1)
+unfolding stateIn answer_in
+returns-5 c = rw c.enum-told5.given.1
 
 returns-6 : tie.Need-returns-6
-unfolding stateIn answerIn
-returns-6 c = rw (c .enum-told6 .given .1)
+unfolding stateIn answer_in
+returns-6 c = rw c.enum-told6.given.1
 
 pub state-answer-spec : {M : Type 1} → statement M
 state-answer-spec =
     tie.close
     (tie.spec
-    enum-told
+    enum_told
     enum-told-2
     enum-told-3
     enum-told-4

@@ -1,24 +1,24 @@
 -- `mapping::row::unused_row`: two pieces in a row. Assumes nothing.
 use native.Mathlib.Omega.{arith}
-use Rattle·text.proofs.Laws.{_then_}
-use borrow.Author.Needs.{needs}
-use Rattle·mapping·proofs.proofs.row.unused_row.Statement.{statement}
-use Rattle·mapping·proofs.proofs.row.unused_row.Tie as tie
+use Rattle.text.proofs.Laws.{◌then◌}
+use borrow.Author.Rules.{rules}
+use Rattle.mapping.proofs.row.unused_row.Statement.{statement}
+use Rattle.mapping.proofs.row.unused_row.Tie as tie
 
 start-row-requires : tie.Need-start-row-requires
-start-row-requires c κs = search needs
+start-row-requires c κs = search rules
 
 add-requires : tie.Need-add-requires
-add-requires c κs = search needs
+add-requires c κs = search rules
 
-same-length : tie.Need-same-length
-same-length c = search needs
+same_length : tie.Need-same-length
+same_length c = search rules
 
 returns : tie.Need-returns
 returns c =
-    let b = c .before .before .add .ensures in
-    let k = c .before .before .before .before .before .before in
-    (k .start-row .ensures .0 then b, omega (arith, k .start-row .ensures .1, b .ends, k .before .before .before .before .pre))
+    let b = c.before.before.add.ensures in
+    let k = c.before.before.before.before.before.before in
+    (k.start-row.ensures.0 then b, omega (arith, k.start-row.ensures.1, b.ends, k.before.before.before.before.requires))
 
 pub unused-row-spec : {M : Type 1} → statement M
-unused-row-spec = tie.close (tie.spec start-row-requires add-requires same-length returns)
+unused-row-spec = tie.close (tie.spec start-row-requires add-requires same_length returns)

@@ -1,55 +1,55 @@
 -- `mapping::row::used_row`: four pieces in a row. Assumes nothing.
 use native.Mathlib.Omega.{arith}
-use Rattle·text.specs.Text.{text}
-use Rattle·text.proofs.Laws.{_then_}
-use Rattle·mapping·proofs.proofs.Laws.{row-joined}
-use borrow.Author.Needs.{needs}
-use Rattle·mapping·proofs.proofs.row.used_row.Statement.{statement}
-use Rattle·mapping·proofs.proofs.row.used_row.Tie as tie
+use Rattle.text.specs.Text.{text}
+use Rattle.text.proofs.Laws.{◌then◌}
+use Rattle.mapping.proofs.Laws.{row-joined}
+use borrow.Author.Rules.{rules}
+use Rattle.mapping.proofs.row.used_row.Statement.{statement}
+use Rattle.mapping.proofs.row.used_row.Tie as tie
 
-add-first : tie.Need-add-first
-add-first c = search needs
+add-first : tie.Need-overflow-add-first
+add-first c = search rules
 
-mul-first : tie.Need-mul-first
-mul-first c = search needs
+mul-first : tie.Need-overflow-mul-first
+mul-first c = search rules
 
-add-first-2 : tie.Need-add-first-2
-add-first-2 c = search needs
+add-first-2 : tie.Need-overflow-add-first-2
+add-first-2 c = search rules
 
-mul-first-2 : tie.Need-mul-first-2
-mul-first-2 c = search needs
+mul-first-2 : tie.Need-overflow-mul-first-2
+mul-first-2 c = search rules
 
-cast-start-row : tie.Need-cast-start-row
-cast-start-row c = search needs
+cast-start-row : tie.Need-overflow-cast-start-row
+cast-start-row c = search rules
 
 start-row-requires : tie.Need-start-row-requires
-start-row-requires c κs = search needs
+start-row-requires c κs = search rules
 
 add-state-requires : tie.Need-add-state-requires
-add-state-requires c κs = search needs
+add-state-requires c κs = search rules
 
 add-marks-requires : tie.Need-add-marks-requires
-add-marks-requires c κs = search needs
+add-marks-requires c κs = search rules
 
 slice-aggregate-add : tie.Need-slice-aggregate-add
-slice-aggregate-add c = search needs
+slice-aggregate-add c = search rules
 
 add-requires : tie.Need-add-requires
-add-requires c κs = search needs
+add-requires c κs = search rules
 
-same-length : tie.Need-same-length
-same-length c = search needs
+same_length : tie.Need-same-length
+same_length c = search rules
 
 returns : tie.Need-returns
 unfolding text
 returns c =
-    let m = c .before .before in
-    let l = m .before .before .before .before .before in
-    let k = l .before .before .before .before in
-    let j = k .before .before .before .before in
-    let s = j .before .before .before .before .before in (
-      rw (row-joined _ _ _ _ _ _) (j .start-row .ensures .0 then (k .add-state .ensures .0 then (l .add-marks .ensures .0 then m .add .ensures))),
-      omega (arith, j .start-row .ensures .1, k .add-state .ensures .1, l .add-marks .ensures .1, m .add .ensures .ends, s .pre),
+    let m = c.before.before in
+    let l = m.before.before.before.before.before in
+    let k = l.before.before.before.before in
+    let j = k.before.before.before.before in
+    let s = j.before.before.before.before.before in (
+      rw (row-joined _ _ _ _ _ _) (j.start-row.ensures.0 then (k.add-state.ensures.0 then (l.add-marks.ensures.0 then m.add.ensures))),
+      omega (arith, j.start-row.ensures.1, k.add-state.ensures.1, l.add-marks.ensures.1, m.add.ensures.ends, s.requires),
     )
 
 pub used-row-spec : {M : Type 1} → statement M
@@ -66,5 +66,5 @@ used-row-spec =
     add-marks-requires
     slice-aggregate-add
     add-requires
-    same-length
+    same_length
     returns)

@@ -1,53 +1,53 @@
 -- `qbx_words::commands::command_of`: word by word, as the definition. Assumes nothing.
-use mathlib.Core.Path.{sym, _∙_}
-use Rattle·qbx_words·specs.specs.Command.{asNumber, commandOf}
-use borrow.Author.Needs.{needs}
+use mathlib.Core.Path.{sym, ◌∙◌}
+use Rattle.qbx_words.specs.Command.{as_number, commandOf}
+use borrow.Author.Rules.{rules}
 use borrow.Author.Tests.{not-true, not-false}
-use Rattle·qbx_words·proofs.proofs.commands.command_of.Statement.{statement}
-use Rattle·qbx_words·proofs.proofs.commands.command_of.Tie as tie
+use Rattle.qbx_words.proofs.commands.command_of.Statement.{statement}
+use Rattle.qbx_words.proofs.commands.command_of.Tie as tie
 
 number-requires : tie.Need-number-requires
-number-requires c κs = search needs
+number-requires c κs = search rules
 
 enum-known-n : tie.Need-enum-known-n
-enum-known-n c = search needs
+enum-known-n c = search rules
 
-enum-told : tie.Need-enum-told
-enum-told c = search needs
+enum_told : tie.Need-enum-told
+enum_told c = search rules
 
 returns : tie.Need-returns
-unfolding commandOf asNumber
-returns c = rw (sym (c .before .before .number .ensures) ∙ c .enum-told .given .1)
+unfolding commandOf as_number
+returns c = rw (sym c.before.before.number.ensures ∙ c.enum_told.given.1)
 
 number-requires-2 : tie.Need-number-requires-2
-number-requires-2 c κs = search needs
+number-requires-2 c κs = search rules
 
 enum-known-b : tie.Need-enum-known-b
-enum-known-b c = search needs
+enum-known-b c = search rules
 
 enum-told-2 : tie.Need-enum-told-2
-enum-told-2 c = search needs
+enum-told-2 c = search rules
 
 returns-2 : tie.Need-returns-2
-unfolding commandOf asNumber
-returns-2 c = rw (sym (c .before .before .before .before .before .before .number .ensures) ∙ c .before .before .before .before .n .given .1, sym (c .before .before .number2 .ensures) ∙ c .enum-told2 .given .1)
+unfolding commandOf as_number
+returns-2 c = rw (sym c.before.before.before.before.before.before.number.ensures ∙ c.before.before.before.before.n.given.1, sym c.before.before.number2.ensures ∙ c.enum-told2.given.1)
 
 verb-of-requires : tie.Need-verb-of-requires
-verb-of-requires c κs = search needs
+verb-of-requires c κs = search rules
 
 known-requires : tie.Need-known-requires
-known-requires c κs = search needs
+known-requires c κs = search rules
 
 returns-3 : tie.Need-returns-3
-unfolding commandOf asNumber
-returns-3 c = rw (sym (c .before .before .before .before .before .before .before .before .before .before .number .ensures) ∙ c .before .before .before .before .before .before .before .before .n .given .1, sym (c .before .before .before .before .before .before .number2 .ensures) ∙ c .before .before .before .before .b .given .1, ← c .before .before .verb-of .ensures, sym (c .before .known .ensures) ∙ not-true _ (c .if1 .taken))
+unfolding commandOf as_number
+returns-3 c = rw (sym c.before.before.before.before.before.before.before.before.before.before.number.ensures ∙ c.before.before.before.before.before.before.before.before.n.given.1, sym c.before.before.before.before.before.before.number2.ensures ∙ c.before.before.before.before.b.given.1, ← c.before.before.verb-of.ensures, sym c.before.known.ensures ∙ not-true _ c.if1.true)
 
 after-verb-requires : tie.Need-after-verb-requires
-after-verb-requires c κs = search needs
+after-verb-requires c κs = search rules
 
 returns-4 : tie.Need-returns-4
-unfolding commandOf asNumber
-returns-4 c = rw (sym (c .before .before .before .before .before .before .before .before .before .before .before .number .ensures) ∙ c .before .before .before .before .before .before .before .before .before .n .given .1, sym (c .before .before .before .before .before .before .before .number2 .ensures) ∙ c .before .before .before .before .before .b .given .1, ← c .before .before .before .verb-of .ensures, sym (c .before .before .known .ensures) ∙ not-false _ (c .before .if1 .left)) (c .after-verb .ensures)
+unfolding commandOf as_number
+returns-4 c = rw (sym c.before.before.before.before.before.before.before.before.before.before.before.number.ensures ∙ c.before.before.before.before.before.before.before.before.before.n.given.1, sym c.before.before.before.before.before.before.before.number2.ensures ∙ c.before.before.before.before.before.b.given.1, ← c.before.before.before.verb-of.ensures, sym c.before.before.known.ensures ∙ not-false _ c.before.if1.false) c.after-verb.ensures
 
 pub command-of-spec : {M : Type 1} → statement M
 command-of-spec =
@@ -55,7 +55,7 @@ command-of-spec =
     (tie.spec
     number-requires
     enum-known-n
-    enum-told
+    enum_told
     returns
     number-requires-2
     enum-known-b

@@ -1,37 +1,37 @@
 -- `qbx_words::commands::with_block`: the block's number, then the option. Assumes nothing.
-use mathlib.Core.Path.{sym, _∙_}
+use mathlib.Core.Path.{sym, ◌∙◌}
 use borrow.Author.Tests.{lt-ltb, le-ltb}
-use Rattle·qbx_words·specs.specs.Command.{asNumber, withBlock}
-use borrow.Author.Needs.{needs}
-use Rattle·qbx_words·proofs.proofs.commands.with_block.Statement.{statement}
-use Rattle·qbx_words·proofs.proofs.commands.with_block.Tie as tie
+use Rattle.qbx_words.specs.Command.{as_number, withBlock}
+use borrow.Author.Rules.{rules}
+use Rattle.qbx_words.proofs.commands.with_block.Statement.{statement}
+use Rattle.qbx_words.proofs.commands.with_block.Tie as tie
 
 number-requires : tie.Need-number-requires
-number-requires c κs = search needs
+number-requires c κs = search rules
 
 enum-known-b : tie.Need-enum-known-b
-enum-known-b c = search needs
+enum-known-b c = search rules
 
-enum-told : tie.Need-enum-told
-enum-told c = search needs
+enum_told : tie.Need-enum-told
+enum_told c = search rules
 
 returns : tie.Need-returns
-unfolding withBlock asNumber
-returns c = rw (sym (c .before .before .number .ensures) ∙ c .enum-told .given .1)
+unfolding withBlock as_number
+returns c = rw (sym c.before.before.number.ensures ∙ c.enum_told.given.1)
 
 returns-2 : tie.Need-returns-2
-unfolding withBlock asNumber
-returns-2 c = rw (sym (c .before .before .before .before .number .ensures) ∙ c .before .before .b .given .1, le-ltb _ 65536 (c .if1 .taken))
+unfolding withBlock as_number
+returns-2 c = rw (sym c.before.before.before.before.number.ensures ∙ c.before.before.b.given.1, le-ltb _ 65536 c.if1.true)
 
-cast-t12 : tie.Need-cast-t12
-cast-t12 c = search needs
+cast-t12 : tie.Need-overflow-cast-t12
+cast-t12 c = search rules
 
 with-budget-requires : tie.Need-with-budget-requires
-with-budget-requires c κs = search needs
+with-budget-requires c κs = search rules
 
 returns-3 : tie.Need-returns-3
-unfolding withBlock asNumber
-returns-3 c = rw (sym (c .before .before .before .before .before .number .ensures) ∙ c .before .before .before .b .given .1, lt-ltb _ 65536 (c .before .if1 .left)) (c .with-budget .ensures)
+unfolding withBlock as_number
+returns-3 c = rw (sym c.before.before.before.before.before.number.ensures ∙ c.before.before.before.b.given.1, lt-ltb _ 65536 c.before.if1.false) c.with-budget.ensures
 
 pub with-block-spec : {M : Type 1} → statement M
 with-block-spec =
@@ -39,7 +39,7 @@ with-block-spec =
     (tie.spec
     number-requires
     enum-known-b
-    enum-told
+    enum_told
     returns
     returns-2
     cast-t12
