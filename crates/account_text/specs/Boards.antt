@@ -2,8 +2,8 @@
 use Rattle.std.specs.Prelude.{ℕ, ◌%◌, List, [], ◌∷◌, ◌++◌, replicate}
 use Prim.Native.String.{String}
 use Rattle.model.specs.Chip.{Page, erased}
-use Rattle.model.specs.Header.{openingBegun, opened, erasePending, compacted, Version, version1, version2, newVersion, headerPage, oldIndex}
-use Rattle.model.specs.Slot.{slotPage}
+use Rattle.model.specs.Header.{opening_begun, opened, erase_pending, compacted, Version, version1, version2, new_version, header_page, old_index}
+use Rattle.model.specs.Slot.{slot_page}
 
 -- N, B, the image's pages, the lines of its account, and the rows of its picture without the legend
 pub record Board : Type 0 where
@@ -17,7 +17,7 @@ pub record Board : Type 0 where
 
 -- the header of a segment in use
 abbrev pub used : ℕ → ℕ → Version → ℕ → ℕ → Page
-used N B ver st n = headerPage N B ver st n (oldIndex N (n % N) st)
+used N B ver st n = header_page N B ver st n (old_index N (n % N) st)
 
 abbrev pub status : ℕ → Page
 status st = st ∷ erased 255
@@ -30,7 +30,7 @@ blanks k = replicate k (erased 256)
 
 -- a block with contents of so many bytes
 abbrev pub block : ℕ → ℕ → Page
-block b n = slotPage b (replicate n 1)
+block b n = slot_page b (replicate n 1)
 
 -- ---- four segments of fifteen slots
 
@@ -40,10 +40,10 @@ board pages account picture = record { segments = 4; slots = 15; pages = pages; 
 -- segments 0, 1 and 3 of the sample, of version 1, with these slots in segment 2
 abbrev pub sample : List Page → List Page
 sample third =
-    (used 4 15 version1 opened 4 ∷ slotPage 7 (0x41 ∷ 0x30 ∷ []) ∷ slotPage 9 (0x6E ∷ []) ∷ deads 13)
-    ++ ((used 4 15 version1 opened 5 ∷ slotPage 7 (0x41 ∷ 0x31 ∷ []) ∷ deads 14)
+    (used 4 15 version1 opened 4 ∷ slot_page 7 (0x41 ∷ 0x30 ∷ []) ∷ slot_page 9 (0x6E ∷ []) ∷ deads 13)
+    ++ ((used 4 15 version1 opened 5 ∷ slot_page 7 (0x41 ∷ 0x31 ∷ []) ∷ deads 14)
     ++ ((used 4 15 version1 compacted 6 ∷ third)
-    ++ (used 4 15 version1 erasePending 7 ∷ slotPage 9 (0x6E ∷ []) ∷ slotPage 8 (0x6D ∷ []) ∷ blanks 13)))
+    ++ (used 4 15 version1 erase_pending 7 ∷ slot_page 9 (0x6E ∷ []) ∷ slot_page 8 (0x6D ∷ []) ∷ blanks 13)))
 
 -- ---- three segments of two slots: two lists of pages for those in use first, and what the third is
 
@@ -51,14 +51,14 @@ abbrev small : List Page → List String → List String → Board
 small pages account picture = record { segments = 3; slots = 2; pages = pages; account = account; picture = picture }
 
 abbrev pub v2 : Version
-v2 = newVersion 0
+v2 = new_version 0
 
 -- the one bit that is left, and none
-abbrev lastBit : Version
-lastBit = version2 0 (replicate 223 0 ++ (1 ∷ []))
+abbrev last_bit : Version
+last_bit = version2 0 (replicate 223 0 ++ (1 ∷ []))
 
-abbrev noBits : Version
-noBits = version2 0 (replicate 224 0)
+abbrev no_bits : Version
+no_bits = version2 0 (replicate 224 0)
 
 -- opened, with this number
 abbrev pub first : Version → ℕ → Page
@@ -66,14 +66,14 @@ first ver n = used 3 2 ver opened n
 
 -- a header of which only the mark that opening begun is there
 abbrev pub begun : Page
-begun = erased 5 ++ (openingBegun ∷ erased 250)
+begun = erased 5 ++ (opening_begun ∷ erased 250)
 
 -- before the erase of (b): the old segment, and the others
 abbrev old : List Page
 old = used 3 2 v2 compacted 0 ∷ block 2 0 ∷ deads 1
 
 abbrev second : List Page
-second = (used 3 2 v2 compacted 1 ∷ block 2 0 ∷ deads 1) ++ (used 3 2 lastBit erasePending 2 ∷ blanks 2)
+second = (used 3 2 v2 compacted 1 ∷ block 2 0 ∷ deads 1) ++ (used 3 2 last_bit erase_pending 2 ∷ blanks 2)
 
 unfoldable pub boards : List Board
 boards =
@@ -82,7 +82,7 @@ boards =
     ("seg 0 used num 0 live 0 dead 0 cut 0 empty 15" ∷ "seg 1 blank" ∷ "seg 2 blank" ∷ "seg 3 blank" ∷ "recover 0 steps 0" ∷ [])
     (">  0 used         0 ..............." ∷ "   1 blank" ∷ "   2 blank" ∷ "   3 blank" ∷ [])
     -- a block line reads
-    ∷ board ((used 4 15 v2 opened 0 ∷ slotPage 7 (0x41 ∷ 0x31 ∷ []) ∷ blanks 14) ++ blanks 48)
+    ∷ board ((used 4 15 v2 opened 0 ∷ slot_page 7 (0x41 ∷ 0x31 ∷ []) ∷ blanks 14) ++ blanks 48)
     ("seg 0 used num 0 live 1 dead 0 cut 0 empty 14" ∷ "seg 1 blank" ∷ "seg 2 blank" ∷ "seg 3 blank" ∷ "block 7 len 2 seg 0 slot 1" ∷ "recover 0 steps 0" ∷ [])
     (">  0 used         0 #.............." ∷ "   1 blank" ∷ "   2 blank" ∷ "   3 blank" ∷ [])
     -- the sample, unfinished by (b)
@@ -115,7 +115,7 @@ boards =
     ∷ small ((first v2 0 ∷ block 5 3 ∷ blanks 1) ++ ((begun ∷ blanks 2) ++ blanks 3))
     ("seg 0 used num 0 live 1 dead 0 cut 0 empty 1" ∷ "seg 1 torn" ∷ "seg 2 blank" ∷ "block 5 len 3 seg 0 slot 1" ∷ "recover 0 steps 2" ∷ [])
     (">  0 used         0 #." ∷ "   1 torn" ∷ "   2 blank" ∷ [])
-    ∷ small ((first noBits 0 ∷ block 5 3 ∷ blanks 1) ++ ((begun ∷ blanks 2) ++ blanks 3))
+    ∷ small ((first no_bits 0 ∷ block 5 3 ∷ blanks 1) ++ ((begun ∷ blanks 2) ++ blanks 3))
     ("seg 0 used num 0 live 1 dead 0 cut 0 empty 1" ∷ "seg 1 torn" ∷ "seg 2 blank" ∷ "block 5 len 3 seg 0 slot 1" ∷ "recover 0 steps 1" ∷ [])
     (">  0 used         0 #." ∷ "   1 torn" ∷ "   2 blank" ∷ [])
     -- (b) of version 2, with the last bit; and where the old segment is blank already
@@ -156,7 +156,7 @@ boards =
     ("seg 0 used num 0 live 0 dead 2 cut 0 empty 0" ∷ "seg 1 used num 1 live 0 dead 0 cut 0 empty 2" ∷ "seg 2 blank" ∷ "fails 2" ∷ [])
     ("   0 used         0 xx" ∷ ">  1 used         1 .." ∷ "   2 blank" ∷ [])
     -- 3, one that is not the top owing
-    ∷ small ((used 3 2 v2 erasePending 0 ∷ deads 2) ++ ((first v2 1 ∷ blanks 2) ++ blanks 3))
+    ∷ small ((used 3 2 v2 erase_pending 0 ∷ deads 2) ++ ((first v2 1 ∷ blanks 2) ++ blanks 3))
     ("seg 0 owing num 0 live 0 dead 2 cut 0 empty 0" ∷ "seg 1 used num 1 live 0 dead 0 cut 0 empty 2" ∷ "seg 2 blank" ∷ "fails 3" ∷ [])
     ("   0 owing        0 xx" ∷ ">  1 used         1 .." ∷ "   2 blank" ∷ [])
     -- 4, a segment torn that is not the one after the top
@@ -191,7 +191,7 @@ boards =
     ∷ small ((first v2 0 ∷ status 0 ∷ blanks 1) ++ ((begun ∷ blanks 2) ++ blanks 3))
     ("seg 0 used num 0 live 0 dead 0 cut 0 empty 1" ∷ "seg 1 torn" ∷ "seg 2 blank" ∷ "fails 4" ∷ [])
     (">  0 used         0 !." ∷ "   1 torn" ∷ "   2 blank" ∷ [])
-    ∷ small (blanks 3 ++ ((used 3 2 v2 compacted 1 ∷ status 0 ∷ deads 1) ++ (used 3 2 v2 erasePending 2 ∷ blanks 2)))
+    ∷ small (blanks 3 ++ ((used 3 2 v2 compacted 1 ∷ status 0 ∷ deads 1) ++ (used 3 2 v2 erase_pending 2 ∷ blanks 2)))
     ("seg 0 blank" ∷ "seg 1 used num 1 live 0 dead 1 cut 0 empty 0" ∷ "seg 2 owing num 2 live 0 dead 0 cut 0 empty 2" ∷ "fails 3" ∷ [])
     ("   0 blank" ∷ "   1 used         1 !x" ∷ ">  2 owing        2 .." ∷ [])
     ∷ small ((first v2 0 ∷ block 7 1 ∷ block 7 2 ∷ []) ++ ((first v2 1 ∷ status 0x7F ∷ blanks 1) ++ blanks 3))

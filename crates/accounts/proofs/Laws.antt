@@ -6,37 +6,37 @@ use mathlib.Core.List.{List, ◌++◌, map}
 use lib.ListN.{length, take}
 use lib.Dec.{eqb}
 use borrow.Author.Tests.{not-true}
-use Rattle.model.specs.Chip.{Image, imageLength, in_range, rightSize}
-use Rattle.model.specs.State.{Segment, segmentsOf}
-use Rattle.account_text.specs.Account.{shown, byBlock, block_lines, lastLine, accountOn, accountText, wrongSize}
+use Rattle.model.specs.Chip.{Image, image_length, in_range, right_size}
+use Rattle.model.specs.State.{Segment, segments_of}
+use Rattle.account_text.specs.Account.{shown, by_block, block_lines, last_line, account_on, account_text, wrong_size}
 use Rattle.index.specs.declared.Shown.{Shown}
-use Rattle.index.specs.Shows.{shownOf, shownLines}
+use Rattle.index.specs.Shows.{shown_of, shown_lines}
 use Rattle.index.specs.Tables.{list_of}
-use Rattle.index.specs.Lines.{shown-lines}
+use Rattle.index.specs.Lines.{shown_lines_lem}
 use Rattle.prognosis.specs.declared.Prognosis.{Prognosis}
 use Rattle.prognosis.specs.declared.Prognosis.TheVariants.{Recovers, Fails}
-use Rattle.prognosis.specs.Foretold.{prognosisOf}
-use Rattle.prognosis.proofs.Laws.{line-recovers, line-fails}
+use Rattle.prognosis.specs.Foretold.{prognosis_of}
+use Rattle.prognosis.proofs.Laws.{line_recovers, line_fails}
 use Rattle.accounts.specs.Foretells.{foretold}
 
 -- ---- sizes
 
-pub wrong-account : (N B : ℕ) (s : Image) (t : Bool) → t ≡ (in_range N B && eqb (length s) (imageLength N B)) → not t ≡ true → wrongSize ≡ accountText N B s
-unfolding accountText rightSize
-wrong-account N B s t e h = rw (sym e ∙ not-true t h)
+pub wrong_account : (N B : ℕ) (s : Image) (t : Bool) → t ≡ (in_range N B && eqb (length s) (image_length N B)) → not t ≡ true → wrong_size ≡ account_text N B s
+unfolding account_text right_size
+wrong_account N B s t e h = rw (sym e ∙ not-true t h)
 
-pub right-account : (N B : ℕ) (s : Image) → rightSize N B s ≡ true → accountOn N B (segmentsOf N B s) ≡ accountText N B s
-unfolding accountText
-right-account N B s h = rw h
+pub right_account : (N B : ℕ) (s : Image) → right_size N B s ≡ true → account_on N B (segments_of N B s) ≡ account_text N B s
+unfolding account_text
+right_account N B s h = rw h
 
 -- ---- the account
 
-last-is : (N B : ℕ) (l : List Segment) (p : Prognosis) → p ≡ prognosisOf N B l → foretold p ≡ lastLine N B l
+last_is : (N B : ℕ) (l : List Segment) (p : Prognosis) → p ≡ prognosis_of N B l → foretold p ≡ last_line N B l
 unfolding foretold
-last-is N B l (Recovers n) e = sym (line-recovers N B l (Recovers n) e n refl)
-last-is N B l (Fails k) e = sym (line-fails N B l (Fails k) e k refl)
+last_is N B l (Recovers n) e = sym (line_recovers N B l (Recovers n) e n refl)
+last_is N B l (Fails k) e = sym (line_fails N B l (Fails k) e k refl)
 
-pub composed : (N B : ℕ) (s : Image) (table : List Shown) (p : Prognosis) → take N table ≡ map shownOf (shown N B (segmentsOf N B s)) → p ≡ prognosisOf N B (segmentsOf N B s)
-    → shownLines 0 (take N table) ++ (block_lines (byBlock (list_of N B s)) ++ foretold p) ≡ accountOn N B (segmentsOf N B s)
-unfolding accountOn list_of
-composed N B s table p e q = rw (e, shown-lines 0 (shown N B (segmentsOf N B s)), last-is N B (segmentsOf N B s) p q)
+pub composed : (N B : ℕ) (s : Image) (table : List Shown) (p : Prognosis) → take N table ≡ map shown_of (shown N B (segments_of N B s)) → p ≡ prognosis_of N B (segments_of N B s)
+    → shown_lines 0 (take N table) ++ (block_lines (by_block (list_of N B s)) ++ foretold p) ≡ account_on N B (segments_of N B s)
+unfolding account_on list_of
+composed N B s table p e q = rw (e, shown_lines_lem 0 (shown N B (segments_of N B s)), last_is N B (segments_of N B s) p q)

@@ -2,13 +2,13 @@
 // `requires`: any bytes, any N and B. A text is put together twice, once where nothing holds it, so that its length is known
 // before its first byte is written.
 ghost use Rattle.std.specs.Prelude.{◌≡◌, map, ◌+◌, ◌≤◌, length, take};
-ghost use Rattle.model.specs.State.{segmentsOf};
+ghost use Rattle.model.specs.State.{segments_of};
 ghost use Rattle.flash.specs.Pages.{Sized};
-ghost use Rattle.text.specs.Buffer.{printed, printIn, Wrote, mostText};
-ghost use Rattle.account_text.specs.Account.{shown, accountOn, accountText};
-ghost use Rattle.index.specs.Shows.{shownOf};
+ghost use Rattle.text.specs.Buffer.{printed, print_in, Wrote, most_text};
+ghost use Rattle.account_text.specs.Account.{shown, account_on, account_text};
+ghost use Rattle.index.specs.Shows.{shown_of};
 ghost use Rattle.index.specs.Tables.{tables, Indexed};
-ghost use Rattle.prognosis.specs.Foretold.{prognosisOf};
+ghost use Rattle.prognosis.specs.Foretold.{prognosis_of};
 ghost use Rattle.accounts.specs.Foretells.{foretold};
 
 use index::Shown;
@@ -18,7 +18,7 @@ use prognosis::Prognosis;
 use text::Printed;
 
 fn last_line(text: &mut [u8], at: usize, prognosis: Prognosis) -> usize
-    requires { at + 80 ≤ mostText }
+    requires { at + 80 ≤ most_text }
     ensures { Wrote (foretold prognosis) text.old at text.new result × (result ≤ at + 80) }
 {
     match prognosis {
@@ -39,8 +39,8 @@ fn compose(
     prognosis: Prognosis,
     text: &mut [u8],
 ) -> usize
-    requires { Sized segments slots (length image.now) × (take segments table ≡ map shownOf (shown segments slots (segmentsOf segments slots image.now))) × Indexed segments slots image.now (tables firsts.now nexts.now lengths.now) × (prognosis ≡ prognosisOf segments slots (segmentsOf segments slots image.now)) }
-    ensures { Wrote (accountOn segments slots (segmentsOf segments slots image.now)) text.old 0 text.new result × (result ≤ mostText) }
+    requires { Sized segments slots (length image.now) × (take segments table ≡ map shown_of (shown segments slots (segments_of segments slots image.now))) × Indexed segments slots image.now (tables firsts.now nexts.now lengths.now) × (prognosis ≡ prognosis_of segments slots (segments_of segments slots image.now)) }
+    ensures { Wrote (account_on segments slots (segments_of segments slots image.now)) text.old 0 text.new result × (result ≤ most_text) }
 {
     let listed = printing::segment_lines(text, 0, table, segments);
     let blocks = block_lines::block_lines(
@@ -52,7 +52,7 @@ fn compose(
 // The account of an image: one line for each segment by index and one for each live slot by rising block number, then what
 // recovery would answer, or the first condition that fails.
 pub fn account(image: &[u8], segments: usize, slots: usize, text: &mut [u8]) -> Printed
-    ensures { (printed result text.new ≡ printIn (accountText segments slots image.now) text.old) × (result.length ≤ mostText) }
+    ensures { (printed result text.new ≡ print_in (account_text segments slots image.now) text.old) × (result.length ≤ most_text) }
 {
     if !request::right_size(image.len(), segments, slots) {
         return printing::wrong_size(text);

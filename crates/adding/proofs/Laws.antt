@@ -8,59 +8,59 @@ use native.Mathlib.Omega.{arith}
 use lib.ListN.{length, get_or, replicate, length-append, length-replicate}
 use borrow.Author.Tests.{lt-ltb, le-ltb}
 use Rattle.model.specs.Chip.{Image, Page, Step, erased}
-use Rattle.model.specs.Header.{newVersion}
-use Rattle.model.specs.Slot.{mostContents, slotPage, live, slot_of, Entry, entry_of}
-use Rattle.model.specs.Steps.{onPage, slot_at, writeSlot, openSegment}
+use Rattle.model.specs.Header.{new_version}
+use Rattle.model.specs.Slot.{most_contents, slot_page, live, slot_of, Entry, entry_of}
+use Rattle.model.specs.Steps.{on_page, slot_at, write_slot, open_segment}
 use Rattle.model.specs.Table.{Table}
 use Rattle.model.specs.Laws.SlotPage.{live_facts}
-use Rattle.bridge.specs.Lengths.{page-length, write-length, open-length}
+use Rattle.bridge.specs.Lengths.{page_length, write_length, open_length}
 use Rattle.moves.specs.Placed.{placed}
 use Rattle.flash.specs.Ran.{Programmed}
 use Rattle.flash.specs.Pages.{OnPageAt, Sized}
-use Rattle.flash.proofs.Laws.{◌then◌, ran-none, ran-length}
-use Rattle.flash.proofs.Pages.{in-page}
-use Rattle.slot.specs.Parts.{slotParts}
-use Rattle.slot.proofs.Laws.Writes.{slot-parts}
+use Rattle.flash.proofs.Laws.{◌then◌, ran_none, ran_length}
+use Rattle.flash.proofs.Pages.{in_page}
+use Rattle.slot.specs.Parts.{slot_parts}
+use Rattle.slot.proofs.Laws.Writes.{slot_parts_lem}
 use Rattle.adding.specs.declared.Progress.{Progress}
 use Rattle.adding.specs.Adding.{LivePage, Going, Opened, Added}
 
 -- ---- entries placed
 
 module _ (N B n j : ℕ) (e : Entry) (es : Table) where
-  placed-here : j < B → placed N B n j (e ∷ es) ≡ onPage (slot_at N B n j) (writeSlot e.block e.contents) ++ placed N B n (suc j) es
+  placed_here : j < B → placed N B n j (e ∷ es) ≡ on_page (slot_at N B n j) (write_slot e.block e.contents) ++ placed N B n (suc j) es
   unfolding placed
-  placed-here h = rw (lt-ltb j B h)
+  placed_here h = rw (lt-ltb j B h)
 
-  placed-next : B ≤ j → 0 < B → placed N B n j (e ∷ es) ≡ openSegment N B (newVersion 0) (suc n) ++ placed N B (suc n) 0 (e ∷ es)
+  placed_next : B ≤ j → 0 < B → placed N B n j (e ∷ es) ≡ open_segment N B (new_version 0) (suc n) ++ placed N B (suc n) 0 (e ∷ es)
   unfolding placed
-  placed-next h k = rw (le-ltb j B h, lt-ltb 0 B k)
+  placed_next h k = rw (le-ltb j B h, lt-ltb 0 B k)
 
 -- ---- a top with an empty slot
 
 module _ (N B : ℕ) (p : Progress) (s : Image) (g : Going N B p (length s)) where
-  pub still-free : 0 < p.free → Opened N B p p s s
-  still-free h = record {
+  pub still_free : 0 < p.free → Opened N B p p s s
+  still_free h = record {
     steps = [];
-    came = record { ran = ran-none B p.left s; counted = omega arith; free = g.free; number = omega arith };
+    came = record { ran = ran_none B p.left s; counted = omega arith; free = g.free; number = omega arith };
     some = h;
     few = omega arith;
     next = λ e es. refl;
   }
 
-  pub next-opened : {left : ℕ} {t : Image} → p.free ≤ 0 → Programmed (openSegment N B (newVersion 0) (p.top.0 + 1)) p.left left s t
+  pub next_opened : {left : ℕ} {t : Image} → p.free ≤ 0 → Programmed (open_segment N B (new_version 0) (p.top.0 + 1)) p.left left s t
       → Opened N B p (record { top = record { 0 = p.top.0 + 1 }; free = B; left = left; steps = p.steps + 21 }) s t
-  next-opened h d = record {
-    steps = openSegment N B (newVersion 0) (p.top.0 + 1);
-    came = record { ran = d B; counted = omega (arith, open-length N B 0 (p.top.0 + 1)); free = omega arith; number = omega arith };
+  next_opened h d = record {
+    steps = open_segment N B (new_version 0) (p.top.0 + 1);
+    came = record { ran = d B; counted = omega (arith, open_length N B 0 (p.top.0 + 1)); free = omega arith; number = omega arith };
     some = g.some;
-    few = omega (arith, open-length N B 0 (p.top.0 + 1));
+    few = omega (arith, open_length N B 0 (p.top.0 + 1));
     next = λ e es. next e es;
   }
     where
-      next : (e : Entry) (es : Table) → placed N B p.top.0 (B - p.free) (e ∷ es) ≡ openSegment N B (newVersion 0) (p.top.0 + 1) ++ placed N B (p.top.0 + 1) (B - B) (e ∷ es)
+      next : (e : Entry) (es : Table) → placed N B p.top.0 (B - p.free) (e ∷ es) ≡ open_segment N B (new_version 0) (p.top.0 + 1) ++ placed N B (p.top.0 + 1) (B - B) (e ∷ es)
       next e es =
           let z : B - B ≡ 0 = omega arith in
-          rw (z, add-one) (placed-next N B p.top.0 (B - p.free) e es (omega arith) g.some)
+          rw (z, add-one) (placed_next N B p.top.0 (B - p.free) e es (omega arith) g.some)
 
 -- ---- the page of a live slot
 
@@ -69,10 +69,10 @@ record Says (p : Page) (b : ℕ) (c : List ℕ) : Type 0 where
   whole : length p ≡ 256
   size : get_or p 1 0 ≡ length c
   short : length c ≤ 248
-  writes : slotParts p (get_or p 1 0) ≡ writeSlot b c
+  writes : slot_parts p (get_or p 1 0) ≡ write_slot b c
 
 says : (p : Page) (b : ℕ) (c : List ℕ) → slot_of p ≡ live b c → Says p b c
-unfolding mostContents slotPage erased
+unfolding most_contents slot_page erased
 says p b c h =
     let f = live_facts p b c h in
     let k : length c ≤ 248 = f.short in
@@ -81,7 +81,7 @@ says p b c h =
       whole = omega (arith, ap length f.page, length-append c (replicate (248 - length c) 255), length-replicate {A = ℕ} (248 - length c) 255);
       size = size;
       short = k;
-      writes = ap₂ slotParts f.page size ∙ slot-parts b c;
+      writes = ap₂ slot_parts f.page size ∙ slot_parts_lem b c;
     }
 
 one_entry : (p : Page) (b : ℕ) (c : List ℕ) → slot_of p ≡ live b c → entry_of (slot_of p) ≡ record { block = b; contents = c } ∷ []
@@ -89,35 +89,35 @@ unfolding entry_of
 one_entry p b c h = ap entry_of h
 
 -- it is a whole page, with a length that fits a slot
-pub page-fits : (p : Page) → LivePage p → (length p ≡ 256) × (get_or p 1 0 ≤ 248)
-page-fits p (b, c, h) = let f = says p b c h in (f.whole, omega (arith, f.size, f.short))
+pub page_fits : (p : Page) → LivePage p → (length p ≡ 256) × (get_or p 1 0 ≤ 248)
+page_fits p (b, c, h) = let f = says p b c h in (f.whole, omega (arith, f.size, f.short))
 
 -- a slot lies inside the image
-pub slot-inside : (N B n j bytes : ℕ) → Sized N B bytes → j < B → slot_at N B n j * 256 + 256 ≤ bytes
+pub slot_inside : (N B n j bytes : ℕ) → Sized N B bytes → j < B → slot_at N B n j * 256 + 256 ≤ bytes
 unfolding slot_at
-slot-inside N B n j bytes z h = omega (arith, z.whole, suc-mul (n % N) (B + 1), mul-le-mul_right (B + 1) (mod-lt n {m = N} z.some))
+slot_inside N B n j bytes z h = omega (arith, z.whole, suc-mul (n % N) (B + 1), mul-le-mul_right (B + 1) (mod-lt n {m = N} z.some))
 
 -- its place, from that of the first slot
-pub slot-place : (N B n j first : ℕ) → first ≡ slot_at N B n 0 * 256 → first + j * 256 ≡ slot_at N B n j * 256
+pub slot_place_lem : (N B n j first : ℕ) → first ≡ slot_at N B n 0 * 256 → first + j * 256 ≡ slot_at N B n j * 256
 unfolding slot_at
-slot-place N B n j first e = omega (arith, e)
+slot_place_lem N B n j first e = omega (arith, e)
 
 -- the image keeps its length
-pub opened-length : (N B : ℕ) (p q : Progress) (s t : Image) → Opened N B p q s t → length t ≡ length s
-opened-length N B p q s t o = ran-length o.came.ran
+pub opened_length : (N B : ℕ) (p q : Progress) (s t : Image) → Opened N B p q s t → length t ≡ length s
+opened_length N B p q s t o = ran_length o.came.ran
 
 module _ (N B : ℕ) (p q : Progress) (s t : Image) (o : Opened N B p q s t) (page : Page) (lives : LivePage page) where
-  pub page-added : (l at : ℕ) {left : ℕ} {u : Image} → l ≡ get_or page 1 0 → at ≡ slot_at N B q.top.0 (B - q.free) * 256 → OnPageAt at (slotParts page l) q.left left t u
+  pub page_added : (l at : ℕ) {left : ℕ} {u : Image} → l ≡ get_or page 1 0 → at ≡ slot_at N B q.top.0 (B - q.free) * 256 → OnPageAt at (slot_parts page l) q.left left t u
       → Added N B (entry_of (slot_of page)) p (record { top = q.top; free = q.free - 1; left = left; steps = q.steps + 5 + l }) s u
-  page-added l at {left} {u} el ea d = go lives
+  page_added l at {left} {u} el ea d = go lives
     where
       go : LivePage page → Added N B (entry_of (slot_of page)) p (record { top = q.top; free = q.free - 1; left = left; steps = q.steps + 5 + l }) s u
       go (b, c, h) =
           let f = says page b c h in
           let place = slot_at N B q.top.0 (B - q.free) in
-          let xs = onPage place (writeSlot b c) in
-          let w : Programmed xs q.left left t u = in-page at place (writeSlot b c) ea (rw (el, f.writes) at d) in
-          let size : length xs ≡ 5 + length c = page-length place (writeSlot b c) ∙ write-length b c in
+          let xs = on_page place (write_slot b c) in
+          let w : Programmed xs q.left left t u = in_page at place (write_slot b c) ea (rw (el, f.writes) at d) in
+          let size : length xs ≡ 5 + length c = page_length place (write_slot b c) ∙ write_length b c in
           let both : length (o.steps ++ xs) ≡ length o.steps + length xs = length-append o.steps xs in
           record {
             steps = o.steps ++ xs;
@@ -132,9 +132,9 @@ module _ (N B : ℕ) (p q : Progress) (s t : Image) (o : Opened N B p q s t) (pa
           }
         where
           next : (b : ℕ) (c : List ℕ) → slot_of page ≡ live b c → (es : Table)
-              → placed N B p.top.0 (B - p.free) (entry_of (slot_of page) ++ es) ≡ (o.steps ++ onPage (slot_at N B q.top.0 (B - q.free)) (writeSlot b c)) ++ placed N B q.top.0 (B - (q.free - 1)) es
+              → placed N B p.top.0 (B - p.free) (entry_of (slot_of page) ++ es) ≡ (o.steps ++ on_page (slot_at N B q.top.0 (B - q.free)) (write_slot b c)) ++ placed N B q.top.0 (B - (q.free - 1)) es
           next b c h es =
               let e : Entry = record { block = b; contents = c } in
               let one : entry_of (slot_of page) ≡ e ∷ [] = one_entry page b c h in
               let m : suc (B - q.free) ≡ B - (q.free - 1) = omega (arith, o.some, o.came.free) in
-              rw (one, append_assoc, ← m) (o.next e es ∙ ap (λ (y : List Step). o.steps ++ y) (placed-here N B q.top.0 (B - q.free) e es (omega (arith, o.some, o.came.free))))
+              rw (one, append_assoc, ← m) (o.next e es ∙ ap (λ (y : List Step). o.steps ++ y) (placed_here N B q.top.0 (B - q.free) e es (omega (arith, o.some, o.came.free))))

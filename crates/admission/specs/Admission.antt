@@ -5,7 +5,7 @@ use Rattle.model.specs.Answers.{code_of, first_of}
 use Rattle.model.specs.declared.Answer.{Answer}
 use Rattle.shares.specs.Shares.{shares_of, share_of}
 use Rattle.shares.specs.Layer.{bounds}
-use Rattle.share_list.specs.Places.{shareIn}
+use Rattle.share_list.specs.Places.{share_in}
 use Rattle.share_list.specs.declared.Part.{Part}
 use Rattle.admission.specs.declared.Admitted.{Admitted}
 use Rattle.admission.specs.declared.Admitted.TheVariants.{Part as Within, Refused}
@@ -13,7 +13,7 @@ use Rattle.admission.specs.declared.Admitted.TheVariants.{Part as Within, Refuse
 -- nothing refuses it, and this is the tenant's share
 pub record Allowed (N B : ℕ) (ns : List ℕ) (s : Image) (a b : ℕ) (p : Part) : Type 0 where
   pub code : first_of (bounds N B ns s a b) ≡ 0
-  pub share : shareIn p ≡ share_of (shares_of ns) a
+  pub share : share_in p ≡ share_of (shares_of ns) a
 
 -- it is refused with an answer that is not 0
 pub record Kept (N B : ℕ) (ns : List ℕ) (s : Image) (a b : ℕ) (x : Answer) : Type 0 where

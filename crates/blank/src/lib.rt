@@ -1,9 +1,9 @@
 // The blank test: whether bytes are as an erase has left them, eight at a time.
 ghost use Rattle.std.specs.Prelude.{◌≡◌, ◌*◌, ◌/◌, length};
 ghost use Rattle.model.specs.Lists.{chunk};
-ghost use Rattle.model.specs.Header.{isBlank};
-ghost use Rattle.model.specs.Blank.{groups_of, blankGroups};
-ghost use Rattle.blank.specs.Leading.{leadingBlank};
+ghost use Rattle.model.specs.Header.{is_blank};
+ghost use Rattle.model.specs.Blank.{groups_of, blank_groups};
+ghost use Rattle.blank.specs.Leading.{leading_blank};
 
 // What it tells of some bytes: whether each is 255, and how many groups of eight were looked at.
 #[derive(Drop)]
@@ -15,14 +15,14 @@ pub struct BlankTest {
 // Whether each byte of a group is 255. Joined by `&`, the eight are loaded as one word.
 fn group_blank(group: &[u8]) -> bool
     requires { length group.now ≡ 8 }
-    ensures { result ≡ isBlank group.now }
+    ensures { result ≡ is_blank group.now }
 {
     (group[0] & group[1] & group[2] & group[3] & group[4] & group[5] & group[6] & group[7]) == 255
 }
 
 // The same of bytes that make no whole group.
 fn rest_blank(rest: &[u8]) -> bool
-    ensures { result ≡ isBlank rest.now }
+    ensures { result ≡ is_blank rest.now }
 {
     let mut joined: u8 = 255;
     let mut i = 0;
@@ -36,7 +36,7 @@ fn rest_blank(rest: &[u8]) -> bool
 // How many of four groups come before the first that differs.
 fn leading_four(four: &[u8]) -> usize
     requires { length four.now ≡ 32 }
-    ensures { result ≡ leadingBlank (chunk 4 8 four.now) }
+    ensures { result ≡ leading_blank (chunk 4 8 four.now) }
 {
     if !group_blank(&four[0..8]) {
         return 0;
@@ -55,7 +55,7 @@ fn leading_four(four: &[u8]) -> usize
 
 // The same of as many times four groups as there are. With four to a turn the loop itself costs little.
 fn leading_fours(bytes: &[u8]) -> usize
-    ensures { result ≡ leadingBlank (chunk (4 * (length bytes.now / 32)) 8 bytes.now) }
+    ensures { result ≡ leading_blank (chunk (4 * (length bytes.now / 32)) 8 bytes.now) }
 {
     let fours = bytes.len() / 32;
     let mut i = 0;
@@ -73,7 +73,7 @@ fn leading_fours(bytes: &[u8]) -> usize
 
 // The same of all whole groups.
 fn leading(bytes: &[u8]) -> usize
-    ensures { result ≡ leadingBlank (chunk (length bytes.now / 8) 8 bytes.now) }
+    ensures { result ≡ leading_blank (chunk (length bytes.now / 8) 8 bytes.now) }
 {
     let whole = bytes.len() / 8;
     let mut groups = leading_fours(bytes);
@@ -94,7 +94,7 @@ fn leading(bytes: &[u8]) -> usize
 // The same with a shorter last group. (`leading` is called in two places and so stays a call; the rest is small enough to
 // become part of whatever asks for the test.)
 fn blank_before(bytes: &[u8]) -> usize
-    ensures { result ≡ leadingBlank (groups_of bytes.now) }
+    ensures { result ≡ leading_blank (groups_of bytes.now) }
 {
     if bytes.len() % 8 == 0 {
         return leading(bytes);
@@ -119,7 +119,7 @@ fn blank_before(bytes: &[u8]) -> usize
 
 // Looks at one group after the other, up to the first that differs.
 pub fn blank_test(bytes: &[u8]) -> BlankTest
-    ensures { (result.blank ≡ isBlank bytes.now) × (result.groups ≡ blankGroups bytes.now) }
+    ensures { (result.blank ≡ is_blank bytes.now) × (result.groups ≡ blank_groups bytes.now) }
 {
     let all = (bytes.len() + 7) / 8;
     let before = blank_before(bytes);

@@ -2,9 +2,9 @@
 ghost use Rattle.std.specs.Prelude.{◌++◌, ◌+◌, ◌*◌, ◌<◌, ◌≤◌, length};
 ghost use Rattle.flash.specs.Pages.{Sized};
 ghost use Rattle.text.specs.Text.{text as ascii};
-ghost use Rattle.text.specs.Buffer.{Wrote, mostText};
-ghost use Rattle.account_text.specs.Account.{blockText, block_lines, byBlock};
-ghost use Rattle.index.specs.Tables.{tables, Chain, AllStand, ofBlock, list_of, Indexed};
+ghost use Rattle.text.specs.Buffer.{Wrote, most_text};
+ghost use Rattle.account_text.specs.Account.{block_text, block_lines, by_block};
+ghost use Rattle.index.specs.Tables.{tables, Chain, AllStand, of_block, list_of, Indexed};
 
 // Of a live slot, its line but for the end.
 pub fn block_text(
@@ -15,8 +15,8 @@ pub fn block_text(
     segment: u32,
     slot: u32,
 ) -> usize
-    requires { at + 80 ≤ mostText }
-    ensures { Wrote (blockText block length segment slot) text.old at text.new result × (result ≤ at + 62) }
+    requires { at + 80 ≤ most_text }
+    ensures { Wrote (block_text block length segment slot) text.old at text.new result × (result ≤ at + 62) }
 {
     let blocks = text::add_labelled(text, at, b"block ", block);
     let lengths = text::add_labelled(text, blocks, b" len ", length);
@@ -26,8 +26,8 @@ pub fn block_text(
 
 // The whole line, of an account.
 fn block_line(text: &mut [u8], at: usize, block: u32, length: u32, segment: u32, slot: u32) -> usize
-    requires { at + 80 ≤ mostText }
-    ensures { Wrote (blockText block length segment slot ++ ascii "\n") text.old at text.new result × (result ≤ at + 80) }
+    requires { at + 80 ≤ most_text }
+    ensures { Wrote (block_text block length segment slot ++ ascii "\n") text.old at text.new result × (result ≤ at + 80) }
 {
     let end = block_text(text, at, block, length, segment, slot);
     text::add(text, end, b"\n")
@@ -46,8 +46,8 @@ fn chain_lines(
     text: &mut [u8],
     at: usize,
 ) -> usize
-    requires { Sized segments slots (length image.now) × (block < 65536) × Chain slots nexts.now lengths.now first (ofBlock block (list_of segments slots image.now)) × AllStand segments slots (ofBlock block (list_of segments slots image.now)) × (length (ofBlock block (list_of segments slots image.now)) < 65536) × (at + 80 * (length (ofBlock block (list_of segments slots image.now)) + 1) ≤ mostText) }
-    ensures { Wrote (block_lines (ofBlock block (list_of segments slots image.now))) text.old at text.new result × (result ≤ at + 80 * length (ofBlock block (list_of segments slots image.now))) }
+    requires { Sized segments slots (length image.now) × (block < 65536) × Chain slots nexts.now lengths.now first (of_block block (list_of segments slots image.now)) × AllStand segments slots (of_block block (list_of segments slots image.now)) × (length (of_block block (list_of segments slots image.now)) < 65536) × (at + 80 * (length (of_block block (list_of segments slots image.now)) + 1) ≤ most_text) }
+    ensures { Wrote (block_lines (of_block block (list_of segments slots image.now))) text.old at text.new result × (result ≤ at + 80 * length (of_block block (list_of segments slots image.now))) }
 {
     let pages = slots as u32 + 1;
     let mut page = first as usize;
@@ -75,7 +75,7 @@ pub fn block_lines(
     at: usize,
 ) -> usize
     requires { Sized segments slots (length image.now) × Indexed segments slots image.now (tables firsts.now nexts.now lengths.now) × (at ≤ 100000) }
-    ensures { Wrote (block_lines (byBlock (list_of segments slots image.now))) text.old at text.new result × (result ≤ at + 80 * 65536) }
+    ensures { Wrote (block_lines (by_block (list_of segments slots image.now))) text.old at text.new result × (result ≤ at + 80 * 65536) }
 {
     let mut end = at;
     let mut block: usize = 0;

@@ -1,12 +1,12 @@
 // The candidates of an image by block number (request #113), gathered in one walk over the segments that are looked at, from
 // the highest number down and in each from the last slot up.
 ghost use Rattle.std.specs.Prelude.{◌≡◌, true, false, length, replicate};
-ghost use Rattle.model.specs.Chip.{rightSize};
-ghost use Rattle.model.specs.State.{segmentsOf};
+ghost use Rattle.model.specs.Chip.{right_size};
+ghost use Rattle.model.specs.State.{segments_of};
 ghost use Rattle.flash.specs.Pages.{Sized};
 ghost use Rattle.salvage.specs.Salvage.{candidates};
 ghost use Rattle.meeting.specs.Sheet.{sheet, Within};
-ghost use Rattle.candidates.specs.Gathered.{metAll, Gathered};
+ghost use Rattle.candidates.specs.Gathered.{met_all, Gathered};
 
 // The candidates met, from the last one on.
 fn walk(
@@ -18,7 +18,7 @@ fn walk(
     differs: &mut [bool; 65536],
 )
     requires { Sized segments slots (length image.now) × Within places.old (length image.now) }
-    ensures { sheet places.new lengths.new differs.new ≡ metAll image.now slots (candidates segments (segmentsOf segments slots image.now)) (sheet places.old lengths.old differs.old) }
+    ensures { sheet places.new lengths.new differs.new ≡ met_all image.now slots (candidates segments (segments_of segments slots image.now)) (sheet places.old lengths.old differs.old) }
 {
     let mut left = regard::regarded(image, segments, slots);
     let mut top = descent::largest(&left, segments);
@@ -40,7 +40,7 @@ pub fn gather(
     lengths: &mut [u8; 65536],
     differs: &mut [bool; 65536],
 )
-    requires { (rightSize segments slots image.now ≡ true) × (places.old ≡ replicate 65536 0) × (lengths.old ≡ replicate 65536 0) × (differs.old ≡ replicate 65536 false) }
+    requires { (right_size segments slots image.now ≡ true) × (places.old ≡ replicate 65536 0) × (lengths.old ≡ replicate 65536 0) × (differs.old ≡ replicate 65536 false) }
     ensures { Gathered segments slots image.now (sheet places.new lengths.new differs.new) }
 {
     walk(image, segments, slots, places, lengths, differs);

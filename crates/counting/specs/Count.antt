@@ -1,26 +1,26 @@
 -- What the code counts: the block numbers that a walk over slots sees, one after the other, and what they make of a count.
 use Rattle.std.specs.Prelude.{ℕ, zero, suc, ◌+◌, ◌*◌, ◌%◌, Bool, cond, ◌||◌, ◌&&◌, List, [], ◌∷◌, ◌++◌, get_or, drop, leb, eqb}
-use Rattle.model.specs.Chip.{Image, Page, mostSegments, mostSlots}
-use Rattle.model.specs.Slot.{written, pageBlock}
+use Rattle.model.specs.Chip.{Image, Page, most_segments, most_slots}
+use Rattle.model.specs.Slot.{written, page_block}
 use Rattle.model.specs.Laws.Segments.{part_of}
 use Rattle.counting.specs.declared.Sought.{Sought}
 use Rattle.counting.specs.declared.Met.{Met}
 
 -- no image has more slots
-abbrev pub mostMet : ℕ
-mostMet = mostSegments * mostSlots
+abbrev pub most_met : ℕ
+most_met = most_segments * most_slots
 
 -- ---- the walk
 
 -- the block numbers of the live slots of one segment, of its slots' pages: they end with the first whose status is 255
-unfoldable pub numbersIn : List Page → List ℕ
-numbersIn [] = []
-numbersIn (p ∷ ps) = let later = numbersIn ps in cond (eqb (get_or p 0 0) 255) [] (cond (eqb (get_or p 0 0) written) (pageBlock p ∷ later) later)
+unfoldable pub numbers_in : List Page → List ℕ
+numbers_in [] = []
+numbers_in (p ∷ ps) = let later = numbers_in ps in cond (eqb (get_or p 0 0) 255) [] (cond (eqb (get_or p 0 0) written) (page_block p ∷ later) later)
 
 -- those of the segments with the u numbers from n on
-unfoldable pub numbersAt : ℕ → ℕ → Image → ℕ → ℕ → List ℕ
-numbersAt N B s zero n = []
-numbersAt N B s (suc u) n = numbersIn (drop 1 (part_of N B (n % N) s)) ++ numbersAt N B s u (suc n)
+unfoldable pub numbers_at : ℕ → ℕ → Image → ℕ → ℕ → List ℕ
+numbers_at N B s zero n = []
+numbers_at N B s (suc u) n = numbers_in (drop 1 (part_of N B (n % N) s)) ++ numbers_at N B s u (suc n)
 
 -- ---- the count
 

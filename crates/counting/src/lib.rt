@@ -3,9 +3,9 @@
 ghost use Rattle.std.specs.Prelude.{◌≡◌, cond, ◌&&◌, ◌+◌, ◌*◌, ◌≤◌, ◌<◌, length, drop};
 ghost use Rattle.model.specs.Lists.{chunk};
 ghost use Rattle.model.specs.State.{holds};
-ghost use Rattle.model.specs.Table.{liveBetween, table_of};
+ghost use Rattle.model.specs.Table.{live_between, table_of};
 ghost use Rattle.places.specs.Places.{Fillable};
-ghost use Rattle.counting.specs.Count.{mostMet, numbersIn, in_range, meet, meet_all};
+ghost use Rattle.counting.specs.Count.{most_met, numbers_in, in_range, meet, meet_all};
 
 use model::{BlockNumber, SegmentNumber, SlotPlace};
 
@@ -47,7 +47,7 @@ fn counts(sought: Sought, live: bool, block: u16) -> bool
 
 // One slot more, by its block number if it is live.
 fn meet(sought: Sought, met: Met, live: bool, block: u16) -> Met
-    requires { met.blocks < mostMet }
+    requires { met.blocks < most_met }
     ensures { result ≡ cond live (meet sought met block) met }
 {
     let counted = counts(sought, live, block);
@@ -63,8 +63,8 @@ fn meet(sought: Sought, met: Met, live: bool, block: u16) -> Met
 
 // The slots of one segment, from the first of them on, up to the first that nothing was written to. It looks at three bytes of each.
 fn meet_slots(image: &[u8], slots: usize, from: SlotPlace, sought: Sought, before: Met) -> Met
-    requires { (from.0 + slots * 256 ≤ length image.now) × (before.blocks + slots ≤ mostMet) }
-    ensures { (result ≡ meet_all sought before (numbersIn (chunk slots 256 (drop from.0 image.now)))) × (result.blocks ≤ before.blocks + slots) }
+    requires { (from.0 + slots * 256 ≤ length image.now) × (before.blocks + slots ≤ most_met) }
+    ensures { (result ≡ meet_all sought before (numbers_in (chunk slots 256 (drop from.0 image.now)))) × (result.blocks ≤ before.blocks + slots) }
 {
     let start = from.0;
     let mut met = before;
@@ -92,7 +92,7 @@ pub fn count_live(
     sought: Sought,
 ) -> Met
     requires { Fillable segments slots image.now first.0 used }
-    ensures { (result.blocks ≡ liveBetween sought.first.0 sought.last.0 (table_of segments slots image.now)) × (result.stored ≡ holds sought.block.0 (table_of segments slots image.now)) }
+    ensures { (result.blocks ≡ live_between sought.first.0 sought.last.0 (table_of segments slots image.now)) × (result.stored ≡ holds sought.block.0 (table_of segments slots image.now)) }
 {
     let mut met = Met {
         blocks: 0,

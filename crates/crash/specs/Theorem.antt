@@ -3,58 +3,58 @@ use Rattle.std.specs.Prelude.{ℕ, ◌≡◌, refl, true, List, []}
 use Rattle.std.proofs.Math.Path.{ap}
 use Rattle.std.proofs.Common.{◌∙◌}
 use Rattle.std.proofs.Math.Bool.{false}
-use Rattle.model.specs.Chip.{Image, Bytes, rightSize, run}
-use Rattle.model.specs.Header.{newVersion, isFormer}
-use Rattle.model.specs.State.{View, entriesIn}
-use Rattle.model.specs.Steps.{formatSteps}
+use Rattle.model.specs.Chip.{Image, Bytes, right_size, run}
+use Rattle.model.specs.Header.{new_version, is_former}
+use Rattle.model.specs.State.{View, entries_in}
+use Rattle.model.specs.Steps.{format_steps}
 use Rattle.model.specs.Table.{store, table_of}
 use Rattle.model.specs.Answers.{put}
 use Rattle.bridge.specs.Predicted.{fresh}
-use Rattle.bridge.specs.Requests.{put-done, after_table, after-former}
-use Rattle.bridge.specs.Format.{format-done, fresh-table}
+use Rattle.bridge.specs.Requests.{put_done, after_table, after_former}
+use Rattle.bridge.specs.Format.{format_done, fresh_table}
 use Rattle.crash.specs.Demand2.{Demand2, FromClean, FromFormer, FromFormerLeft}
-use Rattle.crash.specs.Sound.{Clean, finished, Accepted, formerIn, DoneWith, RequestLaws}
-use Rattle.crash.specs.Starts.{demand2-from, clean-from, former-from, former-left-from}
-use Rattle.crash.specs.States.{kept-shows}
-use Rattle.crash.specs.Recover.{recover-done, recover-cut}
+use Rattle.crash.specs.Sound.{Clean, finished, Accepted, former_in, DoneWith, RequestLaws}
+use Rattle.crash.specs.Starts.{demand2_from, clean_from, former_from, former_left_from}
+use Rattle.crash.specs.States.{kept_shows}
+use Rattle.crash.specs.Recover.{recover_done, recover_cut}
 use Rattle.crash.specs.Read.{read_done}
-use Rattle.crash.specs.Delete.{finished-delete, delete-cut}
-use Rattle.crash.specs.PutCut.{put-cut}
+use Rattle.crash.specs.Delete.{finished_delete, delete_cut}
+use Rattle.crash.specs.PutCut.{put_cut}
 
 module _ (N B : ℕ) where
-  finished-format : (s : Image) → rightSize N B s ≡ true → Clean N B (run B (formatSteps N B) s) × (table_of N B (run B (formatSteps N B) s) ≡ []) × (formerIn N B (run B (formatSteps N B) s) ≡ false)
+  finished_format : (s : Image) → right_size N B s ≡ true → Clean N B (run B (format_steps N B) s) × (table_of N B (run B (format_steps N B) s) ≡ []) × (former_in N B (run B (format_steps N B) s) ≡ false)
   unfolding table_of
-  finished-format s z =
-      let d = format-done N B s z in
-      let version : isFormer (fresh B).version ≡ false = (unfold fresh newVersion isFormer in refl) in
-      (d.0, ap entriesIn d.1 ∙ fresh-table B, ap (λ (y : View). isFormer y.version) d.1 ∙ version)
+  finished_format s z =
+      let d = format_done N B s z in
+      let version : is_former (fresh B).version ≡ false = (unfold fresh new_version is_former in refl) in
+      (d.0, ap entries_in d.1 ∙ fresh_table B, ap (λ (y : View). is_former y.version) d.1 ∙ version)
 
-  finished-put : (s : Image) (b : ℕ) (c : List ℕ) → rightSize N B s ≡ true → Bytes s → Clean N B s → Bytes c → Accepted N B s (put b c)
-      → DoneWith N B (finished N B s (put b c)) (store b c (table_of N B s)) (formerIn N B s)
+  finished_put : (s : Image) (b : ℕ) (c : List ℕ) → right_size N B s ≡ true → Bytes s → Clean N B s → Bytes c → Accepted N B s (put b c)
+      → DoneWith N B (finished N B s (put b c)) (store b c (table_of N B s)) (former_in N B s)
   unfolding table_of
-  finished-put s b c z y h yc e =
-      let d = put-done N B s z h b c y yc e in (d.0, rw d.1 (after_table N B s z h b c y yc e), ap (λ (x : View). isFormer x.version) d.1 ∙ after-former N B s z h b c y yc e)
+  finished_put s b c z y h yc e =
+      let d = put_done N B s z h b c y yc e in (d.0, rw d.1 (after_table N B s z h b c y yc e), ap (λ (x : View). is_former x.version) d.1 ∙ after_former N B s z h b c y yc e)
 
-  pub request-laws : RequestLaws N B
-  request-laws = record {
-    format-done = finished-format;
-    put-done = finished-put;
-    put-cut = put-cut N B;
-    delete-done = λ s b z h a. finished-delete N B s b z h a;
-    delete-cut = λ s u b z h a c. delete-cut N B s b z h a u c;
+  pub request_laws : RequestLaws N B
+  request_laws = record {
+    format_done = finished_format;
+    put_done = finished_put;
+    put_cut = put_cut N B;
+    delete_done = λ s b z h a. finished_delete N B s b z h a;
+    delete_cut = λ s u b z h a c. delete_cut N B s b z h a u c;
     read_done = read_done N B;
-    recover-done = recover-done N B;
-    recover-cut = λ s u z h c. kept-shows N B s u (recover-cut N B s u z h c);
+    recover_done = recover_done N B;
+    recover_cut = λ s u z h c. kept_shows N B s u (recover_cut N B s u z h c);
   }
 
 pub demand2 : Demand2
-demand2 = demand2-from request-laws
+demand2 = demand2_from request_laws
 
-pub from-clean : FromClean
-from-clean = clean-from request-laws
+pub from_clean : FromClean
+from_clean = clean_from request_laws
 
-pub from-former : FromFormer
-from-former = former-from request-laws
+pub from_former : FromFormer
+from_former = former_from request_laws
 
-pub from-former-left : FromFormerLeft
-from-former-left = former-left-from request-laws
+pub from_former_left : FromFormerLeft
+from_former_left = former_left_from request_laws

@@ -9,118 +9,118 @@ use Rattle.std.proofs.Math.Decide.{dec_lt}
 use Rattle.std.proofs.Math.ListN.{length}
 use Rattle.std.proofs.Math.Seq.{take-set-lt}
 use Rattle.model.specs.Lists.{count}
-use Rattle.model.specs.Chip.{Image, mostSegments, mostSlots}
+use Rattle.model.specs.Chip.{Image, most_segments, most_slots}
 use Rattle.model.specs.Slot.{Slot}
-use Rattle.model.specs.State.{Segment, blank, invalid, inUse, isInUse, numberAfter, slotsIn, topIndex, topSlots, nextNumber, usedCount}
-use Rattle.model.specs.Laws.Lists.{map-set, count_none}
-use Rattle.model.specs.Laws.Ring.{next-at, next-ge}
-use Rattle.judge.specs.Rows.{slotsAt}
-use Rattle.judge.specs.Parts.{slotsOffset}
-use Rattle.account_text.specs.Account.{liveFrom, live_in}
-use Rattle.index.specs.Tables.{mostPages}
-use Rattle.index.specs.Walks.{Held, some_next, held-less, top_below, top-used, used-fewer, number-use}
-use Rattle.descent.specs.Descent.{largest, largest-next, Descent}
+use Rattle.model.specs.State.{Segment, blank, invalid, in_use, is_in_use, number_after, slots_in, top_index, top_slots, next_number, used_count}
+use Rattle.model.specs.Laws.Lists.{map_set, count_none}
+use Rattle.model.specs.Laws.Ring.{next_at, next_ge}
+use Rattle.judge.specs.Rows.{slots_at}
+use Rattle.judge.specs.Parts.{slots_offset}
+use Rattle.account_text.specs.Account.{live_from, live_in}
+use Rattle.index.specs.Tables.{most_pages}
+use Rattle.index.specs.Walks.{Held, some_next, held_less, top_below, top_used, used_fewer, number_use}
+use Rattle.descent.specs.Descent.{largest, largest_next, Descent}
 
 -- how many are left, by their numbers
-left-count : (m : List Segment) → count (λ n. ltb 0 n) (map numberAfter m) ≡ usedCount m
-unfolding usedCount count map
-left-count [] = refl
-left-count (x ∷ m) = ap₂ (λ (a : Bool) (b : ℕ). cond a (suc b) b) (one x) (left-count m)
+left_count : (m : List Segment) → count (λ n. ltb 0 n) (map number_after m) ≡ used_count m
+unfolding used_count count map
+left_count [] = refl
+left_count (x ∷ m) = ap₂ (λ (a : Bool) (b : ℕ). cond a (suc b) b) (one x) (left_count m)
   where
-    one : (x : Segment) → ltb 0 (numberAfter x) ≡ isInUse x
-    one blank = unfold numberAfter isInUse in refl
-    one invalid = unfold numberAfter isInUse in refl
-    one (inUse ver st n ks) = unfold numberAfter isInUse in (lt-ltb 0 (suc n) (omega arith))
+    one : (x : Segment) → ltb 0 (number_after x) ≡ is_in_use x
+    one blank = unfold number_after is_in_use in refl
+    one invalid = unfold number_after is_in_use in refl
+    one (in_use ver st n ks) = unfold number_after is_in_use in (lt-ltb 0 (suc n) (omega arith))
 
 module _ (N B : ℕ) (s : Image) (some : 0 < N) where
-  pub descent-start : (m : List Segment) (left : List ℕ) (next : ℕ) → Held N B s m → length left ≡ mostSegments → take N left ≡ map numberAfter m → next ≡ largest (take N left) → Descent N B s m left next
-  descent-start m left next h l n e = record { held = h; numbers = n; top = e ∙ (ap largest n ∙ largest-next m); places = l }
+  pub descent_start : (m : List Segment) (left : List ℕ) (next : ℕ) → Held N B s m → length left ≡ most_segments → take N left ≡ map number_after m → next ≡ largest (take N left) → Descent N B s m left next
+  descent_start m left next h l n e = record { held = h; numbers = n; top = e ∙ (ap largest n ∙ largest_next m); places = l }
 
   -- ---- a turn: the top is walked over
 
   module _ (m : List Segment) (left : List ℕ) (next : ℕ) (w : Descent N B s m left next) (more : 0 < next) where
     abbrev rest : List Segment
-    rest = set m (topIndex N m) blank
+    rest = set m (top_index N m) blank
 
-    number : nextNumber m ≡ suc (nextNumber m - 1)
+    number : next_number m ≡ suc (next_number m - 1)
     number = let e = w.top in omega arith
 
-    used : 0 < usedCount m
-    used = elim (dec_lt 0 (usedCount m)) [ yes h ↦ h | no h ↦ absurd (false≢true (sym (count_none isInUse m place.0 blank (unfold usedCount in (omega (arith, h))) place.1) ∙ number-use (get_or m place.0 blank) (nextNumber m - 1) (place.2 ∙ number))) ]
+    used : 0 < used_count m
+    used = elim (dec_lt 0 (used_count m)) [ yes h ↦ h | no h ↦ absurd (false≢true (sym (count_none is_in_use m place.0 blank (unfold used_count in (omega (arith, h))) place.1) ∙ number_use (get_or m place.0 blank) (next_number m - 1) (place.2 ∙ number))) ]
       where
-        place : (j : ℕ) × (j < length m) × (numberAfter (get_or m j blank) ≡ nextNumber m)
-        place = next-at m (let e = w.top in omega arith)
+        place : (j : ℕ) × (j < length m) × (number_after (get_or m j blank) ≡ next_number m)
+        place = next_at m (let e = w.top in omega arith)
 
-    pub turn_below : topIndex N m < N
+    pub turn_below : top_index N m < N
     turn_below = top_below N m some
 
-    pub turn-index : (next - 1) % N ≡ topIndex N m
-    turn-index = unfold topIndex in (ap (λ (k : ℕ). (k - 1) % N) w.top)
+    pub turn_index : (next - 1) % N ≡ top_index N m
+    turn_index = unfold top_index in (ap (λ (k : ℕ). (k - 1) % N) w.top)
 
     -- it is in use, and its slots are those of the image
-    pub turn-used : isInUse (get_or m (topIndex N m) blank) ≡ true
-    turn-used = top-used N B s m some w.held used
+    pub turn_used : is_in_use (get_or m (top_index N m) blank) ≡ true
+    turn_used = top_used N B s m some w.held used
 
-    pub turn-row : slotsIn (get_or m (topIndex N m) blank) ≡ slotsAt s (slotsOffset B (topIndex N m)) B
-    turn-row = w.held.slots (topIndex N m) turn_below turn-used
+    pub turn_row : slots_in (get_or m (top_index N m) blank) ≡ slots_at s (slots_offset B (top_index N m)) B
+    turn_row = w.held.slots (top_index N m) turn_below turn_used
 
-    pub turn-gone : isInUse (get_or (set m (topIndex N m) blank) (topIndex N m) blank) ≡ false
-    turn-gone = ap isInUse (get_or-set_same m (topIndex N m) blank blank (rw w.held.count turn_below)) ∙ (unfold isInUse in refl)
+    pub turn_gone : is_in_use (get_or (set m (top_index N m) blank) (top_index N m) blank) ≡ false
+    turn_gone = ap is_in_use (get_or-set_same m (top_index N m) blank blank (rw w.held.count turn_below)) ∙ (unfold is_in_use in refl)
 
-    fewer : usedCount m ≡ suc (usedCount rest)
-    fewer = sym (used-fewer N B s m some w.held used)
+    fewer : used_count m ≡ suc (used_count rest)
+    fewer = sym (used_fewer N B s m some w.held used)
 
     -- its live slots come behind those of the rest
-    pub turn-live : live_in N (usedCount m) m ≡ live_in N (usedCount (set m (topIndex N m) blank)) (set m (topIndex N m) blank) ++ liveFrom (topIndex N m) 1 (slotsAt s (slotsOffset B (topIndex N m)) B)
-    turn-live =
-        let tops : topSlots N m ≡ slotsAt s (slotsOffset B (topIndex N m)) B = (unfold topSlots in turn-row) in
-        ap (λ (k : ℕ). live_in N k m) fewer ∙ (in-more (usedCount rest) ∙ ap (λ (ks : List Slot). live_in N (usedCount rest) rest ++ liveFrom (topIndex N m) 1 ks) tops)
+    pub turn_live : live_in N (used_count m) m ≡ live_in N (used_count (set m (top_index N m) blank)) (set m (top_index N m) blank) ++ live_from (top_index N m) 1 (slots_at s (slots_offset B (top_index N m)) B)
+    turn_live =
+        let tops : top_slots N m ≡ slots_at s (slots_offset B (top_index N m)) B = (unfold top_slots in turn_row) in
+        ap (λ (k : ℕ). live_in N k m) fewer ∙ (in_more (used_count rest) ∙ ap (λ (ks : List Slot). live_in N (used_count rest) rest ++ live_from (top_index N m) 1 ks) tops)
       where
-        in-more : (k : ℕ) → live_in N (suc k) m ≡ live_in N k (set m (topIndex N m) blank) ++ liveFrom (topIndex N m) 1 (topSlots N m)
-        in-more k = unfold live_in in refl
+        in_more : (k : ℕ) → live_in N (suc k) m ≡ live_in N k (set m (top_index N m) blank) ++ live_from (top_index N m) 1 (top_slots N m)
+        in_more k = unfold live_in in refl
 
-    numbers-turn : take N (set left (topIndex N m) 0) ≡ map numberAfter rest
-    numbers-turn = take-set-lt N left (topIndex N m) 0 turn_below ∙ (ap (λ (z : List ℕ). set z (topIndex N m) 0) w.numbers ∙ (sym (map-set numberAfter m (topIndex N m) blank ∙ ap (set (map numberAfter m) (topIndex N m)) (unfold numberAfter in refl))))
+    numbers_turn : take N (set left (top_index N m) 0) ≡ map number_after rest
+    numbers_turn = take-set-lt N left (top_index N m) 0 turn_below ∙ (ap (λ (z : List ℕ). set z (top_index N m) 0) w.numbers ∙ (sym (map_set number_after m (top_index N m) blank ∙ ap (set (map number_after m) (top_index N m)) (unfold number_after in refl))))
 
     -- i is its index
-    pub turn : (i later : ℕ) → i ≡ topIndex N m → later ≡ largest (take N (set left i 0)) → Descent N B s (set m (topIndex N m) blank) (set left i 0) later
+    pub turn : (i later : ℕ) → i ≡ top_index N m → later ≡ largest (take N (set left i 0)) → Descent N B s (set m (top_index N m) blank) (set left i 0) later
     turn i later e =
-        subst (λ (k : ℕ). later ≡ largest (take N (set left k 0)) → Descent N B s (set m (topIndex N m) blank) (set left k 0) later) (sym e) (λ q. record {
-          held = held-less N B s m some w.held;
-          numbers = numbers-turn;
-          top = q ∙ (ap largest numbers-turn ∙ largest-next rest);
-          places = length-set left (topIndex N m) 0 ∙ w.places;
+        subst (λ (k : ℕ). later ≡ largest (take N (set left k 0)) → Descent N B s (set m (top_index N m) blank) (set left k 0) later) (sym e) (λ q. record {
+          held = held_less N B s m some w.held;
+          numbers = numbers_turn;
+          top = q ∙ (ap largest numbers_turn ∙ largest_next rest);
+          places = length-set left (top_index N m) 0 ∙ w.places;
         })
 
     -- one fewer is left
-    pub turn-less : count (λ n. ltb 0 n) (take N (set left ((next - 1) % N) 0)) < count (λ n. ltb 0 n) (take N left)
-    turn-less =
-        let q : count (λ n. ltb 0 n) (take N left) ≡ usedCount m = ap (count (λ n. ltb 0 n)) w.numbers ∙ left-count m in
-        let z : count (λ n. ltb 0 n) (take N (set left ((next - 1) % N) 0)) ≡ usedCount rest = ap (λ (k : ℕ). count (λ n. ltb 0 n) (take N (set left k 0))) turn-index ∙ (ap (count (λ n. ltb 0 n)) numbers-turn ∙ left-count rest) in
+    pub turn_less : count (λ n. ltb 0 n) (take N (set left ((next - 1) % N) 0)) < count (λ n. ltb 0 n) (take N left)
+    turn_less =
+        let q : count (λ n. ltb 0 n) (take N left) ≡ used_count m = ap (count (λ n. ltb 0 n)) w.numbers ∙ left_count m in
+        let z : count (λ n. ltb 0 n) (take N (set left ((next - 1) % N) 0)) ≡ used_count rest = ap (λ (k : ℕ). count (λ n. ltb 0 n) (take N (set left k 0))) turn_index ∙ (ap (count (λ n. ltb 0 n)) numbers_turn ∙ left_count rest) in
         let d = fewer in
         omega arith
 
   -- ---- the end
 
   module _ (m : List Segment) (left : List ℕ) (next : ℕ) (w : Descent N B s m left next) (z : next ≡ 0) where
-    pub end-unused : (j : ℕ) → isInUse (get_or m j blank) ≡ false
-    end-unused j = go (get_or m j blank) (next-ge m j)
+    pub end_unused : (j : ℕ) → is_in_use (get_or m j blank) ≡ false
+    end_unused j = go (get_or m j blank) (next_ge m j)
       where
-        go : (x : Segment) → numberAfter x ≤ nextNumber m → isInUse x ≡ false
-        go blank h = unfold isInUse in refl
-        go invalid h = unfold isInUse in refl
-        go (inUse ver st n ks) h = let q : suc n ≤ nextNumber m = (unfold numberAfter in h) in let e = w.top in absurd (omega arith)
+        go : (x : Segment) → number_after x ≤ next_number m → is_in_use x ≡ false
+        go blank h = unfold is_in_use in refl
+        go invalid h = unfold is_in_use in refl
+        go (in_use ver st n ks) h = let q : suc n ≤ next_number m = (unfold number_after in h) in let e = w.top in absurd (omega arith)
 
-    pub end_live : live_in N (usedCount m) m ≡ []
-    end_live = ap (λ (k : ℕ). live_in N k m) (unused (usedCount m) refl) ∙ (unfold live_in in refl)
+    pub end_live : live_in N (used_count m) m ≡ []
+    end_live = ap (λ (k : ℕ). live_in N k m) (unused (used_count m) refl) ∙ (unfold live_in in refl)
       where
-        unused : (k : ℕ) → usedCount m ≡ k → usedCount m ≡ 0
+        unused : (k : ℕ) → used_count m ≡ k → used_count m ≡ 0
         unused zero e = e
         unused (suc k) e = let q = some_next m (omega arith) in let r = w.top in absurd (omega arith)
 
 -- a segment's pages are in the image
-pub page-inside : (N B i : ℕ) → i < N → N ≤ mostSegments → B ≤ mostSlots → (i * (B + 1) < 18446744073709551616) × (i * (B + 1) + B < mostPages) × (i * (B + 1) + B + 1 ≤ N * (B + 1))
-page-inside N B i h n b =
+pub page_inside : (N B i : ℕ) → i < N → N ≤ most_segments → B ≤ most_slots → (i * (B + 1) < 18446744073709551616) × (i * (B + 1) + B < most_pages) × (i * (B + 1) + B + 1 ≤ N * (B + 1))
+page_inside N B i h n b =
     let p = mul-le-mul_right (B + 1) h in
     let q = suc-mul i (B + 1) in
     let m = mul-le-mul_right (B + 1) n in

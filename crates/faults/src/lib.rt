@@ -1,14 +1,14 @@
 // The first of the eight conditions of Clean that an image fails (request #101: fails). Nothing is excused, and any bytes may
 // be in the image. Headers first; slots only where conditions 1 to 4 hold, since they say which segments are looked at.
 ghost use Rattle.std.specs.Prelude.{◌≡◌, true, not, ◌&&◌, ◌||◌, ◌+◌, ◌*◌, ◌<◌, ◌≤◌, length};
-ghost use Rattle.model.specs.Chip.{mostSegments, mostSlots, rightSize};
-ghost use Rattle.model.specs.State.{conditions, numbersFrom, segmentsOf};
+ghost use Rattle.model.specs.Chip.{most_segments, most_slots, right_size};
+ghost use Rattle.model.specs.State.{conditions, numbers_from, segments_of};
 ghost use Rattle.flash.specs.Pages.{Sized};
 ghost use Rattle.judge.specs.Heads.{bare};
-ghost use Rattle.judge.specs.Parts.{rowsOn};
-ghost use Rattle.judge.specs.Rows.{kindsAt};
-ghost use Rattle.account_text.specs.Account.{firstFailing};
-ghost use Rattle.faults.specs.Tests.{testHead, headTests, headPlace, headsTold, wrote, nextRow, look, testSlot, testSlots, rowsTested, slotPlace};
+ghost use Rattle.judge.specs.Parts.{rows_on};
+ghost use Rattle.judge.specs.Rows.{kinds_at};
+ghost use Rattle.account_text.specs.Account.{first_failing};
+ghost use Rattle.faults.specs.Tests.{test_head, head_tests, head_place, heads_told, wrote, next_row, look, test_slot, test_slots, rows_tested, slot_place};
 
 use judge::{HeaderCounts, Summary};
 use model::SlotKind;
@@ -54,8 +54,8 @@ fn still(held: bool, broken: bool) -> bool
 
 // One segment more.
 fn test_head(tests: HeadTests, s: Summary) -> HeadTests
-    requires { (tests.counts.used < mostSegments) × (tests.counts.next ≤ 4294967296) }
-    ensures { (result ≡ testHead tests (bare s)) × (result.counts.used ≤ tests.counts.used + 1) × (result.counts.next ≤ 4294967296) }
+    requires { (tests.counts.used < most_segments) × (tests.counts.next ≤ 4294967296) }
+    ensures { (result ≡ test_head tests (bare s)) × (result.counts.used ≤ tests.counts.used + 1) × (result.counts.next ≤ 4294967296) }
 {
     let counts = segments::count_one(tests.counts, s);
     let none_owing = still(tests.none_owing, summary::is_owing(s));
@@ -70,7 +70,7 @@ fn test_head(tests: HeadTests, s: Summary) -> HeadTests
 // Every segment.
 fn test_heads(image: &[u8], segments: usize, slots: usize) -> HeadTests
     requires { Sized segments slots (length image.now) }
-    ensures { (result ≡ headTests (segmentsOf segments slots image.now)) × (result.counts.used ≤ mostSegments) × (result.counts.next ≤ 4294967296) }
+    ensures { (result ≡ head_tests (segments_of segments slots image.now)) × (result.counts.used ≤ most_segments) × (result.counts.next ≤ 4294967296) }
 {
     let mut tests = HeadTests {
         counts: segments::none_counted(),
@@ -89,8 +89,8 @@ fn test_heads(image: &[u8], segments: usize, slots: usize) -> HeadTests
 // Whether so many segments are in use with the numbers from the first on. Each is looked at once more where its number
 // puts it: one that is in use costs a header, and a table of them would be a copy for each hand-over.
 fn numbers_follow(image: &[u8], segments: usize, slots: usize, first: usize, used: usize) -> bool
-    requires { Sized segments slots (length image.now) × (first ≤ 4294967296) × (used ≤ mostSegments) }
-    ensures { result ≡ numbersFrom segments (segmentsOf segments slots image.now) used first }
+    requires { Sized segments slots (length image.now) × (first ≤ 4294967296) × (used ≤ most_segments) }
+    ensures { result ≡ numbers_from segments (segments_of segments slots image.now) used first }
 {
     let mut k: usize = 0;
     while k < used {
@@ -116,7 +116,7 @@ fn one_version(counts: HeaderCounts) -> bool
 // The first of conditions 1 to 4 that fails, or 0.
 fn head_place(tests: HeadTests, follow: bool, segments: usize) -> usize
     requires { 0 < segments }
-    ensures { result ≡ headPlace segments tests follow }
+    ensures { result ≡ head_place segments tests follow }
 {
     let counts = tests.counts;
     if counts.used == 0 {
@@ -143,7 +143,7 @@ fn head_place(tests: HeadTests, follow: bool, segments: usize) -> usize
 // What the headers tell.
 fn see_heads(image: &[u8], segments: usize, slots: usize) -> HeadsTold
     requires { Sized segments slots (length image.now) }
-    ensures { (result ≡ headsTold segments (segmentsOf segments slots image.now)) × (result.first ≤ 4294967296) × (result.used ≤ mostSegments) }
+    ensures { (result ≡ heads_told segments (segments_of segments slots image.now)) × (result.first ≤ 4294967296) × (result.used ≤ most_segments) }
 {
     let tests = test_heads(image, segments, slots);
     let counts = tests.counts;
@@ -173,7 +173,7 @@ fn written(tests: SlotTests, sound: bool, distinct: bool, live: usize) -> SlotTe
 // The next slot. The number of a live one is met, whatever came before.
 fn test_slot(tests: SlotTests, kind: SlotKind, seen: &mut [u64; 1024]) -> SlotTests
     requires { tests.live ≤ 1000000 }
-    ensures { look result seen.new ≡ testSlot kind (look tests seen.old) }
+    ensures { look result seen.new ≡ test_slot kind (look tests seen.old) }
 {
     let sound = tests.sound;
     let distinct = tests.distinct;
@@ -205,8 +205,8 @@ fn test_row(
     before: SlotTests,
     seen: &mut [u64; 1024],
 ) -> SlotTests
-    requires { (at + slots * 256 ≤ length image.now) × (slots ≤ mostSlots) × (before.live ≤ 100000) }
-    ensures { (look result seen.new ≡ testSlots (kindsAt image.now at slots) (look before seen.old)) × (result.live ≤ before.live + slots) }
+    requires { (at + slots * 256 ≤ length image.now) × (slots ≤ most_slots) × (before.live ≤ 100000) }
+    ensures { (look result seen.new ≡ test_slots (kinds_at image.now at slots) (look before seen.old)) × (result.live ≤ before.live + slots) }
 {
     let mut tests = before;
     let mut i: usize = 0;
@@ -221,7 +221,7 @@ fn test_row(
 
 // A segment follows: those before may have no empty slot.
 fn next_row(tests: SlotTests) -> SlotTests
-    ensures { result ≡ nextRow tests }
+    ensures { result ≡ next_row tests }
 {
     let full = still(tests.in_order, tests.room);
     SlotTests {
@@ -235,8 +235,8 @@ fn next_row(tests: SlotTests) -> SlotTests
 
 // The slots of so many segments, by number from the first on.
 fn test_rows(image: &[u8], segments: usize, slots: usize, first: usize, used: usize) -> SlotTests
-    requires { Sized segments slots (length image.now) × (first ≤ 4294967296) × (used ≤ mostSegments) }
-    ensures { result ≡ rowsTested (rowsOn image.now segments slots used first) }
+    requires { Sized segments slots (length image.now) × (first ≤ 4294967296) × (used ≤ most_segments) }
+    ensures { result ≡ rows_tested (rows_on image.now segments slots used first) }
 {
     let mut seen = [0u64; 1024];
     let mut tests = SlotTests {
@@ -257,7 +257,7 @@ fn test_rows(image: &[u8], segments: usize, slots: usize, first: usize, used: us
 
 // The first of conditions 5 to 8 that fails, or 0.
 fn slot_place(tests: SlotTests, most: usize) -> usize
-    ensures { result ≡ slotPlace most tests }
+    ensures { result ≡ slot_place most tests }
 {
     if !tests.sound {
         return 5;
@@ -276,8 +276,8 @@ fn slot_place(tests: SlotTests, most: usize) -> usize
 
 // The first condition of Clean that fails, or 0 if the image is clean.
 pub fn first_failing(image: &[u8], segments: usize, slots: usize) -> usize
-    requires { rightSize segments slots image.now ≡ true }
-    ensures { (result ≡ firstFailing 1 (conditions segments slots (segmentsOf segments slots image.now))) × (result ≤ 8) }
+    requires { right_size segments slots image.now ≡ true }
+    ensures { (result ≡ first_failing 1 (conditions segments slots (segments_of segments slots image.now))) × (result ≤ 8) }
 {
     let told = see_heads(image, segments, slots);
     if told.place > 0 {

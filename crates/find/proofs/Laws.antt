@@ -13,39 +13,39 @@ use borrow.Author.Tests.{eq-eqb, ne_eqb}
 use Rattle.model.specs.declared.BlockNumber.{BlockNumber}
 use Rattle.model.specs.declared.SlotKind.{SlotKind}
 use Rattle.model.specs.declared.SlotKind.TheVariants.{Live}
-use Rattle.model.specs.Chip.{Image, Page, pagesOf}
-use Rattle.model.specs.Slot.{written, slotPage, Slot, empty, torn, dead, cut, wrong, live, slot_of, kind_of, entry_of}
-use Rattle.model.specs.State.{entries, holds, slotFrom, placeFrom}
+use Rattle.model.specs.Chip.{Image, Page, pages_of}
+use Rattle.model.specs.Slot.{written, slot_page, Slot, empty, torn, dead, cut, wrong, live, slot_of, kind_of, entry_of}
+use Rattle.model.specs.State.{entries, holds, slot_from, place_from}
 use Rattle.model.specs.Steps.{slot_at}
-use Rattle.model.specs.Table.{lookup, contentsFound}
+use Rattle.model.specs.Table.{lookup, contents_found}
 use Rattle.model.specs.Laws.Chunk.{chunk_part}
-use Rattle.model.specs.Laws.Segments.{part_of, part-page, part-size, page-in}
+use Rattle.model.specs.Laws.Segments.{part_of, part_page, part_size, page_in}
 use Rattle.model.specs.Laws.SlotPage.{live_facts}
-use Rattle.bridge.specs.Views.Slots.{entries-append, entries-cons}
+use Rattle.bridge.specs.Views.Slots.{entries_append, entries_cons}
 use Rattle.flash.specs.Pages.{Sized}
-use Rattle.slot.proofs.Laws.Kinds.{Other, other-holds}
+use Rattle.slot.proofs.Laws.Kinds.{Other, other_holds}
 use Rattle.find.specs.declared.Found.{Found}
 use Rattle.find.specs.declared.Found.TheVariants.{At, Nothing}
-use Rattle.find.specs.Search.{mayHold, rows_at, foundIn}
-use Rattle.model.specs.Laws.Tables.{holds-append, lookup-append}
+use Rattle.find.specs.Search.{may_hold, rows_at, found_in}
+use Rattle.model.specs.Laws.Tables.{holds_append, lookup_append}
 
 -- ---- what a slot's kind says of the block
 
 -- one of another kind than live does not hold it
-other-lacks : (b : ℕ) (k : Slot) → Other (kind_of k) → holds b (entry_of k) ≡ false
+other_lacks : (b : ℕ) (k : Slot) → Other (kind_of k) → holds b (entry_of k) ≡ false
 unfolding holds
-other-lacks b k h = ap (holds b) (other-holds k h)
+other_lacks b k h = ap (holds b) (other_holds k h)
 
 -- a live one holds its block, with contents of its length
-live-holds : (b : ℕ) (k : Slot) (l : ℕ) (n : BlockNumber) → kind_of k ≡ Live l n
-    → (holds b (entry_of k) ≡ eqb b n.0) × (eqb b n.0 ≡ true → length (contentsFound (lookup b (entry_of k))) ≡ l)
-unfolding kind_of entry_of holds lookup contentsFound
-live-holds b empty l n e = absurd (let z : ◌≡◌ {A = ℕ} 0 1 = cc in omega arith)
-live-holds b torn l n e = absurd (let z : ◌≡◌ {A = ℕ} 0 1 = cc in omega arith)
-live-holds b dead l n e = absurd (let z : ◌≡◌ {A = ℕ} 0 1 = cc in omega arith)
-live-holds b cut l n e = absurd (let z : ◌≡◌ {A = ℕ} 0 1 = cc in omega arith)
-live-holds b wrong l n e = absurd (let z : ◌≡◌ {A = ℕ} 0 1 = cc in omega arith)
-live-holds b (live m c) l n e =
+live_holds : (b : ℕ) (k : Slot) (l : ℕ) (n : BlockNumber) → kind_of k ≡ Live l n
+    → (holds b (entry_of k) ≡ eqb b n.0) × (eqb b n.0 ≡ true → length (contents_found (lookup b (entry_of k))) ≡ l)
+unfolding kind_of entry_of holds lookup contents_found
+live_holds b empty l n e = absurd (let z : ◌≡◌ {A = ℕ} 0 1 = cc in omega arith)
+live_holds b torn l n e = absurd (let z : ◌≡◌ {A = ℕ} 0 1 = cc in omega arith)
+live_holds b dead l n e = absurd (let z : ◌≡◌ {A = ℕ} 0 1 = cc in omega arith)
+live_holds b cut l n e = absurd (let z : ◌≡◌ {A = ℕ} 0 1 = cc in omega arith)
+live_holds b wrong l n e = absurd (let z : ◌≡◌ {A = ℕ} 0 1 = cc in omega arith)
+live_holds b (live m c) l n e =
     let f : ◌≡◌ {A = BlockNumber} (record { 0 = m }) n = cc in
     let g : m ≡ n.0 = ap (λ (x : BlockNumber). x.0) f in
     let h : length c ≡ l = cc in
@@ -54,17 +54,17 @@ live-holds b (live m c) l n e =
 -- ---- the quick test
 
 -- its last comparison decides
-pub last_byte : (p : Page) (b : ℕ) → get_or p 0 0 ≡ written → get_or p 2 0 ≡ b % 256 → eqb (get_or p 3 0) (b / 256) ≡ mayHold p b
-unfolding mayHold
+pub last_byte : (p : Page) (b : ℕ) → get_or p 0 0 ≡ written → get_or p 2 0 ≡ b % 256 → eqb (get_or p 3 0) (b / 256) ≡ may_hold p b
+unfolding may_hold
 last_byte p b s e = rw (eq-eqb (get_or p 0 0) written s, eq-eqb (get_or p 2 0) (b % 256) e)
 
 -- a slot whose status or number is another holds no such block
-passed_over : (p : Page) (b : ℕ) {t : Bool} → t ≡ mayHold p b → t ≡ false → holds b (entry_of (slot_of p)) ≡ false
+passed_over : (p : Page) (b : ℕ) {t : Bool} → t ≡ may_hold p b → t ≡ false → holds b (entry_of (slot_of p)) ≡ false
 unfolding entry_of holds
 passed_over p b d f = go (slot_of p) refl
   where
-    same : (c : List ℕ) → slot_of p ≡ live b c → mayHold p b ≡ true
-    same c e = rw (live_facts p b c e).page (unfold mayHold slotPage in simp (eq-eqb (b % 256) (b % 256) refl, eq-eqb (b / 256) (b / 256) refl))
+    same : (c : List ℕ) → slot_of p ≡ live b c → may_hold p b ≡ true
+    same c e = rw (live_facts p b c e).page (unfold may_hold slot_page in simp (eq-eqb (b % 256) (b % 256) refl, eq-eqb (b / 256) (b / 256) refl))
 
     go : (k : Slot) → slot_of p ≡ k → holds b (entry_of k) ≡ false
     go empty e = refl
@@ -80,52 +80,52 @@ module _ (N B b n : ℕ) where
   -- what is found among the slots from slot j of the segment with number n on, and in the rows after them
   unfoldable pub found_from : ℕ → List Slot → List (List Slot) → Found
   found_from j ks rows =
-      cond (holds b (entries ks)) (At (record { 0 = slot_at N B n (slotFrom b j ks) * 256 }) (length (contentsFound (lookup b (entries ks))))) (foundIn N B (suc n) rows b)
+      cond (holds b (entries ks)) (At (record { 0 = slot_at N B n (slot_from b j ks) * 256 }) (length (contents_found (lookup b (entries ks))))) (found_in N B (suc n) rows b)
 
-  pub row-enter : (ks : List Slot) (rows : List (List Slot)) → foundIn N B n (ks ∷ rows) b ≡ found_from 0 ks rows
-  unfolding found_from foundIn flatten placeFrom
-  row-enter ks rows = go (holds b (entries ks)) refl
+  pub row_enter : (ks : List Slot) (rows : List (List Slot)) → found_in N B n (ks ∷ rows) b ≡ found_from 0 ks rows
+  unfolding found_from found_in flatten place_from
+  row_enter ks rows = go (holds b (entries ks)) refl
     where
-      go : (t : Bool) → holds b (entries ks) ≡ t → foundIn N B n (ks ∷ rows) b ≡ found_from 0 ks rows
-      go true e = rw (entries-append ks (flatten rows), holds-append b (entries ks) (entries (flatten rows)), lookup-append b (entries ks) (entries (flatten rows)), e)
-      go false e = rw (entries-append ks (flatten rows), holds-append b (entries ks) (entries (flatten rows)), lookup-append b (entries ks) (entries (flatten rows)), e)
+      go : (t : Bool) → holds b (entries ks) ≡ t → found_in N B n (ks ∷ rows) b ≡ found_from 0 ks rows
+      go true e = rw (entries_append ks (flatten rows), holds_append b (entries ks) (entries (flatten rows)), lookup_append b (entries ks) (entries (flatten rows)), e)
+      go false e = rw (entries_append ks (flatten rows), holds_append b (entries ks) (entries (flatten rows)), lookup_append b (entries ks) (entries (flatten rows)), e)
 
   pub slot_next : (j : ℕ) (k : Slot) (ks : List Slot) (rows : List (List Slot)) → holds b (entry_of k) ≡ false → found_from j (k ∷ ks) rows ≡ found_from (j + 1) ks rows
-  unfolding found_from slotFrom
-  slot_next j k ks rows e = rw (add-one j, entries-cons k ks, holds-append b (entry_of k) (entries ks), lookup-append b (entry_of k) (entries ks), e)
+  unfolding found_from slot_from
+  slot_next j k ks rows e = rw (add-one j, entries_cons k ks, holds_append b (entry_of k) (entries ks), lookup_append b (entry_of k) (entries ks), e)
 
-  pub slot-stop : (j : ℕ) (k : Slot) (ks : List Slot) (rows : List (List Slot)) → holds b (entry_of k) ≡ true
-      → found_from j (k ∷ ks) rows ≡ At (record { 0 = slot_at N B n j * 256 }) (length (contentsFound (lookup b (entry_of k))))
-  unfolding found_from slotFrom
-  slot-stop j k ks rows e = rw (entries-cons k ks, holds-append b (entry_of k) (entries ks), lookup-append b (entry_of k) (entries ks), e)
+  pub slot_stop : (j : ℕ) (k : Slot) (ks : List Slot) (rows : List (List Slot)) → holds b (entry_of k) ≡ true
+      → found_from j (k ∷ ks) rows ≡ At (record { 0 = slot_at N B n j * 256 }) (length (contents_found (lookup b (entry_of k))))
+  unfolding found_from slot_from
+  slot_stop j k ks rows e = rw (entries_cons k ks, holds_append b (entry_of k) (entries ks), lookup_append b (entry_of k) (entries ks), e)
 
-  pub row-end : (j : ℕ) (rows : List (List Slot)) → found_from j [] rows ≡ foundIn N B (suc n) rows b
+  pub row_end : (j : ℕ) (rows : List (List Slot)) → found_from j [] rows ≡ found_in N B (suc n) rows b
   unfolding found_from entries flat_map holds
-  row-end j rows = refl
+  row_end j rows = refl
 
 -- ---- the slots of an image, one after the other
 
 -- those of the segment with number n, from slot j on
-abbrev pub slotsLeft : ℕ → ℕ → Image → ℕ → ℕ → List Slot
-slotsLeft N B s n j = map slot_of (drop (suc j) (part_of N B (n % N) s))
+abbrev pub slots_left : ℕ → ℕ → Image → ℕ → ℕ → List Slot
+slots_left N B s n j = map slot_of (drop (suc j) (part_of N B (n % N) s))
 
 -- the page that is read for slot j
-abbrev pub pageRead : Image → ℕ → Page
-pageRead s at = take (at + 256 - at) (drop at s)
+abbrev pub page_read : Image → ℕ → Page
+page_read s at = take (at + 256 - at) (drop at s)
 
-pub left-next : (N B : ℕ) (s : Image) (n j at : ℕ) → n % N < N → j < B → at ≡ slot_at N B n 0 * 256 + j * 256
-    → slotsLeft N B s n j ≡ slot_of (pageRead s at) ∷ slotsLeft N B s n (j + 1)
-unfolding pagesOf slot_at
-left-next N B s n j at i h e =
+pub left_next : (N B : ℕ) (s : Image) (n j at : ℕ) → n % N < N → j < B → at ≡ slot_at N B n 0 * 256 + j * 256
+    → slots_left N B s n j ≡ slot_of (page_read s at) ∷ slots_left N B s n (j + 1)
+unfolding pages_of slot_at
+left_next N B s n j at i h e =
     let f : at + 256 - at ≡ 256 = omega arith in
     let g : at ≡ (n % N * (B + 1) + suc j) * 256 = omega arith in
     let p : get_or (part_of N B (n % N) s) (suc j) [] ≡ take 256 (drop ((n % N * (B + 1) + suc j) * 256) s) =
-    part-page N B (n % N) (suc j) s i (omega arith) ∙ chunk_part 256 (N * (B + 1)) (n % N * (B + 1) + suc j) s (page-in N B (n % N) (suc j) i (omega arith)) in
-    rw (f, g, ← p, add-one j, drop-cons (part_of N B (n % N) s) (suc j) [] (omega (arith, part-size N B (n % N) s i)))
+    part_page N B (n % N) (suc j) s i (omega arith) ∙ chunk_part 256 (N * (B + 1)) (n % N * (B + 1) + suc j) s (page_in N B (n % N) (suc j) i (omega arith)) in
+    rw (f, g, ← p, add-one j, drop-cons (part_of N B (n % N) s) (suc j) [] (omega (arith, part_size N B (n % N) s i)))
 
-pub left_end : (N B : ℕ) (s : Image) (n j : ℕ) → n % N < N → B ≤ j → slotsLeft N B s n j ≡ []
+pub left_end : (N B : ℕ) (s : Image) (n j : ℕ) → n % N < N → B ≤ j → slots_left N B s n j ≡ []
 left_end N B s n j i h =
-    let e : drop (suc j) (part_of N B (n % N) s) ≡ [] = drop_of_length-le (part_of N B (n % N) s) {i = suc j} (omega (arith, part-size N B (n % N) s i)) in
+    let e : drop (suc j) (part_of N B (n % N) s) ≡ [] = drop_of_length-le (part_of N B (n % N) s) {i = suc j} (omega (arith, part_size N B (n % N) s i)) in
     rw e
 
 -- ---- the walk over the segments
@@ -133,18 +133,18 @@ left_end N B s n j i h =
 -- what the rows from a turn on give is the whole answer
 pub record Searching (N B b : ℕ) (s : Image) (first used turn : ℕ) : Type 0 where
   pub within : turn ≤ used
-  pub rest : foundIn N B (first + turn) (rows_at N B s (used - turn) (first + turn)) b ≡ foundIn N B first (rows_at N B s used first) b
+  pub rest : found_in N B (first + turn) (rows_at N B s (used - turn) (first + turn)) b ≡ found_in N B first (rows_at N B s used first) b
 
-pub searching-start : (N B b : ℕ) (s : Image) (first used : ℕ) → Searching N B b s first used 0
-searching-start N B b s first used =
+pub searching_start : (N B b : ℕ) (s : Image) (first used : ℕ) → Searching N B b s first used 0
+searching_start N B b s first used =
     let e : first + 0 ≡ first = omega arith in
     let f : used - 0 ≡ used = omega arith in
     record { within = omega arith; rest = rw (e, f) }
 
-pub searching-end : (N B b : ℕ) (s : Image) (first used turn : ℕ) → Searching N B b s first used turn → used ≤ turn
-    → Nothing ≡ foundIn N B first (rows_at N B s used first) b
-unfolding foundIn rows_at flatten entries flat_map holds
-searching-end N B b s first used turn w h = let e : used - turn ≡ 0 = omega arith in rw e at w.rest
+pub searching_end : (N B b : ℕ) (s : Image) (first used turn : ℕ) → Searching N B b s first used turn → used ≤ turn
+    → Nothing ≡ found_in N B first (rows_at N B s used first) b
+unfolding found_in rows_at flatten entries flat_map holds
+searching_end N B b s first used turn w h = let e : used - turn ≡ 0 = omega arith in rw e at w.rest
 
 -- ---- the walk over the slots of one of them
 
@@ -155,13 +155,13 @@ pub record Walking (N B b : ℕ) (s : Image) (first used turn from slot : ℕ) :
   pub index : (first + turn) % N < N
   pub here : from ≡ slot_at N B (first + turn) 0 * 256
   pub reads : from + B * 256 ≤ length s
-  pub rest : found_from N B b (first + turn) slot (slotsLeft N B s (first + turn) slot) (rows_at N B s (used - (turn + 1)) (suc (first + turn)))
-      ≡ foundIn N B first (rows_at N B s used first) b
+  pub rest : found_from N B b (first + turn) slot (slots_left N B s (first + turn) slot) (rows_at N B s (used - (turn + 1)) (suc (first + turn)))
+      ≡ found_in N B first (rows_at N B s used first) b
 
 -- its slots lie in the image
-pub slots-inside : (N B n : ℕ) → n % N < N → slot_at N B n 0 * 256 + B * 256 ≤ N * (B + 1) * 256
+pub slots_inside : (N B n : ℕ) → n % N < N → slot_at N B n 0 * 256 + B * 256 ≤ N * (B + 1) * 256
 unfolding slot_at
-slots-inside N B n h = omega (arith, mul-le-mul_right (B + 1) h, suc-mul (n % N) (B + 1))
+slots_inside N B n h = omega (arith, mul-le-mul_right (B + 1) h, suc-mul (n % N) (B + 1))
 
 pub walking_start : (N B b : ℕ) (s : Image) (first used turn from : ℕ) → Sized N B (length s) → Searching N B b s first used turn → turn < used
     → from ≡ slot_at N B (first + turn) 0 * 256 → Walking N B b s first used turn from 0
@@ -175,28 +175,28 @@ walking_start N B b s first used turn from z w h e =
       within = omega arith;
       index = i;
       here = e;
-      reads = omega (arith, z.whole, slots-inside N B n i);
-      rest = sym (row-enter N B b n (slotsLeft N B s n 0) (rows_at N B s (used - (turn + 1)) (suc n))) ∙ rw u at w.rest;
+      reads = omega (arith, z.whole, slots_inside N B n i);
+      rest = sym (row_enter N B b n (slots_left N B s n 0) (rows_at N B s (used - (turn + 1)) (suc n))) ∙ rw u at w.rest;
     }
 
 module _ (N B b : ℕ) (s : Image) (first used turn from slot : ℕ) (w : Walking N B b s first used turn from slot) where
   abbrev rows : List (List Slot)
   rows = rows_at N B s (used - (turn + 1)) (suc (first + turn))
 
-  pub walking-end : B ≤ slot → Searching N B b s first used (turn + 1)
-  walking-end h =
+  pub walking_end : B ≤ slot → Searching N B b s first used (turn + 1)
+  walking_end h =
       let e : suc (first + turn) ≡ first + (turn + 1) = omega arith in
-      let f : foundIn N B (suc (first + turn)) rows b ≡ foundIn N B first (rows_at N B s used first) b =
-      sym (row-end N B b (first + turn) slot rows) ∙ rw (left_end N B s (first + turn) slot w.index h) at w.rest in
+      let f : found_in N B (suc (first + turn)) rows b ≡ found_in N B first (rows_at N B s used first) b =
+      sym (row_end N B b (first + turn) slot rows) ∙ rw (left_end N B s (first + turn) slot w.index h) at w.rest in
       record { within = omega (arith, w.more); rest = rw e at f }
 
   -- a slot read: passed over, of another kind, of another block, or the one
   module _ (h : slot < B) where
     abbrev kind : Slot
-    kind = slot_of (pageRead s (from + slot * 256))
+    kind = slot_of (page_read s (from + slot * 256))
 
-    unread : found_from N B b (first + turn) slot (kind ∷ slotsLeft N B s (first + turn) (slot + 1)) rows ≡ foundIn N B first (rows_at N B s used first) b
-    unread = rw (left-next N B s (first + turn) slot (from + slot * 256) w.index h (omega (arith, w.here))) at w.rest
+    unread : found_from N B b (first + turn) slot (kind ∷ slots_left N B s (first + turn) (slot + 1)) rows ≡ found_in N B first (rows_at N B s used first) b
+    unread = rw (left_next N B s (first + turn) slot (from + slot * 256) w.index h (omega (arith, w.here))) at w.rest
 
     passed : holds b (entry_of kind) ≡ false → Walking N B b s first used turn from (slot + 1)
     passed e = record {
@@ -205,25 +205,25 @@ module _ (N B b : ℕ) (s : Image) (first used turn from slot : ℕ) (w : Walkin
       index = w.index;
       here = w.here;
       reads = w.reads;
-      rest = sym (slot_next N B b (first + turn) slot kind (slotsLeft N B s (first + turn) (slot + 1)) rows e) ∙ unread;
+      rest = sym (slot_next N B b (first + turn) slot kind (slots_left N B s (first + turn) (slot + 1)) rows e) ∙ unread;
     }
 
-    pub walking-over : {t : Bool} → t ≡ mayHold (pageRead s (from + slot * 256)) b → t ≡ false → Walking N B b s first used turn from (slot + 1)
-    walking-over d f = passed (passed_over (pageRead s (from + slot * 256)) b d f)
+    pub walking_over : {t : Bool} → t ≡ may_hold (page_read s (from + slot * 256)) b → t ≡ false → Walking N B b s first used turn from (slot + 1)
+    walking_over d f = passed (passed_over (page_read s (from + slot * 256)) b d f)
 
     module _ (k : SlotKind) (d : k ≡ kind_of kind) where
-      pub walking-other : Other k → Walking N B b s first used turn from (slot + 1)
-      walking-other o = passed (other-lacks b kind (subst Other d o))
+      pub walking_other : Other k → Walking N B b s first used turn from (slot + 1)
+      walking_other o = passed (other_lacks b kind (subst Other d o))
 
       module _ (l : ℕ) (n : BlockNumber) (e : k ≡ Live l n) where
-        pub walking-next : (n.0 ≡ b → ⊥) → Walking N B b s first used turn from (slot + 1)
-        walking-next o = passed ((live-holds b kind l n (sym d ∙ e)).0 ∙ ne_eqb b n.0 (λ q. o (sym q)))
+        pub walking_next : (n.0 ≡ b → ⊥) → Walking N B b s first used turn from (slot + 1)
+        walking_next o = passed ((live_holds b kind l n (sym d ∙ e)).0 ∙ ne_eqb b n.0 (λ q. o (sym q)))
 
-        pub walking-stop : n.0 ≡ b → At (record { 0 = from + slot * 256 }) l ≡ foundIn N B first (rows_at N B s used first) b
+        pub walking_stop : n.0 ≡ b → At (record { 0 = from + slot * 256 }) l ≡ found_in N B first (rows_at N B s used first) b
         unfolding slot_at
-        walking-stop q =
-            let r = live-holds b kind l n (sym d ∙ e) in
+        walking_stop q =
+            let r = live_holds b kind l n (sym d ∙ e) in
             let t : eqb b n.0 ≡ true = eq-eqb b n.0 (sym q) in
             let a : slot_at N B (first + turn) slot * 256 ≡ from + slot * 256 = omega (arith, w.here) in
-            let f = slot-stop N B b (first + turn) slot kind (slotsLeft N B s (first + turn) (slot + 1)) rows (r.0 ∙ t) in
+            let f = slot_stop N B b (first + turn) slot kind (slots_left N B s (first + turn) (slot + 1)) rows (r.0 ∙ t) in
             rw (a, r.1 t) at (sym f ∙ unread)

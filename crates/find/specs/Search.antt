@@ -5,19 +5,19 @@ use Rattle.std.proofs.Common.{sym, ap₂, ◌∙◌, mod-lt, arith}
 use mathlib.Core.List.{List, [], ◌∷◌, map, flatten}
 use Rattle.model.specs.Chip.{Image, Page}
 use Rattle.model.specs.Slot.{Slot, slot_of, written}
-use Rattle.model.specs.State.{View, entries, entriesIn, holds, placeFrom, place_of}
+use Rattle.model.specs.State.{View, entries, entries_in, holds, place_from, place_of}
 use Rattle.model.specs.Steps.{slot_at}
-use Rattle.model.specs.Table.{lookup, contentsFound}
-use Rattle.model.specs.Laws.Segments.{part_of, segment-at}
-use Rattle.model.specs.Laws.Effects.{in-use-parts}
-use Rattle.bridge.specs.Held.{Held, held-row}
-use Rattle.model.specs.Laws.Chip.{size-facts}
+use Rattle.model.specs.Table.{lookup, contents_found}
+use Rattle.model.specs.Laws.Segments.{part_of, segment_at}
+use Rattle.model.specs.Laws.Effects.{in_use_parts}
+use Rattle.bridge.specs.Held.{Held, held_row}
+use Rattle.model.specs.Laws.Chip.{size_facts}
 use Rattle.find.specs.declared.Found.{Found}
 use Rattle.find.specs.declared.Found.TheVariants.{At, Nothing}
 
 -- the status and the number in a slot are those of a live slot of block b
-unfoldable pub mayHold : Page → ℕ → Bool
-mayHold p b = eqb (get_or p 0 0) written && (eqb (get_or p 2 0) (b % 256) && eqb (get_or p 3 0) (b / 256))
+unfoldable pub may_hold : Page → ℕ → Bool
+may_hold p b = eqb (get_or p 0 0) written && (eqb (get_or p 2 0) (b % 256) && eqb (get_or p 3 0) (b / 256))
 
 -- the slots of the segments with the u numbers from n on, as they stand
 unfoldable pub rows_at : ℕ → ℕ → Image → ℕ → ℕ → List (List Slot)
@@ -25,10 +25,10 @@ rows_at N B s zero n = []
 rows_at N B s (suc u) n = map slot_of (drop 1 (part_of N B (n % N) s)) ∷ rows_at N B s u (suc n)
 
 -- the first live slot of block b in rows whose numbers start at n: its offset in the image, and the length of its contents
-unfoldable pub foundIn : ℕ → ℕ → ℕ → List (List Slot) → ℕ → Found
-foundIn N B n rows b = let place = placeFrom b n rows in
+unfoldable pub found_in : ℕ → ℕ → ℕ → List (List Slot) → ℕ → Found
+found_in N B n rows b = let place = place_from b n rows in
     cond (holds b (entries (flatten rows)))
-    (At (record { 0 = slot_at N B place.number place.slot * 256 }) (length (contentsFound (lookup b (entries (flatten rows))))))
+    (At (record { 0 = slot_at N B place.number place.slot * 256 }) (length (contents_found (lookup b (entries (flatten rows))))))
     Nothing
 
 -- ---- an image with a view
@@ -42,19 +42,19 @@ rows_same N B s (r ∷ rows) n f =
     let e : n + 0 ≡ n = omega arith in
     ap₂ (λ x y. x ∷ y) (rw e at (f 0 (omega arith))) (rows_same N B s rows (suc n) (λ k h. let g : n + suc k ≡ suc n + k = omega arith in rw g at (f (suc k) (omega arith))))
 
-pub held-rows-at : (N B : ℕ) (s : Image) (v : View) → Held N B s v → rows_at N B s (length v.slots) v.first ≡ v.slots
-held-rows-at N B s v h = rows_same N B s v.slots v.first row
+pub held_rows_at : (N B : ℕ) (s : Image) (v : View) → Held N B s v → rows_at N B s (length v.slots) v.first ≡ v.slots
+held_rows_at N B s v h = rows_same N B s v.slots v.first row
   where
     row : (k : ℕ) → k < length v.slots → map slot_of (drop 1 (part_of N B ((v.first + k) % N) s)) ≡ get_or v.slots k []
     row k b =
         let n = v.first + k in
-        let r = held-row N B s v h k b in
-        let i : n % N < N = mod-lt n {m = N} (omega (arith, (size-facts N B s h.size).two)) in
-        (in-use-parts N B (n % N) (part_of N B (n % N) s) r.0 r.1 n (get_or v.slots k []) (sym (segment-at N B (n % N) s i) ∙ r.2)).slots
+        let r = held_row N B s v h k b in
+        let i : n % N < N = mod-lt n {m = N} (omega (arith, (size_facts N B s h.size).two)) in
+        (in_use_parts N B (n % N) (part_of N B (n % N) s) r.0 r.1 n (get_or v.slots k []) (sym (segment_at N B (n % N) s i) ∙ r.2)).slots
 
 -- what the search finds is by the view's entries and places
 pub held_found : (N B : ℕ) (s : Image) (v : View) (b : ℕ) → Held N B s v
-    → foundIn N B v.first (rows_at N B s (length v.slots) v.first) b
-    ≡ cond (holds b (entriesIn v)) (At (record { 0 = slot_at N B (place_of b v).number (place_of b v).slot * 256 }) (length (contentsFound (lookup b (entriesIn v))))) Nothing
-unfolding entriesIn place_of foundIn
-held_found N B s v b h = rw (held-rows-at N B s v h)
+    → found_in N B v.first (rows_at N B s (length v.slots) v.first) b
+    ≡ cond (holds b (entries_in v)) (At (record { 0 = slot_at N B (place_of b v).number (place_of b v).slot * 256 }) (length (contents_found (lookup b (entries_in v))))) Nothing
+unfolding entries_in place_of found_in
+held_found N B s v b h = rw (held_rows_at N B s v h)

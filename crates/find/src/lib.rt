@@ -2,7 +2,7 @@
 ghost use Rattle.std.specs.Prelude.{◌≡◌, ◌+◌, ◌*◌, ◌<◌, ◌≤◌, length};
 ghost use Rattle.model.specs.Steps.{slot_at};
 ghost use Rattle.flash.specs.Pages.{Sized};
-ghost use Rattle.find.specs.Search.{mayHold, rows_at, foundIn};
+ghost use Rattle.find.specs.Search.{may_hold, rows_at, found_in};
 
 use model::{BlockNumber, SegmentNumber, SlotKind, SlotPlace};
 
@@ -30,7 +30,7 @@ pub fn first_slot(segments: usize, slots: usize, number: SegmentNumber) -> SlotP
 // others of a slot that passes may still not fit.
 fn may_hold(page: &[u8], block: BlockNumber) -> bool
     requires { length page.now ≡ 256 }
-    ensures { result ≡ mayHold page.now block.0 }
+    ensures { result ≡ may_hold page.now block.0 }
 {
     if page[0] != WRITTEN {
         return false;
@@ -52,7 +52,7 @@ pub fn find(
     block: BlockNumber,
 ) -> Found
     requires { Sized segments slots (length image.now) × (first.0 + used ≤ 4294967296) }
-    ensures { result ≡ foundIn segments slots first.0 (rows_at segments slots image.now used first.0) block.0 }
+    ensures { result ≡ found_in segments slots first.0 (rows_at segments slots image.now used first.0) block.0 }
 {
     let mut found = Found::Nothing;
     let mut turn = 0;

@@ -3,17 +3,17 @@ use Rattle.std.specs.Prelude.{ℕ, ◌+◌, ◌*◌, cond, List, [], ◌∷◌, 
 use Rattle.model.specs.Chip.{Image, Step, program, erase, clear, erased, run}
 
 -- the image with the S bytes of unit i replaced by these
-unfoldable pub withUnit : ℕ → ℕ → List ℕ → Image → Image
-withUnit S i u s = take (i * S) s ++ (u ++ drop (i * S + S) s)
+unfoldable pub with_unit : ℕ → ℕ → List ℕ → Image → Image
+with_unit S i u s = take (i * S) s ++ (u ++ drop (i * S + S) s)
 
 -- outside the image a step does nothing
-unfoldable pub stepIn : ℕ → Step → Image → Image
-stepIn S (program at v) s = set s at (clear (get_or s at 0) v)
-stepIn S (erase i) s = cond (leb (i * S + S) (length s)) (withUnit S i (erased S) s) s
+unfoldable pub step_in : ℕ → Step → Image → Image
+step_in S (program at v) s = set s at (clear (get_or s at 0) v)
+step_in S (erase i) s = cond (leb (i * S + S) (length s)) (with_unit S i (erased S) s) s
 
-unfoldable pub runIn : ℕ → List Step → Image → Image
-runIn S [] s = s
-runIn S (x ∷ xs) s = runIn S xs (stepIn S x s)
+unfoldable pub run_in : ℕ → List Step → Image → Image
+run_in S [] s = s
+run_in S (x ∷ xs) s = run_in S xs (step_in S x s)
 
 -- what an erase takes: a segment of B slots, or a unit of S bytes
 pub data Erases : Type 0 where
@@ -22,4 +22,4 @@ pub data Erases : Type 0 where
 
 abbrev pub done : Erases → List Step → Image → Image
 done (segments B) xs s = run B xs s
-done (units S) xs s = runIn S xs s
+done (units S) xs s = run_in S xs s

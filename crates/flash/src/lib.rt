@@ -1,7 +1,7 @@
 // Flash steps under a budget. Each function that writes takes the budget and returns what is left of it.
 ghost use Rattle.std.specs.Prelude.{◌≡◌, [], ◌∷◌, ◌+◌, ◌*◌, ◌<◌, ◌≤◌, min, length};
 ghost use Rattle.model.specs.Chip.{program, erase};
-ghost use Rattle.model.specs.Steps.{programs, programPart};
+ghost use Rattle.model.specs.Steps.{programs, program_part};
 ghost use Rattle.flash.specs.Ran.{Ran, RanIn, Programmed};
 
 // Programs one byte.
@@ -43,7 +43,7 @@ pub fn program_run(image: &mut [u8], at: usize, bytes: &[u8], budget: u64) -> u6
 // Programs some bytes of a page that was made up, where they belong.
 pub fn program_part(page: &mut [u8], made: &[u8], at: usize, count: usize, budget: u64) -> u64
     requires { (at + count ≤ length made.now) × (length made.now ≡ length page.old) }
-    ensures { Programmed (programPart made.now at count) budget result page.old page.new }
+    ensures { Programmed (program_part made.now at count) budget result page.old page.new }
 {
     let end = at + count;
     program_run(page, at, &made[at..end], budget)

@@ -1,7 +1,7 @@
 // A fresh image built from the live slots that a table of places tells (request #106).
 ghost use Rattle.std.specs.Prelude.{◌≡◌, true, ◌++◌};
-ghost use Rattle.model.specs.Chip.{rightSize};
-ghost use Rattle.model.specs.Steps.{formatSteps};
+ghost use Rattle.model.specs.Chip.{right_size};
+ghost use Rattle.model.specs.Steps.{format_steps};
 ghost use Rattle.model.specs.Answers.{performed, worked};
 ghost use Rattle.moves.specs.Placed.{placed};
 ghost use Rattle.fresh.specs.Fresh.{listed, Pointing};
@@ -20,8 +20,8 @@ pub fn build(
     slots: usize,
     budget: u64,
 ) -> Performed
-    requires { (rightSize segments slots target.old ≡ true) × Pointing source.now places.now }
-    ensures { performed result target.new ≡ worked slots (record { code = 0; steps = formatSteps segments slots ++ placed segments slots 0 0 (listed source.now places.now 1 65535) }) target.old budget }
+    requires { (right_size segments slots target.old ≡ true) × Pointing source.now places.now }
+    ensures { performed result target.new ≡ worked slots (record { code = 0; steps = format_steps segments slots ++ placed segments slots 0 0 (listed source.now places.now 1 65535) }) target.old budget }
 {
     let formatted = store::format(target, segments, slots, budget);
     let mut at = Progress {

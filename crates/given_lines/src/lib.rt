@@ -1,12 +1,12 @@
 // The lines of salvage's report: the candidates given, one for each block number that has any.
 ghost use Rattle.std.specs.Prelude.{◌≡◌, cond, true, ◌+◌, ◌*◌, ◌≤◌};
 ghost use mathlib.Core.List.{◌++◌, flat_map};
-ghost use Rattle.model.specs.Chip.{rightSize};
-ghost use Rattle.model.specs.State.{segmentsOf};
+ghost use Rattle.model.specs.Chip.{right_size};
+ghost use Rattle.model.specs.State.{segments_of};
 ghost use Rattle.text.specs.Text.{text as ascii};
-ghost use Rattle.text.specs.Buffer.{Wrote, mostText};
-ghost use Rattle.account_text.specs.Account.{blockText, byBlock};
-ghost use Rattle.salvage.specs.Salvage.{candidates, given, givenLine};
+ghost use Rattle.text.specs.Buffer.{Wrote, most_text};
+ghost use Rattle.account_text.specs.Account.{block_text, by_block};
+ghost use Rattle.salvage.specs.Salvage.{candidates, given, given_line};
 ghost use Rattle.meeting.specs.Sheet.{sheet};
 ghost use Rattle.candidates.specs.Gathered.{Gathered};
 
@@ -20,8 +20,8 @@ fn given_line(
     slot: u32,
     differs: bool,
 ) -> usize
-    requires { at + 80 ≤ mostText }
-    ensures { Wrote (blockText block length segment slot ++ cond differs (ascii " differs\n") (ascii " same\n")) text.old at text.new result × (result ≤ at + 80) }
+    requires { at + 80 ≤ most_text }
+    ensures { Wrote (block_text block length segment slot ++ cond differs (ascii " differs\n") (ascii " same\n")) text.old at text.new result × (result ≤ at + 80) }
 {
     let end = block_lines::block_text(text, at, block, length, segment, slot);
     if differs {
@@ -42,8 +42,8 @@ pub fn given_lines(
     text: &mut [u8],
     at: usize,
 ) -> usize
-    requires { (rightSize segments slots image.now ≡ true) × Gathered segments slots image.now (sheet places.now lengths.now differs.now) × (at ≤ 100000) }
-    ensures { Wrote (flat_map (givenLine (candidates segments (segmentsOf segments slots image.now))) (byBlock (given (candidates segments (segmentsOf segments slots image.now))))) text.old at text.new result × (result ≤ at + 80 * 65536) }
+    requires { (right_size segments slots image.now ≡ true) × Gathered segments slots image.now (sheet places.now lengths.now differs.now) × (at ≤ 100000) }
+    ensures { Wrote (flat_map (given_line (candidates segments (segments_of segments slots image.now))) (by_block (given (candidates segments (segments_of segments slots image.now))))) text.old at text.new result × (result ≤ at + 80 * 65536) }
 {
     let pages = slots as u32 + 1;
     let mut end = at;

@@ -1,8 +1,8 @@
 // The fields of a header page taken apart, those that both versions have made up, and its place.
 ghost use Rattle.std.specs.Prelude.{◌≡◌, ◌+◌, ◌*◌, ◌%◌, ◌<◌, ◌≤◌, length};
-ghost use Rattle.model.specs.Header.{isFormer, headerNumber, headerVersion};
+ghost use Rattle.model.specs.Header.{is_former, header_number, header_version};
 ghost use Rattle.model.specs.Steps.{header_at};
-ghost use Rattle.header.specs.Parts.{headerTotal, headerFields};
+ghost use Rattle.header.specs.Parts.{header_total, header_fields};
 
 use model::SegmentNumber;
 
@@ -44,7 +44,7 @@ fn long(a: u8, b: u8, c: u8, d: u8) -> u32
 // The number in a header page, in use or not.
 pub fn header_number(page: &[u8]) -> SegmentNumber
     requires { length page.now ≡ 256 }
-    ensures { result.0 ≡ headerNumber page.now }
+    ensures { result.0 ≡ header_number page.now }
 {
     SegmentNumber(long(page[8], page[9], page[10], page[11]))
 }
@@ -52,7 +52,7 @@ pub fn header_number(page: &[u8]) -> SegmentNumber
 // The total in a header page, in use or not.
 pub fn header_total(page: &[u8]) -> usize
     requires { length page.now ≡ 256 }
-    ensures { (result ≡ headerTotal page.now) × (result < 4294967296) }
+    ensures { (result ≡ header_total page.now) × (result < 4294967296) }
 {
     long(page[17], page[18], page[19], page[20]) as usize
 }
@@ -60,7 +60,7 @@ pub fn header_total(page: &[u8]) -> usize
 // Whether a header page, in use or not, has version 1: what has not version 2 is taken for it.
 pub fn is_former(page: &[u8]) -> bool
     requires { length page.now ≡ 256 }
-    ensures { result ≡ isFormer (headerVersion page.now) }
+    ensures { result ≡ is_former (header_version page.now) }
 {
     page[3] != VERSION_2
 }
@@ -75,7 +75,7 @@ pub fn header_fields(
     old: u8,
 ) -> [u8; 256]
     requires { (segments ≤ 255) × (slots ≤ 255) }
-    ensures { result ≡ headerFields segments slots former status number.0 old }
+    ensures { result ≡ header_fields segments slots former status number.0 old }
 {
     let n = number.0 as usize;
     let mut page = [255u8; 256];

@@ -11,13 +11,13 @@ use lib.Seq.{drop-cons, drop-drop, take_all}
 use lib.Dec.{ltb, eqb}
 use borrow.Author.Tests.{eq-eqb, ne_eqb, lt-ltb, le-ltb}
 use Rattle.model.specs.Lists.{same}
-use Rattle.model.specs.Chip.{Page, erased, eraseLimit, numberLimit}
-use Rattle.model.specs.Header.{numberBytes, inverted, value, opened, erasePending, compacted, statusInUse, Version, version1, version2, newVersion, isFormer, versionNumber, totalFits, tallyBytes, headerPage, headerStatus, headerNumber, headerVersion, oldIndex, headerInUse, isBlank}
+use Rattle.model.specs.Chip.{Page, erased, erase_limit, number_limit}
+use Rattle.model.specs.Header.{number_bytes, inverted, value, opened, erase_pending, compacted, status_in_use, Version, version1, version2, new_version, is_former, version_number, total_fits, tally_bytes, header_page, header_status, header_number, header_version, old_index, header_in_use, is_blank}
 use Rattle.model.specs.Laws.Bytes.{same_refl}
-use Rattle.blank.proofs.Blank.{same-erased}
-use Rattle.header.specs.Parts.{headerTotal, headerFields}
-use Rattle.header.proofs.Laws.Tests.{four_bytes, either-version}
-use Rattle.header_seen.specs.Seen.{headerSeen, tallyFits}
+use Rattle.blank.proofs.Blank.{same_erased}
+use Rattle.header.specs.Parts.{header_total, header_fields}
+use Rattle.header.proofs.Laws.Tests.{four_bytes, either_version}
+use Rattle.header_seen.specs.Seen.{header_seen, tally_fits}
 use Rattle.header_seen.specs.declared.HeaderSeen.TheVariants.{InUse, NotInUse}
 
 -- ---- numbers
@@ -25,12 +25,12 @@ use Rattle.header_seen.specs.declared.HeaderSeen.TheVariants.{InUse, NotInUse}
 low_digit : (a m : ℕ) → a < 256 → (a + 256 * m) % 256 ≡ a
 low_digit a m h = omega arith
 
-other-digits : (a m : ℕ) → a < 256 → (a + 256 * m) / 256 ≡ m
-other-digits a m h = omega arith
+other_digits : (a m : ℕ) → a < 256 → (a + 256 * m) / 256 ≡ m
+other_digits a m h = omega arith
 
-value-bytes : (a b c d : ℕ) → a < 256 → b < 256 → c < 256 → d < 256 → numberBytes (value (a ∷ b ∷ c ∷ d ∷ [])) ≡ a ∷ b ∷ c ∷ d ∷ []
-unfolding numberBytes value
-value-bytes a b c d ha hb hc hd = simp (low_digit, other-digits)
+value_bytes : (a b c d : ℕ) → a < 256 → b < 256 → c < 256 → d < 256 → number_bytes (value (a ∷ b ∷ c ∷ d ∷ [])) ≡ a ∷ b ∷ c ∷ d ∷ []
+unfolding number_bytes value
+value_bytes a b c d ha hb hc hd = simp (low_digit, other_digits)
 
 -- ---- two runs of bytes compared
 
@@ -48,40 +48,40 @@ same_end a b i l h = let k : length b ≤ i = omega arith in rw (drop_of_length-
 
 -- ---- status
 
-pub use-opened : (st : ℕ) → st ≡ opened → statusInUse st ≡ true
-unfolding statusInUse
-use-opened st e = rw e
+pub use_opened : (st : ℕ) → st ≡ opened → status_in_use st ≡ true
+unfolding status_in_use
+use_opened st e = rw e
 
-pub use-pending : (st : ℕ) → st ≡ erasePending → statusInUse st ≡ true
-unfolding statusInUse
-use-pending st e = rw e
+pub use_pending : (st : ℕ) → st ≡ erase_pending → status_in_use st ≡ true
+unfolding status_in_use
+use_pending st e = rw e
 
-pub use-compacted : (st : ℕ) → (st ≡ opened → ⊥) → (st ≡ erasePending → ⊥) → statusInUse st ≡ eqb st compacted
-unfolding statusInUse
-use-compacted st n m = rw (ne_eqb st opened n, ne_eqb st erasePending m)
+pub use_compacted : (st : ℕ) → (st ≡ opened → ⊥) → (st ≡ erase_pending → ⊥) → status_in_use st ≡ eqb st compacted
+unfolding status_in_use
+use_compacted st n m = rw (ne_eqb st opened n, ne_eqb st erase_pending m)
 
-pub old-opened : (N i st : ℕ) → st ≡ opened → oldIndex N i st ≡ 255
-unfolding oldIndex
-old-opened N i st e = rw e
+pub old_opened : (N i st : ℕ) → st ≡ opened → old_index N i st ≡ 255
+unfolding old_index
+old_opened N i st e = rw e
 
-pub old-next : (N i st : ℕ) → (st ≡ opened → ⊥) → oldIndex N i st ≡ (i + 1) % N
-unfolding oldIndex
-old-next N i st n = rw (ne_eqb st opened n)
+pub old_next : (N i st : ℕ) → (st ≡ opened → ⊥) → old_index N i st ≡ (i + 1) % N
+unfolding old_index
+old_next N i st n = rw (ne_eqb st opened n)
 
 -- ---- what follows the fields
 
 module _ (h : Page) where
-  pub fits-former : isFormer (headerVersion h) ≡ true → length h ≡ 256 → isBlank (take (length h - 17) (drop 17 h)) ≡ tallyFits h
-  unfolding tallyFits
-  fits-former e l = rw (e, take_all (length h - 17) (drop 17 h) (omega (arith, length-drop 17 h)))
+  pub fits_former : is_former (header_version h) ≡ true → length h ≡ 256 → is_blank (take (length h - 17) (drop 17 h)) ≡ tally_fits h
+  unfolding tally_fits
+  fits_former e l = rw (e, take_all (length h - 17) (drop 17 h) (omega (arith, length-drop 17 h)))
 
-  pub total-over : isFormer (headerVersion h) ≡ false → eraseLimit ≤ headerTotal h → tallyFits h ≡ false
-  unfolding tallyFits
-  total-over e l = rw (e, le-ltb (headerTotal h) eraseLimit l)
+  pub total_over : is_former (header_version h) ≡ false → erase_limit ≤ header_total h → tally_fits h ≡ false
+  unfolding tally_fits
+  total_over e l = rw (e, le-ltb (header_total h) erase_limit l)
 
-  pub fits-second : isFormer (headerVersion h) ≡ false → headerTotal h < eraseLimit → isBlank (take 11 (drop 21 h)) ≡ tallyFits h
-  unfolding tallyFits
-  fits-second e l = rw (e, lt-ltb (headerTotal h) eraseLimit l)
+  pub fits_second : is_former (header_version h) ≡ false → header_total h < erase_limit → is_blank (take 11 (drop 21 h)) ≡ tally_fits h
+  unfolding tally_fits
+  fits_second e l = rw (e, lt-ltb (header_total h) erase_limit l)
 
 -- ---- in two parts: the fields compared, what follows them looked at
 
@@ -101,81 +101,81 @@ same_ahead zero s r = refl
 same_ahead (suc k) [] r = refl
 same_ahead (suc k) (x ∷ s) r = rw (eq-eqb x x refl) (same_ahead k s r)
 
-same-behind : (k : ℕ) (s : List ℕ) → k ≤ length s → same s (erased k ++ drop k s) ≡ isBlank (take k s)
-unfolding same erased isBlank
-same-behind zero s h = same_refl s
-same-behind (suc k) [] h = absurd (omega arith)
-same-behind (suc k) (x ∷ s) h = ap (λ (t : Bool). eqb x 255 && t) (same-behind k s (omega arith))
+same_behind : (k : ℕ) (s : List ℕ) → k ≤ length s → same s (erased k ++ drop k s) ≡ is_blank (take k s)
+unfolding same erased is_blank
+same_behind zero s h = same_refl s
+same_behind (suc k) [] h = absurd (omega arith)
+same_behind (suc k) (x ∷ s) h = ap (λ (t : Bool). eqb x 255 && t) (same_behind k s (omega arith))
 
-page-fields : (N B : ℕ) (e : Version) (st n old : ℕ) → take 17 (headerPage N B e st n old) ≡ take 17 (headerFields N B (isFormer e) st n old)
-unfolding headerPage headerFields numberBytes inverted newVersion versionNumber isFormer
-page-fields N B version1 st n old = refl
-page-fields N B (version2 total bits) st n old = refl
+page_fields : (N B : ℕ) (e : Version) (st n old : ℕ) → take 17 (header_page N B e st n old) ≡ take 17 (header_fields N B (is_former e) st n old)
+unfolding header_page header_fields number_bytes inverted new_version version_number is_former
+page_fields N B version1 st n old = refl
+page_fields N B (version2 total bits) st n old = refl
 
-page-tally : (N B : ℕ) (e : Version) (st n old : ℕ) → drop 17 (headerPage N B e st n old) ≡ tallyBytes e
-unfolding headerPage numberBytes inverted
-page-tally N B e st n old = refl
+page_tally : (N B : ℕ) (e : Version) (st n old : ℕ) → drop 17 (header_page N B e st n old) ≡ tally_bytes e
+unfolding header_page number_bytes inverted
+page_tally N B e st n old = refl
 
-and-swap : (a b c : Bool) → (a && (b && c)) ≡ (b && (a && c))
-and-swap true b c = refl
-and-swap false true c = refl
-and-swap false false c = refl
+and_swap : (a b c : Bool) → (a && (b && c)) ≡ (b && (a && c))
+and_swap true b c = refl
+and_swap false true c = refl
+and_swap false false c = refl
 
 module _ (h : Page) (l : length h ≡ 256) (known : (k : ℕ) → get_or h k 0 < 256) where
-  former-tally : same (drop 17 h) (tallyBytes version1) ≡ isBlank (drop 17 h)
-  unfolding tallyBytes
-  former-tally = let d : length (drop 17 h) ≡ 239 = omega (arith, length-drop 17 h) in rw (← d) (same-erased (drop 17 h))
+  former_tally : same (drop 17 h) (tally_bytes version1) ≡ is_blank (drop 17 h)
+  unfolding tally_bytes
+  former_tally = let d : length (drop 17 h) ≡ 239 = omega (arith, length-drop 17 h) in rw (← d) (same_erased (drop 17 h))
 
-  total-bytes : numberBytes (headerTotal h) ≡ take 4 (drop 17 h)
-  unfolding headerTotal
-  total-bytes = rw (four_bytes h 17 (omega arith)) (value-bytes _ _ _ _ (known 17) (known 18) (known 19) (known 20))
+  total_bytes : number_bytes (header_total h) ≡ take 4 (drop 17 h)
+  unfolding header_total
+  total_bytes = rw (four_bytes h 17 (omega arith)) (value_bytes _ _ _ _ (known 17) (known 18) (known 19) (known 20))
 
-  second-tally : same (drop 17 h) (tallyBytes (version2 (headerTotal h) (drop 32 h))) ≡ isBlank (take 11 (drop 21 h))
-  unfolding tallyBytes
-  second-tally =
+  second_tally : same (drop 17 h) (tally_bytes (version2 (header_total h) (drop 32 h))) ≡ is_blank (take 11 (drop 21 h))
+  unfolding tally_bytes
+  second_tally =
       let b : drop 11 (drop 21 h) ≡ drop 32 h = drop-drop 11 21 h in
-      rw (total-bytes, same_ahead 4 (drop 17 h) (erased 11 ++ drop 32 h), drop-drop 4 17 h, ← b) (same-behind 11 (drop 21 h) (omega (arith, length-drop 21 h)))
+      rw (total_bytes, same_ahead 4 (drop 17 h) (erased 11 ++ drop 32 h), drop-drop 4 17 h, ← b) (same_behind 11 (drop 21 h) (omega (arith, length-drop 21 h)))
 
-  tally-same : (totalFits (headerVersion h) && same (drop 17 h) (tallyBytes (headerVersion h))) ≡ tallyFits h
-  unfolding totalFits tallyFits isFormer
-  tally-same = ⊎_elim (λ e. rw e former-tally) (λ e. rw e (ap (λ (t : Bool). ltb (headerTotal h) eraseLimit && t) second-tally)) (either-version h)
+  tally_same : (total_fits (header_version h) && same (drop 17 h) (tally_bytes (header_version h))) ≡ tally_fits h
+  unfolding total_fits tally_fits is_former
+  tally_same = ⊎_elim (λ e. rw e former_tally) (λ e. rw e (ap (λ (t : Bool). ltb (header_total h) erase_limit && t) second_tally)) (either_version h)
 
-  page-parts : (N B st n old : ℕ) (p : Page) → p ≡ headerFields N B (isFormer (headerVersion h)) st n old
-      → (totalFits (headerVersion h) && same h (headerPage N B (headerVersion h) st n old)) ≡ (same (take 17 h) (take 17 p) && tallyFits h)
-  page-parts N B st n old p q =
-      let e = headerVersion h in
-      rw (same_parts 17 h (headerPage N B e st n old), page-fields N B e st n old, page-tally N B e st n old, ← q, ← tally-same)
-      (and-swap (totalFits e) (same (take 17 h) (take 17 p)) (same (drop 17 h) (tallyBytes e)))
+  page_parts : (N B st n old : ℕ) (p : Page) → p ≡ header_fields N B (is_former (header_version h)) st n old
+      → (total_fits (header_version h) && same h (header_page N B (header_version h) st n old)) ≡ (same (take 17 h) (take 17 p) && tally_fits h)
+  page_parts N B st n old p q =
+      let e = header_version h in
+      rw (same_parts 17 h (header_page N B e st n old), page_fields N B e st n old, page_tally N B e st n old, ← q, ← tally_same)
+      (and_swap (total_fits e) (same (take 17 h) (take 17 p)) (same (drop 17 h) (tally_bytes e)))
 
 -- ---- in use
 
 module _ (N B i : ℕ) (h : Page) where
-  pub unused-status : statusInUse (get_or h 5 0) ≡ false → headerInUse N B i h ≡ false
-  unfolding headerInUse headerStatus
-  unused-status e = rw e
+  pub unused_status : status_in_use (get_or h 5 0) ≡ false → header_in_use N B i h ≡ false
+  unfolding header_in_use header_status
+  unused_status e = rw e
 
-  pub unused-number : (n : ℕ) → n ≡ headerNumber h → 100000 * N ≤ n → headerInUse N B i h ≡ false
-  unfolding headerInUse numberLimit
-  unused-number n e l = rw (le-ltb (headerNumber h) (100000 * N) (omega arith), and-false (totalFits (headerVersion h))) (and-false (statusInUse (headerStatus h)))
+  pub unused_number : (n : ℕ) → n ≡ header_number h → 100000 * N ≤ n → header_in_use N B i h ≡ false
+  unfolding header_in_use number_limit
+  unused_number n e l = rw (le-ltb (header_number h) (100000 * N) (omega arith), and-false (total_fits (header_version h))) (and-false (status_in_use (header_status h)))
 
-  pub unused-index : (n : ℕ) → n ≡ headerNumber h → (n % N ≡ i → ⊥) → headerInUse N B i h ≡ false
-  unfolding headerInUse
-  unused-index n e d =
-      rw (← e, ne_eqb (n % N) i d, and-false (ltb n (numberLimit N)), and-false (totalFits (headerVersion h))) (and-false (statusInUse (headerStatus h)))
+  pub unused_index : (n : ℕ) → n ≡ header_number h → (n % N ≡ i → ⊥) → header_in_use N B i h ≡ false
+  unfolding header_in_use
+  unused_index n e d =
+      rw (← e, ne_eqb (n % N) i d, and-false (ltb n (number_limit N)), and-false (total_fits (header_version h))) (and-false (status_in_use (header_status h)))
 
   -- f tells whether the fields are the same
-  pub used-page : (former : Bool) (n old : ℕ) (p : Page) (f : Bool) → ((k : ℕ) → get_or h k 0 < 256) → statusInUse (get_or h 5 0) ≡ true → n ≡ headerNumber h → n < 100000 * N → n % N ≡ i
-      → former ≡ isFormer (headerVersion h) → old ≡ oldIndex N i (get_or h 5 0) → p ≡ headerFields N B former (get_or h 5 0) n old → length h ≡ 256
-      → f ≡ same (take 17 h) (take 17 p) → headerInUse N B i h ≡ (f && tallyFits h)
-  unfolding headerInUse headerStatus numberLimit
-  used-page former n old p f known u e l k v o q c t =
-      rw (← e, u, lt-ltb n (100000 * N) l, eq-eqb (n % N) i k, ← o, t) (page-parts h c known N B (get_or h 5 0) n old p (rw (← v) q))
+  pub used_page : (former : Bool) (n old : ℕ) (p : Page) (f : Bool) → ((k : ℕ) → get_or h k 0 < 256) → status_in_use (get_or h 5 0) ≡ true → n ≡ header_number h → n < 100000 * N → n % N ≡ i
+      → former ≡ is_former (header_version h) → old ≡ old_index N i (get_or h 5 0) → p ≡ header_fields N B former (get_or h 5 0) n old → length h ≡ 256
+      → f ≡ same (take 17 h) (take 17 p) → header_in_use N B i h ≡ (f && tally_fits h)
+  unfolding header_in_use header_status number_limit
+  used_page former n old p f known u e l k v o q c t =
+      rw (← e, u, lt-ltb n (100000 * N) l, eq-eqb (n % N) i k, ← o, t) (page_parts h c known N B (get_or h 5 0) n old p (rw (← v) q))
 
-  pub seen-used : (former : Bool) (n : ℕ) → former ≡ isFormer (headerVersion h) → n ≡ headerNumber h → headerInUse N B i h ≡ true
-      → headerSeen N B i h ≡ InUse former (get_or h 5 0) (record { 0 = n })
-  unfolding headerSeen headerStatus
-  seen-used former n v e u = rw (u, ← v, ← e)
+  pub seen_used : (former : Bool) (n : ℕ) → former ≡ is_former (header_version h) → n ≡ header_number h → header_in_use N B i h ≡ true
+      → header_seen N B i h ≡ InUse former (get_or h 5 0) (record { 0 = n })
+  unfolding header_seen header_status
+  seen_used former n v e u = rw (u, ← v, ← e)
 
-  pub seen-unused : headerInUse N B i h ≡ false → headerSeen N B i h ≡ NotInUse
-  unfolding headerSeen
-  seen-unused e = rw e
+  pub seen_unused : header_in_use N B i h ≡ false → header_seen N B i h ≡ NotInUse
+  unfolding header_seen
+  seen_unused e = rw e

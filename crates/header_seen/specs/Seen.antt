@@ -1,15 +1,15 @@
 -- What a header page shows: what follows its fields, and the whole.
 use Rattle.std.specs.Prelude.{ℕ, Bool, cond, ◌&&◌, take, drop, ltb}
-use Rattle.model.specs.Chip.{Page, eraseLimit}
-use Rattle.model.specs.Header.{isFormer, headerStatus, headerNumber, headerVersion, headerInUse, isBlank}
-use Rattle.header.specs.Parts.{headerTotal}
+use Rattle.model.specs.Chip.{Page, erase_limit}
+use Rattle.model.specs.Header.{is_former, header_status, header_number, header_version, header_in_use, is_blank}
+use Rattle.header.specs.Parts.{header_total}
 use Rattle.header_seen.specs.declared.HeaderSeen.{HeaderSeen}
 use Rattle.header_seen.specs.declared.HeaderSeen.TheVariants.{InUse, NotInUse}
 
 -- the version, the status and the number of a segment in use
-unfoldable pub headerSeen : ℕ → ℕ → ℕ → Page → HeaderSeen
-headerSeen N B i h = cond (headerInUse N B i h) (InUse (isFormer (headerVersion h)) (headerStatus h) (record { 0 = headerNumber h })) NotInUse
+unfoldable pub header_seen : ℕ → ℕ → ℕ → Page → HeaderSeen
+header_seen N B i h = cond (header_in_use N B i h) (InUse (is_former (header_version h)) (header_status h) (record { 0 = header_number h })) NotInUse
 
 -- what a header in use has behind the bytes that both versions have: in version 1 erased bytes, in version 2 a total below the limit, erased bytes, and any bits
-unfoldable pub tallyFits : Page → Bool
-tallyFits h = cond (isFormer (headerVersion h)) (isBlank (drop 17 h)) (ltb (headerTotal h) eraseLimit && isBlank (take 11 (drop 21 h)))
+unfoldable pub tally_fits : Page → Bool
+tally_fits h = cond (is_former (header_version h)) (is_blank (drop 17 h)) (ltb (header_total h) erase_limit && is_blank (take 11 (drop 21 h)))

@@ -1,8 +1,8 @@
 // Whether a header page is that of a segment in use, and what it says then.
 ghost use Rattle.std.specs.Prelude.{◌≡◌, ◌<◌, ◌≤◌, length};
 ghost use Rattle.model.specs.Lists.{same};
-ghost use Rattle.model.specs.Header.{headerInUse, oldIndex, statusInUse};
-ghost use Rattle.header_seen.specs.Seen.{tallyFits, headerSeen};
+ghost use Rattle.model.specs.Header.{header_in_use, old_index, status_in_use};
+ghost use Rattle.header_seen.specs.Seen.{tally_fits, header_seen};
 
 use header::{BITS, COMPACTED, ERASE_PENDING, FIELDS, NO_OLD_SEGMENT, OPENED, TOTAL_END};
 use model::{ERASE_LIMIT, SegmentNumber};
@@ -36,7 +36,7 @@ fn same_bytes(a: &[u8], b: &[u8]) -> bool
 // The index of the old segment in a header in use: the one after its own, or none.
 fn old_index(segments: usize, index: usize, status: u8) -> u8
     requires { (index < segments) × (segments ≤ 255) }
-    ensures { result ≡ oldIndex segments index status }
+    ensures { result ≡ old_index segments index status }
 {
     if status == OPENED {
         return NO_OLD_SEGMENT;
@@ -45,7 +45,7 @@ fn old_index(segments: usize, index: usize, status: u8) -> u8
 }
 
 fn status_in_use(status: u8) -> bool
-    ensures { result ≡ statusInUse status }
+    ensures { result ≡ status_in_use status }
 {
     if status == OPENED {
         return true;
@@ -60,7 +60,7 @@ fn status_in_use(status: u8) -> bool
 // the blank test, which looks at eight bytes at a time.
 fn tally_fits(page: &[u8]) -> bool
     requires { length page.now ≡ 256 }
-    ensures { result ≡ tallyFits page.now }
+    ensures { result ≡ tally_fits page.now }
 {
     if header::is_former(page) {
         let rest = blank::blank_test(&page[FIELDS..]);
@@ -76,7 +76,7 @@ fn tally_fits(page: &[u8]) -> bool
 // Whether a header is that of a segment in use at an index.
 pub fn header_in_use(page: &[u8], segments: usize, slots: usize, index: usize) -> bool
     requires { (length page.now ≡ 256) × (0 < segments) × (segments ≤ 255) × (slots ≤ 255) }
-    ensures { result ≡ headerInUse segments slots index page.now }
+    ensures { result ≡ header_in_use segments slots index page.now }
 {
     let status = page[5];
     if !status_in_use(status) {
@@ -107,7 +107,7 @@ pub fn header_in_use(page: &[u8], segments: usize, slots: usize, index: usize) -
 // What the header of a segment in use says.
 pub fn see_header(page: &[u8], segments: usize, slots: usize, index: usize) -> HeaderSeen
     requires { (length page.now ≡ 256) × (0 < segments) × (segments ≤ 255) × (slots ≤ 255) }
-    ensures { result ≡ headerSeen segments slots index page.now }
+    ensures { result ≡ header_seen segments slots index page.now }
 {
     if header_in_use(page, segments, slots, index) {
         return HeaderSeen::InUse {

@@ -1,27 +1,27 @@
 -- What the contracts of this crate say beside the definitions of the model.
 use Rattle.std.specs.Prelude.{ℕ, ◌%◌, ◌≡◌, refl, List, [], ◌∷◌, ◌++◌}
 use Rattle.model.specs.Chip.{Page, Step, program}
-use Rattle.model.specs.Header.{compactionBegun, erasePending, Version, headerPage}
+use Rattle.model.specs.Header.{compaction_begun, erase_pending, Version, header_page}
 use Rattle.model.specs.Slot.{Entry}
-use Rattle.model.specs.Steps.{programPart, onPage, header_at, copyEntries, copyOut}
+use Rattle.model.specs.Steps.{program_part, on_page, header_at, copy_entries, copy_out}
 
 -- the first steps in a header, and the last, with the bytes of a page that was made up
-unfoldable pub headerBegun : Page → ℕ → List Step
-headerBegun h st = program 5 st ∷ (programPart h 0 5 ++ programPart h 6 2)
+unfoldable pub header_begun : Page → ℕ → List Step
+header_begun h st = program 5 st ∷ (program_part h 0 5 ++ program_part h 6 2)
 
-unfoldable pub headerFinished : Page → ℕ → List Step
-headerFinished h st = programPart h 17 4 ++ (programPart h 8 8 ++ (program 5 st ∷ []))
+unfoldable pub header_finished : Page → ℕ → List Step
+header_finished h st = program_part h 17 4 ++ (program_part h 8 8 ++ (program 5 st ∷ []))
 
 -- the steps of a compaction in the target's header, before the slots are copied and after
-unfoldable pub beginCompaction : ℕ → ℕ → Version → ℕ → ℕ → List Step
-beginCompaction N B e o n = let h = headerPage N B e erasePending n (o % N) in
-    onPage (header_at N B n) (program 5 compactionBegun ∷ (programPart h 0 5 ++ (programPart h 6 2 ++ programPart h 16 1)))
+unfoldable pub begin_compaction : ℕ → ℕ → Version → ℕ → ℕ → List Step
+begin_compaction N B e o n = let h = header_page N B e erase_pending n (o % N) in
+    on_page (header_at N B n) (program 5 compaction_begun ∷ (program_part h 0 5 ++ (program_part h 6 2 ++ program_part h 16 1)))
 
-unfoldable pub finishCopy : ℕ → ℕ → Version → ℕ → ℕ → List Step
-finishCopy N B e o n = let h = headerPage N B e erasePending n (o % N) in
-    onPage (header_at N B n) (programPart h 17 4 ++ (programPart h 8 8 ++ (program 5 erasePending ∷ [])))
+unfoldable pub finish_copy : ℕ → ℕ → Version → ℕ → ℕ → List Step
+finish_copy N B e o n = let h = header_page N B e erase_pending n (o % N) in
+    on_page (header_at N B n) (program_part h 17 4 ++ (program_part h 8 8 ++ (program 5 erase_pending ∷ [])))
 
 -- they are what the definition of the copying has around the copied slots
-pub copy-out-parts : (N B : ℕ) (e : Version) (o n : ℕ) (es : List Entry) → copyOut N B e o n es ≡ beginCompaction N B e o n ++ (copyEntries N B n 0 es ++ finishCopy N B e o n)
-unfolding copyOut beginCompaction finishCopy
-copy-out-parts N B e o n es = refl
+pub copy_out_parts : (N B : ℕ) (e : Version) (o n : ℕ) (es : List Entry) → copy_out N B e o n es ≡ begin_compaction N B e o n ++ (copy_entries N B n 0 es ++ finish_copy N B e o n)
+unfolding copy_out begin_compaction finish_copy
+copy_out_parts N B e o n es = refl

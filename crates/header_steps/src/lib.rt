@@ -1,10 +1,10 @@
 // A header page made up, and programmed under a budget.
 ghost use Rattle.std.specs.Prelude.{◌≡◌, ◌%◌, ◌<◌, ◌≤◌, length};
-ghost use Rattle.model.specs.Header.{erasePending, newVersion, headerPage};
-ghost use Rattle.model.specs.Steps.{openSegment, settle};
+ghost use Rattle.model.specs.Header.{erase_pending, new_version, header_page};
+ghost use Rattle.model.specs.Steps.{open_segment, settle};
 ghost use Rattle.flash.specs.Ran.{Programmed};
 ghost use Rattle.flash.specs.Pages.{Sized};
-ghost use Rattle.header_steps.specs.Parts.{headerBegun, headerFinished, beginCompaction, finishCopy};
+ghost use Rattle.header_steps.specs.Parts.{header_begun, header_finished, begin_compaction, finish_copy};
 
 use header::{COMPACTED, ERASE_PENDING, FIELDS, NO_OLD_SEGMENT, OPENED, TOTAL_END};
 use model::SegmentNumber;
@@ -24,7 +24,7 @@ fn header_page(
     old: u8,
 ) -> [u8; 256]
     requires { (segments ≤ 255) × (slots ≤ 255) }
-    ensures { result ≡ headerPage segments slots (newVersion total) status number.0 old }
+    ensures { result ≡ header_page segments slots (new_version total) status number.0 old }
 {
     let mut page = header::header_fields(segments, slots, false, status, number, old);
     page[17] = header::low_byte(total);
@@ -43,7 +43,7 @@ fn compaction_page(
     number: SegmentNumber,
 ) -> [u8; 256]
     requires { (0 < segments) × (segments ≤ 255) × (slots ≤ 255) }
-    ensures { result ≡ headerPage segments slots (newVersion total) erasePending number.0 (old.0 % segments) }
+    ensures { result ≡ header_page segments slots (new_version total) erase_pending number.0 (old.0 % segments) }
 {
     let index = old.0 as usize % segments;
     header_page(segments, slots, total, ERASE_PENDING, number, index as u8)
@@ -52,7 +52,7 @@ fn compaction_page(
 // The first steps in a header: a status, then what every segment's header has.
 fn begin_header(header: &mut [u8], made: &[u8], status: u8, budget: u64) -> u64
     requires { (length header.old ≡ 256) × (length made.now ≡ 256) }
-    ensures { Programmed (headerBegun made.now status) budget result header.old header.new }
+    ensures { Programmed (header_begun made.now status) budget result header.old header.new }
 {
     let begun = flash::program_byte(header, 5, status, budget);
     let marked = flash::program_part(header, made, 0, 5, begun);
@@ -62,7 +62,7 @@ fn begin_header(header: &mut [u8], made: &[u8], status: u8, budget: u64) -> u64
 // The last steps in a header: the total, the number, then a status.
 fn finish_header(header: &mut [u8], made: &[u8], status: u8, budget: u64) -> u64
     requires { (length header.old ≡ 256) × (length made.now ≡ 256) }
-    ensures { Programmed (headerFinished made.now status) budget result header.old header.new }
+    ensures { Programmed (header_finished made.now status) budget result header.old header.new }
 {
     let tallied = flash::program_part(header, made, FIELDS, TOTAL_END - FIELDS, budget);
     let numbered = flash::program_part(header, made, 8, 8, tallied);
@@ -79,7 +79,7 @@ pub fn open_header(
     budget: u64,
 ) -> u64
     requires { Sized segments slots (length image.old) }
-    ensures { Programmed (openSegment segments slots (newVersion total) number.0) budget result image.old image.new }
+    ensures { Programmed (open_segment segments slots (new_version total) number.0) budget result image.old image.new }
 {
     let made = header_page(segments, slots, total, OPENED, number, NO_OLD_SEGMENT);
     let at = header::header_place(segments, slots, number);
@@ -100,7 +100,7 @@ pub fn begin_compaction(
     budget: u64,
 ) -> u64
     requires { Sized segments slots (length image.old) }
-    ensures { Programmed (beginCompaction segments slots (newVersion total) old.0 number.0) budget result image.old image.new }
+    ensures { Programmed (begin_compaction segments slots (new_version total) old.0 number.0) budget result image.old image.new }
 {
     let made = compaction_page(segments, slots, total, old, number);
     let at = header::header_place(segments, slots, number);
@@ -121,7 +121,7 @@ pub fn finish_copy(
     budget: u64,
 ) -> u64
     requires { Sized segments slots (length image.old) }
-    ensures { Programmed (finishCopy segments slots (newVersion total) old.0 number.0) budget result image.old image.new }
+    ensures { Programmed (finish_copy segments slots (new_version total) old.0 number.0) budget result image.old image.new }
 {
     let made = compaction_page(segments, slots, total, old, number);
     let at = header::header_place(segments, slots, number);

@@ -3,19 +3,19 @@ use Rattle.std.specs.Prelude.{ℕ, zero, suc, ◌≡◌, refl, ◌⊎◌, Bool, 
 use Rattle.std.proofs.Common.{sym, ◌∙◌, inl, inr, ⊎_elim, true≢false, arith, eqb-true, ne_eqb}
 use Rattle.std.proofs.Math.Path.{ap}
 use Rattle.std.proofs.Math.Bool.{true, false}
-use Rattle.model.specs.Chip.{Image, rightSize}
-use Rattle.model.specs.Header.{isFormer}
-use Rattle.model.specs.Slot.{numberOk}
-use Rattle.model.specs.State.{holds, segmentsOf, state, capacity, view_of, view}
-use Rattle.model.specs.Steps.{isWorn}
-use Rattle.model.specs.Table.{Table, lookup, contentsFound, table_of}
+use Rattle.model.specs.Chip.{Image, right_size}
+use Rattle.model.specs.Header.{is_former}
+use Rattle.model.specs.Slot.{number_ok}
+use Rattle.model.specs.State.{holds, segments_of, state, capacity, view_of, view}
+use Rattle.model.specs.Steps.{is_worn}
+use Rattle.model.specs.Table.{Table, lookup, contents_found, table_of}
 use Rattle.model.specs.Sequences.{among}
-use Rattle.model.specs.Answers.{put, delete, read, Refusal, ◌when◌, first_of, workOf, isDamaged, isUnfinished, absentRefusals, refusals, lengthOk, isFull}
-use Rattle.bridge.specs.Accepted.{code-of}
+use Rattle.model.specs.Answers.{put, delete, read, Refusal, ◌when◌, first_of, work_of, is_damaged, is_unfinished, absent_refusals, refusals, length_ok, is_full}
+use Rattle.bridge.specs.Accepted.{code_of_lem}
 use Rattle.bridge.specs.Refusals.{neither}
 use Rattle.crash.specs.Sound.{Clean}
-use Rattle.shares.specs.Shares.{Share, shares_of, sharesOk, share_of, owns}
-use Rattle.shares.specs.Layer.{Asked, puts, deletes, reads, blockAsked, storeRequest, bounds, beforeFull, quotaUsed, rows, shareCode}
+use Rattle.shares.specs.Shares.{Share, shares_of, shares_ok, share_of, owns}
+use Rattle.shares.specs.Layer.{Asked, puts, deletes, reads, block_asked, store_request, bounds, before_full, quota_used, rows, share_code}
 
 -- ---- what binds every request
 
@@ -24,173 +24,173 @@ abbrev pub bound : ℕ → ℕ → List ℕ → Image → ℕ → ℕ → ℕ
 bound N B ns s a b = first_of (bounds N B ns s a b)
 
 pub record Passes (N B : ℕ) (ns : List ℕ) (s : Image) (a b : ℕ) : Type 0 where
-  pub size : rightSize N B s ≡ true
-  pub right : sharesOk N B ns ≡ true
-  pub number : numberOk b ≡ true
+  pub size : right_size N B s ≡ true
+  pub right : shares_ok N B ns ≡ true
+  pub number : number_ok b ≡ true
   pub own : owns (shares_of ns) a b ≡ true
 
 abbrev four : Bool → Bool → Bool → Bool → List Refusal
 four size right number own = (1 when not size) ∷ (13 when not right) ∷ (2 when not number) ∷ (12 when not own) ∷ []
 
-four-none : (size right number own : Bool) → first_of (four size right number own) ≡ 0 → (size ≡ true) × (right ≡ true) × (number ≡ true) × (own ≡ true)
+four_none : (size right number own : Bool) → first_of (four size right number own) ≡ 0 → (size ≡ true) × (right ≡ true) × (number ≡ true) × (own ≡ true)
 unfolding first_of
-four-none false right number own h = absurd (omega (arith, h))
-four-none true false number own h = absurd (omega (arith, h))
-four-none true true false own h = absurd (omega (arith, h))
-four-none true true true false h = absurd (omega (arith, h))
-four-none true true true true h = (refl, refl, refl, refl)
+four_none false right number own h = absurd (omega (arith, h))
+four_none true false number own h = absurd (omega (arith, h))
+four_none true true false own h = absurd (omega (arith, h))
+four_none true true true false h = absurd (omega (arith, h))
+four_none true true true true h = (refl, refl, refl, refl)
 
 -- the rows behind are asked where none of these applies
-four-first : (size right number own : Bool) (r : List Refusal)
+four_first : (size right number own : Bool) (r : List Refusal)
     → first_of (four size right number own ++ r) ≡ cond (eqb (first_of (four size right number own)) 0) (first_of r) (first_of (four size right number own))
 unfolding first_of
-four-first false right number own r = refl
-four-first true false number own r = refl
-four-first true true false own r = refl
-four-first true true true false r = refl
-four-first true true true true r = refl
+four_first false right number own r = refl
+four_first true false number own r = refl
+four_first true true false own r = refl
+four_first true true true false r = refl
+four_first true true true true r = refl
 
 -- none of them is 7 or 8
-four-other : (size right number own : Bool) → (first_of (four size right number own) ≡ 7 → ⊥) × (first_of (four size right number own) ≡ 8 → ⊥)
+four_other : (size right number own : Bool) → (first_of (four size right number own) ≡ 7 → ⊥) × (first_of (four size right number own) ≡ 8 → ⊥)
 unfolding first_of
-four-other false right number own = ((λ h. omega (arith, h)), λ h. omega (arith, h))
-four-other true false number own = ((λ h. omega (arith, h)), λ h. omega (arith, h))
-four-other true true false own = ((λ h. omega (arith, h)), λ h. omega (arith, h))
-four-other true true true false = ((λ h. omega (arith, h)), λ h. omega (arith, h))
-four-other true true true true = ((λ h. omega (arith, h)), λ h. omega (arith, h))
+four_other false right number own = ((λ h. omega (arith, h)), λ h. omega (arith, h))
+four_other true false number own = ((λ h. omega (arith, h)), λ h. omega (arith, h))
+four_other true true false own = ((λ h. omega (arith, h)), λ h. omega (arith, h))
+four_other true true true false = ((λ h. omega (arith, h)), λ h. omega (arith, h))
+four_other true true true true = ((λ h. omega (arith, h)), λ h. omega (arith, h))
 
 module _ (N B : ℕ) (ns : List ℕ) (s : Image) (a : ℕ) where
   pub passes : (b : ℕ) → bound N B ns s a b ≡ 0 → Passes N B ns s a b
   unfolding bounds
-  passes b h = let p = four-none (rightSize N B s) (sharesOk N B ns) (numberOk b) (owns (shares_of ns) a b) h in record { size = p.0; right = p.1; number = p.2; own = p.3 }
+  passes b h = let p = four_none (right_size N B s) (shares_ok N B ns) (number_ok b) (owns (shares_of ns) a b) h in record { size = p.0; right = p.1; number = p.2; own = p.3 }
 
-  pub bound-other : (b : ℕ) → (bound N B ns s a b ≡ 7 → ⊥) × (bound N B ns s a b ≡ 8 → ⊥)
+  pub bound_other : (b : ℕ) → (bound N B ns s a b ≡ 7 → ⊥) × (bound N B ns s a b ≡ 8 → ⊥)
   unfolding bounds
-  bound-other b = four-other (rightSize N B s) (sharesOk N B ns) (numberOk b) (owns (shares_of ns) a b)
+  bound_other b = four_other (right_size N B s) (shares_ok N B ns) (number_ok b) (owns (shares_of ns) a b)
 
   -- images of one size are bound alike
-  pub bound-same : (r : Image) (b : ℕ) → rightSize N B s ≡ rightSize N B r → bound N B ns s a b ≡ bound N B ns r a b
+  pub bound_same : (r : Image) (b : ℕ) → right_size N B s ≡ right_size N B r → bound N B ns s a b ≡ bound N B ns r a b
   unfolding bounds
-  bound-same r b e = ap (λ (z : Bool). first_of (four z (sharesOk N B ns) (numberOk b) (owns (shares_of ns) a b))) e
+  bound_same r b e = ap (λ (z : Bool). first_of (four z (shares_ok N B ns) (number_ok b) (owns (shares_of ns) a b))) e
 
   -- the number of the first of its own rows
   abbrev pub row : Asked → ℕ
-  row r = first_of (rows (share_of (shares_of ns) a) (table_of N B s) (workOf N B s (storeRequest r)).code r)
+  row r = first_of (rows (share_of (shares_of ns) a) (table_of N B s) (work_of N B s (store_request r)).code r)
 
-  pub share-code : (r : Asked) → shareCode N B ns s a r ≡ cond (eqb (bound N B ns s a (blockAsked r)) 0) (row r) (bound N B ns s a (blockAsked r))
-  unfolding shareCode bounds
-  share-code r = four-first (rightSize N B s) (sharesOk N B ns) (numberOk (blockAsked r)) (owns (shares_of ns) a (blockAsked r))
-      (rows (share_of (shares_of ns) a) (table_of N B s) (workOf N B s (storeRequest r)).code r)
+  pub share_code_lem : (r : Asked) → share_code N B ns s a r ≡ cond (eqb (bound N B ns s a (block_asked r)) 0) (row r) (bound N B ns s a (block_asked r))
+  unfolding share_code bounds
+  share_code_lem r = four_first (right_size N B s) (shares_ok N B ns) (number_ok (block_asked r)) (owns (shares_of ns) a (block_asked r))
+      (rows (share_of (shares_of ns) a) (table_of N B s) (work_of N B s (store_request r)).code r)
 
 -- a foreign block is refused before its own rows
-pub foreign-code : (N B : ℕ) (ns : List ℕ) (s : Image) (a : ℕ) (r : Asked) → rightSize N B s ≡ true → sharesOk N B ns ≡ true → numberOk (blockAsked r) ≡ true
-    → owns (shares_of ns) a (blockAsked r) ≡ false → shareCode N B ns s a r ≡ 12
-unfolding shareCode bounds first_of
-foreign-code N B ns s a r z right number foreign = rw (z, right, number, foreign)
+pub foreign_code : (N B : ℕ) (ns : List ℕ) (s : Image) (a : ℕ) (r : Asked) → right_size N B s ≡ true → shares_ok N B ns ≡ true → number_ok (block_asked r) ≡ true
+    → owns (shares_of ns) a (block_asked r) ≡ false → share_code N B ns s a r ≡ 12
+unfolding share_code bounds first_of
+foreign_code N B ns s a r z right number foreign = rw (z, right, number, foreign)
 
 -- ---- the rows of a request
 
 -- a put is not refused for the quota
 abbrev pub Spare : Share → Table → Asked → Type 0
-Spare x t (puts b c) = (not (holds b t) && quotaUsed x t) ≡ false
+Spare x t (puts b c) = (not (holds b t) && quota_used x t) ≡ false
 Spare x t (deletes b) = Unit {0}
 Spare x t (reads b size) = Unit {0}
 
 -- refused by none of its rows: the store answers 0
 rows_none : (x : Share) (t : Table) (k : ℕ) (r : Asked) → first_of (rows x t k r) ≡ 0 → (k ≡ 0) × Spare x t r
 unfolding first_of rows
-rows_none x t k (puts b c) h = go (beforeFull k) refl (not (holds b t) && quotaUsed x t) h
+rows_none x t k (puts b c) h = go (before_full k) refl (not (holds b t) && quota_used x t) h
   where
-    go : (y : Bool) → beforeFull k ≡ y → (z : Bool) → cond y k (cond z 7 (cond true k 0)) ≡ 0 → (k ≡ 0) × (z ≡ false)
-    go true e z q = absurd (true≢false (sym e ∙ (ap beforeFull q ∙ (unfold beforeFull in refl))))
+    go : (y : Bool) → before_full k ≡ y → (z : Bool) → cond y k (cond z 7 (cond true k 0)) ≡ 0 → (k ≡ 0) × (z ≡ false)
+    go true e z q = absurd (true≢false (sym e ∙ (ap before_full q ∙ (unfold before_full in refl))))
     go false e true q = absurd (omega (arith, q))
     go false e false q = (q, refl)
 rows_none x t k (deletes b) h = (h, tt)
 rows_none x t k (reads b size) h = (go (eqb k 0) refl h, tt)
   where
-    go : (y : Bool) → eqb k 0 ≡ y → cond (not y) k (cond (ltb size (length (contentsFound (lookup b t)))) 14 0) ≡ 0 → k ≡ 0
+    go : (y : Bool) → eqb k 0 ≡ y → cond (not y) k (cond (ltb size (length (contents_found (lookup b t)))) 14 0) ≡ 0 → k ≡ 0
     go true e q = eqb-true k 0 e
     go false e q = q
 
 -- an accepted request
 pub record Taken (N B : ℕ) (ns : List ℕ) (s : Image) (a : ℕ) (r : Asked) : Type 0 where
-  pub passed : Passes N B ns s a (blockAsked r)
-  pub accepted : (workOf N B s (storeRequest r)).code ≡ 0
+  pub passed : Passes N B ns s a (block_asked r)
+  pub accepted : (work_of N B s (store_request r)).code ≡ 0
   pub spare : Spare (share_of (shares_of ns) a) (table_of N B s) r
 
 stops : (k j : ℕ) → cond (eqb (suc k) 0) j (suc k) ≡ suc k
 stops k j = rw (ne_eqb (suc k) 0 (λ e. omega (arith, e)))
 
-by-bound : (k j : ℕ) → cond (eqb k 0) j k ≡ 0 → (k ≡ 0) × (j ≡ 0)
-by-bound zero j h = (refl, h)
-by-bound (suc k) j h = absurd (omega (arith, sym (stops k j) ∙ h))
+by_bound : (k j : ℕ) → cond (eqb k 0) j k ≡ 0 → (k ≡ 0) × (j ≡ 0)
+by_bound zero j h = (refl, h)
+by_bound (suc k) j h = absurd (omega (arith, sym (stops k j) ∙ h))
 
-pub taken : (N B : ℕ) (ns : List ℕ) (s : Image) (a : ℕ) (r : Asked) → shareCode N B ns s a r ≡ 0 → Taken N B ns s a r
+pub taken : (N B : ℕ) (ns : List ℕ) (s : Image) (a : ℕ) (r : Asked) → share_code N B ns s a r ≡ 0 → Taken N B ns s a r
 taken N B ns s a r h =
-    let p = by-bound (bound N B ns s a (blockAsked r)) (row N B ns s a r) (sym (share-code N B ns s a r) ∙ h) in
-    let q = rows_none (share_of (shares_of ns) a) (table_of N B s) (workOf N B s (storeRequest r)).code r p.1 in
-    record { passed = passes N B ns s a (blockAsked r) p.0; accepted = q.0; spare = q.1 }
+    let p = by_bound (bound N B ns s a (block_asked r)) (row N B ns s a r) (sym (share_code_lem N B ns s a r) ∙ h) in
+    let q = rows_none (share_of (shares_of ns) a) (table_of N B s) (work_of N B s (store_request r)).code r p.1 in
+    record { passed = passes N B ns s a (block_asked r) p.0; accepted = q.0; spare = q.1 }
 
 -- ---- a refusal that is not the layer's own is the store's
 
 -- the layer's own
-abbrev pub ofLayer : ℕ → Bool
-ofLayer k = among k (7 ∷ 12 ∷ 13 ∷ 14 ∷ [])
+abbrev pub of_layer : ℕ → Bool
+of_layer k = among k (7 ∷ 12 ∷ 13 ∷ 14 ∷ [])
 
-own-not : (n k : ℕ) → ofLayer n ≡ true → n ≡ k → ofLayer k ≡ false → ⊥
-own-not n k t e f = true≢false (sym t ∙ (ap (λ (y : ℕ). ofLayer y) e ∙ f))
+own_not : (n k : ℕ) → of_layer n ≡ true → n ≡ k → of_layer k ≡ false → ⊥
+own_not n k t e f = true≢false (sym t ∙ (ap (λ (y : ℕ). of_layer y) e ∙ f))
 
-four-rows : (size right number own : Bool) (k : ℕ) (r : List Refusal) → first_of (four size right number own ++ r) ≡ suc k → ofLayer (suc k) ≡ false
+four_rows : (size right number own : Bool) (k : ℕ) (r : List Refusal) → first_of (four size right number own ++ r) ≡ suc k → of_layer (suc k) ≡ false
     → ((size ≡ false) × (1 ≡ suc k)) ⊎ (((size ≡ true) × (number ≡ false) × (2 ≡ suc k)) ⊎ (first_of r ≡ suc k))
 unfolding first_of among
-four-rows false right number own k r h n = inl (refl, h)
-four-rows true false number own k r h n = absurd (own-not 13 (suc k) refl h n)
-four-rows true true false own k r h n = inr (inl (refl, refl, h))
-four-rows true true true false k r h n = absurd (own-not 12 (suc k) refl h n)
-four-rows true true true true k r h n = inr (inr h)
+four_rows false right number own k r h n = inl (refl, h)
+four_rows true false number own k r h n = absurd (own_not 13 (suc k) refl h n)
+four_rows true true false own k r h n = inr (inl (refl, refl, h))
+four_rows true true true false k r h n = absurd (own_not 12 (suc k) refl h n)
+four_rows true true true true k r h n = inr (inr h)
 
-seven-own : ofLayer 7 ≡ true
+seven_own : of_layer 7 ≡ true
 unfolding among
-seven-own = refl
+seven_own = refl
 
-fourteen-own : ofLayer 14 ≡ true
+fourteen_own : of_layer 14 ≡ true
 unfolding among
-fourteen-own = refl
+fourteen_own = refl
 
-rows_same : (x : Share) (t : Table) (k j : ℕ) (r : Asked) → first_of (rows x t k r) ≡ suc j → ofLayer (suc j) ≡ false → k ≡ suc j
+rows_same : (x : Share) (t : Table) (k j : ℕ) (r : Asked) → first_of (rows x t k r) ≡ suc j → of_layer (suc j) ≡ false → k ≡ suc j
 unfolding first_of rows
-rows_same x t k j (puts b c) h n = go (beforeFull k) (not (holds b t) && quotaUsed x t) h
+rows_same x t k j (puts b c) h n = go (before_full k) (not (holds b t) && quota_used x t) h
   where
     go : (y z : Bool) → cond y k (cond z 7 (cond true k 0)) ≡ suc j → k ≡ suc j
     go true z q = q
-    go false true q = absurd (own-not 7 (suc j) seven-own q n)
+    go false true q = absurd (own_not 7 (suc j) seven_own q n)
     go false false q = q
 rows_same x t k j (deletes b) h n = h
-rows_same x t k j (reads b size) h n = go (not (eqb k 0)) (ltb size (length (contentsFound (lookup b t)))) h
+rows_same x t k j (reads b size) h n = go (not (eqb k 0)) (ltb size (length (contents_found (lookup b t)))) h
   where
     go : (y z : Bool) → cond y k (cond z 14 0) ≡ suc j → k ≡ suc j
     go true z q = q
-    go false true q = absurd (own-not 14 (suc j) fourteen-own q n)
+    go false true q = absurd (own_not 14 (suc j) fourteen_own q n)
     go false false q = absurd (omega (arith, q))
 
-store-size : (N B : ℕ) (s : Image) (r : Asked) → rightSize N B s ≡ false → (workOf N B s (storeRequest r)).code ≡ 1
-unfolding storeRequest refusals absentRefusals first_of
-store-size N B s (puts b c) z = code-of N B s (put b c) ∙ rw z
-store-size N B s (deletes b) z = code-of N B s (delete b) ∙ rw z
-store-size N B s (reads b size) z = code-of N B s (read b) ∙ rw z
+store_size : (N B : ℕ) (s : Image) (r : Asked) → right_size N B s ≡ false → (work_of N B s (store_request r)).code ≡ 1
+unfolding store_request refusals absent_refusals first_of
+store_size N B s (puts b c) z = code_of_lem N B s (put b c) ∙ rw z
+store_size N B s (deletes b) z = code_of_lem N B s (delete b) ∙ rw z
+store_size N B s (reads b size) z = code_of_lem N B s (read b) ∙ rw z
 
-store-number : (N B : ℕ) (s : Image) (r : Asked) → rightSize N B s ≡ true → numberOk (blockAsked r) ≡ false → (workOf N B s (storeRequest r)).code ≡ 2
-unfolding storeRequest blockAsked refusals absentRefusals first_of
-store-number N B s (puts b c) z n = code-of N B s (put b c) ∙ rw (z, n)
-store-number N B s (deletes b) z n = code-of N B s (delete b) ∙ rw (z, n)
-store-number N B s (reads b size) z n = code-of N B s (read b) ∙ rw (z, n)
+store_number : (N B : ℕ) (s : Image) (r : Asked) → right_size N B s ≡ true → number_ok (block_asked r) ≡ false → (work_of N B s (store_request r)).code ≡ 2
+unfolding store_request block_asked refusals absent_refusals first_of
+store_number N B s (puts b c) z n = code_of_lem N B s (put b c) ∙ rw (z, n)
+store_number N B s (deletes b) z n = code_of_lem N B s (delete b) ∙ rw (z, n)
+store_number N B s (reads b size) z n = code_of_lem N B s (read b) ∙ rw (z, n)
 
-pub store_same : (N B : ℕ) (ns : List ℕ) (s : Image) (a : ℕ) (r : Asked) (k : ℕ) → shareCode N B ns s a r ≡ suc k → ofLayer (suc k) ≡ false → (workOf N B s (storeRequest r)).code ≡ suc k
-unfolding shareCode bounds
-store_same N B ns s a r k h n = ⊎_elim (λ p. store-size N B s r p.0 ∙ p.1)
-    (λ q. ⊎_elim (λ p. store-number N B s r p.0 p.1 ∙ p.2) (λ p. rows_same (share_of (shares_of ns) a) (table_of N B s) (workOf N B s (storeRequest r)).code k r p n) q)
-    (four-rows (rightSize N B s) (sharesOk N B ns) (numberOk (blockAsked r)) (owns (shares_of ns) a (blockAsked r)) k
-    (rows (share_of (shares_of ns) a) (table_of N B s) (workOf N B s (storeRequest r)).code r) h n)
+pub store_same : (N B : ℕ) (ns : List ℕ) (s : Image) (a : ℕ) (r : Asked) (k : ℕ) → share_code N B ns s a r ≡ suc k → of_layer (suc k) ≡ false → (work_of N B s (store_request r)).code ≡ suc k
+unfolding share_code bounds
+store_same N B ns s a r k h n = ⊎_elim (λ p. store_size N B s r p.0 ∙ p.1)
+    (λ q. ⊎_elim (λ p. store_number N B s r p.0 p.1 ∙ p.2) (λ p. rows_same (share_of (shares_of ns) a) (table_of N B s) (work_of N B s (store_request r)).code k r p n) q)
+    (four_rows (right_size N B s) (shares_ok N B ns) (number_ok (block_asked r)) (owns (shares_of ns) a (block_asked r)) k
+    (rows (share_of (shares_of ns) a) (table_of N B s) (work_of N B s (store_request r)).code r) h n)
 
 -- ---- 7
 
@@ -205,34 +205,34 @@ seven zero k before held used n e h = go (before k) refl held used h
     go false b false true q = ((refl, b), inl (refl, refl))
     go false b false false q = ((refl, b), inr q)
 
-pub seven-back : (k : ℕ) (v w : Bool) → ((v ≡ false) × (w ≡ true)) ⊎ (k ≡ 7) → cond (not v && w) 7 (cond true k 0) ≡ 7
-seven-back k v w (inl (p, q)) = rw (p, q)
-seven-back k v w (inr e) = go (not v && w)
+pub seven_back : (k : ℕ) (v w : Bool) → ((v ≡ false) × (w ≡ true)) ⊎ (k ≡ 7) → cond (not v && w) 7 (cond true k 0) ≡ 7
+seven_back k v w (inl (p, q)) = rw (p, q)
+seven_back k v w (inr e) = go (not v && w)
   where
     go : (y : Bool) → cond y 7 k ≡ 7
     go true = refl
     go false = e
 
 -- the store's 7: the image is clean and full
-seven-rows : (size number short damage undone former full worn : Bool)
+seven_rows : (size number short damage undone former full worn : Bool)
     → first_of ((1 when size) ∷ (2 when number) ∷ (3 when short) ∷ (4 when damage) ∷ (5 when undone) ∷ (11 when former) ∷ (7 when full) ∷ (8 when worn) ∷ []) ≡ 7
     → (damage ≡ false) × (undone ≡ false) × (full ≡ true)
 unfolding first_of
-seven-rows true number short damage undone former full worn h = absurd (omega (arith, h))
-seven-rows false true short damage undone former full worn h = absurd (omega (arith, h))
-seven-rows false false true damage undone former full worn h = absurd (omega (arith, h))
-seven-rows false false false true undone former full worn h = absurd (omega (arith, h))
-seven-rows false false false false true former full worn h = absurd (omega (arith, h))
-seven-rows false false false false false true full worn h = absurd (omega (arith, h))
-seven-rows false false false false false false true worn h = (refl, refl, refl)
-seven-rows false false false false false false false true h = absurd (omega (arith, h))
-seven-rows false false false false false false false false h = absurd (omega (arith, h))
+seven_rows true number short damage undone former full worn h = absurd (omega (arith, h))
+seven_rows false true short damage undone former full worn h = absurd (omega (arith, h))
+seven_rows false false true damage undone former full worn h = absurd (omega (arith, h))
+seven_rows false false false true undone former full worn h = absurd (omega (arith, h))
+seven_rows false false false false true former full worn h = absurd (omega (arith, h))
+seven_rows false false false false false true full worn h = absurd (omega (arith, h))
+seven_rows false false false false false false true worn h = (refl, refl, refl)
+seven_rows false false false false false false false true h = absurd (omega (arith, h))
+seven_rows false false false false false false false false h = absurd (omega (arith, h))
 
-pub store-full : (N B : ℕ) (s : Image) (b : ℕ) (c : List ℕ) → (workOf N B s (put b c)).code ≡ 7
+pub store_full : (N B : ℕ) (s : Image) (b : ℕ) (c : List ℕ) → (work_of N B s (put b c)).code ≡ 7
     → Clean N B s × ((not (holds b (table_of N B s)) && leb (capacity N B) (length (table_of N B s))) ≡ true)
-unfolding refusals state view isFull table_of
-store-full N B s b c h =
-    let v = view_of N (segmentsOf N B s) in
-    let p = seven-rows (not (rightSize N B s)) (not (numberOk b)) (not (lengthOk (length c))) (isDamaged (state N B s)) (isUnfinished (state N B s)) (isFormer v.version) (isFull N B b v) (isWorn N v)
-    (sym (code-of N B s (put b c)) ∙ h) in
+unfolding refusals state view is_full table_of
+store_full N B s b c h =
+    let v = view_of N (segments_of N B s) in
+    let p = seven_rows (not (right_size N B s)) (not (number_ok b)) (not (length_ok (length c))) (is_damaged (state N B s)) (is_unfinished (state N B s)) (is_former v.version) (is_full N B b v) (is_worn N v)
+    (sym (code_of_lem N B s (put b c)) ∙ h) in
     (neither (state N B s) p.0 p.1, p.2)

@@ -1,16 +1,16 @@
 -- Request #110, what tenants can rely on: isolation, a share that is guaranteed, foreign blocks out of reach, and power cuts. One N and B, one list of shares ns.
 use Rattle.std.specs.Prelude.{ℕ, ◌<◌, ◌≡◌, ◌⊎◌, ◌≢◌, true, false, cond, List, [], ◌∷◌, eqb}
-use Rattle.model.specs.Chip.{Image, Bytes, Cut, rightSize}
-use Rattle.model.specs.Slot.{numberOk}
+use Rattle.model.specs.Chip.{Image, Bytes, Cut, right_size}
+use Rattle.model.specs.Slot.{number_ok}
 use Rattle.model.specs.State.{holds}
-use Rattle.model.specs.Table.{lookup, liveBetween, table_of}
-use Rattle.model.specs.Answers.{Request, format, put, delete, read, readOr, recover, first_of, workOf, outcomeOf}
+use Rattle.model.specs.Table.{lookup, live_between, table_of}
+use Rattle.model.specs.Answers.{Request, format, put, delete, read, read_or, recover, first_of, work_of, outcome_of}
 use Rattle.model.specs.Sequences.{among}
 use Rattle.model.specs.Histories.{Reply, Seen, answered, lost, Proper, Does, wears, Event, History, shown}
 use Rattle.crash.specs.Machine.{Promise, unknown, PlainRuns}
 use Rattle.crash.specs.Demand2.{Keeps, board}
-use Rattle.shares.specs.Shares.{shares_of, sharesOk, share_of, owns}
-use Rattle.shares.specs.Layer.{Asked, puts, reads, blockAsked, storeRequest, bounds, beforeFull, quotaUsed, shareCode, shareWork, Shared, shareOutcome}
+use Rattle.shares.specs.Shares.{shares_of, shares_ok, share_of, owns}
+use Rattle.shares.specs.Layer.{Asked, puts, reads, block_asked, store_request, bounds, before_full, quota_used, share_code, share_work, Shared, share_outcome}
 
 -- a tenant's request
 pub record Call : Type 0 where
@@ -19,15 +19,15 @@ pub record Call : Type 0 where
 
 -- what it does: the answer, the contents, and the image afterwards
 unfoldable pub served : ℕ → ℕ → List ℕ → Image → Call → Shared
-served N B ns s x = shareOutcome N B ns s x.tenant x.asked
+served N B ns s x = share_outcome N B ns s x.tenant x.asked
 
 -- what the tenant gets of that
-unfoldable pub replyTo : ℕ → ℕ → List ℕ → Image → Call → Reply
-replyTo N B ns s x = record { code = (served N B ns s x).code; bytes = (served N B ns s x).given }
+unfoldable pub reply_to : ℕ → ℕ → List ℕ → Image → Call → Reply
+reply_to N B ns s x = record { code = (served N B ns s x).code; bytes = (served N B ns s x).given }
 
 -- contents are bytes
 abbrev pub ProperAsked : Asked → Type 0
-ProperAsked r = Proper (storeRequest r)
+ProperAsked r = Proper (store_request r)
 
 -- ---- two runs
 
@@ -38,25 +38,25 @@ pub record Told : Type 0 where
 
 unfoldable pub told : ℕ → ℕ → List ℕ → Image → List Call → List Told
 told N B ns s [] = []
-told N B ns s (x ∷ xs) = record { tenant = x.tenant; reply = replyTo N B ns s x } ∷ told N B ns (served N B ns s x).image xs
+told N B ns s (x ∷ xs) = record { tenant = x.tenant; reply = reply_to N B ns s x } ∷ told N B ns (served N B ns s x).image xs
 
 -- as long as nobody has been answered 8
-unfoldable pub beforeWorn : List Told → List Told
-beforeWorn [] = []
-beforeWorn (y ∷ ys) = cond (eqb y.reply.code 8) [] (y ∷ beforeWorn ys)
+unfoldable pub before_worn : List Told → List Told
+before_worn [] = []
+before_worn (y ∷ ys) = cond (eqb y.reply.code 8) [] (y ∷ before_worn ys)
 
 abbrev pub NoneWorn : List Told → Type 0
 NoneWorn [] = Unit {0}
 NoneWorn (y ∷ ys) = (y.reply.code ≢ 8) × NoneWorn ys
 
 -- one tenant's requests in order, and what it gets
-unfoldable pub requestsOf : ℕ → List Call → List Asked
-requestsOf a [] = []
-requestsOf a (x ∷ xs) = cond (eqb a x.tenant) (x.asked ∷ requestsOf a xs) (requestsOf a xs)
+unfoldable pub requests_of : ℕ → List Call → List Asked
+requests_of a [] = []
+requests_of a (x ∷ xs) = cond (eqb a x.tenant) (x.asked ∷ requests_of a xs) (requests_of a xs)
 
-unfoldable pub repliesTo : ℕ → List Told → List Reply
-repliesTo a [] = []
-repliesTo a (y ∷ ys) = cond (eqb a y.tenant) (y.reply ∷ repliesTo a ys) (repliesTo a ys)
+unfoldable pub replies_to : ℕ → List Told → List Reply
+replies_to a [] = []
+replies_to a (y ∷ ys) = cond (eqb a y.tenant) (y.reply ∷ replies_to a ys) (replies_to a ys)
 
 abbrev pub AllProper : List Call → Type 0
 AllProper [] = Unit {0}
@@ -70,24 +70,24 @@ SameAsFar (x ∷ p) (y ∷ q) = (x ≡ y) × SameAsFar p q
 
 -- what a format leaves, under an allowance of steps
 abbrev pub formatted : ℕ → ℕ → Image → ℕ → Image
-formatted N B s allowance = (outcomeOf N B s allowance format).image
+formatted N B s allowance = (outcome_of N B s allowance format).image
 
 abbrev pub FinishedFormat : ℕ → ℕ → Image → ℕ → Type 0
-FinishedFormat N B s allowance = (outcomeOf N B s allowance format).code ≡ 0
+FinishedFormat N B s allowance = (outcome_of N B s allowance format).code ≡ 0
 
 -- Two runs from a finished format, with the same requests in order by tenant a and any requests by others, interleaved in any way: a gets the same contents and the same answers, request by request,
 -- as long as neither run has answered 8 to anybody.
 abbrev pub Isolation : Type 0
 Isolation = (N B : ℕ) (ns : List ℕ) (a : ℕ) (s r : Image) (k m : ℕ) (xs ys : List Call)
-    → FinishedFormat N B s k → FinishedFormat N B r m → AllProper xs → AllProper ys → requestsOf a xs ≡ requestsOf a ys
-    → SameAsFar (repliesTo a (beforeWorn (told N B ns (formatted N B s k) xs))) (repliesTo a (beforeWorn (told N B ns (formatted N B r m) ys)))
+    → FinishedFormat N B s k → FinishedFormat N B r m → AllProper xs → AllProper ys → requests_of a xs ≡ requests_of a ys
+    → SameAsFar (replies_to a (before_worn (told N B ns (formatted N B s k) xs))) (replies_to a (before_worn (told N B ns (formatted N B r m) ys)))
 
 -- So where neither has, all that it gets is the same: nothing that another tenant does shows in it.
 abbrev pub NothingShows : Type 0
 NothingShows = (N B : ℕ) (ns : List ℕ) (a : ℕ) (s r : Image) (k m : ℕ) (xs ys : List Call)
-    → FinishedFormat N B s k → FinishedFormat N B r m → AllProper xs → AllProper ys → requestsOf a xs ≡ requestsOf a ys
+    → FinishedFormat N B s k → FinishedFormat N B r m → AllProper xs → AllProper ys → requests_of a xs ≡ requests_of a ys
     → NoneWorn (told N B ns (formatted N B s k) xs) → NoneWorn (told N B ns (formatted N B r m) ys)
-    → repliesTo a (told N B ns (formatted N B s k) xs) ≡ repliesTo a (told N B ns (formatted N B r m) ys)
+    → replies_to a (told N B ns (formatted N B s k) xs) ≡ replies_to a (told N B ns (formatted N B r m) ys)
 
 -- ---- histories with cuts: requests of tenants, and requests to the store itself, each answered or cut by a loss of power anywhere
 
@@ -96,8 +96,8 @@ pub data Turn : Type 0 where
   store : Event → Turn
 
 abbrev pub Serves : ℕ → ℕ → List ℕ → Call → Seen → Image → Image → Type 0
-Serves N B ns x (answered o) s m = (o ≡ replyTo N B ns s x) × (m ≡ (served N B ns s x).image)
-Serves N B ns x lost s m = Cut B (shareWork N B ns s x.tenant x.asked).steps s m
+Serves N B ns x (answered o) s m = (o ≡ reply_to N B ns s x) × (m ≡ (served N B ns s x).image)
+Serves N B ns x lost s m = Cut B (share_work N B ns s x.tenant x.asked).steps s m
 
 -- each works on the image as the one before or a cut left it
 abbrev pub Through : ℕ → ℕ → List ℕ → Image → List Turn → Image → Type 0
@@ -111,7 +111,7 @@ Unwritten format = ⊥
 Unwritten (put b c) = ⊥
 Unwritten (delete b) = ⊥
 Unwritten (read b) = Unit {0}
-Unwritten (readOr b f) = Unit {0}
+Unwritten (read_or b f) = Unit {0}
 Unwritten recover = Unit {0}
 
 abbrev pub OnlyLayer : List Turn → Type 0
@@ -127,35 +127,35 @@ OfLayer N B ns ts u = (s : Image) × (k : ℕ) × FinishedFormat N B s k × Thro
 
 -- what is asked before 7 refuses nothing
 abbrev pub Reaches7 : ℕ → ℕ → List ℕ → Image → ℕ → ℕ → List ℕ → Type 0
-Reaches7 N B ns s a b c = (first_of (bounds N B ns s a b) ≡ 0) × (beforeFull (workOf N B s (put b c)).code ≡ false)
+Reaches7 N B ns s a b c = (first_of (bounds N B ns s a b) ≡ 0) × (before_full (work_of N B s (put b c)).code ≡ false)
 
 -- the block is not live, and this tenant's own quota is used
 abbrev pub OwnQuotaUsed : ℕ → ℕ → List ℕ → Image → ℕ → ℕ → Type 0
-OwnQuotaUsed N B ns s a b = (holds b (table_of N B s) ≡ false) × (quotaUsed (share_of (shares_of ns) a) (table_of N B s) ≡ true)
+OwnQuotaUsed N B ns s a b = (holds b (table_of N B s) ≡ false) × (quota_used (share_of (shares_of ns) a) (table_of N B s) ≡ true)
 
 -- A guaranteed share, through every power cut and recovery.
 abbrev pub GuaranteedShare : Type 0
 GuaranteedShare = (N B : ℕ) (ns : List ℕ) (ts : List Turn) (u : Image) (a b : ℕ) (c : List ℕ) → OfLayer N B ns ts u
-    → (shareCode N B ns u a (puts b c) ≡ 7 → Reaches7 N B ns u a b c × OwnQuotaUsed N B ns u a b)
-    × (Reaches7 N B ns u a b c → OwnQuotaUsed N B ns u a b → shareCode N B ns u a (puts b c) ≡ 7)
+    → (share_code N B ns u a (puts b c) ≡ 7 → Reaches7 N B ns u a b c × OwnQuotaUsed N B ns u a b)
+    × (Reaches7 N B ns u a b c → OwnQuotaUsed N B ns u a b → share_code N B ns u a (puts b c) ≡ 7)
 
 -- So a tenant below its quota is never refused a block with 7, whatever the others store.
 abbrev pub BelowQuota : Type 0
 BelowQuota = (N B : ℕ) (ns : List ℕ) (ts : List Turn) (u : Image) (a b : ℕ) (c : List ℕ) → OfLayer N B ns ts u
-    → let x = share_of (shares_of ns) a in liveBetween x.first x.last (table_of N B u) < x.quota → shareCode N B ns u a (puts b c) ≢ 7
+    → let x = share_of (shares_of ns) a in live_between x.first x.last (table_of N B u) < x.quota → share_code N B ns u a (puts b c) ≢ 7
 
 -- On any other image the store's 7 stands too, and nothing else answers 7.
 abbrev pub FullElsewhere : Type 0
 FullElsewhere = (N B : ℕ) (ns : List ℕ) (u : Image) (a b : ℕ) (c : List ℕ)
-    → (shareCode N B ns u a (puts b c) ≡ 7 → Reaches7 N B ns u a b c × (OwnQuotaUsed N B ns u a b ⊎ ((workOf N B u (put b c)).code ≡ 7)))
-    × (Reaches7 N B ns u a b c → OwnQuotaUsed N B ns u a b ⊎ ((workOf N B u (put b c)).code ≡ 7) → shareCode N B ns u a (puts b c) ≡ 7)
+    → (share_code N B ns u a (puts b c) ≡ 7 → Reaches7 N B ns u a b c × (OwnQuotaUsed N B ns u a b ⊎ ((work_of N B u (put b c)).code ≡ 7)))
+    × (Reaches7 N B ns u a b c → OwnQuotaUsed N B ns u a b ⊎ ((work_of N B u (put b c)).code ≡ 7) → share_code N B ns u a (puts b c) ≡ 7)
 
 -- ---- foreign blocks
 
 -- A foreign block can be neither read, written nor deleted: the answer is 12, no contents come back and no byte changes, whatever the image holds.
 abbrev pub ForeignRefused : Type 0
-ForeignRefused = (N B : ℕ) (ns : List ℕ) (s : Image) (x : Call) → rightSize N B s ≡ true → sharesOk N B ns ≡ true → numberOk (blockAsked x.asked) ≡ true
-    → owns (shares_of ns) x.tenant (blockAsked x.asked) ≡ false → served N B ns s x ≡ record { code = 12; given = []; image = s }
+ForeignRefused = (N B : ℕ) (ns : List ℕ) (s : Image) (x : Call) → right_size N B s ≡ true → shares_ok N B ns ≡ true → number_ok (block_asked x.asked) ≡ true
+    → owns (shares_of ns) x.tenant (block_asked x.asked) ≡ false → served N B ns s x ≡ record { code = 12; given = []; image = s }
 
 -- Whatever a tenant asks for on any image of bytes, clean or not, answered or cut anywhere: what a finished recovery shows of a block that is not its own stays as it was.
 abbrev pub OthersKept : Type 0
@@ -176,7 +176,7 @@ PutBy a b c (store e ∷ ts) = PutBy a b c ts
 -- The accident of tenant 31: what a tenant reads it has put itself, under that number, through every power cut and recovery.
 abbrev pub OwnContents : Type 0
 OwnContents = (N B : ℕ) (ns : List ℕ) (ts : List Turn) (u : Image) (a b size : ℕ) (c : List ℕ) → OfLayer N B ns ts u
-    → replyTo N B ns u (record { tenant = a; asked = reads b size }) ≡ record { code = 0; bytes = c } → PutBy a b c ts
+    → reply_to N B ns u (record { tenant = a; asked = reads b size }) ≡ record { code = 0; bytes = c } → PutBy a b c ts
 
 -- ---- with a cut: demand 2
 
@@ -190,9 +190,9 @@ abbrev pub Passed : List Turn → List Event → Type 0
 Passed [] es = es ≡ []
 Passed (store e ∷ ts) es = (r : List Event) × (es ≡ e ∷ r) × Passed ts r
 Passed (tenant x o ∷ ts) es =
-    (ByLayer o × Passed ts es) ⊎ ((e : Event) × (r : List Event) × (es ≡ e ∷ r) × (e.request ≡ storeRequest x.asked) × (e.seen ≡ o) × Passed ts r)
+    (ByLayer o × Passed ts es) ⊎ ((e : Event) × (r : List Event) × (es ≡ e ∷ r) × (e.request ≡ store_request x.asked) × (e.seen ≡ o) × Passed ts r)
 
 -- Every history through this layer is one of the store, and so of the plain table: after a recovery each tenant's blocks are as demand 2 says.
 abbrev pub LayerDemand2 : Type 0
-LayerDemand2 = (N B : ℕ) (ns : List ℕ) (s u : Image) (ts : List Turn) → rightSize N B s ≡ true → Through N B ns s ts u
+LayerDemand2 = (N B : ℕ) (ns : List ℕ) (s u : Image) (ts : List Turn) → right_size N B s ≡ true → Through N B ns s ts u
     → (es : List Event) × Passed ts es × History N B s es u × ((x : Promise) × PlainRuns (board N B false) unknown es x × Keeps N B u x)

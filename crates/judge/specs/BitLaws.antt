@@ -9,39 +9,39 @@ use Rattle.std.proofs.Math.ListN.{get_or-eq_default}
 use Rattle.std.proofs.Math.Seq.{set_out}
 use Rattle.std.specs.Int.Bits.{bit_or, or_step}
 use Rattle.std.proofs.lemmas.Nat.{or_shr}
-use Rattle.judge.specs.Bitmap.{inBits, put_bit}
+use Rattle.judge.specs.Bitmap.{in_bits, put_bit}
 
 -- digit j of a word, and of a power of two
-or-digit : (a b j : ℕ) → bit_or a b / 2 ^ j % 2 ≡ max (a / 2 ^ j % 2) (b / 2 ^ j % 2)
-or-digit a b j =
+or_digit : (a b j : ℕ) → bit_or a b / 2 ^ j % 2 ≡ max (a / 2 ^ j % 2) (b / 2 ^ j % 2)
+or_digit a b j =
     let x = a / 2 ^ j in let y = b / 2 ^ j in
     let m : max (x % 2) (y % 2) < 2 = omega arith in
     ap (λ (n : ℕ). n % 2) (or_shr a b j ∙ or_step x y) ∙ mul-add-mod_self_right (bit_or (x / 2) (y / 2)) 2 (max (x % 2) (y % 2)) ∙ omega arith
 
-power-above : (j d : ℕ) → 2 ^ (j + suc d) / 2 ^ j % 2 ≡ 0
-power-above j d =
+power_above : (j d : ℕ) → 2 ^ (j + suc d) / 2 ^ j % 2 ≡ 0
+power_above j d =
     let e : j + suc d ≡ suc d + j = omega arith in
     rw (e, pow-add, mul-div_cancel (2 ^ suc d) (pow_pos j), pow-suc) (mul-mod_left (2 ^ d) 2)
 
-power-other : (j k : ℕ) → (j ≡ k → ⊥) → 2 ^ k / 2 ^ j % 2 ≡ 0
-power-other j k n = elim (dec_lt j k) [
-  | yes p ↦ (let e : k ≡ j + suc (k - j - 1) = omega arith in rw e (power-above j (k - j - 1)))
+power_other : (j k : ℕ) → (j ≡ k → ⊥) → 2 ^ k / 2 ^ j % 2 ≡ 0
+power_other j k n = elim (dec_lt j k) [
+  | yes p ↦ (let e : k ≡ j + suc (k - j - 1) = omega arith in rw e (power_above j (k - j - 1)))
   | no p ↦ rw (div-eq_of_lt (pow-lt {i = k} {j = j} (omega arith)))
 ]
 
 put_same : (a k : ℕ) → bit_or a (2 ^ k) / 2 ^ k % 2 ≡ 1
-put_same a k = or-digit a (2 ^ k) k ∙ (rw (div_self (pow_pos k)) (omega arith))
+put_same a k = or_digit a (2 ^ k) k ∙ (rw (div_self (pow_pos k)) (omega arith))
 
 put_other : (a j k : ℕ) → (j ≡ k → ⊥) → bit_or a (2 ^ k) / 2 ^ j % 2 ≡ a / 2 ^ j % 2
-put_other a j k n = or-digit a (2 ^ k) j ∙ rw (power-other j k n, max-zero)
+put_other a j k n = or_digit a (2 ^ k) j ∙ rw (power_other j k n, max-zero)
 
-pub in-same : (z : ℕ) (s : List ℕ) (x : ℕ) → x / z < length s → inBits z (put_bit z s x) x ≡ true
-unfolding inBits put_bit
-in-same z s x h = rw (get_or-set_same s (x / z) _ 0 h, put_same)
+pub in_same : (z : ℕ) (s : List ℕ) (x : ℕ) → x / z < length s → in_bits z (put_bit z s x) x ≡ true
+unfolding in_bits put_bit
+in_same z s x h = rw (get_or-set_same s (x / z) _ 0 h, put_same)
 
-pub in-other : (z : ℕ) (s : List ℕ) (x y : ℕ) → (y ≡ x → ⊥) → inBits z (put_bit z s x) y ≡ inBits z s y
-unfolding inBits put_bit
-in-other z s x y n =
+pub in_other : (z : ℕ) (s : List ℕ) (x y : ℕ) → (y ≡ x → ⊥) → in_bits z (put_bit z s x) y ≡ in_bits z s y
+unfolding in_bits put_bit
+in_other z s x y n =
     elim (ℕ_discrete (y / z) (x / z)) [
       | no p ↦ rw (get_or-set_other s (x / z) (y / z) _ 0 p)
       | yes p ↦ elim (dec_lt (x / z) (length s)) [
@@ -51,9 +51,9 @@ in-other z s x y n =
       ]
     ]
 
-pub in-none : (z n x : ℕ) → inBits z (replicate n 0) x ≡ false
-unfolding inBits
-in-none z n x =
+pub in_none : (z n x : ℕ) → in_bits z (replicate n 0) x ≡ false
+unfolding in_bits
+in_none z n x =
     elim (dec_lt (x / z) n) [
       | yes p ↦ rw (get_or-replicate {A = ℕ} n (x / z) 0 0 p, zero-div)
       | no p ↦ rw (get_or-eq_default {A = ℕ} (replicate n 0) 0 {n = x / z} (omega (arith, length-replicate {A = ℕ} n 0)), zero-div)

@@ -14,16 +14,16 @@ behind TwinLast e = Bad
 behind Bad e = Bad
 
 -- an empty slot follows
-unfoldable pub leaveRoom : Ending → Ending
-leaveRoom Full = Room
-leaveRoom Room = Room
-leaveRoom TornLast = TornLast
-leaveRoom TwinLast = TwinLast
-leaveRoom Bad = Bad
+unfoldable pub leave_room : Ending → Ending
+leave_room Full = Room
+leave_room Room = Room
+leave_room TornLast = TornLast
+leave_room TwinLast = TwinLast
+leave_room Bad = Bad
 
 -- a slot follows, behind these entries
 unfoldable pub turn : Ending → List Entry → Slot → Ending
-turn e p empty = leaveRoom e
+turn e p empty = leave_room e
 turn e p torn = behind e TornLast
 turn e p dead = behind e Full
 turn e p cut = behind e Full
@@ -42,38 +42,38 @@ ring e p (r ∷ rs) = ring (behind e (judge Full p r)) (p ++ entries r) rs
 
 -- ---- tests on endings
 
-unfoldable pub isFull : Ending → Bool
-isFull Full = true
-isFull Room = false
-isFull TornLast = false
-isFull TwinLast = false
-isFull Bad = false
+unfoldable pub is_full : Ending → Bool
+is_full Full = true
+is_full Room = false
+is_full TornLast = false
+is_full TwinLast = false
+is_full Bad = false
 
-unfoldable pub isBad : Ending → Bool
-isBad Full = false
-isBad Room = false
-isBad TornLast = false
-isBad TwinLast = false
-isBad Bad = true
+unfoldable pub is_bad : Ending → Bool
+is_bad Full = false
+is_bad Room = false
+is_bad TornLast = false
+is_bad TwinLast = false
+is_bad Bad = true
 
 -- in order: every slot written, or empty ones last
-unfoldable pub inOrder : Ending → Bool
-inOrder Full = true
-inOrder Room = true
-inOrder TornLast = false
-inOrder TwinLast = false
-inOrder Bad = false
+unfoldable pub in_order : Ending → Bool
+in_order Full = true
+in_order Room = true
+in_order TornLast = false
+in_order TwinLast = false
+in_order Bad = false
 
-unfoldable pub endsTorn : Ending → Bool
-endsTorn Full = false
-endsTorn Room = false
-endsTorn TornLast = true
-endsTorn TwinLast = false
-endsTorn Bad = false
+unfoldable pub ends_torn : Ending → Bool
+ends_torn Full = false
+ends_torn Room = false
+ends_torn TornLast = true
+ends_torn TwinLast = false
+ends_torn Bad = false
 
-unfoldable pub endsTwin : Ending → Bool
-endsTwin Full = false
-endsTwin Room = false
-endsTwin TornLast = false
-endsTwin TwinLast = true
-endsTwin Bad = false
+unfoldable pub ends_twin : Ending → Bool
+ends_twin Full = false
+ends_twin Room = false
+ends_twin TornLast = false
+ends_twin TwinLast = true
+ends_twin Bad = false

@@ -7,17 +7,17 @@ use Rattle.std.proofs.lemmas.Bool.{false≢true}
 use mathlib.Core.List.{List, [], ◌∷◌, ◌++◌, flatten, append-nil}
 use Rattle.model.specs.Lists.{all}
 use Rattle.model.specs.Header.{Version}
-use Rattle.model.specs.Slot.{Slot, empty, torn, dead, cut, wrong, live, is_empty, isTorn, isWrong, Entry, entry_of}
-use Rattle.model.specs.State.{View, entries, entriesIn, holds, distinct, emptyLast, noneWrongOrTorn, blocksDistinct, emptySlotsLast, capacity, withinCapacity}
-use Rattle.bridge.specs.Views.Slots.{full, sound, entries-append, full-then, first-empty}
-use Rattle.bridge.specs.Views.Places.{Gap, fill, fill-all, fill-empty-last}
+use Rattle.model.specs.Slot.{Slot, empty, torn, dead, cut, wrong, live, is_empty, is_torn, is_wrong, Entry, entry_of}
+use Rattle.model.specs.State.{View, entries, entries_in, holds, distinct, empty_last, none_wrong_or_torn, blocks_distinct, empty_slots_last, capacity, within_capacity}
+use Rattle.bridge.specs.Views.Slots.{full, sound, entries_append, full_then, first_empty_lem}
+use Rattle.bridge.specs.Views.Places.{Gap, fill, fill_all, fill_empty_last}
 use Rattle.judge.specs.declared.Ending.{Ending}
 use Rattle.judge.specs.declared.Ending.TheVariants.{Full, Room, TornLast, TwinLast, Bad}
-use Rattle.judge.specs.Endings.{behind, leaveRoom, turn, judge, ring, isFull, isBad, inOrder, endsTorn, endsTwin}
-use Rattle.judge.specs.Cases.{fine, lastWritten, lastMarked, tornLast}
-use Rattle.judge.specs.Judged.{Plain, Judged, distinct-front, plain-full, stop-judge, judged, ring-snoc, rows-full, full-rows, not_full}
-use Rattle.judge.specs.Ordered.{ordered, rowsWith, before-top, Ordered, ordered-facts, facts-ordered, ordered-rows, top-entries, ordered-ending, ending-plain, find-last, last_written, last-marked, none_written}
-use Rattle.model.specs.Laws.Lists.{all-parts, flatten-last}
+use Rattle.judge.specs.Endings.{behind, leave_room, turn, judge, ring, is_full, is_bad, in_order, ends_torn, ends_twin}
+use Rattle.judge.specs.Cases.{fine, last_written, last_marked, torn_last}
+use Rattle.judge.specs.Judged.{Plain, Judged, distinct_front, plain_full, stop_judge, judged, ring_snoc, rows_full, full_rows_lem, not_full}
+use Rattle.judge.specs.Ordered.{ordered, rows_with, before_top, Ordered, ordered_facts, facts_ordered, ordered_rows, top_entries, ordered_ending, ending_plain, find_last, last_written_lem, last_marked_lem, none_written}
+use Rattle.model.specs.Laws.Lists.{all_parts, flatten_last}
 
 -- ---- two tests that imply each other are equal
 
@@ -26,9 +26,9 @@ both_ways true b f g = sym (f refl)
 both_ways false true f g = g refl
 both_ways false false f g = refl
 
-pub fine-ordered : (N B : ℕ) (v : View) → fine N B v ≡ (ordered v && leb (length (entriesIn v)) (capacity N B))
-unfolding fine ordered withinCapacity
-fine-ordered N B v = go (noneWrongOrTorn v) (blocksDistinct v) (emptySlotsLast v) (leb (length (entriesIn v)) (capacity N B))
+pub fine_ordered : (N B : ℕ) (v : View) → fine N B v ≡ (ordered v && leb (length (entries_in v)) (capacity N B))
+unfolding fine ordered within_capacity
+fine_ordered N B v = go (none_wrong_or_torn v) (blocks_distinct v) (empty_slots_last v) (leb (length (entries_in v)) (capacity N B))
   where
     go : (a b c d : Bool) → (a && (b && (c && d))) ≡ ((a && (b && c)) && d)
     go false b c d = refl
@@ -38,232 +38,232 @@ fine-ordered N B v = go (noneWrongOrTorn v) (blocksDistinct v) (emptySlotsLast v
 -- ---- what stops plain slots, by the ending
 
 module _ (p : List Entry) where
-  stop-room : (k : Slot) (f : Ending) → inOrder f ≡ true → isFull f ≡ false → turn Full p k ≡ f → (k ≡ empty) × (f ≡ Room)
-  unfolding turn behind leaveRoom
-  stop-room empty f i n e = (refl, sym e)
-  stop-room torn f i n e = absurd (false≢true (unfold inOrder in (ap inOrder e ∙ i)))
-  stop-room dead f i n e = absurd (true≢false (unfold isFull in (ap isFull e ∙ n)))
-  stop-room cut f i n e = absurd (true≢false (unfold isFull in (ap isFull e ∙ n)))
-  stop-room wrong f i n e = absurd (false≢true (unfold inOrder in (ap inOrder e ∙ i)))
-  stop-room (live b c) f i n e = go (holds b p) e
+  stop_room : (k : Slot) (f : Ending) → in_order f ≡ true → is_full f ≡ false → turn Full p k ≡ f → (k ≡ empty) × (f ≡ Room)
+  unfolding turn behind leave_room
+  stop_room empty f i n e = (refl, sym e)
+  stop_room torn f i n e = absurd (false≢true (unfold in_order in (ap in_order e ∙ i)))
+  stop_room dead f i n e = absurd (true≢false (unfold is_full in (ap is_full e ∙ n)))
+  stop_room cut f i n e = absurd (true≢false (unfold is_full in (ap is_full e ∙ n)))
+  stop_room wrong f i n e = absurd (false≢true (unfold in_order in (ap in_order e ∙ i)))
+  stop_room (live b c) f i n e = go (holds b p) e
     where
       go : (t : Bool) → cond t TwinLast Full ≡ f → (live b c ≡ empty) × (f ≡ Room)
-      go true q = absurd (false≢true (unfold inOrder in (ap inOrder q ∙ i)))
-      go false q = absurd (true≢false (unfold isFull in (ap isFull q ∙ n)))
+      go true q = absurd (false≢true (unfold in_order in (ap in_order q ∙ i)))
+      go false q = absurd (true≢false (unfold is_full in (ap is_full q ∙ n)))
 
-  pub stop-torn : (k : Slot) → turn Full p k ≡ TornLast → k ≡ torn
-  unfolding turn behind leaveRoom
-  stop-torn empty e = absurd (false≢true (unfold endsTorn in (ap endsTorn e)))
-  stop-torn torn e = refl
-  stop-torn dead e = absurd (false≢true (unfold endsTorn in (ap endsTorn e)))
-  stop-torn cut e = absurd (false≢true (unfold endsTorn in (ap endsTorn e)))
-  stop-torn wrong e = absurd (false≢true (unfold endsTorn in (ap endsTorn e)))
-  stop-torn (live b c) e = go (holds b p) e
+  pub stop_torn : (k : Slot) → turn Full p k ≡ TornLast → k ≡ torn
+  unfolding turn behind leave_room
+  stop_torn empty e = absurd (false≢true (unfold ends_torn in (ap ends_torn e)))
+  stop_torn torn e = refl
+  stop_torn dead e = absurd (false≢true (unfold ends_torn in (ap ends_torn e)))
+  stop_torn cut e = absurd (false≢true (unfold ends_torn in (ap ends_torn e)))
+  stop_torn wrong e = absurd (false≢true (unfold ends_torn in (ap ends_torn e)))
+  stop_torn (live b c) e = go (holds b p) e
     where
       go : (t : Bool) → cond t TwinLast Full ≡ TornLast → live b c ≡ torn
-      go true q = absurd (false≢true (unfold endsTorn in (ap endsTorn q)))
-      go false q = absurd (false≢true (unfold endsTorn in (ap endsTorn q)))
+      go true q = absurd (false≢true (unfold ends_torn in (ap ends_torn q)))
+      go false q = absurd (false≢true (unfold ends_torn in (ap ends_torn q)))
 
   -- a live slot whose block is among the entries
   abbrev pub Twin : Slot → Type 0
   Twin k = (e : Entry) × (k ≡ live e.block e.contents) × (holds e.block p ≡ true)
 
-  pub stop-twin : (k : Slot) → turn Full p k ≡ TwinLast → Twin k
-  unfolding turn behind leaveRoom
-  stop-twin empty e = absurd (false≢true (unfold endsTwin in (ap endsTwin e)))
-  stop-twin torn e = absurd (false≢true (unfold endsTwin in (ap endsTwin e)))
-  stop-twin dead e = absurd (false≢true (unfold endsTwin in (ap endsTwin e)))
-  stop-twin cut e = absurd (false≢true (unfold endsTwin in (ap endsTwin e)))
-  stop-twin wrong e = absurd (false≢true (unfold endsTwin in (ap endsTwin e)))
-  stop-twin (live b c) e = go (holds b p) refl e
+  pub stop_twin : (k : Slot) → turn Full p k ≡ TwinLast → Twin k
+  unfolding turn behind leave_room
+  stop_twin empty e = absurd (false≢true (unfold ends_twin in (ap ends_twin e)))
+  stop_twin torn e = absurd (false≢true (unfold ends_twin in (ap ends_twin e)))
+  stop_twin dead e = absurd (false≢true (unfold ends_twin in (ap ends_twin e)))
+  stop_twin cut e = absurd (false≢true (unfold ends_twin in (ap ends_twin e)))
+  stop_twin wrong e = absurd (false≢true (unfold ends_twin in (ap ends_twin e)))
+  stop_twin (live b c) e = go (holds b p) refl e
     where
       go : (t : Bool) → holds b p ≡ t → cond t TwinLast Full ≡ TwinLast → Twin (live b c)
       go true h q = (record { block = b; contents = c }, refl, h)
-      go false h q = absurd (false≢true (unfold endsTwin in (ap endsTwin q)))
+      go false h q = absurd (false≢true (unfold ends_twin in (ap ends_twin q)))
 
 -- ---- the rows before the top must be plain
 
 module _ (n : ℕ) (ver : Version) (l : List (List Slot)) (t : List Slot) where
   abbrev pub v : View
-  v = rowsWith n ver l t
+  v = rows_with n ver l t
 
   abbrev pub ending : Ending
   ending = ring Full [] (l ++ (t ∷ []))
 
-  pub rows_then : Plain [] (flatten l) → ending ≡ judge Full (before-top l) t
+  pub rows_then : Plain [] (flatten l) → ending ≡ judge Full (before_top l) t
   unfolding behind
-  rows_then h = ring-snoc Full [] l t ∙ ap (λ (e : Ending). behind e (judge Full (before-top l) t)) (rows-full [] l h)
+  rows_then h = ring_snoc Full [] l t ∙ ap (λ (e : Ending). behind e (judge Full (before_top l) t)) (rows_full [] l h)
 
   -- an ending that is not bad says so
-  pub rows-plain : (f : Ending) → isBad f ≡ false → ending ≡ f → Plain [] (flatten l) × Judged f (before-top l) t
-  unfolding distinct isBad
-  rows-plain f b e = go (isFull (ring Full [] l)) refl
+  pub rows_plain : (f : Ending) → is_bad f ≡ false → ending ≡ f → Plain [] (flatten l) × Judged f (before_top l) t
+  unfolding distinct is_bad
+  rows_plain f b e = go (is_full (ring Full [] l)) refl
     where
-      is-full : (x : Ending) → isFull x ≡ true → x ≡ Full
-      is-full Full q = refl
-      is-full Room q = absurd (false≢true (unfold isFull in q))
-      is-full TornLast q = absurd (false≢true (unfold isFull in q))
-      is-full TwinLast q = absurd (false≢true (unfold isFull in q))
-      is-full Bad q = absurd (false≢true (unfold isFull in q))
+      is_full_lem : (x : Ending) → is_full x ≡ true → x ≡ Full
+      is_full_lem Full q = refl
+      is_full_lem Room q = absurd (false≢true (unfold is_full in q))
+      is_full_lem TornLast q = absurd (false≢true (unfold is_full in q))
+      is_full_lem TwinLast q = absurd (false≢true (unfold is_full in q))
+      is_full_lem Bad q = absurd (false≢true (unfold is_full in q))
 
-      go : (x : Bool) → isFull (ring Full [] l) ≡ x → Plain [] (flatten l) × Judged f (before-top l) t
+      go : (x : Bool) → is_full (ring Full [] l) ≡ x → Plain [] (flatten l) × Judged f (before_top l) t
       go true q =
-          let h = full-rows [] refl l (is-full (ring Full [] l) q) in
-          (h, judged f b (before-top l) h.once t (sym (rows_then h) ∙ e))
+          let h = full_rows_lem [] refl l (is_full_lem (ring Full [] l) q) in
+          (h, judged f b (before_top l) h.once t (sym (rows_then h) ∙ e))
       go false q =
-          let z : ending ≡ Bad = ring-snoc Full [] l t ∙ not_full (ring Full [] l) q (judge Full (before-top l) t) in
-          absurd (true≢false (ap isBad (sym z ∙ e) ∙ b))
+          let z : ending ≡ Bad = ring_snoc Full [] l t ∙ not_full (ring Full [] l) q (judge Full (before_top l) t) in
+          absurd (true≢false (ap is_bad (sym z ∙ e) ∙ b))
 
   -- ---- conditions 5 to 7
 
-  ordered-ending-of : Ordered l t → inOrder ending ≡ true
-  unfolding inOrder all is_empty
-  ordered-ending-of h = go (full t) refl
+  ordered_ending_of : Ordered l t → in_order ending ≡ true
+  unfolding in_order all is_empty
+  ordered_ending_of h = go (full t) refl
     where
-      go : (x : Bool) → full t ≡ x → inOrder ending ≡ true
-      go true q = ap inOrder (rows_then (ordered-rows h) ∙ plain-full (before-top l) t (record { sound = h.soundTop; full = q; once = h.once }))
+      go : (x : Bool) → full t ≡ x → in_order ending ≡ true
+      go true q = ap in_order (rows_then (ordered_rows h) ∙ plain_full (before_top l) t (record { sound = h.sound_top; full = q; once = h.once }))
       go false q =
-          let f = first-empty t h.last q in
+          let f = first_empty_lem t h.last q in
           let o : Ordered l (f.left ++ (empty ∷ f.right)) = rw f.split at h in
-          ap inOrder (rows_then (ordered-rows h) ∙ stop-judge Room (before-top l) t (record {
+          ap in_order (rows_then (ordered_rows h) ∙ stop_judge Room (before_top l) t (record {
             left = f.left;
             slot = empty;
             right = f.right;
             split = f.split;
             plain = record {
-              sound = (all-parts (λ k. not (isWrong k || isTorn k)) f.left (empty ∷ f.right) o.soundTop).0;
-              full = f.fullLeft;
-              once = distinct-front (before-top l ++ entries f.left) (entry_of empty) (ap distinct (sym (top-entries l f.left empty f.right f.emptyRight)) ∙ o.once);
+              sound = (all_parts (λ k. not (is_wrong k || is_torn k)) f.left (empty ∷ f.right) o.sound_top).0;
+              full = f.full_left;
+              once = distinct_front (before_top l ++ entries f.left) (entry_of empty) (ap distinct (sym (top_entries l f.left empty f.right f.empty_right)) ∙ o.once);
             };
-            rest = f.emptyRight;
-            ending = (unfold turn leaveRoom in refl);
-            stops = (unfold isFull in refl);
+            rest = f.empty_right;
+            ending = (unfold turn leave_room in refl);
+            stops = (unfold is_full in refl);
           }))
 
-  pub ending-ordered : inOrder ending ≡ true → Ordered l t
-  ending-ordered i = let r = rows-plain ending (sane ending i) refl in go r.0 r.1
+  pub ending_ordered : in_order ending ≡ true → Ordered l t
+  ending_ordered i = let r = rows_plain ending (sane ending i) refl in go r.0 r.1
     where
-      sane : (f : Ending) → inOrder f ≡ true → isBad f ≡ false
-      sane Full q = unfold isBad in refl
-      sane Room q = unfold isBad in refl
-      sane TornLast q = unfold isBad in refl
-      sane TwinLast q = unfold isBad in refl
-      sane Bad q = absurd (false≢true (unfold inOrder in q))
+      sane : (f : Ending) → in_order f ≡ true → is_bad f ≡ false
+      sane Full q = unfold is_bad in refl
+      sane Room q = unfold is_bad in refl
+      sane TornLast q = unfold is_bad in refl
+      sane TwinLast q = unfold is_bad in refl
+      sane Bad q = absurd (false≢true (unfold in_order in q))
 
-      full-last : (s : List Slot) → full s ≡ true → emptyLast s ≡ true
-      full-last s q = ap emptyLast (sym (append-nil s)) ∙ (full-then s [] q ∙ (unfold emptyLast in refl))
+      full_last : (s : List Slot) → full s ≡ true → empty_last s ≡ true
+      full_last s q = ap empty_last (sym (append-nil s)) ∙ (full_then s [] q ∙ (unfold empty_last in refl))
 
-      go : Plain [] (flatten l) → Judged ending (before-top l) t → Ordered l t
-      go r (inl (e, h)) = record { soundRows = r.sound; soundTop = h.sound; once = h.once; fullRows = r.full; last = full-last t h.full }
+      go : Plain [] (flatten l) → Judged ending (before_top l) t → Ordered l t
+      go r (inl (e, h)) = record { sound_rows = r.sound; sound_top = h.sound; once = h.once; full_rows = r.full; last = full_last t h.full }
       go r (inr s) =
-          let k = (stop-room (before-top l ++ entries s.left) s.slot ending i s.stops s.ending).0 in
+          let k = (stop_room (before_top l ++ entries s.left) s.slot ending i s.stops s.ending).0 in
           let top : t ≡ s.left ++ (empty ∷ s.right) = s.split ∙ ap (λ (y : Slot). s.left ++ (y ∷ s.right)) k in
-          rw top (ordered-ending l s.left empty s.right r s.plain s.rest (unfold isWrong isTorn in refl)
-          (unfold entry_of in (ap distinct (append-nil (before-top l ++ entries s.left)) ∙ s.plain.once)))
+          rw top (ordered_ending l s.left empty s.right r s.plain s.rest (unfold is_wrong is_torn in refl)
+          (unfold entry_of in (ap distinct (append-nil (before_top l ++ entries s.left)) ∙ s.plain.once)))
 
-  pub fine-ending : (N B : ℕ) → fine N B v ≡ (inOrder ending && leb (length (entriesIn v)) (capacity N B))
-  fine-ending N B = fine-ordered N B v ∙ ap (λ x. x && leb (length (entriesIn v)) (capacity N B))
-      (both_ways (ordered v) (inOrder ending) (λ h. ordered-ending-of (ordered-facts n ver l t h)) (λ h. facts-ordered n ver l t (ending-ordered h)))
+  pub fine_ending : (N B : ℕ) → fine N B v ≡ (in_order ending && leb (length (entries_in v)) (capacity N B))
+  fine_ending N B = fine_ordered N B v ∙ ap (λ x. x && leb (length (entries_in v)) (capacity N B))
+      (both_ways (ordered v) (in_order ending) (λ h. ordered_ending_of (ordered_facts n ver l t h)) (λ h. facts_ordered n ver l t (ending_ordered h)))
 
   -- ---- (c)
 
-  pub entries-of : entriesIn v ≡ before-top l ++ entries t
-  unfolding entriesIn
-  entries-of = ap entries (flatten-last l t) ∙ entries-append (flatten l) t
+  pub entries_of : entries_in v ≡ before_top l ++ entries t
+  unfolding entries_in
+  entries_of = ap entries (flatten_last l t) ∙ entries_append (flatten l) t
 
 -- one slot exchanged for another
 module _ (n : ℕ) (ver : Version) (g : Gap) (k m : Slot) where
-  pub swap-sound : not (isWrong k || isTorn k) ≡ true → not (isWrong m || isTorn m) ≡ true
-      → noneWrongOrTorn (record { first = n; slots = fill g k; version = ver }) ≡ noneWrongOrTorn (record { first = n; slots = fill g m; version = ver })
-  unfolding noneWrongOrTorn
-  swap-sound a b = both_ways (all (λ z. not (isWrong z || isTorn z)) (flatten (fill g k))) (all (λ z. not (isWrong z || isTorn z)) (flatten (fill g m)))
-      (λ h. fill-all (λ z. not (isWrong z || isTorn z)) g k m b h) (λ h. fill-all (λ z. not (isWrong z || isTorn z)) g m k a h)
+  pub swap_sound : not (is_wrong k || is_torn k) ≡ true → not (is_wrong m || is_torn m) ≡ true
+      → none_wrong_or_torn (record { first = n; slots = fill g k; version = ver }) ≡ none_wrong_or_torn (record { first = n; slots = fill g m; version = ver })
+  unfolding none_wrong_or_torn
+  swap_sound a b = both_ways (all (λ z. not (is_wrong z || is_torn z)) (flatten (fill g k))) (all (λ z. not (is_wrong z || is_torn z)) (flatten (fill g m)))
+      (λ h. fill_all (λ z. not (is_wrong z || is_torn z)) g k m b h) (λ h. fill_all (λ z. not (is_wrong z || is_torn z)) g m k a h)
 
-  pub swap-last : is_empty k ≡ is_empty m → emptySlotsLast (record { first = n; slots = fill g k; version = ver }) ≡ emptySlotsLast (record { first = n; slots = fill g m; version = ver })
-  unfolding emptySlotsLast
-  swap-last e = fill-empty-last g k m e
+  pub swap_last : is_empty k ≡ is_empty m → empty_slots_last (record { first = n; slots = fill g k; version = ver }) ≡ empty_slots_last (record { first = n; slots = fill g m; version = ver })
+  unfolding empty_slots_last
+  swap_last e = fill_empty_last g k m e
 
 module _ (N B n : ℕ) (ver : Version) (l : List (List Slot)) (t : List Slot) where
   -- a torn last slot marked
   module _ (x y : List Slot) (split : t ≡ x ++ (torn ∷ y)) (rest : all is_empty y ≡ true) where
-    torn-written : lastWritten (rowsWith n ver l t) ≡ torn
+    torn_written : last_written (rows_with n ver l t) ≡ torn
     unfolding is_empty
-    torn-written = rw split (last_written n ver l x torn y refl rest)
+    torn_written = rw split (last_written_lem n ver l x torn y refl rest)
 
-    torn-marked : lastMarked (rowsWith n ver l t) ≡ rowsWith n ver l (x ++ (cut ∷ y))
+    torn_marked_lem : last_marked (rows_with n ver l t) ≡ rows_with n ver l (x ++ (cut ∷ y))
     unfolding is_empty
-    torn-marked = rw split (last-marked n ver l x torn y refl rest)
+    torn_marked_lem = rw split (last_marked_lem n ver l x torn y refl rest)
 
-    torn-entries : entriesIn (lastMarked (rowsWith n ver l t)) ≡ entriesIn (rowsWith n ver l t)
+    torn_entries : entries_in (last_marked (rows_with n ver l t)) ≡ entries_in (rows_with n ver l t)
     unfolding entry_of
-    torn-entries = ap entriesIn torn-marked ∙ (entries-of n ver l (x ++ (cut ∷ y)) ∙ (top-entries l x cut y rest
-        ∙ sym (entries-of n ver l t ∙ (ap (λ (z : List Slot). before-top l ++ entries z) split ∙ top-entries l x torn y rest))))
+    torn_entries = ap entries_in torn_marked_lem ∙ (entries_of n ver l (x ++ (cut ∷ y)) ∙ (top_entries l x cut y rest
+        ∙ sym (entries_of n ver l t ∙ (ap (λ (z : List Slot). before_top l ++ entries z) split ∙ top_entries l x torn y rest))))
 
-  torn-to : tornLast N B (rowsWith n ver l t) ≡ true → (endsTorn (ending n ver l t) && leb (length (entriesIn (rowsWith n ver l t))) (capacity N B)) ≡ true
-  unfolding tornLast
-  torn-to h = go (all is_empty t) refl
+  torn_to : torn_last N B (rows_with n ver l t) ≡ true → (ends_torn (ending n ver l t) && leb (length (entries_in (rows_with n ver l t))) (capacity N B)) ≡ true
+  unfolding torn_last
+  torn_to h = go (all is_empty t) refl
     where
-      w : isTorn (lastWritten (rowsWith n ver l t)) ≡ true
-      w = ((and-eq-true_iff (isTorn (lastWritten (rowsWith n ver l t))) (fine N B (lastMarked (rowsWith n ver l t)))).0 (unfold tornLast in h)).0
+      w : is_torn (last_written (rows_with n ver l t)) ≡ true
+      w = ((and-eq-true_iff (is_torn (last_written (rows_with n ver l t))) (fine N B (last_marked (rows_with n ver l t)))).0 (unfold torn_last in h)).0
 
-      f : (ordered (lastMarked (rowsWith n ver l t)) && leb (length (entriesIn (lastMarked (rowsWith n ver l t)))) (capacity N B)) ≡ true
-      f = sym (fine-ordered N B (lastMarked (rowsWith n ver l t))) ∙ ((and-eq-true_iff (isTorn (lastWritten (rowsWith n ver l t))) (fine N B (lastMarked (rowsWith n ver l t)))).0 (unfold tornLast in h)).1
+      f : (ordered (last_marked (rows_with n ver l t)) && leb (length (entries_in (last_marked (rows_with n ver l t)))) (capacity N B)) ≡ true
+      f = sym (fine_ordered N B (last_marked (rows_with n ver l t))) ∙ ((and-eq-true_iff (is_torn (last_written (rows_with n ver l t))) (fine N B (last_marked (rows_with n ver l t)))).0 (unfold torn_last in h)).1
 
-      g : (ordered (lastMarked (rowsWith n ver l t)) ≡ true) × (leb (length (entriesIn (lastMarked (rowsWith n ver l t)))) (capacity N B) ≡ true)
-      g = (and-eq-true_iff (ordered (lastMarked (rowsWith n ver l t))) (leb (length (entriesIn (lastMarked (rowsWith n ver l t)))) (capacity N B))).0 f
+      g : (ordered (last_marked (rows_with n ver l t)) ≡ true) × (leb (length (entries_in (last_marked (rows_with n ver l t)))) (capacity N B) ≡ true)
+      g = (and-eq-true_iff (ordered (last_marked (rows_with n ver l t))) (leb (length (entries_in (last_marked (rows_with n ver l t)))) (capacity N B))).0 f
 
-      is-torn : (k : Slot) → isTorn k ≡ true → k ≡ torn
-      is-torn empty q = absurd (false≢true (unfold isTorn in q))
-      is-torn torn q = refl
-      is-torn dead q = absurd (false≢true (unfold isTorn in q))
-      is-torn cut q = absurd (false≢true (unfold isTorn in q))
-      is-torn wrong q = absurd (false≢true (unfold isTorn in q))
-      is-torn (live b c) q = absurd (false≢true (unfold isTorn in q))
+      is_torn_lem : (k : Slot) → is_torn k ≡ true → k ≡ torn
+      is_torn_lem empty q = absurd (false≢true (unfold is_torn in q))
+      is_torn_lem torn q = refl
+      is_torn_lem dead q = absurd (false≢true (unfold is_torn in q))
+      is_torn_lem cut q = absurd (false≢true (unfold is_torn in q))
+      is_torn_lem wrong q = absurd (false≢true (unfold is_torn in q))
+      is_torn_lem (live b c) q = absurd (false≢true (unfold is_torn in q))
 
-      at_last : (x y : List Slot) → t ≡ x ++ (torn ∷ y) → all is_empty y ≡ true → (endsTorn (ending n ver l t) && leb (length (entriesIn (rowsWith n ver l t))) (capacity N B)) ≡ true
+      at_last : (x y : List Slot) → t ≡ x ++ (torn ∷ y) → all is_empty y ≡ true → (ends_torn (ending n ver l t) && leb (length (entries_in (rows_with n ver l t))) (capacity N B)) ≡ true
       at_last x y e r =
-          let o : Ordered l (x ++ (cut ∷ y)) = ordered-facts n ver l (x ++ (cut ∷ y)) (rw (torn-marked x y e r) at g.0) in
-          let s : ending n ver l t ≡ TornLast = rows_then n ver l t (ordered-rows o) ∙ stop-judge TornLast (before-top l) t (record {
+          let o : Ordered l (x ++ (cut ∷ y)) = ordered_facts n ver l (x ++ (cut ∷ y)) (rw (torn_marked_lem x y e r) at g.0) in
+          let s : ending n ver l t ≡ TornLast = rows_then n ver l t (ordered_rows o) ∙ stop_judge TornLast (before_top l) t (record {
             left = x;
             slot = torn;
             right = y;
             split = e;
-            plain = ending-plain l x cut y (unfold is_empty in refl) r o;
+            plain = ending_plain l x cut y (unfold is_empty in refl) r o;
             rest = r;
             ending = (unfold turn behind in refl);
-            stops = (unfold isFull in refl);
+            stops = (unfold is_full in refl);
           }) in
-          rw (s, ← (torn-entries x y e r)) (unfold endsTorn in g.1)
+          rw (s, ← (torn_entries x y e r)) (unfold ends_torn in g.1)
 
-      go : (b : Bool) → all is_empty t ≡ b → (endsTorn (ending n ver l t) && leb (length (entriesIn (rowsWith n ver l t))) (capacity N B)) ≡ true
-      go true e = absurd (false≢true (unfold isTorn in (sym (ap isTorn (none_written n ver l t e)) ∙ w)))
+      go : (b : Bool) → all is_empty t ≡ b → (ends_torn (ending n ver l t) && leb (length (entries_in (rows_with n ver l t))) (capacity N B)) ≡ true
+      go true e = absurd (false≢true (unfold is_torn in (sym (ap is_torn (none_written n ver l t e)) ∙ w)))
       go false e =
-          let r = find-last t e in
-          let k : r.slot ≡ torn = is-torn r.slot (ap isTorn (sym (ap (λ (z : List Slot). lastWritten (rowsWith n ver l z)) r.split ∙ last_written n ver l r.left r.slot r.right r.written r.rest)) ∙ w) in
+          let r = find_last t e in
+          let k : r.slot ≡ torn = is_torn_lem r.slot (ap is_torn (sym (ap (λ (z : List Slot). last_written (rows_with n ver l z)) r.split ∙ last_written_lem n ver l r.left r.slot r.right r.written r.rest)) ∙ w) in
           at_last r.left r.right (r.split ∙ ap (λ (z : Slot). r.left ++ (z ∷ r.right)) k) r.rest
 
-  torn-from : (endsTorn (ending n ver l t) && leb (length (entriesIn (rowsWith n ver l t))) (capacity N B)) ≡ true → tornLast N B (rowsWith n ver l t) ≡ true
-  unfolding tornLast
-  torn-from h = let r = rows-plain n ver l t TornLast (unfold isBad in refl) (is-torn (ending n ver l t) g.0) in go r.0 r.1
+  torn_from : (ends_torn (ending n ver l t) && leb (length (entries_in (rows_with n ver l t))) (capacity N B)) ≡ true → torn_last N B (rows_with n ver l t) ≡ true
+  unfolding torn_last
+  torn_from h = let r = rows_plain n ver l t TornLast (unfold is_bad in refl) (is_torn_lem (ending n ver l t) g.0) in go r.0 r.1
     where
-      g : (endsTorn (ending n ver l t) ≡ true) × (leb (length (entriesIn (rowsWith n ver l t))) (capacity N B) ≡ true)
-      g = (and-eq-true_iff (endsTorn (ending n ver l t)) (leb (length (entriesIn (rowsWith n ver l t))) (capacity N B))).0 h
+      g : (ends_torn (ending n ver l t) ≡ true) × (leb (length (entries_in (rows_with n ver l t))) (capacity N B) ≡ true)
+      g = (and-eq-true_iff (ends_torn (ending n ver l t)) (leb (length (entries_in (rows_with n ver l t))) (capacity N B))).0 h
 
-      is-torn : (e : Ending) → endsTorn e ≡ true → e ≡ TornLast
-      is-torn Full q = absurd (false≢true (unfold endsTorn in q))
-      is-torn Room q = absurd (false≢true (unfold endsTorn in q))
-      is-torn TornLast q = refl
-      is-torn TwinLast q = absurd (false≢true (unfold endsTorn in q))
-      is-torn Bad q = absurd (false≢true (unfold endsTorn in q))
+      is_torn_lem : (e : Ending) → ends_torn e ≡ true → e ≡ TornLast
+      is_torn_lem Full q = absurd (false≢true (unfold ends_torn in q))
+      is_torn_lem Room q = absurd (false≢true (unfold ends_torn in q))
+      is_torn_lem TornLast q = refl
+      is_torn_lem TwinLast q = absurd (false≢true (unfold ends_torn in q))
+      is_torn_lem Bad q = absurd (false≢true (unfold ends_torn in q))
 
-      go : Plain [] (flatten l) → Judged TornLast (before-top l) t → (isTorn (lastWritten (rowsWith n ver l t)) && fine N B (lastMarked (rowsWith n ver l t))) ≡ true
-      go r (inl (e, q)) = absurd (false≢true (unfold isFull in (ap isFull e)))
+      go : Plain [] (flatten l) → Judged TornLast (before_top l) t → (is_torn (last_written (rows_with n ver l t)) && fine N B (last_marked (rows_with n ver l t))) ≡ true
+      go r (inl (e, q)) = absurd (false≢true (unfold is_full in (ap is_full e)))
       go r (inr s) =
-          let e : t ≡ s.left ++ (torn ∷ s.right) = s.split ∙ ap (λ (z : Slot). s.left ++ (z ∷ s.right)) (stop-torn (before-top l ++ entries s.left) s.slot s.ending) in
-          let d : distinct (before-top l ++ entries s.left ++ entry_of cut) ≡ true = (unfold entry_of in (ap distinct (append-nil (before-top l ++ entries s.left)) ∙ s.plain.once)) in
-          let o : ordered (lastMarked (rowsWith n ver l t)) ≡ true = ap ordered (torn-marked s.left s.right e s.rest)
-          ∙ facts-ordered n ver l (s.left ++ (cut ∷ s.right)) (ordered-ending l s.left cut s.right r s.plain s.rest (unfold isWrong isTorn in refl) d) in
-          rw (torn-written s.left s.right e s.rest, fine-ordered N B (lastMarked (rowsWith n ver l t)), o, torn-entries s.left s.right e s.rest) (unfold isTorn in g.1)
+          let e : t ≡ s.left ++ (torn ∷ s.right) = s.split ∙ ap (λ (z : Slot). s.left ++ (z ∷ s.right)) (stop_torn (before_top l ++ entries s.left) s.slot s.ending) in
+          let d : distinct (before_top l ++ entries s.left ++ entry_of cut) ≡ true = (unfold entry_of in (ap distinct (append-nil (before_top l ++ entries s.left)) ∙ s.plain.once)) in
+          let o : ordered (last_marked (rows_with n ver l t)) ≡ true = ap ordered (torn_marked_lem s.left s.right e s.rest)
+          ∙ facts_ordered n ver l (s.left ++ (cut ∷ s.right)) (ordered_ending l s.left cut s.right r s.plain s.rest (unfold is_wrong is_torn in refl) d) in
+          rw (torn_written s.left s.right e s.rest, fine_ordered N B (last_marked (rows_with n ver l t)), o, torn_entries s.left s.right e s.rest) (unfold is_torn in g.1)
 
-  pub torn-ending : tornLast N B (rowsWith n ver l t) ≡ (endsTorn (ending n ver l t) && leb (length (entriesIn (rowsWith n ver l t))) (capacity N B))
-  torn-ending = both_ways (tornLast N B (rowsWith n ver l t)) (endsTorn (ending n ver l t) && leb (length (entriesIn (rowsWith n ver l t))) (capacity N B)) torn-to torn-from
+  pub torn_ending : torn_last N B (rows_with n ver l t) ≡ (ends_torn (ending n ver l t) && leb (length (entries_in (rows_with n ver l t))) (capacity N B))
+  torn_ending = both_ways (torn_last N B (rows_with n ver l t)) (ends_torn (ending n ver l t) && leb (length (entries_in (rows_with n ver l t))) (capacity N B)) torn_to torn_from

@@ -1,9 +1,9 @@
 // The slots of one segment, the last one first: counted, and the live ones put before those of their block.
 ghost use Rattle.std.specs.Prelude.{◌≡◌, ◌+◌, ◌*◌, ◌<◌, ◌≤◌, length};
-ghost use Rattle.model.specs.Chip.{mostSlots};
-ghost use Rattle.judge.specs.Rows.{kindsAt};
-ghost use Rattle.linking.specs.Counts.{countKind, countRow, Few};
-ghost use Rattle.index.specs.Tables.{tables, mostPages, link, linkKind, linkRow, Brief};
+ghost use Rattle.model.specs.Chip.{most_slots};
+ghost use Rattle.judge.specs.Rows.{kinds_at};
+ghost use Rattle.linking.specs.Counts.{count_kind, count_row, Few};
+ghost use Rattle.index.specs.Tables.{tables, most_pages, link, link_kind, link_row, Brief};
 
 use index::Counts;
 use model::{BlockNumber, SlotKind};
@@ -23,7 +23,7 @@ fn link(
     block: BlockNumber,
     length: usize,
 )
-    requires { (page < mostPages) × (length < 256) }
+    requires { (page < most_pages) × (length < 256) }
     ensures { tables firsts.new nexts.new lengths.new ≡ link page block.0 length (tables firsts.old nexts.old lengths.old) }
 {
     let b = wide(block.0);
@@ -53,8 +53,8 @@ fn list_slot(
     nexts: &mut [u16; 65536],
     lengths: &mut [u8; 65536],
 ) -> Counts
-    requires { (page < mostPages) × Few counts 254 × Brief kind }
-    ensures { (result ≡ countKind kind counts) × (tables firsts.new nexts.new lengths.new ≡ linkKind page kind (tables firsts.old nexts.old lengths.old)) }
+    requires { (page < most_pages) × Few counts 254 × Brief kind }
+    ensures { (result ≡ count_kind kind counts) × (tables firsts.new nexts.new lengths.new ≡ link_kind page kind (tables firsts.old nexts.old lengths.old)) }
 {
     let live = counts.live;
     let dead = counts.dead;
@@ -82,8 +82,8 @@ pub fn list_row(
     nexts: &mut [u16; 65536],
     lengths: &mut [u8; 65536],
 ) -> Counts
-    requires { ((header + slots + 1) * 256 ≤ length image.now) × (header + slots < mostPages) × (slots ≤ mostSlots) }
-    ensures { (result ≡ countRow (kindsAt image.now ((header + 1) * 256) slots)) × (tables firsts.new nexts.new lengths.new ≡ linkRow (header + 1) (kindsAt image.now ((header + 1) * 256) slots) (tables firsts.old nexts.old lengths.old)) }
+    requires { ((header + slots + 1) * 256 ≤ length image.now) × (header + slots < most_pages) × (slots ≤ most_slots) }
+    ensures { (result ≡ count_row (kinds_at image.now ((header + 1) * 256) slots)) × (tables firsts.new nexts.new lengths.new ≡ link_row (header + 1) (kinds_at image.now ((header + 1) * 256) slots) (tables firsts.old nexts.old lengths.old)) }
 {
     let mut counts = counts_of(0, 0, 0, 0);
     let mut left = slots;

@@ -1,14 +1,14 @@
 // The segments of an image as an account shows them, and its live slots by block number, found in one walk over the
 // segments in use, from the top down.
 ghost use Rattle.std.specs.Prelude.{◌≡◌, true, map, ◌+◌, ◌%◌, ◌<◌, ◌≤◌, length, take, replicate};
-ghost use Rattle.model.specs.Chip.{mostSegments, rightSize};
-ghost use Rattle.model.specs.State.{segmentsOf};
+ghost use Rattle.model.specs.Chip.{most_segments, right_size};
+ghost use Rattle.model.specs.State.{segments_of};
 ghost use Rattle.flash.specs.Pages.{Sized};
 ghost use Rattle.judge.specs.Heads.{bare};
-ghost use Rattle.scan.specs.Surveys.{surveyOf};
+ghost use Rattle.scan.specs.Surveys.{survey_of};
 ghost use Rattle.account_text.specs.Account.{shown};
 ghost use Rattle.descent.specs.Descent.{largest};
-ghost use Rattle.index.specs.Shows.{noCounts, shownAs, shownOf, uncounted, counted, afterShown};
+ghost use Rattle.index.specs.Shows.{no_counts, shown_as, shown_of, uncounted, counted, after_shown};
 ghost use Rattle.index.specs.Tables.{tables, linked, list_of, Indexed};
 ghost use Rattle.listing.specs.Walk.{hidden};
 
@@ -18,14 +18,14 @@ use model::{MOST_SEGMENTS, SegmentNumber};
 use scan::Surveyed;
 
 fn no_counts() -> Counts
-    ensures { result ≡ noCounts }
+    ensures { result ≡ no_counts }
 {
     linking::counts_of(0, 0, 0, 0)
 }
 
 // A segment before its slots are counted.
 fn plain(state: SegmentState, number: SegmentNumber) -> Shown
-    ensures { result ≡ shownAs state number.0 noCounts }
+    ensures { result ≡ shown_as state number.0 no_counts }
 {
     let counts = no_counts();
     Shown {
@@ -52,7 +52,7 @@ fn begin(s: Summary) -> Shown
 // The segments by index.
 fn see_all(image: &[u8], segments: usize, slots: usize) -> [Shown; MOST_SEGMENTS]
     requires { Sized segments slots (length image.now) }
-    ensures { take segments result ≡ map uncounted (segmentsOf segments slots image.now) }
+    ensures { take segments result ≡ map uncounted (segments_of segments slots image.now) }
 {
     let none = plain(SegmentState::Blank, SegmentNumber(0));
     let mut table = [none; MOST_SEGMENTS];
@@ -68,7 +68,7 @@ fn see_all(image: &[u8], segments: usize, slots: usize) -> [Shown; MOST_SEGMENTS
 // Shows a table as an account does. In an image unfinished by (b) the segment after the top is not looked at: it is torn,
 // unless it is blank.
 fn hide(table: [Shown; MOST_SEGMENTS], segments: usize, survey: Surveyed) -> [Shown; MOST_SEGMENTS]
-    requires { (0 < segments) × (segments ≤ mostSegments) }
+    requires { (0 < segments) × (segments ≤ most_segments) }
     ensures { result ≡ hidden survey segments table }
 {
     let mut shown = table;
@@ -97,7 +97,7 @@ fn hide(table: [Shown; MOST_SEGMENTS], segments: usize, survey: Surveyed) -> [Sh
 
 // One more than the number of a segment in use, or 0.
 fn number_after(x: Shown) -> usize
-    ensures { result ≡ afterShown x }
+    ensures { result ≡ after_shown x }
 {
     let state = x.state;
     let number = x.number;
@@ -111,8 +111,8 @@ fn number_after(x: Shown) -> usize
 
 // The numbers of the segments in use, one more each; 0 for the others.
 fn numbers(table: [Shown; MOST_SEGMENTS], segments: usize) -> [usize; MOST_SEGMENTS]
-    requires { segments ≤ mostSegments }
-    ensures { (take segments result ≡ map afterShown (take segments table)) × (length result ≡ mostSegments) }
+    requires { segments ≤ most_segments }
+    ensures { (take segments result ≡ map after_shown (take segments table)) × (length result ≡ most_segments) }
 {
     let mut left = [0usize; MOST_SEGMENTS];
     let mut i: usize = 0;
@@ -146,8 +146,8 @@ fn list_segments(
     nexts: &mut [u16; 65536],
     lengths: &mut [u8; 65536],
 ) -> [Shown; MOST_SEGMENTS]
-    requires { Sized segments slots (length image.now) × (take segments table ≡ map uncounted (shown segments slots (segmentsOf segments slots image.now))) }
-    ensures { (take segments result ≡ map shownOf (shown segments slots (segmentsOf segments slots image.now))) × (tables firsts.new nexts.new lengths.new ≡ linked slots (list_of segments slots image.now) (tables firsts.old nexts.old lengths.old)) }
+    requires { Sized segments slots (length image.now) × (take segments table ≡ map uncounted (shown segments slots (segments_of segments slots image.now))) }
+    ensures { (take segments result ≡ map shown_of (shown segments slots (segments_of segments slots image.now))) × (tables firsts.new nexts.new lengths.new ≡ linked slots (list_of segments slots image.now) (tables firsts.old nexts.old lengths.old)) }
 {
     let mut shown = table;
     let mut left = numbers(table, segments);
@@ -165,16 +165,16 @@ fn list_segments(
 
 // The segments of an image as they are shown, before their slots are counted.
 pub fn see(image: &[u8], segments: usize, slots: usize, survey: Surveyed) -> [Shown; MOST_SEGMENTS]
-    requires { (rightSize segments slots image.now ≡ true) × (survey ≡ surveyOf segments slots (segmentsOf segments slots image.now)) }
-    ensures { take segments result ≡ map uncounted (shown segments slots (segmentsOf segments slots image.now)) }
+    requires { (right_size segments slots image.now ≡ true) × (survey ≡ survey_of segments slots (segments_of segments slots image.now)) }
+    ensures { take segments result ≡ map uncounted (shown segments slots (segments_of segments slots image.now)) }
 {
     hide(see_all(image, segments, slots), segments, survey)
 }
 
 // The number after the top's, or 0 if no segment of a table is in use.
 pub fn next_number(table: [Shown; MOST_SEGMENTS], segments: usize) -> usize
-    requires { segments ≤ mostSegments }
-    ensures { result ≡ largest (map afterShown (take segments table)) }
+    requires { segments ≤ most_segments }
+    ensures { result ≡ largest (map after_shown (take segments table)) }
 {
     let left = numbers(table, segments);
     descent::largest(&left, segments)
@@ -190,8 +190,8 @@ pub fn list(
     nexts: &mut [u16; 65536],
     lengths: &mut [u8; 65536],
 ) -> [Shown; MOST_SEGMENTS]
-    requires { (rightSize segments slots image.now ≡ true) × (survey ≡ surveyOf segments slots (segmentsOf segments slots image.now)) × (firsts.old ≡ replicate 65536 0) × (nexts.old ≡ replicate 65536 0) × (lengths.old ≡ replicate 65536 0) }
-    ensures { (take segments result ≡ map shownOf (shown segments slots (segmentsOf segments slots image.now))) × Indexed segments slots image.now (tables firsts.new nexts.new lengths.new) }
+    requires { (right_size segments slots image.now ≡ true) × (survey ≡ survey_of segments slots (segments_of segments slots image.now)) × (firsts.old ≡ replicate 65536 0) × (nexts.old ≡ replicate 65536 0) × (lengths.old ≡ replicate 65536 0) }
+    ensures { (take segments result ≡ map shown_of (shown segments slots (segments_of segments slots image.now))) × Indexed segments slots image.now (tables firsts.new nexts.new lengths.new) }
 {
     let table = see(image, segments, slots, survey);
     list_segments(image, segments, slots, table, firsts, nexts, lengths)

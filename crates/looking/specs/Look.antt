@@ -1,9 +1,9 @@
 -- A block looked for, by delete and by both forms of reading.
 use Rattle.std.specs.Prelude.{ℕ, ◌+◌, ◌*◌, ◌≤◌, ◌≡◌, false, length, eqb}
 use Rattle.model.specs.Chip.{Image}
-use Rattle.model.specs.State.{entriesIn, place_of, view}
+use Rattle.model.specs.State.{entries_in, place_of, view}
 use Rattle.model.specs.Steps.{slot_at}
-use Rattle.model.specs.Table.{lookup, contentsFound}
+use Rattle.model.specs.Table.{lookup, contents_found}
 use Rattle.model.specs.Answers.{code_of, read}
 use Rattle.model.specs.declared.Answer.{Answer}
 use Rattle.bridge.specs.Accepted.{refusal}
@@ -14,7 +14,7 @@ use Rattle.looking.specs.declared.Looked.TheVariants.{At, Refused}
 pub record There (N B : ℕ) (s : Image) (b at size : ℕ) : Type 0 where
   pub code : refusal N B s (read b) ≡ 0
   pub place : at ≡ slot_at N B (place_of b (view N B s)).number (place_of b (view N B s)).slot * 256
-  pub count : size ≡ length (contentsFound (lookup b (entriesIn (view N B s))))
+  pub count : size ≡ length (contents_found (lookup b (entries_in (view N B s))))
   pub inside : at + 256 ≤ length s
   pub short : size ≤ 248
 

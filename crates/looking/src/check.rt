@@ -1,6 +1,6 @@
 // What a request is refused for by the state of the image.
 ghost use Rattle.std.specs.Prelude.{◌≡◌};
-ghost use Rattle.scan.specs.Surveys.{stateIn};
+ghost use Rattle.scan.specs.Surveys.{state_in};
 ghost use Rattle.bridge.specs.Refusals.{answer_in};
 
 use model::Answer;
@@ -8,7 +8,7 @@ use scan::Surveyed;
 
 // The answer of a request that wants a clean image.
 pub fn state_answer(survey: Surveyed) -> Answer
-    ensures { result ≡ answer_in (stateIn survey) }
+    ensures { result ≡ answer_in (state_in survey) }
 {
     match survey {
         Surveyed::Clean {

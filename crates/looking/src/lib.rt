@@ -2,7 +2,7 @@
 pub mod check;
 
 ghost use Rattle.std.specs.Prelude.{◌≡◌, true};
-ghost use Rattle.model.specs.Slot.{numberOk};
+ghost use Rattle.model.specs.Slot.{number_ok};
 ghost use Rattle.room.specs.Room.{Planned};
 ghost use Rattle.looking.specs.Look.{Looks};
 
@@ -20,7 +20,7 @@ pub enum Looked {
 
 // Looks for a block in a clean image.
 fn look_clean(image: &[u8], segments: usize, slots: usize, plan: Plan, block: BlockNumber) -> Looked
-    requires { Planned segments slots plan image.now × (numberOk block.0 ≡ true) }
+    requires { Planned segments slots plan image.now × (number_ok block.0 ≡ true) }
     ensures { Looks segments slots image.now block.0 result }
 {
     let found = find::find(image, segments, slots, plan.first, plan.used, block);

@@ -1,14 +1,14 @@
 -- A segment by its state.
 use Rattle.std.specs.Prelude.{ℕ, List}
-use Rattle.model.specs.Header.{erasePending, compacted, version1}
+use Rattle.model.specs.Header.{erase_pending, compacted, version1}
 use Rattle.model.specs.Slot.{Slot}
-use Rattle.model.specs.State.{Segment, blank, invalid, inUse}
+use Rattle.model.specs.State.{Segment, blank, invalid, in_use}
 use Rattle.judge.specs.declared.SegmentState.{SegmentState}
 use Rattle.judge.specs.declared.SegmentState.TheVariants.{Blank, Invalid, InUse, Owing}
 
 -- a segment in this state, with this number and these slots if it is in use; no row shows its version
-unfoldable pub segmentBy : SegmentState → ℕ → List Slot → Segment
-segmentBy Blank n ks = blank
-segmentBy Invalid n ks = invalid
-segmentBy InUse n ks = inUse version1 compacted n ks
-segmentBy Owing n ks = inUse version1 erasePending n ks
+unfoldable pub segment_by : SegmentState → ℕ → List Slot → Segment
+segment_by Blank n ks = blank
+segment_by Invalid n ks = invalid
+segment_by InUse n ks = in_use version1 compacted n ks
+segment_by Owing n ks = in_use version1 erase_pending n ks

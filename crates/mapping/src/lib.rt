@@ -2,7 +2,7 @@
 mod row;
 
 ghost use Rattle.std.specs.Prelude.{◌≡◌, map, ◌+◌, ◌*◌, ◌≤◌, length, take};
-ghost use Rattle.model.specs.State.{segmentsOf, nextNumber};
+ghost use Rattle.model.specs.State.{segments_of, next_number};
 ghost use Rattle.flash.specs.Pages.{Sized};
 ghost use Rattle.text.specs.Buffer.{Wrote};
 ghost use Rattle.account_text.specs.Account.{shown};
@@ -22,8 +22,8 @@ pub fn map_rows(
     text: &mut [u8],
     at: usize,
 ) -> usize
-    requires { Sized segments slots (length image.now) × (take segments table ≡ map uncounted (shown segments slots (segmentsOf segments slots image.now))) × (next ≡ nextNumber (shown segments slots (segmentsOf segments slots image.now))) × (at ≤ 100) }
-    ensures { Wrote (all_rows segments slots (segmentsOf segments slots image.now)) text.old at text.new result × (result ≤ at + 6000 * segments) }
+    requires { Sized segments slots (length image.now) × (take segments table ≡ map uncounted (shown segments slots (segments_of segments slots image.now))) × (next ≡ next_number (shown segments slots (segments_of segments slots image.now))) × (at ≤ 100) }
+    ensures { Wrote (all_rows segments slots (segments_of segments slots image.now)) text.old at text.new result × (result ≤ at + 6000 * segments) }
 {
     let mut end = at;
     let mut i: usize = 0;

@@ -1,12 +1,12 @@
 // One row, put together piece by piece. The bounds on offsets are far above any row's end: they keep sums from wrapping.
 ghost use Rattle.std.specs.Prelude.{false, cond, ◌++◌, ◌+◌, ◌*◌, ◌<◌, ◌≤◌, length};
 ghost use Rattle.flash.specs.Pages.{Sized};
-ghost use Rattle.judge.specs.Rows.{slotsAt};
-ghost use Rattle.judge.specs.Parts.{slotsOffset};
+ghost use Rattle.judge.specs.Rows.{slots_at};
+ghost use Rattle.judge.specs.Parts.{slots_offset};
 ghost use Rattle.text.specs.Text.{text as words};
 ghost use Rattle.text.specs.Buffer.{Wrote};
-ghost use Rattle.account_text.specs.Map.{marksFrom, padded, rowStart, mapRow};
-ghost use Rattle.mapping.specs.Marks.{segmentBy};
+ghost use Rattle.account_text.specs.Map.{marks_from, padded, row_start, map_row};
+ghost use Rattle.mapping.specs.Marks.{segment_by};
 
 use index::Shown;
 use judge::SegmentState;
@@ -42,7 +42,7 @@ fn add_active(text: &mut [u8], at: usize, active: bool) -> usize
 // That mark and the index.
 fn start_row(text: &mut [u8], at: usize, active: bool, index: u32) -> usize
     requires { at ≤ 2000000 }
-    ensures { Wrote (rowStart active index) text.old at text.new result × (result ≤ at + 21) }
+    ensures { Wrote (row_start active index) text.old at text.new result × (result ≤ at + 21) }
 {
     let behind = add_active(text, at, active);
     add_padded(text, behind, index, 3)
@@ -63,7 +63,7 @@ fn add_state(text: &mut [u8], at: usize, word: &[u8], number: u32) -> usize
 // A segment that is not in use.
 fn unused_row(text: &mut [u8], at: usize, index: u32, word: &[u8]) -> usize
     requires { (at ≤ 2000000) × (length word.now ≤ 10) }
-    ensures { Wrote (rowStart false index ++ word.now) text.old at text.new result × (result ≤ at + 31) }
+    ensures { Wrote (row_start false index ++ word.now) text.old at text.new result × (result ≤ at + 31) }
 {
     let behind = start_row(text, at, false, index);
     text::add(text, behind, word)
@@ -80,8 +80,8 @@ fn used_row(
     text: &mut [u8],
     at: usize,
 ) -> usize
-    requires { (slotsOffset slots index + slots * 256 ≤ length image.now) × (slots ≤ 255) × (index ≤ 255) × (at ≤ 1900000) × (length word.now ≤ 10) }
-    ensures { Wrote (rowStart active index ++ (word.now ++ (padded 9 number ++ (words " " ++ (marksFrom 0 (slotsAt image.now (slotsOffset slots index) slots) ++ words "\n"))))) text.old at text.new result × (result ≤ at + 6000) }
+    requires { (slots_offset slots index + slots * 256 ≤ length image.now) × (slots ≤ 255) × (index ≤ 255) × (at ≤ 1900000) × (length word.now ≤ 10) }
+    ensures { Wrote (row_start active index ++ (word.now ++ (padded 9 number ++ (words " " ++ (marks_from 0 (slots_at image.now (slots_offset slots index) slots) ++ words "\n"))))) text.old at text.new result × (result ≤ at + 6000) }
 {
     let first = (index * (slots + 1) + 1) * 256;
     let start = start_row(text, at, active, index as u32);
@@ -102,7 +102,7 @@ pub fn map_row(
     at: usize,
 ) -> usize
     requires { Sized segments slots (length image.now) × (index < segments) × (at ≤ 1900000) }
-    ensures { Wrote (mapRow next index (segmentBy shown.state shown.number.0 (slotsAt image.now (slotsOffset slots index) slots))) text.old at text.new result × (result ≤ at + 6000) }
+    ensures { Wrote (map_row next index (segment_by shown.state shown.number.0 (slots_at image.now (slots_offset slots index) slots))) text.old at text.new result × (result ≤ at + 6000) }
 {
     let state = shown.state;
     let number = shown.number;

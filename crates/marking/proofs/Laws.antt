@@ -11,49 +11,49 @@ use borrow.Author.Tests.{eq-eqb, ne_eqb, lt-ltb}
 use Rattle.model.specs.Lists.{chunk}
 use Rattle.model.specs.Chip.{Image}
 use Rattle.model.specs.Slot.{slot_of}
-use Rattle.judge.specs.Rows.{slotsAt}
+use Rattle.judge.specs.Rows.{slots_at}
 use Rattle.text.specs.Buffer.{Wrote}
 use Rattle.text.proofs.Laws.{◌then◌, wrote_none}
-use Rattle.account_text.specs.Map.{mark, mostMarks, margin, rowBreak, marksFrom}
+use Rattle.account_text.specs.Map.{mark, most_marks, margin, row_break, marks_from}
 use Rattle.index.specs.Lives.{slots_next}
 use Rattle.marking.specs.Finishes.{Finishes}
 
 -- ---- pieces in a loop
 
-pub finish-begin : (whole start : List ℕ) (at : ℕ) → Finishes whole whole start at start at
-finish-begin whole start at = record { finish = λ later last w. w; kept = refl }
+pub finish_begin : (whole start : List ℕ) (at : ℕ) → Finishes whole whole start at start at
+finish_begin whole start at = record { finish = λ later last w. w; kept = refl }
 
-pub finish-more : {x y rest whole start buffer later : List ℕ} {at end last : ℕ} → rest ≡ x ++ y → Finishes rest whole start at buffer end → Wrote x buffer end later last → Finishes y whole start at later last
-finish-more e f w = record { finish = λ b z v. f.finish b z (rw e (w then v)); kept = w.kept ∙ f.kept }
+pub finish_more : {x y rest whole start buffer later : List ℕ} {at end last : ℕ} → rest ≡ x ++ y → Finishes rest whole start at buffer end → Wrote x buffer end later last → Finishes y whole start at later last
+finish_more e f w = record { finish = λ b z v. f.finish b z (rw e (w then v)); kept = w.kept ∙ f.kept }
 
-pub finish-end : {rest whole start buffer : List ℕ} {at end : ℕ} → rest ≡ [] → Finishes rest whole start at buffer end → Wrote whole start at buffer end
-finish-end {rest} {whole} {start} {buffer} {at} {end} e f = f.finish buffer end (rw e (wrote_none buffer end))
+pub finish_end : {rest whole start buffer : List ℕ} {at end : ℕ} → rest ≡ [] → Finishes rest whole start at buffer end → Wrote whole start at buffer end
+finish_end {rest} {whole} {start} {buffer} {at} {end} e f = f.finish buffer end (rw e (wrote_none buffer end))
 
 -- ---- what stands before a mark
 
-pub break-first : (j : ℕ) → j ≡ 0 → rowBreak j ≡ []
-unfolding rowBreak
-break-first j e = rw e
+pub break_first : (j : ℕ) → j ≡ 0 → row_break j ≡ []
+unfolding row_break
+break_first j e = rw e
 
-pub break-none : (j : ℕ) → (j % mostMarks ≡ 0 → ⊥) → rowBreak j ≡ []
-unfolding rowBreak
-break-none j h = rw (ne_eqb (j % mostMarks) 0 h, and-false (ltb 0 j))
+pub break_none : (j : ℕ) → (j % most_marks ≡ 0 → ⊥) → row_break j ≡ []
+unfolding row_break
+break_none j h = rw (ne_eqb (j % most_marks) 0 h, and-false (ltb 0 j))
 
-pub break-some : (j : ℕ) → (j ≡ 0 → ⊥) → j % mostMarks ≡ 0 → rowBreak j ≡ margin
-unfolding rowBreak
-break-some j n e = rw (lt-ltb 0 j (omega (arith, n)), eq-eqb (j % mostMarks) 0 e)
+pub break_some : (j : ℕ) → (j ≡ 0 → ⊥) → j % most_marks ≡ 0 → row_break j ≡ margin
+unfolding row_break
+break_some j n e = rw (lt-ltb 0 j (omega (arith, n)), eq-eqb (j % most_marks) 0 e)
 
 -- ---- the slots of a segment
 
-pub marks-next : (s : Image) (first i slots m : ℕ) → i < slots → m ≡ mark (slot_of (take 256 (drop (first + i * 256) s)))
-    → marksFrom i (slotsAt s (first + i * 256) (slots - i)) ≡ (rowBreak i ++ (m ∷ [])) ++ marksFrom (i + 1) (slotsAt s (first + (i + 1) * 256) (slots - (i + 1)))
-unfolding marksFrom
-marks-next s first i slots m h q =
+pub marks_next : (s : Image) (first i slots m : ℕ) → i < slots → m ≡ mark (slot_of (take 256 (drop (first + i * 256) s)))
+    → marks_from i (slots_at s (first + i * 256) (slots - i)) ≡ (row_break i ++ (m ∷ [])) ++ marks_from (i + 1) (slots_at s (first + (i + 1) * 256) (slots - (i + 1)))
+unfolding marks_from
+marks_next s first i slots m h q =
     let d : slots - i ≡ suc (slots - (i + 1)) = omega arith in
     let e : first + i * 256 + 256 ≡ first + (i + 1) * 256 = omega arith in
-    let r = marksFrom (suc i) (slotsAt s (first + suc i * 256) (slots - suc i)) in
-    rw (d, slots_next s (first + i * 256) (slots - (i + 1)), e, add-one i, ← q) (sym (append_assoc (rowBreak i) (m ∷ []) r))
+    let r = marks_from (suc i) (slots_at s (first + suc i * 256) (slots - suc i)) in
+    rw (d, slots_next s (first + i * 256) (slots - (i + 1)), e, add-one i, ← q) (sym (append_assoc (row_break i) (m ∷ []) r))
 
-pub marks-end : (s : Image) (o i slots : ℕ) → slots ≤ i → marksFrom i (slotsAt s o (slots - i)) ≡ []
-unfolding marksFrom slotsAt chunk
-marks-end s o i slots h = let d : slots - i ≡ 0 = omega arith in rw d
+pub marks_end : (s : Image) (o i slots : ℕ) → slots ≤ i → marks_from i (slots_at s o (slots - i)) ≡ []
+unfolding marks_from slots_at chunk
+marks_end s o i slots h = let d : slots - i ≡ 0 = omega arith in rw d

@@ -5,19 +5,19 @@ use Rattle.model.specs.declared.SlotKind.{SlotKind}
 use Rattle.model.specs.declared.SlotKind.TheVariants.{Empty, Torn, Live, Dead, Cut, Wrong}
 use Rattle.account_text.specs.Map.{mark}
 
-unfoldable pub markKind : SlotKind → ℕ
-markKind Empty = mark empty
-markKind Torn = mark torn
-markKind (Live n b) = mark (live 0 [])
-markKind Dead = mark dead
-markKind Cut = mark cut
-markKind Wrong = mark wrong
+unfoldable pub mark_kind : SlotKind → ℕ
+mark_kind Empty = mark empty
+mark_kind Torn = mark torn
+mark_kind (Live n b) = mark (live 0 [])
+mark_kind Dead = mark dead
+mark_kind Cut = mark cut
+mark_kind Wrong = mark wrong
 
-pub mark-kind : (k : Slot) → markKind (kind_of k) ≡ mark k
-unfolding markKind kind_of mark
-mark-kind empty = refl
-mark-kind torn = refl
-mark-kind dead = refl
-mark-kind cut = refl
-mark-kind wrong = refl
-mark-kind (live b c) = refl
+pub mark_kind_lem : (k : Slot) → mark_kind (kind_of k) ≡ mark k
+unfolding mark_kind kind_of mark
+mark_kind_lem empty = refl
+mark_kind_lem torn = refl
+mark_kind_lem dead = refl
+mark_kind_lem cut = refl
+mark_kind_lem wrong = refl
+mark_kind_lem (live b c) = refl

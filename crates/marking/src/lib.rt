@@ -1,16 +1,16 @@
 // The slots of a segment as characters of a picture's row, added to a text. The bounds on offsets are far above any row's
 // end: they keep sums from wrapping.
 ghost use Rattle.std.specs.Prelude.{◌≡◌, [], ◌∷◌, ◌++◌, ◌+◌, ◌*◌, ◌≤◌, length};
-ghost use Rattle.judge.specs.Rows.{slotsAt};
+ghost use Rattle.judge.specs.Rows.{slots_at};
 ghost use Rattle.text.specs.Buffer.{Wrote};
-ghost use Rattle.account_text.specs.Map.{rowBreak, marksFrom};
-ghost use Rattle.marking.specs.Marks.{markKind};
+ghost use Rattle.account_text.specs.Map.{row_break, marks_from};
+ghost use Rattle.marking.specs.Marks.{mark_kind};
 
 use model::SlotKind;
 
 // The character of a slot.
 fn mark_of(kind: SlotKind) -> u8
-    ensures { result ≡ markKind kind }
+    ensures { result ≡ mark_kind kind }
 {
     match kind {
         SlotKind::Empty => b'.',
@@ -31,7 +31,7 @@ const MOST_MARKS: usize = 64;
 // The end of a full row, and spaces up to below its first slot.
 fn add_break(text: &mut [u8], at: usize, slot: usize) -> usize
     requires { at ≤ 3000000 }
-    ensures { Wrote (rowBreak slot) text.old at text.new result × (result ≤ at + 21) }
+    ensures { Wrote (row_break slot) text.old at text.new result × (result ≤ at + 21) }
 {
     if slot == 0 {
         return at;
@@ -45,7 +45,7 @@ fn add_break(text: &mut [u8], at: usize, slot: usize) -> usize
 // A slot's mark, on a new row if the last one is full.
 fn add_mark(text: &mut [u8], at: usize, slot: usize, mark: u8) -> usize
     requires { at ≤ 3000000 }
-    ensures { Wrote (rowBreak slot ++ (mark ∷ [])) text.old at text.new result × (result ≤ at + 22) }
+    ensures { Wrote (row_break slot ++ (mark ∷ [])) text.old at text.new result × (result ≤ at + 22) }
 {
     let behind = add_break(text, at, slot);
     text::add(text, behind, &[mark])
@@ -54,7 +54,7 @@ fn add_mark(text: &mut [u8], at: usize, slot: usize, mark: u8) -> usize
 // The slots of a segment, from the offset of the first one.
 pub fn add_marks(image: &[u8], first: usize, slots: usize, text: &mut [u8], at: usize) -> usize
     requires { (first + slots * 256 ≤ length image.now) × (slots ≤ 255) × (at ≤ 2000000) }
-    ensures { Wrote (marksFrom 0 (slotsAt image.now first slots)) text.old at text.new result × (result ≤ at + slots * 22) }
+    ensures { Wrote (marks_from 0 (slots_at image.now first slots)) text.old at text.new result × (result ≤ at + slots * 22) }
 {
     let mut end = at;
     let mut i: usize = 0;

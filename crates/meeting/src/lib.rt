@@ -3,9 +3,9 @@
 ghost use Rattle.std.specs.Prelude.{◌≡◌, not, ◌+◌, ◌*◌, ◌<◌, ◌≤◌, length, take, drop};
 ghost use Rattle.model.specs.Lists.{same};
 ghost use Rattle.model.specs.Slot.{slot_of, kind_of};
-ghost use Rattle.judge.specs.Rows.{kindsAt};
-ghost use Rattle.index.specs.Tables.{mostPages};
-ghost use Rattle.meeting.specs.Sheet.{sheet, met, metKind, metRow, Within};
+ghost use Rattle.judge.specs.Rows.{kinds_at};
+ghost use Rattle.index.specs.Tables.{most_pages};
+ghost use Rattle.meeting.specs.Sheet.{sheet, met, met_kind, met_row, Within};
 
 use model::{BlockNumber, SlotKind};
 
@@ -66,8 +66,8 @@ fn meet_slot(
     lengths: &mut [u8; 65536],
     differs: &mut [bool; 65536],
 )
-    requires { (page * 256 + 256 ≤ length image.now) × (page < mostPages) × Within places.old (length image.now) }
-    ensures { sheet places.new lengths.new differs.new ≡ metKind image.now page (kind_of (slot_of (take 256 (drop (page * 256) image.now)))) (sheet places.old lengths.old differs.old) }
+    requires { (page * 256 + 256 ≤ length image.now) × (page < most_pages) × Within places.old (length image.now) }
+    ensures { sheet places.new lengths.new differs.new ≡ met_kind image.now page (kind_of (slot_of (take 256 (drop (page * 256) image.now)))) (sheet places.old lengths.old differs.old) }
 {
     let at = page * 256;
     if image[at] != slot::WRITTEN {
@@ -90,8 +90,8 @@ pub fn meet_row(
     lengths: &mut [u8; 65536],
     differs: &mut [bool; 65536],
 )
-    requires { ((header + slots + 1) * 256 ≤ length image.now) × (header + slots < mostPages) × Within places.old (length image.now) }
-    ensures { sheet places.new lengths.new differs.new ≡ metRow image.now (header + 1) (kindsAt image.now ((header + 1) * 256) slots) (sheet places.old lengths.old differs.old) }
+    requires { ((header + slots + 1) * 256 ≤ length image.now) × (header + slots < most_pages) × Within places.old (length image.now) }
+    ensures { sheet places.new lengths.new differs.new ≡ met_row image.now (header + 1) (kinds_at image.now ((header + 1) * 256) slots) (sheet places.old lengths.old differs.old) }
 {
     let mut left = slots;
     while left > 0 {

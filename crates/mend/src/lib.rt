@@ -1,12 +1,12 @@
 // The steps of a recovery; a delete has one of them too.
 ghost use Rattle.std.specs.Prelude.{◌≡◌, true, cond, [], ◌∷◌, ◌+◌, ◌%◌, length};
-ghost use Rattle.model.specs.Chip.{erase, rightSize};
-ghost use Rattle.model.specs.State.{segmentsOf};
+ghost use Rattle.model.specs.Chip.{erase, right_size};
+ghost use Rattle.model.specs.State.{segments_of};
 ghost use Rattle.model.specs.Steps.{settle};
-ghost use Rattle.model.specs.Answers.{performed, outcomeOf, recover};
+ghost use Rattle.model.specs.Answers.{performed, outcome_of, recover};
 ghost use Rattle.flash.specs.Ran.{Ran};
 ghost use Rattle.flash.specs.Pages.{Sized};
-ghost use Rattle.scan.specs.Surveys.{surveyOf};
+ghost use Rattle.scan.specs.Surveys.{survey_of};
 ghost use Rattle.request.specs.Request.{Carried};
 ghost use Rattle.mend.specs.Marks.{PageAt, MarkedAt};
 ghost use Rattle.mend.specs.Erasing.{counting, erasing};
@@ -99,8 +99,8 @@ pub fn mend(
     survey: Surveyed,
     budget: u64,
 ) -> Performed
-    requires { (rightSize segments slots image.old ≡ true) × (survey ≡ surveyOf segments slots (segmentsOf segments slots image.old)) }
-    ensures { performed result image.new ≡ outcomeOf segments slots image.old budget recover }
+    requires { (right_size segments slots image.old ≡ true) × (survey ≡ survey_of segments slots (segments_of segments slots image.old)) }
+    ensures { performed result image.new ≡ outcome_of segments slots image.old budget recover }
 {
     match survey {
         Surveyed::Clean {

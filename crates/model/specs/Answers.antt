@@ -1,11 +1,11 @@
 -- Document 01, "What comes back": the answers in their order, the step list, and both under an allowance of steps.
 use Rattle.std.specs.Prelude.{ℕ, ◌+◌, ◌*◌, Bool, true, false, cond, ◌&&◌, not, List, [], ◌∷◌, length, take, drop, ltb, leb, eqb}
-use Rattle.model.specs.Chip.{Image, Step, rightSize, run}
-use Rattle.model.specs.Header.{isFormer}
-use Rattle.model.specs.Slot.{mostContents, numberOk}
-use Rattle.model.specs.State.{Segment, segmentsOf, View, view_of, entriesIn, holds, capacity, Place, place_of, State, clean, unfinished, damaged, state_of, state, view}
-use Rattle.model.specs.Steps.{slot_at, putSteps, deleteSteps, formatSteps, recoverSteps, isWorn}
-use Rattle.model.specs.Table.{lookup, contentsFound, liveBetween, table_of}
+use Rattle.model.specs.Chip.{Image, Step, right_size, run}
+use Rattle.model.specs.Header.{is_former}
+use Rattle.model.specs.Slot.{most_contents, number_ok}
+use Rattle.model.specs.State.{Segment, segments_of, View, view_of, entries_in, holds, capacity, Place, place_of, State, clean, unfinished, damaged, state_of, state, view}
+use Rattle.model.specs.Steps.{slot_at, put_steps, delete_steps, format_steps, recover_steps, is_worn}
+use Rattle.model.specs.Table.{lookup, contents_found, live_between, table_of}
 use Rattle.model.specs.declared.Answer.{Answer}
 use Rattle.model.specs.declared.Performed.{Performed}
 use Rattle.model.specs.declared.Located.{Located}
@@ -36,7 +36,7 @@ pub data Request : Type 0 where
   delete : ℕ → Request
   read : ℕ → Request
   -- the second form of reading, with a factory record
-  readOr : ℕ → List ℕ → Request
+  read_or : ℕ → List ℕ → Request
   recover : Request
 
 -- ---- refusals
@@ -54,32 +54,32 @@ unfoldable pub first_of : List Refusal → ℕ
 first_of [] = 0
 first_of (x ∷ r) = cond x.applies x.number (first_of r)
 
-unfoldable pub isDamaged : State → Bool
-isDamaged clean = false
-isDamaged (unfinished x) = false
-isDamaged damaged = true
+unfoldable pub is_damaged : State → Bool
+is_damaged clean = false
+is_damaged (unfinished x) = false
+is_damaged damaged = true
 
-unfoldable pub isUnfinished : State → Bool
-isUnfinished clean = false
-isUnfinished (unfinished x) = true
-isUnfinished damaged = false
+unfoldable pub is_unfinished : State → Bool
+is_unfinished clean = false
+is_unfinished (unfinished x) = true
+is_unfinished damaged = false
 
 -- request #105: the lengths of contents that a put takes. A slot of length 0 may still be stored, from before that request
-unfoldable pub lengthOk : ℕ → Bool
-lengthOk n = ltb 0 n && leb n mostContents
+unfoldable pub length_ok : ℕ → Bool
+length_ok n = ltb 0 n && leb n most_contents
 
 -- a block not live while C are live
-unfoldable pub isFull : ℕ → ℕ → ℕ → View → Bool
-isFull N B b v = not (holds b (entriesIn v)) && leb (capacity N B) (length (entriesIn v))
+unfoldable pub is_full : ℕ → ℕ → ℕ → View → Bool
+is_full N B b v = not (holds b (entries_in v)) && leb (capacity N B) (length (entries_in v))
 
 -- the rows of the table of answers for a delete or a read
-unfoldable pub absentRefusals : ℕ → ℕ → Bool → List Segment → ℕ → List Refusal
-absentRefusals N B sized l b = let st = state_of N B l in
+unfoldable pub absent_refusals : ℕ → ℕ → Bool → List Segment → ℕ → List Refusal
+absent_refusals N B sized l b = let st = state_of N B l in
     (1 when not sized)
-    ∷ (2 when not (numberOk b))
-    ∷ (4 when isDamaged st)
-    ∷ (5 when isUnfinished st)
-    ∷ (6 when not (holds b (entriesIn (view_of N l))))
+    ∷ (2 when not (number_ok b))
+    ∷ (4 when is_damaged st)
+    ∷ (5 when is_unfinished st)
+    ∷ (6 when not (holds b (entries_in (view_of N l))))
     ∷ []
 
 -- each request's rows, on segments of an image that has a right size or not
@@ -87,48 +87,48 @@ unfoldable pub refusals : ℕ → ℕ → Bool → List Segment → Request → 
 refusals N B sized l format = (1 when not sized) ∷ []
 refusals N B sized l (put b c) = let st = state_of N B l in let v = view_of N l in
     (1 when not sized)
-    ∷ (2 when not (numberOk b))
-    ∷ (3 when not (lengthOk (length c)))
-    ∷ (4 when isDamaged st)
-    ∷ (5 when isUnfinished st)
-    ∷ (11 when isFormer v.version)
-    ∷ (7 when isFull N B b v)
-    ∷ (8 when isWorn N v)
+    ∷ (2 when not (number_ok b))
+    ∷ (3 when not (length_ok (length c)))
+    ∷ (4 when is_damaged st)
+    ∷ (5 when is_unfinished st)
+    ∷ (11 when is_former v.version)
+    ∷ (7 when is_full N B b v)
+    ∷ (8 when is_worn N v)
     ∷ []
-refusals N B sized l (delete b) = absentRefusals N B sized l b
-refusals N B sized l (read b) = absentRefusals N B sized l b
-refusals N B sized l (readOr b f) = absentRefusals N B sized l b
-refusals N B sized l recover = (1 when not sized) ∷ (4 when isDamaged (state_of N B l)) ∷ []
+refusals N B sized l (delete b) = absent_refusals N B sized l b
+refusals N B sized l (read b) = absent_refusals N B sized l b
+refusals N B sized l (read_or b f) = absent_refusals N B sized l b
+refusals N B sized l recover = (1 when not sized) ∷ (4 when is_damaged (state_of N B l)) ∷ []
 
 -- ---- the work of a request: its code but for 9, and its step list
 
-unfoldable pub stepsFor : ℕ → ℕ → List Segment → Request → List Step
-stepsFor N B l format = formatSteps N B
-stepsFor N B l (put b c) = putSteps N B b c (view_of N l)
-stepsFor N B l (delete b) = deleteSteps N B b (view_of N l)
-stepsFor N B l (read b) = []
-stepsFor N B l (readOr b f) = []
-stepsFor N B l recover = recoverSteps N B l (state_of N B l)
+unfoldable pub steps_for : ℕ → ℕ → List Segment → Request → List Step
+steps_for N B l format = format_steps N B
+steps_for N B l (put b c) = put_steps N B b c (view_of N l)
+steps_for N B l (delete b) = delete_steps N B b (view_of N l)
+steps_for N B l (read b) = []
+steps_for N B l (read_or b f) = []
+steps_for N B l recover = recover_steps N B l (state_of N B l)
 
 pub record Work : Type 0 where
   pub code : ℕ
   pub steps : List Step
 
 -- codes but 0 take no step
-unfoldable pub workOn : ℕ → ℕ → Bool → List Segment → Request → Work
-workOn N B sized l r =
+unfoldable pub work_on : ℕ → ℕ → Bool → List Segment → Request → Work
+work_on N B sized l r =
     let code = first_of (refusals N B sized l r) in
-    let steps = stepsFor N B l r in
+    let steps = steps_for N B l r in
     cond (eqb code 0) (record { code = 0; steps = steps }) (record { code = code; steps = [] })
 
-unfoldable pub workOf : ℕ → ℕ → Image → Request → Work
-workOf N B s r = workOn N B (rightSize N B s) (segmentsOf N B s) r
+unfoldable pub work_of : ℕ → ℕ → Image → Request → Work
+work_of N B s r = work_on N B (right_size N B s) (segments_of N B s) r
 
 -- ---- under an allowance
 
 -- 9: the allowance ended before the list did
-unfoldable pub codeUnder : ℕ → Work → ℕ
-codeUnder allowance w = cond (leb (length w.steps) allowance) w.code 9
+unfoldable pub code_under : ℕ → Work → ℕ
+code_under allowance w = cond (leb (length w.steps) allowance) w.code 9
 
 -- what a request that writes gives: its answer, the count of steps done, and the image after them
 pub record Outcome : Type 0 where
@@ -143,10 +143,10 @@ performed p s = record { code = code_of p.answer; count = p.steps; image = s }
 -- work on an image under an allowance
 abbrev pub worked : ℕ → Work → Image → ℕ → Outcome
 worked B w s allowance = let done = take allowance w.steps in
-    record { code = codeUnder allowance w; count = length done; image = run B done s }
+    record { code = code_under allowance w; count = length done; image = run B done s }
 
-unfoldable pub outcomeOf : ℕ → ℕ → Image → ℕ → Request → Outcome
-outcomeOf N B s allowance r = let w = workOf N B s r in worked B w s allowance
+unfoldable pub outcome_of : ℕ → ℕ → Image → ℕ → Request → Outcome
+outcome_of N B s allowance r = let w = work_of N B s r in worked B w s allowance
 
 -- ---- reading
 
@@ -160,24 +160,24 @@ pub record ReadOutcome : Type 0 where
 unfoldable pub located : Located → ReadOutcome
 located p = record { code = code_of p.answer; offset = p.offset; length = p.length }
 
-unfoldable pub contentsAt : ℕ → ℕ → Place → ℕ
-contentsAt N B p = slot_at N B p.number p.slot * 256 + 8
+unfoldable pub contents_at : ℕ → ℕ → Place → ℕ
+contents_at N B p = slot_at N B p.number p.slot * 256 + 8
 
-unfoldable pub readOutcome : ℕ → ℕ → Image → ℕ → ReadOutcome
-readOutcome N B s b =
-    let code = (workOf N B s (read b)).code in
+unfoldable pub read_outcome : ℕ → ℕ → Image → ℕ → ReadOutcome
+read_outcome N B s b =
+    let code = (work_of N B s (read b)).code in
     let v = view N B s in
     cond (eqb code 0)
-    (record { code = 0; offset = contentsAt N B (place_of b v); length = length (contentsFound (lookup b (entriesIn v))) })
+    (record { code = 0; offset = contents_at N B (place_of b v); length = length (contents_found (lookup b (entries_in v))) })
     (record { code = code; offset = 0; length = 0 })
 
 -- the piece of the image that a read tells of
-unfoldable pub pieceRead : ℕ → ℕ → Image → ℕ → List ℕ
-pieceRead N B s b = let o = readOutcome N B s b in take o.length (drop o.offset s)
+unfoldable pub piece_read : ℕ → ℕ → Image → ℕ → List ℕ
+piece_read N B s b = let o = read_outcome N B s b in take o.length (drop o.offset s)
 
 -- the second form: that piece; or for answer 6 the whole factory record; or for other refusals an empty piece
-unfoldable pub pieceOr : ℕ → ℕ → Image → ℕ → List ℕ → List ℕ
-pieceOr N B s b factory = cond (eqb (readOutcome N B s b).code 6) factory (pieceRead N B s b)
+unfoldable pub piece_or : ℕ → ℕ → Image → ℕ → List ℕ → List ℕ
+piece_or N B s b factory = cond (eqb (read_outcome N B s b).code 6) factory (piece_read N B s b)
 
 -- ---- counting (request #110)
 
@@ -191,12 +191,12 @@ pub record CountOutcome : Type 0 where
 unfoldable pub counted : Counted → CountOutcome
 counted p = record { code = code_of p.answer; blocks = p.blocks; stored = p.stored }
 
-unfoldable pub countRefusals : ℕ → ℕ → Image → List Refusal
-countRefusals N B s = let st = state N B s in (1 when not (rightSize N B s)) ∷ (4 when isDamaged st) ∷ (5 when isUnfinished st) ∷ []
+unfoldable pub count_refusals : ℕ → ℕ → Image → List Refusal
+count_refusals N B s = let st = state N B s in (1 when not (right_size N B s)) ∷ (4 when is_damaged st) ∷ (5 when is_unfinished st) ∷ []
 
 -- any two numbers make a range, and any number is asked for: what is no block's is not live
-unfoldable pub countOutcome : ℕ → ℕ → Image → ℕ → ℕ → ℕ → CountOutcome
-countOutcome N B s first last b =
-    let code = first_of (countRefusals N B s) in
+unfoldable pub count_outcome : ℕ → ℕ → Image → ℕ → ℕ → ℕ → CountOutcome
+count_outcome N B s first last b =
+    let code = first_of (count_refusals N B s) in
     let t = table_of N B s in
-    cond (eqb code 0) (record { code = 0; blocks = liveBetween first last t; stored = holds b t }) (record { code = code; blocks = 0; stored = false })
+    cond (eqb code 0) (record { code = 0; blocks = live_between first last t; stored = holds b t }) (record { code = code; blocks = 0; stored = false })

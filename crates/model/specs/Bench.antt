@@ -1,15 +1,15 @@
 -- Document 01, "Bench examples": those marked "Proved", 1 to 8, the lengths of 10 with what request #105 keeps, the sizes of 11 with what request #108 takes, and what requests #104 and #107 add: entries of one table under one statement (Laws.Bench).
 use Rattle.std.specs.Prelude.{ℕ, zero, suc, ◌+◌, ◌*◌, Bool, true, cond, ◌||◌, ◌&&◌, not, List, [], ◌∷◌, ◌++◌, length, get_or, take, replicate, eqb}
 use Rattle.model.specs.Lists.{same}
-use Rattle.model.specs.Chip.{Image, Page, Step, imageLength, pagesOf, run}
+use Rattle.model.specs.Chip.{Image, Page, Step, image_length, pages_of, run}
 use Rattle.model.specs.Header
-use Rattle.model.specs.Header.{erasePending, headerPage, Version, version1, version2, newVersion, oldIndex}
+use Rattle.model.specs.Header.{erase_pending, header_page, Version, version1, version2, new_version, old_index}
 use Rattle.model.specs.Slot.{Entry}
-use Rattle.model.specs.State.{segmentsOn, view_of, entriesIn, capacity, state_of}
-use Rattle.model.specs.Steps.{programs, onPage, header_at, openSegment, copyEntries, copyOut, eraseFirst}
-use Rattle.model.specs.Answers.{Request, format, put, delete, recover, Work, workOf, codeUnder, isDamaged, isUnfinished, ReadOutcome, readOutcome}
-use Rattle.model.specs.Table.{lookup, contentsFound}
-use Rattle.model.specs.Sequences.{Call, play, observed, Observed, erasesIn, start, ledger, eraseCount}
+use Rattle.model.specs.State.{segments_on, view_of, entries_in, capacity, state_of}
+use Rattle.model.specs.Steps.{programs, on_page, header_at, open_segment, copy_entries, copy_out, erase_first}
+use Rattle.model.specs.Answers.{Request, format, put, delete, recover, Work, work_of, code_under, is_damaged, is_unfinished, ReadOutcome, read_outcome}
+use Rattle.model.specs.Table.{lookup, contents_found}
+use Rattle.model.specs.Sequences.{Call, play, observed, Observed, erases_in, start, ledger, erase_count}
 
 -- ---- where an example begins
 
@@ -29,17 +29,17 @@ pub record Setup : Type 0 where
 
 -- after a format
 abbrev pub after : ℕ → ℕ → List Call → Setup
-after N B xs = record { segments = N; slots = B; made = openSegment N B (newVersion 0) 0; calls = xs }
+after N B xs = record { segments = N; slots = B; made = open_segment N B (new_version 0) 0; calls = xs }
 
 abbrev pub and_then : Setup → List Call → Setup
 and_then u xs = record { segments = u.segments; slots = u.slots; made = u.made; calls = u.calls ++ xs }
 
 unfoldable pub recording : Setup → List Step
-recording u = eraseFirst u.segments ++ u.made
+recording u = erase_first u.segments ++ u.made
 
 -- on a chip full of zero bytes
 unfoldable pub recorded : Setup → Image
-recorded u = run u.slots (recording u) (replicate (imageLength u.segments u.slots) 0)
+recorded u = run u.slots (recording u) (replicate (image_length u.segments u.slots) 0)
 
 unfoldable pub left : Setup → Image
 left u = play u.segments u.slots (recorded u) u.calls
@@ -53,9 +53,9 @@ pub record Bench : Type 0 where
 
 unfoldable pub bench : Bench
 bench = record {
-  pages = λ u. pagesOf u.segments u.slots (left u);
-  work = λ u r. workOf u.segments u.slots (left u) r;
-  found = λ u b. readOutcome u.segments u.slots (left u) b;
+  pages = λ u. pages_of u.segments u.slots (left u);
+  work = λ u r. work_of u.segments u.slots (left u) r;
+  found = λ u b. read_outcome u.segments u.slots (left u) b;
   seen = λ u. observed u.segments u.slots (recorded u) u.calls;
 }
 
@@ -77,39 +77,39 @@ pub data Example : Type 0 where
   -- the next request cut after each of these numbers of steps: it answers 9, recovery takes so many steps, and then the block has these contents
   cuts : Setup → Request → List ℕ → ℕ → ℕ → List ℕ → Example
 
-unfoldable pub contentsIn : ℕ → ℕ → ℕ → List Page → List ℕ
-contentsIn N B b ps = contentsFound (lookup b (entriesIn (view_of N (segmentsOn N B ps))))
+unfoldable pub contents_in : ℕ → ℕ → ℕ → List Page → List ℕ
+contents_in N B b ps = contents_found (lookup b (entries_in (view_of N (segments_on N B ps))))
 
-unfoldable pub isCleanIn : ℕ → ℕ → List Page → Bool
-isCleanIn N B ps = let st = state_of N B (segmentsOn N B ps) in not (isDamaged st || isUnfinished st)
+unfoldable pub is_clean_in : ℕ → ℕ → List Page → Bool
+is_clean_in N B ps = let st = state_of N B (segments_on N B ps) in not (is_damaged st || is_unfinished st)
 
-unfoldable pub cutHolds : Bench → Setup → Request → ℕ → ℕ → List ℕ → List ℕ → Bool
-cutHolds m u r count b bytes [] = true
-cutHolds m u r count b bytes (k ∷ ks) =
-    let cutOff = and_then u (call r k ∷ []) in
-    let mended = m.pages (and_then cutOff (whole recover ∷ [])) in
-    eqb (codeUnder k (m.work u r)) 9
-    && (eqb (length (m.work cutOff recover).steps) count
-    && (isCleanIn u.segments u.slots mended
-    && (same (contentsIn u.segments u.slots b mended) bytes
-    && cutHolds m u r count b bytes ks)))
+unfoldable pub cut_holds : Bench → Setup → Request → ℕ → ℕ → List ℕ → List ℕ → Bool
+cut_holds m u r count b bytes [] = true
+cut_holds m u r count b bytes (k ∷ ks) =
+    let cut_off = and_then u (call r k ∷ []) in
+    let mended = m.pages (and_then cut_off (whole recover ∷ [])) in
+    eqb (code_under k (m.work u r)) 9
+    && (eqb (length (m.work cut_off recover).steps) count
+    && (is_clean_in u.segments u.slots mended
+    && (same (contents_in u.segments u.slots b mended) bytes
+    && cut_holds m u r count b bytes ks)))
 
-unfoldable pub exampleHolds : Bench → Example → Bool
-exampleHolds m (sizes N B len cap) = eqb (imageLength N B) len && eqb (capacity N B) cap
-exampleHolds m (olds N i old) = eqb (oldIndex N i erasePending) old && eqb (oldIndex N i Header.compacted) old
-exampleHolds m (begins u p bytes) = same (take (length bytes) (get_or (m.pages u) p [])) bytes
-exampleHolds m (answers u r code count erases) = let w = m.work u r in
-    eqb w.code code && (eqb (length w.steps) count && eqb (length (erasesIn w.steps)) erases)
-exampleHolds m (reads u b code offset len) = let o = m.found u b in
+unfoldable pub example_holds : Bench → Example → Bool
+example_holds m (sizes N B len cap) = eqb (image_length N B) len && eqb (capacity N B) cap
+example_holds m (olds N i old) = eqb (old_index N i erase_pending) old && eqb (old_index N i Header.compacted) old
+example_holds m (begins u p bytes) = same (take (length bytes) (get_or (m.pages u) p [])) bytes
+example_holds m (answers u r code count erases) = let w = m.work u r in
+    eqb w.code code && (eqb (length w.steps) count && eqb (length (erases_in w.steps)) erases)
+example_holds m (reads u b code offset len) = let o = m.found u b in
     eqb o.code code && (eqb o.offset offset && eqb o.length len)
-exampleHolds m (counts u e r l) = let t = ledger (m.seen u) start in
-    eqb (eraseCount t) e && (eqb t.replaced r && eqb t.largest l)
-exampleHolds m (cuts u r ks count b bytes) = cutHolds m u r count b bytes ks
+example_holds m (counts u e r l) = let t = ledger (m.seen u) start in
+    eqb (erase_count t) e && (eqb t.replaced r && eqb t.largest l)
+example_holds m (cuts u r ks count b bytes) = cut_holds m u r count b bytes ks
 
 -- the places, from 0, of the examples that fail
 unfoldable pub failing : Bench → ℕ → List Example → List ℕ
 failing m i [] = []
-failing m i (x ∷ xs) = cond (exampleHolds m x) (failing m (suc i) xs) (i ∷ failing m (suc i) xs)
+failing m i (x ∷ xs) = cond (example_holds m x) (failing m (suc i) xs) (i ∷ failing m (suc i) xs)
 
 -- ---- the table
 
@@ -119,9 +119,9 @@ up_from n zero = []
 up_from n (suc k) = n ∷ up_from (suc n) k
 
 -- each of these blocks put with one-byte contents
-unfoldable pub putEach : List ℕ → List Call
-putEach [] = []
-putEach (b ∷ bs) = whole (put b (1 ∷ [])) ∷ putEach bs
+unfoldable pub put_each : List ℕ → List Call
+put_each [] = []
+put_each (b ∷ bs) = whole (put b (1 ∷ [])) ∷ put_each bs
 
 -- block 7 put with one-byte contents
 abbrev seven : ℕ → Request
@@ -139,13 +139,13 @@ abbrev shelf : List Call → Setup
 shelf xs = record {
   segments = 3;
   slots = 3;
-  made = openSegment 3 3 (newVersion 0) 0 ++ copyEntries 3 3 0 0 (entry 1 [] ∷ entry 2 (1 ∷ []) ∷ entry 4 [] ∷ []);
+  made = open_segment 3 3 (new_version 0) 0 ++ copy_entries 3 3 0 0 (entry 1 [] ∷ entry 2 (1 ∷ []) ∷ entry 4 [] ∷ []);
   calls = xs;
 }
 
 -- blocks 2 and 3 fill the next one, so that one more put of 3 tidies the first, to segment 2
 abbrev filling : List Call
-filling = putEach (3 ∷ 2 ∷ 3 ∷ [])
+filling = put_each (3 ∷ 2 ∷ 3 ∷ [])
 
 abbrev compacting : Request
 compacting = put 3 (2 ∷ [])
@@ -155,30 +155,30 @@ compacted = shelf (filling ++ (whole compacting ∷ []))
 
 -- request #104: the first segment of two, with block 7, in this version, and these steps after that
 abbrev board : ℕ → ℕ → Version → List Step → Setup
-board N B ver xs = record { segments = N; slots = B; made = openSegment N B ver 0 ++ (copyEntries N B 0 0 (entry 7 (1 ∷ []) ∷ []) ++ xs); calls = [] }
+board N B ver xs = record { segments = N; slots = B; made = open_segment N B ver 0 ++ (copy_entries N B 0 0 (entry 7 (1 ∷ []) ∷ []) ++ xs); calls = [] }
 
 -- the tidying of it, to the owing mark, in this version
 abbrev owing : Version → List Step
-owing ver = copyOut 2 2 ver 0 1 (entry 7 (1 ∷ []) ∷ [])
+owing ver = copy_out 2 2 ver 0 1 (entry 7 (1 ∷ []) ∷ [])
 
 -- two of three segments in use, the first full, in these versions
 abbrev pair : Version → Version → Setup
-pair ver other = board 3 2 ver (copyEntries 3 2 0 1 (entry 8 [] ∷ []) ++ openSegment 3 2 other 1)
+pair ver other = board 3 2 ver (copy_entries 3 2 0 1 (entry 8 [] ∷ []) ++ open_segment 3 2 other 1)
 
 -- a chip of segments with two slots, whose first header has this number, total and bits
 abbrev aged : ℕ → ℕ → ℕ → List ℕ → List Call → Setup
-aged N n total bits xs = record { segments = N; slots = 2; made = openSegment N 2 (newVersion total) n ++ onPage (header_at N 2 n) (programs 32 bits); calls = xs }
+aged N n total bits xs = record { segments = N; slots = 2; made = open_segment N 2 (new_version total) n ++ on_page (header_at N 2 n) (programs 32 bits); calls = xs }
 
 -- of two segments, the first filled by block 7
 abbrev filled : ℕ → ℕ → List ℕ → List Call → Setup
 filled n total bits xs = aged 2 n total bits (sevens (1 ∷ 2 ∷ []) ++ xs)
 
 -- 21 bits cleared, so that one is left in each of three bytes; and all but one
-abbrev fewBits : List ℕ
-fewBits = 0x10 ∷ 0x01 ∷ 0x80 ∷ []
+abbrev few_bits : List ℕ
+few_bits = 0x10 ∷ 0x01 ∷ 0x80 ∷ []
 
-abbrev lastBit : List ℕ
-lastBit = 0x01 ∷ replicate 223 0
+abbrev last_bit : List ℕ
+last_bit = 0x01 ∷ replicate 223 0
 
 -- the third put, cut before the owing mark, and recoveries that are cut before they erase
 abbrev torn : List Call
@@ -189,16 +189,16 @@ counting zero = []
 counting (suc k) = call recover 1 ∷ counting k
 
 -- no bit
-abbrev noBits : List ℕ
-noBits = replicate 224 0
+abbrev no_bits : List ℕ
+no_bits = replicate 224 0
 
 -- three segments of two slots, where a put of block 4 tidies twice; it is cut, three recoveries are counted, and it is done
 abbrev fours : List Call
-fours = putEach (1 ∷ 2 ∷ 4 ∷ 4 ∷ [])
+fours = put_each (1 ∷ 2 ∷ 4 ∷ 4 ∷ [])
 
 -- a put whose writing is cut, and recovered
-abbrev cutPut : Request → ℕ → List Call
-cutPut r k = call r k ∷ whole recover ∷ []
+abbrev cut_put : Request → ℕ → List Call
+cut_put r k = call r k ∷ whole recover ∷ []
 
 abbrev twice : Setup
 twice = after 3 2 (fours ++ (call (put 4 (2 ∷ [])) 20 ∷ (counting 2 ++ (whole recover ∷ whole (put 4 (2 ∷ [])) ∷ []))))
@@ -214,7 +214,7 @@ examples =
     ∷ begins (and_then (board 4 15 version1 []) (whole format ∷ [])) 0
     (0x53 ∷ 0x4C ∷ 0x54 ∷ 0x02 ∷ 0x00 ∷ 0x3F ∷ 0x0F ∷ 0x04 ∷ 0x00 ∷ 0x00 ∷ 0x00 ∷ 0x00 ∷ 0xFF ∷ 0xFF ∷ 0xFF ∷ 0xFF ∷ 0xFF ∷ 0x00 ∷ 0x00 ∷ 0x00 ∷ 0x00 ∷ replicate 235 0xFF)
     -- 3: three full segments of fifteen slots, and the put that tidies the first to segment 3
-    ∷ begins (after 4 15 (putEach (up_from 1 44 ++ (1 ∷ 1 ∷ [])))) (3 * 16)
+    ∷ begins (after 4 15 (put_each (up_from 1 44 ++ (1 ∷ 1 ∷ [])))) (3 * 16)
     (0x53 ∷ 0x4C ∷ 0x54 ∷ 0x02 ∷ 0x00 ∷ 0x8F ∷ 0x0F ∷ 0x04 ∷ 0x03 ∷ 0x00 ∷ 0x00 ∷ 0x00 ∷ 0xFC ∷ 0xFF ∷ 0xFF ∷ 0xFF ∷ 0x00 ∷ 0x00 ∷ 0x00 ∷ 0x00 ∷ 0x00 ∷ replicate 235 0xFF)
     -- 4
     ∷ begins (after 4 15 (whole (put 7 (0x41 ∷ 0x31 ∷ [])) ∷ [])) 1 (0x3F ∷ 0x02 ∷ 0x07 ∷ 0x00 ∷ 0xFF ∷ 0xFF ∷ 0xFF ∷ 0xFF ∷ 0x41 ∷ 0x31 ∷ replicate 246 0xFF)
@@ -272,39 +272,39 @@ examples =
     ∷ answers (board 2 2 version1 []) (delete 7) 0 1 0
     ∷ answers (and_then (board 2 2 version1 []) (whole format ∷ [])) (seven 2) 0 6 0
     -- after 4 and 5: damaged, and unfinished in (a) to (d), where recovery is as before
-    ∷ answers (board 2 2 version1 (openSegment 2 2 version1 1)) (seven 2) 4 0 0
-    ∷ answers (board 2 2 version1 (onPage 3 (programs 5 (0xDF ∷ [])))) (seven 2) 5 0 0
-    ∷ answers (board 2 2 version1 (onPage 3 (programs 5 (0xDF ∷ [])))) recover 0 1 1
+    ∷ answers (board 2 2 version1 (open_segment 2 2 version1 1)) (seven 2) 4 0 0
+    ∷ answers (board 2 2 version1 (on_page 3 (programs 5 (0xDF ∷ [])))) (seven 2) 5 0 0
+    ∷ answers (board 2 2 version1 (on_page 3 (programs 5 (0xDF ∷ [])))) recover 0 1 1
     ∷ answers (board 2 2 version1 (owing version1)) (seven 2) 5 0 0
     ∷ answers (board 2 2 version1 (owing version1)) recover 0 2 1
-    ∷ answers (board 2 2 version1 (onPage 2 (programs 0 (0x7F ∷ [])))) recover 0 1 0
-    ∷ answers (board 2 2 version1 (copyEntries 2 2 0 1 (entry 7 (2 ∷ []) ∷ []))) recover 0 1 0
+    ∷ answers (board 2 2 version1 (on_page 2 (programs 0 (0x7F ∷ [])))) recover 0 1 0
+    ∷ answers (board 2 2 version1 (copy_entries 2 2 0 1 (entry 7 (2 ∷ []) ∷ []))) recover 0 1 0
     -- both versions are damaged, but for the one after the top in (b): the count is by the top's
     ∷ answers (pair version1 version1) (delete 7) 0 1 0
-    ∷ answers (pair (newVersion 0) (newVersion 0)) (delete 7) 0 1 0
-    ∷ answers (pair version1 (newVersion 0)) (delete 7) 4 0 0
-    ∷ answers (pair (newVersion 0) version1) (delete 7) 4 0 0
-    ∷ answers (board 2 2 version1 (owing (newVersion 0))) recover 0 3 1
-    ∷ answers (board 2 2 (newVersion 0) (owing version1)) recover 0 2 1
+    ∷ answers (pair (new_version 0) (new_version 0)) (delete 7) 0 1 0
+    ∷ answers (pair version1 (new_version 0)) (delete 7) 4 0 0
+    ∷ answers (pair (new_version 0) version1) (delete 7) 4 0 0
+    ∷ answers (board 2 2 version1 (owing (new_version 0))) recover 0 3 1
+    ∷ answers (board 2 2 (new_version 0) (owing version1)) recover 0 2 1
     -- a recovery clears a bit of the top's header before it erases: the first byte's highest one; after five such, byte 32 is 07
-    ∷ begins (filled 0 0 [] (torn ++ (whole recover ∷ []))) 0 (headerPage 2 2 (version2 0 (0x7F ∷ replicate 223 0xFF)) 0x3F 0 0xFF)
-    ∷ begins (filled 0 0 [] (torn ++ counting 5)) 0 (headerPage 2 2 (version2 0 (0x07 ∷ replicate 223 0xFF)) 0x3F 0 0xFF)
-    ∷ begins (filled 0 0 fewBits (torn ++ counting 2)) 0 (headerPage 2 2 (version2 0 (0x00 ∷ 0x00 ∷ 0x80 ∷ replicate 221 0xFF)) 0x3F 0 0xFF)
+    ∷ begins (filled 0 0 [] (torn ++ (whole recover ∷ []))) 0 (header_page 2 2 (version2 0 (0x7F ∷ replicate 223 0xFF)) 0x3F 0 0xFF)
+    ∷ begins (filled 0 0 [] (torn ++ counting 5)) 0 (header_page 2 2 (version2 0 (0x07 ∷ replicate 223 0xFF)) 0x3F 0 0xFF)
+    ∷ begins (filled 0 0 few_bits (torn ++ counting 2)) 0 (header_page 2 2 (version2 0 (0x00 ∷ 0x00 ∷ 0x80 ∷ replicate 221 0xFF)) 0x3F 0 0xFF)
     -- a new header carries total and bits on, with every bit set: of an opening, and of tidyings, the second of which does not add the bits again
-    ∷ begins (aged 3 0 300 fewBits (sevens (1 ∷ 2 ∷ 3 ∷ []))) 3 (headerPage 3 2 (newVersion 321) 0x3F 1 0xFF)
-    ∷ begins (filled 0 300 fewBits (whole (seven 3) ∷ [])) 3 (headerPage 2 2 (newVersion 321) 0x8F 1 0)
-    ∷ begins twice 6 (headerPage 3 2 (newVersion 3) 0x8F 2 0)
-    ∷ begins twice 0 (headerPage 3 2 (newVersion 3) 0x8F 3 1)
+    ∷ begins (aged 3 0 300 few_bits (sevens (1 ∷ 2 ∷ 3 ∷ []))) 3 (header_page 3 2 (new_version 321) 0x3F 1 0xFF)
+    ∷ begins (filled 0 300 few_bits (whole (seven 3) ∷ [])) 3 (header_page 2 2 (new_version 321) 0x8F 1 0)
+    ∷ begins twice 6 (header_page 3 2 (new_version 3) 0x8F 2 0)
+    ∷ begins twice 0 (header_page 3 2 (new_version 3) 0x8F 3 1)
     -- with no bit left recovery does not count, and a put that needs a new header answers 8
-    ∷ answers (filled 0 0 lastBit torn) recover 0 2 1
-    ∷ answers (filled 0 0 lastBit (torn ++ counting 1)) recover 0 1 1
-    ∷ answers (filled 0 0 lastBit (torn ++ (whole recover ∷ []))) (seven 3) 8 0 0
-    ∷ answers (aged 3 0 0 noBits (sevens (1 ∷ 2 ∷ []))) (seven 3) 8 0 0
+    ∷ answers (filled 0 0 last_bit torn) recover 0 2 1
+    ∷ answers (filled 0 0 last_bit (torn ++ counting 1)) recover 0 1 1
+    ∷ answers (filled 0 0 last_bit (torn ++ (whole recover ∷ []))) (seven 3) 8 0 0
+    ∷ answers (aged 3 0 0 no_bits (sevens (1 ∷ 2 ∷ []))) (seven 3) 8 0 0
     -- worn by the total, by total and bits, and by the number: the whole part of 199,999 by 2 is one less than the limit
     ∷ answers (filled 0 99999 [] []) (seven 3) 0 37 1
     ∷ answers (filled 0 99999 (0x7F ∷ []) []) (seven 3) 8 0 0
-    ∷ answers (filled 0 99978 fewBits []) (seven 3) 0 37 1
-    ∷ answers (filled 0 99979 fewBits []) (seven 3) 8 0 0
+    ∷ answers (filled 0 99978 few_bits []) (seven 3) 0 37 1
+    ∷ answers (filled 0 99979 few_bits []) (seven 3) 8 0 0
     ∷ answers (filled 199998 0 [] []) (seven 3) 0 37 1
     ∷ answers (filled 199998 1 [] []) (seven 3) 8 0 0
     ∷ answers (filled 199999 0 [] []) (seven 3) 8 0 0
@@ -312,12 +312,12 @@ examples =
     ∷ answers (aged 3 0 99998 [] fours) (put 4 (2 ∷ [])) 0 73 2
     ∷ answers (aged 3 0 99999 [] fours) (put 4 (2 ∷ [])) 8 0 0
     -- request #107: recovery leaves 5F in (c), of the torn slot, and 1F in (d), of the older one
-    ∷ begins (after 2 2 (sevens (1 ∷ []) ++ cutPut (seven 2) 3)) 2 (0x5F ∷ 0x01 ∷ 0x07 ∷ 0xFF ∷ [])
-    ∷ begins (after 2 2 (sevens (1 ∷ []) ++ cutPut (seven 2) 6)) 1 (0x1F ∷ 0x01 ∷ 0x07 ∷ 0x00 ∷ [])
+    ∷ begins (after 2 2 (sevens (1 ∷ []) ++ cut_put (seven 2) 3)) 2 (0x5F ∷ 0x01 ∷ 0x07 ∷ 0xFF ∷ [])
+    ∷ begins (after 2 2 (sevens (1 ∷ []) ++ cut_put (seven 2) 6)) 1 (0x1F ∷ 0x01 ∷ 0x07 ∷ 0x00 ∷ [])
     -- 5F counts for 8: the oldest segment has no other dead slot, and one more number would be one too many
-    ∷ answers (aged 3 0 99999 [] (putEach (1 ∷ []) ++ (cutPut (put 2 (1 ∷ [])) 3 ++ putEach (2 ∷ 3 ∷ [])))) (put 3 (2 ∷ [])) 0 37 1
+    ∷ answers (aged 3 0 99999 [] (put_each (1 ∷ []) ++ (cut_put (put 2 (1 ∷ [])) 3 ++ put_each (2 ∷ 3 ∷ [])))) (put 3 (2 ∷ [])) 0 37 1
     -- a put with room is never worn
-    ∷ answers (aged 2 0 0 noBits (sevens (1 ∷ []))) (seven 2) 0 7 0
+    ∷ answers (aged 2 0 0 no_bits (sevens (1 ∷ []))) (seven 2) 0 7 0
     ∷ answers (aged 2 0 99999 (0x7F ∷ []) (sevens (1 ∷ []))) (seven 2) 0 7 0
     -- request #105: an empty record from before is read, deleted, and rewritten, which opens a segment here
     ∷ reads (shelf []) 1 0 (1 * 256 + 8) 0

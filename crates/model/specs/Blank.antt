@@ -2,17 +2,17 @@
 -- Whether all are 255 is `Header.isBlank`.
 use Rattle.std.specs.Prelude.{ℕ, suc, ◌+◌, ◌/◌, cond, List, [], ◌∷◌, length}
 use Rattle.model.specs.Lists.{chunk}
-use Rattle.model.specs.Header.{isBlank}
+use Rattle.model.specs.Header.{is_blank}
 
 -- groups of eight bytes, from the first byte on; the last may be shorter
 unfoldable pub groups_of : List ℕ → List (List ℕ)
 groups_of s = chunk ((length s + 7) / 8) 8 s
 
 -- how many of some groups are looked at: the one that differs is, those after it are not
-unfoldable pub lookedAt : List (List ℕ) → ℕ
-lookedAt [] = 0
-lookedAt (g ∷ gs) = suc (cond (isBlank g) (lookedAt gs) 0)
+unfoldable pub looked_at : List (List ℕ) → ℕ
+looked_at [] = 0
+looked_at (g ∷ gs) = suc (cond (is_blank g) (looked_at gs) 0)
 
 -- the count of groups looked at
-unfoldable pub blankGroups : List ℕ → ℕ
-blankGroups s = lookedAt (groups_of s)
+unfoldable pub blank_groups : List ℕ → ℕ
+blank_groups s = looked_at (groups_of s)

@@ -2,7 +2,7 @@
 use Rattle.std.specs.Prelude.{ℕ, ◌+◌, max, ◌≢◌, Bool, false, cond, ◌||◌, List, [], ◌∷◌, ◌++◌, length, eqb}
 use Rattle.model.specs.Lists.{count}
 use Rattle.model.specs.Chip.{Image, Step, program, erase, Bytes}
-use Rattle.model.specs.Answers.{Request, format, put, delete, read, readOr, recover, workOf, outcomeOf}
+use Rattle.model.specs.Answers.{Request, format, put, delete, read, read_or, recover, work_of, outcome_of}
 
 -- a request with its allowance of steps
 pub record Call : Type 0 where
@@ -12,15 +12,15 @@ pub record Call : Type 0 where
 -- the image as the calls leave it, each working on what the one before left
 unfoldable pub play : ℕ → ℕ → Image → List Call → Image
 play N B s [] = s
-play N B s (x ∷ xs) = play N B (outcomeOf N B s x.allowance x.request).image xs
+play N B s (x ∷ xs) = play N B (outcome_of N B s x.allowance x.request).image xs
 
 -- ---- what is observed of a call: its answer and its erases
 
 -- the erase steps of a list, each with the index of its segment
-unfoldable pub erasesIn : List Step → List ℕ
-erasesIn [] = []
-erasesIn (program at v ∷ xs) = erasesIn xs
-erasesIn (erase i ∷ xs) = i ∷ erasesIn xs
+unfoldable pub erases_in : List Step → List ℕ
+erases_in [] = []
+erases_in (program at v ∷ xs) = erases_in xs
+erases_in (erase i ∷ xs) = i ∷ erases_in xs
 
 pub record Observed : Type 0 where
   pub request : Request
@@ -30,13 +30,13 @@ pub record Observed : Type 0 where
 unfoldable pub observe : ℕ → ℕ → Image → Call → Observed
 observe N B s x = record {
   request = x.request;
-  code = (outcomeOf N B s x.allowance x.request).code;
-  erases = erasesIn (workOf N B s x.request).steps;
+  code = (outcome_of N B s x.allowance x.request).code;
+  erases = erases_in (work_of N B s x.request).steps;
 }
 
 unfoldable pub observed : ℕ → ℕ → Image → List Call → List Observed
 observed N B s [] = []
-observed N B s (x ∷ xs) = observe N B s x ∷ observed N B (outcomeOf N B s x.allowance x.request).image xs
+observed N B s (x ∷ xs) = observe N B s x ∷ observed N B (outcome_of N B s x.allowance x.request).image xs
 
 -- put, delete, read of either form or recover, with any arguments; contents are bytes
 abbrev pub InSequence : Request → Type 0
@@ -44,7 +44,7 @@ InSequence format = ⊥
 InSequence (put b c) = Bytes c
 InSequence (delete b) = Unit {0}
 InSequence (read b) = Unit {0}
-InSequence (readOr b f) = Unit {0}
+InSequence (read_or b f) = Unit {0}
 InSequence recover = Unit {0}
 
 -- a sequence: no format, and no cut, that is, none answers 9
@@ -67,13 +67,13 @@ unfoldable pub inserted : ℕ → List ℕ → List ℕ
 inserted b xs = b ∷ removed b xs
 
 -- after a request that answered 0
-unfoldable pub storedAfter : Request → List ℕ → List ℕ
-storedAfter format xs = []
-storedAfter (put b c) xs = inserted b xs
-storedAfter (delete b) xs = removed b xs
-storedAfter (read b) xs = xs
-storedAfter (readOr b f) xs = xs
-storedAfter recover xs = xs
+unfoldable pub stored_after : Request → List ℕ → List ℕ
+stored_after format xs = []
+stored_after (put b c) xs = inserted b xs
+stored_after (delete b) xs = removed b xs
+stored_after (read b) xs = xs
+stored_after (read_or b f) xs = xs
+stored_after recover xs = xs
 
 -- 1 for a rewrite, which is a put of a block stored just before, or a delete, if it answered 0
 unfoldable pub replaces : Request → List ℕ → ℕ
@@ -81,7 +81,7 @@ replaces format xs = 0
 replaces (put b c) xs = cond (among b xs) 1 0
 replaces (delete b) xs = 1
 replaces (read b) xs = 0
-replaces (readOr b f) xs = 0
+replaces (read_or b f) xs = 0
 replaces recover xs = 0
 
 pub record Ledger : Type 0 where
@@ -99,7 +99,7 @@ start = record { stored = []; largest = 0; replaced = 0; erased = [] }
 
 unfoldable pub noted : Observed → Ledger → Ledger
 noted o t =
-    let stored = cond (eqb o.code 0) (storedAfter o.request t.stored) t.stored in record {
+    let stored = cond (eqb o.code 0) (stored_after o.request t.stored) t.stored in record {
       stored = stored;
       largest = max t.largest (length stored);
       replaced = t.replaced + cond (eqb o.code 0) (replaces o.request t.stored) 0;
@@ -111,9 +111,9 @@ ledger [] t = t
 ledger (o ∷ os) t = ledger os (noted o t)
 
 -- E
-unfoldable pub eraseCount : Ledger → ℕ
-eraseCount t = length t.erased
+unfoldable pub erase_count : Ledger → ℕ
+erase_count t = length t.erased
 
 -- the erases of the segment at an index
-unfoldable pub erasesOf : ℕ → Ledger → ℕ
-erasesOf i t = count (λ x. eqb i x) t.erased
+unfoldable pub erases_of : ℕ → Ledger → ℕ
+erases_of i t = count (λ x. eqb i x) t.erased

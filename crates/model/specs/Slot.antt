@@ -2,40 +2,40 @@
 use Rattle.std.specs.Prelude.{ℕ, ◌+◌, ◌-◌, ◌*◌, ◌/◌, ◌%◌, Bool, true, false, cond, ◌&&◌, not, List, [], ◌∷◌, ◌++◌, length, get_or, take, drop, ltb, leb, eqb}
 use Rattle.model.specs.Lists.{same}
 use Rattle.model.specs.Chip.{Page, erased}
-use Rattle.model.specs.Header.{isBlank}
+use Rattle.model.specs.Header.{is_blank}
 use Rattle.model.specs.declared.SlotKind.{SlotKind}
 use Rattle.model.specs.declared.SlotKind.TheVariants.{Empty, Torn, Live, Dead, Cut, Wrong}
 
 -- ---- the page
 
 -- the most bytes of contents
-unfoldable pub mostContents : ℕ
-mostContents = 248
+unfoldable pub most_contents : ℕ
+most_contents = 248
 
 -- block numbers are 1 to 65,534
-unfoldable pub numberOk : ℕ → Bool
-numberOk b = ltb 0 b && ltb b 65535
+unfoldable pub number_ok : ℕ → Bool
+number_ok b = ltb 0 b && ltb b 65535
 
 -- status
-abbrev pub writeBegun : ℕ
-writeBegun = 0x7F
+abbrev pub write_begun : ℕ
+write_begun = 0x7F
 
 abbrev pub written : ℕ
 written = 0x3F
 
 -- status, length, block number low byte first, four bytes 255, the contents, 255 to the end
-unfoldable pub slotPage : ℕ → List ℕ → Page
-slotPage b c = written ∷ length c ∷ b % 256 ∷ b / 256 ∷ 255 ∷ 255 ∷ 255 ∷ 255 ∷ (c ++ erased (mostContents - length c))
+unfoldable pub slot_page : ℕ → List ℕ → Page
+slot_page b c = written ∷ length c ∷ b % 256 ∷ b / 256 ∷ 255 ∷ 255 ∷ 255 ∷ 255 ∷ (c ++ erased (most_contents - length c))
 
-unfoldable pub pageBlock : Page → ℕ
-pageBlock p = get_or p 2 0 + 256 * get_or p 3 0
+unfoldable pub page_block : Page → ℕ
+page_block p = get_or p 2 0 + 256 * get_or p 3 0
 
-unfoldable pub pageContents : Page → List ℕ
-pageContents p = take (get_or p 1 0) (drop 8 p)
+unfoldable pub page_contents : Page → List ℕ
+page_contents p = take (get_or p 1 0) (drop 8 p)
 
 -- the other bytes of a live slot fit
-unfoldable pub slotFits : Page → Bool
-slotFits p = leb (get_or p 1 0) mostContents && (numberOk (pageBlock p) && same p (slotPage (pageBlock p) (pageContents p)))
+unfoldable pub slot_fits : Page → Bool
+slot_fits p = leb (get_or p 1 0) most_contents && (number_ok (page_block p) && same p (slot_page (page_block p) (page_contents p)))
 
 -- ---- kinds
 
@@ -46,11 +46,11 @@ pub data Slot : Type 0 where
 
 unfoldable pub slot_of : Page → Slot
 slot_of p = let st = get_or p 0 0 in
-    cond (eqb st written) (cond (slotFits p) (live (pageBlock p) (pageContents p)) wrong)
-    (cond (eqb st writeBegun) torn
+    cond (eqb st written) (cond (slot_fits p) (live (page_block p) (page_contents p)) wrong)
+    (cond (eqb st write_begun) torn
     (cond (eqb st 0x1F) dead
     (cond (eqb st 0x5F) cut
-    (cond (isBlank p) empty wrong))))
+    (cond (is_blank p) empty wrong))))
 
 -- what the code says of a slot: the kind, with the length and number of a live one
 unfoldable pub kind_of : Slot → SlotKind
@@ -71,42 +71,42 @@ is_empty cut = false
 is_empty wrong = false
 is_empty (live b c) = false
 
-unfoldable pub isTorn : Slot → Bool
-isTorn empty = false
-isTorn torn = true
-isTorn dead = false
-isTorn cut = false
-isTorn wrong = false
-isTorn (live b c) = false
+unfoldable pub is_torn : Slot → Bool
+is_torn empty = false
+is_torn torn = true
+is_torn dead = false
+is_torn cut = false
+is_torn wrong = false
+is_torn (live b c) = false
 
 -- the papers' dead: replaced, deleted, or cut
-unfoldable pub isDead : Slot → Bool
-isDead empty = false
-isDead torn = false
-isDead dead = true
-isDead cut = true
-isDead wrong = false
-isDead (live b c) = false
+unfoldable pub is_dead : Slot → Bool
+is_dead empty = false
+is_dead torn = false
+is_dead dead = true
+is_dead cut = true
+is_dead wrong = false
+is_dead (live b c) = false
 
-unfoldable pub isCut : Slot → Bool
-isCut empty = false
-isCut torn = false
-isCut dead = false
-isCut cut = true
-isCut wrong = false
-isCut (live b c) = false
+unfoldable pub is_cut : Slot → Bool
+is_cut empty = false
+is_cut torn = false
+is_cut dead = false
+is_cut cut = true
+is_cut wrong = false
+is_cut (live b c) = false
 
 -- replaced or deleted
-unfoldable pub isReplaced : Slot → Bool
-isReplaced k = isDead k && not (isCut k)
+unfoldable pub is_replaced : Slot → Bool
+is_replaced k = is_dead k && not (is_cut k)
 
-unfoldable pub isWrong : Slot → Bool
-isWrong empty = false
-isWrong torn = false
-isWrong dead = false
-isWrong cut = false
-isWrong wrong = true
-isWrong (live b c) = false
+unfoldable pub is_wrong : Slot → Bool
+is_wrong empty = false
+is_wrong torn = false
+is_wrong dead = false
+is_wrong cut = false
+is_wrong wrong = true
+is_wrong (live b c) = false
 
 -- a block number and its contents
 pub record Entry : Type 0 where

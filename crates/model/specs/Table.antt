@@ -3,7 +3,7 @@ use Rattle.std.specs.Prelude.{ℕ, ◌≡◌, cond, ◌&&◌, List, [], ◌∷�
 use Rattle.model.specs.Lists.{count}
 use Rattle.model.specs.Chip.{Image}
 use Rattle.model.specs.Slot.{Entry}
-use Rattle.model.specs.State.{entriesIn, view}
+use Rattle.model.specs.State.{entries_in, view}
 
 abbrev pub Table : Type 0
 Table = List Entry
@@ -34,14 +34,14 @@ abbrev pub Agree : Table → Table → Type 0
 Agree t u = (b : ℕ) → lookup b t ≡ lookup b u
 
 -- the contents found, or none
-unfoldable pub contentsFound : Found → List ℕ
-contentsFound absent = []
-contentsFound (present c) = c
+unfoldable pub contents_found : Found → List ℕ
+contents_found absent = []
+contents_found (present c) = c
 
 -- request #110: how many of its blocks have a number from first to last
-unfoldable pub liveBetween : ℕ → ℕ → Table → ℕ
-liveBetween first last t = count (λ e. leb first e.block && leb e.block last) t
+unfoldable pub live_between : ℕ → ℕ → Table → ℕ
+live_between first last t = count (λ e. leb first e.block && leb e.block last) t
 
 -- the table that a clean image holds
 unfoldable pub table_of : ℕ → ℕ → Image → Table
-table_of N B s = entriesIn (view N B s)
+table_of N B s = entries_in (view N B s)

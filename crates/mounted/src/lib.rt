@@ -6,7 +6,7 @@
 ghost use Rattle.std.specs.Prelude.{◌≡◌, length};
 ghost use Rattle.model.specs.Answers.{performed};
 ghost use Rattle.model.specs.Mounted.{MountedPut, MountedDelete};
-ghost use Rattle.mounted.specs.Puts.{noneFound, Puts};
+ghost use Rattle.mounted.specs.Puts.{none_found, Puts};
 ghost use Rattle.mounted.specs.Marks.{EntryInside, MarkedEntry};
 
 use find::Found;
@@ -16,7 +16,7 @@ use places::Entry;
 
 // Whether a block has no slot.
 fn is_absent(old: Found) -> bool
-    ensures { result ≡ noneFound old }
+    ensures { result ≡ none_found old }
 {
     let Found::Nothing = old else {
         return false;

@@ -1,12 +1,12 @@
 // A put decided before its first step, on any image of a right size, from as few bytes as can be (request #102): whether it
 // is refused, and otherwise how room is made.
 ghost use Rattle.std.specs.Prelude.{◌≡◌, true, ◌+◌, ◌-◌, ◌≤◌, length};
-ghost use Rattle.model.specs.Chip.{mostSegments, rightSize};
-ghost use Rattle.model.specs.Header.{isFormer, headerVersion};
+ghost use Rattle.model.specs.Chip.{most_segments, right_size};
+ghost use Rattle.model.specs.Header.{is_former, header_version};
 ghost use Rattle.flash.specs.Pages.{Sized};
-ghost use Rattle.tally.specs.Seen.{headerIn};
+ghost use Rattle.tally.specs.Seen.{header_in};
 ghost use Rattle.room.specs.Room.{Plannable};
-ghost use Rattle.mounted_plan.specs.Decided.{fullSeen, planSeen, headerDecision, Decides};
+ghost use Rattle.mounted_plan.specs.Decided.{full_seen, plan_seen, header_decision, Decides};
 
 use model::{Answer, SegmentNumber};
 use ring::Ring;
@@ -21,7 +21,7 @@ pub enum Decision {
 
 // The number of the top.
 fn top_number(first: SegmentNumber, used: usize) -> SegmentNumber
-    requires { (1 ≤ used) × (used ≤ mostSegments) × (first.0 + used ≤ 4294967296) }
+    requires { (1 ≤ used) × (used ≤ most_segments) × (first.0 + used ≤ 4294967296) }
     ensures { result.0 ≡ first.0 + used - 1 }
 {
     SegmentNumber((first.0 as usize + used - 1) as u32)
@@ -30,7 +30,7 @@ fn top_number(first: SegmentNumber, used: usize) -> SegmentNumber
 // Whether the header of the segment with a number has version 1: one byte tells, and the tally is not counted.
 fn is_former_in(image: &[u8], segments: usize, slots: usize, number: SegmentNumber) -> bool
     requires { Sized segments slots (length image.now) }
-    ensures { result ≡ isFormer (headerVersion (headerIn segments slots number.0 image.now)) }
+    ensures { result ≡ is_former (header_version (header_in segments slots number.0 image.now)) }
 {
     let at = header::header_place(segments, slots, number);
     let end = at + 256;
@@ -41,7 +41,7 @@ fn is_former_in(image: &[u8], segments: usize, slots: usize, number: SegmentNumb
 // than may be, or with two empty slots in the top, that cannot be, and no status is looked at.
 fn is_full(image: &[u8], segments: usize, slots: usize, plan: Plan, absent: bool) -> bool
     requires { Plannable segments slots plan (length image.now) × (plan.slot ≤ slots) }
-    ensures { result ≡ fullSeen segments slots absent plan image.now }
+    ensures { result ≡ full_seen segments slots absent plan image.now }
 {
     if !absent {
         return false;
@@ -60,7 +60,7 @@ fn is_full(image: &[u8], segments: usize, slots: usize, plan: Plan, absent: bool
 // A plan with its compactions counted, where there will be some.
 fn count_compactions(image: &[u8], segments: usize, slots: usize, plan: Plan) -> Plan
     requires { Plannable segments slots plan (length image.now) }
-    ensures { result ≡ planSeen segments slots plan image.now }
+    ensures { result ≡ plan_seen segments slots plan image.now }
 {
     let first = plan.first;
     let used = plan.used;
@@ -79,8 +79,8 @@ fn count_compactions(image: &[u8], segments: usize, slots: usize, plan: Plan) ->
 
 // A put that needs a new header: only now the top's tally is counted.
 fn decide_header(image: &[u8], segments: usize, slots: usize, plan: Plan) -> Decision
-    requires { (rightSize segments slots image.now ≡ true) × Plannable segments slots plan (length image.now) }
-    ensures { result ≡ headerDecision segments slots plan image.now }
+    requires { (right_size segments slots image.now ≡ true) × Plannable segments slots plan (length image.now) }
+    ensures { result ≡ header_decision segments slots plan image.now }
 {
     let counted = count_compactions(image, segments, slots, plan);
     let top = top_number(plan.first, plan.used);
@@ -98,7 +98,7 @@ fn decide_header(image: &[u8], segments: usize, slots: usize, plan: Plan) -> Dec
 
 // Decides a put of a block that has no slot yet (absent), or has one.
 pub fn decide(image: &[u8], segments: usize, slots: usize, absent: bool) -> Decision
-    requires { rightSize segments slots image.now ≡ true }
+    requires { right_size segments slots image.now ≡ true }
     ensures { Decides segments slots absent image.now result }
 {
     let ring = ring::see_ring(image, segments, slots);

@@ -1,10 +1,10 @@
 // A mounted put performed (request #102): room made by a plan, the table mended where compaction has moved blocks, and the
 // slot written. It holds on any image of the plan's length, with any table of places that is long enough.
 ghost use Rattle.std.specs.Prelude.{◌≡◌, ◌≤◌, length, get_or};
-ghost use Rattle.model.specs.Mounted.{leastPlaces};
-ghost use Rattle.places.specs.Places.{entrySeen};
+ghost use Rattle.model.specs.Mounted.{least_places};
+ghost use Rattle.places.specs.Places.{entry_seen};
 ghost use Rattle.room.specs.Room.{Plannable};
-ghost use Rattle.mounted_write.specs.Continuing.{entryFor};
+ghost use Rattle.mounted_write.specs.Continuing.{entry_for};
 ghost use Rattle.mounted_put.specs.Performing.{Performs};
 
 use find::Found;
@@ -23,7 +23,7 @@ fn perform_moving(
     contents: &[u8],
     budget: u64,
 ) -> Performed
-    requires { Plannable segments slots plan (length image.old) × (leastPlaces ≤ length places.old) × (length contents.now ≤ 248) }
+    requires { Plannable segments slots plan (length image.old) × (least_places ≤ length places.old) × (length contents.now ≤ 248) }
     ensures { Performs segments slots plan total block.0 contents.now budget result image.old image.new places.old places.new }
 {
     let room = room::make_room(image, segments, slots, plan, total, budget);
@@ -50,7 +50,7 @@ pub fn perform(
     contents: &[u8],
     budget: u64,
 ) -> Performed
-    requires { Plannable segments slots plan (length image.old) × (leastPlaces ≤ length places.old) × (length contents.now ≤ 248) × (entrySeen slots image.old (get_or places.old block.0 0) ≡ entryFor old) }
+    requires { Plannable segments slots plan (length image.old) × (least_places ≤ length places.old) × (length contents.now ≤ 248) × (entry_seen slots image.old (get_or places.old block.0 0) ≡ entry_for old) }
     ensures { Performs segments slots plan total block.0 contents.now budget result image.old image.new places.old places.new }
 {
     let first = plan.first;

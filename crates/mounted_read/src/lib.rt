@@ -1,7 +1,7 @@
 // The mounted form of read (request #102), and what refuses every mounted call. Nothing is required of a caller.
 ghost use Rattle.std.specs.Prelude.{◌≡◌};
 ghost use Rattle.model.specs.Answers.{code_of, located};
-ghost use Rattle.model.specs.Mounted.{mountedRefusal, MountedRead};
+ghost use Rattle.model.specs.Mounted.{mounted_refusal, MountedRead};
 
 use model::{Answer, BlockNumber, Located};
 use places::{Entry, LEAST_PLACES};
@@ -15,7 +15,7 @@ pub fn refusal(
     block: BlockNumber,
     taken: bool,
 ) -> Answer
-    ensures { code_of result ≡ mountedRefusal segments slots image.now places.now block.0 taken }
+    ensures { code_of result ≡ mounted_refusal segments slots image.now places.now block.0 taken }
 {
     if !request::right_size(image.len(), segments, slots) {
         return Answer::Size;

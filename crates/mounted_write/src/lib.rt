@@ -3,12 +3,12 @@
 ghost use Rattle.std.specs.Prelude.{◌≡◌, ◌+◌, ◌-◌, ◌*◌, ◌≤◌, length};
 ghost use Rattle.model.specs.Steps.{slot_at};
 ghost use Rattle.model.specs.Answers.{code_of};
-ghost use Rattle.model.specs.Mounted.{leastPlaces, unusable};
+ghost use Rattle.model.specs.Mounted.{least_places, unusable};
 ghost use Rattle.flash.specs.Pages.{Sized};
 ghost use Rattle.request.specs.Request.{Finished};
-ghost use Rattle.places.specs.Places.{enteredFrom, noted};
+ghost use Rattle.places.specs.Places.{entered_from, noted};
 ghost use Rattle.put.specs.Writing.{Placed, Wrote};
-ghost use Rattle.mounted_write.specs.Continuing.{RoomMade, foundFor, Continued};
+ghost use Rattle.mounted_write.specs.Continuing.{RoomMade, found_for, Continued};
 
 use find::Found;
 use model::{BlockNumber, Performed, SegmentNumber};
@@ -17,7 +17,7 @@ use room::{Plan, Room};
 
 // Steps were taken, and no more are: the table is not usable, and the answer is 9.
 pub fn stop(places: &mut [u32], budget: u64, left: u64) -> Performed
-    requires { (leastPlaces ≤ length places.old) × (left ≤ budget) }
+    requires { (least_places ≤ length places.old) × (left ≤ budget) }
     ensures { Finished budget left 0 1 result × (places.new ≡ unusable places.old) }
 {
     places[0] = 0;
@@ -34,8 +34,8 @@ pub fn enter_new(
     plan: Plan,
     room: Room,
 )
-    requires { Sized segments slots (length image.now) × (leastPlaces ≤ length places.old) × (plan.first.0 + plan.used ≤ room.first.0 + room.used) × (room.first.0 + room.used ≤ 4294967295) }
-    ensures { places.new ≡ enteredFrom segments slots image.now (room.first.0 + room.used - (plan.first.0 + plan.used)) (plan.first.0 + plan.used) places.old }
+    requires { Sized segments slots (length image.now) × (least_places ≤ length places.old) × (plan.first.0 + plan.used ≤ room.first.0 + room.used) × (room.first.0 + room.used ≤ 4294967295) }
+    ensures { places.new ≡ entered_from segments slots image.now (room.first.0 + room.used - (plan.first.0 + plan.used)) (plan.first.0 + plan.used) places.old }
 {
     let next = plan.first.0 as usize + plan.used;
     let count = room.first.0 as usize + room.used - next;
@@ -61,7 +61,7 @@ pub fn write_noted(
     contents: &[u8],
     budget: u64,
 ) -> Performed
-    requires { Placed segments slots room old contents.now budget (length image.old) × (leastPlaces ≤ length places.old) }
+    requires { Placed segments slots room old contents.now budget (length image.old) × (least_places ≤ length places.old) }
     ensures { Wrote segments slots room old block.0 contents.now budget result image.old image.new × (places.new ≡ noted places.old block.0 (slot_at segments slots (room.first.0 + room.used - 1) room.slot * 256) (code_of result.answer)) }
 {
     let done = put::write_block(image, segments, slots, room, old, block, contents, budget);
@@ -74,7 +74,7 @@ pub fn write_noted(
 
 // The slot that an entry tells of, if any.
 pub fn old_slot(entry: Entry) -> Found
-    ensures { result ≡ foundFor entry }
+    ensures { result ≡ found_for entry }
 {
     match entry {
         Entry::At(place, length) => Found::At(place, length),
@@ -95,7 +95,7 @@ pub fn write_found(
     contents: &[u8],
     budget: u64,
 ) -> Performed
-    requires { RoomMade segments slots room contents.now budget (length image.old) × (leastPlaces ≤ length places.old) }
+    requires { RoomMade segments slots room contents.now budget (length image.old) × (least_places ≤ length places.old) }
     ensures { Continued segments slots room block.0 contents.now budget result image.old image.new places.old places.new }
 {
     let left = room.left;

@@ -1,6 +1,6 @@
 // The mount (request #102): a table of places, lent by the caller, filled from a clean image. Nothing is required of a caller.
 ghost use Rattle.std.specs.Prelude.{◌≡◌};
-ghost use Rattle.model.specs.Mounted.{mountedAs, mountOutcome};
+ghost use Rattle.model.specs.Mounted.{mounted_as, mount_outcome};
 
 use model::Answer;
 use places::LEAST_PLACES;
@@ -8,7 +8,7 @@ use scan::Surveyed;
 
 // Fills a table of places from a clean image.
 pub fn mount(image: &[u8], segments: usize, slots: usize, places: &mut [u32]) -> Answer
-    ensures { mountedAs result places.new ≡ mountOutcome segments slots image.now places.old }
+    ensures { mounted_as result places.new ≡ mount_outcome segments slots image.now places.old }
 {
     if !request::right_size(image.len(), segments, slots) {
         return Answer::Size;

@@ -1,31 +1,31 @@
 -- Moves on small chips, computed: what the definitions give, and so which wrong ones they are not.
 use Rattle.std.specs.Prelude.{ℕ, ◌≡◌, refl, true, List, [], ◌∷◌, ◌++◌, replicate}
 use Rattle.model.specs.Lists.{same}
-use Rattle.model.specs.Chip.{Image, Step, program, rightSize, pagesOf, imageLength, withSegment, step, run}
-use Rattle.model.specs.Header.{version1, newVersion}
-use Rattle.model.specs.State.{segmentsOf, State, clean, state, view}
-use Rattle.model.specs.Steps.{onPage, slot_at, writeSlot, markDead, openSegment, eraseFirst}
+use Rattle.model.specs.Chip.{Image, Step, program, right_size, pages_of, image_length, with_segment, step, run}
+use Rattle.model.specs.Header.{version1, new_version}
+use Rattle.model.specs.State.{segments_of, State, clean, state, view}
+use Rattle.model.specs.Steps.{on_page, slot_at, write_slot, mark_dead, open_segment, erase_first}
 use Rattle.model.specs.Table.{Table, table_of}
 use Rattle.model.specs.Answers.{Outcome}
 use Rattle.model.specs.Laws.Bench.{evaluate}
-use Rattle.moves.specs.Moves.{insert, byNumber, putEach, freshSteps, freshWork, moveRefusals, moveWork, moveOutcome}
+use Rattle.moves.specs.Moves.{insert, by_number, put_each, fresh_steps, fresh_work, move_refusals, move_work, move_outcome}
 
 -- ---- sources
 
 abbrev slot : ℕ → ℕ → ℕ → ℕ → ℕ → List ℕ → List Step
-slot N B n j b c = onPage (slot_at N B n j) (writeSlot b c)
+slot N B n j b c = on_page (slot_at N B n j) (write_slot b c)
 
 -- blocks 9, 4, which is empty, and 300, in that order in two segments; a chip of 3 segments with 2 slots
 unfoldable pub first : Image
-first = run 2 (eraseFirst 3 ++ (openSegment 3 2 (newVersion 7) 0 ++ (slot 3 2 0 0 9 (65 ∷ []) ++ (slot 3 2 0 1 4 [] ++ (openSegment 3 2 (newVersion 7) 1 ++ slot 3 2 1 0 300 (66 ∷ 67 ∷ [])))))) (replicate 2304 0)
+first = run 2 (erase_first 3 ++ (open_segment 3 2 (new_version 7) 0 ++ (slot 3 2 0 0 9 (65 ∷ []) ++ (slot 3 2 0 1 4 [] ++ (open_segment 3 2 (new_version 7) 1 ++ slot 3 2 1 0 300 (66 ∷ 67 ∷ [])))))) (replicate 2304 0)
 
 -- the same blocks in another order on a board of version 1 with 4 segments of 2 slots, numbers 3 to 5 so that the ring has wrapped, with a dead slot
 unfoldable pub second : Image
-second = run 2 (eraseFirst 4 ++ (openSegment 4 2 version1 3 ++ (slot 4 2 3 0 300 (66 ∷ 67 ∷ []) ++ (slot 4 2 3 1 9 (64 ∷ []) ++ (openSegment 4 2 version1 4 ++ (slot 4 2 4 0 4 [] ++ (slot 4 2 4 1 9 (65 ∷ []) ++ onPage (slot_at 4 2 3 1) markDead))))))) (replicate 3072 0)
+second = run 2 (erase_first 4 ++ (open_segment 4 2 version1 3 ++ (slot 4 2 3 0 300 (66 ∷ 67 ∷ []) ++ (slot 4 2 3 1 9 (64 ∷ []) ++ (open_segment 4 2 version1 4 ++ (slot 4 2 4 0 4 [] ++ (slot 4 2 4 1 9 (65 ∷ []) ++ on_page (slot_at 4 2 3 1) mark_dead))))))) (replicate 3072 0)
 
 -- what comes of a move to a chip that held zeros
 abbrev moves : ℕ → ℕ → Image → ℕ → ℕ → ℕ → Outcome
-moves N B s M D allowance = moveOutcome N B s M D (replicate (imageLength M D) 0) allowance
+moves N B s M D allowance = move_outcome N B s M D (replicate (image_length M D) 0) allowance
 
 pub record Result : Type 0 where
   pub code : ℕ
@@ -41,22 +41,22 @@ blocks = record { block = 4; contents = [] } ∷ record { block = 9; contents = 
 
 -- every definition unfolds where this name does
 unfoldable computes : ℕ
-unfolding evaluate first second rightSize pagesOf withSegment step run segmentsOf state view table_of insert byNumber putEach freshSteps freshWork moveRefusals moveWork moveOutcome
+unfolding evaluate first second right_size pages_of with_segment step run segments_of state view table_of insert by_number put_each fresh_steps fresh_work move_refusals move_work move_outcome
 computes = 0
 
 -- three blocks fill C = 3, in one segment: 2 erases, 21 and 18 steps; empty records are carried
-pub just-fits : result_of 2 4 (moves 3 2 first 2 4 1000) ≡ record { code = 0; count = 41; state = clean; table = blocks }
+pub just_fits : result_of 2 4 (moves 3 2 first 2 4 1000) ≡ record { code = 0; count = 41; state = clean; table = blocks }
 unfolding computes
-just-fits = refl
+just_fits = refl
 
 -- with two slots to a segment the third block opens another, and an allowance of one step less is a cut
-two-segments : result_of 3 2 (moves 3 2 first 3 2 63) ≡ record { code = 0; count = 63; state = clean; table = blocks }
+two_segments : result_of 3 2 (moves 3 2 first 3 2 63) ≡ record { code = 0; count = 63; state = clean; table = blocks }
 unfolding computes
-two-segments = refl
+two_segments = refl
 
-one-short : ((moves 3 2 first 3 2 62).code ≡ 9) × ((moves 3 2 first 3 2 62).count ≡ 62) × ((moves 3 2 first 3 2 0).count ≡ 0)
+one_short : ((moves 3 2 first 3 2 62).code ≡ 9) × ((moves 3 2 first 3 2 62).count ≡ 62) × ((moves 3 2 first 3 2 0).count ≡ 0)
 unfolding computes
-one-short = (refl, refl, refl)
+one_short = (refl, refl, refl)
 
 -- C = 2 takes no three blocks, and nothing is erased
 too_small : moves 3 2 first 2 3 1000 ≡ record { code = 7; count = 0; image = replicate 2048 0 }
@@ -70,7 +70,7 @@ same_bytes = refl
 
 -- 1 for either image, 4 and 5 for the source
 wrong : List ℕ
-wrong = (moves 4 2 first 3 2 1000).code ∷ (moveOutcome 3 2 first 3 2 (replicate 2303 0) 1000).code ∷ (moves 3 2 (replicate 2304 0) 3 2 1000).code
+wrong = (moves 4 2 first 3 2 1000).code ∷ (move_outcome 3 2 first 3 2 (replicate 2303 0) 1000).code ∷ (moves 3 2 (replicate 2304 0) 3 2 1000).code
     ∷ (moves 3 2 (step 2 (program 1280 0x7F) first) 3 2 1000).code ∷ []
 
 refused : wrong ≡ 1 ∷ 1 ∷ 4 ∷ 5 ∷ []

@@ -5,37 +5,37 @@ use Rattle.std.proofs.Math.Path.{refl}
 use Rattle.std.proofs.Common.{sym, ap, ◌∙◌, subst, true≢false, arith, ltb-true, eqb-true, eq-eqb, le-leb, ne_eqb}
 use Rattle.std.proofs.Math.Bool.{and-eq-true_iff}
 use Rattle.std.proofs.lemmas.Bool.{eqb-false, lt-leb, not-true}
-use Rattle.model.specs.Slot.{Entry, numberOk}
+use Rattle.model.specs.Slot.{Entry, number_ok}
 use Rattle.model.specs.State.{holds, distinct, copies}
 use Rattle.model.specs.Table.{Table, Found, absent, present, lookup, Agree}
 use Rattle.model.specs.Laws.Lists.{and_left}
-use Rattle.model.specs.Laws.SlotPage.{number-below}
+use Rattle.model.specs.Laws.SlotPage.{number_below}
 use Rattle.model.specs.Laws.CopyOut.{Valids}
-use Rattle.model.specs.Laws.Tables.{copies-cons, copies-distinct, distinct-copies, lookup_absent, agree-holds}
-use Rattle.moves.specs.Moves.{insert, byNumber}
+use Rattle.model.specs.Laws.Tables.{copies_cons, copies_distinct, distinct_copies, lookup_absent, agree_holds}
+use Rattle.moves.specs.Moves.{insert, by_number}
 -- so that a wrong definition is refused by what it computes before it is by a law
-use Rattle.moves.specs.Instances.{just-fits}
+use Rattle.moves.specs.Instances.{just_fits}
 
 -- ---- the same table
 
-insert-length : (e : Entry) (t : Table) → length (insert e t) ≡ suc (length t)
+insert_length : (e : Entry) (t : Table) → length (insert e t) ≡ suc (length t)
 unfolding insert
-insert-length e [] = refl
-insert-length e (x ∷ t) = go (leb e.block x.block) (insert-length e t)
+insert_length e [] = refl
+insert_length e (x ∷ t) = go (leb e.block x.block) (insert_length e t)
   where
     go : (u : Bool) → length (insert e t) ≡ suc (length t) → length (cond u (e ∷ x ∷ t) (x ∷ insert e t)) ≡ suc (suc (length t))
     go true h = refl
     go false h = ap suc h
 
-pub sorted-length : (t : Table) → length (byNumber t) ≡ length t
-unfolding byNumber
-sorted-length [] = refl
-sorted-length (e ∷ t) = insert-length e (byNumber t) ∙ ap suc (sorted-length t)
+pub sorted_length : (t : Table) → length (by_number t) ≡ length t
+unfolding by_number
+sorted_length [] = refl
+sorted_length (e ∷ t) = insert_length e (by_number t) ∙ ap suc (sorted_length t)
 
-insert-copies : (b : ℕ) (e : Entry) (t : Table) → copies b (insert e t) ≡ copies b (e ∷ t)
+insert_copies : (b : ℕ) (e : Entry) (t : Table) → copies b (insert e t) ≡ copies b (e ∷ t)
 unfolding insert
-insert-copies b e [] = refl
-insert-copies b e (x ∷ t) = go (leb e.block x.block) (insert-copies b e t)
+insert_copies b e [] = refl
+insert_copies b e (x ∷ t) = go (leb e.block x.block) (insert_copies b e t)
   where
     swap : (u w : Bool) (n : ℕ) → cond u (suc (cond w (suc n) n)) (cond w (suc n) n) ≡ cond w (suc (cond u (suc n) n)) (cond u (suc n) n)
     swap true true n = refl
@@ -45,20 +45,20 @@ insert-copies b e (x ∷ t) = go (leb e.block x.block) (insert-copies b e t)
 
     go : (u : Bool) → copies b (insert e t) ≡ copies b (e ∷ t) → copies b (cond u (e ∷ x ∷ t) (x ∷ insert e t)) ≡ copies b (e ∷ x ∷ t)
     go true h = refl
-    go false h = rw (copies-cons b x (insert e t), h, copies-cons b e (x ∷ t), copies-cons b x t, copies-cons b e t) (swap (eqb b x.block) (eqb b e.block) (copies b t))
+    go false h = rw (copies_cons b x (insert e t), h, copies_cons b e (x ∷ t), copies_cons b x t, copies_cons b e t) (swap (eqb b x.block) (eqb b e.block) (copies b t))
 
-sorted-copies : (b : ℕ) (t : Table) → copies b (byNumber t) ≡ copies b t
-unfolding byNumber
-sorted-copies b [] = refl
-sorted-copies b (e ∷ t) = insert-copies b e (byNumber t) ∙ rw (copies-cons b e (byNumber t), copies-cons b e t, sorted-copies b t)
+sorted_copies : (b : ℕ) (t : Table) → copies b (by_number t) ≡ copies b t
+unfolding by_number
+sorted_copies b [] = refl
+sorted_copies b (e ∷ t) = insert_copies b e (by_number t) ∙ rw (copies_cons b e (by_number t), copies_cons b e t, sorted_copies b t)
 
-pub sorted-distinct : (t : Table) → distinct t ≡ true → distinct (byNumber t) ≡ true
-sorted-distinct t d = copies-distinct (byNumber t) (λ b. omega (arith, sorted-copies b t, distinct-copies t d b))
+pub sorted_distinct : (t : Table) → distinct t ≡ true → distinct (by_number t) ≡ true
+sorted_distinct t d = copies_distinct (by_number t) (λ b. omega (arith, sorted_copies b t, distinct_copies t d b))
 
-insert-lookup : (b : ℕ) (e : Entry) (t : Table) → holds e.block t ≡ false → lookup b (insert e t) ≡ lookup b (e ∷ t)
+insert_lookup : (b : ℕ) (e : Entry) (t : Table) → holds e.block t ≡ false → lookup b (insert e t) ≡ lookup b (e ∷ t)
 unfolding insert lookup holds
-insert-lookup b e [] h = refl
-insert-lookup b e (x ∷ t) h = go (leb e.block x.block) (eqb b x.block) (eqb b e.block) refl refl (insert-lookup b e t (or_right (eqb e.block x.block) (holds e.block t) h))
+insert_lookup b e [] h = refl
+insert_lookup b e (x ∷ t) h = go (leb e.block x.block) (eqb b x.block) (eqb b e.block) refl refl (insert_lookup b e t (or_right (eqb e.block x.block) (holds e.block t) h))
   where
     or_right : (u w : Bool) → u || w ≡ false → w ≡ false
     or_right true w q = absurd (true≢false q)
@@ -83,27 +83,27 @@ insert-lookup b e (x ∷ t) h = go (leb e.block x.block) (eqb b x.block) (eqb b 
     go false false z p q ih = rw p ih
 
 -- for all block numbers at once
-pub sorted-agree : (t : Table) → distinct t ≡ true → Agree (byNumber t) t
-unfolding byNumber distinct lookup
-sorted-agree [] d b = refl
-sorted-agree (e ∷ t) d b =
+pub sorted_agree : (t : Table) → distinct t ≡ true → Agree (by_number t) t
+unfolding by_number distinct lookup
+sorted_agree [] d b = refl
+sorted_agree (e ∷ t) d b =
     let p = (and-eq-true_iff (not (holds e.block t)) (distinct t)).0 d in
-    let a = sorted-agree t p.1 in
-    insert-lookup b e (byNumber t) (agree-holds (byNumber t) t a e.block ∙ not-true (holds e.block t) p.0) ∙ rw (a b)
+    let a = sorted_agree t p.1 in
+    insert_lookup b e (by_number t) (agree_holds (by_number t) t a e.block ∙ not-true (holds e.block t) p.0) ∙ rw (a b)
 
-insert-valids : (e : Entry) (t : Table) → Valids (e ∷ t) → Valids (insert e t)
+insert_valids : (e : Entry) (t : Table) → Valids (e ∷ t) → Valids (insert e t)
 unfolding insert
-insert-valids e [] v = v
-insert-valids e (x ∷ t) v = go (leb e.block x.block) (insert-valids e t (v.0, v.1.1))
+insert_valids e [] v = v
+insert_valids e (x ∷ t) v = go (leb e.block x.block) (insert_valids e t (v.0, v.1.1))
   where
     go : (u : Bool) → Valids (insert e t) → Valids (cond u (e ∷ x ∷ t) (x ∷ insert e t))
     go true h = v
     go false h = (v.1.0, h)
 
-pub sorted-valids : (t : Table) → Valids t → Valids (byNumber t)
-unfolding byNumber
-sorted-valids [] v = tt
-sorted-valids (e ∷ t) v = insert-valids e (byNumber t) (v.0, sorted-valids t v.1)
+pub sorted_valids : (t : Table) → Valids t → Valids (by_number t)
+unfolding by_number
+sorted_valids [] v = tt
+sorted_valids (e ∷ t) v = insert_valids e (by_number t) (v.0, sorted_valids t v.1)
 
 -- ---- one number after the other
 
@@ -116,10 +116,10 @@ unfoldable pub rising : ℕ → ℕ → Table → Table
 rising k zero t = []
 rising k (suc c) t = found_at k (lookup k t) ++ rising (suc k) c t
 
-pub rising-agree : (k c : ℕ) (t u : Table) → Agree t u → rising k c t ≡ rising k c u
+pub rising_agree : (k c : ℕ) (t u : Table) → Agree t u → rising k c t ≡ rising k c u
 unfolding rising
-rising-agree k zero t u h = refl
-rising-agree k (suc c) t u h = rw (h k, rising-agree (suc k) c t u h)
+rising_agree k zero t u h = refl
+rising_agree k (suc c) t u h = rw (h k, rising_agree (suc k) c t u h)
 
 rising_none : (k c : ℕ) → rising k c [] ≡ []
 unfolding rising found_at lookup
@@ -127,63 +127,63 @@ rising_none k zero = refl
 rising_none k (suc c) = rising_none (suc k) c
 
 module _ (e : Entry) (t : Table) where
-  lookup-here : lookup e.block (e ∷ t) ≡ present e.contents
+  lookup_here : lookup e.block (e ∷ t) ≡ present e.contents
   unfolding lookup
-  lookup-here = rw (eq-eqb e.block e.block refl)
+  lookup_here = rw (eq-eqb e.block e.block refl)
 
-  lookup-other : (k : ℕ) → k ≢ e.block → lookup k (e ∷ t) ≡ lookup k t
+  lookup_other : (k : ℕ) → k ≢ e.block → lookup k (e ∷ t) ≡ lookup k t
   unfolding lookup
-  lookup-other k h = rw (ne_eqb k e.block h)
+  lookup_other k h = rw (ne_eqb k e.block h)
 
   -- above its number the entry is not met
-  rising-above : (k c : ℕ) → e.block < k → rising k c (e ∷ t) ≡ rising k c t
+  rising_above : (k c : ℕ) → e.block < k → rising k c (e ∷ t) ≡ rising k c t
   unfolding rising
-  rising-above k zero h = refl
-  rising-above k (suc c) h = rw (lookup-other k (λ q. omega arith), rising-above (suc k) c (omega arith))
+  rising_above k zero h = refl
+  rising_above k (suc c) h = rw (lookup_other k (λ q. omega arith), rising_above (suc k) c (omega arith))
 
-  insert-low : (k c : ℕ) → e.block < k → insert e (rising k c t) ≡ e ∷ rising k c t
+  insert_low : (k c : ℕ) → e.block < k → insert e (rising k c t) ≡ e ∷ rising k c t
   unfolding rising insert found_at
-  insert-low k zero h = refl
-  insert-low k (suc c) h = go (lookup k t) (insert-low (suc k) c (omega arith))
+  insert_low k zero h = refl
+  insert_low k (suc c) h = go (lookup k t) (insert_low (suc k) c (omega arith))
     where
       go : (f : Found) → insert e (rising (suc k) c t) ≡ e ∷ rising (suc k) c t → insert e (found_at k f ++ rising (suc k) c t) ≡ e ∷ (found_at k f ++ rising (suc k) c t)
       go absent ih = ih
       go (present x) ih = rw (le-leb e.block k (omega arith))
 
-  insert-behind : (k : ℕ) (f : Found) (r : Table) → k < e.block → insert e (found_at k f ++ r) ≡ found_at k f ++ insert e r
+  insert_behind : (k : ℕ) (f : Found) (r : Table) → k < e.block → insert e (found_at k f ++ r) ≡ found_at k f ++ insert e r
   unfolding found_at insert
-  insert-behind k absent r h = refl
-  insert-behind k (present x) r h = rw (lt-leb e.block k h)
+  insert_behind k absent r h = refl
+  insert_behind k (present x) r h = rw (lt-leb e.block k h)
 
-  insert-rising : (k c : ℕ) → k ≤ e.block → e.block < k + c → holds e.block t ≡ false → insert e (rising k c t) ≡ rising k c (e ∷ t)
+  insert_rising : (k c : ℕ) → k ≤ e.block → e.block < k + c → holds e.block t ≡ false → insert e (rising k c t) ≡ rising k c (e ∷ t)
   unfolding rising found_at
-  insert-rising k zero lo hi a = absurd (omega arith)
-  insert-rising k (suc c) lo hi a = go (eqb k e.block) refl (λ q. insert-rising (suc k) c (omega arith) (omega arith) a)
+  insert_rising k zero lo hi a = absurd (omega arith)
+  insert_rising k (suc c) lo hi a = go (eqb k e.block) refl (λ q. insert_rising (suc k) c (omega arith) (omega arith) a)
     where
       Inserts : ℕ → Type 0
       Inserts j = insert e (found_at j (lookup j t) ++ rising (suc j) c t) ≡ found_at j (lookup j (e ∷ t)) ++ rising (suc j) c (e ∷ t)
 
       here : Inserts e.block
-      here = rw (lookup_absent e.block t a, lookup-here, rising-above (suc e.block) c (omega arith)) (insert-low (suc e.block) c (omega arith))
+      here = rw (lookup_absent e.block t a, lookup_here, rising_above (suc e.block) c (omega arith)) (insert_low (suc e.block) c (omega arith))
 
       go : (u : Bool) → eqb k e.block ≡ u → (k < e.block → insert e (rising (suc k) c t) ≡ rising (suc k) c (e ∷ t)) → insert e (found_at k (lookup k t) ++ rising (suc k) c t) ≡ found_at k (lookup k (e ∷ t)) ++ rising (suc k) c (e ∷ t)
       go true q ih = subst (λ (j : ℕ). Inserts j) (sym (eqb-true k e.block q)) here
       go false q ih =
           let n = eqb-false k e.block q in
-          insert-behind k (lookup k t) (rising (suc k) c t) (omega arith) ∙ rw (lookup-other k n, ih (omega arith))
+          insert_behind k (lookup k t) (rising (suc k) c t) (omega arith) ∙ rw (lookup_other k n, ih (omega arith))
 
-number-above : (b : ℕ) → numberOk b ≡ true → 1 ≤ b
-unfolding numberOk
-number-above b h = ltb-true 0 b (and_left (ltb 0 b) (ltb b 65535) h)
+number_above : (b : ℕ) → number_ok b ≡ true → 1 ≤ b
+unfolding number_ok
+number_above b h = ltb-true 0 b (and_left (ltb 0 b) (ltb b 65535) h)
 
 -- every block number is between 1 and 65,534
-pub sorted-rising : (t : Table) → Valids t → distinct t ≡ true → byNumber t ≡ rising 1 65535 t
-unfolding byNumber distinct
-sorted-rising [] v d = sym (rising_none 1 65535)
-sorted-rising (e ∷ t) v d =
+pub sorted_rising : (t : Table) → Valids t → distinct t ≡ true → by_number t ≡ rising 1 65535 t
+unfolding by_number distinct
+sorted_rising [] v d = sym (rising_none 1 65535)
+sorted_rising (e ∷ t) v d =
     let p = (and-eq-true_iff (not (holds e.block t)) (distinct t)).0 d in
-    ap (insert e) (sorted-rising t v.1 p.1) ∙ insert-rising e t 1 65535 (number-above e.block v.0.number) (omega (arith, number-below e.block v.0.number)) (not-true (holds e.block t) p.0)
+    ap (insert e) (sorted_rising t v.1 p.1) ∙ insert_rising e t 1 65535 (number_above e.block v.0.number) (omega (arith, number_below e.block v.0.number)) (not-true (holds e.block t) p.0)
 
 -- equal tables are equal lists
-pub sorted-equal : (t u : Table) → Valids t → Valids u → distinct t ≡ true → distinct u ≡ true → Agree t u → byNumber t ≡ byNumber u
-sorted-equal t u v w d f h = sorted-rising t v d ∙ (rising-agree 1 65535 t u h ∙ sym (sorted-rising u w f))
+pub sorted_equal : (t u : Table) → Valids t → Valids u → distinct t ≡ true → distinct u ≡ true → Agree t u → by_number t ≡ by_number u
+sorted_equal t u v w d f h = sorted_rising t v d ∙ (rising_agree 1 65535 t u h ∙ sym (sorted_rising u w f))

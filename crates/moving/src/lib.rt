@@ -2,7 +2,7 @@
 // in a second buffer. The source is only read. Nothing is required of a caller.
 ghost use Rattle.std.specs.Prelude.{◌≡◌};
 ghost use Rattle.model.specs.Answers.{performed};
-ghost use Rattle.moves.specs.Moves.{moveOutcome};
+ghost use Rattle.moves.specs.Moves.{move_outcome};
 ghost use Rattle.moving.specs.Moving.{Carriable};
 
 use model::{Answer, Performed, SegmentNumber};
@@ -23,7 +23,7 @@ fn carry(
     budget: u64,
 ) -> Performed
     requires { Carriable segments slots source.now first.0 used target_segments target_slots target.old }
-    ensures { performed result target.new ≡ moveOutcome segments slots source.now target_segments target_slots target.old budget }
+    ensures { performed result target.new ≡ move_outcome segments slots source.now target_segments target_slots target.old budget }
 {
     let mut places = [0u32; LEAST_PLACES];
     places::fill(source, segments, slots, first, used, &mut places);
@@ -48,7 +48,7 @@ pub fn move_to(
     target_slots: usize,
     budget: u64,
 ) -> Performed
-    ensures { performed result target.new ≡ moveOutcome segments slots source.now target_segments target_slots target.old budget }
+    ensures { performed result target.new ≡ move_outcome segments slots source.now target_segments target_slots target.old budget }
 {
     if !request::right_size(source.len(), segments, slots) {
         return request::refused(Answer::Size);

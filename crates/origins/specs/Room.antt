@@ -6,128 +6,128 @@ use Rattle.std.proofs.Math.Path.{ap}
 use Rattle.std.proofs.Math.Logic.{⊎_elim}
 use mathlib.Core.List.{List, [], ◌∷◌, ◌++◌, map}
 use Rattle.std.proofs.Math.ListN.{length, set}
-use Rattle.model.specs.Chip.{Image, Bytes, Step, erase, rightSize, run, numberLimit, Cut}
-use Rattle.model.specs.Header.{opened, erasePending, Version, newVersion, tally_of}
+use Rattle.model.specs.Chip.{Image, Bytes, Step, erase, right_size, run, number_limit, Cut}
+use Rattle.model.specs.Header.{opened, erase_pending, Version, new_version, tally_of}
 use Rattle.model.specs.Slot.{Slot, empty, Entry, holding}
-use Rattle.model.specs.State.{Segment, blank, inUse, isOwing, segmentOf, segmentsOf, slotsIn, topIndex, nextIndex, nextBlanked, View, entries, Place}
-use Rattle.model.specs.Steps.{topNumber, hasRoom, copied, copyOut, compact, settle, nextVersion, openNext, compactOldest, room_for}
-use Rattle.model.specs.Laws.Chip.{SizeFacts, size-facts, run-size, cut-append, whole-cut}
-use Rattle.model.specs.Laws.Begun.{begun-cut, cut-begun}
-use Rattle.model.specs.Laws.Segments.{part_of, only-segments}
-use Rattle.model.specs.Laws.Effects.{open-effect}
+use Rattle.model.specs.State.{Segment, blank, in_use, is_owing, segment_of, segments_of, slots_in, top_index, next_index, next_blanked, View, entries, Place}
+use Rattle.model.specs.Steps.{top_number, has_room, copied, copy_out, compact, settle, next_version, open_next, compact_oldest, room_for}
+use Rattle.model.specs.Laws.Chip.{SizeFacts, size_facts, run_size, cut_append, whole_cut}
+use Rattle.model.specs.Laws.Begun.{begun_cut, cut_begun}
+use Rattle.model.specs.Laws.Segments.{part_of, only_segments}
+use Rattle.model.specs.Laws.Effects.{open_effect}
 use Rattle.bridge.specs.Predicted.{CleanView, Carries}
 use Rattle.bridge.specs.Held.{Held}
-use Rattle.bridge.specs.Done.{next-free, open-held, copied-segments}
-use Rattle.crash.specs.RecoverErase.{unused-segment}
-use Rattle.crash.specs.RoomOwing.{Full, old-valid, old-fits}
+use Rattle.bridge.specs.Done.{next_free, open_held, copied_segments}
+use Rattle.crash.specs.RecoverErase.{unused_segment}
+use Rattle.crash.specs.RoomOwing.{Full, old_valid, old_fits}
 use Rattle.crash.specs.RoomSteps
 use Rattle.crash.specs.RoomSteps.{RoomLaws}
-use Rattle.crash.specs.RoomCuts.{TornNext, open-left, copy-out-left, owed, rest-after, rest-last}
-use Rattle.origins.specs.Law.{readAt, inForce}
-use Rattle.origins.specs.Reads.{Telling, not-telling, blank-reads, empty-plain, plain-reads}
-use Rattle.origins.specs.Fewer.{fewer-trans, fewer-set, ring-paid, ring-force, owing-force, NoNew, no-new-same, no-new-image, no-new-trans, no-new-replaced, no-new-unused}
-use Rattle.origins.specs.Torn.{owing-b}
+use Rattle.crash.specs.RoomCuts.{TornNext, open_left, copy_out_left, owed, rest_after, rest_last}
+use Rattle.origins.specs.Law.{read_at, in_force}
+use Rattle.origins.specs.Reads.{Telling, not_telling, blank_reads, empty_plain, plain_reads}
+use Rattle.origins.specs.Fewer.{fewer_trans, fewer_set, ring_paid, ring_force, owing_force, NoNew, no_new_same, no_new_image, no_new_trans, no_new_replaced, no_new_unused}
+use Rattle.origins.specs.Torn.{owing_b}
 use Rattle.origins.specs.Owing.{ending}
 
 -- ---- new segments
 
-copied-plain : (es : List Entry) (n j : ℕ) → Telling (get_or (map holding es ++ replicate n empty) j empty) → ⊥
+copied_plain : (es : List Entry) (n j : ℕ) → Telling (get_or (map holding es ++ replicate n empty) j empty) → ⊥
 unfolding holding
-copied-plain [] n j t = empty-plain n j t
-copied-plain (e ∷ es) n zero t = t
-copied-plain (e ∷ es) n (suc j) t = copied-plain es n j t
+copied_plain [] n j t = empty_plain n j t
+copied_plain (e ∷ es) n zero t = t
+copied_plain (e ∷ es) n (suc j) t = copied_plain es n j t
 
 -- a segment in use with such slots reads no kind that tells
-plain-segment : (k : Slot) → Telling k → (ver : Version) (st n : ℕ) (ks : List Slot) → ((j : ℕ) → Telling (get_or ks j empty) → ⊥) → (p : Place) → readAt (inUse ver st n ks) p ≡ k → ⊥
-unfolding slotsIn
-plain-segment k told ver st n ks none p h = plain-reads (inUse ver st n ks) p none (subst Telling (sym h) told)
+plain_segment : (k : Slot) → Telling k → (ver : Version) (st n : ℕ) (ks : List Slot) → ((j : ℕ) → Telling (get_or ks j empty) → ⊥) → (p : Place) → read_at (in_use ver st n ks) p ≡ k → ⊥
+unfolding slots_in
+plain_segment k told ver st n ks none p h = plain_reads (in_use ver st n ks) p none (subst Telling (sym h) told)
 
 module _ (k : Slot) (told : Telling k) (N B : ℕ) (s : Image) (v : View) (h : Held N B s v) where
   abbrev l : List Segment
-  l = segmentsOf N B s
+  l = segments_of N B s
 
   abbrev i : ℕ
-  i = suc (topNumber v) % N
+  i = suc (top_number v) % N
 
   size : SizeFacts N B s
-  size = size-facts N B s h.size
+  size = size_facts N B s h.size
 
-  paid : isOwing (get_or (segmentsOf N B s) (topIndex N (segmentsOf N B s)) blank) ≡ false
-  paid = ring-paid N l (topIndex N l) h.ring
+  paid : is_owing (get_or (segments_of N B s) (top_index N (segments_of N B s)) blank) ≡ false
+  paid = ring_paid N l (top_index N l) h.ring
 
   -- the segment after the top touched, but not in use
-  torn-next : (u : Image) → TornNext N B s v u → NoNew k N B s u
-  torn-next u t = no-new-unused k told N B s u i (segmentOf N B i (part_of N B i u)) (only-segments N B i s u t.0) (inl (next-free N B s v h)) (unused-segment N B i (part_of N B i u) t.1) paid
+  torn_next : (u : Image) → TornNext N B s v u → NoNew k N B s u
+  torn_next u t = no_new_unused k told N B s u i (segment_of N B i (part_of N B i u)) (only_segments N B i s u t.0) (inl (next_free N B s v h)) (unused_segment N B i (part_of N B i u) t.1) paid
 
   -- ---- an opening
 
-  pub opening : Carries v → length v.slots < N - 1 → suc (topNumber v) < numberLimit N → (u : Image) → Cut B (openNext N B v).steps s u → NoNew k N B s u
-  unfolding openNext nextVersion
+  pub opening : Carries v → length v.slots < N - 1 → suc (top_number v) < number_limit N → (u : Image) → Cut B (open_next N B v).steps s u → NoNew k N B s u
+  unfolding open_next next_version
   opening carries few below u c =
-      let w = run B (openNext N B v).steps s in
-      let ver = newVersion (tally_of v.version) in
-      let n = suc (topNumber v) in
-      let y = inUse ver opened n (replicate B empty) in
-      let e : segmentsOf N B w ≡ set l i y = open-effect N B size.two size.most size.mostB s size.whole n below (tally_of v.version) carries.fits (next-free N B s v h) in
-      let force : inForce N (set l i y) ≡ set l i y = rw e at (ring-force N (segmentsOf N B w) (open-held N B s v h carries below few).ring) in
-      ⊎_elim (λ t. torn-next u t)
-      (λ q. no-new-trans k N B s w u (no-new-replaced k N B s w i y e paid force (λ p q. absurd (plain-segment k told ver opened n (replicate B empty) (λ j t. empty-plain B j t) p q))) (no-new-same k N B w u q))
-      (open-left N B s v h carries below u c)
+      let w = run B (open_next N B v).steps s in
+      let ver = new_version (tally_of v.version) in
+      let n = suc (top_number v) in
+      let y = in_use ver opened n (replicate B empty) in
+      let e : segments_of N B w ≡ set l i y = open_effect N B size.two size.most size.most_b s size.whole n below (tally_of v.version) carries.fits (next_free N B s v h) in
+      let force : in_force N (set l i y) ≡ set l i y = rw e at (ring_force N (segments_of N B w) (open_held N B s v h carries below few).ring) in
+      ⊎_elim (λ t. torn_next u t)
+      (λ q. no_new_trans k N B s w u (no_new_replaced k N B s w i y e paid force (λ p q. absurd (plain_segment k told ver opened n (replicate B empty) (λ j t. empty_plain B j t) p q))) (no_new_same k N B w u q))
+      (open_left N B s v h carries below u c)
 
 -- ---- a compaction
 
 module _ (k : Slot) (told : Telling k) (N B : ℕ) (s : Image) (v : View) (f : Full N B s v) where
   abbrev n : ℕ
-  n = suc (topNumber v)
+  n = suc (top_number v)
 
   abbrev es : List Entry
   es = entries (get_or v.slots 0 [])
 
   abbrev copying : List Step
-  copying = copyOut N B (nextVersion v) v.first n es
+  copying = copy_out N B (next_version v) v.first n es
 
   abbrev t : Image
   t = run B copying s
 
-  zt : rightSize N B t ≡ true
-  zt = run-size N B copying s ∙ f.held.size
+  zt : right_size N B t ≡ true
+  zt = run_size N B copying s ∙ f.held.size
 
   -- with the owing mark the old segment is left aside, and the new one has only live and empty slots
   marked : NoNew k N B s t
-  unfolding nextBlanked copied
+  unfolding next_blanked copied
   marked =
-      let l = segmentsOf N B s in
+      let l = segments_of N B s in
       let i = n % N in
       let ks = copied B es in
-      let y = inUse (nextVersion v) erasePending n ks in
+      let y = in_use (next_version v) erase_pending n ks in
       let m = set l i y in
-      let e : segmentsOf N B t ≡ m = copied-segments N B s v f.held f.carries f.below f.all es (old-valid N B s v f) (old-fits N B s v f) in
-      let force : inForce N (segmentsOf N B t) ≡ set m (nextIndex N m) blank =
-      owing-force N (segmentsOf N B t) (owing-b N B t zt (owed N B s v f).pending) ∙ ap (λ (x : List Segment). set x (nextIndex N x) blank) e in
-      rw (ring-force N l f.held.ring, force)
-      (fewer-trans k l m (set m (nextIndex N m) blank)
-      (fewer-set k l i y (λ p q. absurd (plain-segment k told (nextVersion v) erasePending n ks (λ j x. copied-plain es (B - length es) j x) p q)))
-      (fewer-set k m (nextIndex N m) blank (λ p q. absurd (not-telling empty k told (λ x. x) (sym (blank-reads p) ∙ q)))))
+      let e : segments_of N B t ≡ m = copied_segments N B s v f.held f.carries f.below f.all es (old_valid N B s v f) (old_fits N B s v f) in
+      let force : in_force N (segments_of N B t) ≡ set m (next_index N m) blank =
+      owing_force N (segments_of N B t) (owing_b N B t zt (owed N B s v f).pending) ∙ ap (λ (x : List Segment). set x (next_index N x) blank) e in
+      rw (ring_force N l f.held.ring, force)
+      (fewer_trans k l m (set m (next_index N m) blank)
+      (fewer_set k l i y (λ p q. absurd (plain_segment k told (next_version v) erase_pending n ks (λ j x. copied_plain es (B - length es) j x) p q)))
+      (fewer_set k m (next_index N m) blank (λ p q. absurd (not_telling empty k told (λ x. x) (sym (blank_reads p) ∙ q)))))
 
-  pub compacting : (u : Image) → Cut B (compactOldest N B v).steps s u → NoNew k N B s u
-  unfolding compactOldest compact
+  pub compacting : (u : Image) → Cut B (compact_oldest N B v).steps s u → NoNew k N B s u
+  unfolding compact_oldest compact
   compacting u c = ⊎_elim
-      (λ d. ⊎_elim (λ x. torn-next k told N B s v f.held u x) (λ x. no-new-trans k N B s t u marked (no-new-same k N B t u x.1)) (copy-out-left N B s v f u d))
-      (λ d. let o = owed N B s v f in no-new-trans k N B s t u marked (ending k N B t zt o.pending o.shows.0 u (rw (o.next, rest-after N B s v f, rest-last N B s v f) d)))
-      (cut-append B copying (erase (v.first % N) ∷ settle N B n) s u c)
+      (λ d. ⊎_elim (λ x. torn_next k told N B s v f.held u x) (λ x. no_new_trans k N B s t u marked (no_new_same k N B t u x.1)) (copy_out_left N B s v f u d))
+      (λ d. let o = owed N B s v f in no_new_trans k N B s t u marked (ending k N B t zt o.pending o.shows.0 u (rw (o.next, rest_after N B s v f, rest_last N B s v f) d)))
+      (cut_append B copying (erase (v.first % N) ∷ settle N B n) s u c)
 
 -- ---- until there is room
 
 module _ (k : Slot) (told : Telling k) (N B : ℕ) where
-  room-none : RoomLaws N B (λ s v u es f. NoNew k N B s u)
-  room-none = record {
-    nothing = λ s v h c u e. no-new-image k N B s u e;
-    opened = λ s v h c carries full few below u es f d. opening k told N B s v h carries few below u (begun-cut B (openNext N B v).steps s u es f d);
-    compacted = λ s v f u es m d. compacting k told N B s v f u (begun-cut B (compactOldest N B v).steps s u es m d);
-    behind = λ s v f u es m r. let xs = (compactOldest N B v).steps in no-new-trans k N B s (run B xs s) u (compacting k told N B s v f (run B xs s) (whole-cut B xs s)) r;
+  room_none : RoomLaws N B (λ s v u es f. NoNew k N B s u)
+  room_none = record {
+    nothing = λ s v h c u e. no_new_image k N B s u e;
+    opened = λ s v h c carries full few below u es f d. opening k told N B s v h carries few below u (begun_cut B (open_next N B v).steps s u es f d);
+    compacted = λ s v f u es m d. compacting k told N B s v f u (begun_cut B (compact_oldest N B v).steps s u es m d);
+    behind = λ s v f u es m r. let xs = (compact_oldest N B v).steps in no_new_trans k N B s (run B xs s) u (compacting k told N B s v f (run B xs s) (whole_cut B xs s)) r;
   }
 
-  pub making-room : (s : Image) (v : View) → Held N B s v → Bytes s → CleanView N B v → (hasRoom v ≡ false → Carries v) → topNumber (room_for N B v).result < numberLimit N
+  pub making_room : (s : Image) (v : View) → Held N B s v → Bytes s → CleanView N B v → (has_room v ≡ false → Carries v) → top_number (room_for N B v).result < number_limit N
       → (u : Image) → Cut B (room_for N B v).steps s u → NoNew k N B s u
-  making-room s v h y c carries below u d = let (es, f, x) = cut-begun B (room_for N B v).steps s u d in
-      RoomSteps.making-room N B (λ s v u es f. NoNew k N B s u) room-none s v h y c carries below u es f x
+  making_room s v h y c carries below u d = let (es, f, x) = cut_begun B (room_for N B v).steps s u d in
+      RoomSteps.making_room N B (λ s v u es f. NoNew k N B s u) room_none s v h y c carries below u es f x

@@ -1,8 +1,8 @@
 // What the exports give, packed into one number: an answer with a count, a place or a length.
 ghost use Rattle.std.specs.Prelude.{◌≡◌, cond, ◌+◌, ◌*◌, ◌%◌, ◌≤◌};
-ghost use Rattle.model.specs.Chip.{largestImage};
+ghost use Rattle.model.specs.Chip.{largest_image};
 ghost use Rattle.model.specs.Answers.{code_of};
-ghost use Rattle.text.specs.Buffer.{mostText};
+ghost use Rattle.text.specs.Buffer.{most_text};
 ghost use Rattle.packing.specs.Counts.{counts};
 
 use blank::BlankTest;
@@ -11,7 +11,7 @@ use text::Printed;
 
 // The answer, and 256 times the steps done: a list never has more than some sixteen million.
 pub fn packed(p: Performed) -> u64
-    requires { p.steps ≤ largestImage }
+    requires { p.steps ≤ largest_image }
     ensures { result ≡ code_of p.answer + 256 * p.steps }
 {
     let answer = p.answer;
@@ -20,7 +20,7 @@ pub fn packed(p: Performed) -> u64
 
 // The answer, 256 times the length and 65,536 times the offset.
 pub fn packed_read(p: Located) -> u64
-    requires { (p.offset ≤ largestImage) × (p.length ≤ 248) }
+    requires { (p.offset ≤ largest_image) × (p.length ≤ 248) }
     ensures { result ≡ code_of p.answer + 256 * p.length + 65536 * p.offset }
 {
     let answer = p.answer;
@@ -54,7 +54,7 @@ pub fn packed_blank(t: BlankTest) -> u64
 
 // The answer, and 256 times the length of a text.
 pub fn packed_print(p: Printed) -> u64
-    requires { p.length ≤ mostText }
+    requires { p.length ≤ most_text }
     ensures { result ≡ code_of p.answer + 256 * p.length }
 {
     let answer = p.answer;

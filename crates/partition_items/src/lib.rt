@@ -1,12 +1,12 @@
 // The items of a partition (request #109), programmed, tested, and carried to another partition under a budget.
 ghost use Rattle.std.specs.Prelude.{◌≡◌, [], ◌∷◌, ◌++◌, ◌+◌, ◌≤◌, length, take, drop};
 ghost use Rattle.model.specs.Chip.{program};
-ghost use Rattle.model.specs.Header.{isBlank};
+ghost use Rattle.model.specs.Header.{is_blank};
 ghost use Rattle.model.specs.Steps.{programs};
 ghost use Rattle.flash.specs.Ran.{RanIn, Programmed};
 ghost use Rattle.partitions.specs.Layout.{items_of};
-ghost use Rattle.partitions.specs.Writes.{writeItems, carried, entryFor};
-ghost use Rattle.partition_items.specs.Carrying.{carrySteps, Disjoint, CarryOne, Carry};
+ghost use Rattle.partitions.specs.Writes.{write_items, carried, entry_for};
+ghost use Rattle.partition_items.specs.Carrying.{carry_steps, Disjoint, CarryOne, Carry};
 
 // ---- one item
 
@@ -23,7 +23,7 @@ pub fn write_item(image: &mut [u8], at: usize, item: u8, contents: &[u8], budget
 // Whether its identifier byte and its data are all 255.
 pub fn item_erased(image: &[u8], at: usize, size: usize) -> bool
     requires { at + 1 + size ≤ length image.now }
-    ensures { result ≡ isBlank (take (1 + size) (drop at image.now)) }
+    ensures { result ≡ is_blank (take (1 + size) (drop at image.now)) }
 {
     let end = at + 1 + size;
     let test = blank::blank_test(&image[at..end]);
@@ -69,7 +69,7 @@ fn carry_item(
     budget: u64,
 ) -> u64
     requires { CarryOne from to identifier size item contents.now (length image.old) }
-    ensures { Programmed (carrySteps image.old from to identifier size item contents.now) budget result image.old image.new }
+    ensures { Programmed (carry_steps image.old from to identifier size item contents.now) budget result image.old image.new }
 {
     if identifier == item {
         return write_item(image, to, identifier, contents, budget);
@@ -93,7 +93,7 @@ pub fn carry_items(
     budget: u64,
 ) -> u64
     requires { Carry size from to layout.now item contents.now (length image.old) }
-    ensures { RanIn (writeItems size to (carried size image.old from (entryFor layout.now item contents.now) (items_of layout.now))) size budget result image.old image.new }
+    ensures { RanIn (write_items size to (carried size image.old from (entry_for layout.now item contents.now) (items_of layout.now))) size budget result image.old image.new }
 {
     let source = from * size;
     let target = to * size;

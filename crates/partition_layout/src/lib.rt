@@ -1,7 +1,7 @@
 // The layout table of a board with the older partition format (request #109), tested and searched. Nothing is required of who
 // made the table: it is tested at every request.
 ghost use Rattle.std.specs.Prelude.{◌≡◌, ◌%◌, ◌≤◌, length};
-ghost use Rattle.partitions.specs.Layout.{items_of, bytesUsed, layoutOk};
+ghost use Rattle.partitions.specs.Layout.{items_of, bytes_used, layout_ok};
 ghost use Rattle.partition_layout.specs.Places.{Placed};
 
 // An item's identifier byte before the item is written, and so no identifier.
@@ -20,7 +20,7 @@ pub enum Place {
 // Whether a table is right, for partitions of so many bytes. What the items leave of a partition is counted down: all of their
 // bytes may be more than a number holds.
 pub fn layout_ok(layout: &[u8], size: usize) -> bool
-    ensures { result ≡ layoutOk size layout.now }
+    ensures { result ≡ layout_ok size layout.now }
 {
     if layout.len() % 2 != 0 {
         return false;
@@ -56,7 +56,7 @@ pub fn layout_ok(layout: &[u8], size: usize) -> bool
 
 // Where the item with an identifier stands.
 pub fn find_item(layout: &[u8], item: u8) -> Place
-    requires { (length layout.now % 2 ≡ 0) × (bytesUsed (items_of layout.now) ≤ 18446744073709551615) }
+    requires { (length layout.now % 2 ≡ 0) × (bytes_used (items_of layout.now) ≤ 18446744073709551615) }
     ensures { Placed layout.now item result }
 {
     let mut offset = STATUS_BYTES;

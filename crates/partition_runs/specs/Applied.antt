@@ -3,7 +3,7 @@ use Rattle.std.specs.Prelude.{ℕ, ◌≡◌, refl, ◌≢◌}
 use Rattle.std.proofs.Common.{arith}
 use Rattle.partitions.specs.Partitions.{nothing, no_run}
 use Rattle.partitions.specs.Instances.{computes, two}
-use Rattle.partition_runs.specs.Law.{play, answers, storedAll, mapOf, replyTo, replyOf, Accepted, ByTable}
+use Rattle.partition_runs.specs.Law.{play, answers, stored_all, map_of, reply_to, reply_of, Accepted, ByTable}
 use Rattle.partition_runs.specs.Instances.{board, writes}
 use Rattle.partition_runs.specs.Theorem.{plain_map}
 
@@ -14,15 +14,15 @@ accepted : Accepted 2 two board
 unfolding computes board
 accepted = record {
   right = refl;
-  layout-right = refl;
+  layout_right = refl;
   single = λ e. differs e;
   bytes = (omega arith, (omega arith, (omega arith, (omega arith, tt))));
   image = (omega arith, (omega arith, (omega arith, (omega arith, (omega arith, (omega arith, (omega arith, (omega arith, (omega arith, (omega arith, (omega arith, (omega arith, tt))))))))))));
 }
 
-by-table : ByTable two writes
+by_table : ByTable two writes
 unfolding writes
-by-table = (refl, (omega arith, tt), (refl, (omega arith, (omega arith, tt)), (refl, (omega arith, (omega arith, tt)), (refl, (omega arith, tt), (refl, (omega arith, tt), tt)))))
+by_table = (refl, (omega arith, tt), (refl, (omega arith, (omega arith, tt)), (refl, (omega arith, (omega arith, tt)), (refl, (omega arith, tt), (refl, (omega arith, tt), tt)))))
 
-board-lives : (i : ℕ) → replyTo 2 two (play 2 board writes) i ≡ replyOf two (storedAll writes (answers 2 board writes) (mapOf 2 two board)) i
-board-lives = plain_map 2 two board writes accepted by-table
+board_lives : (i : ℕ) → reply_to 2 two (play 2 board writes) i ≡ reply_of two (stored_all writes (answers 2 board writes) (map_of 2 two board)) i
+board_lives = plain_map 2 two board writes accepted by_table

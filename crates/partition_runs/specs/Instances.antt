@@ -2,13 +2,13 @@
 use Rattle.std.specs.Prelude.{ℕ, ◌≡◌, refl, List, [], ◌∷◌, ◌++◌, map, length, take}
 use Rattle.model.specs.Chip.{Image, erased}
 use Rattle.model.specs.Histories.{Reply}
-use Rattle.partitions.specs.Partitions.{nothing, newest, newestOf}
+use Rattle.partitions.specs.Partitions.{nothing, newest, newest_of}
 use Rattle.partitions.specs.Instances.{computes, two}
-use Rattle.partition_runs.specs.Law.{Call, outcomeOf, play, answers, stepsDone, statusesSet, last_of, replyTo, mapOf, found, replyOf, stored, storedAll}
+use Rattle.partition_runs.specs.Law.{Call, outcome_of, play, answers, steps_done, statuses_set, last_of, reply_to, map_of, found, reply_of, stored, stored_all}
 
 -- every definition unfolds where this name does
 unfoldable lived : ℕ
-unfolding computes outcomeOf play answers stepsDone statusesSet last_of replyTo mapOf found replyOf stored storedAll
+unfolding computes outcome_of play answers steps_done statuses_set last_of reply_to map_of found reply_of stored stored_all
 lived = 0
 
 abbrev call : ℕ → List ℕ → ℕ → Call
@@ -30,20 +30,20 @@ ends_so : play 2 board writes ≡ (2 ∷ 1 ∷ 12 ∷ 13 ∷ 7 ∷ 6 ∷ []) ++ 
 unfolding lived board writes
 ends_so = refl
 
-set_so : (statusesSet 6 (stepsDone 2 board writes) ≡ 0 ∷ 1 ∷ 0 ∷ []) × (last_of (0 ∷ 1 ∷ 0 ∷ []) ≡ newest 0) × (last_of (0 ∷ 1 ∷ []) ≡ newest 1) × (last_of [] ≡ nothing) × (length (stepsDone 2 board writes) ≡ 26)
+set_so : (statuses_set 6 (steps_done 2 board writes) ≡ 0 ∷ 1 ∷ 0 ∷ []) × (last_of (0 ∷ 1 ∷ 0 ∷ []) ≡ newest 0) × (last_of (0 ∷ 1 ∷ []) ≡ newest 1) × (last_of [] ≡ nothing) × (length (steps_done 2 board writes) ≡ 26)
 unfolding lived board writes
 set_so = (refl, refl, refl, refl, refl)
 
 -- the newest, after none and after each of them
-newest-so : map (λ n. newestOf 2 (play 2 board (take n writes))) (0 ∷ 1 ∷ 2 ∷ 3 ∷ 4 ∷ 5 ∷ []) ≡ nothing ∷ newest 0 ∷ newest 0 ∷ newest 1 ∷ newest 1 ∷ newest 0 ∷ []
+newest_so : map (λ n. newest_of 2 (play 2 board (take n writes))) (0 ∷ 1 ∷ 2 ∷ 3 ∷ 4 ∷ 5 ∷ []) ≡ nothing ∷ newest 0 ∷ newest 0 ∷ newest 1 ∷ newest 1 ∷ newest 0 ∷ []
 unfolding lived board writes
-newest-so = refl
+newest_so = refl
 
 abbrev told : ℕ → List ℕ → Reply
 told code bytes = record { code = code; bytes = bytes }
 
 -- what reads of items 1, 7 and 2 are told after each: a cut write shows in none
-read-so : map {A = ℕ} {B = List Reply} (λ n. map (replyTo 2 two (play 2 board (take n writes))) (1 ∷ 7 ∷ 2 ∷ [])) (0 ∷ 1 ∷ 2 ∷ 3 ∷ 4 ∷ 5 ∷ [])
+read_so : map {A = ℕ} {B = List Reply} (λ n. map (reply_to 2 two (play 2 board (take n writes))) (1 ∷ 7 ∷ 2 ∷ [])) (0 ∷ 1 ∷ 2 ∷ 3 ∷ 4 ∷ 5 ∷ [])
     ≡ (told 5 [] ∷ told 5 [] ∷ told 3 [] ∷ [])
     ∷ (told 5 [] ∷ told 0 (5 ∷ []) ∷ told 3 [] ∷ [])
     ∷ (told 5 [] ∷ told 0 (5 ∷ []) ∷ told 3 [] ∷ [])
@@ -52,13 +52,13 @@ read-so : map {A = ℕ} {B = List Reply} (λ n. map (replyTo 2 two (play 2 board
     ∷ (told 0 (12 ∷ 13 ∷ []) ∷ told 0 (6 ∷ []) ∷ told 3 [] ∷ [])
     ∷ []
 unfolding lived board writes
-read-so = refl
+read_so = refl
 
 -- and what the plain map says after two of them, of which one was cut, and at the end
-map-cut : map (replyOf two (storedAll (take 2 writes) (0 ∷ 9 ∷ []) (mapOf 2 two board))) (1 ∷ 7 ∷ []) ≡ told 5 [] ∷ told 0 (5 ∷ []) ∷ []
+map_cut : map (reply_of two (stored_all (take 2 writes) (0 ∷ 9 ∷ []) (map_of 2 two board))) (1 ∷ 7 ∷ []) ≡ told 5 [] ∷ told 0 (5 ∷ []) ∷ []
 unfolding lived board writes
-map-cut = refl
+map_cut = refl
 
-map-so : map (replyOf two (storedAll writes (0 ∷ 9 ∷ 0 ∷ 9 ∷ 0 ∷ []) (mapOf 2 two board))) (1 ∷ 7 ∷ 2 ∷ []) ≡ told 0 (12 ∷ 13 ∷ []) ∷ told 0 (6 ∷ []) ∷ told 3 [] ∷ []
+map_so : map (reply_of two (stored_all writes (0 ∷ 9 ∷ 0 ∷ 9 ∷ 0 ∷ []) (map_of 2 two board))) (1 ∷ 7 ∷ 2 ∷ []) ≡ told 0 (12 ∷ 13 ∷ []) ∷ told 0 (6 ∷ []) ∷ told 3 [] ∷ []
 unfolding lived board writes
-map-so = refl
+map_so = refl

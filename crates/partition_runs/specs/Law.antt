@@ -4,9 +4,9 @@ use Rattle.model.specs.Chip.{Image, Step, program, erase, Bytes}
 use Rattle.model.specs.Table.{Found, absent, present}
 use Rattle.model.specs.Answers.{Outcome}
 use Rattle.model.specs.Histories.{Reply}
-use Rattle.partitions.specs.Layout.{items_of, layoutOk, hasItem}
-use Rattle.partitions.specs.Partitions.{imageOk, partitionSize, noStatus, statusOf, Newest, nothing, newest, no_run, newestOf}
-use Rattle.partitions.specs.Answers.{writeWork, writeOutcome, readOutcome, pieceRead}
+use Rattle.partitions.specs.Layout.{items_of, layout_ok, has_item}
+use Rattle.partitions.specs.Partitions.{image_ok, partition_size, no_status, status_of, Newest, nothing, newest, no_run, newest_of}
+use Rattle.partitions.specs.Answers.{write_work, write_outcome, read_outcome, piece_read}
 
 -- ---- writes one after the other
 
@@ -17,31 +17,31 @@ pub record Call : Type 0 where
   pub contents : List ℕ
   pub allowance : ℕ
 
-unfoldable pub outcomeOf : ℕ → Image → Call → Outcome
-outcomeOf P s x = writeOutcome P x.layout s x.item x.contents x.allowance
+unfoldable pub outcome_of : ℕ → Image → Call → Outcome
+outcome_of P s x = write_outcome P x.layout s x.item x.contents x.allowance
 
 -- the image as they leave it
 unfoldable pub play : ℕ → Image → List Call → Image
 play P s [] = s
-play P s (x ∷ xs) = play P (outcomeOf P s x).image xs
+play P s (x ∷ xs) = play P (outcome_of P s x).image xs
 
 -- the answers
 unfoldable pub answers : ℕ → Image → List Call → List ℕ
 answers P s [] = []
-answers P s (x ∷ xs) = (outcomeOf P s x).code ∷ answers P (outcomeOf P s x).image xs
+answers P s (x ∷ xs) = (outcome_of P s x).code ∷ answers P (outcome_of P s x).image xs
 
 -- every step that was done, in order
-unfoldable pub stepsDone : ℕ → Image → List Call → List Step
-stepsDone P s [] = []
-stepsDone P s (x ∷ xs) = take x.allowance (writeWork P x.layout s x.item x.contents).steps ++ stepsDone P (outcomeOf P s x).image xs
+unfoldable pub steps_done : ℕ → Image → List Call → List Step
+steps_done P s [] = []
+steps_done P s (x ∷ xs) = take x.allowance (write_work P x.layout s x.item x.contents).steps ++ steps_done P (outcome_of P s x).image xs
 
 -- ---- statuses
 
 -- the partitions whose status a list of steps sets, in order: a status is the first byte of its partition
-unfoldable pub statusesSet : ℕ → List Step → List ℕ
-statusesSet S [] = []
-statusesSet S (program at v ∷ xs) = cond (eqb (at % S) 0) (at / S ∷ statusesSet S xs) (statusesSet S xs)
-statusesSet S (erase p ∷ xs) = statusesSet S xs
+unfoldable pub statuses_set : ℕ → List Step → List ℕ
+statuses_set S [] = []
+statuses_set S (program at v ∷ xs) = cond (eqb (at % S) 0) (at / S ∷ statuses_set S xs) (statuses_set S xs)
+statuses_set S (erase p ∷ xs) = statuses_set S xs
 
 -- the last of them
 unfoldable pub last_of : List ℕ → Newest
@@ -51,29 +51,29 @@ last_of (p ∷ q ∷ r) = last_of (q ∷ r)
 
 -- "from all statuses 255 on with one P and only this writer": an image that P divides, without a status
 pub record Unwritten (P : ℕ) (s : Image) : Type 0 where
-  pub right : imageOk P s ≡ true
-  pub none : (p : ℕ) → p < P → statusOf (partitionSize P s) s p ≡ noStatus
+  pub right : image_ok P s ≡ true
+  pub none : (p : ℕ) → p < P → status_of (partition_size P s) s p ≡ no_status
 
 -- "The newest is the run's last: prove for every P and every point of the cycle .. that its status was set last." Writes by any layout tables, cut anywhere.
 abbrev pub SetLast : Type 0
-SetLast = (P : ℕ) (s : Image) (xs : List Call) → Unwritten P s → newestOf P (play P s xs) ≡ last_of (statusesSet (partitionSize P s) (stepsDone P s xs))
+SetLast = (P : ℕ) (s : Image) (xs : List Call) → Unwritten P s → newest_of P (play P s xs) ≡ last_of (statuses_set (partition_size P s) (steps_done P s xs))
 
 -- And the point of the cycle: after k statuses were set, the last in partition (k-1) modulo P, where the status is (k-1) modulo 255.
 pub record AtPoint (P : ℕ) (s : Image) (k : ℕ) : Type 0 where
-  pub at : newestOf P s ≡ newest ((k - 1) % P)
-  pub status : statusOf (partitionSize P s) s ((k - 1) % P) ≡ (k - 1) % 255
+  pub at : newest_of P s ≡ newest ((k - 1) % P)
+  pub status : status_of (partition_size P s) s ((k - 1) % P) ≡ (k - 1) % 255
 
 abbrev pub Cycle : Type 0
 Cycle = (P : ℕ) (s : Image) (xs : List Call) → Unwritten P s
-    → let k = length (statusesSet (partitionSize P s) (stepsDone P s xs)) in 0 < k → AtPoint P (play P s xs) k
+    → let k = length (statuses_set (partition_size P s) (steps_done P s xs)) in 0 < k → AtPoint P (play P s xs) k
 
 -- ---- "a single run in partition order, the first following the last"
 
 -- n partitions from a on, going round, have statuses v, v + 1 and so on, modulo 255; all others have none
 pub record Run (P S : ℕ) (s : Image) (a v n : ℕ) : Type 0 where
   pub most : n ≤ P
-  pub has : (j : ℕ) → j < n → statusOf S s ((a + j) % P) ≡ (v + j) % 255
-  pub none : (j : ℕ) → n ≤ j → j < P → statusOf S s ((a + j) % P) ≡ noStatus
+  pub has : (j : ℕ) → j < n → status_of S s ((a + j) % P) ≡ (v + j) % 255
+  pub none : (j : ℕ) → n ≤ j → j < P → status_of S s ((a + j) % P) ≡ no_status
 
 -- its last is p
 pub record EndsAt (P S : ℕ) (s : Image) (p : ℕ) : Type 0 where
@@ -85,25 +85,25 @@ pub record EndsAt (P S : ℕ) (s : Image) (p : ℕ) : Type 0 where
 
 -- The newest partition is p exactly if the statuses are a single run whose last is p, and there is nothing written exactly if no partition has a status. So 4 answers statuses that are no single run, and no others.
 pub record Reads (P : ℕ) (s : Image) : Type 0 where
-  pub ends : (p : ℕ) → newestOf P s ≡ newest p → EndsAt P (partitionSize P s) s p
-  pub found : (p : ℕ) → EndsAt P (partitionSize P s) s p → newestOf P s ≡ newest p
-  pub none : newestOf P s ≡ nothing → Unwritten P s
-  pub blank : Unwritten P s → newestOf P s ≡ nothing
+  pub ends : (p : ℕ) → newest_of P s ≡ newest p → EndsAt P (partition_size P s) s p
+  pub found : (p : ℕ) → EndsAt P (partition_size P s) s p → newest_of P s ≡ newest p
+  pub none : newest_of P s ≡ nothing → Unwritten P s
+  pub blank : Unwritten P s → newest_of P s ≡ nothing
 
 abbrev pub SingleRun : Type 0
-SingleRun = (P : ℕ) (s : Image) → imageOk P s ≡ true → Bytes s → Reads P s
+SingleRun = (P : ℕ) (s : Image) → image_ok P s ≡ true → Bytes s → Reads P s
 
 -- ---- the plain map from item to data
 
 -- what a read gives: its answer, and the data
-unfoldable pub replyTo : ℕ → List ℕ → Image → ℕ → Reply
-replyTo P layout s i = record { code = (readOutcome P layout s i).code; bytes = pieceRead P layout s i }
+unfoldable pub reply_to : ℕ → List ℕ → Image → ℕ → Reply
+reply_to P layout s i = record { code = (read_outcome P layout s i).code; bytes = piece_read P layout s i }
 
 -- an image of bytes whose reads are answered, but for identifiers that are not in the table and items that are not written
 pub record Accepted (P : ℕ) (layout : List ℕ) (s : Image) : Type 0 where
-  pub right : imageOk P s ≡ true
-  pub layout-right : layoutOk (partitionSize P s) layout ≡ true
-  pub single : newestOf P s ≢ no_run
+  pub right : image_ok P s ≡ true
+  pub layout_right : layout_ok (partition_size P s) layout ≡ true
+  pub single : newest_of P s ≢ no_run
   pub bytes : Bytes layout
   pub image : Bytes s
 
@@ -111,25 +111,25 @@ abbrev pub Map : Type 0
 Map = ℕ → Found
 
 -- what reads of an image find
-unfoldable pub mapOf : ℕ → List ℕ → Image → Map
-mapOf P layout s i = let o = readOutcome P layout s i in cond (eqb o.code 0) (present (pieceRead P layout s i)) absent
+unfoldable pub map_of : ℕ → List ℕ → Image → Map
+map_of P layout s i = let o = read_outcome P layout s i in cond (eqb o.code 0) (present (piece_read P layout s i)) absent
 
 -- what a read of a plain map is told
 unfoldable pub found : Found → Reply
 found absent = record { code = 5; bytes = [] }
 found (present d) = record { code = 0; bytes = d }
 
-unfoldable pub replyOf : List ℕ → Map → ℕ → Reply
-replyOf layout m i = cond (hasItem i (items_of layout)) (found (m i)) (record { code = 3; bytes = [] })
+unfoldable pub reply_of : List ℕ → Map → ℕ → Reply
+reply_of layout m i = cond (has_item i (items_of layout)) (found (m i)) (record { code = 3; bytes = [] })
 
 -- a write that answered 0 has stored its data, and any other, cut or refused, has changed nothing
 unfoldable pub stored : ℕ → List ℕ → ℕ → Map → Map
 stored i d code m j = cond (eqb code 0 && eqb j i) (present d) (m j)
 
-unfoldable pub storedAll : List Call → List ℕ → Map → Map
-storedAll [] ks m = m
-storedAll (x ∷ xs) [] m = m
-storedAll (x ∷ xs) (k ∷ ks) m = storedAll xs ks (stored x.item x.contents k m)
+unfoldable pub stored_all : List Call → List ℕ → Map → Map
+stored_all [] ks m = m
+stored_all (x ∷ xs) [] m = m
+stored_all (x ∷ xs) (k ∷ ks) m = stored_all xs ks (stored x.item x.contents k m)
 
 -- writes by one layout table, of bytes
 abbrev pub ByTable : List ℕ → List Call → Type 0
@@ -140,17 +140,17 @@ ByTable layout (x ∷ xs) = (x.layout ≡ layout) × Bytes x.contents × ByTable
 -- with the data of the finished writes stored in it, and of no others.
 abbrev pub PlainMap : Type 0
 PlainMap = (P : ℕ) (layout : List ℕ) (s : Image) (xs : List Call) → Accepted P layout s → ByTable layout xs
-    → (i : ℕ) → replyTo P layout (play P s xs) i ≡ replyOf layout (storedAll xs (answers P s xs) (mapOf P layout s)) i
+    → (i : ℕ) → reply_to P layout (play P s xs) i ≡ reply_of layout (stored_all xs (answers P s xs) (map_of P layout s)) i
 
 -- So after a cut every item reads as before the cut write, the written one too; and after a finished write the written one reads as new, and every other as before.
 abbrev pub CutChangesNothing : Type 0
-CutChangesNothing = (P : ℕ) (s : Image) (x : Call) → Accepted P x.layout s → Bytes x.contents → (outcomeOf P s x).code ≡ 9
-    → (i : ℕ) → replyTo P x.layout (outcomeOf P s x).image i ≡ replyTo P x.layout s i
+CutChangesNothing = (P : ℕ) (s : Image) (x : Call) → Accepted P x.layout s → Bytes x.contents → (outcome_of P s x).code ≡ 9
+    → (i : ℕ) → reply_to P x.layout (outcome_of P s x).image i ≡ reply_to P x.layout s i
 
 abbrev pub FinishedIsNew : Type 0
-FinishedIsNew = (P : ℕ) (s : Image) (x : Call) → Accepted P x.layout s → Bytes x.contents → (outcomeOf P s x).code ≡ 0
-    → (replyTo P x.layout (outcomeOf P s x).image x.item ≡ record { code = 0; bytes = x.contents })
-    × ((i : ℕ) → i ≢ x.item → replyTo P x.layout (outcomeOf P s x).image i ≡ replyTo P x.layout s i)
+FinishedIsNew = (P : ℕ) (s : Image) (x : Call) → Accepted P x.layout s → Bytes x.contents → (outcome_of P s x).code ≡ 0
+    → (reply_to P x.layout (outcome_of P s x).image x.item ≡ record { code = 0; bytes = x.contents })
+    × ((i : ℕ) → i ≢ x.item → reply_to P x.layout (outcome_of P s x).image i ≡ reply_to P x.layout s i)
 
 -- The run of statuses stays single under every history of this writer, by any tables,
 abbrev pub StaysSingle : Type 0
@@ -158,4 +158,4 @@ StaysSingle = (P : ℕ) (layout : List ℕ) (s : Image) (xs : List Call) → Acc
 
 -- so that no write on an image that it has left answers 4. (That no read does stands in `PlainMap`.)
 abbrev pub NeverNoRun : Type 0
-NeverNoRun = (P : ℕ) (layout : List ℕ) (s : Image) (xs : List Call) → Accepted P layout s → (x : Call) → (outcomeOf P (play P s xs) x).code ≢ 4
+NeverNoRun = (P : ℕ) (layout : List ℕ) (s : Image) (xs : List Call) → Accepted P layout s → (x : Call) → (outcome_of P (play P s xs) x).code ≢ 4

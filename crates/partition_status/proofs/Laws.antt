@@ -17,11 +17,11 @@ use Rattle.model.specs.Laws.Lists.{and_left, all_append}
 use Rattle.model.specs.Chip.{Image}
 use Rattle.model.specs.Sequences.{among}
 use Rattle.partitions.specs.Laws.{kept_append}
-use Rattle.partitions.specs.Partitions.{partitionsOk, noStatus, nextStatus, statusOf, nextPartition, endsRun, indices, kept, nothing, newest, no_run, onlyOne, newestIn}
+use Rattle.partitions.specs.Partitions.{partitions_ok, no_status, next_status, status_of, next_partition, ends_run, indices, kept, nothing, newest, no_run, only_one, newest_in}
 
 -- ---- how many partitions
 
-pub accepted : {x k : ℕ} → x ≡ k → partitionsOk k ≡ true → true ≡ partitionsOk x
+pub accepted : {x k : ℕ} → x ≡ k → partitions_ok k ≡ true → true ≡ partitions_ok x
 accepted e h = rw e (sym h)
 
 -- none of a list of numbers
@@ -37,35 +37,35 @@ pub inside : (P S p n : ℕ) → p < P → 0 < S → P * S ≤ n → p * S < n
 inside P S p n h k f = omega (arith, mul-lt-mul_of_pos_right h k)
 
 module _ (P p : ℕ) where
-  pub next-below : p < P → nextPartition P p < P
-  unfolding nextPartition
-  next-below h = mod-lt (p + 1) (omega arith)
+  pub next_below : p < P → next_partition P p < P
+  unfolding next_partition
+  next_below h = mod-lt (p + 1) (omega arith)
 
-  pub next-first : p + 1 ≡ P → 0 ≡ nextPartition P p
-  unfolding nextPartition
-  next-first e = rw e (sym (mod_self P))
+  pub next_first : p + 1 ≡ P → 0 ≡ next_partition P p
+  unfolding next_partition
+  next_first e = rw e (sym (mod_self P))
 
-  pub next-inner : p + 1 < P → p + 1 ≡ nextPartition P p
-  unfolding nextPartition
-  next-inner h = sym (mod-eq_of_lt h)
+  pub next_inner : p + 1 < P → p + 1 ≡ next_partition P p
+  unfolding next_partition
+  next_inner h = sym (mod-eq_of_lt h)
 
 -- ---- where a run ends
 
 module _ (v u : ℕ) where
-  pub ends-none : v ≡ noStatus → false ≡ not (eqb v noStatus) && not (eqb u (nextStatus v))
-  ends-none k = rw (eq-eqb v noStatus k)
+  pub ends_none : v ≡ no_status → false ≡ not (eqb v no_status) && not (eqb u (next_status v))
+  ends_none k = rw (eq-eqb v no_status k)
 
-  pub ends_some : (v ≡ noStatus → ⊥) → (w : ℕ) → w ≡ nextStatus v → not (eqb u w) ≡ not (eqb v noStatus) && not (eqb u (nextStatus v))
-  ends_some n w e = rw (ne_eqb v noStatus n, ← e)
+  pub ends_some : (v ≡ no_status → ⊥) → (w : ℕ) → w ≡ next_status v → not (eqb u w) ≡ not (eqb v no_status) && not (eqb u (next_status v))
+  ends_some n w e = rw (ne_eqb v no_status n, ← e)
 
 -- a partition has no status
 abbrev pub none : ℕ → Image → ℕ → Bool
-none S s p = eqb (statusOf S s p) noStatus
+none S s p = eqb (status_of S s p) no_status
 
 -- no status follows another that is there
-follows-none : (v u : ℕ) → u ≡ noStatus → not (eqb v noStatus) && not (eqb u (nextStatus v)) ≡ false → eqb v noStatus ≡ true
-unfolding nextStatus
-follows-none v u e = go (eqb v noStatus)
+follows_none : (v u : ℕ) → u ≡ no_status → not (eqb v no_status) && not (eqb u (next_status v)) ≡ false → eqb v no_status ≡ true
+unfolding next_status
+follows_none v u e = go (eqb v no_status)
   where
     byte : (v + 1) % 255 < 255
     byte = mod-lt (v + 1) (omega arith)
@@ -77,37 +77,37 @@ follows-none v u e = go (eqb v noStatus)
 -- ---- all partitions, one more at a time
 
 module _ (f : ℕ → Bool) (k : ℕ) where
-  all-next : all f (indices (k + 1)) ≡ all f (indices k) && f k
+  all_next : all f (indices (k + 1)) ≡ all f (indices k) && f k
   unfolding indices all
-  all-next = rw (add-one k, all_append f (indices k) (k ∷ []), and-true (f k))
+  all_next = rw (add-one k, all_append f (indices k) (k ∷ []), and-true (f k))
 
-  kept-one : f k ≡ true → kept f (indices (k + 1)) ≡ kept f (indices k) ++ (k ∷ [])
+  kept_one : f k ≡ true → kept f (indices (k + 1)) ≡ kept f (indices k) ++ (k ∷ [])
   unfolding indices kept
-  kept-one e = rw (add-one k, kept_append f (indices k) (k ∷ []), e)
+  kept_one e = rw (add-one k, kept_append f (indices k) (k ∷ []), e)
 
-  kept-none : f k ≡ false → kept f (indices (k + 1)) ≡ kept f (indices k)
+  kept_none : f k ≡ false → kept f (indices (k + 1)) ≡ kept f (indices k)
   unfolding indices kept
-  kept-none e = rw (add-one k, kept_append f (indices k) (k ∷ []), e) (append-nil (kept f (indices k)))
+  kept_none e = rw (add-one k, kept_append f (indices k) (k ∷ []), e) (append-nil (kept f (indices k)))
 
 -- a test that fails of one fails of all
-all-fails : (f : ℕ → Bool) (k P : ℕ) → k < P → f k ≡ false → all f (indices P) ≡ false
-all-fails f k zero h e = absurd (omega arith)
-all-fails f k (suc P) h e = rw (← add-one P) (all-next f P ∙ elim (dec_le P k) [ yes l ↦ here (omega arith) | no l ↦ rw (all-fails f k P (omega arith) e) ])
+all_fails : (f : ℕ → Bool) (k P : ℕ) → k < P → f k ≡ false → all f (indices P) ≡ false
+all_fails f k zero h e = absurd (omega arith)
+all_fails f k (suc P) h e = rw (← add-one P) (all_next f P ∙ elim (dec_le P k) [ yes l ↦ here (omega arith) | no l ↦ rw (all_fails f k P (omega arith) e) ])
   where
     here : k ≡ P → all f (indices P) && f P ≡ false
     here q = rw (← q, e) (and-false (all f (indices k)))
 
 -- what is kept of the first is kept of all
-kept-grows : (f : ℕ → Bool) (k P : ℕ) → k ≤ P → length (kept f (indices k)) ≤ length (kept f (indices P))
+kept_grows : (f : ℕ → Bool) (k P : ℕ) → k ≤ P → length (kept f (indices k)) ≤ length (kept f (indices P))
 unfolding indices
-kept-grows f k zero h = let e : k ≡ zero = omega arith in rw e (omega arith)
-kept-grows f k (suc P) h = elim (dec_le k P) [ yes l ↦ rw (kept_append f (indices P) (P ∷ [])) (omega (arith, kept-grows f k P l, length-append (kept f (indices P)) (kept f (P ∷ [])))) | no l ↦ whole (omega arith) ]
+kept_grows f k zero h = let e : k ≡ zero = omega arith in rw e (omega arith)
+kept_grows f k (suc P) h = elim (dec_le k P) [ yes l ↦ rw (kept_append f (indices P) (P ∷ [])) (omega (arith, kept_grows f k P l, length-append (kept f (indices P)) (kept f (P ∷ [])))) | no l ↦ whole (omega arith) ]
   where
     whole : k ≡ suc P → length (kept f (indices k)) ≤ length (kept f (indices P ++ (P ∷ [])))
     whole e = rw e (omega arith)
 
-several : (xs : List ℕ) → (length xs ≡ 1 → ⊥) → onlyOne xs ≡ no_run
-unfolding onlyOne
+several : (xs : List ℕ) → (length xs ≡ 1 → ⊥) → only_one xs ≡ no_run
+unfolding only_one
 several [] n = refl
 several (x ∷ []) n = absurd (n refl)
 several (x ∷ y ∷ xs) n = refl
@@ -118,16 +118,16 @@ several (x ∷ y ∷ xs) n = refl
 -- whether one has a status. A run that has not ended goes on with the next.
 pub record Looked (P S : ℕ) (s : Image) (ends last status at k : ℕ) : Type 0 where
   pub within : k ≤ P
-  pub here : status ≡ statusOf S s (k % P)
+  pub here : status ≡ status_of S s (k % P)
   pub place : at ≡ k % P * S
-  pub unended : ends ≡ 0 → kept (endsRun P S s) (indices k) ≡ []
-  pub ended : 0 < ends → kept (endsRun P S s) (indices k) ≡ last ∷ []
+  pub unended : ends ≡ 0 → kept (ends_run P S s) (indices k) ≡ []
+  pub ended : 0 < ends → kept (ends_run P S s) (indices k) ≡ last ∷ []
   pub written : 0 < ends → all (none S s) (indices k) ≡ false
-  pub unwritten : ends ≡ 0 → status ≡ noStatus → all (none S s) (indices k) ≡ true
+  pub unwritten : ends ≡ 0 → status ≡ no_status → all (none S s) (indices k) ≡ true
 
-pub looked-none : (P S : ℕ) (s : Image) → 0 < P → Looked P S s 0 0 (get_or s 0 0) 0 0
-unfolding indices all kept statusOf
-looked-none P S s h =
+pub looked_none : (P S : ℕ) (s : Image) → 0 < P → Looked P S s 0 0 (get_or s 0 0) 0 0
+unfolding indices all kept status_of
+looked_none P S s h =
     let e : 0 % P ≡ 0 = mod-eq_of_lt h in
     record {
       within = omega arith;
@@ -140,9 +140,9 @@ looked-none P S s h =
     }
 
 -- no partition at all
-pub found-no-partition : (P S : ℕ) (s : Image) → P ≡ 0 → nothing ≡ newestIn P S s
-unfolding newestIn indices all
-found-no-partition P S s e = rw e
+pub found_no_partition : (P S : ℕ) (s : Image) → P ≡ 0 → nothing ≡ newest_in P S s
+unfolding newest_in indices all
+found_no_partition P S s e = rw e
 
 module _ {P S : ℕ} {s : Image} {ends last status at k : ℕ} (v : Looked P S s ends last status at k) where
   -- one more
@@ -155,83 +155,83 @@ module _ {P S : ℕ} {s : Image} {ends last status at k : ℕ} (v : Looked P S s
     goes_on = omega (arith, mul-le-mul_right S h, suc-mul k S, stands)
 
     -- where the next one stands
-    pub place-first : {b : ℕ} → k ≡ P - 1 → b ≡ 0 → b ≡ nextPartition P k * S
-    place-first e f = rw (← (next-first P k (omega arith)), zero-mul) f
+    pub place_first : {b : ℕ} → k ≡ P - 1 → b ≡ 0 → b ≡ next_partition P k * S
+    place_first e f = rw (← (next_first P k (omega arith)), zero-mul) f
 
-    pub place-inner : {b : ℕ} → (k ≡ P - 1 → ⊥) → b ≡ at + S → b ≡ nextPartition P k * S
-    place-inner n f = rw (← (next-inner P k (omega (arith, n)))) (omega (arith, f, stands))
+    pub place_inner : {b : ℕ} → (k ≡ P - 1 → ⊥) → b ≡ at + S → b ≡ next_partition P k * S
+    place_inner n f = rw (← (next_inner P k (omega (arith, n)))) (omega (arith, f, stands))
 
-    module _ {b : ℕ} (p : b ≡ nextPartition P k * S) {t : Bool} (r : t ≡ not (eqb status noStatus) && not (eqb (get_or s b 0) (nextStatus status))) where
-      next_here : get_or s b 0 ≡ statusOf S s (nextPartition P k)
-      unfolding statusOf
+    module _ {b : ℕ} (p : b ≡ next_partition P k * S) {t : Bool} (r : t ≡ not (eqb status no_status) && not (eqb (get_or s b 0) (next_status status))) where
+      next_here : get_or s b 0 ≡ status_of S s (next_partition P k)
+      unfolding status_of
       next_here = rw p
 
-      own : status ≡ statusOf S s k
-      own = v.here ∙ ap (statusOf S s) (mod-eq_of_lt h)
+      own : status ≡ status_of S s k
+      own = v.here ∙ ap (status_of S s) (mod-eq_of_lt h)
 
-      test : t ≡ endsRun P S s k
-      unfolding endsRun
+      test : t ≡ ends_run P S s k
+      unfolding ends_run
       test = rw (← own, ← next_here) r
 
-      has-status : t ≡ true → none S s k ≡ false
-      has-status e = rw (← own) (not-true (eqb status noStatus) (and_left (not (eqb status noStatus)) _ (sym r ∙ e)))
+      has_status : t ≡ true → none S s k ≡ false
+      has_status e = rw (← own) (not-true (eqb status no_status) (and_left (not (eqb status no_status)) _ (sym r ∙ e)))
 
-      pub looked-end : {e l : ℕ} → t ≡ true → (0 < ends → ⊥) → e ≡ 1 → l ≡ k → Looked P S s e l (get_or s b 0) b (k + 1)
-      unfolding nextPartition
-      looked-end q o a c = record {
+      pub looked_end : {e l : ℕ} → t ≡ true → (0 < ends → ⊥) → e ≡ 1 → l ≡ k → Looked P S s e l (get_or s b 0) b (k + 1)
+      unfolding next_partition
+      looked_end q o a c = record {
         within = omega arith;
         here = next_here;
         place = p;
         unended = λ z. absurd (omega arith);
-        ended = λ z. kept-one (endsRun P S s) k (sym test ∙ q) ∙ rw (v.unended (omega arith), c);
-        written = λ z. all-fails (none S s) k (k + 1) (omega arith) (has-status q);
+        ended = λ z. kept_one (ends_run P S s) k (sym test ∙ q) ∙ rw (v.unended (omega arith), c);
+        written = λ z. all_fails (none S s) k (k + 1) (omega arith) (has_status q);
         unwritten = λ z. absurd (omega arith);
       }
 
-      pub looked-inner : {e l : ℕ} → t ≡ false → e ≡ ends → l ≡ last → Looked P S s e l (get_or s b 0) b (k + 1)
-      unfolding nextPartition
-      looked-inner q a c =
-          let same = kept-none (endsRun P S s) k (sym test ∙ q) in
+      pub looked_inner : {e l : ℕ} → t ≡ false → e ≡ ends → l ≡ last → Looked P S s e l (get_or s b 0) b (k + 1)
+      unfolding next_partition
+      looked_inner q a c =
+          let same = kept_none (ends_run P S s) k (sym test ∙ q) in
           record {
             within = omega arith;
             here = next_here;
             place = p;
             unended = λ z. same ∙ v.unended (omega arith);
             ended = λ z. same ∙ rw c (v.ended (omega arith));
-            written = λ z. all-next (none S s) k ∙ rw (v.written (omega arith));
+            written = λ z. all_next (none S s) k ∙ rw (v.written (omega arith));
             unwritten = λ z n.
-                let blank : eqb status noStatus ≡ true = follows-none status (get_or s b 0) n (sym r ∙ q) in
-                all-next (none S s) k ∙ rw (← own, blank, v.unwritten (omega arith) (eqb-true status noStatus blank));
+                let blank : eqb status no_status ≡ true = follows_none status (get_or s b 0) n (sym r ∙ q) in
+                all_next (none S s) k ∙ rw (← own, blank, v.unwritten (omega arith) (eqb-true status no_status blank));
           }
 
       -- a second end
-      pub found-second : t ≡ true → 0 < ends → no_run ≡ newestIn P S s
-      unfolding newestIn
-      found-second q o =
-          let f = endsRun P S s in
-          let two : kept f (indices (k + 1)) ≡ last ∷ k ∷ [] = kept-one f k (sym test ∙ q) ∙ rw (v.ended o) in
-          let more = kept-grows f (k + 1) P (omega arith) in
-          sym (rw (all-fails (none S s) k P h (has-status q)) (several (kept f (indices P)) (λ z. omega (arith, ap length two))))
+      pub found_second : t ≡ true → 0 < ends → no_run ≡ newest_in P S s
+      unfolding newest_in
+      found_second q o =
+          let f = ends_run P S s in
+          let two : kept f (indices (k + 1)) ≡ last ∷ k ∷ [] = kept_one f k (sym test ∙ q) ∙ rw (v.ended o) in
+          let more = kept_grows f (k + 1) P (omega arith) in
+          sym (rw (all_fails (none S s) k P h (has_status q)) (several (kept f (indices P)) (λ z. omega (arith, ap length two))))
 
   -- all are looked at
   module _ (h : P ≤ k) (some : 0 < P) where
     whole : k ≡ P
     whole = omega (arith, v.within)
 
-    found : {t : Bool} → all (none S s) (indices k) ≡ t → newestIn P S s ≡ cond t nothing (onlyOne (kept (endsRun P S s) (indices k)))
-    unfolding newestIn
+    found : {t : Bool} → all (none S s) (indices k) ≡ t → newest_in P S s ≡ cond t nothing (only_one (kept (ends_run P S s) (indices k)))
+    unfolding newest_in
     found e = rw (← whole, e)
 
-    first : status ≡ statusOf S s 0
+    first : status ≡ status_of S s 0
     first = v.here ∙ rw (whole, mod_self P)
 
-    pub found-one : 0 < ends → newest last ≡ newestIn P S s
-    unfolding onlyOne
-    found-one o = sym (found (v.written o) ∙ rw (v.ended o))
+    pub found_one : 0 < ends → newest last ≡ newest_in P S s
+    unfolding only_one
+    found_one o = sym (found (v.written o) ∙ rw (v.ended o))
 
-    pub found-ring : (0 < ends → ⊥) → (status ≡ noStatus → ⊥) → no_run ≡ newestIn P S s
-    unfolding onlyOne
-    found-ring o n = sym (found (all-fails (none S s) 0 k (omega arith) (rw (← first) (ne_eqb status noStatus n))) ∙ rw (v.unended (omega arith)))
+    pub found_ring : (0 < ends → ⊥) → (status ≡ no_status → ⊥) → no_run ≡ newest_in P S s
+    unfolding only_one
+    found_ring o n = sym (found (all_fails (none S s) 0 k (omega arith) (rw (← first) (ne_eqb status no_status n))) ∙ rw (v.unended (omega arith)))
 
-    pub found_nothing : (0 < ends → ⊥) → status ≡ noStatus → nothing ≡ newestIn P S s
+    pub found_nothing : (0 < ends → ⊥) → status ≡ no_status → nothing ≡ newest_in P S s
     found_nothing o n = sym (found (v.unwritten (omega arith) n))

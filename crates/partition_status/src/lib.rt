@@ -1,6 +1,6 @@
 // The partitions of a board with the older partition format (request #109): how many there may be, and which is the newest.
 ghost use Rattle.std.specs.Prelude.{◌≡◌, ◌&&◌, not, ◌*◌, ◌≤◌, ◌<◌, length, eqb};
-ghost use Rattle.partitions.specs.Partitions.{partitionsOk, noStatus, nextStatus, statusOf, nextPartition, newestIn};
+ghost use Rattle.partitions.specs.Partitions.{partitions_ok, no_status, next_status, status_of, next_partition, newest_in};
 ghost use Rattle.partition_status.specs.Said.{said};
 
 // The status byte of a partition that has none yet.
@@ -19,7 +19,7 @@ pub enum Newest {
 
 // Whether a board may have so many partitions.
 pub fn partitions_ok(partitions: usize) -> bool
-    ensures { result ≡ partitionsOk partitions }
+    ensures { result ≡ partitions_ok partitions }
 {
     match partitions {
         2 | 4 | 8 | 16 | 32 | 64 | 128 => true,
@@ -29,7 +29,7 @@ pub fn partitions_ok(partitions: usize) -> bool
 
 // The status that follows another. It is found in 16 bits: one more than a byte may be no byte.
 pub fn next_status(status: u8) -> u8
-    ensures { result ≡ nextStatus status }
+    ensures { result ≡ next_status status }
 {
     ((status as u16 + 1) % STATUSES) as u8
 }
@@ -37,7 +37,7 @@ pub fn next_status(status: u8) -> u8
 // The partition that follows another, the first following the last.
 pub fn next_partition(partitions: usize, partition: usize) -> usize
     requires { partition < partitions }
-    ensures { result ≡ nextPartition partitions partition }
+    ensures { result ≡ next_partition partitions partition }
 {
     let next = partition + 1;
     if next == partitions {
@@ -49,14 +49,14 @@ pub fn next_partition(partitions: usize, partition: usize) -> usize
 // The status of a partition of so many bytes, which is its first byte.
 pub fn status_of(image: &[u8], size: usize, partition: usize) -> u8
     requires { partition * size < length image.now }
-    ensures { result ≡ statusOf size image.now partition }
+    ensures { result ≡ status_of size image.now partition }
 {
     image[partition * size]
 }
 
 // Whether a run of statuses ends with a partition: it has one, and the next partition's does not follow it.
 fn ends_run(status: u8, next: u8) -> bool
-    ensures { result ≡ not (eqb status noStatus) && not (eqb next (nextStatus status)) }
+    ensures { result ≡ not (eqb status no_status) && not (eqb next (next_status status)) }
 {
     if status == NO_STATUS {
         return false;
@@ -69,7 +69,7 @@ fn ends_run(status: u8, next: u8) -> bool
 // inside the loop is for speed: with 128 partitions 4 KiB apart, as measured, loads that follow each other closer take longer.
 pub fn find_newest(image: &[u8], partitions: usize, size: usize) -> Newest
     requires { (0 < size) × (partitions * size ≤ length image.now) }
-    ensures { said result ≡ newestIn partitions size image.now }
+    ensures { said result ≡ newest_in partitions size image.now }
 {
     if partitions == 0 {
         return Newest::Nothing;

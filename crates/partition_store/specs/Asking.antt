@@ -2,23 +2,23 @@
 use Rattle.std.specs.Prelude.{ℕ, ◌+◌, ◌/◌, ◌%◌, ◌≤◌, ◌≡◌, Bool, true, false, List, ◌++◌}
 use Rattle.model.specs.Chip.{Image}
 use Rattle.model.specs.Answers.{Refusal, first_of}
-use Rattle.partitions.specs.Layout.{items_of, layoutOk, hasItem, item_of}
-use Rattle.partitions.specs.Partitions.{imageOk, partitionSize}
+use Rattle.partitions.specs.Layout.{items_of, layout_ok, has_item, item_of}
+use Rattle.partitions.specs.Partitions.{image_ok, partition_size}
 use Rattle.partitions.specs.Answers.{number_of, refusals}
 use Rattle.partition_store.specs.declared.Asked.{Asked}
 use Rattle.partition_store.specs.declared.Asked.TheVariants.{Refused, Item}
 
 -- P and the table are right, and the item with identifier i stands at an offset of a partition, with so many bytes of data
 pub record Known (P : ℕ) (layout : List ℕ) (s : Image) (i at size : ℕ) : Type 0 where
-  pub image : imageOk P s ≡ true
-  pub table : layoutOk (partitionSize P s) layout ≡ true
-  pub has : hasItem i (items_of layout) ≡ true
+  pub image : image_ok P s ≡ true
+  pub table : layout_ok (partition_size P s) layout ≡ true
+  pub has : has_item i (items_of layout) ≡ true
   pub item : item_of i (items_of layout) ≡ record { identifier = i; size = size; at = at }
   pub short : size ≤ 255
 
 -- refused for P, for the table or for the identifier, whatever else there is to refuse it for; or not for these
 abbrev pub Asks : ℕ → List ℕ → Image → ℕ → Asked → Type 0
-Asks P layout s i (Refused a) = (number_of a ≡ 0 → ⊥) × ((fits : Bool) (more : List Refusal) → (hasItem i (items_of layout) ≡ false → fits ≡ false) → first_of (refusals P layout s fits ++ more) ≡ number_of a)
+Asks P layout s i (Refused a) = (number_of a ≡ 0 → ⊥) × ((fits : Bool) (more : List Refusal) → (has_item i (items_of layout) ≡ false → fits ≡ false) → first_of (refusals P layout s fits ++ more) ≡ number_of a)
 Asks P layout s i (Item at size) = Known P layout s i at size
 
 -- the item's bytes lie in each of P partitions of an image with so many bytes

@@ -3,11 +3,11 @@
 ghost use Rattle.std.specs.Prelude.{◌≡◌, [], ◌∷◌, ℕ, ◌+◌, ◌/◌, ◌≤◌, ◌<◌, length};
 ghost use Rattle.partitions.specs.Layout.{items_of};
 ghost use Rattle.partitions.specs.Partitions as board;
-ghost use Rattle.partitions.specs.Writes.{fill, carried, writeSteps, itemSteps, entryFor};
-ghost use Rattle.partitions.specs.Answers.{workedIn, number_of, writeOutcome, wrote, readOutcome, told};
+ghost use Rattle.partitions.specs.Writes.{fill, carried, write_steps, item_steps, entry_for};
+ghost use Rattle.partitions.specs.Answers.{worked_in, number_of, write_outcome, wrote, read_outcome, told};
 ghost use Rattle.partition_items.specs.Carrying.{Carry};
 ghost use Rattle.partition_store.specs.Asking.{Known, Asks, Stands};
-ghost use Rattle.partition_store.specs.Answering.{Finished, Performs, writeOn, entry_at, read_on};
+ghost use Rattle.partition_store.specs.Answering.{Finished, Performs, write_on, entry_at, read_on};
 
 use partition_layout::Place;
 use partition_status::Newest;
@@ -96,7 +96,7 @@ fn read_found(image: &[u8], partitions: usize, item: u8, at: usize, bytes: usize
 
 // The place of an item's data, which are at most 255 bytes.
 pub fn read(image: &[u8], partitions: usize, layout: &[u8], item: u8) -> Spot
-    ensures { (told result ≡ readOutcome partitions layout.now image.now item) × (result.length ≤ 255) }
+    ensures { (told result ≡ read_outcome partitions layout.now image.now item) × (result.length ≤ 255) }
 {
     let asked = find(image, partitions, layout, item);
     match asked {
@@ -153,7 +153,7 @@ fn write_first(
 // A write to bytes that are all 255: the identifier is the step that counts.
 fn write_in_place(image: &mut [u8], at: usize, item: u8, contents: &[u8], budget: u64) -> Written
     requires { at + 1 + length contents.now ≤ length image.old }
-    ensures { (S : ℕ) → Performs (itemSteps at item contents.now) S budget result image.old image.new }
+    ensures { (S : ℕ) → Performs (item_steps at item contents.now) S budget result image.old image.new }
 {
     let left = partition_items::write_item(image, at, item, contents, budget);
     finished(budget, left, budget, contents.len() as u64 + 1)
@@ -172,7 +172,7 @@ fn write_next(
     budget: u64,
 ) -> Written
     requires { Carry size from to layout.now item contents.now (length image.old) }
-    ensures { Performs (fill size to (carried size image.old from (entryFor layout.now item contents.now) (items_of layout.now)) (board.nextStatus (board.statusOf size image.old from))) size budget result image.old image.new }
+    ensures { Performs (fill size to (carried size image.old from (entry_for layout.now item contents.now) (items_of layout.now)) (board.nextStatus (board.statusOf size image.old from))) size budget result image.old image.new }
 {
     let status = image[from * size];
     let following = partition_status::next_status(status);
@@ -194,7 +194,7 @@ fn write_newest(
     budget: u64,
 ) -> Written
     requires { Known partitions layout.now image.old item at (length contents.now) × (partition < partitions) }
-    ensures { Performs (writeSteps partitions (length image.old / partitions) (items_of layout.now) image.old (board.newest partition) (entryFor layout.now item contents.now)) (length image.old / partitions) budget result image.old image.new }
+    ensures { Performs (write_steps partitions (length image.old / partitions) (items_of layout.now) image.old (board.newest partition) (entry_for layout.now item contents.now)) (length image.old / partitions) budget result image.old image.new }
 {
     let size = image.len() / partitions;
     let place = partition * size + at;
@@ -216,7 +216,7 @@ fn write_found(
     budget: u64,
 ) -> Written
     requires { Known partitions layout.now image.old item at (length contents.now) }
-    ensures { wrote result image.new ≡ workedIn (length image.old / partitions) (writeOn partitions (length image.old / partitions) (items_of layout.now) image.old (board.newestIn partitions (length image.old / partitions) image.old) (entryFor layout.now item contents.now)) image.old budget }
+    ensures { wrote result image.new ≡ worked_in (length image.old / partitions) (write_on partitions (length image.old / partitions) (items_of layout.now) image.old (board.newestIn partitions (length image.old / partitions) image.old) (entry_for layout.now item contents.now)) image.old budget }
 {
     let size = image.len() / partitions;
     let newest = partition_status::find_newest(image, partitions, size);
@@ -238,7 +238,7 @@ pub fn write(
     contents: &[u8],
     budget: u64,
 ) -> Written
-    ensures { wrote result image.new ≡ writeOutcome partitions layout.now image.old item contents.now budget }
+    ensures { wrote result image.new ≡ write_outcome partitions layout.now image.old item contents.now budget }
 {
     let asked = find(image, partitions, layout, item);
     match asked {

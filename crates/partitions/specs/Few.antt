@@ -8,13 +8,13 @@ use Rattle.model.specs.Chip.{Image, Step, program, erase, Bytes}
 use Rattle.model.specs.Steps.{programs}
 use Rattle.model.specs.Answers.{Work, first_of}
 use Rattle.model.specs.Laws.Lists.{and_left, and_right}
-use Rattle.flash.proofs.Laws.{length-programs}
-use Rattle.partitions.specs.Layout.{Item, itemsFrom, items_of, distinct, layoutOk, hasItem, item_of}
-use Rattle.partitions.specs.Partitions.{Newest, nothing, newest, no_run, statusOf, nextStatus, nextPartition, imageOk, partitionSize, newestOf}
-use Rattle.partitions.specs.Items.{identifierAt, dataIn, dataAt, is_written, isErased}
-use Rattle.partitions.specs.Writes.{Entry, entryFor, writeItem, writeItems, fill, carried, writeSteps}
-use Rattle.partitions.specs.Answers.{isNoRun, refusals, itemFits, writeWork, workedIn, writeOutcome}
-use Rattle.partitions.specs.Laws.{right-layout}
+use Rattle.flash.proofs.Laws.{length_programs}
+use Rattle.partitions.specs.Layout.{Item, items_from, items_of, distinct, layout_ok, has_item, item_of}
+use Rattle.partitions.specs.Partitions.{Newest, nothing, newest, no_run, status_of, next_status, next_partition, image_ok, partition_size, newest_of}
+use Rattle.partitions.specs.Items.{identifier_at, data_in, data_at, is_written, is_erased}
+use Rattle.partitions.specs.Writes.{Entry, entry_for, write_item, write_items, fill, carried, write_steps}
+use Rattle.partitions.specs.Answers.{is_no_run, refusals, item_fits, write_work, worked_in, write_outcome}
+use Rattle.partitions.specs.Laws.{right_layout}
 
 -- ---- distinct identifiers
 
@@ -36,56 +36,56 @@ without_all f k (x ∷ xs) h = go (eqb k x.identifier) (and_left (f x) (all f xs
     go true p q = q
     go false p q = rw p q
 
-without-distinct : (k : ℕ) (xs : List Item) → distinct xs ≡ true → distinct (without k xs) ≡ true
+without_distinct : (k : ℕ) (xs : List Item) → distinct xs ≡ true → distinct (without k xs) ≡ true
 unfolding distinct without
-without-distinct k [] h = refl
-without-distinct k (x ∷ xs) h =
+without_distinct k [] h = refl
+without_distinct k (x ∷ xs) h =
     go (eqb k x.identifier) (without_all (λ y. not (eqb x.identifier y.identifier)) k xs (and_left (all (λ y. not (eqb x.identifier y.identifier)) xs) (distinct xs) h))
-    (without-distinct k xs (and_right (all (λ y. not (eqb x.identifier y.identifier)) xs) (distinct xs) h))
+    (without_distinct k xs (and_right (all (λ y. not (eqb x.identifier y.identifier)) xs) (distinct xs) h))
   where
     go : (t : Bool) → all (λ y. not (eqb x.identifier y.identifier)) (without k xs) ≡ true → distinct (without k xs) ≡ true → distinct (cond t (without k xs) (x ∷ without k xs)) ≡ true
     go true p q = q
     go false p q = rw p q
 
 -- none has it
-without-none : (k : ℕ) (xs : List Item) → all (λ y. not (eqb k y.identifier)) xs ≡ true → without k xs ≡ xs
+without_none : (k : ℕ) (xs : List Item) → all (λ y. not (eqb k y.identifier)) xs ≡ true → without k xs ≡ xs
 unfolding all without
-without-none k [] h = refl
-without-none k (x ∷ xs) h = go (eqb k x.identifier) h (λ w. without-none k xs w)
+without_none k [] h = refl
+without_none k (x ∷ xs) h = go (eqb k x.identifier) h (λ w. without_none k xs w)
   where
     go : (t : Bool) → not t && all (λ y. not (eqb k y.identifier)) xs ≡ true → (all (λ y. not (eqb k y.identifier)) xs ≡ true → without k xs ≡ xs) → cond t (without k xs) (x ∷ without k xs) ≡ x ∷ xs
     go true p q = absurd (false≢true p)
     go false p q = ap (λ (l : List Item). x ∷ l) (q p)
 
 -- at most one has it
-without-one : (k : ℕ) (xs : List Item) → distinct xs ≡ true → length xs ≤ suc (length (without k xs))
+without_one : (k : ℕ) (xs : List Item) → distinct xs ≡ true → length xs ≤ suc (length (without k xs))
 unfolding distinct without
-without-one k [] h = omega arith
-without-one k (x ∷ xs) h =
+without_one k [] h = omega arith
+without_one k (x ∷ xs) h =
     go (eqb k x.identifier) refl (and_left (all (λ y. not (eqb x.identifier y.identifier)) xs) (distinct xs) h)
-    (without-one k xs (and_right (all (λ y. not (eqb x.identifier y.identifier)) xs) (distinct xs) h))
+    (without_one k xs (and_right (all (λ y. not (eqb x.identifier y.identifier)) xs) (distinct xs) h))
   where
     go : (t : Bool) → eqb k x.identifier ≡ t → all (λ y. not (eqb x.identifier y.identifier)) xs ≡ true → length xs ≤ suc (length (without k xs)) → suc (length xs) ≤ suc (length (cond t (without k xs) (x ∷ without k xs)))
-    go true e p q = omega (arith, ap length (without-none k xs (rw (← (eqb-true k x.identifier e)) at p)))
+    go true e p q = omega (arith, ap length (without_none k xs (rw (← (eqb-true k x.identifier e)) at p)))
     go false e p q = omega arith
 
 less : (n k : ℕ) → k < suc n → (n ≡ k → ⊥) → k < n
 less n k h d = elim (ℕ_discrete n k) [ yes e ↦ absurd (d e) | no e ↦ omega arith ]
 
-without-below : (n : ℕ) (xs : List Item) → Below (suc n) xs → Below n (without n xs)
+without_below : (n : ℕ) (xs : List Item) → Below (suc n) xs → Below n (without n xs)
 unfolding Below without
-without-below n [] b = tt
-without-below n (x ∷ xs) b = go (eqb n x.identifier) refl (without-below n xs b.1)
+without_below n [] b = tt
+without_below n (x ∷ xs) b = go (eqb n x.identifier) refl (without_below n xs b.1)
   where
     go : (t : Bool) → eqb n x.identifier ≡ t → Below n (without n xs) → Below n (cond t (without n xs) (x ∷ without n xs))
     go true e q = q
     go false e q = let d = eqb-false n x.identifier e in (less n x.identifier b.0 d, q)
 
-few-below : (n : ℕ) (xs : List Item) → distinct xs ≡ true → Below n xs → length xs ≤ n
+few_below : (n : ℕ) (xs : List Item) → distinct xs ≡ true → Below n xs → length xs ≤ n
 unfolding Below
-few-below zero [] h b = omega arith
-few-below zero (x ∷ xs) h b = absurd (omega (arith, b.0))
-few-below (suc n) xs h b = omega (arith, without-one n xs h, few-below n (without n xs) (without-distinct n xs h) (without-below n xs b))
+few_below zero [] h b = omega arith
+few_below zero (x ∷ xs) h b = absurd (omega (arith, b.0))
+few_below (suc n) xs h b = omega (arith, without_one n xs h, few_below n (without n xs) (without_distinct n xs h) (without_below n xs b))
 
 -- ---- items of bytes
 
@@ -93,16 +93,16 @@ Short : List Item → Type 0
 Short [] = Unit {0}
 Short (x ∷ xs) = (x.size < 256) × Short xs
 
-of-bytes : (o : ℕ) (ns : List ℕ) → Bytes ns → Below 256 (itemsFrom o ns) × Short (itemsFrom o ns)
-unfolding itemsFrom Below Short
-of-bytes o [] b = (tt, tt)
-of-bytes o (i ∷ []) b = (tt, tt)
-of-bytes o (i ∷ n ∷ ns) b = let rest = of-bytes (o + 1 + n) ns b.1.1 in ((b.0, rest.0), (b.1.0, rest.1))
+of_bytes : (o : ℕ) (ns : List ℕ) → Bytes ns → Below 256 (items_from o ns) × Short (items_from o ns)
+unfolding items_from Below Short
+of_bytes o [] b = (tt, tt)
+of_bytes o (i ∷ []) b = (tt, tt)
+of_bytes o (i ∷ n ∷ ns) b = let rest = of_bytes (o + 1 + n) ns b.1.1 in ((b.0, rest.0), (b.1.0, rest.1))
 
-short-item : (i : ℕ) (xs : List Item) → Short xs → (item_of i xs).size < 256
+short_item : (i : ℕ) (xs : List Item) → Short xs → (item_of i xs).size < 256
 unfolding Short item_of
-short-item i [] b = omega arith
-short-item i (x ∷ xs) b = go (eqb i x.identifier) (short-item i xs b.1)
+short_item i [] b = omega arith
+short_item i (x ∷ xs) b = go (eqb i x.identifier) (short_item i xs b.1)
   where
     go : (t : Bool) → (item_of i xs).size < 256 → (cond t x (item_of i xs)).size < 256
     go true h = b.0
@@ -110,48 +110,48 @@ short-item i (x ∷ xs) b = go (eqb i x.identifier) (short-item i xs b.1)
 
 -- ---- lists
 
-item-steps : (S p : ℕ) (e : Entry) → length (writeItem S p e) ≡ length e.contents + 1
-unfolding writeItem
-item-steps S p e =
-    let at = identifierAt S p e.item in
-    length-append (programs (at + 1) e.contents) (program at e.item.identifier ∷ []) ∙ ap (λ (y : ℕ). y + 1) (length-programs (at + 1) e.contents)
+item_steps_lem : (S p : ℕ) (e : Entry) → length (write_item S p e) ≡ length e.contents + 1
+unfolding write_item
+item_steps_lem S p e =
+    let at = identifier_at S p e.item in
+    length-append (programs (at + 1) e.contents) (program at e.item.identifier ∷ []) ∙ ap (λ (y : ℕ). y + 1) (length_programs (at + 1) e.contents)
 
-data-short : (S : ℕ) (s : Image) (p : ℕ) (y : Item) → y.size < 256 → length (dataIn S s p y) < 256
-unfolding dataIn
-data-short S s p y h = omega (arith, length-take y.size (drop (dataAt S p y) s))
+data_short : (S : ℕ) (s : Image) (p : ℕ) (y : Item) → y.size < 256 → length (data_in S s p y) < 256
+unfolding data_in
+data_short S s p y h = omega (arith, length-take y.size (drop (data_at S p y) s))
 
-carried-steps : (S : ℕ) (s : Image) (p q : ℕ) (e : Entry) → length e.contents < 256 → (xs : List Item) → Short xs → length (writeItems S q (carried S s p e xs)) ≤ length xs * 256
-unfolding carried writeItems Short
-carried-steps S s p q e h [] b = omega arith
-carried-steps S s p q e h (y ∷ ys) b = go (eqb y.identifier e.item.identifier) (is_written S s p y) (carried-steps S s p q e h ys b.1)
+carried_steps : (S : ℕ) (s : Image) (p q : ℕ) (e : Entry) → length e.contents < 256 → (xs : List Item) → Short xs → length (write_items S q (carried S s p e xs)) ≤ length xs * 256
+unfolding carried write_items Short
+carried_steps S s p q e h [] b = omega arith
+carried_steps S s p q e h (y ∷ ys) b = go (eqb y.identifier e.item.identifier) (is_written S s p y) (carried_steps S s p q e h ys b.1)
   where
     rest : List Entry
     rest = carried S s p e ys
 
     copy : Entry
-    copy = record { item = y; contents = dataIn S s p y }
+    copy = record { item = y; contents = data_in S s p y }
 
-    go : (t u : Bool) → length (writeItems S q rest) ≤ length ys * 256 → length (writeItems S q (cond t (e ∷ rest) (cond u (copy ∷ rest) rest))) ≤ suc (length ys) * 256
-    go true u r = omega (arith, length-append (writeItem S q e) (writeItems S q rest), item-steps S q e, suc-mul (length ys) 256)
-    go false true r = omega (arith, length-append (writeItem S q copy) (writeItems S q rest), item-steps S q copy, suc-mul (length ys) 256, data-short S s p y b.0)
+    go : (t u : Bool) → length (write_items S q rest) ≤ length ys * 256 → length (write_items S q (cond t (e ∷ rest) (cond u (copy ∷ rest) rest))) ≤ suc (length ys) * 256
+    go true u r = omega (arith, length-append (write_item S q e) (write_items S q rest), item_steps_lem S q e, suc-mul (length ys) 256)
+    go false true r = omega (arith, length-append (write_item S q copy) (write_items S q rest), item_steps_lem S q copy, suc-mul (length ys) 256, data_short S s p y b.0)
     go false false r = omega (arith, suc-mul (length ys) 256)
 
-items-short : (ns : List ℕ) → Bytes ns → Short (items_of ns)
+items_short : (ns : List ℕ) → Bytes ns → Short (items_of ns)
 unfolding items_of
-items-short ns b = (of-bytes 1 ns b).1
+items_short ns b = (of_bytes 1 ns b).1
 
-item-short : (ns : List ℕ) (i : ℕ) → Bytes ns → (item_of i (items_of ns)).size < 256
-item-short ns i b = short-item i (items_of ns) (items-short ns b)
+item_short : (ns : List ℕ) (i : ℕ) → Bytes ns → (item_of i (items_of ns)).size < 256
+item_short ns i b = short_item i (items_of ns) (items_short ns b)
 
-items-few : (S : ℕ) (ns : List ℕ) → layoutOk S ns ≡ true → Bytes ns → length (items_of ns) ≤ 256
+items_few : (S : ℕ) (ns : List ℕ) → layout_ok S ns ≡ true → Bytes ns → length (items_of ns) ≤ 256
 unfolding items_of
-items-few S ns ok b = few-below 256 (itemsFrom 1 ns) (right-layout S ns ok).once (of-bytes 1 ns b).0
+items_few S ns ok b = few_below 256 (items_from 1 ns) (right_layout S ns ok).once (of_bytes 1 ns b).0
 
 -- every list of a write
-pub few-steps : (P S : ℕ) (ns : List ℕ) (s : Image) (n : Newest) (i : ℕ) (d : List ℕ) → layoutOk S ns ≡ true → Bytes ns → length d ≡ (item_of i (items_of ns)).size
-    → length (writeSteps P S (items_of ns) s n (record { item = item_of i (items_of ns); contents = d })) ≤ 65538
-unfolding writeSteps fill writeItems
-few-steps P S ns s n i d ok b l = go n
+pub few_steps : (P S : ℕ) (ns : List ℕ) (s : Image) (n : Newest) (i : ℕ) (d : List ℕ) → layout_ok S ns ≡ true → Bytes ns → length d ≡ (item_of i (items_of ns)).size
+    → length (write_steps P S (items_of ns) s n (record { item = item_of i (items_of ns); contents = d })) ≤ 65538
+unfolding write_steps fill write_items
+few_steps P S ns s n i d ok b l = go n
   where
     xs : List Item
     xs = items_of ns
@@ -160,61 +160,61 @@ few-steps P S ns s n i d ok b l = go n
     e = record { item = item_of i xs; contents = d }
 
     short : length d < 256
-    short = omega (arith, item-short ns i b)
+    short = omega (arith, item_short ns i b)
 
     many : length xs ≤ 256
-    many = items-few S ns ok b
+    many = items_few S ns ok b
 
     filled : (q v : ℕ) (ys : List Step) → length ys ≤ 65536 → length (erase q ∷ (ys ++ (program (q * S) v ∷ []))) ≤ 65538
     filled q v ys h = omega (arith, length-append ys (program (q * S) v ∷ []))
 
-    first : length (writeItem S 0 e ++ []) ≤ 65536
-    first = omega (arith, length-append (writeItem S 0 e) [], item-steps S 0 e, short)
+    first : length (write_item S 0 e ++ []) ≤ 65536
+    first = omega (arith, length-append (write_item S 0 e) [], item_steps_lem S 0 e, short)
 
-    next : (p q : ℕ) → length (writeItems S q (carried S s p e xs)) ≤ 65536
-    next p q = omega (arith, carried-steps S s p q e short xs (items-short ns b), mul-le-mul_right 256 many)
+    next : (p q : ℕ) → length (write_items S q (carried S s p e xs)) ≤ 65536
+    next p q = omega (arith, carried_steps S s p q e short xs (items_short ns b), mul-le-mul_right 256 many)
 
-    again : (p : ℕ) (t : Bool) → length (cond t (writeItem S p e) (fill S (nextPartition P p) (carried S s p e xs) (nextStatus (statusOf S s p)))) ≤ 65538
-    again p true = omega (arith, item-steps S p e, short)
-    again p false = filled (nextPartition P p) (nextStatus (statusOf S s p)) (writeItems S (nextPartition P p) (carried S s p e xs)) (next p (nextPartition P p))
+    again : (p : ℕ) (t : Bool) → length (cond t (write_item S p e) (fill S (next_partition P p) (carried S s p e xs) (next_status (status_of S s p)))) ≤ 65538
+    again p true = omega (arith, item_steps_lem S p e, short)
+    again p false = filled (next_partition P p) (next_status (status_of S s p)) (write_items S (next_partition P p) (carried S s p e xs)) (next p (next_partition P p))
 
-    go : (n : Newest) → length (writeSteps P S xs s n e) ≤ 65538
-    go nothing = filled 0 0 (writeItem S 0 e ++ []) first
-    go (newest p) = again p (isErased S s p e.item)
+    go : (n : Newest) → length (write_steps P S xs s n e) ≤ 65538
+    go nothing = filled 0 0 (write_item S 0 e ++ []) first
+    go (newest p) = again p (is_erased S s p e.item)
     go no_run = omega arith
 
-few-worked : (P : ℕ) (ns : List ℕ) (s : Image) (i : ℕ) (d : List ℕ) → Bytes ns → length (writeWork P ns s i d).steps ≤ 65538
-unfolding writeWork refusals first_of itemFits
-few-worked P ns s i d b = go (imageOk P s) (layoutOk S ns) refl (hasItem i (items_of ns)) (eqb (length d) (item_of i (items_of ns)).size) refl (isNoRun (newestOf P s))
+few_worked : (P : ℕ) (ns : List ℕ) (s : Image) (i : ℕ) (d : List ℕ) → Bytes ns → length (write_work P ns s i d).steps ≤ 65538
+unfolding write_work refusals first_of item_fits
+few_worked P ns s i d b = go (image_ok P s) (layout_ok S ns) refl (has_item i (items_of ns)) (eqb (length d) (item_of i (items_of ns)).size) refl (is_no_run (newest_of P s))
   where
     S : ℕ
-    S = partitionSize P s
+    S = partition_size P s
 
     list : List Step
-    list = writeSteps P S (items_of ns) s (newestOf P s) (entryFor ns i d)
+    list = write_steps P S (items_of ns) s (newest_of P s) (entry_for ns i d)
 
-    go : (a t : Bool) → layoutOk S ns ≡ t → (h l : Bool) → eqb (length d) (item_of i (items_of ns)).size ≡ l → (n : Bool)
+    go : (a t : Bool) → layout_ok S ns ≡ t → (h l : Bool) → eqb (length d) (item_of i (items_of ns)).size ≡ l → (n : Bool)
         → length (cond {A = Work} (eqb (cond (not a) 1 (cond (not t) 2 (cond (not (h && l)) 3 (cond n 4 0)))) 0) (record { code = 0; steps = list }) (record { code = cond (not a) 1 (cond (not t) 2 (cond (not (h && l)) 3 (cond n 4 0))); steps = [] })).steps ≤ 65538
     go true true e true true f true = omega arith
-    go true true e true true f false = few-steps P S ns s (newestOf P s) i d e b (eqb-true (length d) (item_of i (items_of ns)).size f)
+    go true true e true true f false = few_steps P S ns s (newest_of P s) i d e b (eqb-true (length d) (item_of i (items_of ns)).size f)
     go true true e true false f n = omega arith
     go true true e false l f n = omega arith
     go true false e h l f n = omega arith
     go false t e h l f n = omega arith
 
 -- the steps that a write does
-pub few-done : (P : ℕ) (ns : List ℕ) (s : Image) (i : ℕ) (d : List ℕ) (allowance : ℕ) → Bytes ns → (writeOutcome P ns s i d allowance).count ≤ 65538
-unfolding writeOutcome workedIn
-few-done P ns s i d allowance b = omega (arith, length-take allowance (writeWork P ns s i d).steps, few-worked P ns s i d b)
+pub few_done : (P : ℕ) (ns : List ℕ) (s : Image) (i : ℕ) (d : List ℕ) (allowance : ℕ) → Bytes ns → (write_outcome P ns s i d allowance).count ≤ 65538
+unfolding write_outcome worked_in
+few_done P ns s i d allowance b = omega (arith, length-take allowance (write_work P ns s i d).steps, few_worked P ns s i d b)
 
 -- ---- a right table is short
 
-even-length : (o : ℕ) (ns : List ℕ) → length ns % 2 ≡ 0 → length ns ≡ length (itemsFrom o ns) * 2
-unfolding itemsFrom
-even-length o [] e = omega arith
-even-length o (i ∷ []) e = absurd (omega arith)
-even-length o (i ∷ n ∷ ns) e = let r = even-length (o + 1 + n) ns (omega arith) in omega arith
+even_length : (o : ℕ) (ns : List ℕ) → length ns % 2 ≡ 0 → length ns ≡ length (items_from o ns) * 2
+unfolding items_from
+even_length o [] e = omega arith
+even_length o (i ∷ []) e = absurd (omega arith)
+even_length o (i ∷ n ∷ ns) e = let r = even_length (o + 1 + n) ns (omega arith) in omega arith
 
-pub short-table : (S : ℕ) (ns : List ℕ) → layoutOk S ns ≡ true → Bytes ns → length ns ≤ 512
+pub short_table : (S : ℕ) (ns : List ℕ) → layout_ok S ns ≡ true → Bytes ns → length ns ≤ 512
 unfolding items_of
-short-table S ns ok b = omega (arith, even-length 1 ns (right-layout S ns ok).even, items-few S ns ok b)
+short_table S ns ok b = omega (arith, even_length 1 ns (right_layout S ns ok).even, items_few S ns ok b)

@@ -3,19 +3,19 @@ use Rattle.std.specs.Prelude.{ℕ, ◌≡◌, refl, true, false, List, [], ◌�
 use Rattle.model.specs.Lists.{all}
 use Rattle.model.specs.Chip.{Image, Step, program, erase, clear, erased}
 use Rattle.model.specs.Sequences.{among}
-use Rattle.model.specs.Header.{isBlank}
+use Rattle.model.specs.Header.{is_blank}
 use Rattle.model.specs.Steps.{programs}
-use Rattle.model.specs.Answers.{first_of, codeUnder}
-use Rattle.flash.specs.Units.{withUnit, stepIn, runIn}
-use Rattle.partitions.specs.Layout.{itemsFrom, items_of, distinct, bytesUsed, layoutOk, hasItem, item_of}
-use Rattle.partitions.specs.Partitions.{partitionsOk, imageOk, partitionSize, nextStatus, statusOf, nextPartition, endsRun, indices, kept, onlyOne, Newest, nothing, newest, no_run, newestIn, newestOf}
-use Rattle.partitions.specs.Items.{identifierAt, dataAt, dataIn, is_written, isErased}
-use Rattle.partitions.specs.Writes.{writeItem, writeItems, fill, carried, writeSteps}
-use Rattle.partitions.specs.Answers.{isNoRun, refusals, itemFits, writeWork, workedIn, writeOutcome, isStored, offset_of, readOutcome, pieceRead}
+use Rattle.model.specs.Answers.{first_of, code_under}
+use Rattle.flash.specs.Units.{with_unit, step_in, run_in}
+use Rattle.partitions.specs.Layout.{items_from, items_of, distinct, bytes_used, layout_ok, has_item, item_of}
+use Rattle.partitions.specs.Partitions.{partitions_ok, image_ok, partition_size, next_status, status_of, next_partition, ends_run, indices, kept, only_one, Newest, nothing, newest, no_run, newest_in, newest_of}
+use Rattle.partitions.specs.Items.{identifier_at, data_at, data_in, is_written, is_erased}
+use Rattle.partitions.specs.Writes.{write_item, write_items, fill, carried, write_steps}
+use Rattle.partitions.specs.Answers.{is_no_run, refusals, item_fits, write_work, worked_in, write_outcome, is_stored, offset_of, read_outcome, piece_read}
 
 -- every definition unfolds where this name does
 unfoldable pub computes : ℕ
-unfolding all clear erased among isBlank programs first_of codeUnder withUnit stepIn runIn itemsFrom items_of distinct bytesUsed layoutOk hasItem item_of partitionsOk imageOk partitionSize nextStatus statusOf nextPartition endsRun indices kept onlyOne newestIn newestOf identifierAt dataAt dataIn is_written isErased writeItem writeItems fill carried writeSteps isNoRun refusals itemFits writeWork workedIn writeOutcome isStored offset_of readOutcome pieceRead
+unfolding all clear erased among is_blank programs first_of code_under with_unit step_in run_in items_from items_of distinct bytes_used layout_ok has_item item_of partitions_ok image_ok partition_size next_status status_of next_partition ends_run indices kept only_one newest_in newest_of identifier_at data_at data_in is_written is_erased write_item write_items fill carried write_steps is_no_run refusals item_fits write_work worked_in write_outcome is_stored offset_of read_outcome piece_read
 computes = 0
 
 -- ---- the layout table
@@ -29,26 +29,26 @@ unfolding computes
 items = refl
 
 -- in partitions of six bytes. No item at all, the smallest and the largest identifier, and lengths up to what fits are right
-right-taken : map (layoutOk 6) ([] ∷ two ∷ (7 ∷ 1 ∷ 1 ∷ 2 ∷ []) ∷ (0 ∷ 1 ∷ 254 ∷ 1 ∷ []) ∷ (9 ∷ 4 ∷ []) ∷ []) ≡ replicate 5 true
+right_taken : map (layout_ok 6) ([] ∷ two ∷ (7 ∷ 1 ∷ 1 ∷ 2 ∷ []) ∷ (0 ∷ 1 ∷ 254 ∷ 1 ∷ []) ∷ (9 ∷ 4 ∷ []) ∷ []) ≡ replicate 5 true
 unfolding computes
-right-taken = refl
+right_taken = refl
 
 -- a byte left over; identifier 255; one that comes twice, not next to each other too; length 0; one byte too many
-wrong-refused : map (layoutOk 6) ((1 ∷ 2 ∷ 7 ∷ []) ∷ (255 ∷ 1 ∷ []) ∷ (1 ∷ 1 ∷ 1 ∷ 1 ∷ []) ∷ (3 ∷ 0 ∷ []) ∷ (9 ∷ 5 ∷ []) ∷ (1 ∷ 2 ∷ 7 ∷ 2 ∷ []) ∷ []) ≡ replicate 6 false
-    × (layoutOk 9 (1 ∷ 1 ∷ 2 ∷ 1 ∷ 1 ∷ 1 ∷ []) ≡ false) × (layoutOk 0 [] ≡ false) × (layoutOk 1 [] ≡ true)
+wrong_refused : map (layout_ok 6) ((1 ∷ 2 ∷ 7 ∷ []) ∷ (255 ∷ 1 ∷ []) ∷ (1 ∷ 1 ∷ 1 ∷ 1 ∷ []) ∷ (3 ∷ 0 ∷ []) ∷ (9 ∷ 5 ∷ []) ∷ (1 ∷ 2 ∷ 7 ∷ 2 ∷ []) ∷ []) ≡ replicate 6 false
+    × (layout_ok 9 (1 ∷ 1 ∷ 2 ∷ 1 ∷ 1 ∷ 1 ∷ []) ≡ false) × (layout_ok 0 [] ≡ false) × (layout_ok 1 [] ≡ true)
 unfolding computes
-wrong-refused = (refl, refl, refl, refl)
+wrong_refused = (refl, refl, refl, refl)
 
 -- ---- the partitions
 
 -- all of them up to 300
-powers : kept partitionsOk (indices 300) ≡ 2 ∷ 4 ∷ 8 ∷ 16 ∷ 32 ∷ 64 ∷ 128 ∷ []
+powers : kept partitions_ok (indices 300) ≡ 2 ∷ 4 ∷ 8 ∷ 16 ∷ 32 ∷ 64 ∷ 128 ∷ []
 unfolding computes
 powers = refl
 
 -- partitions of one byte, which are their statuses
 abbrev ring : ℕ → List ℕ → Newest
-ring P s = newestIn P 1 s
+ring P s = newest_in P 1 s
 
 -- two partitions: the later one, whichever it is; one alone; equal, or one that is two ahead
 pairs : map (ring 2) ((255 ∷ 255 ∷ []) ∷ (3 ∷ 4 ∷ []) ∷ (4 ∷ 3 ∷ []) ∷ (3 ∷ 255 ∷ []) ∷ (255 ∷ 3 ∷ []) ∷ (254 ∷ 0 ∷ []) ∷ (0 ∷ 254 ∷ []) ∷ (3 ∷ 3 ∷ []) ∷ (3 ∷ 5 ∷ []) ∷ [])
@@ -79,61 +79,61 @@ halved : Image
 halved = erased 7 ++ (254 ∷ 2 ∷ 10 ∷ 11 ∷ 255 ∷ 20 ∷ 99 ∷ [])
 
 writes : Image → ℕ → List ℕ → List Step
-writes s i d = (writeWork 2 two s i d).steps
+writes s i d = (write_work 2 two s i d).steps
 
 -- the first write: erase, data, identifier, status 0
-first-steps : writes blank 1 (30 ∷ 31 ∷ []) ≡ erase 0 ∷ program 2 30 ∷ program 3 31 ∷ program 1 1 ∷ program 0 0 ∷ []
+first_steps : writes blank 1 (30 ∷ 31 ∷ []) ≡ erase 0 ∷ program 2 30 ∷ program 3 31 ∷ program 1 1 ∷ program 0 0 ∷ []
 unfolding computes blank writes
-first-steps = refl
+first_steps = refl
 
 -- in place
-place-steps : writes ((3 ∷ 1 ∷ 10 ∷ 11 ∷ 255 ∷ 255 ∷ 99 ∷ []) ++ erased 7) 7 (21 ∷ []) ≡ program 5 21 ∷ program 4 7 ∷ []
+place_steps : writes ((3 ∷ 1 ∷ 10 ∷ 11 ∷ 255 ∷ 255 ∷ 99 ∷ []) ++ erased 7) 7 (21 ∷ []) ≡ program 5 21 ∷ program 4 7 ∷ []
 unfolding computes blank writes
-place-steps = refl
+place_steps = refl
 
 -- to the next partition, in table order whichever is written, and 0 after 254
-move-steps : (writes full 1 (30 ∷ 31 ∷ []) ≡ erase 1 ∷ program 9 30 ∷ program 10 31 ∷ program 8 1 ∷ program 12 20 ∷ program 11 7 ∷ program 7 0 ∷ [])
+move_steps : (writes full 1 (30 ∷ 31 ∷ []) ≡ erase 1 ∷ program 9 30 ∷ program 10 31 ∷ program 8 1 ∷ program 12 20 ∷ program 11 7 ∷ program 7 0 ∷ [])
     × (writes full 7 (20 ∷ []) ≡ erase 1 ∷ program 9 10 ∷ program 10 11 ∷ program 8 1 ∷ program 12 20 ∷ program 11 7 ∷ program 7 0 ∷ [])
 unfolding computes full writes
-move-steps = (refl, refl)
+move_steps = (refl, refl)
 
 -- what is not written is not copied, and forces a move: half an item, and a byte that is neither 255 nor the identifier; partition 0 comes after 1
-halved-steps : (writes halved 7 (21 ∷ []) ≡ erase 0 ∷ program 5 21 ∷ program 4 7 ∷ program 0 0 ∷ [])
+halved_steps : (writes halved 7 (21 ∷ []) ≡ erase 0 ∷ program 5 21 ∷ program 4 7 ∷ program 0 0 ∷ [])
     × (writes halved 1 (30 ∷ 31 ∷ []) ≡ erase 0 ∷ program 2 30 ∷ program 3 31 ∷ program 1 1 ∷ program 0 0 ∷ [])
 unfolding computes halved writes
-halved-steps = (refl, refl)
+halved_steps = (refl, refl)
 
 -- the newest is partition 1: item 1's identifier byte is 0, which is not its own, and item 7 is written
 zeroed : Image
 zeroed = erased 7 ++ (3 ∷ 0 ∷ 10 ∷ 11 ∷ 7 ∷ 20 ∷ 99 ∷ [])
 
-zeroed-so : (readOutcome 2 two zeroed 1 ≡ record { code = 5; offset = 0; length = 0 }) × (readOutcome 2 two zeroed 7 ≡ record { code = 0; offset = 12; length = 1 })
+zeroed_so : (read_outcome 2 two zeroed 1 ≡ record { code = 5; offset = 0; length = 0 }) × (read_outcome 2 two zeroed 7 ≡ record { code = 0; offset = 12; length = 1 })
     × (writes zeroed 1 (30 ∷ 31 ∷ []) ≡ erase 0 ∷ program 2 30 ∷ program 3 31 ∷ program 1 1 ∷ program 5 20 ∷ program 4 7 ∷ program 0 4 ∷ [])
     × (writes zeroed 7 (21 ∷ []) ≡ erase 0 ∷ program 5 21 ∷ program 4 7 ∷ program 0 4 ∷ [])
 unfolding computes zeroed writes
-zeroed-so = (refl, refl, refl, refl)
+zeroed_so = (refl, refl, refl, refl)
 
 -- in place in partition 1; data 255 that is written is not blank; an identifier that is not in the table, with no data
-place-later : (writes (erased 7 ++ (3 ∷ 1 ∷ 10 ∷ 11 ∷ 255 ∷ 255 ∷ 99 ∷ [])) 7 (21 ∷ []) ≡ program 12 21 ∷ program 11 7 ∷ [])
+place_later : (writes (erased 7 ++ (3 ∷ 1 ∷ 10 ∷ 11 ∷ 255 ∷ 255 ∷ 99 ∷ [])) 7 (21 ∷ []) ≡ program 12 21 ∷ program 11 7 ∷ [])
     × (writes (erased 7 ++ (3 ∷ 255 ∷ 255 ∷ 255 ∷ 7 ∷ 255 ∷ 99 ∷ [])) 7 (21 ∷ []) ≡ erase 0 ∷ program 5 21 ∷ program 4 7 ∷ program 0 4 ∷ [])
-    × ((writeWork 2 two blank 2 []).code ≡ 3)
+    × ((write_work 2 two blank 2 []).code ≡ 3)
 unfolding computes blank writes
-place-later = (refl, refl, refl)
+place_later = (refl, refl, refl)
 
 -- under an allowance: 9 and as many steps, or all
-allowed : map {A = ℕ} {B = List ℕ} (λ k. let o = writeOutcome 2 two blank 7 (5 ∷ []) k in o.code ∷ o.count ∷ []) (0 ∷ 1 ∷ 3 ∷ 4 ∷ 9 ∷ [])
+allowed : map {A = ℕ} {B = List ℕ} (λ k. let o = write_outcome 2 two blank 7 (5 ∷ []) k in o.code ∷ o.count ∷ []) (0 ∷ 1 ∷ 3 ∷ 4 ∷ 9 ∷ [])
     ≡ (9 ∷ 0 ∷ []) ∷ (9 ∷ 1 ∷ []) ∷ (9 ∷ 3 ∷ []) ∷ (0 ∷ 4 ∷ []) ∷ (0 ∷ 4 ∷ []) ∷ []
 unfolding computes blank
 allowed = refl
 
-moved : writeOutcome 2 two full 1 (30 ∷ 31 ∷ []) 7 ≡ record { code = 0; count = 7; image = (254 ∷ 1 ∷ 10 ∷ 11 ∷ 7 ∷ 20 ∷ 99 ∷ []) ++ (0 ∷ 1 ∷ 30 ∷ 31 ∷ 7 ∷ 20 ∷ 255 ∷ []) }
+moved : write_outcome 2 two full 1 (30 ∷ 31 ∷ []) 7 ≡ record { code = 0; count = 7; image = (254 ∷ 1 ∷ 10 ∷ 11 ∷ 7 ∷ 20 ∷ 99 ∷ []) ++ (0 ∷ 1 ∷ 30 ∷ 31 ∷ 7 ∷ 20 ∷ 255 ∷ []) }
 unfolding computes full
 moved = refl
 
 -- ---- answers
 
 codes : ℕ → List ℕ → Image → List (List ℕ) → List ℕ
-codes P layout s ds = map (λ d. (writeWork P layout s 7 d).code) ds
+codes P layout s ds = map (λ d. (write_work P layout s 7 d).code) ds
 
 abbrev mixed : Image
 mixed = 3 ∷ 255 ∷ 255 ∷ 255 ∷ 255 ∷ 255 ∷ 3 ∷ 255 ∷ 255 ∷ 255 ∷ 255 ∷ 255 ∷ []
@@ -145,13 +145,13 @@ unfolding computes blank codes
 refused = refl
 
 -- reading: the data's place; 5 if it is not written, or nothing is; 3 before 4, and 4 before 5
-read-full : (readOutcome 2 two full 1 ≡ record { code = 0; offset = 2; length = 2 }) × (readOutcome 2 two full 7 ≡ record { code = 0; offset = 5; length = 1 })
-    × (pieceRead 2 two full 1 ≡ 10 ∷ 11 ∷ []) × (map (λ i. (readOutcome 2 two halved i).code) (1 ∷ 7 ∷ 2 ∷ 255 ∷ []) ≡ 5 ∷ 5 ∷ 3 ∷ 3 ∷ [])
-    × (map (λ i. (readOutcome 2 two blank i).code) (1 ∷ 7 ∷ 2 ∷ []) ≡ 5 ∷ 5 ∷ 3 ∷ []) × (map (λ i. (readOutcome 2 two mixed i).code) (1 ∷ 2 ∷ []) ≡ 4 ∷ 3 ∷ [])
+read_full : (read_outcome 2 two full 1 ≡ record { code = 0; offset = 2; length = 2 }) × (read_outcome 2 two full 7 ≡ record { code = 0; offset = 5; length = 1 })
+    × (piece_read 2 two full 1 ≡ 10 ∷ 11 ∷ []) × (map (λ i. (read_outcome 2 two halved i).code) (1 ∷ 7 ∷ 2 ∷ 255 ∷ []) ≡ 5 ∷ 5 ∷ 3 ∷ 3 ∷ [])
+    × (map (λ i. (read_outcome 2 two blank i).code) (1 ∷ 7 ∷ 2 ∷ []) ≡ 5 ∷ 5 ∷ 3 ∷ []) × (map (λ i. (read_outcome 2 two mixed i).code) (1 ∷ 2 ∷ []) ≡ 4 ∷ 3 ∷ [])
 unfolding computes full halved blank
-read-full = (refl, refl, refl, refl, refl, refl)
+read_full = (refl, refl, refl, refl, refl, refl)
 
 -- a refusal gives no place and changes no byte
-refused-whole : (readOutcome 2 two mixed 7 ≡ record { code = 4; offset = 0; length = 0 }) × (writeOutcome 2 two mixed 7 (1 ∷ []) 9 ≡ record { code = 4; count = 0; image = mixed })
+refused_whole : (read_outcome 2 two mixed 7 ≡ record { code = 4; offset = 0; length = 0 }) × (write_outcome 2 two mixed 7 (1 ∷ []) 9 ≡ record { code = 4; count = 0; image = mixed })
 unfolding computes
-refused-whole = (refl, refl)
+refused_whole = (refl, refl)

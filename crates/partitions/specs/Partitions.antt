@@ -7,36 +7,36 @@ use Rattle.model.specs.Sequences.{among}
 -- ---- size: P partitions of S bytes
 
 -- "P a power of two from 2 to 128"
-unfoldable pub partitionsOk : ℕ → Bool
-partitionsOk P = among P (2 ∷ 4 ∷ 8 ∷ 16 ∷ 32 ∷ 64 ∷ 128 ∷ [])
+unfoldable pub partitions_ok : ℕ → Bool
+partitions_ok P = among P (2 ∷ 4 ∷ 8 ∷ 16 ∷ 32 ∷ 64 ∷ 128 ∷ [])
 
 -- and the image is one that P divides; otherwise the answer is 1
-unfoldable pub imageOk : ℕ → Image → Bool
-imageOk P s = partitionsOk P && eqb (length s % P) 0
+unfoldable pub image_ok : ℕ → Image → Bool
+image_ok P s = partitions_ok P && eqb (length s % P) 0
 
-unfoldable pub partitionSize : ℕ → Image → ℕ
-partitionSize P s = length s / P
+unfoldable pub partition_size : ℕ → Image → ℕ
+partition_size P s = length s / P
 
 -- ---- statuses
 
 -- the status of a partition that has none yet
-abbrev pub noStatus : ℕ
-noStatus = 255
+abbrev pub no_status : ℕ
+no_status = 255
 
 -- "Status runs 0 to 254 and back to 0"
-unfoldable pub nextStatus : ℕ → ℕ
-nextStatus v = (v + 1) % 255
+unfoldable pub next_status : ℕ → ℕ
+next_status v = (v + 1) % 255
 
-unfoldable pub statusOf : ℕ → Image → ℕ → ℕ
-statusOf S s p = get_or s (p * S) 0
+unfoldable pub status_of : ℕ → Image → ℕ → ℕ
+status_of S s p = get_or s (p * S) 0
 
 -- "in partition order, the first following the last"
-unfoldable pub nextPartition : ℕ → ℕ → ℕ
-nextPartition P p = (p + 1) % P
+unfoldable pub next_partition : ℕ → ℕ → ℕ
+next_partition P p = (p + 1) % P
 
 -- where a run of statuses ends: a partition that has one, and the next partition's does not follow it
-unfoldable pub endsRun : ℕ → ℕ → Image → ℕ → Bool
-endsRun P S s p = not (eqb (statusOf S s p) noStatus) && not (eqb (statusOf S s (nextPartition P p)) (nextStatus (statusOf S s p)))
+unfoldable pub ends_run : ℕ → ℕ → Image → ℕ → Bool
+ends_run P S s p = not (eqb (status_of S s p) no_status) && not (eqb (status_of S s (next_partition P p)) (next_status (status_of S s p)))
 
 -- partitions 0 to k-1, in order
 unfoldable pub indices : ℕ → List ℕ
@@ -56,14 +56,14 @@ unfoldable pub kept : (ℕ → Bool) → List ℕ → List ℕ
 kept f [] = []
 kept f (p ∷ ps) = cond (f p) (p ∷ kept f ps) (kept f ps)
 
-unfoldable pub onlyOne : List ℕ → Newest
-onlyOne [] = no_run
-onlyOne (p ∷ []) = newest p
-onlyOne (p ∷ q ∷ r) = no_run
+unfoldable pub only_one : List ℕ → Newest
+only_one [] = no_run
+only_one (p ∷ []) = newest p
+only_one (p ∷ q ∷ r) = no_run
 
-unfoldable pub newestIn : ℕ → ℕ → Image → Newest
-newestIn P S s = let ps = indices P in
-    cond (all (λ p. eqb (statusOf S s p) noStatus) ps) nothing (onlyOne (kept (endsRun P S s) ps))
+unfoldable pub newest_in : ℕ → ℕ → Image → Newest
+newest_in P S s = let ps = indices P in
+    cond (all (λ p. eqb (status_of S s p) no_status) ps) nothing (only_one (kept (ends_run P S s) ps))
 
-unfoldable pub newestOf : ℕ → Image → Newest
-newestOf P s = newestIn P (partitionSize P s) s
+unfoldable pub newest_of : ℕ → Image → Newest
+newest_of P s = newest_in P (partition_size P s) s

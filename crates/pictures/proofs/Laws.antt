@@ -6,26 +6,26 @@ use mathlib.Core.List.{List, ◌++◌, map}
 use lib.ListN.{length, take}
 use lib.Dec.{eqb}
 use borrow.Author.Tests.{not-true}
-use Rattle.model.specs.Chip.{Image, imageLength, in_range, rightSize}
-use Rattle.model.specs.State.{Segment, segmentsOf, nextNumber}
-use Rattle.account_text.specs.Account.{shown, wrongSize}
-use Rattle.account_text.specs.Map.{legend, all_rows, mapOn, mapText}
+use Rattle.model.specs.Chip.{Image, image_length, in_range, right_size}
+use Rattle.model.specs.State.{Segment, segments_of, next_number}
+use Rattle.account_text.specs.Account.{shown, wrong_size}
+use Rattle.account_text.specs.Map.{legend, all_rows, map_on, map_text}
 use Rattle.index.specs.declared.Shown.{Shown}
-use Rattle.index.specs.Shows.{uncounted, afterShown}
-use Rattle.descent.specs.Descent.{largest, largest-next}
-use Rattle.listing.proofs.Laws.Shows.{uncounted-all}
+use Rattle.index.specs.Shows.{uncounted, after_shown}
+use Rattle.descent.specs.Descent.{largest, largest_next}
+use Rattle.listing.proofs.Laws.Shows.{uncounted_all}
 
-pub wrong-map : (N B : ℕ) (s : Image) (t : Bool) → t ≡ (in_range N B && eqb (length s) (imageLength N B)) → not t ≡ true → wrongSize ≡ mapText N B s
-unfolding mapText rightSize
-wrong-map N B s t e h = rw (sym e ∙ not-true t h)
+pub wrong_map : (N B : ℕ) (s : Image) (t : Bool) → t ≡ (in_range N B && eqb (length s) (image_length N B)) → not t ≡ true → wrong_size ≡ map_text N B s
+unfolding map_text right_size
+wrong_map N B s t e h = rw (sym e ∙ not-true t h)
 
-pub right-map : (N B : ℕ) (s : Image) → rightSize N B s ≡ true → mapOn N B (segmentsOf N B s) ≡ mapText N B s
-unfolding mapText
-right-map N B s h = rw h
+pub right_map : (N B : ℕ) (s : Image) → right_size N B s ≡ true → map_on N B (segments_of N B s) ≡ map_text N B s
+unfolding map_text
+right_map N B s h = rw h
 
-pub drawn : (N B : ℕ) (l : List Segment) → all_rows N B l ++ legend ≡ mapOn N B l
-unfolding mapOn
+pub drawn : (N B : ℕ) (l : List Segment) → all_rows N B l ++ legend ≡ map_on N B l
+unfolding map_on
 drawn N B l = refl
 
-pub next-is : (N B : ℕ) (l : List Segment) (table : List Shown) (n : ℕ) → take N table ≡ map uncounted (shown N B l) → n ≡ largest (map afterShown (take N table)) → n ≡ nextNumber (shown N B l)
-next-is N B l table n e h = h ∙ (ap (λ (t : List Shown). largest (map afterShown t)) e ∙ (ap largest (uncounted-all (shown N B l)) ∙ largest-next (shown N B l)))
+pub next_is : (N B : ℕ) (l : List Segment) (table : List Shown) (n : ℕ) → take N table ≡ map uncounted (shown N B l) → n ≡ largest (map after_shown (take N table)) → n ≡ next_number (shown N B l)
+next_is N B l table n e h = h ∙ (ap (λ (t : List Shown). largest (map after_shown t)) e ∙ (ap largest (uncounted_all (shown N B l)) ∙ largest_next (shown N B l)))

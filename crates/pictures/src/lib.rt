@@ -1,11 +1,11 @@
 // The picture of an image, for who would rather look than read, in a lent buffer. It has no `requires`, and is put together
 // twice, as an account is.
 ghost use Rattle.std.specs.Prelude.{◌≡◌, map as each, length, take};
-ghost use Rattle.model.specs.State.{segmentsOf, nextNumber};
+ghost use Rattle.model.specs.State.{segments_of, next_number};
 ghost use Rattle.flash.specs.Pages.{Sized};
-ghost use Rattle.text.specs.Buffer.{printed, printIn, Wrote};
+ghost use Rattle.text.specs.Buffer.{printed, print_in, Wrote};
 ghost use Rattle.account_text.specs.Account.{shown};
-ghost use Rattle.account_text.specs.Map.{mapOn, mapText};
+ghost use Rattle.account_text.specs.Map.{map_on, map_text};
 ghost use Rattle.index.specs.Shows.{uncounted};
 
 use index::Shown;
@@ -21,8 +21,8 @@ fn draw(
     next: usize,
     text: &mut [u8],
 ) -> usize
-    requires { Sized segments slots (length image.now) × (take segments table ≡ each uncounted (shown segments slots (segmentsOf segments slots image.now))) × (next ≡ nextNumber (shown segments slots (segmentsOf segments slots image.now))) }
-    ensures { Wrote (mapOn segments slots (segmentsOf segments slots image.now)) text.old 0 text.new result }
+    requires { Sized segments slots (length image.now) × (take segments table ≡ each uncounted (shown segments slots (segments_of segments slots image.now))) × (next ≡ next_number (shown segments slots (segments_of segments slots image.now))) }
+    ensures { Wrote (map_on segments slots (segments_of segments slots image.now)) text.old 0 text.new result }
 {
     let rows = mapping::map_rows(image, segments, slots, table, next, text, 0);
     mapping::add_legend(text, rows)
@@ -31,7 +31,7 @@ fn draw(
 // One row for each segment by index, with its state and number, and one character for each slot of those in use; the
 // active segment is marked, and a legend is at the end.
 pub fn map(image: &[u8], segments: usize, slots: usize, text: &mut [u8]) -> Printed
-    ensures { printed result text.new ≡ printIn (mapText segments slots image.now) text.old }
+    ensures { printed result text.new ≡ print_in (map_text segments slots image.now) text.old }
 {
     if !request::right_size(image.len(), segments, slots) {
         return printing::wrong_size(text);

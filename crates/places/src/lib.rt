@@ -1,12 +1,12 @@
 // The table of places by block number (request #102): looked up, entered by a walk over slots, filled, and noted after a call.
 ghost use Rattle.std.specs.Prelude.{◌≡◌, ◌+◌, ◌*◌, ◌≤◌, ◌<◌, length, get_or, drop};
 ghost use Rattle.model.specs.Lists.{chunk};
-ghost use Rattle.model.specs.Chip.{mostSlots};
+ghost use Rattle.model.specs.Chip.{most_slots};
 ghost use Rattle.model.specs.State.{view};
 ghost use Rattle.model.specs.Answers.{code_of};
-ghost use Rattle.model.specs.Mounted.{leastPlaces, filledPlaces};
+ghost use Rattle.model.specs.Mounted.{least_places, filled_places};
 ghost use Rattle.flash.specs.Pages.{Sized};
-ghost use Rattle.places.specs.Places.{entrySeen, entered, enteredFrom, emptied, noted, Fillable};
+ghost use Rattle.places.specs.Places.{entry_seen, entered, entered_from, emptied, noted, Fillable};
 
 use model::{Answer, BlockNumber, SegmentNumber, SlotPlace};
 
@@ -47,8 +47,8 @@ fn word(low: u8, high: u8) -> usize
 
 // What the entry of a block says. An entry is believed if it is the place of some slot, with a length that fits one.
 pub fn look_up(image: &[u8], slots: usize, places: &[u32], block: BlockNumber) -> Entry
-    requires { (slots ≤ mostSlots) × (leastPlaces ≤ length places.now) }
-    ensures { result ≡ entrySeen slots image.now (get_or places.now block.0 0) }
+    requires { (slots ≤ most_slots) × (least_places ≤ length places.now) }
+    ensures { result ≡ entry_seen slots image.now (get_or places.now block.0 0) }
 {
     let at = places[block.0 as usize];
     if at == 0 {
@@ -76,7 +76,7 @@ pub fn look_up(image: &[u8], slots: usize, places: &[u32], block: BlockNumber) -
 // Enters the live slots of one segment, from the first of them on: the entry of each one's block becomes its place. They
 // end with the first slot that nothing was written to.
 fn enter_slots(image: &[u8], slots: usize, from: SlotPlace, places: &mut [u32])
-    requires { (from.0 + slots * 256 ≤ length image.now) × (length image.now ≤ 4294967296) × (leastPlaces ≤ length places.old) }
+    requires { (from.0 + slots * 256 ≤ length image.now) × (length image.now ≤ 4294967296) × (least_places ≤ length places.old) }
     ensures { places.new ≡ entered from.0 (chunk slots 256 (drop from.0 image.now)) places.old }
 {
     let start = from.0;
@@ -105,8 +105,8 @@ pub fn enter(
     count: usize,
     places: &mut [u32],
 )
-    requires { Sized segments slots (length image.now) × (first.0 + count ≤ 4294967296) × (leastPlaces ≤ length places.old) }
-    ensures { places.new ≡ enteredFrom segments slots image.now count first.0 places.old }
+    requires { Sized segments slots (length image.now) × (first.0 + count ≤ 4294967296) × (least_places ≤ length places.old) }
+    ensures { places.new ≡ entered_from segments slots image.now count first.0 places.old }
 {
     let mut turn = 0;
     while turn < count {
@@ -121,8 +121,8 @@ pub fn enter(
 
 // Makes the entries of all block numbers 0; it becomes a memset.
 fn empty(places: &mut [u32])
-    requires { leastPlaces ≤ length places.old }
-    ensures { places.new ≡ emptied leastPlaces places.old }
+    requires { least_places ≤ length places.old }
+    ensures { places.new ≡ emptied least_places places.old }
 {
     let mut i: usize = 0;
     while i < LEAST_PLACES {
@@ -140,8 +140,8 @@ pub fn fill(
     used: usize,
     places: &mut [u32],
 )
-    requires { Fillable segments slots image.now first.0 used × (leastPlaces ≤ length places.old) }
-    ensures { places.new ≡ filledPlaces segments slots (view segments slots image.now) places.old }
+    requires { Fillable segments slots image.now first.0 used × (least_places ≤ length places.old) }
+    ensures { places.new ≡ filled_places segments slots (view segments slots image.now) places.old }
 {
     empty(places);
     places[0] = 1;
@@ -153,7 +153,7 @@ pub fn fill(
 // The table after a call for a block: done, its entry is the slot's place, or 0; cut, the table is not usable; refused, it
 // stays as it is.
 pub fn note(places: &mut [u32], block: BlockNumber, place: usize, answer: Answer)
-    requires { (leastPlaces ≤ length places.old) × (place < 4294967296) }
+    requires { (least_places ≤ length places.old) × (place < 4294967296) }
     ensures { places.new ≡ noted places.old block.0 place (code_of answer) }
 {
     let Answer::Done = answer else {

@@ -5,7 +5,7 @@ ghost use mathlib.Core.List.{flatten};
 ghost use Rattle.model.specs.Lists.{count};
 ghost use Rattle.model.specs.Steps.{slot_at};
 ghost use Rattle.flash.specs.Pages.{Sized};
-ghost use Rattle.plan.specs.Statuses.{statusRow, statusRows, isMarked, noneMarked, firstMarked, notLive, FreeFrom};
+ghost use Rattle.plan.specs.Statuses.{status_row, status_rows, is_marked, none_marked, first_marked, not_live, FreeFrom};
 
 use model::SegmentNumber;
 
@@ -49,7 +49,7 @@ pub fn first_free(image: &[u8], segments: usize, slots: usize, number: SegmentNu
 }
 
 fn is_marked(status: u8) -> bool
-    ensures { result ≡ isMarked status }
+    ensures { result ≡ is_marked status }
 {
     if status == DEAD {
         return true;
@@ -60,7 +60,7 @@ fn is_marked(status: u8) -> bool
 // Whether no slot of the segment with a number has the status of a dead one.
 fn none_marked(image: &[u8], segments: usize, slots: usize, number: SegmentNumber) -> bool
     requires { Sized segments slots (length image.now) }
-    ensures { result ≡ noneMarked (statusRow segments slots image.now number.0) }
+    ensures { result ≡ none_marked (status_row segments slots image.now number.0) }
 {
     let from = first_slot(segments, slots, number);
     let mut slot = 0;
@@ -83,7 +83,7 @@ fn count_not_live(
     earlier: usize,
 ) -> usize
     requires { Sized segments slots (length image.now) × (earlier ≤ 1) }
-    ensures { result ≡ min 2 (earlier + count notLive (statusRow segments slots image.now number.0)) }
+    ensures { result ≡ min 2 (earlier + count not_live (status_row segments slots image.now number.0)) }
 {
     let from = first_slot(segments, slots, number);
     let mut found = earlier;
@@ -114,7 +114,7 @@ pub fn compactions(
     used: usize,
 ) -> usize
     requires { Sized segments slots (length image.now) × (first.0 + used ≤ 4294967296) }
-    ensures { result ≡ firstMarked (statusRows segments slots image.now used first.0) }
+    ensures { result ≡ first_marked (status_rows segments slots image.now used first.0) }
 {
     let mut turn = 0;
     while turn < used {
@@ -136,7 +136,7 @@ pub fn is_crowded(
     used: usize,
 ) -> bool
     requires { Sized segments slots (length image.now) × (first.0 + used ≤ 4294967296) }
-    ensures { result ≡ leb (count notLive (flatten (statusRows segments slots image.now used first.0))) 1 }
+    ensures { result ≡ leb (count not_live (flatten (status_rows segments slots image.now used first.0))) 1 }
 {
     let mut found = 0;
     let mut turn = 0;

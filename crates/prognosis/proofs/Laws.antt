@@ -8,111 +8,111 @@ use lib.ListN.{length, get_or, length-append}
 use lib.Dec.{eqb}
 use borrow.Author.Tests.{eqb-true}
 use Rattle.model.specs.Lists.{all}
-use Rattle.model.specs.Chip.{Image, program, erase, rightSize}
-use Rattle.model.specs.Header.{Version, version1, version2, isFormer, noBitLeft, headerVersion}
-use Rattle.model.specs.State.{Segment, blank, segmentsOf, isInUse, isInvalid, nextNumber, nextIndex, lastSlot, older, conditions, Exception, caseA, caseB, caseC, caseD, clean, unfinished, damaged, state}
-use Rattle.model.specs.Steps.{onPage, header_at, slot_at, markPlace, settle, highestBit, clearNext, countErase, eraseNext, unlessBlank, mendSteps, recoverSteps}
-use Rattle.model.specs.Answers.{recover, first_of, isDamaged, refusals, stepsFor, workOn}
-use Rattle.bridge.specs.Lengths.{page-length, mark-length, settle-length}
+use Rattle.model.specs.Chip.{Image, program, erase, right_size}
+use Rattle.model.specs.Header.{Version, version1, version2, is_former, no_bit_left, header_version}
+use Rattle.model.specs.State.{Segment, blank, segments_of, is_in_use, is_invalid, next_number, next_index, last_slot, older, conditions, Exception, case_a, case_b, case_c, case_d, clean, unfinished, damaged, state}
+use Rattle.model.specs.Steps.{on_page, header_at, slot_at, mark_place, settle, highest_bit, clear_next, count_erase, erase_next, unless_blank, mend_steps, recover_steps}
+use Rattle.model.specs.Answers.{recover, first_of, is_damaged, refusals, steps_for, work_on}
+use Rattle.bridge.specs.Lengths.{page_length, mark_length, settle_length}
 use Rattle.tally.specs.declared.Tally.{Tally}
-use Rattle.tally.specs.Seen.{headerIn, tallySeen}
+use Rattle.tally.specs.Seen.{header_in, tally_seen}
 use Rattle.mend.specs.Erasing.{counting, erasing}
-use Rattle.mend.proofs.Laws.Mend.{some-a, some-b, erasing-next}
+use Rattle.mend.proofs.Laws.Mend.{some_a, some_b, erasing_next}
 use Rattle.text.specs.Text.{text}
 use Rattle.text.specs.Buffer.{labelled}
-use Rattle.account_text.specs.Account.{firstFailing, lastLine}
+use Rattle.account_text.specs.Account.{first_failing, last_line}
 use Rattle.prognosis.specs.declared.Prognosis.{Prognosis}
 use Rattle.prognosis.specs.declared.Prognosis.TheVariants.{Recovers, Fails}
-use Rattle.prognosis.specs.Foretold.{prognosisOf}
+use Rattle.prognosis.specs.Foretold.{prognosis_of}
 
 -- ---- an erase counted in a header
 
-clear-length : (at : ℕ) (bits : List ℕ) → length (clearNext at bits) ≡ cond (all (λ x. eqb x 0) bits) 0 1
-unfolding clearNext all
-clear-length at [] = refl
-clear-length at (x ∷ xs) = go (eqb x 0) (clear-length (suc at) xs)
+clear_length : (at : ℕ) (bits : List ℕ) → length (clear_next at bits) ≡ cond (all (λ x. eqb x 0) bits) 0 1
+unfolding clear_next all
+clear_length at [] = refl
+clear_length at (x ∷ xs) = go (eqb x 0) (clear_length (suc at) xs)
   where
-    go : (t : Bool) → length (clearNext (suc at) xs) ≡ cond (all (λ y. eqb y 0) xs) 0 1
-        → length (cond t (clearNext (suc at) xs) (program at (x - highestBit x) ∷ [])) ≡ cond (t && all (λ y. eqb y 0) xs) 0 1
+    go : (t : Bool) → length (clear_next (suc at) xs) ≡ cond (all (λ y. eqb y 0) xs) 0 1
+        → length (cond t (clear_next (suc at) xs) (program at (x - highest_bit x) ∷ [])) ≡ cond (t && all (λ y. eqb y 0) xs) 0 1
     go true h = h
     go false h = refl
 
-count-length : (e : Version) → length (countErase e) ≡ cond (isFormer e) 0 (cond (noBitLeft e) 0 1)
-unfolding countErase isFormer noBitLeft
-count-length version1 = refl
-count-length (version2 total bits) = clear-length 32 bits
+count_length : (e : Version) → length (count_erase e) ≡ cond (is_former e) 0 (cond (no_bit_left e) 0 1)
+unfolding count_erase is_former no_bit_left
+count_length version1 = refl
+count_length (version2 total bits) = clear_length 32 bits
 
-pub erasing-length : (N B n : ℕ) (s : Image) (t : Tally) → t ≡ tallySeen (headerVersion (headerIn N B n s)) → length (erasing N B n s) ≡ cond t.former 0 (cond t.no_bit_left 0 1) + 1
-unfolding erasing counting tallySeen
-erasing-length N B n s t e =
-    let v = headerVersion (headerIn N B n s) in
-    let xs = countErase v in
-    length-append (onPage (header_at N B n) xs) (erase ((n + 1) % N) ∷ []) ∙ rw (e, page-length (header_at N B n) xs, count-length v)
+pub erasing_length : (N B n : ℕ) (s : Image) (t : Tally) → t ≡ tally_seen (header_version (header_in N B n s)) → length (erasing N B n s) ≡ cond t.former 0 (cond t.no_bit_left 0 1) + 1
+unfolding erasing counting tally_seen
+erasing_length N B n s t e =
+    let v = header_version (header_in N B n s) in
+    let xs = count_erase v in
+    length-append (on_page (header_at N B n) xs) (erase ((n + 1) % N) ∷ []) ∙ rw (e, page_length (header_at N B n) xs, count_length v)
 
 -- ---- in each state
 
-module _ (N B : ℕ) (s : Image) (z : rightSize N B s ≡ true) where
+module _ (N B : ℕ) (s : Image) (z : right_size N B s ≡ true) where
   abbrev l : List Segment
-  l = segmentsOf N B s
+  l = segments_of N B s
 
-  pub foretold-clean : state N B s ≡ clean → Recovers 0 ≡ prognosisOf N B l
-  unfolding prognosisOf workOn refusals first_of isDamaged stepsFor recoverSteps state
-  foretold-clean e = rw e
+  pub foretold_clean : state N B s ≡ clean → Recovers 0 ≡ prognosis_of N B l
+  unfolding prognosis_of work_on refusals first_of is_damaged steps_for recover_steps state
+  foretold_clean e = rw e
 
-  pub foretold-damaged : (k : ℕ) → state N B s ≡ damaged → k ≡ firstFailing 1 (conditions N B l) → Fails k ≡ prognosisOf N B l
-  unfolding prognosisOf workOn refusals first_of isDamaged stepsFor recoverSteps state
-  foretold-damaged k e q = rw (e, q)
+  pub foretold_damaged : (k : ℕ) → state N B s ≡ damaged → k ≡ first_failing 1 (conditions N B l) → Fails k ≡ prognosis_of N B l
+  unfolding prognosis_of work_on refusals first_of is_damaged steps_for recover_steps state
+  foretold_damaged k e q = rw (e, q)
 
   -- the steps that mend an exception
-  mended : (x : Exception) (k : ℕ) → state N B s ≡ unfinished x → k ≡ length (mendSteps N B l x) → Recovers k ≡ prognosisOf N B l
-  unfolding prognosisOf workOn refusals first_of isDamaged stepsFor recoverSteps state
+  mended : (x : Exception) (k : ℕ) → state N B s ≡ unfinished x → k ≡ length (mend_steps N B l x) → Recovers k ≡ prognosis_of N B l
+  unfolding prognosis_of work_on refusals first_of is_damaged steps_for recover_steps state
   mended x k e q = rw (e, q)
 
-  module _ (k top : ℕ) (is : top ≡ nextNumber (segmentsOf N B s) - 1) where
-    pub foretold-a : state N B s ≡ unfinished caseA → k ≡ length (erasing N B top s) → Recovers k ≡ prognosisOf N B l
-    unfolding mendSteps
-    foretold-a e q = mended caseA k e (q ∙ ap length (sym (erasing-next N B s z top is (some-a N B s z e))))
+  module _ (k top : ℕ) (is : top ≡ next_number (segments_of N B s) - 1) where
+    pub foretold_a : state N B s ≡ unfinished case_a → k ≡ length (erasing N B top s) → Recovers k ≡ prognosis_of N B l
+    unfolding mend_steps
+    foretold_a e q = mended case_a k e (q ∙ ap length (sym (erasing_next N B s z top is (some_a N B s z e))))
 
-    pub foretold-b : state N B s ≡ unfinished caseB → (b : Bool) → b ≡ not (isInUse (get_or (segmentsOf N B s) (nextIndex N (segmentsOf N B s)) blank) || isInvalid (get_or (segmentsOf N B s) (nextIndex N (segmentsOf N B s)) blank))
-        → k ≡ cond b 0 (length (erasing N B top s)) + 1 → Recovers k ≡ prognosisOf N B l
-    unfolding mendSteps unlessBlank
-    foretold-b e b h q = mended caseB k e (q ∙ (rw h (go (isInUse (get_or l (nextIndex N l) blank) || isInvalid (get_or l (nextIndex N l) blank)))))
+    pub foretold_b : state N B s ≡ unfinished case_b → (b : Bool) → b ≡ not (is_in_use (get_or (segments_of N B s) (next_index N (segments_of N B s)) blank) || is_invalid (get_or (segments_of N B s) (next_index N (segments_of N B s)) blank))
+        → k ≡ cond b 0 (length (erasing N B top s)) + 1 → Recovers k ≡ prognosis_of N B l
+    unfolding mend_steps unless_blank
+    foretold_b e b h q = mended case_b k e (q ∙ (rw h (go (is_in_use (get_or l (next_index N l) blank) || is_invalid (get_or l (next_index N l) blank)))))
       where
-        xs : erasing N B top s ≡ eraseNext N B l
-        xs = sym (erasing-next N B s z top is (some-b N B s z e))
+        xs : erasing N B top s ≡ erase_next N B l
+        xs = sym (erasing_next N B s z top is (some_b N B s z e))
 
-        go : (t : Bool) → cond (not t) 0 (length (erasing N B top s)) + 1 ≡ length (cond t (eraseNext N B l) [] ++ settle N B (nextNumber l - 1))
-        go true = rw (length-append (eraseNext N B l) (settle N B (nextNumber l - 1)), settle-length N B (nextNumber l - 1), xs)
-        go false = rw (settle-length N B (nextNumber l - 1))
+        go : (t : Bool) → cond (not t) 0 (length (erasing N B top s)) + 1 ≡ length (cond t (erase_next N B l) [] ++ settle N B (next_number l - 1))
+        go true = rw (length-append (erase_next N B l) (settle N B (next_number l - 1)), settle_length N B (next_number l - 1), xs)
+        go false = rw (settle_length N B (next_number l - 1))
 
-  pub foretold-c : state N B s ≡ unfinished caseC → Recovers 1 ≡ prognosisOf N B l
-  unfolding mendSteps markPlace
-  foretold-c e = mended caseC 1 e (sym (mark-length (slot_at N B (nextNumber l - 1) (lastSlot N l))))
+  pub foretold_c : state N B s ≡ unfinished case_c → Recovers 1 ≡ prognosis_of N B l
+  unfolding mend_steps mark_place
+  foretold_c e = mended case_c 1 e (sym (mark_length (slot_at N B (next_number l - 1) (last_slot N l))))
 
-  pub foretold-d : state N B s ≡ unfinished caseD → Recovers 1 ≡ prognosisOf N B l
-  unfolding mendSteps markPlace
-  foretold-d e = mended caseD 1 e (sym (mark-length (slot_at N B (older N l).number (older N l).slot)))
+  pub foretold_d : state N B s ≡ unfinished case_d → Recovers 1 ≡ prognosis_of N B l
+  unfolding mend_steps mark_place
+  foretold_d e = mended case_d 1 e (sym (mark_length (slot_at N B (older N l).number (older N l).slot)))
 
 -- ---- the account's last line, by what is foretold
 
-module _ (N B : ℕ) (l : List Segment) (p : Prognosis) (e : p ≡ prognosisOf N B l) where
-  pub line-recovers : (n : ℕ) → p ≡ Recovers n → lastLine N B l ≡ labelled "recover " 0 ++ (labelled " steps " n ++ text "\n")
-  unfolding prognosisOf lastLine
-  line-recovers n q = go (eqb (workOn N B true l recover).code 0) refl (sym e ∙ q)
+module _ (N B : ℕ) (l : List Segment) (p : Prognosis) (e : p ≡ prognosis_of N B l) where
+  pub line_recovers : (n : ℕ) → p ≡ Recovers n → last_line N B l ≡ labelled "recover " 0 ++ (labelled " steps " n ++ text "\n")
+  unfolding prognosis_of last_line
+  line_recovers n q = go (eqb (work_on N B true l recover).code 0) refl (sym e ∙ q)
     where
-      go : (t : Bool) → eqb (workOn N B true l recover).code 0 ≡ t
-          → cond t (Recovers (length (workOn N B true l recover).steps)) (Fails (firstFailing 1 (conditions N B l))) ≡ Recovers n
-          → cond t (labelled "recover " (workOn N B true l recover).code ++ (labelled " steps " (length (workOn N B true l recover).steps) ++ text "\n")) (labelled "fails " (firstFailing 1 (conditions N B l)) ++ text "\n")
+      go : (t : Bool) → eqb (work_on N B true l recover).code 0 ≡ t
+          → cond t (Recovers (length (work_on N B true l recover).steps)) (Fails (first_failing 1 (conditions N B l))) ≡ Recovers n
+          → cond t (labelled "recover " (work_on N B true l recover).code ++ (labelled " steps " (length (work_on N B true l recover).steps) ++ text "\n")) (labelled "fails " (first_failing 1 (conditions N B l)) ++ text "\n")
           ≡ labelled "recover " 0 ++ (labelled " steps " n ++ text "\n")
-      go true h r = let a : length (workOn N B true l recover).steps ≡ n = cc in rw (eqb-true (workOn N B true l recover).code 0 h, a)
+      go true h r = let a : length (work_on N B true l recover).steps ≡ n = cc in rw (eqb-true (work_on N B true l recover).code 0 h, a)
       go false h r = absurd (let z : ◌≡◌ {A = ℕ} 0 1 = cc in omega arith)
 
-  pub line-fails : (k : ℕ) → p ≡ Fails k → lastLine N B l ≡ labelled "fails " k ++ text "\n"
-  unfolding prognosisOf lastLine
-  line-fails k q = go (eqb (workOn N B true l recover).code 0) (sym e ∙ q)
+  pub line_fails : (k : ℕ) → p ≡ Fails k → last_line N B l ≡ labelled "fails " k ++ text "\n"
+  unfolding prognosis_of last_line
+  line_fails k q = go (eqb (work_on N B true l recover).code 0) (sym e ∙ q)
     where
-      go : (t : Bool) → cond t (Recovers (length (workOn N B true l recover).steps)) (Fails (firstFailing 1 (conditions N B l))) ≡ Fails k
-          → cond t (labelled "recover " (workOn N B true l recover).code ++ (labelled " steps " (length (workOn N B true l recover).steps) ++ text "\n")) (labelled "fails " (firstFailing 1 (conditions N B l)) ++ text "\n")
+      go : (t : Bool) → cond t (Recovers (length (work_on N B true l recover).steps)) (Fails (first_failing 1 (conditions N B l))) ≡ Fails k
+          → cond t (labelled "recover " (work_on N B true l recover).code ++ (labelled " steps " (length (work_on N B true l recover).steps) ++ text "\n")) (labelled "fails " (first_failing 1 (conditions N B l)) ++ text "\n")
           ≡ labelled "fails " k ++ text "\n"
       go true r = absurd (let z : ◌≡◌ {A = ℕ} 0 1 = cc in omega arith)
-      go false r = let a : firstFailing 1 (conditions N B l) ≡ k = cc in rw a
+      go false r = let a : first_failing 1 (conditions N B l) ≡ k = cc in rw a

@@ -1,15 +1,15 @@
 -- What recovery would answer: its answer and the count of its steps as the definitions of recovery give them.
 use Rattle.std.specs.Prelude.{ℕ, ◌≤◌, true, cond, List, length, eqb}
 use Rattle.model.specs.State.{Segment, conditions}
-use Rattle.model.specs.Answers.{recover, workOn}
-use Rattle.account_text.specs.Account.{firstFailing}
+use Rattle.model.specs.Answers.{recover, work_on}
+use Rattle.account_text.specs.Account.{first_failing}
 use Rattle.prognosis.specs.declared.Prognosis.{Prognosis}
 use Rattle.prognosis.specs.declared.Prognosis.TheVariants.{Recovers, Fails}
 
 -- of the segments of an image of a right size, on which recovery answers 0 or 4
-unfoldable pub prognosisOf : ℕ → ℕ → List Segment → Prognosis
-prognosisOf N B l = let w = workOn N B true l recover in
-    cond (eqb w.code 0) (Recovers (length w.steps)) (Fails (firstFailing 1 (conditions N B l)))
+unfoldable pub prognosis_of : ℕ → ℕ → List Segment → Prognosis
+prognosis_of N B l = let w = work_on N B true l recover in
+    cond (eqb w.code 0) (Recovers (length w.steps)) (Fails (first_failing 1 (conditions N B l)))
 
 -- its number is small
 abbrev pub Small : Prognosis → Type 0

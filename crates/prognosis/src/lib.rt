@@ -1,11 +1,11 @@
 // What recovery would answer, told from the survey of an image without a step (request #101: the account's last line).
 ghost use Rattle.std.specs.Prelude.{◌≡◌, true, cond, ◌+◌, ◌≤◌, length};
-ghost use Rattle.model.specs.Chip.{rightSize};
-ghost use Rattle.model.specs.State.{segmentsOf};
+ghost use Rattle.model.specs.Chip.{right_size};
+ghost use Rattle.model.specs.State.{segments_of};
 ghost use Rattle.flash.specs.Pages.{Sized};
-ghost use Rattle.scan.specs.Surveys.{surveyOf};
+ghost use Rattle.scan.specs.Surveys.{survey_of};
 ghost use Rattle.mend.specs.Erasing.{erasing};
-ghost use Rattle.prognosis.specs.Foretold.{prognosisOf, Small};
+ghost use Rattle.prognosis.specs.Foretold.{prognosis_of, Small};
 
 use model::SegmentNumber;
 use scan::Surveyed;
@@ -46,8 +46,8 @@ fn settle_steps(image: &[u8], segments: usize, slots: usize, top: SegmentNumber,
 
 // What recovery would answer on an image, by its survey.
 pub fn foretell(image: &[u8], segments: usize, slots: usize, survey: Surveyed) -> Prognosis
-    requires { (rightSize segments slots image.now ≡ true) × (survey ≡ surveyOf segments slots (segmentsOf segments slots image.now)) }
-    ensures { (result ≡ prognosisOf segments slots (segmentsOf segments slots image.now)) × Small result }
+    requires { (right_size segments slots image.now ≡ true) × (survey ≡ survey_of segments slots (segments_of segments slots image.now)) }
+    ensures { (result ≡ prognosis_of segments slots (segments_of segments slots image.now)) × Small result }
 {
     match survey {
         Surveyed::Clean {

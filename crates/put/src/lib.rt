@@ -1,9 +1,9 @@
 // A put on a clean image. Its last parts hold on any.
 ghost use Rattle.std.specs.Prelude.{◌≡◌, false, ◌+◌, ◌-◌, ◌*◌, ◌≤◌, ◌<◌, length};
-ghost use Rattle.model.specs.State.{entriesIn, view};
+ghost use Rattle.model.specs.State.{entries_in, view};
 ghost use Rattle.model.specs.Steps.{slot_at};
-ghost use Rattle.model.specs.Answers.{performed, outcomeOf, put};
-ghost use Rattle.find.specs.Search.{rows_at, foundIn};
+ghost use Rattle.model.specs.Answers.{performed, outcome_of, put};
+ghost use Rattle.find.specs.Search.{rows_at, found_in};
 ghost use Rattle.flash.specs.Pages.{Sized};
 ghost use Rattle.put.specs.Writing.{Puttable, Accepted, Placed, Wrote};
 
@@ -24,8 +24,8 @@ fn old_slot(
     before: Found,
     block: BlockNumber,
 ) -> Found
-    requires { Sized segments slots (length image.now) × (room.first.0 + room.used ≤ 4294967296) × (moved ≡ false → before ≡ foundIn segments slots room.first.0 (rows_at segments slots image.now room.used room.first.0) block.0) }
-    ensures { result ≡ foundIn segments slots room.first.0 (rows_at segments slots image.now room.used room.first.0) block.0 }
+    requires { Sized segments slots (length image.now) × (room.first.0 + room.used ≤ 4294967296) × (moved ≡ false → before ≡ found_in segments slots room.first.0 (rows_at segments slots image.now room.used room.first.0) block.0) }
+    ensures { result ≡ found_in segments slots room.first.0 (rows_at segments slots image.now room.used room.first.0) block.0 }
 {
     if moved {
         return find::find(image, segments, slots, room.first, room.used, block);
@@ -80,7 +80,7 @@ fn put_accepted(
     budget: u64,
 ) -> Performed
     requires { Accepted segments slots plan total found block.0 contents.now image.old × (plan.compactions ≤ plan.used) }
-    ensures { performed result image.new ≡ outcomeOf segments slots image.old budget (put block.0 contents.now) }
+    ensures { performed result image.new ≡ outcome_of segments slots image.old budget (put block.0 contents.now) }
 {
     let room = room::make_room(image, segments, slots, plan, total, budget);
     if room.left == 0 {
@@ -102,8 +102,8 @@ pub fn put_clean(
     contents: &[u8],
     budget: u64,
 ) -> Performed
-    requires { Puttable segments slots plan block.0 contents.now image.old × (live ≡ length (entriesIn (view segments slots image.old))) × (plan.compactions ≤ plan.used) }
-    ensures { performed result image.new ≡ outcomeOf segments slots image.old budget (put block.0 contents.now) }
+    requires { Puttable segments slots plan block.0 contents.now image.old × (live ≡ length (entries_in (view segments slots image.old))) × (plan.compactions ≤ plan.used) }
+    ensures { performed result image.new ≡ outcome_of segments slots image.old budget (put block.0 contents.now) }
 {
     let tally = tally::tally_in(&image[..], segments, slots, put_answers::top_number(plan));
     if tally.former {

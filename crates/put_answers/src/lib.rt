@@ -1,9 +1,9 @@
 // What a put on a clean image is answered, before its first step: from a plan, the top's tally, the count of live slots and a
 // search.
 ghost use Rattle.std.specs.Prelude.{◌≡◌, ◌+◌, ◌-◌, ◌≤◌, ◌<◌, length};
-ghost use Rattle.model.specs.Chip.{mostSegments, mostSlots};
+ghost use Rattle.model.specs.Chip.{most_segments, most_slots};
 ghost use Rattle.flash.specs.Pages.{Sized};
-ghost use Rattle.put_answers.specs.Answering.{Ranged, newNumbersBy, wornBy, fullBy, answerFor, foundBefore};
+ghost use Rattle.put_answers.specs.Answering.{Ranged, new_numbers_by, worn_by, full_by, answer_for, found_before};
 
 use find::Found;
 use model::{Answer, BlockNumber, ERASE_LIMIT, SegmentNumber};
@@ -12,7 +12,7 @@ use tally::Tally;
 
 // The number of the top.
 pub fn top_number(plan: Plan) -> SegmentNumber
-    requires { (1 ≤ plan.used) × (plan.used ≤ mostSegments) × (plan.first.0 + plan.used ≤ 4294967296) }
+    requires { (1 ≤ plan.used) × (plan.used ≤ most_segments) × (plan.first.0 + plan.used ≤ 4294967296) }
     ensures { result.0 ≡ plan.first.0 + plan.used - 1 }
 {
     SegmentNumber((plan.first.0 as usize + plan.used - 1) as u32)
@@ -20,8 +20,8 @@ pub fn top_number(plan: Plan) -> SegmentNumber
 
 // How many new numbers a put without room gives.
 fn new_numbers(segments: usize, plan: Plan) -> usize
-    requires { (plan.used ≤ mostSegments) × (plan.compactions ≤ mostSegments) }
-    ensures { (result ≡ newNumbersBy segments plan) × (result ≤ mostSegments) }
+    requires { (plan.used ≤ most_segments) × (plan.compactions ≤ most_segments) }
+    ensures { (result ≡ new_numbers_by segments plan) × (result ≤ most_segments) }
 {
     if plan.used + 1 < segments {
         return 1;
@@ -33,7 +33,7 @@ fn new_numbers(segments: usize, plan: Plan) -> usize
 // and by the tally reach the limit. It is found out before the first step.
 pub fn is_worn(segments: usize, slots: usize, plan: Plan, tally: Tally) -> bool
     requires { Ranged segments slots plan × (plan.first.0 + plan.used ≤ 4294967296) × (tally.count < 4294969344) }
-    ensures { result ≡ wornBy segments slots plan tally }
+    ensures { result ≡ worn_by segments slots plan tally }
 {
     if plan.slot < slots {
         return false;
@@ -48,8 +48,8 @@ pub fn is_worn(segments: usize, slots: usize, plan: Plan, tally: Tally) -> bool
 
 // Whether a put of a block that is not stored finds as many slots live as may be.
 fn is_full(segments: usize, slots: usize, live: usize, found: Found) -> bool
-    requires { (2 ≤ segments) × (segments ≤ mostSegments) × (2 ≤ slots) × (slots ≤ mostSlots) }
-    ensures { result ≡ fullBy segments slots live found }
+    requires { (2 ≤ segments) × (segments ≤ most_segments) × (2 ≤ slots) × (slots ≤ most_slots) }
+    ensures { result ≡ full_by segments slots live found }
 {
     let Found::Nothing = found else {
         return false;
@@ -69,7 +69,7 @@ pub fn slot_before(
     block: BlockNumber,
 ) -> Found
     requires { Ranged segments slots plan × Sized segments slots (length image.now) × (plan.first.0 + plan.used ≤ 4294967296) }
-    ensures { result ≡ foundBefore segments slots plan live image.now block.0 }
+    ensures { result ≡ found_before segments slots plan live image.now block.0 }
 {
     if slots <= plan.slot {
         if live < request::capacity(segments, slots) {
@@ -89,7 +89,7 @@ pub fn put_answer(
     found: Found,
 ) -> Answer
     requires { Ranged segments slots plan × (plan.first.0 + plan.used ≤ 4294967296) × (tally.count < 4294969344) }
-    ensures { result ≡ answerFor segments slots plan live tally found }
+    ensures { result ≡ answer_for segments slots plan live tally found }
 {
     if is_full(segments, slots, live, found) {
         return Answer::Full;

@@ -1,21 +1,21 @@
 // The library's exports to C and Rust: the requests, with a table of places too, the blank test, the account, the move to
 // another chip, salvage, requests by tenant and the older partition format, with what comes back packed into one number.
 ghost use Rattle.std.specs.Prelude.{◌≡◌, length};
-ghost use Rattle.model.specs.Answers.{outcomeOf, readOutcome, format, put, delete, recover};
-ghost use Rattle.model.specs.Mounted.{mountOutcome, MountedPut, MountedDelete, MountedRead};
-ghost use Rattle.moves.specs.Moves.{moveOutcome};
-ghost use Rattle.text.specs.Buffer.{printIn};
-ghost use Rattle.account_text.specs.Account.{accountText};
-ghost use Rattle.salvage.specs.Salvage.{salvageOutcome, rebuildOutcome};
-ghost use Rattle.shares.specs.Layer.{puts, deletes, reads, shareOutcome, gaveIn};
+ghost use Rattle.model.specs.Answers.{outcome_of, read_outcome, format, put, delete, recover};
+ghost use Rattle.model.specs.Mounted.{mount_outcome, MountedPut, MountedDelete, MountedRead};
+ghost use Rattle.moves.specs.Moves.{move_outcome};
+ghost use Rattle.text.specs.Buffer.{print_in};
+ghost use Rattle.account_text.specs.Account.{account_text};
+ghost use Rattle.salvage.specs.Salvage.{salvage_outcome, rebuild_outcome};
+ghost use Rattle.shares.specs.Layer.{puts, deletes, reads, share_outcome, gave_in};
 ghost use Rattle.partitions.specs.Answers as settings;
-ghost use Rattle.qanbillox.specs.Packed.{Gives, packedRead, packedSpot, Allows, AllowsRead, Mounts, packedBlank, Prints, Serves};
+ghost use Rattle.qanbillox.specs.Packed.{Gives, packed_read, packed_spot, Allows, AllowsRead, Mounts, packed_blank, Prints, Serves};
 
 use model::BlockNumber;
 
 #[unsafe(no_mangle)]
 pub extern "C" fn qbx_format(image: &mut [u8], n: usize, b: usize, budget: u64) -> u64
-    ensures { Gives (outcomeOf n b image.old budget format) result image.new }
+    ensures { Gives (outcome_of n b image.old budget format) result image.new }
 {
     packing::packed(store::format(image, n, b, budget))
 }
@@ -29,49 +29,49 @@ pub extern "C" fn qbx_put(
     contents: &[u8],
     budget: u64,
 ) -> u64
-    ensures { Gives (outcomeOf n b image.old budget (put block contents.now)) result image.new }
+    ensures { Gives (outcome_of n b image.old budget (put block contents.now)) result image.new }
 {
     packing::packed(store::put(image, n, b, BlockNumber(block), contents, budget))
 }
 
 #[unsafe(no_mangle)]
 pub extern "C" fn qbx_delete(image: &mut [u8], n: usize, b: usize, block: u16, budget: u64) -> u64
-    ensures { Gives (outcomeOf n b image.old budget (delete block)) result image.new }
+    ensures { Gives (outcome_of n b image.old budget (delete block)) result image.new }
 {
     packing::packed(store::delete(image, n, b, BlockNumber(block), budget))
 }
 
 #[unsafe(no_mangle)]
 pub extern "C" fn qbx_recover(image: &mut [u8], n: usize, b: usize, budget: u64) -> u64
-    ensures { Gives (outcomeOf n b image.old budget recover) result image.new }
+    ensures { Gives (outcome_of n b image.old budget recover) result image.new }
 {
     packing::packed(store::recover(image, n, b, budget))
 }
 
 #[unsafe(no_mangle)]
 pub extern "C" fn qbx_read(image: &[u8], n: usize, b: usize, block: u16) -> u64
-    ensures { result ≡ packedRead (readOutcome n b image.now block) }
+    ensures { result ≡ packed_read (read_outcome n b image.now block) }
 {
     packing::packed_read(store::read(image, n, b, BlockNumber(block)))
 }
 
 #[unsafe(no_mangle)]
 pub extern "C" fn qbx_is_blank(bytes: &[u8]) -> u64
-    ensures { result ≡ packedBlank bytes.now }
+    ensures { result ≡ packed_blank bytes.now }
 {
     packing::packed_blank(blank::blank_test(bytes))
 }
 
 #[unsafe(no_mangle)]
 pub extern "C" fn qbx_account(image: &[u8], n: usize, b: usize, text: &mut [u8]) -> u64
-    ensures { Prints (printIn (accountText n b image.now) text.old) result text.new }
+    ensures { Prints (print_in (account_text n b image.now) text.old) result text.new }
 {
     packing::packed_print(accounts::account(image, n, b, text))
 }
 
 #[unsafe(no_mangle)]
 pub extern "C" fn qbx_mount(image: &[u8], n: usize, b: usize, table: &mut [u32]) -> u64
-    ensures { Mounts (mountOutcome n b image.now table.old) result table.new }
+    ensures { Mounts (mount_outcome n b image.now table.old) result table.new }
 {
     request::number_of(mounting::mount(image, n, b, table))
 }
@@ -128,14 +128,14 @@ pub extern "C" fn qbx_move(
     target_b: usize,
     budget: u64,
 ) -> u64
-    ensures { Gives (moveOutcome n b source.now target_n target_b target.old budget) result target.new }
+    ensures { Gives (move_outcome n b source.now target_n target_b target.old budget) result target.new }
 {
     packing::packed(moving::move_to(source, n, b, target, target_n, target_b, budget))
 }
 
 #[unsafe(no_mangle)]
 pub extern "C" fn qbx_salvage(image: &[u8], n: usize, b: usize, text: &mut [u8]) -> u64
-    ensures { Prints (salvageOutcome n b image.now text.old) result text.new }
+    ensures { Prints (salvage_outcome n b image.now text.old) result text.new }
 {
     packing::packed_print(salvaging::salvage(image, n, b, text))
 }
@@ -150,7 +150,7 @@ pub extern "C" fn qbx_rebuild(
     target_b: usize,
     budget: u64,
 ) -> u64
-    ensures { Gives (rebuildOutcome n b source.now target_n target_b target.old budget) result target.new }
+    ensures { Gives (rebuild_outcome n b source.now target_n target_b target.old budget) result target.new }
 {
     packing::packed(rebuilding::rebuild(source, n, b, target, target_n, target_b, budget))
 }
@@ -165,7 +165,7 @@ pub extern "C" fn qbx_share_put(
     block: u16,
     contents: &[u8],
 ) -> u64
-    ensures { Serves (shareOutcome n b shares.now image.old tenant (puts block contents.now)) result image.new }
+    ensures { Serves (share_outcome n b shares.now image.old tenant (puts block contents.now)) result image.new }
 {
     request::number_of(sharing::put(image, n, b, shares, tenant, BlockNumber(block), contents))
 }
@@ -179,7 +179,7 @@ pub extern "C" fn qbx_share_delete(
     tenant: u32,
     block: u16,
 ) -> u64
-    ensures { Serves (shareOutcome n b shares.now image.old tenant (deletes block)) result image.new }
+    ensures { Serves (share_outcome n b shares.now image.old tenant (deletes block)) result image.new }
 {
     request::number_of(sharing::delete(image, n, b, shares, tenant, BlockNumber(block)))
 }
@@ -194,14 +194,14 @@ pub extern "C" fn qbx_share_read(
     block: u16,
     contents: &mut [u8],
 ) -> u64
-    ensures { Prints (gaveIn (shareOutcome n b shares.now image.now tenant (reads block (length contents.old))) contents.old) result contents.new }
+    ensures { Prints (gave_in (share_outcome n b shares.now image.now tenant (reads block (length contents.old))) contents.old) result contents.new }
 {
     packing::packed_print(sharing::read(image, n, b, shares, tenant, BlockNumber(block), contents))
 }
 
 #[unsafe(no_mangle)]
 pub extern "C" fn qbx_settings_read(image: &[u8], partitions: usize, layout: &[u8], item: u8) -> u64
-    ensures { result ≡ packedSpot (settings.readOutcome partitions layout.now image.now item) }
+    ensures { result ≡ packed_spot (settings.readOutcome partitions layout.now image.now item) }
 {
     partition_packing::packed_spot(partition_store::read(image, partitions, layout, item))
 }

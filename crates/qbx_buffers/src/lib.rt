@@ -1,7 +1,7 @@
 // A command on its image in the smallest of three buffers that holds it, each with its own limit of the stack.
 ghost use Rattle.std.specs.Prelude.{◌≡◌, true, leb};
 ghost use Rattle.request.specs.Request.{size_of};
-ghost use Rattle.qbx_rooms.specs.Rooms.{roomOf};
+ghost use Rattle.qbx_rooms.specs.Rooms.{room_of};
 
 use qbx_rooms::Process;
 use qbx_words::Command;
@@ -13,7 +13,7 @@ use qbx_words::Command;
 // nothing with large locals part of a function that calls itself. So each buffer stays in a frame of its own, and a small image
 // does not need a large one's stack, nor a command that prints no text that of one that does.
 fn within(last: u8, process: Process, path: &[u8], command: Command, contents: &[u8]) -> bool
-    ensures { result ≡ leb (size_of command.segments command.slots) (roomOf last) }
+    ensures { result ≡ leb (size_of command.segments command.slots) (room_of last) }
 {
     if last > 0 {
         if within(last - 1, process, path, command, contents) {

@@ -1,9 +1,9 @@
 // The segments in use of an image and their slots by kind, counted.
 ghost use Rattle.std.specs.Prelude.{◌≡◌, ◌+◌, ◌*◌, ◌<◌, ◌≤◌, length, get_or};
-ghost use Rattle.model.specs.State.{blank, segmentsOf};
+ghost use Rattle.model.specs.State.{blank, segments_of};
 ghost use Rattle.flash.specs.Pages.{Sized};
-ghost use Rattle.judge.specs.Rows.{kindsAt};
-ghost use Rattle.qbx_census.specs.Census.{setAside, total, counted, countKinds, countSegment, censusOf};
+ghost use Rattle.judge.specs.Rows.{kinds_at};
+ghost use Rattle.qbx_census.specs.Census.{set_aside, total, counted, count_kinds, count_segment, census_of};
 
 use header_seen::HeaderSeen;
 use model::SlotKind;
@@ -57,7 +57,7 @@ fn count(census: Census, kind: SlotKind) -> Census
 // The slots of a segment, from the offset of the first one.
 fn count_slots(image: &[u8], at: usize, slots: usize, census: Census) -> Census
     requires { (at + slots * 256 ≤ length image.now) × (slots ≤ 255) × (total census ≤ 100000) }
-    ensures { (result ≡ countKinds census (kindsAt image.now at slots)) × (total result ≤ total census + slots) }
+    ensures { (result ≡ count_kinds census (kinds_at image.now at slots)) × (total result ≤ total census + slots) }
 {
     let mut sum = census;
     let mut i: usize = 0;
@@ -79,7 +79,7 @@ fn count_segment(
     census: Census,
 ) -> Census
     requires { Sized segments slots (length image.now) × (index < segments) × (total census ≤ 90000) }
-    ensures { (result ≡ countSegment census (get_or (segmentsOf segments slots image.now) index blank)) × (total result ≤ total census + 256) }
+    ensures { (result ≡ count_segment census (get_or (segments_of segments slots image.now) index blank)) × (total result ≤ total census + 256) }
 {
     let at = index * (slots + 1) * 256;
     let first = at + 256;
@@ -105,7 +105,7 @@ fn count_segment(
 // Every segment but the one left aside.
 pub fn take_census(image: &[u8], segments: usize, slots: usize, aside: usize) -> Census
     requires { Sized segments slots (length image.now) }
-    ensures { result ≡ censusOf (setAside aside (segmentsOf segments slots image.now)) }
+    ensures { result ≡ census_of (set_aside aside (segments_of segments slots image.now)) }
 {
     let mut census = census_of(0, 0, 0, 0, 0);
     let mut i: usize = 0;

@@ -9,10 +9,10 @@ use lib.IntN.{ℤ, pos, negsuc}
 use borrow.Author.Tests.{le-leb, lt-leb}
 use Rattle.io.specs.Counts.{IsPrefixLen}
 use Rattle.text.specs.Text.{text}
-use Rattle.qbx_files.specs.Files.{besideOf, largerOf}
+use Rattle.qbx_files.specs.Files.{beside_of, larger_of}
 
-pub beside_none : (most : ℕ) (path : List ℕ) → most < length path + 4 → besideOf most path ≡ []
-unfolding besideOf
+pub beside_none : (most : ℕ) (path : List ℕ) → most < length path + 4 → beside_of most path ≡ []
+unfolding beside_of
 beside_none most path h = rw (lt-leb (length path + 4) most h)
 
 abbrev pub ending : List ℕ
@@ -26,13 +26,13 @@ module _ (path name mid part more rest : List ℕ) (fits : length path + 4 ≤ l
   starts : take (length path + 4) (take (length path) mid ++ (part ++ rest)) ≡ path ++ ending
   starts = rw (begins, take-append-add path (part ++ rest) 4, ended)
 
-  pub beside-made : IsPrefixLen (length path + 4) (take (length path) mid ++ (part ++ rest)) × (take (length path + 4) (take (length path) mid ++ (part ++ rest)) ≡ besideOf (length name) path)
-  unfolding besideOf text
-  beside-made =
+  pub beside_made : IsPrefixLen (length path + 4) (take (length path) mid ++ (part ++ rest)) × (take (length path + 4) (take (length path) mid ++ (part ++ rest)) ≡ beside_of (length name) path)
+  unfolding beside_of text
+  beside_made =
       let n : length path + 4 ≡ length (take (length path + 4) (take (length path) mid ++ (part ++ rest))) = sym (ap length starts ∙ length-append path ending) in
       ((omega (arith, length-take (length path + 4) (take (length path) mid ++ (part ++ rest))), n), rw (le-leb (length path + 4) (length name) fits) starts)
 
-pub larger-count : (z : ℤ) (k : ℕ) → k ≤ largerOf z k
-unfolding largerOf
-larger-count (pos n) k = omega arith
-larger-count (negsuc n) k = omega arith
+pub larger_count : (z : ℤ) (k : ℕ) → k ≤ larger_of z k
+unfolding larger_of
+larger_count (pos n) k = omega arith
+larger_count (negsuc n) k = omega arith

@@ -3,10 +3,10 @@ use Rattle.std.specs.Prelude.{ℕ, ◌+◌, max, cond, List, [], ◌++◌, lengt
 use Rattle.text.specs.Text.{text}
 
 -- the name under which a file's successor is written, if it is no longer than so many bytes
-unfoldable pub besideOf : ℕ → List ℕ → List ℕ
-besideOf most path = cond (leb (length path + 4) most) (path ++ text ".new") []
+unfoldable pub beside_of : ℕ → List ℕ → List ℕ
+beside_of most path = cond (leb (length path + 4) most) (path ++ text ".new") []
 
 -- the larger of an offset and a count; a negative offset is none
-unfoldable pub largerOf : ℤ → ℕ → ℕ
-largerOf (pos n) k = max n k
-largerOf (negsuc n) k = k
+unfoldable pub larger_of : ℤ → ℕ → ℕ
+larger_of (pos n) k = max n k
+larger_of (negsuc n) k = k

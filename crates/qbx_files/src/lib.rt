@@ -1,7 +1,7 @@
 // A file read, and replaced whole or not at all.
 ghost use Rattle.std.specs.Prelude.{◌≡◌, ◌+◌, ◌≤◌, length, take};
 ghost use Rattle.io.specs.Counts.{IsPrefixLen};
-ghost use Rattle.qbx_files.specs.Files.{besideOf, largerOf};
+ghost use Rattle.qbx_files.specs.Files.{beside_of, larger_of};
 
 // What was read: how many bytes, and whether that is all there is or the buffer is full.
 #[derive(Drop)]
@@ -57,7 +57,7 @@ pub fn fill(fd: i32, buf: &mut [u8]) -> Filled
 
 // The larger of an offset in a file and a count of its bytes.
 fn larger(offset: i64, count: u64) -> u64
-    ensures { result ≡ largerOf offset count }
+    ensures { result ≡ larger_of offset count }
 {
     if offset > 0 {
         let length = offset as u64;
@@ -78,7 +78,7 @@ pub fn length_of(fd: i32, read: usize) -> u64
 // The name beside a path, for the file that is to take its place. None if it is too long.
 pub fn beside(path: &[u8], name: &mut [u8]) -> usize
     ensures prefix_len { IsPrefixLen result name.new }
-    ensures name_after { take result name.new ≡ besideOf (length name.old) path.now }
+    ensures name_after { take result name.new ≡ beside_of (length name.old) path.now }
 {
     if name.len() < path.len() {
         return 0;

@@ -2,14 +2,14 @@
 ghost use Rattle.std.specs.Prelude.{◌≡◌, true, false, ◌≤◌};
 ghost use Rattle.request.specs.Request.{size_of};
 ghost use Rattle.qbx_verbs.specs.Verbs.{prints};
-ghost use Rattle.qbx_rooms.specs.Rooms.{roomOf, need_of};
+ghost use Rattle.qbx_rooms.specs.Rooms.{room_of, need_of};
 
 use qbx_rooms::Process;
 use qbx_words::Command;
 
 // Each buffer has a byte more than the largest image in it, so that a larger file is seen to be one.
 pub fn small(process: Process, path: &[u8], command: Command, contents: &[u8]) -> bool
-    requires { (size_of command.segments command.slots ≤ roomOf 0) × (need_of false 0 ≤ process.allowed) × (prints command.verb ≡ false) }
+    requires { (size_of command.segments command.slots ≤ room_of 0) × (need_of false 0 ≤ process.allowed) × (prints command.verb ≡ false) }
     ensures { result ≡ true }
 {
     let mut image = [255u8; 1048577];
@@ -25,7 +25,7 @@ pub fn small(process: Process, path: &[u8], command: Command, contents: &[u8]) -
 }
 
 pub fn middle(process: Process, path: &[u8], command: Command, contents: &[u8]) -> bool
-    requires { (size_of command.segments command.slots ≤ roomOf 1) × (need_of false 1 ≤ process.allowed) × (prints command.verb ≡ false) }
+    requires { (size_of command.segments command.slots ≤ room_of 1) × (need_of false 1 ≤ process.allowed) × (prints command.verb ≡ false) }
     ensures { result ≡ true }
 {
     let mut image = [255u8; 4194305];
@@ -41,7 +41,7 @@ pub fn middle(process: Process, path: &[u8], command: Command, contents: &[u8]) 
 }
 
 pub fn large(process: Process, path: &[u8], command: Command, contents: &[u8]) -> bool
-    requires { (size_of command.segments command.slots ≤ roomOf 2) × (need_of false 2 ≤ process.allowed) × (prints command.verb ≡ false) }
+    requires { (size_of command.segments command.slots ≤ room_of 2) × (need_of false 2 ≤ process.allowed) × (prints command.verb ≡ false) }
     ensures { result ≡ true }
 {
     let mut image = [255u8; 16711681];
@@ -58,7 +58,7 @@ pub fn large(process: Process, path: &[u8], command: Command, contents: &[u8]) -
 
 // The same with a buffer for a text: no slot has more than 45 bytes in one, and no segment more than 61 beside its slots.
 pub fn small_text(process: Process, path: &[u8], command: Command) -> bool
-    requires { (size_of command.segments command.slots ≤ roomOf 0) × (need_of true 0 ≤ process.allowed) }
+    requires { (size_of command.segments command.slots ≤ room_of 0) × (need_of true 0 ≤ process.allowed) }
     ensures { result ≡ true }
 {
     let mut image = [255u8; 1048577];
@@ -75,7 +75,7 @@ pub fn small_text(process: Process, path: &[u8], command: Command) -> bool
 }
 
 pub fn middle_text(process: Process, path: &[u8], command: Command) -> bool
-    requires { (size_of command.segments command.slots ≤ roomOf 1) × (need_of true 1 ≤ process.allowed) }
+    requires { (size_of command.segments command.slots ≤ room_of 1) × (need_of true 1 ≤ process.allowed) }
     ensures { result ≡ true }
 {
     let mut image = [255u8; 4194305];
@@ -92,7 +92,7 @@ pub fn middle_text(process: Process, path: &[u8], command: Command) -> bool
 }
 
 pub fn large_text(process: Process, path: &[u8], command: Command) -> bool
-    requires { (size_of command.segments command.slots ≤ roomOf 2) × (need_of true 2 ≤ process.allowed) }
+    requires { (size_of command.segments command.slots ≤ room_of 2) × (need_of true 2 ≤ process.allowed) }
     ensures { result ≡ true }
 {
     let mut image = [255u8; 16711681];

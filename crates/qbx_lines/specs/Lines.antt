@@ -3,8 +3,8 @@ use Rattle.std.specs.Prelude.{ℕ, ◌+◌, ◌≡◌, List, ◌++◌, length, t
 use Rattle.qbx_lines.specs.declared.Line.{Line}
 
 -- the most bytes of a line
-abbrev pub mostLine : ℕ
-mostLine = 240
+abbrev pub most_line : ℕ
+most_line = 240
 
 -- what a line says so far
 abbrev pub said : Line → List ℕ

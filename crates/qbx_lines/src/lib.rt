@@ -1,6 +1,6 @@
 // Lines of text, put together.
 ghost use Rattle.std.specs.Prelude.{◌≡◌, [], ◌++◌, ◌+◌, ◌≤◌, length};
-ghost use Rattle.qbx_lines.specs.Lines.{mostLine, said, Added};
+ghost use Rattle.qbx_lines.specs.Lines.{most_line, said, Added};
 ghost use Rattle.text.specs.Decimal.{decimal};
 
 // The most bytes of a line; `mostLine` in specs/.
@@ -25,7 +25,7 @@ pub fn empty() -> Line
 
 // More bytes at the end of a line.
 pub fn add(line: Line, text: &[u8]) -> Line
-    requires { line.count + length text.now ≤ mostLine }
+    requires { line.count + length text.now ≤ most_line }
     ensures { Added line text.now result }
 {
     let at = line.count;
@@ -43,7 +43,7 @@ pub fn add(line: Line, text: &[u8]) -> Line
 
 // A number at the end of a line.
 pub fn add_number(line: Line, n: u64) -> Line
-    requires { line.count + 20 ≤ mostLine }
+    requires { line.count + 20 ≤ most_line }
     ensures { Added line (decimal n) result × (length (decimal n) ≤ 20) }
 {
     let mut digits = [0u8; 20];
@@ -53,7 +53,7 @@ pub fn add_number(line: Line, n: u64) -> Line
 
 // A number behind its label.
 pub fn add_count(line: Line, label: &[u8], n: u64) -> Line
-    requires { line.count + length label.now + 20 ≤ mostLine }
+    requires { line.count + length label.now + 20 ≤ most_line }
     ensures { Added line (label.now ++ decimal n) result × (result.count ≤ line.count + length label.now + 20) }
 {
     add_number(add(line, label), n)

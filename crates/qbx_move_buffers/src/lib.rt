@@ -1,7 +1,7 @@
 // A move or a rebuild in the smallest of three pairs of buffers that hold its images, each with its own limit of the stack.
 ghost use Rattle.std.specs.Prelude.{◌≡◌, true, leb};
-ghost use Rattle.qbx_move_words.specs.Move.{largerSize};
-ghost use Rattle.qbx_rooms.specs.Rooms.{roomOf};
+ghost use Rattle.qbx_move_words.specs.Move.{larger_size};
+ghost use Rattle.qbx_rooms.specs.Rooms.{room_of};
 
 use qbx_move_words::Move;
 use qbx_rooms::Process;
@@ -9,7 +9,7 @@ use qbx_rooms::Process;
 // Makes a move in the first buffers that hold its images, up to the given ones, or tells that the stack is too small for them;
 // whether there are such. It calls itself for the compiler's sake: see `qbx_buffers`.
 fn within(last: u8, process: Process, path: &[u8], target: &[u8], command: Move) -> bool
-    ensures { result ≡ leb (largerSize command) (roomOf last) }
+    ensures { result ≡ leb (larger_size command) (room_of last) }
 {
     if last > 0 {
         if within(last - 1, process, path, target, command) {

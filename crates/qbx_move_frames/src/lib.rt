@@ -1,14 +1,14 @@
 // Both images of a move or a rebuild, on the stack, a frame for each size: the larger of the two decides.
 ghost use Rattle.std.specs.Prelude.{◌≡◌, true, ◌≤◌};
 ghost use Rattle.request.specs.Request.{size_of};
-ghost use Rattle.qbx_rooms.specs.Rooms.{roomOf, moveNeedOf};
+ghost use Rattle.qbx_rooms.specs.Rooms.{room_of, move_need_of};
 
 use qbx_move_words::Move;
 use qbx_rooms::Process;
 
 // Each buffer has a byte more than the largest image in it, so that a larger file is seen to be one.
 pub fn small(process: Process, path: &[u8], target: &[u8], command: Move) -> bool
-    requires { (size_of command.source.segments command.source.slots ≤ roomOf 0) × (size_of command.target.segments command.target.slots ≤ roomOf 0) × (moveNeedOf 0 ≤ process.allowed) }
+    requires { (size_of command.source.segments command.source.slots ≤ room_of 0) × (size_of command.target.segments command.target.slots ≤ room_of 0) × (move_need_of 0 ≤ process.allowed) }
     ensures { result ≡ true }
 {
     let mut from = [255u8; 1048577];
@@ -26,7 +26,7 @@ pub fn small(process: Process, path: &[u8], target: &[u8], command: Move) -> boo
 }
 
 pub fn middle(process: Process, path: &[u8], target: &[u8], command: Move) -> bool
-    requires { (size_of command.source.segments command.source.slots ≤ roomOf 1) × (size_of command.target.segments command.target.slots ≤ roomOf 1) × (moveNeedOf 1 ≤ process.allowed) }
+    requires { (size_of command.source.segments command.source.slots ≤ room_of 1) × (size_of command.target.segments command.target.slots ≤ room_of 1) × (move_need_of 1 ≤ process.allowed) }
     ensures { result ≡ true }
 {
     let mut from = [255u8; 4194305];
@@ -44,7 +44,7 @@ pub fn middle(process: Process, path: &[u8], target: &[u8], command: Move) -> bo
 }
 
 pub fn large(process: Process, path: &[u8], target: &[u8], command: Move) -> bool
-    requires { (size_of command.source.segments command.source.slots ≤ roomOf 2) × (size_of command.target.segments command.target.slots ≤ roomOf 2) × (moveNeedOf 2 ≤ process.allowed) }
+    requires { (size_of command.source.segments command.source.slots ≤ room_of 2) × (size_of command.target.segments command.target.slots ≤ room_of 2) × (move_need_of 2 ≤ process.allowed) }
     ensures { result ≡ true }
 {
     let mut from = [255u8; 16711681];

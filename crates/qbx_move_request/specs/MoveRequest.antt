@@ -2,10 +2,10 @@
 use Rattle.std.specs.Prelude.{Bool, true, false}
 use Rattle.model.specs.Chip.{Image}
 use Rattle.model.specs.Answers.{Outcome}
-use Rattle.moves.specs.Moves.{moveOutcome}
-use Rattle.salvage.specs.Salvage.{rebuildOutcome}
+use Rattle.moves.specs.Moves.{move_outcome}
+use Rattle.salvage.specs.Salvage.{rebuild_outcome}
 use Rattle.qbx_move_words.specs.declared.Move.{Move}
 
-unfoldable pub builtBy : Bool → Move → Image → Image → Outcome
-builtBy true k s t = rebuildOutcome k.source.segments k.source.slots s k.target.segments k.target.slots t k.budget
-builtBy false k s t = moveOutcome k.source.segments k.source.slots s k.target.segments k.target.slots t k.budget
+unfoldable pub built_by : Bool → Move → Image → Image → Outcome
+built_by true k s t = rebuild_outcome k.source.segments k.source.slots s k.target.segments k.target.slots t k.budget
+built_by false k s t = move_outcome k.source.segments k.source.slots s k.target.segments k.target.slots t k.budget

@@ -6,7 +6,7 @@ use Rattle.text.specs.Text.{text}
 use Rattle.qbx_numbers.specs.Number.{number_of}
 use Rattle.qbx_numbers.specs.declared.Parsed.{Parsed}
 use Rattle.qbx_numbers.specs.declared.Parsed.TheVariants.{Number, NoNumber}
-use Rattle.qbx_words.specs.Command.{isMissing}
+use Rattle.qbx_words.specs.Command.{is_missing}
 use Rattle.qbx_words.specs.declared.Complaint.{Complaint}
 use Rattle.qbx_words.specs.declared.Complaint.TheVariants.{Segments, Slots, NoTarget, TargetSegments, TargetSlots, NoOption, Budget}
 use Rattle.qbx_move_words.specs.declared.Geometry.{Geometry}
@@ -14,11 +14,11 @@ use Rattle.qbx_move_words.specs.declared.Move.{Move}
 use Rattle.qbx_move_words.specs.declared.MoveReading.{MoveReading}
 use Rattle.qbx_move_words.specs.declared.MoveReading.TheVariants.{Right, Wrong}
 
-unfoldable pub isRebuild : List ℕ → Bool
-isRebuild w = same w (text "rebuild")
+unfoldable pub is_rebuild : List ℕ → Bool
+is_rebuild w = same w (text "rebuild")
 
-unfoldable pub namesTarget : List ℕ → Bool
-namesTarget w = same w (text "move") || isRebuild w
+unfoldable pub names_target : List ℕ → Bool
+names_target w = same w (text "move") || is_rebuild w
 
 -- a word that is to be a number
 unfoldable pub as_number : Parsed → Complaint → (ℕ → MoveReading) → MoveReading
@@ -28,9 +28,9 @@ as_number NoNumber x go = Wrong x
 abbrev pub budgeted : Move → ℕ → Move
 budgeted k n = record { salvages = k.salvages; source = k.source; target = k.target; budget = n }
 
-unfoldable pub withBudget : Move → List ℕ → List ℕ → MoveReading
-withBudget k option steps =
-    cond (isMissing option) (Right k)
+unfoldable pub with_budget : Move → List ℕ → List ℕ → MoveReading
+with_budget k option steps =
+    cond (is_missing option) (Right k)
     (cond (same option (text "--budget")) (as_number (number_of steps) Budget (λ n. Right (budgeted k n)))
     (Wrong NoOption))
 
@@ -44,14 +44,14 @@ geometry N B = record { segments = N; slots = B }
 -- the words after the target's name
 unfoldable pub onto : Bool → Geometry → List ℕ → List ℕ → List ℕ → List ℕ → MoveReading
 onto r g n b option steps =
-    as_number (number_of n) TargetSegments (λ N. as_number (number_of b) TargetSlots (λ B. withBudget (plain r g (geometry N B)) option steps))
+    as_number (number_of n) TargetSegments (λ N. as_number (number_of b) TargetSlots (λ B. with_budget (plain r g (geometry N B)) option steps))
 
 -- the words after the image's name; the second N and B are the target's
 unfoldable pub move_of : List ℕ → List ℕ → List ℕ → List ℕ → List ℕ → List ℕ → List ℕ → List ℕ → MoveReading
 move_of n b verb target m c option steps =
     as_number (number_of n) Segments (λ N. as_number (number_of b) Slots (λ B.
-    cond (isMissing target) (Wrong NoTarget) (onto (isRebuild verb) (geometry N B) m c option steps)))
+    cond (is_missing target) (Wrong NoTarget) (onto (is_rebuild verb) (geometry N B) m c option steps)))
 
 -- the bytes of the larger image
-unfoldable pub largerSize : Move → ℕ
-largerSize k = max (size_of k.source.segments k.source.slots) (size_of k.target.segments k.target.slots)
+unfoldable pub larger_size : Move → ℕ
+larger_size k = max (size_of k.source.segments k.source.slots) (size_of k.target.segments k.target.slots)

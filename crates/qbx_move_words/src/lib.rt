@@ -2,7 +2,7 @@
 // how large its images are.
 ghost use Rattle.std.specs.Prelude.{◌≡◌};
 ghost use Rattle.request.specs.Request.{size_of};
-ghost use Rattle.qbx_move_words.specs.Move.{namesTarget, withBudget, onto, move_of, largerSize};
+ghost use Rattle.qbx_move_words.specs.Move.{names_target, with_budget, onto, move_of, larger_size};
 
 use qbx_numbers::{Parsed, number};
 use qbx_words::{Complaint, is, is_missing};
@@ -31,7 +31,7 @@ pub enum MoveReading {
 
 // Whether a verb is that of a move or a rebuild. It is no command's: another image follows it.
 pub fn names_target(verb: &[u8]) -> bool
-    ensures { result ≡ namesTarget verb.now }
+    ensures { result ≡ names_target verb.now }
 {
     if is(verb, b"move") {
         return true;
@@ -41,7 +41,7 @@ pub fn names_target(verb: &[u8]) -> bool
 
 // The option at the end.
 fn with_budget(command: Move, option: &[u8], steps: &[u8]) -> MoveReading
-    ensures { result ≡ withBudget command option.now steps.now }
+    ensures { result ≡ with_budget command option.now steps.now }
 {
     if is_missing(option) {
         return MoveReading::Right(command);
@@ -139,7 +139,7 @@ pub fn size_of(geometry: Geometry) -> usize
 
 // The bytes of the larger of a move's images.
 pub fn larger_size(command: Move) -> usize
-    ensures { result ≡ largerSize command }
+    ensures { result ≡ larger_size command }
 {
     let source = command.source;
     let target = command.target;

@@ -1,6 +1,6 @@
 // Numbers in decimal, read from a word.
 ghost use Rattle.std.specs.Prelude.{◌≡◌};
-ghost use Rattle.qbx_numbers.specs.Number.{digitOf, number_of, number32Of};
+ghost use Rattle.qbx_numbers.specs.Number.{digit_of, number_of, number32_of};
 
 // A number read from a word.
 #[derive(Drop)]
@@ -21,7 +21,7 @@ const TENTH: u64 = 1000000000000000000;
 
 // The digit that a byte is; 10 if it is none.
 fn digit(byte: u8) -> u64
-    ensures { result ≡ digitOf byte }
+    ensures { result ≡ digit_of byte }
 {
     if byte < 48 {
         return 10;
@@ -57,7 +57,7 @@ pub fn number(word: &[u8]) -> Parsed
 
 // A number as `number` reads it, if it fits 32 bits.
 pub fn number32(word: &[u8]) -> Parsed32
-    ensures { result ≡ number32Of word.now }
+    ensures { result ≡ number32_of word.now }
 {
     let Parsed::Number(n) = number(word) else {
         return Parsed32::NoNumber32;

@@ -1,13 +1,13 @@
 // What the program says, written out.
 ghost use Rattle.std.specs.Prelude.{◌<◌, ◌≤◌};
-ghost use Rattle.qbx_lines.specs.Lines.{mostLine};
+ghost use Rattle.qbx_lines.specs.Lines.{most_line};
 
 use qbx_lines::Line;
 use qbx_words::Complaint;
 
 // Says a line.
 pub fn print(fd: i32, line: Line)
-    requires { line.count ≤ mostLine }
+    requires { line.count ≤ most_line }
 {
     let bytes = line.bytes;
     let n = line.count;

@@ -1,8 +1,8 @@
 // What `qbx check` tells of an image: its state, what is in it, counted, and the top's version and tally.
 ghost use Rattle.std.specs.Prelude.{◌≡◌, true};
-ghost use Rattle.model.specs.Chip.{rightSize};
-ghost use Rattle.model.specs.State.{segmentsOf, state_of};
-ghost use Rattle.qbx_report.specs.Report.{conditionOf, asideIn, topTold, reportOf};
+ghost use Rattle.model.specs.Chip.{right_size};
+ghost use Rattle.model.specs.State.{segments_of, state_of};
+ghost use Rattle.qbx_report.specs.Report.{condition_of, aside_in, top_told, report_of};
 
 use model::SegmentNumber;
 use qbx_census::take_census;
@@ -11,8 +11,8 @@ use scan::Surveyed;
 
 // The state, as the survey finds it.
 fn condition_of(image: &[u8], segments: usize, slots: usize) -> Condition
-    requires { rightSize segments slots image.now ≡ true }
-    ensures { result ≡ conditionOf (state_of segments slots (segmentsOf segments slots image.now)) }
+    requires { right_size segments slots image.now ≡ true }
+    ensures { result ≡ condition_of (state_of segments slots (segments_of segments slots image.now)) }
 {
     let surveyed = scan::survey(image, segments, slots);
     match surveyed {
@@ -34,8 +34,8 @@ fn condition_of(image: &[u8], segments: usize, slots: usize) -> Condition
 // The index of the segment after the top, whose erase is owed in an image unfinished by (b) and which is left aside; in others
 // none is, which is the index behind the last.
 fn left_aside(image: &[u8], segments: usize, slots: usize, condition: Condition) -> usize
-    requires { rightSize segments slots image.now ≡ true }
-    ensures { result ≡ asideIn segments (segmentsOf segments slots image.now) condition }
+    requires { right_size segments slots image.now ≡ true }
+    ensures { result ≡ aside_in segments (segments_of segments slots image.now) condition }
 {
     let Condition::UnfinishedB = condition else {
         return segments;
@@ -46,8 +46,8 @@ fn left_aside(image: &[u8], segments: usize, slots: usize, condition: Condition)
 
 // The header of the top, whose number is the one before the next.
 fn see_top(image: &[u8], segments: usize, slots: usize) -> TopSeen
-    requires { rightSize segments slots image.now ≡ true }
-    ensures { result ≡ topTold segments (segmentsOf segments slots image.now) }
+    requires { right_size segments slots image.now ≡ true }
+    ensures { result ≡ top_told segments (segments_of segments slots image.now) }
 {
     let seen = segments::see_headers(image, segments, slots);
     if seen.next == 0 {
@@ -66,8 +66,8 @@ fn see_top(image: &[u8], segments: usize, slots: usize) -> TopSeen
 
 // What a check tells of an image of a right size.
 pub fn report_on(image: &[u8], segments: usize, slots: usize) -> Report
-    requires { rightSize segments slots image.now ≡ true }
-    ensures { result ≡ reportOf segments slots (segmentsOf segments slots image.now) }
+    requires { right_size segments slots image.now ≡ true }
+    ensures { result ≡ report_of segments slots (segments_of segments slots image.now) }
 {
     let condition = condition_of(image, segments, slots);
     let aside = left_aside(image, segments, slots, condition);

@@ -1,7 +1,7 @@
 // What a command asks of the store, on the image alone.
 ghost use Rattle.std.specs.Prelude.{◌≡◌};
 ghost use Rattle.model.specs.Answers.{code_of, performed};
-ghost use Rattle.qbx_requests.specs.Requests.{performedBy};
+ghost use Rattle.qbx_requests.specs.Requests.{performed_by};
 
 use model::{Answer, Performed};
 use qbx_verbs::Verb;
@@ -19,7 +19,7 @@ fn idle() -> Performed
 
 // A request that writes. A verb that does not write does nothing.
 pub fn perform(image: &mut [u8], command: Command, contents: &[u8]) -> Performed
-    ensures { performed result image.new ≡ performedBy command.verb command contents.now image.old }
+    ensures { performed result image.new ≡ performed_by command.verb command contents.now image.old }
 {
     let segments = command.segments as usize;
     let slots = command.slots as usize;

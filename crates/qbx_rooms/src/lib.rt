@@ -1,6 +1,6 @@
 // The buffers for images, by number: what each holds, and the stack that it asks for.
 ghost use Rattle.std.specs.Prelude.{◌≡◌, true};
-ghost use Rattle.qbx_rooms.specs.Rooms.{roomOf, need_of, moveNeedOf, lackOf};
+ghost use Rattle.qbx_rooms.specs.Rooms.{room_of, need_of, move_need_of, lack_of};
 
 // What the process has: the KiB of stack that it may use, and the descriptors for what is said and for what is wrong.
 #[derive(Drop)]
@@ -12,7 +12,7 @@ pub struct Process {
 
 // The bytes of the largest image that a buffer holds.
 pub fn room_of(buffer: u8) -> usize
-    ensures { result ≡ roomOf buffer }
+    ensures { result ≡ room_of buffer }
 {
     if buffer == 0 {
         return 1048576;
@@ -54,7 +54,7 @@ fn need_of(buffer: u8, prints: bool) -> u64
 
 // The KiB of stack that two of it ask for, with the images of a move or a rebuild and the library's tables.
 fn move_need_of(buffer: u8) -> u64
-    ensures { result ≡ moveNeedOf buffer }
+    ensures { result ≡ move_need_of buffer }
 {
     if buffer == 0 {
         return 3584;
@@ -67,20 +67,20 @@ fn move_need_of(buffer: u8) -> u64
 
 // The KiB that it asks for, where fewer are allowed; 0 where they are.
 pub fn lacking(buffer: u8, prints: bool, allowed: u64) -> u64
-    ensures { result ≡ lackOf (need_of prints buffer) allowed }
+    ensures { result ≡ lack_of (need_of prints buffer) allowed }
 {
     lack(need_of(buffer, prints), allowed)
 }
 
 // The same of two of it.
 pub fn lacking_for_move(buffer: u8, allowed: u64) -> u64
-    ensures { result ≡ lackOf (moveNeedOf buffer) allowed }
+    ensures { result ≡ lack_of (move_need_of buffer) allowed }
 {
     lack(move_need_of(buffer), allowed)
 }
 
 fn lack(needed: u64, allowed: u64) -> u64
-    ensures { result ≡ lackOf needed allowed }
+    ensures { result ≡ lack_of needed allowed }
 {
     if allowed < needed {
         return needed;

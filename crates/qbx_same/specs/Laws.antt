@@ -1,7 +1,7 @@
 -- Where a target is written, neither its name nor the one beside it leads to the source.
 use Rattle.std.specs.Prelude.{ℕ, ◌≡◌, refl, Bool, true, false, cond}
 use Rattle.std.proofs.Common.{arith}
-use Rattle.qbx_same.specs.Same.{isSame, is_plain, besideClash, targetClash, clashOf}
+use Rattle.qbx_same.specs.Same.{is_same, is_plain, beside_clash, target_clash, clash_of}
 use Rattle.qbx_same.specs.declared.Identity.{Identity}
 use Rattle.qbx_same.specs.declared.Found.{Found}
 use Rattle.qbx_same.specs.declared.Found.TheVariants.{File, Nothing, Untold}
@@ -11,8 +11,8 @@ use Rattle.qbx_same.specs.declared.Clash.TheVariants.{Apart, IsSource, SourceBes
 no_source : IsSource ≡ Apart → ⊥
 no_source e = let y : ◌≡◌ {A = ℕ} 0 1 = cc in omega arith
 
-no-beside : SourceBeside ≡ Apart → ⊥
-no-beside e = let y : ◌≡◌ {A = ℕ} 0 1 = cc in omega arith
+no_beside : SourceBeside ≡ Apart → ⊥
+no_beside e = let y : ◌≡◌ {A = ℕ} 0 1 = cc in omega arith
 
 no_target : NoTarget ≡ Apart → ⊥
 no_target e = let y : ◌≡◌ {A = ℕ} 0 1 = cc in omega arith
@@ -22,16 +22,16 @@ other : (t : Bool) (c d : Clash) → (c ≡ Apart → ⊥) → cond t c d ≡ Ap
 other true c d n e = absurd (n e)
 other false c d n e = (refl, e)
 
-pub apart-target : (s f : Identity) (beside : Found) → clashOf s (File f) beside ≡ Apart → isSame s f ≡ false
-unfolding clashOf targetClash
-apart-target s f beside e = (other (isSame s f) IsSource (besideClash s beside) no_source e).0
+pub apart_target : (s f : Identity) (beside : Found) → clash_of s (File f) beside ≡ Apart → is_same s f ≡ false
+unfolding clash_of target_clash
+apart_target s f beside e = (other (is_same s f) IsSource (beside_clash s beside) no_source e).0
 
-passes : (s : Identity) (target : Found) (c : Clash) → targetClash s target c ≡ Apart → c ≡ Apart
-unfolding targetClash
+passes : (s : Identity) (target : Found) (c : Clash) → target_clash s target c ≡ Apart → c ≡ Apart
+unfolding target_clash
 passes s Nothing c e = e
 passes s Untold c e = absurd (no_target e)
-passes s (File f) c e = (other (isSame s f) IsSource c no_source e).1
+passes s (File f) c e = (other (is_same s f) IsSource c no_source e).1
 
-pub apart-beside : (s f : Identity) (target : Found) → clashOf s target (File f) ≡ Apart → isSame s f ≡ false
-unfolding clashOf besideClash
-apart-beside s f target e = (other (isSame s f) SourceBeside (cond (is_plain f) Apart InTheWay) no-beside (passes s target _ e)).0
+pub apart_beside : (s f : Identity) (target : Found) → clash_of s target (File f) ≡ Apart → is_same s f ≡ false
+unfolding clash_of beside_clash
+apart_beside s f target e = (other (is_same s f) SourceBeside (cond (is_plain f) Apart InTheWay) no_beside (passes s target _ e)).0

@@ -1,7 +1,7 @@
 // Whether a name leads to a certain file. A move or a rebuild writes its target under one name and gives it another;
 // neither may be its source's, whatever the names look like.
 ghost use Rattle.std.specs.Prelude.{◌≡◌};
-ghost use Rattle.qbx_same.specs.Same.{isSame, targetClash, besideClash, clashOf};
+ghost use Rattle.qbx_same.specs.Same.{is_same, target_clash, beside_clash, clash_of};
 
 use libc::types::{stat, timespec};
 
@@ -97,7 +97,7 @@ fn look(path: &[u8]) -> Found {
 // ---- what follows from it
 
 fn is_same(a: Identity, b: Identity) -> bool
-    ensures { result ≡ isSame a b }
+    ensures { result ≡ is_same a b }
 {
     if a.device == b.device {
         return a.number == b.number;
@@ -107,7 +107,7 @@ fn is_same(a: Identity, b: Identity) -> bool
 
 // The name beside the target's: what has it is removed. A link to a folder could be on the way to the source.
 fn with_beside(source: Identity, beside: Found) -> Clash
-    ensures { result ≡ besideClash source beside }
+    ensures { result ≡ beside_clash source beside }
 {
     match beside {
         Found::Nothing => Clash::Apart,
@@ -126,7 +126,7 @@ fn with_beside(source: Identity, beside: Found) -> Clash
 
 // The target's own name: the file that has it is replaced. Where it is no clash, there may be one beside it.
 fn with_target(source: Identity, target: Found, beside: Clash) -> Clash
-    ensures { result ≡ targetClash source target beside }
+    ensures { result ≡ target_clash source target beside }
 {
     match target {
         Found::Nothing => beside,
@@ -141,7 +141,7 @@ fn with_target(source: Identity, target: Found, beside: Clash) -> Clash
 }
 
 fn judge(source: Identity, target: Found, beside: Found) -> Clash
-    ensures { result ≡ clashOf source target beside }
+    ensures { result ≡ clash_of source target beside }
 {
     with_target(source, target, with_beside(source, beside))
 }

@@ -1,7 +1,7 @@
 // What qbx says, a line each. Nothing is written here.
 ghost use Rattle.std.specs.Prelude.{◌≡◌, ◌+◌, ◌<◌, ◌≤◌};
-ghost use Rattle.qbx_lines.specs.Lines.{mostLine, said, Added};
-ghost use Rattle.qbx_says.specs.Said.{verdict, reason, stepsWord, answerText, performedText, performedLine, askedText, sizeLine, complaintText, stackLine};
+ghost use Rattle.qbx_lines.specs.Lines.{most_line, said, Added};
+ghost use Rattle.qbx_says.specs.Said.{verdict, reason, steps_word, answer_text, performed_text, performed_line, asked_text, size_line, complaint_text, stack_line};
 
 use model::{Answer, Performed};
 use qbx_lines::{Line, add, add_count, add_number, empty};
@@ -48,7 +48,7 @@ fn add_reason(line: Line, answer: Answer) -> Line
 
 // An answer, with no line end.
 pub fn say_answer(answer: Answer) -> Line
-    ensures { (said result ≡ answerText answer) × (result.count ≤ 44) }
+    ensures { (said result ≡ answer_text answer) × (result.count ≤ 44) }
 {
     let number = request::number_of(answer);
     let begun = add_verdict(empty(), number);
@@ -58,7 +58,7 @@ pub fn say_answer(answer: Answer) -> Line
 // The word behind a count of steps.
 pub fn add_steps_word(line: Line, steps: u64) -> Line
     requires { line.count ≤ 100 }
-    ensures { Added line (stepsWord steps) result × (result.count ≤ line.count + 6) }
+    ensures { Added line (steps_word steps) result × (result.count ≤ line.count + 6) }
 {
     if steps == 1 {
         add(line, b" step")
@@ -69,7 +69,7 @@ pub fn add_steps_word(line: Line, steps: u64) -> Line
 
 // An answer and the steps done, with no line end.
 pub fn say_steps(answer: Answer, steps: u64) -> Line
-    ensures { (said result ≡ performedText answer steps) × (result.count ≤ 72) }
+    ensures { (said result ≡ performed_text answer steps) × (result.count ≤ 72) }
 {
     let answered = add(say_answer(answer), b", ");
     let counted = add_number(answered, steps);
@@ -78,7 +78,7 @@ pub fn say_steps(answer: Answer, steps: u64) -> Line
 
 // An answer and the steps done.
 pub fn say_performed(performed: Performed) -> Line
-    ensures { (said result ≡ performedLine performed.answer performed.steps) × (result.count ≤ mostLine) }
+    ensures { (said result ≡ performed_line performed.answer performed.steps) × (result.count ≤ most_line) }
 {
     let answer = performed.answer;
     add(say_steps(answer, performed.steps), b"\n")
@@ -87,7 +87,7 @@ pub fn say_performed(performed: Performed) -> Line
 // What N and B ask for.
 pub fn add_asked(line: Line, segments: usize, slots: usize) -> Line
     requires { line.count ≤ 100 }
-    ensures { Added line (askedText segments slots) result × (result.count ≤ line.count + 44) }
+    ensures { Added line (asked_text segments slots) result × (result.count ≤ line.count + 44) }
 {
     if request::in_range(segments, slots) {
         let bytes = request::size_of(segments, slots) as u64;
@@ -99,7 +99,7 @@ pub fn add_asked(line: Line, segments: usize, slots: usize) -> Line
 
 // A wrong size: beside the refusal what N and B ask for, and the bytes that are there.
 pub fn say_size(segments: usize, slots: usize, there: u64) -> Line
-    ensures { (said result ≡ sizeLine segments slots there) × (result.count ≤ mostLine) }
+    ensures { (said result ≡ size_line segments slots there) × (result.count ≤ most_line) }
 {
     let asked = add_asked(say_steps(Answer::Size, 0), segments, slots);
     let counted = add_count(asked, b"; ", there);
@@ -109,7 +109,7 @@ pub fn say_size(segments: usize, slots: usize, there: u64) -> Line
 // ---- complaints
 
 pub fn say_complaint(complaint: Complaint) -> Line
-    ensures { (said result ≡ complaintText complaint) × (result.count ≤ mostLine) }
+    ensures { (said result ≡ complaint_text complaint) × (result.count ≤ most_line) }
 {
     let line = empty();
     match complaint {
@@ -142,7 +142,7 @@ pub fn say_complaint(complaint: Complaint) -> Line
 // That the stack is too small for an image of so many bytes: the KiB that it needs, and those that are allowed.
 pub fn say_stack(bytes: u64, needed: u64, allowed: u64) -> Line
     requires { allowed < needed }
-    ensures { (said result ≡ stackLine bytes needed allowed) × (result.count ≤ mostLine) }
+    ensures { (said result ≡ stack_line bytes needed allowed) × (result.count ≤ most_line) }
 {
     let image = add_count(empty(), b"qbx: an image of ", bytes);
     let stack = add_count(image, b" bytes needs a stack of ", needed);

@@ -1,7 +1,7 @@
 // A tenant's command on its image in the smallest of three buffers that holds it, each with its own limit of the stack.
 ghost use Rattle.std.specs.Prelude.{◌≡◌, true, leb};
 ghost use Rattle.request.specs.Request.{size_of};
-ghost use Rattle.qbx_rooms.specs.Rooms.{roomOf};
+ghost use Rattle.qbx_rooms.specs.Rooms.{room_of};
 
 use qbx_rooms::Process;
 use qbx_share_words::ShareCommand;
@@ -16,7 +16,7 @@ fn within(
     command: ShareCommand,
     contents: &[u8],
 ) -> bool
-    ensures { result ≡ leb (size_of command.segments command.slots) (roomOf last) }
+    ensures { result ≡ leb (size_of command.segments command.slots) (room_of last) }
 {
     if last > 0 {
         if within(last - 1, process, path, shares, command, contents) {

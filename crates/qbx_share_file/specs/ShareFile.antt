@@ -1,6 +1,6 @@
 -- A file of shares, three numbers to a line: what its text says, and what is left of that in a lent list.
 use Rattle.std.specs.Prelude.{ℕ, suc, min, Bool, true, false, cond, ◌||◌, List, [], ◌∷◌, ◌++◌, length, eqb}
-use Rattle.qbx_numbers.specs.Number.{number32Of}
+use Rattle.qbx_numbers.specs.Number.{number32_of}
 use Rattle.qbx_numbers.specs.declared.Parsed32.{Parsed32}
 use Rattle.qbx_numbers.specs.declared.Parsed32.TheVariants.{Number32, NoNumber32}
 use Rattle.qbx_share_file.specs.declared.LineRead.{LineRead}
@@ -20,12 +20,12 @@ unfoldable pub parts : (ℕ → Bool) → List ℕ → List (List ℕ)
 parts parted [] = [] ∷ []
 parts parted (b ∷ s) = cond (parted b) ([] ∷ parts parted s) (before b (parts parted s))
 
-unfoldable pub isLineEnd : ℕ → Bool
-isLineEnd b = eqb b 10
+unfoldable pub is_line_end : ℕ → Bool
+is_line_end b = eqb b 10
 
 -- a space or a tab, or the byte before a line end in files of other systems
-unfoldable pub isBlank : ℕ → Bool
-isBlank b = eqb b 32 || (eqb b 9 || eqb b 13)
+unfoldable pub is_blank : ℕ → Bool
+is_blank b = eqb b 32 || (eqb b 9 || eqb b 13)
 
 unfoldable pub filled : List (List ℕ) → List (List ℕ)
 filled [] = []
@@ -33,7 +33,7 @@ filled ([] ∷ ps) = filled ps
 filled ((b ∷ p) ∷ ps) = (b ∷ p) ∷ filled ps
 
 unfoldable pub words_of : List ℕ → List (List ℕ)
-words_of line = filled (parts isBlank line)
+words_of line = filled (parts is_blank line)
 
 -- ---- what a line says
 
@@ -48,19 +48,19 @@ unfoldable pub line_of : List (List ℕ) → LineRead
 line_of [] = Blank
 line_of (x ∷ []) = Odd
 line_of (x ∷ y ∷ []) = Odd
-line_of (x ∷ y ∷ z ∷ []) = share_of (number32Of x) (number32Of y) (number32Of z)
+line_of (x ∷ y ∷ z ∷ []) = share_of (number32_of x) (number32_of y) (number32_of z)
 line_of (x ∷ y ∷ z ∷ w ∷ ws) = Odd
 
 -- the numbers of a line, and whether it is as it should be
-unfoldable pub numbersIn : LineRead → List ℕ
-numbersIn Blank = []
-numbersIn (Share f l q) = f ∷ l ∷ q ∷ []
-numbersIn Odd = []
+unfoldable pub numbers_in : LineRead → List ℕ
+numbers_in Blank = []
+numbers_in (Share f l q) = f ∷ l ∷ q ∷ []
+numbers_in Odd = []
 
-unfoldable pub isRight : LineRead → Bool
-isRight Blank = true
-isRight (Share f l q) = true
-isRight Odd = false
+unfoldable pub is_right : LineRead → Bool
+is_right Blank = true
+is_right (Share f l q) = true
+is_right Odd = false
 
 -- ---- what a file says, by what is said of a line
 
@@ -74,26 +74,26 @@ pub record Said : Type 0 where
   pub wrong : ℕ
 
 -- line k, before what the lines behind it say
-unfoldable pub onLine : ℕ → LineSaid → Said → Said
-onLine k l x = cond l.right (record { numbers = l.numbers ++ x.numbers; wrong = x.wrong }) (record { numbers = []; wrong = k })
+unfoldable pub on_line : ℕ → LineSaid → Said → Said
+on_line k l x = cond l.right (record { numbers = l.numbers ++ x.numbers; wrong = x.wrong }) (record { numbers = []; wrong = k })
 
 -- the lines from number k on
 unfoldable pub lines_from : (List ℕ → LineSaid) → ℕ → List (List ℕ) → Said
 lines_from f k [] = record { numbers = []; wrong = 0 }
-lines_from f k (l ∷ ls) = onLine k (f l) (lines_from f (suc k) ls)
+lines_from f k (l ∷ ls) = on_line k (f l) (lines_from f (suc k) ls)
 
-unfoldable pub fileSays : (List ℕ → LineSaid) → List ℕ → Said
-fileSays f text = lines_from f 1 (parts isLineEnd text)
+unfoldable pub file_says : (List ℕ → LineSaid) → List ℕ → Said
+file_says f text = lines_from f 1 (parts is_line_end text)
 
 -- a file of shares
-abbrev pub sharesIn : LineRead → LineSaid
-sharesIn v = record { numbers = numbersIn v; right = isRight v }
+abbrev pub shares_in : LineRead → LineSaid
+shares_in v = record { numbers = numbers_in v; right = is_right v }
 
-unfoldable pub shareLine : List ℕ → LineSaid
-shareLine l = sharesIn (line_of (words_of l))
+unfoldable pub share_line : List ℕ → LineSaid
+share_line l = shares_in (line_of (words_of l))
 
-unfoldable pub saidIn : List ℕ → Said
-saidIn text = fileSays shareLine text
+unfoldable pub said_in : List ℕ → Said
+said_in text = file_says share_line text
 
 -- ---- what comes back, and the lent list afterwards
 

@@ -1,7 +1,7 @@
 -- The way of the code through a file: where a part ends, and numbers put behind those that are there.
 use Rattle.std.specs.Prelude.{ℕ, zero, suc, ◌+◌, ◌≤◌, min, ◌≡◌, Bool, cond, List, [], ◌∷◌, ◌++◌, length, take, drop}
 use Rattle.qbx_share_file.specs.ShareFile.{over}
-use Rattle.qbx_share_file.specs.Instances.{right-files}
+use Rattle.qbx_share_file.specs.Instances.{right_files}
 
 -- how many bytes come before the first of a kind
 unfoldable pub reach : (ℕ → Bool) → List ℕ → ℕ

@@ -1,6 +1,6 @@
 // A file of shares, read: its text has the first block, the last block and the quota of a tenant to a line.
 ghost use Rattle.std.specs.Prelude.{◌≡◌, [], ◌∷◌, ◌+◌, ◌≤◌, length, drop, get_or};
-ghost use Rattle.qbx_share_file.specs.ShareFile.{isBlank, words_of, line_of, numbersIn, isRight, saidIn, listing, over};
+ghost use Rattle.qbx_share_file.specs.ShareFile.{is_blank, words_of, line_of, numbers_in, is_right, said_in, listing, over};
 ghost use Rattle.qbx_share_file.specs.Steps.{reach, Kept};
 
 use qbx_numbers::{Parsed32, number32};
@@ -22,7 +22,7 @@ pub enum Listing {
 
 // Whether a byte is a space, a tab or a carriage return.
 fn is_blank(byte: u8) -> bool
-    ensures { result ≡ isBlank byte }
+    ensures { result ≡ is_blank byte }
 {
     if byte == b' ' {
         return true;
@@ -36,7 +36,7 @@ fn is_blank(byte: u8) -> bool
 // Where the next blank is; at the line's end if there is none.
 fn blank_from(line: &[u8], at: usize) -> usize
     requires { at ≤ length line.now }
-    ensures { (result ≡ at + reach isBlank (drop at line.now)) × (result ≤ length line.now) }
+    ensures { (result ≡ at + reach is_blank (drop at line.now)) × (result ≤ length line.now) }
 {
     let mut i = at;
     while i < line.len() {
@@ -116,7 +116,7 @@ fn keep_share(shares: &mut [u32], count: usize, first: u32, last: u32, quota: u3
 // What a line says, behind what is listed.
 fn keep_line(shares: &mut [u32], count: usize, line: LineRead) -> usize
     requires { count ≤ length shares.old }
-    ensures { Kept (numbersIn line) count shares.old result shares.new }
+    ensures { Kept (numbers_in line) count shares.old result shares.new }
 {
     match line {
         LineRead::Blank => count,
@@ -127,7 +127,7 @@ fn keep_line(shares: &mut [u32], count: usize, line: LineRead) -> usize
 
 // Whether a line is as it should be.
 fn is_right(line: LineRead) -> bool
-    ensures { result ≡ isRight line }
+    ensures { result ≡ is_right line }
 {
     match line {
         LineRead::Blank => true,
@@ -138,7 +138,7 @@ fn is_right(line: LineRead) -> bool
 
 // The shares that a file's text lists, in a lent slice; numbers that it does not hold are left out.
 pub fn read_shares(text: &[u8], shares: &mut [u32]) -> Listing
-    ensures { (result ≡ listing (length shares.old) (saidIn text.now)) × (shares.new ≡ over (saidIn text.now).numbers shares.old) }
+    ensures { (result ≡ listing (length shares.old) (said_in text.now)) × (shares.new ≡ over (said_in text.now).numbers shares.old) }
 {
     let mut at = 0;
     let mut number = 1;

@@ -1,7 +1,7 @@
 // The image of a tenant's command, on the stack, a frame for each buffer.
 ghost use Rattle.std.specs.Prelude.{◌≡◌, true, false, ◌≤◌};
 ghost use Rattle.request.specs.Request.{size_of};
-ghost use Rattle.qbx_rooms.specs.Rooms.{roomOf, need_of};
+ghost use Rattle.qbx_rooms.specs.Rooms.{room_of, need_of};
 
 use qbx_rooms::Process;
 use qbx_share_words::ShareCommand;
@@ -14,7 +14,7 @@ pub fn small(
     command: ShareCommand,
     contents: &[u8],
 ) -> bool
-    requires { (size_of command.segments command.slots ≤ roomOf 0) × (need_of false 0 ≤ process.allowed) }
+    requires { (size_of command.segments command.slots ≤ room_of 0) × (need_of false 0 ≤ process.allowed) }
     ensures { result ≡ true }
 {
     let mut image = [255u8; 1048577];
@@ -37,7 +37,7 @@ pub fn middle(
     command: ShareCommand,
     contents: &[u8],
 ) -> bool
-    requires { (size_of command.segments command.slots ≤ roomOf 1) × (need_of false 1 ≤ process.allowed) }
+    requires { (size_of command.segments command.slots ≤ room_of 1) × (need_of false 1 ≤ process.allowed) }
     ensures { result ≡ true }
 {
     let mut image = [255u8; 4194305];
@@ -60,7 +60,7 @@ pub fn large(
     command: ShareCommand,
     contents: &[u8],
 ) -> bool
-    requires { (size_of command.segments command.slots ≤ roomOf 2) × (need_of false 2 ≤ process.allowed) }
+    requires { (size_of command.segments command.slots ≤ room_of 2) × (need_of false 2 ≤ process.allowed) }
     ensures { result ≡ true }
 {
     let mut image = [255u8; 16711681];

@@ -3,16 +3,16 @@ use Rattle.std.specs.Prelude.{ℕ, List, length}
 use Rattle.model.specs.Chip.{Image}
 use Rattle.text.specs.Buffer.{Print, printed}
 use Rattle.text.specs.declared.Printed.{Printed}
-use Rattle.shares.specs.Layer.{Asked, puts, deletes, reads, shareOutcome, gaveIn}
+use Rattle.shares.specs.Layer.{Asked, puts, deletes, reads, share_outcome, gave_in}
 use Rattle.qbx_share_words.specs.declared.ShareVerb.{ShareVerb}
 use Rattle.qbx_share_words.specs.declared.ShareVerb.TheVariants.{Put, Get, Delete}
 use Rattle.qbx_share_words.specs.declared.ShareCommand.{ShareCommand}
 
 -- of a block, with the contents to put, or a buffer lent for those that are read
-unfoldable pub askedBy : ShareVerb → ℕ → List ℕ → List ℕ → Asked
-askedBy Put b contents lent = puts b contents
-askedBy Get b contents lent = reads b (length lent)
-askedBy Delete b contents lent = deletes b
+unfoldable pub asked_by : ShareVerb → ℕ → List ℕ → List ℕ → Asked
+asked_by Put b contents lent = puts b contents
+asked_by Get b contents lent = reads b (length lent)
+asked_by Delete b contents lent = deletes b
 
 -- what comes back: the answer with the buffer, and the image afterwards
 pub record Carried : Type 0 where
@@ -22,7 +22,7 @@ pub record Carried : Type 0 where
 unfoldable pub carried : Printed → List ℕ → Image → Carried
 carried r buffer s = record { print = printed r buffer; image = s }
 
-unfoldable pub carriedBy : ShareVerb → ShareCommand → List ℕ → List ℕ → List ℕ → Image → Carried
-carriedBy v k ns contents lent s =
-    let o = shareOutcome k.segments k.slots ns s k.tenant (askedBy v k.block.0 contents lent) in
-    record { print = gaveIn o lent; image = o.image }
+unfoldable pub carried_by : ShareVerb → ShareCommand → List ℕ → List ℕ → List ℕ → Image → Carried
+carried_by v k ns contents lent s =
+    let o = share_outcome k.segments k.slots ns s k.tenant (asked_by v k.block.0 contents lent) in
+    record { print = gave_in o lent; image = o.image }

@@ -1,6 +1,6 @@
 // What a tenant's command asks of the library, on the image and the shares alone.
 ghost use Rattle.std.specs.Prelude.{◌≡◌};
-ghost use Rattle.qbx_share_request.specs.ShareRequest.{carried, carriedBy};
+ghost use Rattle.qbx_share_request.specs.ShareRequest.{carried, carried_by};
 
 use qbx_share_words::{ShareCommand, ShareVerb};
 use text::Printed;
@@ -13,7 +13,7 @@ pub fn perform(
     contents: &[u8],
     given: &mut [u8],
 ) -> Printed
-    ensures { carried result given.new image.new ≡ carriedBy command.verb command shares.now contents.now given.old image.old }
+    ensures { carried result given.new image.new ≡ carried_by command.verb command shares.now contents.now given.old image.old }
 {
     let segments = command.segments as usize;
     let slots = command.slots as usize;

@@ -1,6 +1,6 @@
 // The words of a tenant's command, read: IMAGE N B share-put SHARES TENANT BLOCK, or with share-get or share-delete.
 ghost use Rattle.std.specs.Prelude.{◌≡◌};
-ghost use Rattle.qbx_share_words.specs.Share.{namesShares, shareVerbOf, ofTenant, share_of};
+ghost use Rattle.qbx_share_words.specs.Share.{names_shares, share_verb_of, of_tenant, share_of};
 
 use model::BlockNumber;
 use qbx_numbers::{Parsed, Parsed32, number, number32};
@@ -31,7 +31,7 @@ pub enum ShareReading {
 
 // Whether a verb is a tenant's. It is no other command's: a file of shares and a tenant follow it.
 pub fn names_shares(verb: &[u8]) -> bool
-    ensures { result ≡ namesShares verb.now }
+    ensures { result ≡ names_shares verb.now }
 {
     if is(verb, b"share-put") {
         return true;
@@ -44,7 +44,7 @@ pub fn names_shares(verb: &[u8]) -> bool
 
 // Which of the three a tenant's verb is.
 fn share_verb_of(verb: &[u8]) -> ShareVerb
-    ensures { result ≡ shareVerbOf verb.now }
+    ensures { result ≡ share_verb_of verb.now }
 {
     if is(verb, b"share-put") {
         return ShareVerb::Put;
@@ -63,7 +63,7 @@ fn of_tenant(
     tenant: &[u8],
     block: &[u8],
 ) -> ShareReading
-    ensures { result ≡ ofTenant segments slots verb tenant.now block.now }
+    ensures { result ≡ of_tenant segments slots verb tenant.now block.now }
 {
     let Parsed32::Number32(a) = number32(tenant) else {
         return ShareReading::Wrong(Complaint::Tenant);

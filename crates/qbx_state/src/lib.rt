@@ -1,7 +1,7 @@
 // What `qbx check` says of an image, as one line.
 ghost use Rattle.std.specs.Prelude.{◌≡◌, ◌+◌, ◌≤◌};
-ghost use Rattle.qbx_lines.specs.Lines.{mostLine, said, Added};
-ghost use Rattle.qbx_state.specs.State.{conditionText, slotsText, tallyText, top_text, reportText};
+ghost use Rattle.qbx_lines.specs.Lines.{most_line, said, Added};
+ghost use Rattle.qbx_state.specs.State.{condition_text, slots_text, tally_text, top_text, report_text};
 
 use qbx_lines::{Line, add, add_count, empty};
 
@@ -38,7 +38,7 @@ pub struct Report {
 }
 
 fn say_condition(condition: Condition) -> Line
-    ensures { (said result ≡ conditionText condition) × (result.count ≤ 14) }
+    ensures { (said result ≡ condition_text condition) × (result.count ≤ 14) }
 {
     let line = empty();
     match condition {
@@ -53,7 +53,7 @@ fn say_condition(condition: Condition) -> Line
 
 fn add_slots(line: Line, live: u64, dead: u64, cut: u64, empty: u64) -> Line
     requires { line.count ≤ 60 }
-    ensures { Added line (slotsText live dead cut empty) result × (result.count ≤ line.count + 116) }
+    ensures { Added line (slots_text live dead cut empty) result × (result.count ≤ line.count + 116) }
 {
     let lives = add_count(line, b", slots live ", live);
     let deads = add_count(lives, b", dead ", dead);
@@ -64,7 +64,7 @@ fn add_slots(line: Line, live: u64, dead: u64, cut: u64, empty: u64) -> Line
 // The tally of a header of version 2.
 fn add_tally(line: Line, tally: u64, no_bit_left: bool) -> Line
     requires { line.count ≤ 180 }
-    ensures { Added line (tallyText tally no_bit_left) result × (result.count ≤ line.count + 52) }
+    ensures { Added line (tally_text tally no_bit_left) result × (result.count ≤ line.count + 52) }
 {
     let counted = add_count(line, b", version 2, tally ", tally);
     if no_bit_left {
@@ -86,7 +86,7 @@ fn add_top(line: Line, top: TopSeen) -> Line
 
 // The state of an image, with the segments in use, their slots, and the top's version and tally.
 pub fn say_report(report: Report) -> Line
-    ensures { (said result ≡ reportText report) × (result.count ≤ mostLine) }
+    ensures { (said result ≡ report_text report) × (result.count ≤ most_line) }
 {
     let condition = report.condition;
     let line = say_condition(condition);

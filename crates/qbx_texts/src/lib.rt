@@ -1,7 +1,7 @@
 // What a command prints of an image, in a lent buffer.
 ghost use Rattle.std.specs.Prelude.{◌≡◌, ◌≤◌, length};
 ghost use Rattle.text.specs.Buffer.{printed};
-ghost use Rattle.qbx_texts.specs.Texts.{printedBy};
+ghost use Rattle.qbx_texts.specs.Texts.{printed_by};
 
 use qbx_verbs::Verb;
 use qbx_words::Command;
@@ -9,7 +9,7 @@ use text::Printed;
 
 // A text about the image, in a lent buffer. A verb that prints none has none.
 pub fn describe(image: &[u8], command: Command, text: &mut [u8]) -> Printed
-    ensures { (printed result text.new ≡ printedBy command.verb command image.now text.old) × (result.length ≤ length text.new) }
+    ensures { (printed result text.new ≡ printed_by command.verb command image.now text.old) × (result.length ≤ length text.new) }
 {
     let segments = command.segments as usize;
     let slots = command.slots as usize;

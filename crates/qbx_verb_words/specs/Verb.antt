@@ -5,8 +5,8 @@ use Rattle.text.specs.Text.{text}
 use Rattle.qbx_verbs.specs.declared.Verb.{Verb}
 use Rattle.qbx_verbs.specs.declared.Verb.TheVariants.{Format, Put, Get, Delete, Recover, Check, Account, Map, Salvage, Unknown}
 
-unfoldable pub verbOf : List ℕ → Verb
-verbOf w =
+unfoldable pub verb_of : List ℕ → Verb
+verb_of w =
     cond (same w (text "format")) Format
     (cond (same w (text "put")) Put
     (cond (same w (text "get")) Get

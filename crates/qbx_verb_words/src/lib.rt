@@ -1,7 +1,7 @@
 // The word of a verb, read.
 ghost use Rattle.std.specs.Prelude.{◌≡◌};
 ghost use Rattle.model.specs.Lists.{same};
-ghost use Rattle.qbx_verb_words.specs.Verb.{verbOf};
+ghost use Rattle.qbx_verb_words.specs.Verb.{verb_of};
 
 use qbx_verbs::Verb;
 
@@ -14,7 +14,7 @@ pub fn is(word: &[u8], name: &[u8]) -> bool
 
 // The verb that a word is.
 pub fn verb_of(word: &[u8]) -> Verb
-    ensures { result ≡ verbOf word.now }
+    ensures { result ≡ verb_of word.now }
 {
     if is(word, b"format") {
         return Verb::Format;

@@ -15,17 +15,17 @@ known Map = true
 known Salvage = true
 known Unknown = false
 
-unfoldable pub namesBlock : Verb → Bool
-namesBlock Format = false
-namesBlock Put = true
-namesBlock Get = true
-namesBlock Delete = true
-namesBlock Recover = false
-namesBlock Check = false
-namesBlock Account = false
-namesBlock Map = false
-namesBlock Salvage = false
-namesBlock Unknown = false
+unfoldable pub names_block : Verb → Bool
+names_block Format = false
+names_block Put = true
+names_block Get = true
+names_block Delete = true
+names_block Recover = false
+names_block Check = false
+names_block Account = false
+names_block Map = false
+names_block Salvage = false
+names_block Unknown = false
 
 unfoldable pub writes : Verb → Bool
 writes Format = true

@@ -1,6 +1,6 @@
 // Whether a verb is one, whether it names a block, and whether it writes.
 ghost use Rattle.std.specs.Prelude.{◌≡◌};
-ghost use Rattle.qbx_verbs.specs.Verbs.{known, namesBlock, writes};
+ghost use Rattle.qbx_verbs.specs.Verbs.{known, names_block, writes};
 
 use crate::Verb;
 
@@ -22,7 +22,7 @@ pub fn known(verb: Verb) -> bool
 }
 
 pub fn names_block(verb: Verb) -> bool
-    ensures { result ≡ namesBlock verb }
+    ensures { result ≡ names_block verb }
 {
     match verb {
         Verb::Format => false,

@@ -1,6 +1,6 @@
 // The words of a command line, read.
 ghost use Rattle.std.specs.Prelude.{◌≡◌};
-ghost use Rattle.qbx_words.specs.Command.{isMissing, withBudget, withBlock, afterVerb, commandOf};
+ghost use Rattle.qbx_words.specs.Command.{is_missing, with_budget, with_block, after_verb, command_of};
 
 use crate::{Command, Complaint, Reading};
 use model::BlockNumber;
@@ -10,14 +10,14 @@ use qbx_verbs::{known, names_block, writes};
 
 // Whether a word is missing: it is empty then.
 pub fn is_missing(word: &[u8]) -> bool
-    ensures { result ≡ isMissing word.now }
+    ensures { result ≡ is_missing word.now }
 {
     word.len() == 0
 }
 
 // The option at the end.
 fn with_budget(command: Command, option: &[u8], steps: &[u8]) -> Reading
-    ensures { result ≡ withBudget command option.now steps.now }
+    ensures { result ≡ with_budget command option.now steps.now }
 {
     if is_missing(option) {
         return Reading::Right(command);
@@ -44,7 +44,7 @@ fn with_budget(command: Command, option: &[u8], steps: &[u8]) -> Reading
 
 // The words after a verb that names a block.
 fn with_block(command: Command, block: &[u8], option: &[u8], steps: &[u8]) -> Reading
-    ensures { result ≡ withBlock command block.now option.now steps.now }
+    ensures { result ≡ with_block command block.now option.now steps.now }
 {
     let Parsed::Number(b) = number(block) else {
         return Reading::Wrong(Complaint::Block);
@@ -65,7 +65,7 @@ fn with_block(command: Command, block: &[u8], option: &[u8], steps: &[u8]) -> Re
 
 // The words after a verb.
 fn after_verb(command: Command, first: &[u8], second: &[u8], third: &[u8]) -> Reading
-    ensures { result ≡ afterVerb command first.now second.now third.now }
+    ensures { result ≡ after_verb command first.now second.now third.now }
 {
     let verb = command.verb;
     if names_block(verb) {
@@ -86,7 +86,7 @@ pub fn command_of(
     second: &[u8],
     third: &[u8],
 ) -> Reading
-    ensures { result ≡ commandOf segments.now slots.now verb.now first.now second.now third.now }
+    ensures { result ≡ command_of segments.now slots.now verb.now first.now second.now third.now }
 {
     let Parsed::Number(n) = number(segments) else {
         return Reading::Wrong(Complaint::Segments);

@@ -2,16 +2,16 @@
 // its damage. The source is only read. Nothing is required of a caller.
 ghost use Rattle.std.specs.Prelude.{◌≡◌, true, length, ltb};
 ghost use Rattle.model.specs.Lists.{count};
-ghost use Rattle.model.specs.Chip.{rightSize};
+ghost use Rattle.model.specs.Chip.{right_size};
 ghost use Rattle.model.specs.Answers.{performed};
-ghost use Rattle.index.specs.Tables.{mostPages};
-ghost use Rattle.salvage.specs.Salvage.{rebuildOutcome};
+ghost use Rattle.index.specs.Tables.{most_pages};
+ghost use Rattle.salvage.specs.Salvage.{rebuild_outcome};
 
 use model::{Answer, Performed};
 
 // How many block numbers a table tells a place of.
 fn given_count(places: &[u32]) -> usize
-    requires { length places.now ≡ mostPages }
+    requires { length places.now ≡ most_pages }
     ensures { result ≡ count (λ p. ltb 0 p) places.now }
 {
     let mut given: u32 = 0;
@@ -36,8 +36,8 @@ fn restore(
     target_slots: usize,
     budget: u64,
 ) -> Performed
-    requires { (rightSize segments slots source.now ≡ true) × (rightSize target_segments target_slots target.old ≡ true) }
-    ensures { performed result target.new ≡ rebuildOutcome segments slots source.now target_segments target_slots target.old budget }
+    requires { (right_size segments slots source.now ≡ true) × (right_size target_segments target_slots target.old ≡ true) }
+    ensures { performed result target.new ≡ rebuild_outcome segments slots source.now target_segments target_slots target.old budget }
 {
     let mut places = [0u32; 65536];
     let mut lengths = [0u8; 65536];
@@ -73,7 +73,7 @@ pub fn rebuild(
     target_slots: usize,
     budget: u64,
 ) -> Performed
-    ensures { performed result target.new ≡ rebuildOutcome segments slots source.now target_segments target_slots target.old budget }
+    ensures { performed result target.new ≡ rebuild_outcome segments slots source.now target_segments target_slots target.old budget }
 {
     if !request::right_size(source.len(), segments, slots) {
         return request::refused(Answer::Size);

@@ -8,8 +8,8 @@ use lib.ListN.{length, take, length-append, length-take}
 use lib.Dec.{leb, ltb, eqb}
 use borrow.Author.Tests.{le-leb, lt-ltb, le-ltb, leb-true, leb-false}
 use Rattle.model.specs.Chip.{Image, Step, run}
-use Rattle.model.specs.State.{segmentsOf}
-use Rattle.model.specs.Answers.{code_of, Request, stepsFor, workOn, workOf, codeUnder, performed, Outcome, worked, outcomeOf}
+use Rattle.model.specs.State.{segments_of}
+use Rattle.model.specs.Answers.{code_of, Request, steps_for, work_on, work_of, code_under, performed, Outcome, worked, outcome_of}
 use Rattle.model.specs.declared.Answer.{Answer}
 use Rattle.model.specs.declared.Performed.{Performed}
 use Rattle.bridge.specs.Accepted.{refusal}
@@ -40,13 +40,13 @@ carried xs ys {left = left} d em ef r = record { left = left; ran = d; finished 
 
 -- the same of any work
 module _ (B : ℕ) (s : Image) (budget : ℕ) where
-  pub refused-worked : (a : Answer) (p : Performed) → Refused a p → performed p s ≡ worked B (record { code = code_of a; steps = [] }) s budget
-  unfolding performed codeUnder
-  refused-worked a p r = rw (r.code, r.none) (nothing B (code_of a) budget s)
+  pub refused_worked : (a : Answer) (p : Performed) → Refused a p → performed p s ≡ worked B (record { code = code_of a; steps = [] }) s budget
+  unfolding performed code_under
+  refused_worked a p r = rw (r.code, r.none) (nothing B (code_of a) budget s)
 
-  pub carried-worked : (xs ys : List Step) {p : Performed} {t : Image} → 0 < length ys → Carried xs ys B budget p s t → performed p t ≡ worked B (record { code = 0; steps = xs ++ ys }) s budget
-  unfolding performed codeUnder
-  carried-worked xs ys {p} {t} some c =
+  pub carried_worked : (xs ys : List Step) {p : Performed} {t : Image} → 0 < length ys → Carried xs ys B budget p s t → performed p t ≡ worked B (record { code = 0; steps = xs ++ ys }) s budget
+  unfolding performed code_under
+  carried_worked xs ys {p} {t} some c =
       let l = length-append xs ys in
       let code : code_of p.answer ≡ cond (leb (length (xs ++ ys)) budget) 0 9 = c.finished.code ∙ rw l (cut_short (length xs) (length ys) budget some) in
       let count : p.steps ≡ length (take budget (xs ++ ys)) = omega (arith, c.finished.count, c.ran.rest, length-take budget (xs ++ ys)) in
@@ -54,16 +54,16 @@ module _ (B : ℕ) (s : Image) (budget : ℕ) where
 
 -- a request's
 module _ (N B : ℕ) (s : Image) (budget : ℕ) where
-  pub refused-outcome : (q : Request) (a : Answer) (p : Performed) → refusal N B s q ≡ code_of a → eqb (code_of a) 0 ≡ false → Refused a p → performed p s ≡ outcomeOf N B s budget q
-  unfolding outcomeOf workOf workOn
-  refused-outcome q a p e n r = rw (e, n) (refused-worked B s budget a p r)
+  pub refused_outcome : (q : Request) (a : Answer) (p : Performed) → refusal N B s q ≡ code_of a → eqb (code_of a) 0 ≡ false → Refused a p → performed p s ≡ outcome_of N B s budget q
+  unfolding outcome_of work_of work_on
+  refused_outcome q a p e n r = rw (e, n) (refused_worked B s budget a p r)
 
   -- an accepted request without steps
-  pub idle-outcome : (q : Request) (a : Answer) (p : Performed) → refusal N B s q ≡ 0 → stepsFor N B (segmentsOf N B s) q ≡ [] → code_of a ≡ 0 → Refused a p → performed p s ≡ outcomeOf N B s budget q
-  unfolding performed outcomeOf workOf workOn codeUnder
-  idle-outcome q a p e n z r = rw (e, n, r.code, r.none, z) (nothing B 0 budget s)
+  pub idle_outcome : (q : Request) (a : Answer) (p : Performed) → refusal N B s q ≡ 0 → steps_for N B (segments_of N B s) q ≡ [] → code_of a ≡ 0 → Refused a p → performed p s ≡ outcome_of N B s budget q
+  unfolding performed outcome_of work_of work_on code_under
+  idle_outcome q a p e n z r = rw (e, n, r.code, r.none, z) (nothing B 0 budget s)
 
-  pub carried-outcome : (q : Request) (xs ys : List Step) {p : Performed} {t : Image} → refusal N B s q ≡ 0 → stepsFor N B (segmentsOf N B s) q ≡ xs ++ ys → 0 < length ys → Carried xs ys B budget p s t
-      → performed p t ≡ outcomeOf N B s budget q
-  unfolding outcomeOf workOf workOn
-  carried-outcome q xs ys {p} {t} e n some c = rw (e, n) (carried-worked B s budget xs ys some c)
+  pub carried_outcome : (q : Request) (xs ys : List Step) {p : Performed} {t : Image} → refusal N B s q ≡ 0 → steps_for N B (segments_of N B s) q ≡ xs ++ ys → 0 < length ys → Carried xs ys B budget p s t
+      → performed p t ≡ outcome_of N B s budget q
+  unfolding outcome_of work_of work_on
+  carried_outcome q xs ys {p} {t} e n some c = rw (e, n) (carried_worked B s budget xs ys some c)

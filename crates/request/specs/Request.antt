@@ -1,6 +1,6 @@
 -- What the contracts of this crate say beside the definitions of the model.
 use Rattle.std.specs.Prelude.{ℕ, ◌-◌, ◌≡◌, cond, List, ◌++◌, length, ltb}
-use Rattle.model.specs.Chip.{Image, Step, in_range, imageLength}
+use Rattle.model.specs.Chip.{Image, Step, in_range, image_length}
 use Rattle.model.specs.Answers.{code_of}
 use Rattle.model.specs.declared.Answer.{Answer}
 use Rattle.model.specs.declared.Performed.{Performed}
@@ -8,7 +8,7 @@ use Rattle.flash.specs.Ran.{Ran}
 
 -- the bytes of an image with so many segments and slots; none if there is no such image
 unfoldable pub size_of : ℕ → ℕ → ℕ
-size_of N B = cond (in_range N B) (imageLength N B) 0
+size_of N B = cond (in_range N B) (image_length N B) 0
 
 pub record Refused (answer : Answer) (p : Performed) : Type 0 where
   pub code : code_of p.answer ≡ code_of answer

@@ -1,9 +1,9 @@
 // A request before the image is looked at, and what comes back from it.
 ghost use Rattle.std.specs.Prelude.{◌≡◌, ◌&&◌, ◌≤◌, eqb};
-ghost use Rattle.model.specs.Chip.{mostSegments, mostSlots, largestImage, in_range, imageLength};
-ghost use Rattle.model.specs.Slot.{numberOk};
+ghost use Rattle.model.specs.Chip.{most_segments, most_slots, largest_image, in_range, image_length};
+ghost use Rattle.model.specs.Slot.{number_ok};
 ghost use Rattle.model.specs.State.{capacity};
-ghost use Rattle.model.specs.Answers.{code_of, lengthOk};
+ghost use Rattle.model.specs.Answers.{code_of, length_ok};
 ghost use Rattle.request.specs.Request.{size_of, Refused, Finished};
 
 use model::{Answer, BlockNumber, MOST_SEGMENTS, Performed};
@@ -31,7 +31,7 @@ pub fn in_range(segments: usize, slots: usize) -> bool
 
 // The bytes of an image with so many segments and slots, or 0. The ranges are tested before anything is multiplied.
 pub fn size_of(segments: usize, slots: usize) -> usize
-    ensures { (result ≡ size_of segments slots) × (result ≤ largestImage) }
+    ensures { (result ≡ size_of segments slots) × (result ≤ largest_image) }
 {
     if in_range(segments, slots) {
         return segments * (slots + 1) * 256;
@@ -41,7 +41,7 @@ pub fn size_of(segments: usize, slots: usize) -> usize
 
 // Whether N, B and the image's length are as they should be.
 pub fn right_size(bytes: usize, segments: usize, slots: usize) -> bool
-    ensures { result ≡ (in_range segments slots && eqb bytes (imageLength segments slots)) }
+    ensures { result ≡ (in_range segments slots && eqb bytes (image_length segments slots)) }
 {
     if in_range(segments, slots) {
         return bytes == size_of(segments, slots);
@@ -51,7 +51,7 @@ pub fn right_size(bytes: usize, segments: usize, slots: usize) -> bool
 
 // Whether a block may have this number.
 pub fn number_ok(block: BlockNumber) -> bool
-    ensures { result ≡ numberOk block.0 }
+    ensures { result ≡ number_ok block.0 }
 {
     let n = block.0;
     if n == 0 {
@@ -62,7 +62,7 @@ pub fn number_ok(block: BlockNumber) -> bool
 
 // Whether a put takes contents of so many bytes: at least one, and no more than a slot holds.
 pub fn length_ok(bytes: usize) -> bool
-    ensures { result ≡ lengthOk bytes }
+    ensures { result ≡ length_ok bytes }
 {
     if bytes == 0 {
         return false;
@@ -72,7 +72,7 @@ pub fn length_ok(bytes: usize) -> bool
 
 // The most live slots (document 01: the capacity C).
 pub fn capacity(segments: usize, slots: usize) -> usize
-    requires { (2 ≤ segments) × (segments ≤ mostSegments) × (2 ≤ slots) × (slots ≤ mostSlots) }
+    requires { (2 ≤ segments) × (segments ≤ most_segments) × (2 ≤ slots) × (slots ≤ most_slots) }
     ensures { (result ≡ capacity segments slots) × (result ≤ 1000000) }
 {
     (segments - 1) * slots - 1

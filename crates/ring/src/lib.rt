@@ -2,7 +2,7 @@
 // answer is in bounds, and of a clean one it is what the definitions say.
 ghost use Rattle.std.specs.Prelude.{◌≡◌, ◌<◌, ◌≤◌, length};
 ghost use Rattle.flash.specs.Pages.{Sized};
-ghost use Rattle.ring.specs.Seen.{statusAt, number_at, LastFollowing, LastUsed, RunFrom, TopSeen, UsedSeen, SeenRing};
+ghost use Rattle.ring.specs.Seen.{status_at, number_at, LastFollowing, LastUsed, RunFrom, TopSeen, UsedSeen, SeenRing};
 
 use model::{ERASE_LIMIT, SegmentNumber};
 
@@ -24,7 +24,7 @@ const STATUS: usize = 5;
 // The status in the header at an index. A segment counts as in use if it was programmed.
 fn status_at(image: &[u8], segments: usize, slots: usize, index: usize) -> u8
     requires { Sized segments slots (length image.now) × (index < segments) }
-    ensures { result ≡ statusAt slots image.now index }
+    ensures { result ≡ status_at slots image.now index }
 {
     image[index * (slots + 1) * 256 + STATUS]
 }

@@ -1,9 +1,9 @@
 // The slots of one segment, looked at once, in order.
 ghost use Rattle.std.specs.Prelude.{◌≡◌, cond, ◌+◌, ◌*◌, ◌≤◌, length};
-ghost use Rattle.model.specs.Chip.{mostSlots};
-ghost use Rattle.judge.specs.Bitmap.{inBits, put_bit};
-ghost use Rattle.judge.specs.Endings.{behind, leaveRoom};
-ghost use Rattle.judge.specs.Rows.{pass, see, seeAll, noRow, kindsAt, Small};
+ghost use Rattle.model.specs.Chip.{most_slots};
+ghost use Rattle.judge.specs.Bitmap.{in_bits, put_bit};
+ghost use Rattle.judge.specs.Endings.{behind, leave_room};
+ghost use Rattle.judge.specs.Rows.{pass, see, see_all, no_row, kinds_at, Small};
 
 use judge::{Ending, Row};
 use model::{BlockNumber, SlotKind};
@@ -16,7 +16,7 @@ fn wide(x: u16) -> usize
 
 // Puts a block number into the set of those met, one bit for each. Whether it was there.
 pub fn meet(seen: &mut [u64; 1024], block: BlockNumber) -> bool
-    ensures { (result ≡ inBits 64 seen.old block.0) × (seen.new ≡ put_bit 64 seen.old block.0) }
+    ensures { (result ≡ in_bits 64 seen.old block.0) × (seen.new ≡ put_bit 64 seen.old block.0) }
 {
     let x = block.0;
     let i = wide(x) / 64;
@@ -38,7 +38,7 @@ pub fn behind(before: Ending, then: Ending) -> Ending
 
 // An empty slot follows.
 fn leave_room(before: Ending) -> Ending
-    ensures { result ≡ leaveRoom before }
+    ensures { result ≡ leave_room before }
 {
     match before {
         Ending::Full => Ending::Room,
@@ -75,7 +75,7 @@ fn row_of(live: u8, dead: u8, cut: u8, ending: Ending, block: BlockNumber) -> Ro
 
 // A row before its first slot.
 pub fn no_row() -> Row
-    ensures { result ≡ noRow }
+    ensures { result ≡ no_row }
 {
     row_of(0, 0, 0, Ending::Full, BlockNumber(0))
 }
@@ -108,8 +108,8 @@ fn count(row: Row, kind: SlotKind, seen: &mut [u64; 1024]) -> Row
 
 // The slots of a segment, from the offset of the first one.
 pub fn scan_row(image: &[u8], at: usize, slots: usize, seen: &mut [u64; 1024]) -> Row
-    requires { (at + slots * 256 ≤ length image.now) × (slots ≤ mostSlots) }
-    ensures { (pass result seen.new ≡ seeAll (kindsAt image.now at slots) (pass noRow seen.old)) × Small result slots }
+    requires { (at + slots * 256 ≤ length image.now) × (slots ≤ most_slots) }
+    ensures { (pass result seen.new ≡ see_all (kinds_at image.now at slots) (pass no_row seen.old)) × Small result slots }
 {
     let mut row = no_row();
     let mut i: usize = 0;

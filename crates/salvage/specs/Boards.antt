@@ -3,21 +3,21 @@ use Rattle.std.specs.Prelude.{ℕ, suc, ◌+◌, ◌*◌, ◌≡◌, refl, Bool,
 use Prim.Native.String.{String}
 use mathlib.Core.List.{List, [], ◌∷◌, ◌++◌, flatten}
 use Rattle.model.specs.Lists.{same, all}
-use Rattle.model.specs.Chip.{Image, Page, erased, imageLength, rightSize, pagesOf, withSegment, step, run}
-use Rattle.model.specs.Header.{opened, erasePending, compacted, version1}
-use Rattle.model.specs.Slot.{slotPage}
-use Rattle.model.specs.State.{segmentsOn, segmentsOf, State, clean, state, view}
+use Rattle.model.specs.Chip.{Image, Page, erased, image_length, right_size, pages_of, with_segment, step, run}
+use Rattle.model.specs.Header.{opened, erase_pending, compacted, version1}
+use Rattle.model.specs.Slot.{slot_page}
+use Rattle.model.specs.State.{segments_on, segments_of, State, clean, state, view}
 use Rattle.model.specs.Table.{Table, table_of}
 use Rattle.model.specs.Answers.{Outcome}
 use Rattle.model.specs.Laws.Bench.{evaluate}
 use Rattle.text.specs.Text.{text}
-use Rattle.text.specs.Decimal.{decimalOf, decimal}
+use Rattle.text.specs.Decimal.{decimal_of, decimal}
 use Rattle.text.specs.Buffer.{labelled}
-use Rattle.account_text.specs.Account.{liveAt, liveFrom, live_in, liveSlots, insert, byBlock, blockText}
+use Rattle.account_text.specs.Account.{live_at, live_from, live_in, live_slots, insert, by_block, block_text}
 use Rattle.account_text.specs.Boards.{used, status, deads, blanks, block, sample, v2, first, begun}
 use Rattle.account_text.specs.Samples.{joined}
-use Rattle.moves.specs.Moves.{byNumber, putEach, freshSteps, freshWork, insert as insertEntry}
-use Rattle.salvage.specs.Salvage.{regarded, candidates, heldIn, given, agreed, givenLine, salvageOn, salvaged, rebuildRefusals, rebuildWork, rebuildOutcome}
+use Rattle.moves.specs.Moves.{by_number, put_each, fresh_steps, fresh_work, insert as insert_entry}
+use Rattle.salvage.specs.Salvage.{regarded, candidates, held_in, given, agreed, given_line, salvage_on, salvaged, rebuild_refusals, rebuild_work, rebuild_outcome}
 
 -- N, B, the image's pages, and the lines of its report behind the first
 pub record Wreck : Type 0 where
@@ -34,11 +34,11 @@ abbrev small : List Page → List String → Wreck
 small pages report = record { segments = 3; slots = 2; pages = pages; report = report }
 
 abbrev holder : ℕ → List ℕ → Page
-holder b c = slotPage b c
+holder b c = slot_page b c
 
 -- the top of the small chip, owing, with these two slots
 abbrev owing : List Page → List Page
-owing slots = used 3 2 v2 erasePending 2 ∷ slots
+owing slots = used 3 2 v2 erase_pending 2 ∷ slots
 
 unfoldable pub wrecks : List Wreck
 wrecks =
@@ -74,18 +74,18 @@ wrecks =
 
 -- ---- the reports
 
-unfoldable pub onPages : Wreck → Bool
-onPages w = let l = segmentsOn w.segments w.slots w.pages in
-    eqb (length w.pages) (w.segments * (w.slots + 1)) && same (salvageOn (candidates w.segments l)) (joined ("salvage promises nothing" ∷ w.report))
+unfoldable pub on_pages : Wreck → Bool
+on_pages w = let l = segments_on w.segments w.slots w.pages in
+    eqb (length w.pages) (w.segments * (w.slots + 1)) && same (salvage_on (candidates w.segments l)) (joined ("salvage promises nothing" ∷ w.report))
 
 -- the places, from 0, of those that fail
 unfoldable pub failing : ℕ → List Wreck → List ℕ
 failing i [] = []
-failing i (w ∷ r) = cond (onPages w) (failing (suc i) r) (i ∷ failing (suc i) r)
+failing i (w ∷ r) = cond (on_pages w) (failing (suc i) r) (i ∷ failing (suc i) r)
 
 -- every definition unfolds where this name does
 unfoldable computes : ℕ
-unfolding evaluate text decimalOf decimal labelled liveAt liveFrom live_in liveSlots insert byBlock blockText joined regarded candidates heldIn given agreed givenLine salvageOn wrecks onPages failing
+unfolding evaluate text decimal_of decimal labelled live_at live_from live_in live_slots insert by_block block_text joined regarded candidates held_in given agreed given_line salvage_on wrecks on_pages failing
 computes = 0
 
 pub reports : failing 0 wrecks ≡ []
@@ -100,7 +100,7 @@ source = flatten ((first v2 3 ∷ block 7 1 ∷ blanks 1) ++ ((first v2 1 ∷ bl
 
 -- on a chip that held zeros
 abbrev rebuilds : Image → ℕ → ℕ → ℕ → Outcome
-rebuilds s M D allowance = rebuildOutcome 3 2 s M D (replicate (imageLength M D) 0) allowance
+rebuilds s M D allowance = rebuild_outcome 3 2 s M D (replicate (image_length M D) 0) allowance
 
 pub record Result : Type 0 where
   pub code : ℕ
@@ -116,13 +116,13 @@ blocks = record { block = 5; contents = [] } ∷ record { block = 7; contents = 
 
 -- every definition unfolds where this name does
 unfoldable rebuilding : ℕ
-unfolding computes rightSize pagesOf withSegment step run segmentsOf state view table_of insertEntry byNumber putEach freshSteps freshWork salvaged rebuildRefusals rebuildWork rebuildOutcome
+unfolding computes right_size pages_of with_segment step run segments_of state view table_of insert_entry by_number put_each fresh_steps fresh_work salvaged rebuild_refusals rebuild_work rebuild_outcome
 rebuilding = 0
 
 -- two block numbers fill C = 2, whatever the count of candidates: 2 erases, 21 and 12 steps
-just-fits : result_of 2 3 (rebuilds source 2 3 35) ≡ record { code = 0; count = 35; state = clean; table = blocks }
+just_fits : result_of 2 3 (rebuilds source 2 3 35) ≡ record { code = 0; count = 35; state = clean; table = blocks }
 unfolding rebuilding
-just-fits = refl
+just_fits = refl
 
 -- a step less is a cut; C = 1 takes no two, and nothing is erased
 refused : ((rebuilds source 2 3 34).code ≡ 9) × (rebuilds source 2 2 1000 ≡ record { code = 7; count = 0; image = replicate 1536 0 })
@@ -130,11 +130,11 @@ unfolding rebuilding
 refused = (refl, refl)
 
 -- no candidate: an empty formatted image
-empty-image : result_of 2 2 (rebuilds (replicate 2304 0) 2 2 1000) ≡ record { code = 0; count = 23; state = clean; table = [] }
+empty_image : result_of 2 2 (rebuilds (replicate 2304 0) 2 2 1000) ≡ record { code = 0; count = 23; state = clean; table = [] }
 unfolding rebuilding
-empty-image = refl
+empty_image = refl
 
 -- 1 for either image, and before 7
-sizes : ((rebuildOutcome 4 2 source 2 3 (replicate 2048 0) 1000).code ≡ 1) × ((rebuildOutcome 3 2 source 2 3 (replicate 2047 0) 1000).code ≡ 1) × ((rebuildOutcome 3 2 source 2 2 (replicate 1535 0) 1000).code ≡ 1)
+sizes : ((rebuild_outcome 4 2 source 2 3 (replicate 2048 0) 1000).code ≡ 1) × ((rebuild_outcome 3 2 source 2 3 (replicate 2047 0) 1000).code ≡ 1) × ((rebuild_outcome 3 2 source 2 2 (replicate 1535 0) 1000).code ≡ 1)
 unfolding rebuilding
 sizes = (refl, refl, refl)

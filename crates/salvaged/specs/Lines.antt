@@ -6,21 +6,21 @@ use Rattle.std.proofs.Math.Bool.{or-true, and-eq-true_iff}
 use mathlib.Core.List.{List, [], ◌∷◌, ◌++◌, flat_map, map}
 use borrow.Author.Tests.{eqb-false, ne_eqb, not-true}
 use Rattle.model.specs.Lists.{same, all}
-use Rattle.model.specs.Chip.{Image, rightSize}
-use Rattle.model.specs.State.{Segment, segmentsOf, holds, distinct, blocksDistinct, isClean, clean, state}
+use Rattle.model.specs.Chip.{Image, right_size}
+use Rattle.model.specs.State.{Segment, segments_of, holds, distinct, blocks_distinct, is_clean, clean, state}
 use Rattle.model.specs.Laws.Lists.{and_left, and_right, and_both}
 use Rattle.model.specs.Laws.Bytes.{same_refl}
-use Rattle.model.specs.Laws.Chip.{size-facts}
-use Rattle.model.specs.Laws.Segments.{segments-length}
-use Rattle.model.specs.Laws.Clean.{clean-slots, state-clean}
-use Rattle.crash.specs.Requests.{shown-clean}
+use Rattle.model.specs.Laws.Chip.{size_facts}
+use Rattle.model.specs.Laws.Segments.{segments_length}
+use Rattle.model.specs.Laws.Clean.{clean_slots, state_clean}
+use Rattle.crash.specs.Requests.{shown_clean}
 use Rattle.text.specs.Text.{text}
-use Rattle.account_text.specs.Account.{LiveSlot, liveSlots, insert, byBlock, blockText}
-use Rattle.salvage.specs.Salvage.{candidates, heldIn, agreed, givenLine, salvageOn, salvageText}
-use Rattle.salvage.specs.Given.{given-all}
-use Rattle.salvage.specs.Ring.{clean-lives}
-use Rattle.salvaged.specs.Law.{sameLine, CleanTable}
-use Rattle.salvaged.specs.Shown.{clean-regarded, clean-fine, salvaged-table}
+use Rattle.account_text.specs.Account.{LiveSlot, live_slots, insert, by_block, block_text}
+use Rattle.salvage.specs.Salvage.{candidates, held_in, agreed, given_line, salvage_on, salvage_text}
+use Rattle.salvage.specs.Given.{given_all_lem}
+use Rattle.salvage.specs.Ring.{clean_lives}
+use Rattle.salvaged.specs.Law.{same_line, CleanTable}
+use Rattle.salvaged.specs.Shown.{clean_regarded, clean_fine, salvaged_table}
 
 -- ---- each number once: none disagrees
 
@@ -33,20 +33,20 @@ either false w h = (refl, h)
 
 -- an entry of another number than all of these
 module _ (e : LiveSlot) where
-  fits-before : (r : List LiveSlot) → holds e.block (map heldIn r) ≡ false → all (λ x. fits x e) r ≡ true
-  unfolding all holds heldIn
-  fits-before [] h = refl
-  fits-before (x ∷ r) h =
-      let p = either (eqb e.block x.block) (holds e.block (map heldIn r)) h in
-      rw (ne_eqb x.block e.block (λ q. eqb-false e.block x.block p.0 (sym q))) (fits-before r p.1)
+  fits_before : (r : List LiveSlot) → holds e.block (map held_in r) ≡ false → all (λ x. fits x e) r ≡ true
+  unfolding all holds held_in
+  fits_before [] h = refl
+  fits_before (x ∷ r) h =
+      let p = either (eqb e.block x.block) (holds e.block (map held_in r)) h in
+      rw (ne_eqb x.block e.block (λ q. eqb-false e.block x.block p.0 (sym q))) (fits_before r p.1)
 
-  fits-behind : (r : List LiveSlot) → holds e.block (map heldIn r) ≡ false → all (λ x. fits e x) r ≡ true
-  unfolding all holds heldIn
-  fits-behind [] h = refl
-  fits-behind (x ∷ r) h = let p = either (eqb e.block x.block) (holds e.block (map heldIn r)) h in rw p.0 (fits-behind r p.1)
+  fits_behind : (r : List LiveSlot) → holds e.block (map held_in r) ≡ false → all (λ x. fits e x) r ≡ true
+  unfolding all holds held_in
+  fits_behind [] h = refl
+  fits_behind (x ∷ r) h = let p = either (eqb e.block x.block) (holds e.block (map held_in r)) h in rw p.0 (fits_behind r p.1)
 
-  fits-itself : fits e e ≡ true
-  fits-itself = rw (same_refl e.contents) (or-true (not (eqb e.block e.block)))
+  fits_itself : fits e e ≡ true
+  fits_itself = rw (same_refl e.contents) (or-true (not (eqb e.block e.block)))
 
 all_both : (f g : LiveSlot → Bool) (r : List LiveSlot) → all f r ≡ true → all g r ≡ true → all (λ x. f x && g x) r ≡ true
 unfolding all
@@ -54,14 +54,14 @@ all_both f g [] p q = refl
 all_both f g (x ∷ r) p q =
     and_both (f x && g x) (all (λ y. f y && g y) r) (and_both (f x) (g x) (and_left (f x) (all f r) p) (and_left (g x) (all g r) q)) (all_both f g r (and_right (f x) (all f r) p) (and_right (g x) (all g r) q))
 
-all-agreed : (r : List LiveSlot) → distinct (map heldIn r) ≡ true → all (agreed r) r ≡ true
-unfolding agreed all distinct heldIn
-all-agreed [] d = refl
-all-agreed (e ∷ r) d =
-    let p = (and-eq-true_iff (not (holds e.block (map heldIn r))) (distinct (map heldIn r))).0 d in
-    let free = not-true (holds e.block (map heldIn r)) p.0 in
+all_agreed : (r : List LiveSlot) → distinct (map held_in r) ≡ true → all (agreed r) r ≡ true
+unfolding agreed all distinct held_in
+all_agreed [] d = refl
+all_agreed (e ∷ r) d =
+    let p = (and-eq-true_iff (not (holds e.block (map held_in r))) (distinct (map held_in r))).0 d in
+    let free = not-true (holds e.block (map held_in r)) p.0 in
     and_both (fits e e && all (λ x. fits x e) r) (all (λ y. fits e y && all (λ x. fits x y) r) r)
-    (and_both (fits e e) (all (λ x. fits x e) r) (fits-itself e) (fits-before e r free)) (all_both (λ y. fits e y) (λ y. all (λ x. fits x y) r) r (fits-behind e r free) (all-agreed r p.1))
+    (and_both (fits e e) (all (λ x. fits x e) r) (fits_itself e) (fits_before e r free)) (all_both (λ y. fits e y) (λ y. all (λ x. fits x y) r) r (fits_behind e r free) (all_agreed r p.1))
 
 -- ---- and so of the sorted ones
 
@@ -74,37 +74,37 @@ all_inserted f e (x ∷ r) h k = go (leb e.block x.block) (all_inserted f e r h 
     go true ih = and_both (f e) (f x && all f r) h k
     go false ih = and_both (f x) (all f (insert e r)) (and_left (f x) (all f r) k) ih
 
-all-sorted : (f : LiveSlot → Bool) (r : List LiveSlot) → all f r ≡ true → all f (byBlock r) ≡ true
-unfolding byBlock all
-all-sorted f [] h = refl
-all-sorted f (e ∷ r) h = all_inserted f e (byBlock r) (and_left (f e) (all f r) h) (all-sorted f r (and_right (f e) (all f r) h))
+all_sorted : (f : LiveSlot → Bool) (r : List LiveSlot) → all f r ≡ true → all f (by_block r) ≡ true
+unfolding by_block all
+all_sorted f [] h = refl
+all_sorted f (e ∷ r) h = all_inserted f e (by_block r) (and_left (f e) (all f r) h) (all_sorted f r (and_right (f e) (all f r) h))
 
-same_line : (r : List LiveSlot) (e : LiveSlot) → agreed r e ≡ true → givenLine r e ≡ sameLine e
-unfolding givenLine sameLine
-same_line r e h = ap (λ (u : Bool). blockText e.block (length e.contents) e.segment e.slot ++ cond u (text " same\n") (text " differs\n")) h
+same_line_lem : (r : List LiveSlot) (e : LiveSlot) → agreed r e ≡ true → given_line r e ≡ same_line e
+unfolding given_line same_line
+same_line_lem r e h = ap (λ (u : Bool). block_text e.block (length e.contents) e.segment e.slot ++ cond u (text " same\n") (text " differs\n")) h
 
-same_lines : (r q : List LiveSlot) → all (agreed r) q ≡ true → flat_map (givenLine r) q ≡ flat_map sameLine q
+same_lines : (r q : List LiveSlot) → all (agreed r) q ≡ true → flat_map (given_line r) q ≡ flat_map same_line q
 unfolding all flat_map
 same_lines r [] h = refl
-same_lines r (e ∷ q) h = rw (same_line r e (and_left (agreed r e) (all (agreed r) q) h), same_lines r q (and_right (agreed r e) (all (agreed r) q) h))
+same_lines r (e ∷ q) h = rw (same_line_lem r e (and_left (agreed r e) (all (agreed r) q) h), same_lines r q (and_right (agreed r e) (all (agreed r) q) h))
 
-report-same : (r : List LiveSlot) → distinct (map heldIn r) ≡ true → salvageOn r ≡ text "salvage promises nothing\n" ++ flat_map sameLine (byBlock r)
-unfolding salvageOn
-report-same r d = rw (given-all r d) (ap (λ (y : List ℕ). text "salvage promises nothing\n" ++ y) (same_lines r (byBlock r) (all-sorted (agreed r) r (all-agreed r d))))
+report_same : (r : List LiveSlot) → distinct (map held_in r) ≡ true → salvage_on r ≡ text "salvage promises nothing\n" ++ flat_map same_line (by_block r)
+unfolding salvage_on
+report_same r d = rw (given_all_lem r d) (ap (λ (y : List ℕ). text "salvage promises nothing\n" ++ y) (same_lines r (by_block r) (all_sorted (agreed r) r (all_agreed r d))))
 
-module _ (N B : ℕ) (s : Image) (z : rightSize N B s ≡ true) (c : state N B s ≡ clean) where
-  fine : isClean N B (segmentsOf N B s) ≡ true
+module _ (N B : ℕ) (s : Image) (z : right_size N B s ≡ true) (c : state N B s ≡ clean) where
+  fine : is_clean N B (segments_of N B s) ≡ true
   unfolding state
-  fine = state-clean N B (segmentsOf N B s) c
+  fine = state_clean N B (segments_of N B s) c
 
-  once : distinct (map heldIn (liveSlots N (segmentsOf N B s))) ≡ true
-  unfolding blocksDistinct
-  once = let l = segmentsOf N B s in ap distinct (clean-lives N B l (segments-length N B s) fine) ∙ (clean-slots N B l fine).once
+  once : distinct (map held_in (live_slots N (segments_of N B s))) ≡ true
+  unfolding blocks_distinct
+  once = let l = segments_of N B s in ap distinct (clean_lives N B l (segments_length N B s) fine) ∙ (clean_slots N B l fine).once
 
-  clean-report : salvageText N B s ≡ text "salvage promises nothing\n" ++ flat_map sameLine (byBlock (liveSlots N (segmentsOf N B s)))
-  unfolding salvageText candidates
-  clean-report = let l = segmentsOf N B s in
-      ap (λ (y : List Segment). salvageOn (liveSlots N y)) (clean-regarded N B l (segments-length N B s) (size-facts N B s z).two fine) ∙ report-same (liveSlots N l) once
+  clean_report : salvage_text N B s ≡ text "salvage promises nothing\n" ++ flat_map same_line (by_block (live_slots N (segments_of N B s)))
+  unfolding salvage_text candidates
+  clean_report = let l = segments_of N B s in
+      ap (λ (y : List Segment). salvage_on (live_slots N y)) (clean_regarded N B l (segments_length N B s) (size_facts N B s z).two fine) ∙ report_same (live_slots N l) once
 
-pub clean-table : CleanTable
-clean-table = λ N B s z c. (salvaged-table N B s z (clean-fine (state N B s) c) ∙ shown-clean N B s c, clean-report N B s z c)
+pub clean_table : CleanTable
+clean_table = λ N B s z c. (salvaged_table N B s z (clean_fine (state N B s) c) ∙ shown_clean N B s c, clean_report N B s z c)

@@ -2,9 +2,9 @@
 // required of a caller, and the image is only read. The text is put together twice, once where nothing holds it, so that its
 // length is known before its first byte is written.
 ghost use Rattle.std.specs.Prelude.{◌≡◌, true, ◌≤◌};
-ghost use Rattle.model.specs.Chip.{rightSize};
-ghost use Rattle.text.specs.Buffer.{printed, Wrote, mostText};
-ghost use Rattle.salvage.specs.Salvage.{salvageText, salvageOutcome};
+ghost use Rattle.model.specs.Chip.{right_size};
+ghost use Rattle.text.specs.Buffer.{printed, Wrote, most_text};
+ghost use Rattle.salvage.specs.Salvage.{salvage_text, salvage_outcome};
 ghost use Rattle.meeting.specs.Sheet.{sheet};
 ghost use Rattle.candidates.specs.Gathered.{Gathered};
 
@@ -21,8 +21,8 @@ fn compose(
     differs: &[bool; 65536],
     text: &mut [u8],
 ) -> usize
-    requires { (rightSize segments slots image.now ≡ true) × Gathered segments slots image.now (sheet places.now lengths.now differs.now) }
-    ensures { Wrote (salvageText segments slots image.now) text.old 0 text.new result × (result ≤ mostText) }
+    requires { (right_size segments slots image.now ≡ true) × Gathered segments slots image.now (sheet places.now lengths.now differs.now) }
+    ensures { Wrote (salvage_text segments slots image.now) text.old 0 text.new result × (result ≤ most_text) }
 {
     let head = text::add(text, 0, b"salvage promises nothing\n");
     given_lines::given_lines(image, segments, slots, places, lengths, differs, text, head)
@@ -31,7 +31,7 @@ fn compose(
 // The report on an image, whatever its damage: for each block number the candidate in the highest segment number, within a
 // segment the last, and whether another disagrees with it in contents. The tables are 384 KiB of stack.
 pub fn salvage(image: &[u8], segments: usize, slots: usize, text: &mut [u8]) -> Printed
-    ensures { (printed result text.new ≡ salvageOutcome segments slots image.now text.old) × (result.length ≤ mostText) }
+    ensures { (printed result text.new ≡ salvage_outcome segments slots image.now text.old) × (result.length ≤ most_text) }
 {
     if !request::right_size(image.len(), segments, slots) {
         return Printed {

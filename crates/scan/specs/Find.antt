@@ -3,26 +3,26 @@ use Rattle.std.specs.Prelude.{ℕ, zero, suc, ◌%◌, ◌<◌, ◌≡◌, refl,
 use Rattle.std.proofs.Common.{sym, ap, ap₂, ◌∙◌, mod-lt, eqb-true}
 use Rattle.model.specs.Chip.{Image}
 use Rattle.model.specs.Slot.{Slot}
-use Rattle.model.specs.State.{blank, numberAfter, slotsIn, versionIn, segmentsOf, numbersFrom, slotsFrom}
+use Rattle.model.specs.State.{blank, number_after, slots_in, version_in, segments_of, numbers_from, slots_from}
 use Rattle.model.specs.Laws.Lists.{and_left, and_right}
-use Rattle.model.specs.Laws.Segments.{part_of, segment-at}
-use Rattle.model.specs.Laws.Effects.{in-use-parts}
-use Rattle.model.specs.Laws.Clean.{in-use-numbered}
-use Rattle.find.specs.Search.{rows_at, foundIn}
+use Rattle.model.specs.Laws.Segments.{part_of, segment_at}
+use Rattle.model.specs.Laws.Effects.{in_use_parts}
+use Rattle.model.specs.Laws.Clean.{in_use_numbered}
+use Rattle.find.specs.Search.{rows_at, found_in}
 
 -- the slots as they stand are those of the segments in use
-numbered-rows : (N B : ℕ) (s : Image) → 0 < N → (u n : ℕ) → numbersFrom N (segmentsOf N B s) u n ≡ true → rows_at N B s u n ≡ slotsFrom N (segmentsOf N B s) u n
-unfolding rows_at slotsFrom numbersFrom
-numbered-rows N B s p zero n h = refl
-numbered-rows N B s p (suc u) n h =
-    let l = segmentsOf N B s in
+numbered_rows : (N B : ℕ) (s : Image) → 0 < N → (u n : ℕ) → numbers_from N (segments_of N B s) u n ≡ true → rows_at N B s u n ≡ slots_from N (segments_of N B s) u n
+unfolding rows_at slots_from numbers_from
+numbered_rows N B s p zero n h = refl
+numbered_rows N B s p (suc u) n h =
+    let l = segments_of N B s in
     let i = mod-lt n p in
-    let number = eqb-true (numberAfter (get_or l (n % N) blank)) (suc n) (and_left (eqb (numberAfter (get_or l (n % N) blank)) (suc n)) (numbersFrom N l u (suc n)) h) in
-    let r = in-use-numbered (get_or l (n % N) blank) n number in
+    let number = eqb-true (number_after (get_or l (n % N) blank)) (suc n) (and_left (eqb (number_after (get_or l (n % N) blank)) (suc n)) (numbers_from N l u (suc n)) h) in
+    let r = in_use_numbered (get_or l (n % N) blank) n number in
     ap₂ {C = List (List Slot)} (λ x y. x ∷ y)
-    (in-use-parts N B (n % N) (part_of N B (n % N) s) (versionIn (get_or l (n % N) blank)) r.0 n (slotsIn (get_or l (n % N) blank)) (sym (segment-at N B (n % N) s i) ∙ r.1)).slots
-    (numbered-rows N B s p u (suc n) (and_right (eqb (numberAfter (get_or l (n % N) blank)) (suc n)) (numbersFrom N l u (suc n)) h))
+    (in_use_parts N B (n % N) (part_of N B (n % N) s) (version_in (get_or l (n % N) blank)) r.0 n (slots_in (get_or l (n % N) blank)) (sym (segment_at N B (n % N) s i) ∙ r.1)).slots
+    (numbered_rows N B s p u (suc n) (and_right (eqb (number_after (get_or l (n % N) blank)) (suc n)) (numbers_from N l u (suc n)) h))
 
-pub numbered-found : (N B b : ℕ) (s : Image) → 0 < N → (u n : ℕ) → numbersFrom N (segmentsOf N B s) u n ≡ true
-    → foundIn N B n (rows_at N B s u n) b ≡ foundIn N B n (slotsFrom N (segmentsOf N B s) u n) b
-numbered-found N B b s p u n h = ap (λ (rows : List (List Slot)). foundIn N B n rows b) (numbered-rows N B s p u n h)
+pub numbered_found : (N B b : ℕ) (s : Image) → 0 < N → (u n : ℕ) → numbers_from N (segments_of N B s) u n ≡ true
+    → found_in N B n (rows_at N B s u n) b ≡ found_in N B n (slots_from N (segments_of N B s) u n) b
+numbered_found N B b s p u n h = ap (λ (rows : List (List Slot)). found_in N B n rows b) (numbered_rows N B s p u n h)

@@ -1,12 +1,12 @@
 // The state of an image and what requests need of it, decided in one pass.
 ghost use Rattle.std.specs.Prelude.{◌≡◌, true, false, ◌+◌, ◌-◌, ◌*◌, ◌<◌, ◌≤◌, length};
-ghost use Rattle.model.specs.Chip.{mostSegments, mostSlots, rightSize};
-ghost use Rattle.model.specs.State.{numbersFrom, segmentsOf, slotsFrom};
+ghost use Rattle.model.specs.Chip.{most_segments, most_slots, right_size};
+ghost use Rattle.model.specs.State.{numbers_from, segments_of, slots_from};
 ghost use Rattle.model.specs.Steps.{slot_at};
 ghost use Rattle.flash.specs.Pages.{Sized};
-ghost use Rattle.find.specs.Search.{foundIn};
-ghost use Rattle.judge.specs.Tally.{mostWritten};
-ghost use Rattle.scan.specs.Surveys.{surveyOf, owingIn, tornIn, cleanIn, oldIn, Looked};
+ghost use Rattle.find.specs.Search.{found_in};
+ghost use Rattle.judge.specs.Tally.{most_written};
+ghost use Rattle.scan.specs.Surveys.{survey_of, owing_in, torn_in, clean_in, old_in, Looked};
 
 use find::Found;
 use judge::Headers;
@@ -55,7 +55,7 @@ fn top_number(next: usize) -> SegmentNumber
 
 // The place of a slot of the segment with a number.
 fn slot_place(segments: usize, slots: usize, number: usize, slot: usize) -> SlotPlace
-    requires { (0 < segments) × (segments ≤ mostSegments) × (slots ≤ mostSlots) × (slot ≤ mostWritten) }
+    requires { (0 < segments) × (segments ≤ most_segments) × (slots ≤ most_slots) × (slot ≤ most_written) }
     ensures { result.0 ≡ slot_at segments slots number slot * 256 }
 {
     SlotPlace((number % segments * (slots + 1) + 1 + slot) * 256)
@@ -63,8 +63,8 @@ fn slot_place(segments: usize, slots: usize, number: usize, slot: usize) -> Slot
 
 // The survey where the top is owing: all is fine once its old segment, the one after it, is taken for erased.
 fn survey_owing(segments: usize, slots: usize, seen: Headers, exam: Exam) -> Surveyed
-    requires { (2 ≤ segments) × (segments ≤ mostSegments) × (2 ≤ slots) × (slots ≤ mostSlots) × (seen.next ≤ 4294967296) × (exam.used ≤ mostSegments) }
-    ensures { result ≡ owingIn segments slots seen exam }
+    requires { (2 ≤ segments) × (segments ≤ most_segments) × (2 ≤ slots) × (slots ≤ most_slots) × (seen.next ≤ 4294967296) × (exam.used ≤ most_segments) }
+    ensures { result ≡ owing_in segments slots seen exam }
 {
     let sum = exam.sum;
     if exam.used + 1 != segments {
@@ -82,8 +82,8 @@ fn survey_owing(segments: usize, slots: usize, seen: Headers, exam: Exam) -> Sur
 
 // The survey where the segment after the top is neither in use nor blank: all is fine once it is taken for blank.
 fn survey_torn(segments: usize, slots: usize, seen: Headers, exam: Exam) -> Surveyed
-    requires { (2 ≤ segments) × (segments ≤ mostSegments) × (2 ≤ slots) × (slots ≤ mostSlots) × (seen.next ≤ 4294967296) }
-    ensures { result ≡ tornIn segments slots seen exam }
+    requires { (2 ≤ segments) × (segments ≤ most_segments) × (2 ≤ slots) × (slots ≤ most_slots) × (seen.next ≤ 4294967296) }
+    ensures { result ≡ torn_in segments slots seen exam }
 {
     let sum = exam.sum;
     if sums::orderly(sum, request::capacity(segments, slots)) {
@@ -96,7 +96,7 @@ fn survey_torn(segments: usize, slots: usize, seen: Headers, exam: Exam) -> Surv
 // The survey of a clean image.
 fn clean_survey(exam: Exam) -> Surveyed
     requires { exam.first < 4294967296 }
-    ensures { result ≡ cleanIn exam }
+    ensures { result ≡ clean_in exam }
 {
     let sum = exam.sum;
     let first = SegmentNumber(exam.first as u32);
@@ -111,8 +111,8 @@ fn clean_survey(exam: Exam) -> Surveyed
 
 // The survey where the block of the slot written last has an older live slot, which is searched.
 fn old_slot(image: &[u8], segments: usize, slots: usize, exam: Exam) -> Surveyed
-    requires { Sized segments slots (length image.now) × (exam.first < 4294967296) × (numbersFrom segments (segmentsOf segments slots image.now) exam.used exam.first ≡ true) × (exam.first + exam.used ≤ 4294967296) }
-    ensures { result ≡ oldIn (foundIn segments slots exam.first (slotsFrom segments (segmentsOf segments slots image.now) exam.used exam.first) exam.sum.block.0) }
+    requires { Sized segments slots (length image.now) × (exam.first < 4294967296) × (numbers_from segments (segments_of segments slots image.now) exam.used exam.first ≡ true) × (exam.first + exam.used ≤ 4294967296) }
+    ensures { result ≡ old_in (found_in segments slots exam.first (slots_from segments (segments_of segments slots image.now) exam.used exam.first) exam.sum.block.0) }
 {
     let sum = exam.sum;
     let block = sum.block;
@@ -127,7 +127,7 @@ fn old_slot(image: &[u8], segments: usize, slots: usize, exam: Exam) -> Surveyed
 // The survey where the top is not owing and the segment after it is blank or in use: the slots decide.
 fn survey_slots(image: &[u8], segments: usize, slots: usize, seen: Headers, exam: Exam) -> Surveyed
     requires { Looked segments slots image.now seen exam × (seen.owing ≡ false) × (seen.torn ≡ false) }
-    ensures { result ≡ surveyOf segments slots (segmentsOf segments slots image.now) }
+    ensures { result ≡ survey_of segments slots (segments_of segments slots image.now) }
 {
     let sum = exam.sum;
     let most = request::capacity(segments, slots);
@@ -148,8 +148,8 @@ fn survey_slots(image: &[u8], segments: usize, slots: usize, seen: Headers, exam
 // The state of an image of a right size, and what a request needs in that state. Headers first, since the slots of the
 // segment after an owing top are not looked at; then each slot once, oldest segment first.
 pub fn survey(image: &[u8], segments: usize, slots: usize) -> Surveyed
-    requires { rightSize segments slots image.now ≡ true }
-    ensures { result ≡ surveyOf segments slots (segmentsOf segments slots image.now) }
+    requires { right_size segments slots image.now ≡ true }
+    ensures { result ≡ survey_of segments slots (segments_of segments slots image.now) }
 {
     let seen = segments::see_headers(image, segments, slots);
     let frame = seen.frame;

@@ -1,9 +1,9 @@
 // All segments by their headers, and the tests that need no more.
 ghost use Rattle.std.specs.Prelude.{◌≡◌, cond, ◌||◌, ◌+◌, ◌<◌, ◌≤◌, length};
-ghost use Rattle.model.specs.Chip.{mostSegments};
-ghost use Rattle.model.specs.State.{blank, isInvalid, isOwing, segmentsOf, settled};
+ghost use Rattle.model.specs.Chip.{most_segments};
+ghost use Rattle.model.specs.State.{blank, is_invalid, is_owing, segments_of, settled};
 ghost use Rattle.flash.specs.Pages.{Sized};
-ghost use Rattle.judge.specs.Heads.{bare, heads, noCounts, countOne, mayBeFine, frame_of, headersBy, headersOf};
+ghost use Rattle.judge.specs.Heads.{bare, heads, no_counts, count_one, may_be_fine, frame_of, headers_by, headers_of};
 ghost use Rattle.judge.specs.Tally.{Ranged};
 
 use judge::{Frame, HeaderCounts, Headers, SegmentState, Summary};
@@ -11,7 +11,7 @@ use model::{MOST_SEGMENTS, SegmentNumber};
 
 // Before the first segment.
 pub fn none_counted() -> HeaderCounts
-    ensures { result ≡ noCounts }
+    ensures { result ≡ no_counts }
 {
     HeaderCounts {
         next: 0,
@@ -24,8 +24,8 @@ pub fn none_counted() -> HeaderCounts
 
 // One segment more.
 pub fn count_one(counts: HeaderCounts, s: Summary) -> HeaderCounts
-    requires { (counts.used < mostSegments) × (counts.next ≤ 4294967296) }
-    ensures { (result ≡ countOne counts (bare s)) × (result.used ≤ counts.used + 1) × (result.next ≤ 4294967296) }
+    requires { (counts.used < most_segments) × (counts.next ≤ 4294967296) }
+    ensures { (result ≡ count_one counts (bare s)) × (result.used ≤ counts.used + 1) × (result.next ≤ 4294967296) }
 {
     let next = summary::larger(counts.next, summary::number_after(s));
     let settled = counts.settled && summary::is_settled(s);
@@ -51,7 +51,7 @@ pub fn count_one(counts: HeaderCounts, s: Summary) -> HeaderCounts
 
 // Whether the frame may be fine by what was counted: some are in use, not all, of one version, and none needs mending.
 fn may_be_fine(counts: HeaderCounts, segments: usize) -> bool
-    ensures { result ≡ mayBeFine segments counts }
+    ensures { result ≡ may_be_fine segments counts }
 {
     if counts.used == 0 {
         return false;
@@ -70,7 +70,7 @@ fn may_be_fine(counts: HeaderCounts, segments: usize) -> bool
 
 // The frame of the segments that a table shows.
 fn see_frame(table: [Summary; MOST_SEGMENTS], segments: usize) -> Frame
-    requires { (0 < segments) × (segments ≤ mostSegments) }
+    requires { (0 < segments) × (segments ≤ most_segments) }
     ensures { (result ≡ frame_of segments (heads segments table)) × Ranged result }
 {
     let mut counts = none_counted();
@@ -112,7 +112,7 @@ fn see_frame(table: [Summary; MOST_SEGMENTS], segments: usize) -> Frame
 
 // The segment after the top: blank where the top is owing, whatever it holds, and where it is neither in use nor blank.
 fn next_mended(s: Summary, top: Summary) -> Summary
-    ensures { bare result ≡ cond (isOwing (bare top) || isInvalid (bare s)) blank (bare s) }
+    ensures { bare result ≡ cond (is_owing (bare top) || is_invalid (bare s)) blank (bare s) }
 {
     if summary::is_owing(top) {
         return summary::head(SegmentState::Blank, false, SegmentNumber(0));
@@ -136,7 +136,7 @@ fn settled(s: Summary) -> Summary
 
 // What the top, the segment after it and the frame tell.
 fn tell(next: usize, top: Summary, after: Summary, frame: Frame) -> Headers
-    ensures { result ≡ headersBy next (bare top) (bare after) frame }
+    ensures { result ≡ headers_by next (bare top) (bare after) frame }
 {
     let owing = summary::is_owing(top);
     let torn = summary::is_invalid(after);
@@ -153,7 +153,7 @@ fn tell(next: usize, top: Summary, after: Summary, frame: Frame) -> Headers
 // What the headers of an image tell. The table is filled, counted and mended here, since a hand-over would copy it.
 pub fn see_headers(image: &[u8], segments: usize, slots: usize) -> Headers
     requires { Sized segments slots (length image.now) × (2 ≤ segments) }
-    ensures { (result ≡ headersOf segments (segmentsOf segments slots image.now)) × (result.next ≤ 4294967296) × Ranged result.frame }
+    ensures { (result ≡ headers_of segments (segments_of segments slots image.now)) × (result.next ≤ 4294967296) × Ranged result.frame }
 {
     let none = summary::head(SegmentState::Blank, false, SegmentNumber(0));
     let mut table = [none; MOST_SEGMENTS];

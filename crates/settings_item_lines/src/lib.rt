@@ -1,15 +1,15 @@
 // The lines of the items of a layout table, each with what a read of the item gives, added to a text.
 ghost use Rattle.std.specs.Prelude.{◌≡◌, ◌+◌, ◌*◌, ◌≤◌, length};
-ghost use Rattle.text.specs.Buffer.{Wrote, mostText};
-ghost use Rattle.partitions.specs.Answers.{readOutcome};
-ghost use Rattle.qbx_lines.specs.Lines.{mostLine, said};
-ghost use Rattle.settings_item_lines.specs.ItemLines.{itemHead, writtenLine, unwrittenLine, itemLine, itemLines, mostLayout};
+ghost use Rattle.text.specs.Buffer.{Wrote, most_text};
+ghost use Rattle.partitions.specs.Answers.{read_outcome};
+ghost use Rattle.qbx_lines.specs.Lines.{most_line, said};
+ghost use Rattle.settings_item_lines.specs.ItemLines.{item_head, written_line, unwritten_line, item_line, item_lines, most_layout};
 
 use qbx_lines::{Line, add, add_count, empty};
 
 // An item's line up to what is told of its data.
 fn item_head(identifier: u8, size: u8) -> Line
-    ensures { (said result ≡ itemHead identifier size) × (result.count ≤ 50) }
+    ensures { (said result ≡ item_head identifier size) × (result.count ≤ 50) }
 {
     let named = add_count(empty(), b"item ", identifier as u64);
     add_count(named, b" len ", size as u64)
@@ -17,7 +17,7 @@ fn item_head(identifier: u8, size: u8) -> Line
 
 // A line added to a text.
 pub fn add_line(text: &mut [u8], at: usize, line: Line) -> usize
-    requires { (at ≤ mostText) × (line.count ≤ mostLine) }
+    requires { (at ≤ most_text) × (line.count ≤ most_line) }
     ensures { Wrote (said line) text.old at text.new result × (result ≡ at + line.count) }
 {
     let bytes = line.bytes;
@@ -34,8 +34,8 @@ fn written_line(
     offset: usize,
     stored: &[u8],
 ) -> usize
-    requires { (at + 700 ≤ mostText) × (length stored.now ≤ 255) }
-    ensures { Wrote (writtenLine identifier size offset stored.now) text.old at text.new result × (result ≤ at + 700) }
+    requires { (at + 700 ≤ most_text) × (length stored.now ≤ 255) }
+    ensures { Wrote (written_line identifier size offset stored.now) text.old at text.new result × (result ≤ at + 700) }
 {
     let placed = add_count(item_head(identifier, size), b" offset ", offset as u64);
     let begun = add_line(text, at, add(placed, b" data "));
@@ -45,8 +45,8 @@ fn written_line(
 
 // The line of an item that is not written.
 fn unwritten_line(text: &mut [u8], at: usize, identifier: u8, size: u8) -> usize
-    requires { at + 700 ≤ mostText }
-    ensures { Wrote (unwrittenLine identifier size) text.old at text.new result × (result ≤ at + 700) }
+    requires { at + 700 ≤ most_text }
+    ensures { Wrote (unwritten_line identifier size) text.old at text.new result × (result ≤ at + 700) }
 {
     add_line(text, at, add(item_head(identifier, size), b" unwritten\n"))
 }
@@ -61,8 +61,8 @@ fn item_line(
     identifier: u8,
     size: u8,
 ) -> usize
-    requires { at + 700 ≤ mostText }
-    ensures { Wrote (itemLine image.now identifier size (readOutcome partitions layout.now image.now identifier)) text.old at text.new result × (result ≤ at + 700) }
+    requires { at + 700 ≤ most_text }
+    ensures { Wrote (item_line image.now identifier size (read_outcome partitions layout.now image.now identifier)) text.old at text.new result × (result ≤ at + 700) }
 {
     let spot = partition_store::read(image, partitions, layout, identifier);
     let answer = spot.answer;
@@ -83,8 +83,8 @@ pub fn item_lines(
     partitions: usize,
     layout: &[u8],
 ) -> usize
-    requires { (at ≤ 1000) × (length layout.now ≤ mostLayout) }
-    ensures { Wrote (itemLines (readOutcome partitions layout.now image.now) image.now layout.now) text.old at text.new result × (result ≤ at + 350 * length layout.now) }
+    requires { (at ≤ 1000) × (length layout.now ≤ most_layout) }
+    ensures { Wrote (item_lines (read_outcome partitions layout.now image.now) image.now layout.now) text.old at text.new result × (result ≤ at + 350 * length layout.now) }
 {
     let mut end = at;
     let mut i = 0;

@@ -1,6 +1,6 @@
 -- A file of a layout table, two numbers to a line: what its text says.
 use Rattle.std.specs.Prelude.{ℕ, Bool, true, false, List, [], ◌∷◌}
-use Rattle.qbx_share_file.specs.ShareFile.{words_of, LineSaid, Said, fileSays}
+use Rattle.qbx_share_file.specs.ShareFile.{words_of, LineSaid, Said, file_says}
 use Rattle.settings_numbers.specs.Byte.{byte_of}
 use Rattle.settings_numbers.specs.declared.ParsedByte.{ParsedByte}
 use Rattle.settings_numbers.specs.declared.ParsedByte.TheVariants.{Byte, NoByte}
@@ -22,23 +22,23 @@ line_of (x ∷ y ∷ []) = pair_of (byte_of x) (byte_of y)
 line_of (x ∷ y ∷ z ∷ ws) = Odd
 
 -- the bytes of a line, and whether it is as it should be
-unfoldable pub bytesIn : PairRead → List ℕ
-bytesIn Blank = []
-bytesIn (Pair i n) = i ∷ n ∷ []
-bytesIn Odd = []
+unfoldable pub bytes_in : PairRead → List ℕ
+bytes_in Blank = []
+bytes_in (Pair i n) = i ∷ n ∷ []
+bytes_in Odd = []
 
-unfoldable pub isRight : PairRead → Bool
-isRight Blank = true
-isRight (Pair i n) = true
-isRight Odd = false
+unfoldable pub is_right : PairRead → Bool
+is_right Blank = true
+is_right (Pair i n) = true
+is_right Odd = false
 
 -- ---- what a file says
 
-abbrev pub pairIn : PairRead → LineSaid
-pairIn v = record { numbers = bytesIn v; right = isRight v }
+abbrev pub pair_in : PairRead → LineSaid
+pair_in v = record { numbers = bytes_in v; right = is_right v }
 
-unfoldable pub layoutLine : List ℕ → LineSaid
-layoutLine l = pairIn (line_of (words_of l))
+unfoldable pub layout_line : List ℕ → LineSaid
+layout_line l = pair_in (line_of (words_of l))
 
-unfoldable pub layoutIn : List ℕ → Said
-layoutIn text = fileSays layoutLine text
+unfoldable pub layout_in : List ℕ → Said
+layout_in text = file_says layout_line text

@@ -3,7 +3,7 @@
 ghost use Rattle.std.specs.Prelude.{◌≡◌, [], ◌∷◌, ◌≤◌, length};
 ghost use Rattle.qbx_share_file.specs.ShareFile.{words_of, listing, over};
 ghost use Rattle.qbx_share_file.specs.Steps.{Kept};
-ghost use Rattle.settings_layout_file.specs.LayoutFile.{line_of, bytesIn, isRight, layoutIn};
+ghost use Rattle.settings_layout_file.specs.LayoutFile.{line_of, bytes_in, is_right, layout_in};
 
 use qbx_share_file::{Listing, word};
 use settings_numbers::{ParsedByte, byte};
@@ -59,7 +59,7 @@ fn keep_pair(layout: &mut [u8], count: usize, identifier: u8, size: u8) -> usize
 // What a line says, behind what is listed.
 fn keep_line(layout: &mut [u8], count: usize, line: PairRead) -> usize
     requires { count ≤ length layout.old }
-    ensures { Kept (bytesIn line) count layout.old result layout.new }
+    ensures { Kept (bytes_in line) count layout.old result layout.new }
 {
     match line {
         PairRead::Blank => count,
@@ -70,7 +70,7 @@ fn keep_line(layout: &mut [u8], count: usize, line: PairRead) -> usize
 
 // Whether a line is as it should be.
 fn is_right(line: PairRead) -> bool
-    ensures { result ≡ isRight line }
+    ensures { result ≡ is_right line }
 {
     match line {
         PairRead::Blank => true,
@@ -81,7 +81,7 @@ fn is_right(line: PairRead) -> bool
 
 // The table that a file's text lists, in a lent slice; bytes that it does not hold are left out.
 pub fn read_layout(text: &[u8], layout: &mut [u8]) -> Listing
-    ensures { (result ≡ listing (length layout.old) (layoutIn text.now)) × (layout.new ≡ over (layoutIn text.now).numbers layout.old) }
+    ensures { (result ≡ listing (length layout.old) (layout_in text.now)) × (layout.new ≡ over (layout_in text.now).numbers layout.old) }
 {
     let mut at = 0;
     let mut number = 1;

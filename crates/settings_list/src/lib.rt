@@ -2,11 +2,11 @@
 ghost use Rattle.std.specs.Prelude.{◌≡◌, ◌/◌, ◌≤◌, length};
 ghost use Rattle.text.specs.Buffer.{Wrote};
 ghost use Rattle.partitions.specs.Partitions as board;
-ghost use Rattle.partitions.specs.Answers.{readOutcome};
+ghost use Rattle.partitions.specs.Answers.{read_outcome};
 ghost use Rattle.qbx_lines.specs.Lines.{said};
-ghost use Rattle.settings_item_lines.specs.ItemLines.{itemLines, mostLayout};
-ghost use Rattle.settings_list.specs.BoardList.{partitionLine, listOn, listOutcome};
-ghost use Rattle.settings_list.specs.Listing.{mostList, Right, Lists};
+ghost use Rattle.settings_item_lines.specs.ItemLines.{item_lines, most_layout};
+ghost use Rattle.settings_list.specs.BoardList.{partition_line, list_on, list_outcome};
+ghost use Rattle.settings_list.specs.Listing.{most_list, Right, Lists};
 
 use partition_status::Newest;
 use partitions::Reply;
@@ -25,7 +25,7 @@ pub struct Listed {
 
 // The line of the newest partition.
 fn partition_line(partition: usize, status: u8) -> Line
-    ensures { (said result ≡ partitionLine partition status) × (result.count ≤ 60) }
+    ensures { (said result ≡ partition_line partition status) × (result.count ≤ 60) }
 {
     let named = add_count(empty(), b"partition ", partition as u64);
     let told = add_count(named, b" status ", status as u64);
@@ -41,8 +41,8 @@ fn refused(answer: Reply) -> Listed
 
 // The lines of the items behind a first line.
 fn list_items(text: &mut [u8], at: usize, image: &[u8], partitions: usize, layout: &[u8]) -> Listed
-    requires { (at ≤ 1000) × (length layout.now ≤ mostLayout) }
-    ensures { Wrote (itemLines (readOutcome partitions layout.now image.now) image.now layout.now) text.old at text.new result.length × (result ≡ record { answer = Reply.Done; length = result.length }) × (result.length ≤ mostList) }
+    requires { (at ≤ 1000) × (length layout.now ≤ most_layout) }
+    ensures { Wrote (item_lines (read_outcome partitions layout.now image.now) image.now layout.now) text.old at text.new result.length × (result ≡ record { answer = Reply.Done; length = result.length }) × (result.length ≤ most_list) }
 {
     Listed {
         answer: Reply::Done,
@@ -53,7 +53,7 @@ fn list_items(text: &mut [u8], at: usize, image: &[u8], partitions: usize, layou
 // The list of a board whose P and table are right, by its newest partition.
 fn list_board(text: &mut [u8], image: &[u8], partitions: usize, layout: &[u8]) -> Listed
     requires { Right partitions layout.now image.now }
-    ensures { Lists (listOn partitions layout.now image.now (board.newestIn partitions (length image.now / partitions) image.now)) result text.old text.new }
+    ensures { Lists (list_on partitions layout.now image.now (board.newestIn partitions (length image.now / partitions) image.now)) result text.old text.new }
 {
     let size = image.len() / partitions;
     let newest = partition_status::find_newest(image, partitions, size);
@@ -73,7 +73,7 @@ fn list_board(text: &mut [u8], image: &[u8], partitions: usize, layout: &[u8]) -
 
 // The list of a board. P, image and table are tested as a request tests them.
 pub fn list(text: &mut [u8], image: &[u8], partitions: usize, layout: &[u8]) -> Listed
-    ensures { Lists (listOutcome partitions layout.now image.now) result text.old text.new }
+    ensures { Lists (list_outcome partitions layout.now image.now) result text.old text.new }
 {
     if !partition_status::partitions_ok(partitions) {
         return refused(Reply::Partitions);

@@ -7,9 +7,9 @@ use Rattle.settings_numbers.specs.declared.ParsedByte.{ParsedByte}
 use Rattle.settings_numbers.specs.declared.ParsedByte.TheVariants.{Byte, NoByte}
 
 -- a number that fits a byte
-unfoldable pub fitsByte : Parsed → ParsedByte
-fitsByte (Number n) = cond (ltb n 256) (Byte n) NoByte
-fitsByte NoNumber = NoByte
+unfoldable pub fits_byte : Parsed → ParsedByte
+fits_byte (Number n) = cond (ltb n 256) (Byte n) NoByte
+fits_byte NoNumber = NoByte
 
 unfoldable pub byte_of : List ℕ → ParsedByte
-byte_of w = fitsByte (number_of w)
+byte_of w = fits_byte (number_of w)

@@ -1,7 +1,7 @@
 // What a command asks of the library, on the image and the layout table alone.
 ghost use Rattle.std.specs.Prelude.{◌≡◌};
-ghost use Rattle.partitions.specs.Answers.{writeOutcome, wrote, readOutcome, told};
-ghost use Rattle.settings_list.specs.BoardList.{listOutcome};
+ghost use Rattle.partitions.specs.Answers.{write_outcome, wrote, read_outcome, told};
+ghost use Rattle.settings_list.specs.BoardList.{list_outcome};
 ghost use Rattle.settings_list.specs.Listing.{Lists};
 
 use partitions::{Spot, Written};
@@ -10,7 +10,7 @@ use settings_words::Command;
 
 // Writes the command's item.
 pub fn write(image: &mut [u8], layout: &[u8], command: Command, contents: &[u8]) -> Written
-    ensures { wrote result image.new ≡ writeOutcome command.partitions layout.now image.old command.item contents.now command.budget }
+    ensures { wrote result image.new ≡ write_outcome command.partitions layout.now image.old command.item contents.now command.budget }
 {
     partition_store::write(
         image,
@@ -24,14 +24,14 @@ pub fn write(image: &mut [u8], layout: &[u8], command: Command, contents: &[u8])
 
 // Where the data of the command's item are.
 pub fn read(image: &[u8], layout: &[u8], command: Command) -> Spot
-    ensures { told result ≡ readOutcome command.partitions layout.now image.now command.item }
+    ensures { told result ≡ read_outcome command.partitions layout.now image.now command.item }
 {
     partition_store::read(image, command.partitions as usize, layout, command.item)
 }
 
 // Lists the board.
 pub fn list(text: &mut [u8], image: &[u8], layout: &[u8], command: Command) -> Listed
-    ensures { Lists (listOutcome command.partitions layout.now image.now) result text.old text.new }
+    ensures { Lists (list_outcome command.partitions layout.now image.now) result text.old text.new }
 {
     settings_list::list(text, image, command.partitions as usize, layout)
 }

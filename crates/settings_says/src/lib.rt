@@ -1,8 +1,8 @@
 // What settings says, a line each. Nothing is written here.
 ghost use Rattle.std.specs.Prelude.{◌≡◌, ◌+◌, ◌≤◌};
-ghost use Rattle.qbx_lines.specs.Lines.{mostLine, said, Added};
+ghost use Rattle.qbx_lines.specs.Lines.{most_line, said, Added};
 ghost use Rattle.partitions.specs.Answers.{number_of};
-ghost use Rattle.settings_says.specs.Said.{reason, replyText, boardText, answerLine, writtenLine, complaintText, wrongLine};
+ghost use Rattle.settings_says.specs.Said.{reason, reply_text, board_text, answer_line, written_line, complaint_text, wrong_line};
 
 use partitions::{Reply, Written};
 use qbx_lines::{Line, add, add_count, add_number, empty};
@@ -27,7 +27,7 @@ fn add_reason(line: Line, answer: Reply) -> Line
 
 // An answer, with no line end.
 fn say_reply(answer: Reply) -> Line
-    ensures { (said result ≡ replyText answer) × (result.count ≤ 40) }
+    ensures { (said result ≡ reply_text answer) × (result.count ≤ 40) }
 {
     let number = partition_store::number_of(answer);
     let begun = qbx_says::add_verdict(empty(), number);
@@ -37,7 +37,7 @@ fn say_reply(answer: Reply) -> Line
 // Behind the refusal of P what it is to be, and the bytes that are there.
 fn add_board(line: Line, answer: Reply, there: u64) -> Line
     requires { line.count ≤ 70 }
-    ensures { Added line (boardText (number_of answer) there) result × (result.count ≤ line.count + 110) }
+    ensures { Added line (board_text (number_of answer) there) result × (result.count ≤ line.count + 110) }
 {
     if partition_store::number_of(answer) == 1 {
         let counted = add_count(
@@ -52,7 +52,7 @@ fn add_board(line: Line, answer: Reply, there: u64) -> Line
 
 // The answer of a read or a list, on an image of so many bytes.
 pub fn say_answer(answer: Reply, there: u64) -> Line
-    ensures { (said result ≡ answerLine answer there) × (result.count ≤ mostLine) }
+    ensures { (said result ≡ answer_line answer there) × (result.count ≤ most_line) }
 {
     let replied = add_board(say_reply(answer), answer, there);
     add(replied, b"\n")
@@ -60,7 +60,7 @@ pub fn say_answer(answer: Reply, there: u64) -> Line
 
 // The answer of a write and the steps done, on an image of so many bytes.
 pub fn say_written(written: Written, there: u64) -> Line
-    ensures { (said result ≡ writtenLine written.answer written.steps there) × (result.count ≤ mostLine) }
+    ensures { (said result ≡ written_line written.answer written.steps there) × (result.count ≤ most_line) }
 {
     let answer = written.answer;
     let steps = written.steps;
@@ -72,7 +72,7 @@ pub fn say_written(written: Written, there: u64) -> Line
 // ---- complaints
 
 pub fn say_complaint(complaint: Complaint) -> Line
-    ensures { (said result ≡ complaintText complaint) × (result.count ≤ mostLine) }
+    ensures { (said result ≡ complaint_text complaint) × (result.count ≤ most_line) }
 {
     let line = empty();
     match complaint {
@@ -93,7 +93,7 @@ pub fn say_complaint(complaint: Complaint) -> Line
 
 // That a line of the file of the layout says something else.
 pub fn say_wrong_line(number: usize) -> Line
-    ensures { (said result ≡ wrongLine number) × (result.count ≤ mostLine) }
+    ensures { (said result ≡ wrong_line number) × (result.count ≤ most_line) }
 {
     let counted = add_count(empty(), b"settings: line ", number as u64);
     add(counted, b" of LAYOUT is not two numbers up to 255\n")

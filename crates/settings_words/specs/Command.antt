@@ -5,7 +5,7 @@ use Rattle.text.specs.Text.{text}
 use Rattle.qbx_numbers.specs.Number.{number_of}
 use Rattle.qbx_numbers.specs.declared.Parsed.{Parsed}
 use Rattle.qbx_numbers.specs.declared.Parsed.TheVariants.{Number, NoNumber}
-use Rattle.qbx_words.specs.Command.{isMissing}
+use Rattle.qbx_words.specs.Command.{is_missing}
 use Rattle.settings_numbers.specs.Byte.{byte_of}
 use Rattle.settings_numbers.specs.declared.ParsedByte.{ParsedByte}
 use Rattle.settings_numbers.specs.declared.ParsedByte.TheVariants.{Byte, NoByte}
@@ -27,9 +27,9 @@ unfoldable pub as_number : Parsed → Complaint → (ℕ → Reading) → Readin
 as_number (Number n) x go = go n
 as_number NoNumber x go = Wrong x
 
-unfoldable pub asByte : ParsedByte → Complaint → (ℕ → Reading) → Reading
-asByte (Byte n) x go = go n
-asByte NoByte x go = Wrong x
+unfoldable pub as_byte : ParsedByte → Complaint → (ℕ → Reading) → Reading
+as_byte (Byte n) x go = go n
+as_byte NoByte x go = Wrong x
 
 -- with as many steps as 64 bits can count
 abbrev pub plain : ℕ → Verb → ℕ → Command
@@ -40,28 +40,28 @@ budgeted k n = record { partitions = k.partitions; verb = k.verb; item = k.item;
 
 -- nothing stands in place of an option's steps
 unfoldable pub ended : Command → List ℕ → Reading
-ended k steps = cond (isMissing steps) (Right k) (Wrong NoOption)
+ended k steps = cond (is_missing steps) (Right k) (Wrong NoOption)
 
 -- only a write has an option
-unfoldable pub withBudget : Command → List ℕ → List ℕ → Reading
-withBudget k option steps =
-    cond (isMissing option) (ended k steps)
+unfoldable pub with_budget : Command → List ℕ → List ℕ → Reading
+with_budget k option steps =
+    cond (is_missing option) (ended k steps)
     (cond (same option (text "--budget") && writes k.verb) (as_number (number_of steps) Budget (λ n. Right (budgeted k n)))
     (Wrong NoOption))
 
 -- the words after a verb
-unfoldable pub ofItem : ℕ → Verb → List ℕ → List ℕ → List ℕ → Reading
-ofItem P v item option steps = asByte (byte_of item) Item (λ i. withBudget (plain P v i) option steps)
+unfoldable pub of_item : ℕ → Verb → List ℕ → List ℕ → List ℕ → Reading
+of_item P v item option steps = as_byte (byte_of item) Item (λ i. with_budget (plain P v i) option steps)
 
 unfoldable pub of_list : ℕ → List ℕ → List ℕ → List ℕ → Reading
-of_list P item option steps = cond (isMissing item) (withBudget (plain P ListItems 0) option steps) (Wrong NoOption)
+of_list P item option steps = cond (is_missing item) (with_budget (plain P ListItems 0) option steps) (Wrong NoOption)
 
 -- the words after the image's name
-unfoldable pub commandOf : List ℕ → List ℕ → List ℕ → List ℕ → List ℕ → List ℕ → Reading
-commandOf p layout verb item option steps =
+unfoldable pub command_of : List ℕ → List ℕ → List ℕ → List ℕ → List ℕ → List ℕ → Reading
+command_of p layout verb item option steps =
     as_number (number_of p) Partitions (λ P.
-    cond (isMissing layout) (Wrong NoLayout)
-    (cond (same verb (text "read")) (ofItem P Read item option steps)
-    (cond (same verb (text "write")) (ofItem P Write item option steps)
+    cond (is_missing layout) (Wrong NoLayout)
+    (cond (same verb (text "read")) (of_item P Read item option steps)
+    (cond (same verb (text "write")) (of_item P Write item option steps)
     (cond (same verb (text "list")) (of_list P item option steps)
     (Wrong NoVerb)))))

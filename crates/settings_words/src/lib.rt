@@ -1,7 +1,7 @@
 // The words of the command line of settings, read: IMAGE P LAYOUT read ITEM, IMAGE P LAYOUT write ITEM [--budget STEPS], or
 // IMAGE P LAYOUT list.
 ghost use Rattle.std.specs.Prelude.{◌≡◌};
-ghost use Rattle.settings_words.specs.Command.{writes, ended, withBudget, ofItem, of_list, commandOf};
+ghost use Rattle.settings_words.specs.Command.{writes, ended, with_budget, of_item, of_list, command_of};
 
 use qbx_numbers::{Parsed, number};
 use qbx_words::{is, is_missing};
@@ -62,7 +62,7 @@ fn ended(command: Command, steps: &[u8]) -> Reading
 
 // The option at the end.
 fn with_budget(command: Command, option: &[u8], steps: &[u8]) -> Reading
-    ensures { result ≡ withBudget command option.now steps.now }
+    ensures { result ≡ with_budget command option.now steps.now }
 {
     if is_missing(option) {
         return ended(command, steps);
@@ -87,7 +87,7 @@ fn with_budget(command: Command, option: &[u8], steps: &[u8]) -> Reading
 
 // The words after a verb that names an item.
 fn of_item(partitions: u64, verb: Verb, item: &[u8], option: &[u8], steps: &[u8]) -> Reading
-    ensures { result ≡ ofItem partitions verb item.now option.now steps.now }
+    ensures { result ≡ of_item partitions verb item.now option.now steps.now }
 {
     let ParsedByte::Byte(number) = byte(item) else {
         return Reading::Wrong(Complaint::Item);
@@ -126,7 +126,7 @@ pub fn command_of(
     option: &[u8],
     steps: &[u8],
 ) -> Reading
-    ensures { result ≡ commandOf partitions.now layout.now verb.now item.now option.now steps.now }
+    ensures { result ≡ command_of partitions.now layout.now verb.now item.now option.now steps.now }
 {
     let Parsed::Number(p) = number(partitions) else {
         return Reading::Wrong(Complaint::Partitions);

@@ -2,9 +2,9 @@
 // many of them it may have stored. Nothing is required of who made the list: it is tested at every request.
 ghost use Rattle.std.specs.Prelude.{◌≡◌, true, ◌&&◌, ◌+◌, ◌-◌, ◌*◌, ◌≤◌, ◌<◌, length, leb};
 ghost use Rattle.model.specs.Lists.{all};
-ghost use Rattle.model.specs.Slot.{numberOk};
-ghost use Rattle.shares.specs.Shares.{shares_of, rangeOk, overlap, disjoint, quotaSum, sharesWithin, isTenant, share_of, owns};
-ghost use Rattle.share_list.specs.Places.{mostNumbers, Stands, shareAt, clearOf, shareIn};
+ghost use Rattle.model.specs.Slot.{number_ok};
+ghost use Rattle.shares.specs.Shares.{shares_of, range_ok, overlap, disjoint, quota_sum, shares_within, is_tenant, share_of, owns};
+ghost use Rattle.share_list.specs.Places.{most_numbers, Stands, share_at, clear_of, share_in};
 
 use model::BlockNumber;
 
@@ -23,7 +23,7 @@ pub struct Part {
 
 // Whether two numbers make a range of block numbers.
 fn range_ok(first: u32, last: u32) -> bool
-    ensures { result ≡ (numberOk first && (numberOk last && leb first last)) }
+    ensures { result ≡ (number_ok first && (number_ok last && leb first last)) }
 {
     if first == 0 {
         return false;
@@ -37,7 +37,7 @@ fn range_ok(first: u32, last: u32) -> bool
 // Whether every range is one.
 fn ranges_ok(shares: &[u32]) -> bool
     requires { Stands shares.now 0 }
-    ensures { result ≡ all rangeOk (shares_of shares.now) }
+    ensures { result ≡ all range_ok (shares_of shares.now) }
 {
     let mut at = 0;
     while at < shares.len() {
@@ -52,7 +52,7 @@ fn ranges_ok(shares: &[u32]) -> bool
 // Whether a number is in both of two ranges.
 fn overlaps(shares: &[u32], one: usize, other: usize) -> bool
     requires { (one + 3 ≤ length shares.now) × (other + 3 ≤ length shares.now) }
-    ensures { result ≡ overlap (shareAt shares.now one) (shareAt shares.now other) }
+    ensures { result ≡ overlap (share_at shares.now one) (share_at shares.now other) }
 {
     if shares[one] > shares[other + 1] {
         return false;
@@ -63,7 +63,7 @@ fn overlaps(shares: &[u32], one: usize, other: usize) -> bool
 // Whether a range overlaps none of those behind it.
 fn apart(shares: &[u32], one: usize) -> bool
     requires { Stands shares.now one × (one < length shares.now) }
-    ensures { result ≡ clearOf shares.now one (one + 3) }
+    ensures { result ≡ clear_of shares.now one (one + 3) }
 {
     let mut other = one + 3;
     while other < shares.len() {
@@ -92,8 +92,8 @@ fn all_apart(shares: &[u32]) -> bool
 
 // All quotas together, which may be more than their 32 bits hold.
 fn quota_sum(shares: &[u32]) -> u64
-    requires { Stands shares.now 0 × (length shares.now ≤ mostNumbers) }
-    ensures { result ≡ quotaSum (shares_of shares.now) }
+    requires { Stands shares.now 0 × (length shares.now ≤ most_numbers) }
+    ensures { result ≡ quota_sum (shares_of shares.now) }
 {
     let mut sum: u64 = 0;
     let mut at = 0;
@@ -106,7 +106,7 @@ fn quota_sum(shares: &[u32]) -> u64
 
 // Whether a list of shares is right, with so many blocks to share.
 pub fn shares_ok(shares: &[u32], most: usize) -> bool
-    ensures { result ≡ sharesWithin most shares.now }
+    ensures { result ≡ shares_within most shares.now }
 {
     if shares.len() % 3 != 0 {
         return false;
@@ -127,7 +127,7 @@ pub fn shares_ok(shares: &[u32], most: usize) -> bool
 
 // Whether the list has this tenant.
 fn is_tenant(shares: &[u32], tenant: u32) -> bool
-    ensures { result ≡ isTenant (shares_of shares.now) tenant }
+    ensures { result ≡ is_tenant (shares_of shares.now) tenant }
 {
     if tenant < 1 {
         return false;
@@ -160,8 +160,8 @@ pub fn owns(shares: &[u32], tenant: u32, block: BlockNumber) -> bool
 
 // A tenant's share.
 pub fn share_of(shares: &[u32], tenant: u32) -> Part
-    requires { (all rangeOk (shares_of shares.now) ≡ true) × (isTenant (shares_of shares.now) tenant ≡ true) }
-    ensures { shareIn result ≡ share_of (shares_of shares.now) tenant }
+    requires { (all range_ok (shares_of shares.now) ≡ true) × (is_tenant (shares_of shares.now) tenant ≡ true) }
+    ensures { share_in result ≡ share_of (shares_of shares.now) tenant }
 {
     let at = place_of(tenant);
     let first = shares[at] as u16;

@@ -2,13 +2,13 @@
 use Rattle.std.specs.Prelude.{ℕ, cond, [], eqb}
 use Rattle.model.specs.Chip.{Image, run}
 use Rattle.model.specs.Table.{table_of}
-use Rattle.model.specs.Answers.{first_of, workOf}
+use Rattle.model.specs.Answers.{first_of, work_of}
 use Rattle.shares.specs.Shares.{Share}
-use Rattle.shares.specs.Layer.{Asked, storeRequest, rows, contentsAsked, Shared}
+use Rattle.shares.specs.Layer.{Asked, store_request, rows, contents_asked, Shared}
 
-unfoldable pub codeWithin : ℕ → ℕ → Share → Image → Asked → ℕ
-codeWithin N B x s r = first_of (rows x (table_of N B s) (workOf N B s (storeRequest r)).code r)
+unfoldable pub code_within : ℕ → ℕ → Share → Image → Asked → ℕ
+code_within N B x s r = first_of (rows x (table_of N B s) (work_of N B s (store_request r)).code r)
 
-unfoldable pub outcomeWithin : ℕ → ℕ → Share → Image → Asked → Shared
-outcomeWithin N B x s r = let code = codeWithin N B x s r in
-    record { code = code; given = cond (eqb code 0) (contentsAsked (table_of N B s) r) []; image = run B (cond (eqb code 0) (workOf N B s (storeRequest r)).steps []) s }
+unfoldable pub outcome_within : ℕ → ℕ → Share → Image → Asked → Shared
+outcome_within N B x s r = let code = code_within N B x s r in
+    record { code = code; given = cond (eqb code 0) (contents_asked (table_of N B s) r) []; image = run B (cond (eqb code 0) (work_of N B s (store_request r)).steps []) s }

@@ -1,12 +1,12 @@
 // Put, delete and read by tenant (request #110): a layer over the store, which knows no tenants. It asks the store by its
 // public requests alone, so that what the layer promises follows from their contracts. Nothing is required of a caller.
 ghost use Rattle.std.specs.Prelude.{◌≡◌, length, ◌≤◌, true};
-ghost use Rattle.model.specs.Chip.{rightSize};
-ghost use Rattle.model.specs.Slot.{mostContents, numberOk};
+ghost use Rattle.model.specs.Chip.{right_size};
+ghost use Rattle.model.specs.Slot.{most_contents, number_ok};
 ghost use Rattle.text.specs.Buffer.{printed};
-ghost use Rattle.shares.specs.Layer.{puts, deletes, reads, shareOutcome, wrote, gaveIn};
-ghost use Rattle.share_list.specs.Places.{shareIn};
-ghost use Rattle.sharing.specs.Within.{outcomeWithin};
+ghost use Rattle.shares.specs.Layer.{puts, deletes, reads, share_outcome, wrote, gave_in};
+ghost use Rattle.share_list.specs.Places.{share_in};
+ghost use Rattle.sharing.specs.Within.{outcome_within};
 
 use admission::Admitted;
 use model::{Answer, BlockNumber};
@@ -27,8 +27,8 @@ fn put_within(
     block: BlockNumber,
     contents: &[u8],
 ) -> Answer
-    requires { (rightSize segments slots image.old ≡ true) × (numberOk block.0 ≡ true) }
-    ensures { wrote result image.new ≡ outcomeWithin segments slots (shareIn part) image.old (puts block.0 contents.now) }
+    requires { (right_size segments slots image.old ≡ true) × (number_ok block.0 ≡ true) }
+    ensures { wrote result image.new ≡ outcome_within segments slots (share_in part) image.old (puts block.0 contents.now) }
 {
     let counted = store::count(&image[..], segments, slots, part.first, part.last, block);
     if admission::quota_used(counted, part.quota) {
@@ -50,7 +50,7 @@ pub fn put(
     block: BlockNumber,
     contents: &[u8],
 ) -> Answer
-    ensures { wrote result image.new ≡ shareOutcome segments slots shares.now image.old tenant (puts block.0 contents.now) }
+    ensures { wrote result image.new ≡ share_outcome segments slots shares.now image.old tenant (puts block.0 contents.now) }
 {
     let admitted = admission::admit(&image[..], segments, slots, shares, tenant, block);
     match admitted {
@@ -68,7 +68,7 @@ pub fn delete(
     tenant: u32,
     block: BlockNumber,
 ) -> Answer
-    ensures { wrote result image.new ≡ shareOutcome segments slots shares.now image.old tenant (deletes block.0) }
+    ensures { wrote result image.new ≡ share_outcome segments slots shares.now image.old tenant (deletes block.0) }
 {
     let admitted = admission::admit(&image[..], segments, slots, shares, tenant, block);
     if let Admitted::Refused(answer) = admitted {
@@ -89,7 +89,7 @@ pub fn read(
     block: BlockNumber,
     contents: &mut [u8],
 ) -> Printed
-    ensures { (printed result contents.new ≡ gaveIn (shareOutcome segments slots shares.now image.now tenant (reads block.0 (length contents.old))) contents.old) × (result.length ≤ mostContents) }
+    ensures { (printed result contents.new ≡ gave_in (share_outcome segments slots shares.now image.now tenant (reads block.0 (length contents.old))) contents.old) × (result.length ≤ most_contents) }
 {
     let admitted = admission::admit(image, segments, slots, shares, tenant, block);
     if let Admitted::Refused(answer) = admitted {

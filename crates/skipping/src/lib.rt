@@ -1,6 +1,6 @@
 // Entries of a table by block number that tell no place, passed over (requests #106 and #113).
 ghost use Rattle.std.specs.Prelude.{◌≡◌, true, ◌≤◌, length};
-ghost use Rattle.model.specs.Mounted.{leastPlaces};
+ghost use Rattle.model.specs.Mounted.{least_places};
 ghost use Rattle.skipping.specs.Passed.{AllNone, Passed};
 
 // The entries of a table, and from where on fewer than eight are left.
@@ -18,7 +18,7 @@ fn none_of(group: &[u32]) -> bool
 
 // Passes over entries of 0, eight at a time as far as it can: most block numbers are not stored.
 pub fn pass_empty(places: &[u32], from: usize) -> usize
-    requires { (leastPlaces ≤ length places.now) × (from ≤ leastPlaces) }
+    requires { (least_places ≤ length places.now) × (from ≤ least_places) }
     ensures { Passed places.now from result }
 {
     let mut block = from;

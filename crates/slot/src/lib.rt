@@ -1,10 +1,10 @@
 // A slot page taken apart, or made up and programmed under a budget.
 ghost use Rattle.std.specs.Prelude.{◌≡◌, ◌+◌, ◌*◌, ◌<◌, ◌≤◌, length, get_or};
-ghost use Rattle.model.specs.Slot.{written, slotPage, slotFits, slot_of, kind_of};
-ghost use Rattle.model.specs.Steps.{writeSlot, markDead};
+ghost use Rattle.model.specs.Slot.{written, slot_page, slot_fits, slot_of, kind_of};
+ghost use Rattle.model.specs.Steps.{write_slot, mark_dead};
 ghost use Rattle.flash.specs.Ran.{Programmed};
 ghost use Rattle.flash.specs.Pages.{OnPageAt};
-ghost use Rattle.slot.specs.Parts.{slotParts};
+ghost use Rattle.slot.specs.Parts.{slot_parts};
 
 use model::{BlockNumber, SlotKind, SlotPlace};
 
@@ -41,7 +41,7 @@ fn word(low: u8, high: u8) -> u16
 // Whether the bytes of a written slot fit, beside its status.
 fn slot_fits(page: &[u8]) -> bool
     requires { (length page.now ≡ 256) × (get_or page.now 0 0 ≡ written) }
-    ensures { result ≡ slotFits page.now }
+    ensures { result ≡ slot_fits page.now }
 {
     let length = wide(page[1]);
     if length > MOST_CONTENTS {
@@ -100,7 +100,7 @@ pub fn slot_kind(page: &[u8]) -> SlotKind
 // The page of a live slot, made up among erased bytes.
 fn slot_page(block: BlockNumber, contents: &[u8]) -> [u8; 256]
     requires { length contents.now ≤ 248 }
-    ensures { result ≡ slotPage block.0 contents.now }
+    ensures { result ≡ slot_page block.0 contents.now }
 {
     let mut page = [255u8; 256];
     page[0] = WRITTEN;
@@ -118,7 +118,7 @@ fn slot_page(block: BlockNumber, contents: &[u8]) -> [u8; 256]
 // Programs a slot's page with one that was made up, of contents of some length.
 fn program_slot(slot: &mut [u8], made: &[u8], count: usize, budget: u64) -> u64
     requires { (length slot.old ≡ 256) × (length made.now ≡ 256) × (count ≤ 248) }
-    ensures { Programmed (slotParts made.now count) budget result slot.old slot.new }
+    ensures { Programmed (slot_parts made.now count) budget result slot.old slot.new }
 {
     let begun = flash::program_byte(slot, 0, WRITE_BEGUN, budget);
     let headed = flash::program_part(slot, made, 1, 3, begun);
@@ -129,7 +129,7 @@ fn program_slot(slot: &mut [u8], made: &[u8], count: usize, budget: u64) -> u64
 // Writes a slot with the page of a live one: made up, or copied.
 pub fn write_page(image: &mut [u8], place: SlotPlace, page: &[u8], count: usize, budget: u64) -> u64
     requires { (place.0 + 256 ≤ length image.old) × (length page.now ≡ 256) × (count ≤ 248) }
-    ensures { OnPageAt place.0 (slotParts page.now count) budget result image.old image.new }
+    ensures { OnPageAt place.0 (slot_parts page.now count) budget result image.old image.new }
 {
     let at = place.0;
     let end = at + 256;
@@ -145,7 +145,7 @@ pub fn write_slot(
     budget: u64,
 ) -> u64
     requires { (place.0 + 256 ≤ length image.old) × (length contents.now ≤ 248) }
-    ensures { OnPageAt place.0 (writeSlot block.0 contents.now) budget result image.old image.new }
+    ensures { OnPageAt place.0 (write_slot block.0 contents.now) budget result image.old image.new }
 {
     let made = slot_page(block, contents);
     write_page(image, place, &made, contents.len(), budget)
@@ -154,7 +154,7 @@ pub fn write_slot(
 // Clears bit 5 of a slot's status: live becomes dead, and torn cut, which document 01 calls dead too.
 pub fn mark_dead(image: &mut [u8], place: SlotPlace, budget: u64) -> u64
     requires { place.0 < length image.old }
-    ensures { OnPageAt place.0 markDead budget result image.old image.new }
+    ensures { OnPageAt place.0 mark_dead budget result image.old image.new }
 {
     flash::program_byte(image, place.0, MARK_DEAD, budget)
 }

@@ -4,7 +4,7 @@
 // block numbers, segment numbers and slot places are the three tuple structs of `model`; `let .. else` takes the clean
 // survey or the slot that was found, and all else is a refusal; `read_or` returns a part of either of two slices.
 ghost use Rattle.std.specs.Prelude.{◌≡◌, false};
-ghost use Rattle.model.specs.Answers.{performed, outcomeOf, format, put, delete, recover, located, readOutcome, pieceOr, counted, countOutcome};
+ghost use Rattle.model.specs.Answers.{performed, outcome_of, format, put, delete, recover, located, read_outcome, piece_or, counted, count_outcome};
 
 use counting::Sought;
 use looking::Looked;
@@ -20,7 +20,7 @@ const OPENING: u64 = 21;
 
 // Erases every segment and opens the first.
 pub fn format(image: &mut [u8], segments: usize, slots: usize, budget: u64) -> Performed
-    ensures { performed result image.new ≡ outcomeOf segments slots image.old budget format }
+    ensures { performed result image.new ≡ outcome_of segments slots image.old budget format }
 {
     if !request::right_size(image.len(), segments, slots) {
         return request::refused(Answer::Size);
@@ -39,7 +39,7 @@ pub fn put(
     contents: &[u8],
     budget: u64,
 ) -> Performed
-    ensures { performed result image.new ≡ outcomeOf segments slots image.old budget (put block.0 contents.now) }
+    ensures { performed result image.new ≡ outcome_of segments slots image.old budget (put block.0 contents.now) }
 {
     if !request::right_size(image.len(), segments, slots) {
         return request::refused(Answer::Size);
@@ -78,7 +78,7 @@ pub fn delete(
     block: BlockNumber,
     budget: u64,
 ) -> Performed
-    ensures { performed result image.new ≡ outcomeOf segments slots image.old budget (delete block.0) }
+    ensures { performed result image.new ≡ outcome_of segments slots image.old budget (delete block.0) }
 {
     let looked = looking::look(&image[..], segments, slots, block);
     match looked {
@@ -89,7 +89,7 @@ pub fn delete(
 
 // Where a block's contents are in the image.
 pub fn read(image: &[u8], segments: usize, slots: usize, block: BlockNumber) -> Located
-    ensures { located result ≡ readOutcome segments slots image.now block.0 }
+    ensures { located result ≡ read_outcome segments slots image.now block.0 }
 {
     let looked = looking::look(image, segments, slots, block);
     match looked {
@@ -117,7 +117,7 @@ pub fn read_or<'a>(
     block: BlockNumber,
     code: &mut u8,
 ) -> &'a [u8]
-    ensures { (result.now ≡ pieceOr segments slots image.now block.0 factory.now) × (code.new ≡ (readOutcome segments slots image.now block.0).code) }
+    ensures { (result.now ≡ piece_or segments slots image.now block.0 factory.now) × (code.new ≡ (read_outcome segments slots image.now block.0).code) }
 {
     let looked = looking::look(image, segments, slots, block);
     match looked {
@@ -158,7 +158,7 @@ pub fn count(
     last: BlockNumber,
     block: BlockNumber,
 ) -> Counted
-    ensures { counted result ≡ countOutcome segments slots image.now first.0 last.0 block.0 }
+    ensures { counted result ≡ count_outcome segments slots image.now first.0 last.0 block.0 }
 {
     if !request::right_size(image.len(), segments, slots) {
         return uncounted(Answer::Size);
@@ -185,7 +185,7 @@ pub fn count(
 
 // Finishes what a power cut has left unfinished.
 pub fn recover(image: &mut [u8], segments: usize, slots: usize, budget: u64) -> Performed
-    ensures { performed result image.new ≡ outcomeOf segments slots image.old budget recover }
+    ensures { performed result image.new ≡ outcome_of segments slots image.old budget recover }
 {
     if !request::right_size(image.len(), segments, slots) {
         return request::refused(Answer::Size);

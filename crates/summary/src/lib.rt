@@ -1,8 +1,8 @@
 // One segment by its header: its summary, before its slots are looked at, and what that tells.
 ghost use Rattle.std.specs.Prelude.{◌≡◌, cond, not, ◌&&◌, ◌||◌, ◌-◌, ◌<◌, ◌≤◌, max, length, get_or};
-ghost use Rattle.model.specs.State.{blank, isInUse, isInvalid, isOwing, numberAfter, ofVersion, segmentsOf};
+ghost use Rattle.model.specs.State.{blank, is_in_use, is_invalid, is_owing, number_after, of_version, segments_of};
 ghost use Rattle.flash.specs.Pages.{Sized};
-ghost use Rattle.judge.specs.Heads.{bareOf, bare, outline, stateSeen};
+ghost use Rattle.judge.specs.Heads.{bare_of, bare, outline, state_seen};
 
 use header_seen::HeaderSeen;
 use judge::{Ending, Row, SegmentState, Summary};
@@ -10,7 +10,7 @@ use model::{BlockNumber, SegmentNumber};
 
 // A segment before its slots are looked at.
 pub fn head(state: SegmentState, former: bool, number: SegmentNumber) -> Summary
-    ensures { bare result ≡ bareOf state former number.0 }
+    ensures { bare result ≡ bare_of state former number.0 }
 {
     let row = Row {
         live: 0,
@@ -28,7 +28,7 @@ pub fn head(state: SegmentState, former: bool, number: SegmentNumber) -> Summary
 }
 
 fn state_seen(status: u8) -> SegmentState
-    ensures { result ≡ stateSeen status }
+    ensures { result ≡ state_seen status }
 {
     if status == 0x9F {
         SegmentState::Owing
@@ -40,7 +40,7 @@ fn state_seen(status: u8) -> SegmentState
 // The segment at an index, by its header; one that is not in use is tested for blank as a whole.
 pub fn see_segment(image: &[u8], segments: usize, slots: usize, index: usize) -> Summary
     requires { Sized segments slots (length image.now) × (index < segments) }
-    ensures { bare result ≡ outline (get_or (segmentsOf segments slots image.now) index blank) }
+    ensures { bare result ≡ outline (get_or (segments_of segments slots image.now) index blank) }
 {
     let at = index * (slots + 1) * 256;
     let first = at + 256;
@@ -63,7 +63,7 @@ pub fn see_segment(image: &[u8], segments: usize, slots: usize, index: usize) ->
 
 // One more than the number of a segment in use, or 0.
 pub fn number_after(s: Summary) -> usize
-    ensures { (result ≡ numberAfter (bare s)) × (result ≤ 4294967296) }
+    ensures { (result ≡ number_after (bare s)) × (result ≤ 4294967296) }
 {
     let state = s.state;
     let number = s.number;
@@ -76,7 +76,7 @@ pub fn number_after(s: Summary) -> usize
 }
 
 pub fn is_in_use(s: Summary) -> bool
-    ensures { result ≡ isInUse (bare s) }
+    ensures { result ≡ is_in_use (bare s) }
 {
     let state = s.state;
     match state {
@@ -88,7 +88,7 @@ pub fn is_in_use(s: Summary) -> bool
 }
 
 pub fn is_invalid(s: Summary) -> bool
-    ensures { result ≡ isInvalid (bare s) }
+    ensures { result ≡ is_invalid (bare s) }
 {
     let state = s.state;
     match state {
@@ -100,7 +100,7 @@ pub fn is_invalid(s: Summary) -> bool
 }
 
 pub fn is_owing(s: Summary) -> bool
-    ensures { result ≡ isOwing (bare s) }
+    ensures { result ≡ is_owing (bare s) }
 {
     let state = s.state;
     match state {
@@ -113,7 +113,7 @@ pub fn is_owing(s: Summary) -> bool
 
 // Whether a segment is not in use, or of this version: 1 if `former`, else 2.
 pub fn of_version(s: Summary, former: bool) -> bool
-    ensures { result ≡ ofVersion (cond former 1 2) (bare s) }
+    ensures { result ≡ of_version (cond former 1 2) (bare s) }
 {
     if is_in_use(s) {
         if former {
@@ -126,7 +126,7 @@ pub fn of_version(s: Summary, former: bool) -> bool
 
 // Whether a summary shows a blank segment.
 pub fn shows_blank(s: Summary) -> bool
-    ensures { result ≡ not (isInUse (bare s) || isInvalid (bare s)) }
+    ensures { result ≡ not (is_in_use (bare s) || is_invalid (bare s)) }
 {
     if is_in_use(s) {
         return false;
@@ -136,7 +136,7 @@ pub fn shows_blank(s: Summary) -> bool
 
 // Whether a segment needs no mending: it is in use and not owing, or blank.
 pub fn is_settled(s: Summary) -> bool
-    ensures { result ≡ (not (isOwing (bare s)) && not (isInvalid (bare s))) }
+    ensures { result ≡ (not (is_owing (bare s)) && not (is_invalid (bare s))) }
 {
     if is_owing(s) {
         return false;

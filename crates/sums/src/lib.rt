@@ -1,12 +1,12 @@
 // The rows of the segments in use, oldest first, gathered and added up.
 ghost use Rattle.std.specs.Prelude.{◌≡◌, map, ◌+◌, ◌≤◌, length, take};
-ghost use Rattle.model.specs.Chip.{mostSegments, mostSlots};
+ghost use Rattle.model.specs.Chip.{most_segments, most_slots};
 ghost use Rattle.flash.specs.Pages.{Sized};
-ghost use Rattle.judge.specs.Endings.{inOrder, endsTorn, endsTwin};
-ghost use Rattle.judge.specs.Verdict.{orderly, tornWithin, twinWithin};
-ghost use Rattle.sums.specs.Exams.{examOf, Bounded};
-ghost use Rattle.judge.specs.Parts.{rowsOn};
-ghost use Rattle.judge.specs.Tally.{noneMet, tallies, summaryOf, summariesOf, row_of, writtenIn, mostWritten, addRow, addRows, noSum, Few, Ranged};
+ghost use Rattle.judge.specs.Endings.{in_order, ends_torn, ends_twin};
+ghost use Rattle.judge.specs.Verdict.{orderly, torn_within, twin_within};
+ghost use Rattle.sums.specs.Exams.{exam_of, Bounded};
+ghost use Rattle.judge.specs.Parts.{rows_on};
+ghost use Rattle.judge.specs.Tally.{none_met, tallies, summary_of, summaries_of, row_of, written_in, most_written, add_row, add_rows, no_sum, Few, Ranged};
 
 use judge::{Ending, Frame, Row, SegmentState, Sum, Summary};
 use model::{BlockNumber, MOST_SEGMENTS, SegmentNumber};
@@ -27,7 +27,7 @@ fn wide(x: u8) -> usize
 
 // The summary of a segment in use whose slots were looked at.
 fn in_use(number: SegmentNumber, row: Row) -> Summary
-    ensures { result ≡ summaryOf number.0 row }
+    ensures { result ≡ summary_of number.0 row }
 {
     let state = SegmentState::InUse;
     Summary {
@@ -46,8 +46,8 @@ fn gather(
     first: usize,
     used: usize,
 ) -> [Summary; MOST_SEGMENTS]
-    requires { Sized segments slots (length image.now) × (first + used ≤ 4294967296) × (used ≤ mostSegments) }
-    ensures { take used result ≡ summariesOf first (tallies (rowsOn image.now segments slots used first) noneMet) }
+    requires { Sized segments slots (length image.now) × (first + used ≤ 4294967296) × (used ≤ most_segments) }
+    ensures { take used result ≡ summaries_of first (tallies (rows_on image.now segments slots used first) none_met) }
 {
     let mut seen = [0u64; 1024];
     let none = in_use(SegmentNumber(0), rows::no_row());
@@ -65,7 +65,7 @@ fn gather(
 
 // The slots of a row that are not empty, if it does not end against the rules.
 fn written(row: Row) -> usize
-    ensures { (result ≡ writtenIn row) × (result ≤ mostWritten) }
+    ensures { (result ≡ written_in row) × (result ≤ most_written) }
 {
     let ending = row.ending;
     let counted = wide(row.live) + wide(row.dead) + wide(row.cut);
@@ -78,7 +78,7 @@ fn written(row: Row) -> usize
 
 fn add_row(sum: Sum, row: Row) -> Sum
     requires { Few sum 1000 }
-    ensures { (result ≡ addRow sum row) × (row.live ≤ mostSlots) × (writtenIn row ≤ mostWritten) }
+    ensures { (result ≡ add_row sum row) × (row.live ≤ most_slots) × (written_in row ≤ most_written) }
 {
     let block = row.block;
     let before = sum.ending;
@@ -107,8 +107,8 @@ fn add_row(sum: Sum, row: Row) -> Sum
 }
 
 fn sum_rows(ring: [Summary; MOST_SEGMENTS], used: usize) -> Sum
-    requires { used ≤ mostSegments }
-    ensures { (result ≡ addRows (map row_of (take used ring)) noSum) × (result.written ≤ mostWritten) }
+    requires { used ≤ most_segments }
+    ensures { (result ≡ add_rows (map row_of (take used ring)) no_sum) × (result.written ≤ most_written) }
 {
     let mut sum = Sum {
         live: 0,
@@ -129,7 +129,7 @@ fn sum_rows(ring: [Summary; MOST_SEGMENTS], used: usize) -> Sum
 }
 
 fn in_order(ending: Ending) -> bool
-    ensures { result ≡ inOrder ending }
+    ensures { result ≡ in_order ending }
 {
     match ending {
         Ending::Full => true,
@@ -141,7 +141,7 @@ fn in_order(ending: Ending) -> bool
 }
 
 fn ends_torn(ending: Ending) -> bool
-    ensures { result ≡ endsTorn ending }
+    ensures { result ≡ ends_torn ending }
 {
     match ending {
         Ending::Full => false,
@@ -153,7 +153,7 @@ fn ends_torn(ending: Ending) -> bool
 }
 
 fn ends_twin(ending: Ending) -> bool
-    ensures { result ≡ endsTwin ending }
+    ensures { result ≡ ends_twin ending }
 {
     match ending {
         Ending::Full => false,
@@ -178,7 +178,7 @@ pub fn orderly(sum: Sum, most: usize) -> bool
 
 // Whether they hold but for a torn slot, written last.
 pub fn torn_within(sum: Sum, most: usize) -> bool
-    ensures { result ≡ tornWithin most sum }
+    ensures { result ≡ torn_within most sum }
 {
     let ending = sum.ending;
     if ends_torn(ending) {
@@ -190,7 +190,7 @@ pub fn torn_within(sum: Sum, most: usize) -> bool
 
 // Whether they hold but for a live slot, written last, whose block was met before.
 pub fn twin_within(sum: Sum, most: usize) -> bool
-    ensures { result ≡ twinWithin most sum }
+    ensures { result ≡ twin_within most sum }
 {
     let ending = sum.ending;
     if ends_twin(ending) {
@@ -203,7 +203,7 @@ pub fn twin_within(sum: Sum, most: usize) -> bool
 // The segments in use examined, where their frame is fine.
 pub fn examine(image: &[u8], segments: usize, slots: usize, frame: Frame) -> Exam
     requires { Sized segments slots (length image.now) × Ranged frame }
-    ensures { (result ≡ examOf segments slots image.now frame) × Bounded result }
+    ensures { (result ≡ exam_of segments slots image.now frame) × Bounded result }
 {
     let first = frame.first;
     let used = frame.used;

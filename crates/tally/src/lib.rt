@@ -1,10 +1,10 @@
 // The tally of recoveries' erases in a header of version 2: read, and one more counted under a budget.
 ghost use Rattle.std.specs.Prelude.{◌≡◌, ◌<◌, ◌≤◌, length};
-ghost use Rattle.model.specs.Header.{clearedIn, clearedBits, headerVersion};
-ghost use Rattle.model.specs.Steps.{onPage, header_at, highestBit, countErase};
+ghost use Rattle.model.specs.Header.{cleared_in, cleared_bits, header_version};
+ghost use Rattle.model.specs.Steps.{on_page, header_at, highest_bit, count_erase};
 ghost use Rattle.flash.specs.Ran.{Programmed};
 ghost use Rattle.flash.specs.Pages.{Sized};
-ghost use Rattle.tally.specs.Seen.{zerosBefore, tallySeen, headerIn};
+ghost use Rattle.tally.specs.Seen.{zeros_before, tally_seen, header_in};
 
 use header::BITS;
 use model::SegmentNumber;
@@ -22,7 +22,7 @@ pub struct Tally {
 const BIT_BYTES: usize = 224;
 
 fn cleared_in(x: u8) -> usize
-    ensures { (result ≡ clearedIn x) × (result ≤ 8) }
+    ensures { (result ≡ cleared_in x) × (result ≤ 8) }
 {
     8 - u8::count_ones(x) as usize
 }
@@ -30,7 +30,7 @@ fn cleared_in(x: u8) -> usize
 // How many bits are cleared. Mostly none is, which the blank test finds out sooner.
 fn cleared_bits(bytes: &[u8]) -> usize
     requires { length bytes.now ≤ 256 }
-    ensures { (result ≡ clearedBits bytes.now) × (result ≤ 2048) }
+    ensures { (result ≡ cleared_bits bytes.now) × (result ≤ 2048) }
 {
     let test = blank::blank_test(bytes);
     if test.blank {
@@ -47,7 +47,7 @@ fn cleared_bits(bytes: &[u8]) -> usize
 
 // How many bytes come before the first that is not 0.
 fn zeros_before(bytes: &[u8]) -> usize
-    ensures { result ≡ zerosBefore bytes.now }
+    ensures { result ≡ zeros_before bytes.now }
 {
     let mut i: usize = 0;
     while i < bytes.len() {
@@ -62,7 +62,7 @@ fn zeros_before(bytes: &[u8]) -> usize
 // The highest set bit of a byte.
 fn highest_bit(x: u8) -> u8
     requires { 0 < x }
-    ensures { (result ≡ highestBit x) × (result ≤ x) }
+    ensures { (result ≡ highest_bit x) × (result ≤ x) }
 {
     128 >> u8::leading_zeros(x)
 }
@@ -72,7 +72,7 @@ fn highest_bit(x: u8) -> u8
 // What it tells of recoveries' erases.
 fn see_tally(page: &[u8]) -> Tally
     requires { length page.now ≡ 256 }
-    ensures { (result ≡ tallySeen (headerVersion page.now)) × (result.count < 4294969344) }
+    ensures { (result ≡ tally_seen (header_version page.now)) × (result.count < 4294969344) }
 {
     if header::is_former(page) {
         return Tally {
@@ -93,7 +93,7 @@ fn see_tally(page: &[u8]) -> Tally
 // Counts one more: the highest set bit of the first byte that has one is cleared.
 fn count_in(page: &mut [u8], budget: u64) -> u64
     requires { length page.old ≡ 256 }
-    ensures { Programmed (countErase (headerVersion page.old)) budget result page.old page.new }
+    ensures { Programmed (count_erase (header_version page.old)) budget result page.old page.new }
 {
     let former = header::is_former(&page[..]);
     if former {
@@ -113,7 +113,7 @@ fn count_in(page: &mut [u8], budget: u64) -> u64
 // What the header of the segment that a number belongs to tells of recoveries' erases.
 pub fn tally_in(image: &[u8], segments: usize, slots: usize, number: SegmentNumber) -> Tally
     requires { Sized segments slots (length image.now) }
-    ensures { (result ≡ tallySeen (headerVersion (headerIn segments slots number.0 image.now))) × (result.count < 4294969344) }
+    ensures { (result ≡ tally_seen (header_version (header_in segments slots number.0 image.now))) × (result.count < 4294969344) }
 {
     let at = header::header_place(segments, slots, number);
     let end = at + 256;
@@ -130,7 +130,7 @@ pub fn count_erase(
     budget: u64,
 ) -> u64
     requires { Sized segments slots (length image.old) }
-    ensures { Programmed (onPage (header_at segments slots number.0) (countErase (headerVersion (headerIn segments slots number.0 image.old)))) budget result image.old image.new }
+    ensures { Programmed (on_page (header_at segments slots number.0) (count_erase (header_version (header_in segments slots number.0 image.old)))) budget result image.old image.new }
 {
     let at = header::header_place(segments, slots, number);
     let end = at + 256;

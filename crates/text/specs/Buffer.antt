@@ -20,8 +20,8 @@ unfoldable pub printed : Printed → List ℕ → Print
 printed p buffer = record { code = code_of p.answer; length = p.length; buffer = buffer }
 
 -- a buffer too short for the text stays untouched: 14, and 0. Otherwise 0 and the text's length, the rest untouched
-unfoldable pub printIn : List ℕ → List ℕ → Print
-printIn t buffer =
+unfoldable pub print_in : List ℕ → List ℕ → Print
+print_in t buffer =
     cond (leb (length t) (length buffer))
     (record { code = 0; length = length t; buffer = t ++ drop (length t) buffer })
     (record { code = 14; length = 0; buffer = buffer })
@@ -50,5 +50,5 @@ pub record Wrote (bytes start : List ℕ) (at : ℕ) (buffer : List ℕ) (end : 
   pub there : end ≤ length start → buffer ≡ over start at bytes
 
 -- every text is shorter, so that offsets do not overflow
-abbrev pub mostText : ℕ
-mostText = 4294967296
+abbrev pub most_text : ℕ
+most_text = 4294967296

@@ -2,7 +2,7 @@
 // back: the same calls on an empty buffer tell how long a text is before its first byte is written.
 ghost use Rattle.std.specs.Prelude.{◌≡◌, ◌++◌, ◌+◌, ◌≤◌, length};
 ghost use Rattle.text.specs.Decimal.{decimal};
-ghost use Rattle.text.specs.Buffer.{printed, printIn, short_of, done_of, Wrote, mostText};
+ghost use Rattle.text.specs.Buffer.{printed, print_in, short_of, done_of, Wrote, most_text};
 
 use model::Answer;
 
@@ -15,7 +15,7 @@ pub struct Printed {
 
 // Bytes added to a text that ends at an offset.
 pub fn add(text: &mut [u8], at: usize, bytes: &[u8]) -> usize
-    requires { (at ≤ mostText) × (length bytes.now ≤ mostText) }
+    requires { (at ≤ most_text) × (length bytes.now ≤ most_text) }
     ensures { Wrote bytes.now text.old at text.new result }
 {
     let end = at + bytes.len();
@@ -45,7 +45,7 @@ pub fn digit_count(n: u32) -> usize
 
 // A number added to a text, in decimal.
 pub fn add_number(text: &mut [u8], at: usize, n: u32) -> usize
-    requires { at ≤ mostText }
+    requires { at ≤ most_text }
     ensures { Wrote (decimal n) text.old at text.new result × (result ≤ at + 10) }
 {
     let end = at + digit_count(n);
@@ -64,7 +64,7 @@ pub fn add_number(text: &mut [u8], at: usize, n: u32) -> usize
 
 // A number behind its label.
 pub fn add_labelled(text: &mut [u8], at: usize, label: &[u8], n: u32) -> usize
-    requires { at + length label.now ≤ mostText }
+    requires { at + length label.now ≤ most_text }
     ensures { Wrote (label.now ++ decimal n) text.old at text.new result × (result ≤ at + length label.now + 10) }
 {
     let behind = add(text, at, label);
@@ -73,8 +73,8 @@ pub fn add_labelled(text: &mut [u8], at: usize, label: &[u8], n: u32) -> usize
 
 // A text that is at hand, printed by itself.
 pub fn print(text: &mut [u8], bytes: &[u8]) -> Printed
-    requires { length bytes.now ≤ mostText }
-    ensures { (printed result text.new ≡ printIn bytes.now text.old) × (result.length ≤ length bytes.now) }
+    requires { length bytes.now ≤ most_text }
+    ensures { (printed result text.new ≡ print_in bytes.now text.old) × (result.length ≤ length bytes.now) }
 {
     if bytes.len() > text.len() {
         return short();

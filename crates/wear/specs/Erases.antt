@@ -7,71 +7,71 @@ use Rattle.model.specs.Lists.{count}
 use Rattle.model.specs.Chip.{Page, Step, program, erase}
 use Rattle.model.specs.Header.{Version}
 use Rattle.model.specs.Slot.{Entry}
-use Rattle.model.specs.State.{View, entriesIn, holds, Place, place_of}
-use Rattle.model.specs.Steps.{programs, programPart, onPage, writeSlot, markDead, markPlace, openSegment, copyEntries, copyOut, settle, compact, markOld, writeAtTop, deleteSteps}
-use Rattle.model.specs.Sequences.{erasesIn}
-use Rattle.model.specs.Laws.Lists.{count-append}
-pub use Rattle.model.specs.Laws.Begun.{erases-append}
+use Rattle.model.specs.State.{View, entries_in, holds, Place, place_of}
+use Rattle.model.specs.Steps.{programs, program_part, on_page, write_slot, mark_dead, mark_place, open_segment, copy_entries, copy_out, settle, compact, mark_old, write_at_top, delete_steps}
+use Rattle.model.specs.Sequences.{erases_in}
+use Rattle.model.specs.Laws.Lists.{count_append}
+pub use Rattle.model.specs.Laws.Begun.{erases_append}
 
 -- ---- the erase steps of lists
 
-pub on-page : (p : ℕ) (xs : List Step) → erasesIn (onPage p xs) ≡ erasesIn xs
-unfolding erasesIn onPage
-on-page p [] = refl
-on-page p (program at v ∷ xs) = on-page p xs
-on-page p (erase i ∷ xs) = ap {B = List ℕ} (λ y. i ∷ y) (on-page p xs)
+pub on_page_lem : (p : ℕ) (xs : List Step) → erases_in (on_page p xs) ≡ erases_in xs
+unfolding erases_in on_page
+on_page_lem p [] = refl
+on_page_lem p (program at v ∷ xs) = on_page_lem p xs
+on_page_lem p (erase i ∷ xs) = ap {B = List ℕ} (λ y. i ∷ y) (on_page_lem p xs)
 
-programs-none : (at : ℕ) (vs : List ℕ) → erasesIn (programs at vs) ≡ []
-unfolding erasesIn programs
-programs-none at [] = refl
-programs-none at (v ∷ vs) = programs-none (suc at) vs
+programs_none : (at : ℕ) (vs : List ℕ) → erases_in (programs at vs) ≡ []
+unfolding erases_in programs
+programs_none at [] = refl
+programs_none at (v ∷ vs) = programs_none (suc at) vs
 
-part_none : (p : Page) (at k : ℕ) → erasesIn (programPart p at k) ≡ []
-unfolding programPart
-part_none p at k = simp programs-none
+part_none : (p : Page) (at k : ℕ) → erases_in (program_part p at k) ≡ []
+unfolding program_part
+part_none p at k = simp programs_none
 
-write-none : (b : ℕ) (c : List ℕ) → erasesIn (writeSlot b c) ≡ []
-unfolding erasesIn writeSlot
-write-none b c = simp (erases-append, part_none)
+write_none : (b : ℕ) (c : List ℕ) → erases_in (write_slot b c) ≡ []
+unfolding erases_in write_slot
+write_none b c = simp (erases_append, part_none)
 
-pub mark-none : (N B : ℕ) (p : Place) → erasesIn (markPlace N B p) ≡ []
-unfolding erasesIn markPlace markDead
-mark-none N B p = simp on-page
+pub mark_none : (N B : ℕ) (p : Place) → erases_in (mark_place N B p) ≡ []
+unfolding erases_in mark_place mark_dead
+mark_none N B p = simp on_page_lem
 
-pub open_none : (N B : ℕ) (ver : Version) (n : ℕ) → erasesIn (openSegment N B ver n) ≡ []
-unfolding erasesIn openSegment
-open_none N B ver n = simp (on-page, erases-append, part_none)
+pub open_none : (N B : ℕ) (ver : Version) (n : ℕ) → erases_in (open_segment N B ver n) ≡ []
+unfolding erases_in open_segment
+open_none N B ver n = simp (on_page_lem, erases_append, part_none)
 
-copy-none : (N B n j : ℕ) (es : List Entry) → erasesIn (copyEntries N B n j es) ≡ []
-unfolding erasesIn copyEntries
-copy-none N B n j [] = refl
-copy-none N B n j (e ∷ es) = simp (erases-append, on-page, write-none, copy-none N B n (suc j) es)
+copy_none : (N B n j : ℕ) (es : List Entry) → erases_in (copy_entries N B n j es) ≡ []
+unfolding erases_in copy_entries
+copy_none N B n j [] = refl
+copy_none N B n j (e ∷ es) = simp (erases_append, on_page_lem, write_none, copy_none N B n (suc j) es)
 
-pub copied_none : (N B : ℕ) (ver : Version) (o n : ℕ) (es : List Entry) → erasesIn (copyOut N B ver o n es) ≡ []
-unfolding erasesIn copyOut
-copied_none N B ver o n es = simp (erases-append, on-page, part_none, copy-none)
+pub copied_none : (N B : ℕ) (ver : Version) (o n : ℕ) (es : List Entry) → erases_in (copy_out N B ver o n es) ≡ []
+unfolding erases_in copy_out
+copied_none N B ver o n es = simp (erases_append, on_page_lem, part_none, copy_none)
 
-pub settle-none : (N B n : ℕ) → erasesIn (settle N B n) ≡ []
-unfolding erasesIn settle
-settle-none N B n = simp on-page
+pub settle_none : (N B n : ℕ) → erases_in (settle N B n) ≡ []
+unfolding erases_in settle
+settle_none N B n = simp on_page_lem
 
 -- a tidying erases the old segment, and nothing else
-pub compact-one : (N B : ℕ) (ver : Version) (o n : ℕ) (es : List Entry) → erasesIn (compact N B ver o n es) ≡ o % N ∷ []
-unfolding erasesIn compact copyOut settle
-compact-one N B ver o n es = simp (erases-append, on-page, part_none, copy-none)
+pub compact_one : (N B : ℕ) (ver : Version) (o n : ℕ) (es : List Entry) → erases_in (compact N B ver o n es) ≡ o % N ∷ []
+unfolding erases_in compact copy_out settle
+compact_one N B ver o n es = simp (erases_append, on_page_lem, part_none, copy_none)
 
 -- writing the slot and marking the old one erase nothing
-pub written_none : (N B b : ℕ) (c : List ℕ) (v : View) → erasesIn (writeAtTop N B b c v ++ markOld N B b v) ≡ []
-unfolding erasesIn writeAtTop markOld
-written_none N B b c v = go (holds b (entriesIn v))
+pub written_none : (N B b : ℕ) (c : List ℕ) (v : View) → erases_in (write_at_top N B b c v ++ mark_old N B b v) ≡ []
+unfolding erases_in write_at_top mark_old
+written_none N B b c v = go (holds b (entries_in v))
   where
-    go : (t : Bool) → erasesIn (writeAtTop N B b c v ++ cond t (markPlace N B (place_of b v)) []) ≡ []
-    go true = simp (erases-append, on-page, write-none, mark-none)
-    go false = simp (erases-append, on-page, write-none)
+    go : (t : Bool) → erases_in (write_at_top N B b c v ++ cond t (mark_place N B (place_of b v)) []) ≡ []
+    go true = simp (erases_append, on_page_lem, write_none, mark_none)
+    go false = simp (erases_append, on_page_lem, write_none)
 
-pub delete-none : (N B b : ℕ) (v : View) → erasesIn (deleteSteps N B b v) ≡ []
-unfolding deleteSteps
-delete-none N B b v = mark-none N B (place_of b v)
+pub delete_none : (N B b : ℕ) (v : View) → erases_in (delete_steps N B b v) ≡ []
+unfolding delete_steps
+delete_none N B b v = mark_none N B (place_of b v)
 
 -- ---- erases in strict turn: the numbers below e, each with its index
 
@@ -79,22 +79,22 @@ unfoldable pub turns : ℕ → ℕ → List ℕ
 turns N zero = []
 turns N (suc e) = turns N e ++ (e % N ∷ [])
 
-pub turns-length : (N e : ℕ) → length (turns N e) ≡ e
+pub turns_length : (N e : ℕ) → length (turns N e) ≡ e
 unfolding turns
-turns-length N zero = refl
-turns-length N (suc e) = omega (arith, length-append (turns N e) (e % N ∷ []), turns-length N e)
+turns_length N zero = refl
+turns_length N (suc e) = omega (arith, length-append (turns N e) (e % N ∷ []), turns_length N e)
 
 -- of the index i
-abbrev pub erasesAt : ℕ → ℕ → ℕ → ℕ
-erasesAt N e i = count (λ x. eqb i x) (turns N e)
+abbrev pub erases_at : ℕ → ℕ → ℕ → ℕ
+erases_at N e i = count (λ x. eqb i x) (turns N e)
 
-one_more : (N e i w : ℕ) → e % N ≡ w → i ≡ w → erasesAt N (suc e) i ≡ suc (erasesAt N e i)
+one_more : (N e i w : ℕ) → e % N ≡ w → i ≡ w → erases_at N (suc e) i ≡ suc (erases_at N e i)
 unfolding turns count
-one_more N e i w m h = rw (count-append (λ x. eqb i x) (turns N e) (e % N ∷ []), eq-eqb i (e % N) (h ∙ sym m)) (omega arith)
+one_more N e i w m h = rw (count_append (λ x. eqb i x) (turns N e) (e % N ∷ []), eq-eqb i (e % N) (h ∙ sym m)) (omega arith)
 
-no_more : (N e i w : ℕ) → e % N ≡ w → (i ≡ w → ⊥) → erasesAt N (suc e) i ≡ erasesAt N e i
+no_more : (N e i w : ℕ) → e % N ≡ w → (i ≡ w → ⊥) → erases_at N (suc e) i ≡ erases_at N e i
 unfolding turns count
-no_more N e i w m h = rw (count-append (λ x. eqb i x) (turns N e) (e % N ∷ []), ne_eqb i (e % N) (λ p. h (p ∙ m))) (omega arith)
+no_more N e i w m h = rw (count_append (λ x. eqb i x) (turns N e) (e % N ∷ []), ne_eqb i (e % N) (λ p. h (p ∙ m))) (omega arith)
 
 -- after q rounds over all N and w more, index i has q erases, and one more if i < w
 record Even (N e : ℕ) : Type 0 where
@@ -102,8 +102,8 @@ record Even (N e : ℕ) : Type 0 where
   w : ℕ
   split : e ≡ q * N + w
   small : w < N
-  low : (i : ℕ) → i < w → erasesAt N e i ≡ suc q
-  high : (i : ℕ) → w ≤ i → i < N → erasesAt N e i ≡ q
+  low : (i : ℕ) → i < w → erases_at N e i ≡ suc q
+  high : (i : ℕ) → w ≤ i → i < N → erases_at N e i ≡ q
 
 even : (N e : ℕ) → 0 < N → Even N e
 unfolding turns count
@@ -140,7 +140,7 @@ even N (suc e) h = go (even N e h)
         })
         (eq-or-lt_of_le v.small)
 
-pub balanced : (N e i j : ℕ) → i < N → j < N → erasesAt N e i ≤ suc (erasesAt N e j)
+pub balanced : (N e i j : ℕ) → i < N → j < N → erases_at N e i ≤ suc (erases_at N e j)
 balanced N e i j hi hj =
     let v = even N e (omega arith) in
     elim (dec_lt i v.w) [

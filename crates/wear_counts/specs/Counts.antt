@@ -5,19 +5,19 @@ use Rattle.model.specs.Sequences.{Ledger, noted}
 use Rattle.model.specs.Begun.{Turn}
 
 -- F, the tidyings that reached the owing mark
-unfoldable pub marksOf : List Turn → ℕ
-marksOf [] = 0
-marksOf (e ∷ es) = e.marks + marksOf es
+unfoldable pub marks_of : List Turn → ℕ
+marks_of [] = 0
+marks_of (e ∷ es) = e.marks + marks_of es
 
 -- after a cut the stored blocks are those that a finished recovery shows, for L as well; R counts only what was acknowledged
-unfoldable pub notedCut : Turn → Ledger → Ledger
-notedCut e t = record { stored = e.kept; largest = max t.largest (length e.kept); replaced = t.replaced; erased = t.erased ++ e.begun }
+unfoldable pub noted_cut : Turn → Ledger → Ledger
+noted_cut e t = record { stored = e.kept; largest = max t.largest (length e.kept); replaced = t.replaced; erased = t.erased ++ e.begun }
 
-unfoldable pub notedAs : Turn → Seen → Ledger → Ledger
-notedAs e (answered o) t = cond (eqb o.code 9) (notedCut e t) (noted (record { request = e.request; code = o.code; erases = e.begun }) t)
-notedAs e lost t = notedCut e t
+unfoldable pub noted_as : Turn → Seen → Ledger → Ledger
+noted_as e (answered o) t = cond (eqb o.code 9) (noted_cut e t) (noted (record { request = e.request; code = o.code; erases = e.begun }) t)
+noted_as e lost t = noted_cut e t
 
 -- stored blocks, L, R and the erases begun
-unfoldable pub ledgerOf : List Turn → Ledger → Ledger
-ledgerOf [] t = t
-ledgerOf (e ∷ es) t = ledgerOf es (notedAs e e.seen t)
+unfoldable pub ledger_of : List Turn → Ledger → Ledger
+ledger_of [] t = t
+ledger_of (e ∷ es) t = ledger_of es (noted_as e e.seen t)

@@ -6,14 +6,14 @@ use borrow.Author.Rules.{rules}
 use Rattle.accounts.proofs.compose.Statement.{statement}
 use Rattle.accounts.proofs.compose.Tie as tie
 
-segment-lines-requires : tie.Need-segment-lines-requires
-segment-lines-requires c κs = search rules
+segment_lines_requires : tie.Need-segment-lines-requires
+segment_lines_requires c κs = search rules
 
-block-lines-requires : tie.Need-block-lines-requires
-block-lines-requires c κs = search rules
+block_lines_requires : tie.Need-block-lines-requires
+block_lines_requires c κs = search rules
 
-last-line-requires : tie.Need-last-line-requires
-last-line-requires c κs = search rules
+last_line_requires : tie.Need-last-line-requires
+last_line_requires c κs = search rules
 
 same_length : tie.Need-same-length
 same_length c = search rules
@@ -25,7 +25,7 @@ returns c =
     let w = c.before.before.before.before.before.before.before.before.before.before.segment-lines.ensures.0 then (c.before.before.before.before.before.before.block-lines.ensures.0 then c.before.before.last_Line.ensures.0) in
     (wrote_as _ (composed a.segments a.slots a.image.now a.table a.prognosis s.requires.1 s.requires.3) w, omega (arith, c.before.before.last_Line.ensures.1, c.before.before.before.before.before.before.block-lines.ensures.1, c.before.before.before.before.before.before.before.before.before.before.segment-lines.ensures.1, s.requires.0.segments))
 
-pub compose-spec : {M : Type 1} → statement M
-compose-spec =
+pub compose_spec : {M : Type 1} → statement M
+compose_spec =
     tie.close
-    (tie.spec segment-lines-requires block-lines-requires last-line-requires same_length returns)
+    (tie.spec segment_lines_requires block_lines_requires last_line_requires same_length returns)

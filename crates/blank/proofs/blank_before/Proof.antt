@@ -3,74 +3,74 @@ use Prim.Native.Nat.{◌/◌}
 use mathlib.Core.Path.{sym, ◌∙◌}
 use native.Mathlib.Omega.{arith}
 use lib.ListN.{length}
-use Rattle.blank.proofs.Blank.{leads, before-whole, before-one, before-none, before-stops, before-all, before-rest}
+use Rattle.blank.proofs.Blank.{leads, before_whole, before_one, before_none, before_stops, before_all, before_rest}
 use borrow.Author.Rules.{rules}
 use Rattle.blank.proofs.blank_before.Statement.{statement}
 use Rattle.blank.proofs.blank_before.Tie as tie
 
-leading-requires : tie.Need-leading-requires
-leading-requires c κs = search rules
+leading_requires : tie.Need-leading-requires
+leading_requires c κs = search rules
 
 returns : tie.Need-returns
-returns c = before-whole c.before.before.before.args.bytes.now _ (omega arith) c.leading.ensures
+returns c = before_whole c.before.before.before.args.bytes.now _ (omega arith) c.leading.ensures
 
-rest-blank-requires : tie.Need-rest-blank-requires
-rest-blank-requires c κs = search rules
+rest_blank_requires : tie.Need-rest-blank-requires
+rest_blank_requires c κs = search rules
 
-returns-2 : tie.Need-returns-2
-returns-2 c = before-one c.before.before.before.before.before.args.bytes.now c.before.before.before.if1.false c.before.before.if2.true (sym c.before.rest-blank.ensures ∙ c.if3.true)
+returns_2 : tie.Need-returns-2
+returns_2 c = before_one c.before.before.before.before.before.args.bytes.now c.before.before.before.if1.false c.before.before.if2.true (sym c.before.rest-blank.ensures ∙ c.if3.true)
 
-returns-3 : tie.Need-returns-3
-returns-3 c = before-none c.before.before.before.before.before.args.bytes.now c.before.before.if2.true (sym c.before.rest-blank.ensures ∙ c.if3.false)
+returns_3 : tie.Need-returns-3
+returns_3 c = before_none c.before.before.before.before.before.args.bytes.now c.before.before.if2.true (sym c.before.rest-blank.ensures ∙ c.if3.false)
 
-leading-requires-2 : tie.Need-leading-requires-2
-leading-requires-2 c κs = search rules
+leading_requires_2 : tie.Need-leading-requires-2
+leading_requires_2 c κs = search rules
 
-returns-4 : tie.Need-returns-4
-returns-4 c = before-stops c.before.before.before.before.before.args.bytes.now _ c.before.leading2.ensures c.if4.true
+returns_4 : tie.Need-returns-4
+returns_4 c = before_stops c.before.before.before.before.before.args.bytes.now _ c.before.leading2.ensures c.if4.true
 
-sub-last : tie.Need-overflow-sub-last
-sub-last c = search rules
+sub_last : tie.Need-overflow-sub-last
+sub_last c = search rules
 
-sub-group-blank : tie.Need-overflow-sub-group-blank
-sub-group-blank c = search rules
+sub_group_blank : tie.Need-overflow-sub-group-blank
+sub_group_blank c = search rules
 
-part-group-blank-start : tie.Need-slice-bounds-group-blank-start
-part-group-blank-start c = search rules
+part_group_blank_start : tie.Need-slice-bounds-group-blank-start
+part_group_blank_start c = search rules
 
-part-group-blank-end : tie.Need-slice-bounds-group-blank-end
-part-group-blank-end c = search rules
+part_group_blank_end : tie.Need-slice-bounds-group-blank-end
+part_group_blank_end c = search rules
 
-group-blank-requires : tie.Need-group-blank-requires
-group-blank-requires c κs = search rules
+group_blank_requires : tie.Need-group-blank-requires
+group_blank_requires c κs = search rules
 
-add-result : tie.Need-overflow-add-result
-add-result c =
+add_result : tie.Need-overflow-add-result
+add_result c =
     let s = c.before.before.before.before.before.before.before.before.args.bytes.now in
     record { fits = omega (arith, (leads 8 (length s / 8) s _ c.before.before.before.before.leading2.ensures).within) }
 
-returns-5 : tie.Need-returns-5
-returns-5 c = before-all c.before.before.before.before.before.before.before.before.args.bytes.now _ c.before.before.before.before.leading2.ensures c.before.before.before.if4.false c.before.before.before.before.before.if2.false c.before.before.before.before.before.before.if1.false (sym c.before.group-blank.ensures ∙ c.if5.true)
+returns_5 : tie.Need-returns-5
+returns_5 c = before_all c.before.before.before.before.before.before.before.before.args.bytes.now _ c.before.before.before.before.leading2.ensures c.before.before.before.if4.false c.before.before.before.before.before.if2.false c.before.before.before.before.before.before.if1.false (sym c.before.group-blank.ensures ∙ c.if5.true)
 
-returns-6 : tie.Need-returns-6
-returns-6 c = before-rest c.before.before.before.before.before.before.before.before.args.bytes.now _ c.before.before.before.before.leading2.ensures c.before.before.before.if4.false c.before.before.before.before.before.if2.false (sym c.before.group-blank.ensures ∙ c.if5.false)
+returns_6 : tie.Need-returns-6
+returns_6 c = before_rest c.before.before.before.before.before.before.before.before.args.bytes.now _ c.before.before.before.before.leading2.ensures c.before.before.before.if4.false c.before.before.before.before.before.if2.false (sym c.before.group-blank.ensures ∙ c.if5.false)
 
-pub blank-before-spec : {M : Type 1} → statement M
-blank-before-spec =
+pub blank_before_spec : {M : Type 1} → statement M
+blank_before_spec =
     tie.close
     (tie.spec
-    leading-requires
+    leading_requires
     returns
-    rest-blank-requires
-    returns-2
-    returns-3
-    leading-requires-2
-    returns-4
-    sub-last
-    sub-group-blank
-    part-group-blank-start
-    part-group-blank-end
-    group-blank-requires
-    add-result
-    returns-5
-    returns-6)
+    rest_blank_requires
+    returns_2
+    returns_3
+    leading_requires_2
+    returns_4
+    sub_last
+    sub_group_blank
+    part_group_blank_start
+    part_group_blank_end
+    group_blank_requires
+    add_result
+    returns_5
+    returns_6)

@@ -5,51 +5,51 @@ use native.Mathlib.Omega.{arith}
 use lib.Dec.{eqb}
 use lib.ListN.{length, take}
 use lib.Seq.{take_all}
-use Rattle.model.specs.Header.{isBlank}
-use Rattle.blank.proofs.Blank.{joined-turn, joined-less}
+use Rattle.model.specs.Header.{is_blank}
+use Rattle.blank.proofs.Blank.{joined_turn, joined_less}
 use borrow.Author.Rules.{rules}
 use Rattle.blank.proofs.rest_blank.Statement.{statement}
 use Rattle.blank.proofs.rest_blank.Tie as tie
 
-abbrev invariant-loop : tie.invariant-loop
-invariant-loop rest joined₀ i₀ joined i = (i ≤ length rest) × (joined < 256) × (eqb joined 255 ≡ isBlank (take i rest))
+abbrev invariant_loop : tie.invariant-loop
+invariant_loop rest joined₀ i₀ joined i = (i ≤ length rest) × (joined < 256) × (eqb joined 255 ≡ is_blank (take i rest))
 
-abbrev decreases-loop : tie.decreases-loop
-decreases-loop rest joined₀ i₀ joined i = length rest - i
+abbrev decreases_loop : tie.decreases-loop
+decreases_loop rest joined₀ i₀ joined i = length rest - i
 
-loop-holds : tie.Need-loop-init invariant-loop decreases-loop
-unfolding isBlank
-loop-holds c = (omega arith, omega arith, refl)
+loop_holds : tie.Need-loop-init invariant_loop decreases_loop
+unfolding is_blank
+loop_holds c = (omega arith, omega arith, refl)
 
-shared-slice-read-joined : tie.Need-shared-slice-read-joined invariant-loop decreases-loop
-shared-slice-read-joined c = search rules
+shared_slice_read_joined : tie.Need-shared-slice-read-joined invariant_loop decreases_loop
+shared_slice_read_joined c = search rules
 
-add-i : tie.Need-overflow-add-i invariant-loop decreases-loop
-add-i c = search rules
+add_i : tie.Need-overflow-add-i invariant_loop decreases_loop
+add_i c = search rules
 
-loop-less : tie.Need-loop-smaller invariant-loop decreases-loop
-loop-less c = search rules
+loop_less : tie.Need-loop-smaller invariant_loop decreases_loop
+loop_less c = search rules
 
-loop-again : tie.Need-loop-preserved invariant-loop decreases-loop
-loop-again c =
+loop_again : tie.Need-loop-preserved invariant_loop decreases_loop
+loop_again c =
     let k = c.before.before.loop in
     let s = c.before.before.before.args.rest.now in
-    (omega arith, joined-less k.joined _ k.invariant.1, joined-turn k.joined k.i s k.invariant.1 c.before.loop-test.true (omega (arith, c.shared-slice-known.given k.i)) k.invariant.2)
+    (omega arith, joined_less k.joined _ k.invariant.1, joined_turn k.joined k.i s k.invariant.1 c.before.loop-test.true (omega (arith, c.shared-slice-known.given k.i)) k.invariant.2)
 
-returns : tie.Need-returns invariant-loop decreases-loop
+returns : tie.Need-returns invariant_loop decreases_loop
 returns c =
     let k = c.before.loop in
-    k.invariant.2 ∙ ap isBlank (take_all k.i c.before.before.args.rest.now (omega arith))
+    k.invariant.2 ∙ ap is_blank (take_all k.i c.before.before.args.rest.now (omega arith))
 
-pub rest-blank-spec : {M : Type 1} → statement M
-rest-blank-spec =
+pub rest_blank_spec : {M : Type 1} → statement M
+rest_blank_spec =
     tie.close
     (tie.spec
-    invariant-loop
-    decreases-loop
-    loop-holds
-    shared-slice-read-joined
-    add-i
-    loop-less
-    loop-again
+    invariant_loop
+    decreases_loop
+    loop_holds
+    shared_slice_read_joined
+    add_i
+    loop_less
+    loop_again
     returns)

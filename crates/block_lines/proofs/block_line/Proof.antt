@@ -6,14 +6,14 @@ use borrow.Author.Rules.{rules}
 use Rattle.block_lines.proofs.block_line.Statement.{statement}
 use Rattle.block_lines.proofs.block_line.Tie as tie
 
-block-text-requires : tie.Need-block-text-requires
-block-text-requires c κs = search rules
+block_text_requires : tie.Need-block-text-requires
+block_text_requires c κs = search rules
 
-slice-aggregate-add : tie.Need-slice-aggregate-add
-slice-aggregate-add c = search rules
+slice_aggregate_add : tie.Need-slice-aggregate-add
+slice_aggregate_add c = search rules
 
-add-requires : tie.Need-add-requires
-add-requires c κs = search rules
+add_requires : tie.Need-add-requires
+add_requires c κs = search rules
 
 same_length : tie.Need-same-length
 same_length c = search rules
@@ -25,6 +25,6 @@ returns c =
     let k1 = k2.before.before.before.before.before in
     (k1.block-text.ensures.0 then k2.add.ensures, omega (arith, k1.block-text.ensures.1, k2.add.ensures.ends))
 
-pub block-line-spec : {M : Type 1} → statement M
-block-line-spec =
-    tie.close (tie.spec block-text-requires slice-aggregate-add add-requires same_length returns)
+pub block_line_spec : {M : Type 1} → statement M
+block_line_spec =
+    tie.close (tie.spec block_text_requires slice_aggregate_add add_requires same_length returns)

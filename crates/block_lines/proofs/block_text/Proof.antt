@@ -3,40 +3,40 @@ use native.Mathlib.Omega.{arith}
 use Rattle.text.specs.Text.{text}
 use Rattle.text.specs.Buffer.{labelled}
 use Rattle.text.proofs.Laws.{◌then◌}
-use Rattle.account_text.specs.Account.{blockText}
+use Rattle.account_text.specs.Account.{block_text}
 use borrow.Author.Rules.{rules}
 use Rattle.block_lines.proofs.block_text.Statement.{statement}
 use Rattle.block_lines.proofs.block_text.Tie as tie
 
-slice-aggregate-add-labelled : tie.Need-slice-aggregate-add-labelled
-slice-aggregate-add-labelled c = search rules
+slice_aggregate_add_labelled : tie.Need-slice-aggregate-add-labelled
+slice_aggregate_add_labelled c = search rules
 
-add-labelled-requires : tie.Need-add-labelled-requires
-add-labelled-requires c κs = search rules
+add_labelled_requires : tie.Need-add-labelled-requires
+add_labelled_requires c κs = search rules
 
-slice-aggregate-add-labelled-2 : tie.Need-slice-aggregate-add-labelled-2
-slice-aggregate-add-labelled-2 c = search rules
+slice_aggregate_add_labelled_2 : tie.Need-slice-aggregate-add-labelled-2
+slice_aggregate_add_labelled_2 c = search rules
 
-add-labelled-requires-2 : tie.Need-add-labelled-requires-2
-add-labelled-requires-2 c κs = search rules
+add_labelled_requires_2 : tie.Need-add-labelled-requires-2
+add_labelled_requires_2 c κs = search rules
 
-slice-aggregate-add-labelled-3 : tie.Need-slice-aggregate-add-labelled-3
-slice-aggregate-add-labelled-3 c = search rules
+slice_aggregate_add_labelled_3 : tie.Need-slice-aggregate-add-labelled-3
+slice_aggregate_add_labelled_3 c = search rules
 
-add-labelled-requires-3 : tie.Need-add-labelled-requires-3
-add-labelled-requires-3 c κs = search rules
+add_labelled_requires_3 : tie.Need-add-labelled-requires-3
+add_labelled_requires_3 c κs = search rules
 
-slice-aggregate-add-labelled-4 : tie.Need-slice-aggregate-add-labelled-4
-slice-aggregate-add-labelled-4 c = search rules
+slice_aggregate_add_labelled_4 : tie.Need-slice-aggregate-add-labelled-4
+slice_aggregate_add_labelled_4 c = search rules
 
-add-labelled-requires-4 : tie.Need-add-labelled-requires-4
-add-labelled-requires-4 c κs = search rules
+add_labelled_requires_4 : tie.Need-add-labelled-requires-4
+add_labelled_requires_4 c κs = search rules
 
 same_length : tie.Need-same-length
 same_length c = search rules
 
 returns : tie.Need-returns
-unfolding blockText labelled text
+unfolding block_text labelled text
 returns c =
     let k4 = c.before.before in
     let k3 = k4.before.before.before.before.before in
@@ -46,17 +46,17 @@ returns c =
       omega (arith, k1.add-labelled.ensures.1, k2.add-labelled2.ensures.1, k3.add-labelled3.ensures.1, k4.add-labelled4.ensures.1),
     )
 
-pub block-text-spec : {M : Type 1} → statement M
-block-text-spec =
+pub block_text_spec : {M : Type 1} → statement M
+block_text_spec =
     tie.close
     (tie.spec
-    slice-aggregate-add-labelled
-    add-labelled-requires
-    slice-aggregate-add-labelled-2
-    add-labelled-requires-2
-    slice-aggregate-add-labelled-3
-    add-labelled-requires-3
-    slice-aggregate-add-labelled-4
-    add-labelled-requires-4
+    slice_aggregate_add_labelled
+    add_labelled_requires
+    slice_aggregate_add_labelled_2
+    add_labelled_requires_2
+    slice_aggregate_add_labelled_3
+    add_labelled_requires_3
+    slice_aggregate_add_labelled_4
+    add_labelled_requires_4
     same_length
     returns)

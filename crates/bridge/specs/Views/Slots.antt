@@ -6,10 +6,10 @@ use Rattle.std.proofs.Math.Bool.{and-false, and-true, and_assoc, and-eq-true_iff
 use mathlib.Core.List.{List, [], ◌∷◌, ◌++◌, map, flat_map, flatten, append_assoc, append-nil}
 use Rattle.std.proofs.lemmas.List.{length-replicate, length-map}
 use Rattle.model.specs.Lists.{all, count}
-use Rattle.model.specs.Slot.{Slot, empty, torn, dead, cut, wrong, live, is_empty, isTorn, isDead, isWrong, Entry, entry_of, holding}
-use Rattle.model.specs.State.{entries, emptyLast, onlyTopEmpty, filled}
-use Rattle.model.specs.Steps.{topRow, firstEmpty, copied}
-use Rattle.model.specs.Laws.Lists.{all_join, all_append, all_replicate, none-count}
+use Rattle.model.specs.Slot.{Slot, empty, torn, dead, cut, wrong, live, is_empty, is_torn, is_dead, is_wrong, Entry, entry_of, holding}
+use Rattle.model.specs.State.{entries, empty_last, only_top_empty, filled}
+use Rattle.model.specs.Steps.{top_row, first_empty, copied}
+use Rattle.model.specs.Laws.Lists.{all_join, all_append, all_replicate, none_count}
 use Rattle.bridge.specs.Predicted.{Rows}
 
 -- ---- tests on every slot
@@ -17,32 +17,32 @@ use Rattle.bridge.specs.Predicted.{Rows}
 abbrev pub full : List Slot → Bool
 full s = all (λ k. not (is_empty k)) s
 
-abbrev pub noneDead : List Slot → Bool
-noneDead s = all (λ k. not (isDead k)) s
+abbrev pub none_dead : List Slot → Bool
+none_dead s = all (λ k. not (is_dead k)) s
 
 abbrev pub sound : List Slot → Bool
-sound s = all (λ k. not (isWrong k || isTorn k)) s
+sound s = all (λ k. not (is_wrong k || is_torn k)) s
 
 -- ---- rows joined
 
-pub entries-append : (x y : List Slot) → entries (x ++ y) ≡ entries x ++ entries y
+pub entries_append : (x y : List Slot) → entries (x ++ y) ≡ entries x ++ entries y
 unfolding entries flat_map
-entries-append [] y = refl
-entries-append (k ∷ x) y = rw (entries-append x y) (sym (append_assoc (entry_of k) (flat_map entry_of x) (flat_map entry_of y)))
+entries_append [] y = refl
+entries_append (k ∷ x) y = rw (entries_append x y) (sym (append_assoc (entry_of k) (flat_map entry_of x) (flat_map entry_of y)))
 
-pub entries-cons : (k : Slot) (x : List Slot) → entries (k ∷ x) ≡ entry_of k ++ entries x
+pub entries_cons : (k : Slot) (x : List Slot) → entries (k ∷ x) ≡ entry_of k ++ entries x
 unfolding entries flat_map
-entries-cons k x = refl
+entries_cons k x = refl
 
 pub rows_append : (B : ℕ) (a b : List (List Slot)) → Rows B a → Rows B b → Rows B (a ++ b)
 rows_append B [] b p q = q
 rows_append B (s ∷ a) b p q = (p.0, rows_append B a b p.1 q)
 
-pub rows-length : (B : ℕ) (a : List (List Slot)) → Rows B a → length (flatten a) ≡ length a * B
+pub rows_length : (B : ℕ) (a : List (List Slot)) → Rows B a → length (flatten a) ≡ length a * B
 unfolding flatten
-rows-length B [] h = omega arith
-rows-length B (s ∷ a) h = let q : suc (length a) * B ≡ B + length a * B = omega arith in
-    length-append s (flatten a) ∙ (rw (h.0, rows-length B a h.1) (sym q))
+rows_length B [] h = omega arith
+rows_length B (s ∷ a) h = let q : suc (length a) * B ≡ B + length a * B = omega arith in
+    length-append s (flatten a) ∙ (rw (h.0, rows_length B a h.1) (sym q))
 
 -- the first row left out and another added
 pub same_rows : (l : List (List Slot)) (x : List Slot) → 1 ≤ length l → length (drop 1 l ++ (x ∷ [])) ≡ length l
@@ -51,52 +51,52 @@ same_rows (y ∷ l) x h = length-append l (x ∷ []) ∙ omega arith
 
 -- ---- every slot without error is live, dead or empty
 
-pub slots-counted : (s : List Slot) → sound s ≡ true → length (entries s) + (count isDead s + count is_empty s) ≡ length s
-unfolding all entries flat_map entry_of count is_empty isDead isWrong isTorn
-slots-counted [] h = omega arith
-slots-counted (empty ∷ s) h = omega (arith, slots-counted s h)
-slots-counted (torn ∷ s) h = absurd (false≢true h)
-slots-counted (dead ∷ s) h = omega (arith, slots-counted s h)
-slots-counted (cut ∷ s) h = omega (arith, slots-counted s h)
-slots-counted (wrong ∷ s) h = absurd (false≢true h)
-slots-counted (live b c ∷ s) h = omega (arith, slots-counted s h)
+pub slots_counted : (s : List Slot) → sound s ≡ true → length (entries s) + (count is_dead s + count is_empty s) ≡ length s
+unfolding all entries flat_map entry_of count is_empty is_dead is_wrong is_torn
+slots_counted [] h = omega arith
+slots_counted (empty ∷ s) h = omega (arith, slots_counted s h)
+slots_counted (torn ∷ s) h = absurd (false≢true h)
+slots_counted (dead ∷ s) h = omega (arith, slots_counted s h)
+slots_counted (cut ∷ s) h = omega (arith, slots_counted s h)
+slots_counted (wrong ∷ s) h = absurd (false≢true h)
+slots_counted (live b c ∷ s) h = omega (arith, slots_counted s h)
 
-pub entries-length : (s : List Slot) → length (entries s) ≤ length s
+pub entries_length : (s : List Slot) → length (entries s) ≤ length s
 unfolding entries flat_map entry_of
-entries-length [] = omega arith
-entries-length (empty ∷ s) = omega (arith, entries-length s)
-entries-length (torn ∷ s) = omega (arith, entries-length s)
-entries-length (dead ∷ s) = omega (arith, entries-length s)
-entries-length (cut ∷ s) = omega (arith, entries-length s)
-entries-length (wrong ∷ s) = omega (arith, entries-length s)
-entries-length (live b c ∷ s) = omega (arith, entries-length s)
+entries_length [] = omega arith
+entries_length (empty ∷ s) = omega (arith, entries_length s)
+entries_length (torn ∷ s) = omega (arith, entries_length s)
+entries_length (dead ∷ s) = omega (arith, entries_length s)
+entries_length (cut ∷ s) = omega (arith, entries_length s)
+entries_length (wrong ∷ s) = omega (arith, entries_length s)
+entries_length (live b c ∷ s) = omega (arith, entries_length s)
 
-pub full-counted : (s : List Slot) → sound s ≡ true → full s ≡ true → length (entries s) + count isDead s ≡ length s
-full-counted s h f = omega (arith, slots-counted s h, none-count is_empty s f)
+pub full_counted : (s : List Slot) → sound s ≡ true → full s ≡ true → length (entries s) + count is_dead s ≡ length s
+full_counted s h f = omega (arith, slots_counted s h, none_count is_empty s f)
 
 -- ---- empty slots
 
-pub all-empty-entries : (s : List Slot) → all is_empty s ≡ true → entries s ≡ []
+pub all_empty_entries : (s : List Slot) → all is_empty s ≡ true → entries s ≡ []
 unfolding all entries flat_map entry_of is_empty
-all-empty-entries [] h = refl
-all-empty-entries (empty ∷ s) h = all-empty-entries s h
-all-empty-entries (torn ∷ s) h = absurd (false≢true h)
-all-empty-entries (dead ∷ s) h = absurd (false≢true h)
-all-empty-entries (cut ∷ s) h = absurd (false≢true h)
-all-empty-entries (wrong ∷ s) h = absurd (false≢true h)
-all-empty-entries (live b c ∷ s) h = absurd (false≢true h)
+all_empty_entries [] h = refl
+all_empty_entries (empty ∷ s) h = all_empty_entries s h
+all_empty_entries (torn ∷ s) h = absurd (false≢true h)
+all_empty_entries (dead ∷ s) h = absurd (false≢true h)
+all_empty_entries (cut ∷ s) h = absurd (false≢true h)
+all_empty_entries (wrong ∷ s) h = absurd (false≢true h)
+all_empty_entries (live b c ∷ s) h = absurd (false≢true h)
 
-pub all-empty-last : (s : List Slot) → all is_empty s ≡ true → emptyLast s ≡ true
-unfolding all emptyLast
-all-empty-last [] h = refl
-all-empty-last (k ∷ s) h = let p = (and-eq-true_iff (is_empty k) (all is_empty s)).0 h in rw p.0 p.1
+pub all_empty_last : (s : List Slot) → all is_empty s ≡ true → empty_last s ≡ true
+unfolding all empty_last
+all_empty_last [] h = refl
+all_empty_last (k ∷ s) h = let p = (and-eq-true_iff (is_empty k) (all is_empty s)).0 h in rw p.0 p.1
 
-pub full-then : (x y : List Slot) → full x ≡ true → emptyLast (x ++ y) ≡ emptyLast y
-unfolding all emptyLast
-full-then [] y h = refl
-full-then (k ∷ x) y h = go (is_empty k) h (λ p. full-then x y p)
+pub full_then : (x y : List Slot) → full x ≡ true → empty_last (x ++ y) ≡ empty_last y
+unfolding all empty_last
+full_then [] y h = refl
+full_then (k ∷ x) y h = go (is_empty k) h (λ p. full_then x y p)
   where
-    go : (t : Bool) → (not t && full x) ≡ true → (full x ≡ true → emptyLast (x ++ y) ≡ emptyLast y) → cond t (all is_empty (x ++ y)) (emptyLast (x ++ y)) ≡ emptyLast y
+    go : (t : Bool) → (not t && full x) ≡ true → (full x ≡ true → empty_last (x ++ y) ≡ empty_last y) → cond t (all is_empty (x ++ y)) (empty_last (x ++ y)) ≡ empty_last y
     go true p ih = absurd (false≢true p)
     go false p ih = ih p
 
@@ -120,14 +120,14 @@ pub record FirstEmpty (s : List Slot) : Type 0 where
   pub left : List Slot
   pub right : List Slot
   pub split : s ≡ left ++ (empty ∷ right)
-  pub place : firstEmpty s ≡ length left
-  pub fullLeft : full left ≡ true
-  pub emptyRight : all is_empty right ≡ true
+  pub place : first_empty s ≡ length left
+  pub full_left : full left ≡ true
+  pub empty_right : all is_empty right ≡ true
 
-pub first-empty : (s : List Slot) → emptyLast s ≡ true → full s ≡ false → FirstEmpty s
-unfolding emptyLast all firstEmpty is_empty
-first-empty [] h f = absurd (true≢false f)
-first-empty (k ∷ s) h f = go k h f (λ p q. first-empty s p q)
+pub first_empty_lem : (s : List Slot) → empty_last s ≡ true → full s ≡ false → FirstEmpty s
+unfolding empty_last all first_empty is_empty
+first_empty_lem [] h f = absurd (true≢false f)
+first_empty_lem (k ∷ s) h f = go k h f (λ p q. first_empty_lem s p q)
   where
     next : (k : Slot) → is_empty k ≡ false → FirstEmpty s → FirstEmpty (k ∷ s)
     next k e r = record {
@@ -135,12 +135,12 @@ first-empty (k ∷ s) h f = go k h f (λ p q. first-empty s p q)
       right = r.right;
       split = ap {B = List Slot} (λ y. k ∷ y) r.split;
       place = rw (e, r.place);
-      fullLeft = rw (e, r.fullLeft);
-      emptyRight = r.emptyRight;
+      full_left = rw (e, r.full_left);
+      empty_right = r.empty_right;
     }
 
-    go : (k : Slot) → emptyLast (k ∷ s) ≡ true → full (k ∷ s) ≡ false → (emptyLast s ≡ true → full s ≡ false → FirstEmpty s) → FirstEmpty (k ∷ s)
-    go empty p q ih = record { left = []; right = s; split = refl; place = refl; fullLeft = refl; emptyRight = p }
+    go : (k : Slot) → empty_last (k ∷ s) ≡ true → full (k ∷ s) ≡ false → (empty_last s ≡ true → full s ≡ false → FirstEmpty s) → FirstEmpty (k ∷ s)
+    go empty p q ih = record { left = []; right = s; split = refl; place = refl; full_left = refl; empty_right = p }
     go torn p q ih = next torn refl (ih p q)
     go dead p q ih = next dead refl (ih p q)
     go cut p q ih = next cut refl (ih p q)
@@ -149,74 +149,74 @@ first-empty (k ∷ s) h f = go k h f (λ p q. first-empty s p q)
 
 -- ---- the top, which is the last row
 
-pub top-row : (l : List (List Slot)) (t : List Slot) → topRow (l ++ (t ∷ [])) ≡ t
-unfolding topRow
-top-row [] t = refl
-top-row (s ∷ []) t = refl
-top-row (s ∷ u ∷ l) t = top-row (u ∷ l) t
+pub top_row_lem : (l : List (List Slot)) (t : List Slot) → top_row (l ++ (t ∷ [])) ≡ t
+unfolding top_row
+top_row_lem [] t = refl
+top_row_lem (s ∷ []) t = refl
+top_row_lem (s ∷ u ∷ l) t = top_row_lem (u ∷ l) t
 
 pub record Top (l : List (List Slot)) : Type 0 where
   pub others : List (List Slot)
   pub top : List Slot
   pub split : l ≡ others ++ (top ∷ [])
 
-pub find-top : (l : List (List Slot)) → 1 ≤ length l → Top l
-find-top [] h = absurd (omega arith)
-find-top (s ∷ []) h = record { others = []; top = s; split = refl }
-find-top (s ∷ u ∷ l) h = let r = find-top (u ∷ l) (omega arith) in
+pub find_top : (l : List (List Slot)) → 1 ≤ length l → Top l
+find_top [] h = absurd (omega arith)
+find_top (s ∷ []) h = record { others = []; top = s; split = refl }
+find_top (s ∷ u ∷ l) h = let r = find_top (u ∷ l) (omega arith) in
     record { others = s ∷ r.others; top = r.top; split = ap {B = List (List Slot)} (λ y. s ∷ y) r.split }
 
-pub only-top-empty : (l : List (List Slot)) (t : List Slot) → onlyTopEmpty (l ++ (t ∷ [])) ≡ (all (λ s. full s) l && emptyLast t)
-unfolding onlyTopEmpty all
-only-top-empty [] t = refl
-only-top-empty (s ∷ []) t = rw (and-true (full s))
-only-top-empty (s ∷ u ∷ l) t = ap (λ y. full s && y) (only-top-empty (u ∷ l) t) ∙ sym (and_assoc (full s) (all (λ y. full y) (u ∷ l)) (emptyLast t))
+pub only_top_empty_lem : (l : List (List Slot)) (t : List Slot) → only_top_empty (l ++ (t ∷ [])) ≡ (all (λ s. full s) l && empty_last t)
+unfolding only_top_empty all
+only_top_empty_lem [] t = refl
+only_top_empty_lem (s ∷ []) t = rw (and-true (full s))
+only_top_empty_lem (s ∷ u ∷ l) t = ap (λ y. full s && y) (only_top_empty_lem (u ∷ l) t) ∙ sym (and_assoc (full s) (all (λ y. full y) (u ∷ l)) (empty_last t))
 
 -- ---- the row that entries were copied to
 
-pub holding-entries : (es : List Entry) → entries (map holding es) ≡ es
+pub holding_entries : (es : List Entry) → entries (map holding es) ≡ es
 unfolding entries flat_map entry_of holding
-holding-entries [] = refl
-holding-entries (e ∷ es) = ap {B = List Entry} (λ y. e ∷ y) (holding-entries es)
+holding_entries [] = refl
+holding_entries (e ∷ es) = ap {B = List Entry} (λ y. e ∷ y) (holding_entries es)
 
 -- every live slot passes a test
-pub all-holding : (f : Slot → Bool) → ((b : ℕ) (c : List ℕ) → f (live b c) ≡ true) → (es : List Entry) → all f (map holding es) ≡ true
+pub all_holding : (f : Slot → Bool) → ((b : ℕ) (c : List ℕ) → f (live b c) ≡ true) → (es : List Entry) → all f (map holding es) ≡ true
 unfolding all holding
-all-holding f h [] = refl
-all-holding f h (e ∷ es) = rw (h e.block e.contents) (all-holding f h es)
+all_holding f h [] = refl
+all_holding f h (e ∷ es) = rw (h e.block e.contents) (all_holding f h es)
 
 -- every live and empty slot passes a test
-pub all-copied : (f : Slot → Bool) → ((b : ℕ) (c : List ℕ) → f (live b c) ≡ true) → f empty ≡ true → (B : ℕ) (es : List Entry) → all f (copied B es) ≡ true
+pub all_copied : (f : Slot → Bool) → ((b : ℕ) (c : List ℕ) → f (live b c) ≡ true) → f empty ≡ true → (B : ℕ) (es : List Entry) → all f (copied B es) ≡ true
 unfolding copied
-all-copied f h k B es = all_join f (map holding es) (replicate (B - length es) empty) (all-holding f h es) (all_replicate f empty k (B - length es))
+all_copied f h k B es = all_join f (map holding es) (replicate (B - length es) empty) (all_holding f h es) (all_replicate f empty k (B - length es))
 
-pub copied-entries : (B : ℕ) (es : List Entry) → entries (copied B es) ≡ es
+pub copied_entries : (B : ℕ) (es : List Entry) → entries (copied B es) ≡ es
 unfolding copied is_empty
-copied-entries B es = entries-append (map holding es) (replicate (B - length es) empty)
-    ∙ rw (holding-entries es, all-empty-entries (replicate (B - length es) empty) (all_replicate is_empty empty refl (B - length es))) (append-nil es)
+copied_entries B es = entries_append (map holding es) (replicate (B - length es) empty)
+    ∙ rw (holding_entries es, all_empty_entries (replicate (B - length es) empty) (all_replicate is_empty empty refl (B - length es))) (append-nil es)
 
-pub copied-length : (B : ℕ) (es : List Entry) → length es ≤ B → length (copied B es) ≡ B
+pub copied_length : (B : ℕ) (es : List Entry) → length es ≤ B → length (copied B es) ≡ B
 unfolding copied
-copied-length B es h = length-append (map holding es) (replicate (B - length es) empty) ∙ rw (length-map es holding, length-replicate (B - length es) empty) (omega arith)
+copied_length B es h = length-append (map holding es) (replicate (B - length es) empty) ∙ rw (length-map es holding, length-replicate (B - length es) empty) (omega arith)
 
-pub copied-sound : (B : ℕ) (es : List Entry) → sound (copied B es) ≡ true
-unfolding isWrong isTorn
-copied-sound B es = all-copied (λ k. not (isWrong k || isTorn k)) (λ b c. refl) refl B es
+pub copied_sound : (B : ℕ) (es : List Entry) → sound (copied B es) ≡ true
+unfolding is_wrong is_torn
+copied_sound B es = all_copied (λ k. not (is_wrong k || is_torn k)) (λ b c. refl) refl B es
 
-pub copied-none-dead : (B : ℕ) (es : List Entry) → noneDead (copied B es) ≡ true
-unfolding isDead
-copied-none-dead B es = all-copied (λ k. not (isDead k)) (λ b c. refl) refl B es
+pub copied_none_dead : (B : ℕ) (es : List Entry) → none_dead (copied B es) ≡ true
+unfolding is_dead
+copied_none_dead B es = all_copied (λ k. not (is_dead k)) (λ b c. refl) refl B es
 
-pub copied-empty-last : (B : ℕ) (es : List Entry) → emptyLast (copied B es) ≡ true
+pub copied_empty_last : (B : ℕ) (es : List Entry) → empty_last (copied B es) ≡ true
 unfolding copied is_empty
-copied-empty-last B es = full-then (map holding es) (replicate (B - length es) empty) (all-holding (λ k. not (is_empty k)) (λ b c. refl) es)
-    ∙ all-empty-last (replicate (B - length es) empty) (all_replicate is_empty empty refl (B - length es))
+copied_empty_last B es = full_then (map holding es) (replicate (B - length es) empty) (all_holding (λ k. not (is_empty k)) (λ b c. refl) es)
+    ∙ all_empty_last (replicate (B - length es) empty) (all_replicate is_empty empty refl (B - length es))
 
 -- it has room if there were fewer than B entries
-pub copied-full : (B : ℕ) (es : List Entry) → full (copied B es) ≡ not (ltb (length es) B)
+pub copied_full : (B : ℕ) (es : List Entry) → full (copied B es) ≡ not (ltb (length es) B)
 unfolding copied is_empty all
-copied-full B es = all_append (λ k. not (is_empty k)) (map holding es) (replicate (B - length es) empty)
-    ∙ (rw (all-holding (λ k. not (is_empty k)) (λ b c. refl) es) (go (B - length es) refl))
+copied_full B es = all_append (λ k. not (is_empty k)) (map holding es) (replicate (B - length es) empty)
+    ∙ (rw (all_holding (λ k. not (is_empty k)) (λ b c. refl) es) (go (B - length es) refl))
   where
     go : (n : ℕ) → B - length es ≡ n → full (replicate n empty) ≡ not (ltb (length es) B)
     go zero h = rw (le-ltb (length es) B (omega arith))

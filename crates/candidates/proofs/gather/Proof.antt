@@ -15,8 +15,8 @@ use Rattle.candidates.proofs.gather.Tie as tie
 least : (N B bytes : ℕ) → Sized N B bytes → 256 ≤ bytes
 least N B bytes z = omega (arith, z.whole, mul-le-mul_right (B + 1) z.some)
 
-walk-requires : tie.Need-walk-requires
-walk-requires c κs =
+walk_requires : tie.Need-walk-requires
+walk_requires c κs =
     let s = c.before.before.before.before in
     let a = s.args in
     let z = sized a.segments a.slots a.image.now s.requires.0 in
@@ -28,5 +28,5 @@ returns c =
     let a = s.args in
     gathered a.segments a.slots a.image.now s.requires.0 65536 (sheet a.places.now a.lengths.now a.differs.now) _ refl s.requires.1 s.requires.2 s.requires.3 c.walk.ensures
 
-pub gather-spec : {M : Type 1} → statement M
-gather-spec = tie.close (tie.spec walk-requires returns)
+pub gather_spec : {M : Type 1} → statement M
+gather_spec = tie.close (tie.spec walk_requires returns)

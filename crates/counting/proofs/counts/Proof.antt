@@ -6,5 +6,5 @@ use Rattle.counting.proofs.counts.Tie as tie
 returns : tie.Need-returns
 returns c = refl
 
-pub counts-spec : {M : Type 1} → statement M
-counts-spec = tie.close (tie.spec returns)
+pub counts_spec : {M : Type 1} → statement M
+counts_spec = tie.close (tie.spec returns)

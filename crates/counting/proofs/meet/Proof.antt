@@ -3,16 +3,16 @@ use mathlib.Core.Path.{◌≡◌, refl}
 use mathlib.Core.Bool.{cond}
 use mathlib.Core.Logic.{⊎_elim}
 use Prim.Native.Nat.{◌+◌}
-use Rattle.counting.proofs.Laws.Meet.{meet-made}
+use Rattle.counting.proofs.Laws.Meet.{meet_made}
 use borrow.Author.Rules.{rules}
 use Rattle.counting.proofs.meet.Statement.{statement}
 use Rattle.counting.proofs.meet.Tie as tie
 
-counts-requires : tie.Need-counts-requires
-counts-requires c κs = search rules
+counts_requires : tie.Need-counts-requires
+counts_requires c κs = search rules
 
-add-blocks : tie.Need-overflow-add-blocks
-add-blocks c = search rules
+add_blocks : tie.Need-overflow-add-blocks
+add_blocks c = search rules
 
 returns : tie.Need-returns
 returns c =
@@ -20,7 +20,7 @@ returns c =
     let test = met.before.counts in
     let a = met.before.before.args in
     let n : met.if1.blocks ≡ cond test.result (a.met.blocks + 1) a.met.blocks = ⊎_elim (λ w. rw w.0.taken w.1) (λ w. rw w.0.left w.1) met.if1.branch in
-    meet-made a.sought a.met a.block a.live test.result _ _ test.ensures n refl
+    meet_made a.sought a.met a.block a.live test.result _ _ test.ensures n refl
 
-pub meet-spec : {M : Type 1} → statement M
-meet-spec = tie.close (tie.spec counts-requires add-blocks returns)
+pub meet_spec : {M : Type 1} → statement M
+meet_spec = tie.close (tie.spec counts_requires add_blocks returns)

@@ -5,43 +5,43 @@ use borrow.Author.Rules.{rules}
 use Rattle.examples.proofs.fill.Statement.{statement}
 use Rattle.examples.proofs.fill.Tie as tie
 
-abbrev invariant-loop : tie.invariant-loop
-invariant-loop image₀ segments slots last contents block₀ image block = (length image ≡ length image₀) × (block ≤ last)
+abbrev invariant_loop : tie.invariant-loop
+invariant_loop image₀ segments slots last contents block₀ image block = (length image ≡ length image₀) × (block ≤ last)
 
-abbrev decreases-loop : tie.decreases-loop
-decreases-loop image₀ segments slots last contents block₀ image block = last - block
+abbrev decreases_loop : tie.decreases-loop
+decreases_loop image₀ segments slots last contents block₀ image block = last - block
 
-loop-holds : tie.Need-loop-init invariant-loop decreases-loop
-loop-holds c = search rules
+loop_holds : tie.Need-loop-init invariant_loop decreases_loop
+loop_holds c = search rules
 
-add-block : tie.Need-overflow-add-block invariant-loop decreases-loop
-add-block c = search rules
+add_block : tie.Need-overflow-add-block invariant_loop decreases_loop
+add_block c = search rules
 
-put-requires : tie.Need-put-requires invariant-loop decreases-loop
-put-requires c κs = search rules
+put_requires : tie.Need-put-requires invariant_loop decreases_loop
+put_requires c κs = search rules
 
-loop-less : tie.Need-loop-smaller invariant-loop decreases-loop
-loop-less c = search rules
+loop_less : tie.Need-loop-smaller invariant_loop decreases_loop
+loop_less c = search rules
 
-loop-again : tie.Need-loop-preserved invariant-loop decreases-loop
-loop-again c = search rules
+loop_again : tie.Need-loop-preserved invariant_loop decreases_loop
+loop_again c = search rules
 
-same_length : tie.Need-same-length invariant-loop decreases-loop
+same_length : tie.Need-same-length invariant_loop decreases_loop
 same_length c = search rules
 
-returns : tie.Need-returns invariant-loop decreases-loop
+returns : tie.Need-returns invariant_loop decreases_loop
 returns c = search rules
 
 pub fill_spec : {M : Type 1} → statement M
 fill_spec =
     tie.close
     (tie.spec
-    invariant-loop
-    decreases-loop
-    loop-holds
-    add-block
-    put-requires
-    loop-less
-    loop-again
+    invariant_loop
+    decreases_loop
+    loop_holds
+    add_block
+    put_requires
+    loop_less
+    loop_again
     same_length
     returns)

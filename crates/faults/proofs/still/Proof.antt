@@ -7,8 +7,8 @@ use Rattle.faults.proofs.still.Tie as tie
 returns : tie.Need-returns
 returns c = rw c.if1.true (sym (and-false c.before.args.held))
 
-returns-2 : tie.Need-returns-2
-returns-2 c = rw c.if1.false (sym (and-true c.before.args.held))
+returns_2 : tie.Need-returns-2
+returns_2 c = rw c.if1.false (sym (and-true c.before.args.held))
 
-pub still-spec : {M : Type 1} → statement M
-still-spec = tie.close (tie.spec returns returns-2)
+pub still_spec : {M : Type 1} → statement M
+still_spec = tie.close (tie.spec returns returns_2)

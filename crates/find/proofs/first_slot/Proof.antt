@@ -14,11 +14,11 @@ few N B n h =
     let j : n % N ≤ 255 = omega (arith, h.1) in
     omega (arith, mul-le-mul_right (B + 1) j, h.2)
 
-cast-index : tie.Need-overflow-cast-index
-cast-index c = search rules
+cast_index : tie.Need-overflow-cast-index
+cast_index c = search rules
 
-rem-index : tie.Need-nonzero-rem-index
-rem-index c = search rules
+rem_index : tie.Need-nonzero-rem-index
+rem_index c = search rules
 
 add_at : tie.Need-overflow-add-at
 add_at c = search rules
@@ -26,15 +26,15 @@ add_at c = search rules
 mul_at : tie.Need-overflow-mul-at
 mul_at c = let a = c.before in record { fits = omega (arith, few a.args.segments a.args.slots a.args.number.0 a.requires) }
 
-add-at-2 : tie.Need-overflow-add-at-2
-add-at-2 c = let a = c.before in record { fits = omega (arith, few a.args.segments a.args.slots a.args.number.0 a.requires) }
+add_at_2 : tie.Need-overflow-add-at-2
+add_at_2 c = let a = c.before in record { fits = omega (arith, few a.args.segments a.args.slots a.args.number.0 a.requires) }
 
-mul-at-2 : tie.Need-overflow-mul-at-2
-mul-at-2 c = let a = c.before in record { fits = omega (arith, few a.args.segments a.args.slots a.args.number.0 a.requires) }
+mul_at_2 : tie.Need-overflow-mul-at-2
+mul_at_2 c = let a = c.before in record { fits = omega (arith, few a.args.segments a.args.slots a.args.number.0 a.requires) }
 
 returns : tie.Need-returns
 unfolding slot_at
 returns c = search rules
 
-pub first-slot-spec : {M : Type 1} → statement M
-first-slot-spec = tie.close (tie.spec cast-index rem-index add_at mul_at add-at-2 mul-at-2 returns)
+pub first_slot_spec : {M : Type 1} → statement M
+first_slot_spec = tie.close (tie.spec cast_index rem_index add_at mul_at add_at_2 mul_at_2 returns)

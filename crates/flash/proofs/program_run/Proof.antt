@@ -5,83 +5,83 @@ use native.Mathlib.Omega.{arith}
 use lib.ListN.{length, length-set}
 use Rattle.model.specs.Chip.{run}
 use Rattle.model.specs.Steps.{programs}
-use Rattle.flash.proofs.Laws.{ProgrammedTo, programs-turn, programs-covered}
+use Rattle.flash.proofs.Laws.{ProgrammedTo, programs_turn, programs_covered}
 use borrow.Author.Rules.{rules}
 use Rattle.flash.proofs.program_run.Statement.{statement}
 use Rattle.flash.proofs.program_run.Tie as tie
 
-abbrev invariant-loop : tie.invariant-loop
-invariant-loop image₀ at bytes budget covered left₀ i₀ image left i =
+abbrev invariant_loop : tie.invariant-loop
+invariant_loop image₀ at bytes budget covered left₀ i₀ image left i =
     ProgrammedTo at i bytes image₀ image × (left ≡ budget - i) × (i ≤ min budget (length bytes)) × (length image ≡ length image₀)
 
-abbrev decreases-loop : tie.decreases-loop
-decreases-loop image₀ at bytes budget covered left₀ i₀ image left i = length bytes - i
+abbrev decreases_loop : tie.decreases-loop
+decreases_loop image₀ at bytes budget covered left₀ i₀ image left i = length bytes - i
 
-least-requires : tie.Need-least-requires invariant-loop decreases-loop
-least-requires c κs = search rules
+least_requires : tie.Need-least-requires invariant_loop decreases_loop
+least_requires c κs = search rules
 
-loop-holds : tie.Need-loop-init invariant-loop decreases-loop
+loop_holds : tie.Need-loop-init invariant_loop decreases_loop
 unfolding programs run
-loop-holds c = (λ B. refl, omega arith, omega arith, refl)
+loop_holds c = (λ B. refl, omega arith, omega arith, refl)
 
-add-o : tie.Need-overflow-add-o invariant-loop decreases-loop
-add-o c = search rules
+add_o : tie.Need-overflow-add-o invariant_loop decreases_loop
+add_o c = search rules
 
-slice-read-image : tie.Need-slice-read-image invariant-loop decreases-loop
-slice-read-image c = search rules
+slice_read_image : tie.Need-slice-read-image invariant_loop decreases_loop
+slice_read_image c = search rules
 
-shared-slice-read-image : tie.Need-shared-slice-read-image invariant-loop decreases-loop
-shared-slice-read-image c = search rules
+shared_slice_read_image : tie.Need-shared-slice-read-image invariant_loop decreases_loop
+shared_slice_read_image c = search rules
 
-slice-write-image : tie.Need-slice-write-image invariant-loop decreases-loop
-slice-write-image c = search rules
+slice_write_image : tie.Need-slice-write-image invariant_loop decreases_loop
+slice_write_image c = search rules
 
-sub-left : tie.Need-overflow-sub-left invariant-loop decreases-loop
-sub-left c = let k = c.before.before.before in omega (arith, k.loop.invariant.1, k.before.least.ensures)
+sub_left : tie.Need-overflow-sub-left invariant_loop decreases_loop
+sub_left c = let k = c.before.before.before in omega (arith, k.loop.invariant.1, k.before.least.ensures)
 
-add-i : tie.Need-overflow-add-i invariant-loop decreases-loop
-add-i c = search rules
+add_i : tie.Need-overflow-add-i invariant_loop decreases_loop
+add_i c = search rules
 
-loop-less : tie.Need-loop-smaller invariant-loop decreases-loop
-loop-less c = search rules
+loop_less : tie.Need-loop-smaller invariant_loop decreases_loop
+loop_less c = search rules
 
-loop-again : tie.Need-loop-preserved invariant-loop decreases-loop
-loop-again c =
+loop_again : tie.Need-loop-preserved invariant_loop decreases_loop
+loop_again c =
     let k = c.before.before.before in
     let a = k.before.before.before.before.args in
     let e = k.before.least.ensures in (
-      programs-turn a.at k.loop.i a.bytes.now a.image.now k.loop.image (omega (arith, e)) k.loop.invariant.0,
+      programs_turn a.at k.loop.i a.bytes.now a.image.now k.loop.image (omega (arith, e)) k.loop.invariant.0,
       omega (arith, k.loop.invariant.1),
       omega (arith, e),
       simp length-set k.loop.invariant.3,
     )
 
-same_length : tie.Need-same-length invariant-loop decreases-loop
+same_length : tie.Need-same-length invariant_loop decreases_loop
 same_length c = search rules
 
-returns : tie.Need-returns invariant-loop decreases-loop
+returns : tie.Need-returns invariant_loop decreases_loop
 returns c =
     let k = c.before in
     let a = k.before.before.before.before.args in
     let e = k.before.least.ensures in
     let paid : k.loop.left ≡ a.budget - k.loop.i = k.loop.invariant.1 in
-    rw paid (programs-covered a.at a.budget k.loop.i a.bytes.now a.image.now k.loop.image (omega (arith, e)) k.loop.invariant.0)
+    rw paid (programs_covered a.at a.budget k.loop.i a.bytes.now a.image.now k.loop.image (omega (arith, e)) k.loop.invariant.0)
 
-pub program-run-spec : {M : Type 1} → statement M
-program-run-spec =
+pub program_run_spec : {M : Type 1} → statement M
+program_run_spec =
     tie.close
     (tie.spec
-    invariant-loop
-    decreases-loop
-    least-requires
-    loop-holds
-    add-o
-    slice-read-image
-    shared-slice-read-image
-    slice-write-image
-    sub-left
-    add-i
-    loop-less
-    loop-again
+    invariant_loop
+    decreases_loop
+    least_requires
+    loop_holds
+    add_o
+    slice_read_image
+    shared_slice_read_image
+    slice_write_image
+    sub_left
+    add_i
+    loop_less
+    loop_again
     same_length
     returns)

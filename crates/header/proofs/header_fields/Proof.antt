@@ -7,101 +7,101 @@ use borrow.Author.Rules.{rules}
 use Rattle.header.proofs.header_fields.Statement.{statement}
 use Rattle.header.proofs.header_fields.Tie as tie
 
-cast-n : tie.Need-overflow-cast-n
-cast-n c = search rules
+cast_n : tie.Need-overflow-cast-n
+cast_n c = search rules
 
-array-write-page : tie.Need-array-write-page
-array-write-page c = search rules
+array_write_page : tie.Need-array-write-page
+array_write_page c = search rules
 
-array-write-page-2 : tie.Need-array-write-page-2
-array-write-page-2 c = search rules
+array_write_page_2 : tie.Need-array-write-page-2
+array_write_page_2 c = search rules
 
-array-write-page-3 : tie.Need-array-write-page-3
-array-write-page-3 c = search rules
+array_write_page_3 : tie.Need-array-write-page-3
+array_write_page_3 c = search rules
 
-array-write-page-4 : tie.Need-array-write-page-4
-array-write-page-4 c = search rules
+array_write_page_4 : tie.Need-array-write-page-4
+array_write_page_4 c = search rules
 
-array-write-page-5 : tie.Need-array-write-page-5
-array-write-page-5 c = search rules
+array_write_page_5 : tie.Need-array-write-page-5
+array_write_page_5 c = search rules
 
-array-write-page-6 : tie.Need-array-write-page-6
-array-write-page-6 c = search rules
+array_write_page_6 : tie.Need-array-write-page-6
+array_write_page_6 c = search rules
 
-cast-page : tie.Need-overflow-cast-page
-cast-page c = search rules
+cast_page : tie.Need-overflow-cast-page
+cast_page c = search rules
 
-array-write-page-7 : tie.Need-array-write-page-7
-array-write-page-7 c = search rules
+array_write_page_7 : tie.Need-array-write-page-7
+array_write_page_7 c = search rules
 
-cast-page-2 : tie.Need-overflow-cast-page-2
-cast-page-2 c = search rules
+cast_page_2 : tie.Need-overflow-cast-page-2
+cast_page_2 c = search rules
 
-array-write-page-8 : tie.Need-array-write-page-8
-array-write-page-8 c = search rules
+array_write_page_8 : tie.Need-array-write-page-8
+array_write_page_8 c = search rules
 
-low-byte-requires : tie.Need-low-byte-requires
-low-byte-requires c κs = search rules
+low_byte_requires : tie.Need-low-byte-requires
+low_byte_requires c κs = search rules
 
-array-write-page-9 : tie.Need-array-write-page-9
-array-write-page-9 c = search rules
+array_write_page_9 : tie.Need-array-write-page-9
+array_write_page_9 c = search rules
 
-low-byte-requires-2 : tie.Need-low-byte-requires-2
-low-byte-requires-2 c κs = search rules
+low_byte_requires_2 : tie.Need-low-byte-requires-2
+low_byte_requires_2 c κs = search rules
 
-array-write-page-10 : tie.Need-array-write-page-10
-array-write-page-10 c = search rules
+array_write_page_10 : tie.Need-array-write-page-10
+array_write_page_10 c = search rules
 
-low-byte-requires-3 : tie.Need-low-byte-requires-3
-low-byte-requires-3 c κs = search rules
+low_byte_requires_3 : tie.Need-low-byte-requires-3
+low_byte_requires_3 c κs = search rules
 
-array-write-page-11 : tie.Need-array-write-page-11
-array-write-page-11 c = search rules
+array_write_page_11 : tie.Need-array-write-page-11
+array_write_page_11 c = search rules
 
-low-byte-requires-4 : tie.Need-low-byte-requires-4
-low-byte-requires-4 c κs = search rules
+low_byte_requires_4 : tie.Need-low-byte-requires-4
+low_byte_requires_4 c κs = search rules
 
-array-write-page-12 : tie.Need-array-write-page-12
-array-write-page-12 c = search rules
+array_write_page_12 : tie.Need-array-write-page-12
+array_write_page_12 c = search rules
 
-array-read-page : tie.Need-array-read-page
-array-read-page c = search rules
+array_read_page : tie.Need-array-read-page
+array_read_page c = search rules
 
-sub-page : tie.Need-overflow-sub-page
-sub-page c = search rules
+sub_page : tie.Need-overflow-sub-page
+sub_page c = search rules
 
-array-write-page-13 : tie.Need-array-write-page-13
-array-write-page-13 c = search rules
+array_write_page_13 : tie.Need-array-write-page-13
+array_write_page_13 c = search rules
 
-array-read-page-2 : tie.Need-array-read-page-2
-array-read-page-2 c = search rules
+array_read_page_2 : tie.Need-array-read-page-2
+array_read_page_2 c = search rules
 
-sub-page-2 : tie.Need-overflow-sub-page-2
-sub-page-2 c = search rules
+sub_page_2 : tie.Need-overflow-sub-page-2
+sub_page_2 c = search rules
 
-array-write-page-14 : tie.Need-array-write-page-14
-array-write-page-14 c = search rules
+array_write_page_14 : tie.Need-array-write-page-14
+array_write_page_14 c = search rules
 
-array-read-page-3 : tie.Need-array-read-page-3
-array-read-page-3 c = search rules
+array_read_page_3 : tie.Need-array-read-page-3
+array_read_page_3 c = search rules
 
-sub-page-3 : tie.Need-overflow-sub-page-3
-sub-page-3 c = search rules
+sub_page_3 : tie.Need-overflow-sub-page-3
+sub_page_3 c = search rules
 
-array-write-page-15 : tie.Need-array-write-page-15
-array-write-page-15 c = search rules
+array_write_page_15 : tie.Need-array-write-page-15
+array_write_page_15 c = search rules
 
-array-read-page-4 : tie.Need-array-read-page-4
-array-read-page-4 c = search rules
+array_read_page_4 : tie.Need-array-read-page-4
+array_read_page_4 c = search rules
 
-sub-page-4 : tie.Need-overflow-sub-page-4
-sub-page-4 c = search rules
+sub_page_4 : tie.Need-overflow-sub-page-4
+sub_page_4 c = search rules
 
-array-write-page-16 : tie.Need-array-write-page-16
-array-write-page-16 c = search rules
+array_write_page_16 : tie.Need-array-write-page-16
+array_write_page_16 c = search rules
 
-array-write-page-17 : tie.Need-array-write-page-17
-array-write-page-17 c = search rules
+array_write_page_17 : tie.Need-array-write-page-17
+array_write_page_17 c = search rules
 
 returns : tie.Need-returns
 returns c =
@@ -109,40 +109,40 @@ returns c =
     fields_made a.segments a.slots a.former a.status a.number.0 a.old _ _ _ _ _ (⊎_elim (λ w. w.1 ∙ ap (λ t. cond t 1 2) (sym w.0.taken)) (λ w. w.1 ∙ ap (λ t. cond t 1 2) (sym w.0.left)) c.before.before.before.before.if1.branch)
     c.before.before.before.low_byte.ensures c.before.before.low-byte2.ensures c.before.low-byte3.ensures c.low-byte4.ensures
 
-pub header-fields-spec : {M : Type 1} → statement M
-header-fields-spec =
+pub header_fields_spec : {M : Type 1} → statement M
+header_fields_spec =
     tie.close
     (tie.spec
-    cast-n
-    array-write-page
-    array-write-page-2
-    array-write-page-3
-    array-write-page-4
-    array-write-page-5
-    array-write-page-6
-    cast-page
-    array-write-page-7
-    cast-page-2
-    array-write-page-8
-    low-byte-requires
-    array-write-page-9
-    low-byte-requires-2
-    array-write-page-10
-    low-byte-requires-3
-    array-write-page-11
-    low-byte-requires-4
-    array-write-page-12
-    array-read-page
-    sub-page
-    array-write-page-13
-    array-read-page-2
-    sub-page-2
-    array-write-page-14
-    array-read-page-3
-    sub-page-3
-    array-write-page-15
-    array-read-page-4
-    sub-page-4
-    array-write-page-16
-    array-write-page-17
+    cast_n
+    array_write_page
+    array_write_page_2
+    array_write_page_3
+    array_write_page_4
+    array_write_page_5
+    array_write_page_6
+    cast_page
+    array_write_page_7
+    cast_page_2
+    array_write_page_8
+    low_byte_requires
+    array_write_page_9
+    low_byte_requires_2
+    array_write_page_10
+    low_byte_requires_3
+    array_write_page_11
+    low_byte_requires_4
+    array_write_page_12
+    array_read_page
+    sub_page
+    array_write_page_13
+    array_read_page_2
+    sub_page_2
+    array_write_page_14
+    array_read_page_3
+    sub_page_3
+    array_write_page_15
+    array_read_page_4
+    sub_page_4
+    array_write_page_16
+    array_write_page_17
     returns)

@@ -8,147 +8,147 @@ use lib.ListN.{take, set, length-set}
 use lib.Dec.{ltb}
 use borrow.Author.Rules.{rules}
 use Rattle.model.specs.Lists.{count}
-use Rattle.model.specs.State.{Segment, blank, topIndex}
-use Rattle.index.specs.Shows.{noCounts, shownAs}
+use Rattle.model.specs.State.{Segment, blank, top_index}
+use Rattle.index.specs.Shows.{no_counts, shown_as}
 use Rattle.index.specs.Tables.{tables}
-use Rattle.descent.specs.Turns.{turn-index, turn-less, page-inside}
+use Rattle.descent.specs.Turns.{turn_index, turn_less, page_inside}
 use Rattle.listing.proofs.Laws.Walk.{whole, Walking, walk_start, again, walk_end}
 use Rattle.listing.proofs.list_segments.Statement.{statement}
 use Rattle.listing.proofs.list_segments.Tie as tie
 
-abbrev invariant-loop : tie.invariant-loop
-invariant-loop image segments slots firsts₀ nexts₀ lengths₀ shown₀ left₀ top₀ firsts nexts lengths shown left top = (m : List Segment) × Walking segments slots image (tables firsts₀ nexts₀ lengths₀) m shown left top (tables firsts nexts lengths)
+abbrev invariant_loop : tie.invariant-loop
+invariant_loop image segments slots firsts₀ nexts₀ lengths₀ shown₀ left₀ top₀ firsts nexts lengths shown left top = (m : List Segment) × Walking segments slots image (tables firsts₀ nexts₀ lengths₀) m shown left top (tables firsts nexts lengths)
 
-abbrev decreases-loop : tie.decreases-loop
-decreases-loop image segments slots firsts₀ nexts₀ lengths₀ shown₀ left₀ top₀ firsts nexts lengths shown left top = count (λ n. ltb 0 n) (take segments left)
+abbrev decreases_loop : tie.decreases-loop
+decreases_loop image segments slots firsts₀ nexts₀ lengths₀ shown₀ left₀ top₀ firsts nexts lengths shown left top = count (λ n. ltb 0 n) (take segments left)
 
-numbers-requires : tie.Need-numbers-requires invariant-loop decreases-loop
-numbers-requires c κs = c.before.requires.0.segments
+numbers_requires : tie.Need-numbers-requires invariant_loop decreases_loop
+numbers_requires c κs = c.before.requires.0.segments
 
-largest-requires : tie.Need-largest-requires invariant-loop decreases-loop
-largest-requires c κs = (c.before.before.before.requires.0.segments, c.before.numbers.ensures.1)
+largest_requires : tie.Need-largest-requires invariant_loop decreases_loop
+largest_requires c κs = (c.before.before.before.requires.0.segments, c.before.numbers.ensures.1)
 
-loop-holds : tie.Need-loop-init invariant-loop decreases-loop
-loop-holds c =
+loop_holds : tie.Need-loop-init invariant_loop decreases_loop
+loop_holds c =
     let s = c.before.before.before.before in
     let a = s.args in
     (whole a.segments a.slots a.image.now, walk_start a.segments a.slots a.image.now s.requires.0.some s.requires.0.segments (tables a.firsts.now a.nexts.now a.lengths.now) a.table c.before.before.numbers.result c.largest.result (omega (arith, s.well-formed.1.1.1.0)) c.before.before.numbers.ensures.1 s.requires.1 c.before.before.numbers.ensures.0 c.largest.ensures)
 
-sub-index : tie.Need-overflow-sub-index invariant-loop decreases-loop
-sub-index c = search rules
+sub_index : tie.Need-overflow-sub-index invariant_loop decreases_loop
+sub_index c = search rules
 
-rem-index : tie.Need-nonzero-rem-index invariant-loop decreases-loop
-rem-index c = c.before.before.before.before.before.before.requires.0.some
+rem_index : tie.Need-nonzero-rem-index invariant_loop decreases_loop
+rem_index c = c.before.before.before.before.before.before.requires.0.some
 
-add-list-row : tie.Need-overflow-add-list-row invariant-loop decreases-loop
-add-list-row c = omega (arith, c.before.before.before.before.before.before.requires.0.slots)
+add_list_row : tie.Need-overflow-add-list-row invariant_loop decreases_loop
+add_list_row c = omega (arith, c.before.before.before.before.before.before.requires.0.slots)
 
-mul-list-row : tie.Need-overflow-mul-list-row invariant-loop decreases-loop
-mul-list-row c =
+mul_list_row : tie.Need-overflow-mul-list-row invariant_loop decreases_loop
+mul_list_row c =
     let s = c.before.before.before.before.before.before in
     let m = mod-lt (c.before.loop.top - 1) s.requires.0.some in
-    let q = page-inside s.args.segments s.args.slots ((c.before.loop.top - 1) % s.args.segments) m s.requires.0.segments s.requires.0.slots in
+    let q = page_inside s.args.segments s.args.slots ((c.before.loop.top - 1) % s.args.segments) m s.requires.0.segments s.requires.0.slots in
     omega (arith, q.0)
 
-list-row-requires : tie.Need-list-row-requires invariant-loop decreases-loop
-list-row-requires c κs =
+list_row_requires : tie.Need-list-row-requires invariant_loop decreases_loop
+list_row_requires c κs =
     let s = c.before.before.before.before.before.before.before.before.before in
     let m = mod-lt (c.before.before.before.before.loop.top - 1) s.requires.0.some in
-    let q = page-inside s.args.segments s.args.slots ((c.before.before.before.before.loop.top - 1) % s.args.segments) m s.requires.0.segments s.requires.0.slots in
+    let q = page_inside s.args.segments s.args.slots ((c.before.before.before.before.loop.top - 1) % s.args.segments) m s.requires.0.segments s.requires.0.slots in
     (omega (arith, q.2, s.requires.0.whole), q.1, s.requires.0.slots)
 
-mul-x : tie.Need-overflow-mul-x invariant-loop decreases-loop
-mul-x c =
+mul_x : tie.Need-overflow-mul-x invariant_loop decreases_loop
+mul_x c =
     let s = c.before.before.before.before.before.before.before.before.before.before in
     let m = mod-lt (c.before.before.before.before.before.loop.top - 1) s.requires.0.some in
     omega (arith, s.requires.0.segments)
 
-array-copy-out-x : tie.Need-array-copy-out-x invariant-loop decreases-loop
-array-copy-out-x c =
+array_copy_out_x : tie.Need-array-copy-out-x invariant_loop decreases_loop
+array_copy_out_x c =
     let s = c.before.before.before.before.before.before.before.before.before.before in
     let m = mod-lt (c.before.before.before.before.before.loop.top - 1) s.requires.0.some in
     omega (arith, s.requires.0.segments)
 
-count-requires : tie.Need-count-requires invariant-loop decreases-loop
-count-requires c κs = search rules
+count_requires : tie.Need-count-requires invariant_loop decreases_loop
+count_requires c κs = search rules
 
-mul-shown : tie.Need-overflow-mul-shown invariant-loop decreases-loop
-mul-shown c =
+mul_shown : tie.Need-overflow-mul-shown invariant_loop decreases_loop
+mul_shown c =
     let s = c.before.before.before.before.before.before.before.before.before.before.before.before in
     let m = mod-lt (c.before.before.before.before.before.before.before.loop.top - 1) s.requires.0.some in
     omega (arith, s.requires.0.segments)
 
-array-set-from-shown : tie.Need-array-set-from-shown invariant-loop decreases-loop
-array-set-from-shown c =
+array_set_from_shown : tie.Need-array-set-from-shown invariant_loop decreases_loop
+array_set_from_shown c =
     let s = c.before.before.before.before.before.before.before.before.before.before.before.before in
     let m = mod-lt (c.before.before.before.before.before.before.before.loop.top - 1) s.requires.0.some in
     omega (arith, s.requires.0.segments)
 
-mul_left : tie.Need-overflow-mul-left invariant-loop decreases-loop
+mul_left : tie.Need-overflow-mul-left invariant_loop decreases_loop
 mul_left c =
     let s = c.before.before.before.before.before.before.before.before.before.before.before.before in
     let m = mod-lt (c.before.before.before.before.before.before.before.loop.top - 1) s.requires.0.some in
     omega (arith, s.requires.0.segments)
 
-array-write-left : tie.Need-array-write-left invariant-loop decreases-loop
-array-write-left c =
+array_write_left : tie.Need-array-write-left invariant_loop decreases_loop
+array_write_left c =
     let s = c.before.before.before.before.before.before.before.before.before.before.before.before in
     let m = mod-lt (c.before.before.before.before.before.before.before.loop.top - 1) s.requires.0.some in
     omega (arith, s.requires.0.segments)
 
-largest-requires-2 : tie.Need-largest-requires-2 invariant-loop decreases-loop
-largest-requires-2 c κs = (c.before.before.before.before.before.before.before.before.before.before.before.before.before.requires.0.segments, simp length-set c.before.before.before.before.before.before.before.before.loop.invariant.1.descent.places)
+largest_requires_2 : tie.Need-largest-requires-2 invariant_loop decreases_loop
+largest_requires_2 c κs = (c.before.before.before.before.before.before.before.before.before.before.before.before.before.requires.0.segments, simp length-set c.before.before.before.before.before.before.before.before.loop.invariant.1.descent.places)
 
-loop-less : tie.Need-loop-smaller invariant-loop decreases-loop
-loop-less c =
+loop_less : tie.Need-loop-smaller invariant_loop decreases_loop
+loop_less c =
     let s = c.before.before.before.before.before.before.before.before.before.before.before.before.before.before in
     let a = s.args in
     let l = c.before.before.before.before.before.before.before.before.before.loop in
-    turn-less a.segments a.slots a.image.now s.requires.0.some l.invariant.0 l.left l.top l.invariant.1.descent c.before.before.before.before.before.before.before.before.loop-test.true
+    turn_less a.segments a.slots a.image.now s.requires.0.some l.invariant.0 l.left l.top l.invariant.1.descent c.before.before.before.before.before.before.before.before.loop-test.true
 
-loop-again : tie.Need-loop-preserved invariant-loop decreases-loop
-unfolding shownAs noCounts
-loop-again c =
+loop_again : tie.Need-loop-preserved invariant_loop decreases_loop
+unfolding shown_as no_counts
+loop_again c =
     let s = c.before.before.before.before.before.before.before.before.before.before.before.before.before.before in
     let a = s.args in
     let l = c.before.before.before.before.before.before.before.before.before.loop in
     let more = c.before.before.before.before.before.before.before.before.loop-test.true in
     let w = l.invariant.1 in
-    let e : (l.top - 1) % a.segments ≡ topIndex a.segments l.invariant.0 = turn-index a.segments a.slots a.image.now s.requires.0.some l.invariant.0 l.left l.top w.descent more in (
-      set l.invariant.0 (topIndex a.segments l.invariant.0) blank,
+    let e : (l.top - 1) % a.segments ≡ top_index a.segments l.invariant.0 = turn_index a.segments a.slots a.image.now s.requires.0.some l.invariant.0 l.left l.top w.descent more in (
+      set l.invariant.0 (top_index a.segments l.invariant.0) blank,
       again a.segments a.slots a.image.now s.requires.0.some s.requires.0.segments (tables a.firsts.now a.nexts.now a.lengths.now) l.invariant.0 l.shown l.left l.top (tables l.firsts l.nexts l.lengths) w more
           ((l.top - 1) % a.segments) e c.before.before.before.before.list-row.result c.before.before.count.result _ c.largest2.result c.before.before.before.before.list-row.ensures.0 c.before.before.count.ensures c.before.before.before.before.list-row.ensures.1 c.largest2.ensures,
     )
 
-returns : tie.Need-returns invariant-loop decreases-loop
+returns : tie.Need-returns invariant_loop decreases_loop
 returns c =
     let s = c.before.before.before.before.before.before in
     let a = s.args in
     let l = c.before.loop in
     walk_end a.segments a.slots a.image.now s.requires.0.some s.requires.0.segments (tables a.firsts.now a.nexts.now a.lengths.now) l.invariant.0 l.shown l.left l.top (tables l.firsts l.nexts l.lengths) l.invariant.1 (omega (arith, c.loop-test.false))
 
-pub list-segments-spec : {M : Type 1} → statement M
-list-segments-spec =
+pub list_segments_spec : {M : Type 1} → statement M
+list_segments_spec =
     tie.close
     (tie.spec
-    invariant-loop
-    decreases-loop
-    numbers-requires
-    largest-requires
-    loop-holds
-    sub-index
-    rem-index
-    add-list-row
-    mul-list-row
-    list-row-requires
-    mul-x
-    array-copy-out-x
-    count-requires
-    mul-shown
-    array-set-from-shown
+    invariant_loop
+    decreases_loop
+    numbers_requires
+    largest_requires
+    loop_holds
+    sub_index
+    rem_index
+    add_list_row
+    mul_list_row
+    list_row_requires
+    mul_x
+    array_copy_out_x
+    count_requires
+    mul_shown
+    array_set_from_shown
     mul_left
-    array-write-left
-    largest-requires-2
-    loop-less
-    loop-again
+    array_write_left
+    largest_requires_2
+    loop_less
+    loop_again
     returns)

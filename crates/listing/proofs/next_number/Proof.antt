@@ -5,14 +5,14 @@ use borrow.Author.Rules.{rules}
 use Rattle.listing.proofs.next_number.Statement.{statement}
 use Rattle.listing.proofs.next_number.Tie as tie
 
-numbers-requires : tie.Need-numbers-requires
-numbers-requires c κs = search rules
+numbers_requires : tie.Need-numbers-requires
+numbers_requires c κs = search rules
 
-largest-requires : tie.Need-largest-requires
-largest-requires c κs = search rules
+largest_requires : tie.Need-largest-requires
+largest_requires c κs = search rules
 
 returns : tie.Need-returns
 returns c = c.largest.ensures ∙ ap largest c.before.before.numbers.ensures.0
 
-pub next-number-spec : {M : Type 1} → statement M
-next-number-spec = tie.close (tie.spec numbers-requires largest-requires returns)
+pub next_number_spec : {M : Type 1} → statement M
+next_number_spec = tie.close (tie.spec numbers_requires largest_requires returns)

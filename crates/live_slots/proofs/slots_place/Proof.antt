@@ -6,23 +6,23 @@ use borrow.Author.Rules.{rules}
 use Rattle.live_slots.proofs.slots_place.Statement.{statement}
 use Rattle.live_slots.proofs.slots_place.Tie as tie
 
-add-result : tie.Need-overflow-add-result
-add-result c = search rules
+add_result : tie.Need-overflow-add-result
+add_result c = search rules
 
-mul-result : tie.Need-overflow-mul-result
-mul-result c =
+mul_result : tie.Need-overflow-mul-result
+mul_result c =
     record { fits = omega (arith, mul-le-mul_right (c.args.slots + 1) c.requires.0) }
 
-add-result-2 : tie.Need-overflow-add-result-2
-add-result-2 c =
+add_result_2 : tie.Need-overflow-add-result-2
+add_result_2 c =
     record { fits = omega (arith, mul-le-mul_right (c.args.slots + 1) c.requires.0) }
 
-mul-result-2 : tie.Need-overflow-mul-result-2
-mul-result-2 c =
+mul_result_2 : tie.Need-overflow-mul-result-2
+mul_result_2 c =
     record { fits = omega (arith, mul-le-mul_right (c.args.slots + 1) c.requires.0) }
 
 returns : tie.Need-returns
 returns c = search rules
 
-pub slots-place-spec : {M : Type 1} → statement M
-slots-place-spec = tie.close (tie.spec add-result mul-result add-result-2 mul-result-2 returns)
+pub slots_place_spec : {M : Type 1} → statement M
+slots_place_spec = tie.close (tie.spec add_result mul_result add_result_2 mul_result_2 returns)

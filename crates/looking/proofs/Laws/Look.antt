@@ -4,55 +4,55 @@ use mathlib.Core.Path.{◌≡◌, refl, subst}
 use mathlib.Core.Bool.{true, false}
 use native.Mathlib.Omega.{arith}
 use lib.ListN.{length}
-use Rattle.model.specs.Chip.{Image, rightSize}
-use Rattle.model.specs.Slot.{numberOk}
-use Rattle.model.specs.State.{entriesIn, holds, clean, state, view}
+use Rattle.model.specs.Chip.{Image, right_size}
+use Rattle.model.specs.Slot.{number_ok}
+use Rattle.model.specs.State.{entries_in, holds, clean, state, view}
 use Rattle.model.specs.Answers.{code_of, read}
 use Rattle.model.specs.declared.Answer.{Answer}
 use Rattle.model.specs.declared.Answer.TheVariants.{Size, Number, Absent}
 use Rattle.model.specs.declared.SlotPlace.{SlotPlace}
 use Rattle.find.specs.declared.Found.{Found}
 use Rattle.find.specs.declared.Found.TheVariants.{At, Nothing}
-use Rattle.find.specs.Search.{rows_at, foundIn}
+use Rattle.find.specs.Search.{rows_at, found_in}
 use Rattle.find.proofs.Callers.{Inside, found_inside, FoundAt, found_at, found_nothing}
 use Rattle.room.specs.declared.Plan.{Plan}
 use Rattle.room.specs.Room.{Planned}
 use Rattle.looking.specs.Look.{There, Kept}
-use Rattle.bridge.specs.Refusals.{answer_in, unclean-code, wrong-size-code, read_number, read-unclean, read-absent, read_found}
-use Rattle.room.proofs.Laws.{plan-held, plan-sized}
+use Rattle.bridge.specs.Refusals.{answer_in, unclean_code, wrong_size_code, read_number, read_unclean, read_absent, read_found}
+use Rattle.room.proofs.Laws.{plan_held, plan_sized}
 
 module _ (N B : ℕ) (s : Image) (p : Plan) (k : Planned N B p s) where
-  module _ (b : ℕ) (r : Found) (e : r ≡ foundIn N B p.first.0 (rows_at N B s p.used p.first.0) b) where
-    pub plan-found : (q : SlotPlace) (n : ℕ) → r ≡ At q n → FoundAt N B b (view N B s) q n
-    plan-found q n w = found_at N B b s (view N B s) (plan-held N B p s k) k.first k.used e q n w
+  module _ (b : ℕ) (r : Found) (e : r ≡ found_in N B p.first.0 (rows_at N B s p.used p.first.0) b) where
+    pub plan_found : (q : SlotPlace) (n : ℕ) → r ≡ At q n → FoundAt N B b (view N B s) q n
+    plan_found q n w = found_at N B b s (view N B s) (plan_held N B p s k) k.first k.used e q n w
 
-    pub plan-inside : (q : SlotPlace) (n : ℕ) → r ≡ At q n → (q.0 + 256 ≤ length s) × (n ≤ 248)
-    plan-inside q n w =
-        let z = plan-sized N B p s k in
+    pub plan_inside : (q : SlotPlace) (n : ℕ) → r ≡ At q n → (q.0 + 256 ≤ length s) × (n ≤ 248)
+    plan_inside q n w =
+        let z = plan_sized N B p s k in
         let i = subst (Inside N B) w (found_inside N B b s z.some p.used p.first.0 e) in
         (omega (arith, i.0, z.whole), i.1)
 
-    pub plan-none : r ≡ Nothing → holds b (entriesIn (view N B s)) ≡ false
-    plan-none m = found_nothing N B b s (view N B s) (plan-held N B p s k) k.first k.used e m
+    pub plan_none : r ≡ Nothing → holds b (entries_in (view N B s)) ≡ false
+    plan_none m = found_nothing N B b s (view N B s) (plan_held N B p s k) k.first k.used e m
 
-    module _ (n : numberOk b ≡ true) where
-      pub look-there : (q : SlotPlace) (size : ℕ) → r ≡ At q size → There N B s b q.0 size
-      look-there q size w = let f = plan-found q size w in let i = plan-inside q size w in
+    module _ (n : number_ok b ≡ true) where
+      pub look_there : (q : SlotPlace) (size : ℕ) → r ≡ At q size → There N B s b q.0 size
+      look_there q size w = let f = plan_found q size w in let i = plan_inside q size w in
           record { code = read_found N B s k.size b n k.state f.held; place = f.place; count = f.long; inside = i.0; short = i.1 }
 
-      pub look-absent : r ≡ Nothing → Kept N B s b Absent
+      pub look_absent : r ≡ Nothing → Kept N B s b Absent
       unfolding code_of
-      look-absent m = record { code = read-absent N B s k.size b n k.state (plan-none m); some = refl }
+      look_absent m = record { code = read_absent N B s k.size b n k.state (plan_none m); some = refl }
 
 module _ (N B : ℕ) (s : Image) (b : ℕ) where
-  pub look-size : rightSize N B s ≡ false → Kept N B s b Size
+  pub look_size : right_size N B s ≡ false → Kept N B s b Size
   unfolding code_of
-  look-size e = record { code = wrong-size-code N B s (read b) e; some = refl }
+  look_size e = record { code = wrong_size_code N B s (read b) e; some = refl }
 
-  module _ (z : rightSize N B s ≡ true) where
-    pub look-number : numberOk b ≡ false → Kept N B s b Number
+  module _ (z : right_size N B s ≡ true) where
+    pub look_number : number_ok b ≡ false → Kept N B s b Number
     unfolding code_of
-    look-number e = record { code = read_number N B s z b e; some = refl }
+    look_number e = record { code = read_number N B s z b e; some = refl }
 
-    pub look-unclean : numberOk b ≡ true → (a : Answer) → (state N B s ≡ clean → ⊥) → a ≡ answer_in (state N B s) → Kept N B s b a
-    look-unclean n a h e = rw e (record { code = read-unclean N B s z b n h; some = unclean-code (state N B s) h })
+    pub look_unclean : number_ok b ≡ true → (a : Answer) → (state N B s ≡ clean → ⊥) → a ≡ answer_in (state N B s) → Kept N B s b a
+    look_unclean n a h e = rw e (record { code = read_unclean N B s z b n h; some = unclean_code (state N B s) h })

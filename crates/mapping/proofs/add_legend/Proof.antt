@@ -6,11 +6,11 @@ use borrow.Author.Rules.{rules}
 use Rattle.mapping.proofs.add_legend.Statement.{statement}
 use Rattle.mapping.proofs.add_legend.Tie as tie
 
-slice-aggregate-add : tie.Need-slice-aggregate-add
-slice-aggregate-add c = search rules
+slice_aggregate_add : tie.Need-slice-aggregate-add
+slice_aggregate_add c = search rules
 
-add-requires : tie.Need-add-requires
-add-requires c κs = search rules
+add_requires : tie.Need-add-requires
+add_requires c κs = search rules
 
 same_length : tie.Need-same-length
 same_length c = search rules
@@ -19,5 +19,5 @@ returns : tie.Need-returns
 unfolding legend text
 returns c = let k = c.before.before in (k.add.ensures, omega (arith, k.add.ensures.ends))
 
-pub add-legend-spec : {M : Type 1} → statement M
-add-legend-spec = tie.close (tie.spec slice-aggregate-add add-requires same_length returns)
+pub add_legend_spec : {M : Type 1} → statement M
+add_legend_spec = tie.close (tie.spec slice_aggregate_add add_requires same_length returns)

@@ -5,14 +5,14 @@ use borrow.Author.Rules.{rules}
 use Rattle.marking.proofs.add_mark.Statement.{statement}
 use Rattle.marking.proofs.add_mark.Tie as tie
 
-add-break-requires : tie.Need-add-break-requires
-add-break-requires c κs = search rules
+add_break_requires : tie.Need-add-break-requires
+add_break_requires c κs = search rules
 
-slice-aggregate-add : tie.Need-slice-aggregate-add
-slice-aggregate-add c = search rules
+slice_aggregate_add : tie.Need-slice-aggregate-add
+slice_aggregate_add c = search rules
 
-add-requires : tie.Need-add-requires
-add-requires c κs = search rules
+add_requires : tie.Need-add-requires
+add_requires c κs = search rules
 
 same_length : tie.Need-same-length
 same_length c = search rules
@@ -23,6 +23,6 @@ returns c =
     let a = c.before.before.before.before.before.before.before.add-break.ensures in
     (a.0 then b, omega (arith, a.1, b.ends))
 
-pub add-mark-spec : {M : Type 1} → statement M
-add-mark-spec =
-    tie.close (tie.spec add-break-requires slice-aggregate-add add-requires same_length returns)
+pub add_mark_spec : {M : Type 1} → statement M
+add_mark_spec =
+    tie.close (tie.spec add_break_requires slice_aggregate_add add_requires same_length returns)

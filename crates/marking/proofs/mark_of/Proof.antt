@@ -1,6 +1,6 @@
 -- `marking::mark_of`: one character for each kind. Assumes nothing.
 use Rattle.account_text.specs.Map.{mark}
-use Rattle.marking.specs.Marks.{markKind}
+use Rattle.marking.specs.Marks.{mark_kind}
 use borrow.Author.Rules.{rules}
 use Rattle.marking.proofs.mark_of.Statement.{statement}
 use Rattle.marking.proofs.mark_of.Tie as tie
@@ -8,58 +8,58 @@ use Rattle.marking.proofs.mark_of.Tie as tie
 enum_told : tie.Need-enum-told
 enum_told c = search rules
 
-enum-told-2 : tie.Need-enum-told-2
-enum-told-2 c = search rules
+enum_told_2 : tie.Need-enum-told-2
+enum_told_2 c = search rules
 
-enum-told-3 : tie.Need-enum-told-3
-enum-told-3 c = search rules
+enum_told_3 : tie.Need-enum-told-3
+enum_told_3 c = search rules
 
-enum-told-4 : tie.Need-enum-told-4
-enum-told-4 c = search rules
+enum_told_4 : tie.Need-enum-told-4
+enum_told_4 c = search rules
 
-enum-told-5 : tie.Need-enum-told-5
-enum-told-5 c = search rules
+enum_told_5 : tie.Need-enum-told-5
+enum_told_5 c = search rules
 
-enum-told-6 : tie.Need-enum-told-6
-enum-told-6 c = search rules
+enum_told_6 : tie.Need-enum-told-6
+enum_told_6 c = search rules
 
 returns : tie.Need-returns
-unfolding markKind mark
+unfolding mark_kind mark
 returns c = rw c.enum_told.given.1
 
-returns-2 : tie.Need-returns-2
-unfolding markKind mark
-returns-2 c = rw c.enum-told2.given.1
+returns_2 : tie.Need-returns-2
+unfolding mark_kind mark
+returns_2 c = rw c.enum-told2.given.1
 
-returns-3 : tie.Need-returns-3
-unfolding markKind mark
-returns-3 c = rw c.enum-told3.given.1
+returns_3 : tie.Need-returns-3
+unfolding mark_kind mark
+returns_3 c = rw c.enum-told3.given.1
 
-returns-4 : tie.Need-returns-4
-unfolding markKind mark
-returns-4 c = rw c.enum-told4.given.1
+returns_4 : tie.Need-returns-4
+unfolding mark_kind mark
+returns_4 c = rw c.enum-told4.given.1
 
-returns-5 : tie.Need-returns-5
-unfolding markKind mark
-returns-5 c = rw c.enum-told5.given.1
+returns_5 : tie.Need-returns-5
+unfolding mark_kind mark
+returns_5 c = rw c.enum-told5.given.1
 
-returns-6 : tie.Need-returns-6
-unfolding markKind mark
-returns-6 c = rw c.enum-told6.given.1
+returns_6 : tie.Need-returns-6
+unfolding mark_kind mark
+returns_6 c = rw c.enum-told6.given.1
 
-pub mark-of-spec : {M : Type 1} → statement M
-mark-of-spec =
+pub mark_of_spec : {M : Type 1} → statement M
+mark_of_spec =
     tie.close
     (tie.spec
     enum_told
-    enum-told-2
-    enum-told-3
-    enum-told-4
-    enum-told-5
-    enum-told-6
+    enum_told_2
+    enum_told_3
+    enum_told_4
+    enum_told_5
+    enum_told_6
     returns
-    returns-2
-    returns-3
-    returns-4
-    returns-5
-    returns-6)
+    returns_2
+    returns_3
+    returns_4
+    returns_5
+    returns_6)

@@ -4,8 +4,8 @@ use Prim.Native.Nat.{ℕ}
 use lib.ListN.{length}
 use Rattle.flash.proofs.Pages.{sized}
 use Rattle.mend.specs.Marks.{PageAt}
-use Rattle.scan.proofs.Laws.Told.{survey-clean, survey-damaged, survey-torn-segment, survey-pending, survey-torn-slot, survey-old-slot}
-use Rattle.mend.proofs.Laws.Mend.{torn-page, older-page, mend-clean, mend-damaged, mend-a, mend-b, mend-c, mend-d}
+use Rattle.scan.proofs.Laws.Told.{survey_clean, survey_damaged, survey_torn_segment, survey_pending, survey_torn_slot, survey_old_slot}
+use Rattle.mend.proofs.Laws.Mend.{torn_page, older_page, mend_clean, mend_damaged, mend_a, mend_b, mend_c, mend_d}
 use borrow.Author.Rules.{rules}
 use Rattle.mend.proofs.mend.Statement.{statement}
 use Rattle.mend.proofs.mend.Tie as tie
@@ -13,116 +13,116 @@ use Rattle.mend.proofs.mend.Tie as tie
 enum_told : tie.Need-enum-told
 enum_told c = search rules
 
-refused-requires : tie.Need-refused-requires
-refused-requires c κs = search rules
+refused_requires : tie.Need-refused-requires
+refused_requires c κs = search rules
 
-enum-known-survey : tie.Need-enum-known-survey
-enum-known-survey c = search rules
+enum_known_survey : tie.Need-enum-known-survey
+enum_known_survey c = search rules
 
-erase-torn-requires : tie.Need-erase-torn-requires
-erase-torn-requires c κs = let a = c.before.before.before.before.before in sized a.args.segments a.args.slots a.args.image.now a.requires.0
+erase_torn_requires : tie.Need-erase-torn-requires
+erase_torn_requires c κs = let a = c.before.before.before.before.before in sized a.args.segments a.args.slots a.args.image.now a.requires.0
 
-enum-known-survey-2 : tie.Need-enum-known-survey-2
-enum-known-survey-2 c = search rules
+enum_known_survey_2 : tie.Need-enum-known-survey-2
+enum_known_survey_2 c = search rules
 
-erase-pending-requires : tie.Need-erase-pending-requires
-erase-pending-requires c κs = let a = c.before.before.before.before.before in sized a.args.segments a.args.slots a.args.image.now a.requires.0
+erase_pending_requires : tie.Need-erase-pending-requires
+erase_pending_requires c κs = let a = c.before.before.before.before.before in sized a.args.segments a.args.slots a.args.image.now a.requires.0
 
-enum-known-survey-3 : tie.Need-enum-known-survey-3
-enum-known-survey-3 c = search rules
+enum_known_survey_3 : tie.Need-enum-known-survey-3
+enum_known_survey_3 c = search rules
 
-mark-slot-requires : tie.Need-mark-slot-requires
-mark-slot-requires c κs =
+mark_slot_requires : tie.Need-mark-slot-requires
+mark_slot_requires c κs =
     let a = c.before.before.before.before.before in
-    let t = survey-torn-slot a.args.segments a.args.slots a.args.image.now a.args.survey a.requires.1 _ c.before.before.survey3.given.1 in
-    subst (λ (x : ℕ). PageAt x (length a.args.image.now)) (sym t.1) (torn-page a.args.segments a.args.slots a.args.image.now a.requires.0 t.0)
+    let t = survey_torn_slot a.args.segments a.args.slots a.args.image.now a.args.survey a.requires.1 _ c.before.before.survey3.given.1 in
+    subst (λ (x : ℕ). PageAt x (length a.args.image.now)) (sym t.1) (torn_page a.args.segments a.args.slots a.args.image.now a.requires.0 t.0)
 
-enum-known-survey-4 : tie.Need-enum-known-survey-4
-enum-known-survey-4 c = search rules
+enum_known_survey_4 : tie.Need-enum-known-survey-4
+enum_known_survey_4 c = search rules
 
-mark-slot-requires-2 : tie.Need-mark-slot-requires-2
-mark-slot-requires-2 c κs =
+mark_slot_requires_2 : tie.Need-mark-slot-requires-2
+mark_slot_requires_2 c κs =
     let a = c.before.before.before.before.before in
-    let t = survey-old-slot a.args.segments a.args.slots a.args.image.now a.args.survey a.requires.1 _ c.before.before.survey4.given.1 in
-    subst (λ (x : ℕ). PageAt x (length a.args.image.now)) (sym t.1) (older-page a.args.segments a.args.slots a.args.image.now a.requires.0 t.0)
+    let t = survey_old_slot a.args.segments a.args.slots a.args.image.now a.args.survey a.requires.1 _ c.before.before.survey4.given.1 in
+    subst (λ (x : ℕ). PageAt x (length a.args.image.now)) (sym t.1) (older_page a.args.segments a.args.slots a.args.image.now a.requires.0 t.0)
 
-enum-told-2 : tie.Need-enum-told-2
-enum-told-2 c = search rules
+enum_told_2 : tie.Need-enum-told-2
+enum_told_2 c = search rules
 
-refused-requires-2 : tie.Need-refused-requires-2
-refused-requires-2 c κs = search rules
+refused_requires_2 : tie.Need-refused-requires-2
+refused_requires_2 c κs = search rules
 
 returns : tie.Need-returns
 returns c =
     let a = c.before.before.before.before in
-    mend-clean a.args.segments a.args.slots a.args.image.now a.requires.0 a.args.budget
-    (survey-clean a.args.segments a.args.slots a.args.image.now a.args.survey a.requires.1 _ _ _ _ _ c.before.enum_told.given.1) c.refused.ensures
+    mend_clean a.args.segments a.args.slots a.args.image.now a.requires.0 a.args.budget
+    (survey_clean a.args.segments a.args.slots a.args.image.now a.args.survey a.requires.1 _ _ _ _ _ c.before.enum_told.given.1) c.refused.ensures
 
 same_length : tie.Need-same-length
 same_length c = search rules
 
-returns-2 : tie.Need-returns-2
-returns-2 c =
+returns_2 : tie.Need-returns-2
+returns_2 c =
     let a = c.before.before.before.before.before.before.before.before in
-    let t = survey-torn-segment a.args.segments a.args.slots a.args.image.now a.args.survey a.requires.1 _ c.before.before.before.before.before.survey.given.1 in
-    mend-a a.args.segments a.args.slots a.args.image.now a.requires.0 a.args.budget _ t.1 t.0 c.before.before.erase-torn.ensures
+    let t = survey_torn_segment a.args.segments a.args.slots a.args.image.now a.args.survey a.requires.1 _ c.before.before.before.before.before.survey.given.1 in
+    mend_a a.args.segments a.args.slots a.args.image.now a.requires.0 a.args.budget _ t.1 t.0 c.before.before.erase-torn.ensures
 
-same-length-2 : tie.Need-same-length-2
-same-length-2 c = search rules
+same_length_2 : tie.Need-same-length-2
+same_length_2 c = search rules
 
-returns-3 : tie.Need-returns-3
-returns-3 c =
+returns_3 : tie.Need-returns-3
+returns_3 c =
     let a = c.before.before.before.before.before.before.before.before in
-    let t = survey-pending a.args.segments a.args.slots a.args.image.now a.args.survey a.requires.1 _ _ c.before.before.before.before.before.survey2.given.1 in
-    mend-b a.args.segments a.args.slots a.args.image.now a.requires.0 a.args.budget _ t.1 t.0 _ t.2 c.before.before.erase-pending.ensures
+    let t = survey_pending a.args.segments a.args.slots a.args.image.now a.args.survey a.requires.1 _ _ c.before.before.before.before.before.survey2.given.1 in
+    mend_b a.args.segments a.args.slots a.args.image.now a.requires.0 a.args.budget _ t.1 t.0 _ t.2 c.before.before.erase-pending.ensures
 
-same-length-3 : tie.Need-same-length-3
-same-length-3 c = search rules
+same_length_3 : tie.Need-same-length-3
+same_length_3 c = search rules
 
-returns-4 : tie.Need-returns-4
-returns-4 c =
+returns_4 : tie.Need-returns-4
+returns_4 c =
     let a = c.before.before.before.before.before.before.before.before in
-    let t = survey-torn-slot a.args.segments a.args.slots a.args.image.now a.args.survey a.requires.1 _ c.before.before.before.before.before.survey3.given.1 in
-    mend-c a.args.segments a.args.slots a.args.image.now a.requires.0 a.args.budget _ t.0 t.1 c.before.before.mark-slot.ensures
+    let t = survey_torn_slot a.args.segments a.args.slots a.args.image.now a.args.survey a.requires.1 _ c.before.before.before.before.before.survey3.given.1 in
+    mend_c a.args.segments a.args.slots a.args.image.now a.requires.0 a.args.budget _ t.0 t.1 c.before.before.mark-slot.ensures
 
-same-length-4 : tie.Need-same-length-4
-same-length-4 c = search rules
+same_length_4 : tie.Need-same-length-4
+same_length_4 c = search rules
 
-returns-5 : tie.Need-returns-5
-returns-5 c =
+returns_5 : tie.Need-returns-5
+returns_5 c =
     let a = c.before.before.before.before.before.before.before.before in
-    let t = survey-old-slot a.args.segments a.args.slots a.args.image.now a.args.survey a.requires.1 _ c.before.before.before.before.before.survey4.given.1 in
-    mend-d a.args.segments a.args.slots a.args.image.now a.requires.0 a.args.budget _ t.0 t.1 c.before.before.mark-slot2.ensures
+    let t = survey_old_slot a.args.segments a.args.slots a.args.image.now a.args.survey a.requires.1 _ c.before.before.before.before.before.survey4.given.1 in
+    mend_d a.args.segments a.args.slots a.args.image.now a.requires.0 a.args.budget _ t.0 t.1 c.before.before.mark-slot2.ensures
 
-returns-6 : tie.Need-returns-6
-returns-6 c =
+returns_6 : tie.Need-returns-6
+returns_6 c =
     let a = c.before.before.before.before in
-    mend-damaged a.args.segments a.args.slots a.args.image.now a.requires.0 a.args.budget
-    (survey-damaged a.args.segments a.args.slots a.args.image.now a.args.survey a.requires.1 c.before.enum-told2.given.1) c.refused2.ensures
+    mend_damaged a.args.segments a.args.slots a.args.image.now a.requires.0 a.args.budget
+    (survey_damaged a.args.segments a.args.slots a.args.image.now a.args.survey a.requires.1 c.before.enum-told2.given.1) c.refused2.ensures
 
-pub mend-spec : {M : Type 1} → statement M
-mend-spec =
+pub mend_spec : {M : Type 1} → statement M
+mend_spec =
     tie.close
     (tie.spec
     enum_told
-    refused-requires
-    enum-known-survey
-    erase-torn-requires
-    enum-known-survey-2
-    erase-pending-requires
-    enum-known-survey-3
-    mark-slot-requires
-    enum-known-survey-4
-    mark-slot-requires-2
-    enum-told-2
-    refused-requires-2
+    refused_requires
+    enum_known_survey
+    erase_torn_requires
+    enum_known_survey_2
+    erase_pending_requires
+    enum_known_survey_3
+    mark_slot_requires
+    enum_known_survey_4
+    mark_slot_requires_2
+    enum_told_2
+    refused_requires_2
     returns
     same_length
-    returns-2
-    same-length-2
-    returns-3
-    same-length-3
-    returns-4
-    same-length-4
-    returns-5
-    returns-6)
+    returns_2
+    same_length_2
+    returns_3
+    same_length_3
+    returns_4
+    same_length_4
+    returns_5
+    returns_6)

@@ -5,205 +5,205 @@ use Rattle.std.proofs.Math.Bool.{and-true}
 use mathlib.Core.List.{List, [], ◌∷◌, ◌++◌, flat_map, flatten}
 use Rattle.std.proofs.lemmas.List.{length-replicate}
 use Rattle.model.specs.Lists.{same, all, count, chunk}
-use Rattle.model.specs.Chip.{Image, Page, numberLimit, imageLength, in_range, rightSize, pagesOf, bySegment, clear, erased}
-use Rattle.model.specs.Header.{numberBytes, inverted, value, statusInUse, newVersion, isFormer, versionNumber, totalFits, bitValues, clearedIn, clearedBits, tally_of, noBitLeft, tallyBytes, headerPage, headerStatus, headerNumber, headerVersion, oldIndex, headerInUse, isBlank, allBlank}
-use Rattle.model.specs.Slot.{mostContents, numberOk, slotPage, pageBlock, pageContents, slotFits, slot_of, is_empty, isTorn, isDead, isWrong, entry_of, holding}
-use Rattle.model.specs.State.{segmentOf, segmentsFrom, segmentsOn, segmentsOf, isInUse, isInvalid, isOwing, numberAfter, slotsIn, versionIn, ofVersion, nextNumber, topIndex, nextIndex, topSlots, topVersion, usedCount, firstNumber, slotsFrom, view_of, entries, entriesIn, someInUse, numbersFrom, consecutive, oneVersion, noneOwing, othersBlank, noneWrongOrTorn, holds, distinct, blocksDistinct, emptyLast, onlyTopEmpty, emptySlotsLast, capacity, withinCapacity, conditions, isClean, nextBlanked, is_a, settled, topSettled, is_b, withSlot, filled, lastSlot, lastKind, tornMarked, isC, slotFrom, placeFrom, place_of, blockIn, lastBlock, copies, older, olderMarked, isD, state_of, view}
-use Rattle.model.specs.Steps.{programs, programPart, onPage, header_at, slot_at, writeSlot, markDead, markPlace, openSegment, copyEntries, copyOut, settle, compact, topRow, topNumber, hasRoom, firstEmpty, copied, nextVersion, openNext, compactOldest, compactUntilRoom, room_for, markOld, writeAtTop, putSteps, deleteSteps, eraseFirst, formatSteps, highestOf, highestBit, clearNext, countErase, eraseNext, unlessBlank, mendSteps, recoverSteps, compactions, newNumbers, isWorn}
-use Rattle.model.specs.Table.{lookup, contentsFound}
-use Rattle.model.specs.Answers.{Request, read, recover, Work, first_of, isDamaged, isUnfinished, lengthOk, isFull, absentRefusals, refusals, stepsFor, workOn, workOf, codeUnder, outcomeOf, ReadOutcome, contentsAt, readOutcome}
-use Rattle.model.specs.Sequences.{Call, play, erasesIn, Observed, observe, observed, among, removed, inserted, storedAfter, replaces, start, noted, ledger, eraseCount}
-use Rattle.model.specs.Pages.{programPage, stepPages, runPages}
-use Rattle.model.specs.Bench.{call, whole, Setup, and_then, recording, recorded, left, Bench, bench, Example, sizes, olds, begins, answers, reads, counts, cuts, contentsIn, isCleanIn, cutHolds, exampleHolds, failing, up_from, putEach, examples}
+use Rattle.model.specs.Chip.{Image, Page, number_limit, image_length, in_range, right_size, pages_of, by_segment, clear, erased}
+use Rattle.model.specs.Header.{number_bytes, inverted, value, status_in_use, new_version, is_former, version_number, total_fits, bit_values, cleared_in, cleared_bits, tally_of, no_bit_left, tally_bytes, header_page, header_status, header_number, header_version, old_index, header_in_use, is_blank, all_blank}
+use Rattle.model.specs.Slot.{most_contents, number_ok, slot_page, page_block, page_contents, slot_fits, slot_of, is_empty, is_torn, is_dead, is_wrong, entry_of, holding}
+use Rattle.model.specs.State.{segment_of, segments_from, segments_on, segments_of, is_in_use, is_invalid, is_owing, number_after, slots_in, version_in, of_version, next_number, top_index, next_index, top_slots, top_version, used_count, first_number, slots_from, view_of, entries, entries_in, some_in_use, numbers_from, consecutive, one_version, none_owing, others_blank, none_wrong_or_torn, holds, distinct, blocks_distinct, empty_last, only_top_empty, empty_slots_last, capacity, within_capacity, conditions, is_clean, next_blanked, is_a, settled, top_settled, is_b, with_slot, filled, last_slot, last_kind, torn_marked, is_c, slot_from, place_from, place_of, block_in, last_block, copies, older, older_marked, is_d, state_of, view}
+use Rattle.model.specs.Steps.{programs, program_part, on_page, header_at, slot_at, write_slot, mark_dead, mark_place, open_segment, copy_entries, copy_out, settle, compact, top_row, top_number, has_room, first_empty, copied, next_version, open_next, compact_oldest, compact_until_room, room_for, mark_old, write_at_top, put_steps, delete_steps, erase_first, format_steps, highest_of, highest_bit, clear_next, count_erase, erase_next, unless_blank, mend_steps, recover_steps, compactions, new_numbers, is_worn}
+use Rattle.model.specs.Table.{lookup, contents_found}
+use Rattle.model.specs.Answers.{Request, read, recover, Work, first_of, is_damaged, is_unfinished, length_ok, is_full, absent_refusals, refusals, steps_for, work_on, work_of, code_under, outcome_of, ReadOutcome, contents_at, read_outcome}
+use Rattle.model.specs.Sequences.{Call, play, erases_in, Observed, observe, observed, among, removed, inserted, stored_after, replaces, start, noted, ledger, erase_count}
+use Rattle.model.specs.Pages.{program_page, step_pages, run_pages}
+use Rattle.model.specs.Bench.{call, whole, Setup, and_then, recording, recorded, left, Bench, bench, Example, sizes, olds, begins, answers, reads, counts, cuts, contents_in, is_clean_in, cut_holds, example_holds, failing, up_from, put_each, examples}
 use Rattle.model.specs.Laws.Lists.{and_left, and_right}
-use Rattle.model.specs.Laws.Chunk.{chunk-length}
+use Rattle.model.specs.Laws.Chunk.{chunk_length}
 use Rattle.model.specs.Laws.Chip.{run_length}
-use Rattle.model.specs.Laws.Pages.{pages-run, all-erased}
+use Rattle.model.specs.Laws.Pages.{pages_run, all_erased}
 
 -- every definition unfolds where this name does
 unfoldable pub evaluate : ℕ
-unfolding flat_map flatten same all count chunk numberLimit imageLength in_range bySegment clear erased numberBytes inverted value statusInUse newVersion isFormer versionNumber totalFits bitValues clearedIn clearedBits tally_of noBitLeft tallyBytes headerPage headerStatus headerNumber headerVersion oldIndex headerInUse isBlank allBlank mostContents numberOk slotPage pageBlock pageContents slotFits slot_of is_empty isTorn isDead isWrong entry_of holding segmentOf segmentsFrom segmentsOn isInUse isInvalid isOwing numberAfter slotsIn versionIn ofVersion nextNumber topIndex nextIndex topSlots topVersion usedCount firstNumber slotsFrom view_of entries entriesIn someInUse numbersFrom consecutive oneVersion noneOwing othersBlank noneWrongOrTorn holds distinct blocksDistinct emptyLast onlyTopEmpty emptySlotsLast capacity withinCapacity conditions isClean nextBlanked is_a settled topSettled is_b withSlot filled lastSlot lastKind tornMarked isC slotFrom placeFrom place_of blockIn lastBlock copies older olderMarked isD state_of programs programPart onPage header_at slot_at writeSlot markDead markPlace openSegment copyEntries copyOut settle compact topRow topNumber hasRoom firstEmpty copied nextVersion openNext compactOldest compactUntilRoom room_for markOld writeAtTop putSteps deleteSteps eraseFirst formatSteps highestOf highestBit clearNext countErase eraseNext unlessBlank mendSteps recoverSteps compactions newNumbers isWorn lookup contentsFound first_of isDamaged isUnfinished lengthOk isFull absentRefusals refusals stepsFor workOn codeUnder erasesIn among removed inserted storedAfter replaces start noted ledger eraseCount programPage stepPages runPages contentsIn isCleanIn cutHolds exampleHolds failing up_from putEach examples
+unfolding flat_map flatten same all count chunk number_limit image_length in_range by_segment clear erased number_bytes inverted value status_in_use new_version is_former version_number total_fits bit_values cleared_in cleared_bits tally_of no_bit_left tally_bytes header_page header_status header_number header_version old_index header_in_use is_blank all_blank most_contents number_ok slot_page page_block page_contents slot_fits slot_of is_empty is_torn is_dead is_wrong entry_of holding segment_of segments_from segments_on is_in_use is_invalid is_owing number_after slots_in version_in of_version next_number top_index next_index top_slots top_version used_count first_number slots_from view_of entries entries_in some_in_use numbers_from consecutive one_version none_owing others_blank none_wrong_or_torn holds distinct blocks_distinct empty_last only_top_empty empty_slots_last capacity within_capacity conditions is_clean next_blanked is_a settled top_settled is_b with_slot filled last_slot last_kind torn_marked is_c slot_from place_from place_of block_in last_block copies older older_marked is_d state_of programs program_part on_page header_at slot_at write_slot mark_dead mark_place open_segment copy_entries copy_out settle compact top_row top_number has_room first_empty copied next_version open_next compact_oldest compact_until_room room_for mark_old write_at_top put_steps delete_steps erase_first format_steps highest_of highest_bit clear_next count_erase erase_next unless_blank mend_steps recover_steps compactions new_numbers is_worn lookup contents_found first_of is_damaged is_unfinished length_ok is_full absent_refusals refusals steps_for work_on code_under erases_in among removed inserted stored_after replaces start noted ledger erase_count program_page step_pages run_pages contents_in is_clean_in cut_holds example_holds failing up_from put_each examples
 evaluate = 0
 
 -- ---- the bench over pages
 
-workPages : ℕ → ℕ → List Page → Request → Work
-workPages N B ps r = workOn N B (in_range N B) (segmentsOn N B ps) r
+work_pages : ℕ → ℕ → List Page → Request → Work
+work_pages N B ps r = work_on N B (in_range N B) (segments_on N B ps) r
 
-playPages : ℕ → ℕ → List Page → List Call → List Page
-playPages N B ps [] = ps
-playPages N B ps (x ∷ xs) = playPages N B (runPages B (take x.allowance (workPages N B ps x.request).steps) ps) xs
+play_pages : ℕ → ℕ → List Page → List Call → List Page
+play_pages N B ps [] = ps
+play_pages N B ps (x ∷ xs) = play_pages N B (run_pages B (take x.allowance (work_pages N B ps x.request).steps) ps) xs
 
-seenPages : ℕ → ℕ → List Page → List Call → List Observed
-seenPages N B ps [] = []
-seenPages N B ps (x ∷ xs) = let w = workPages N B ps x.request in
-    record { request = x.request; code = codeUnder x.allowance w; erases = erasesIn w.steps }
-    ∷ seenPages N B (runPages B (take x.allowance w.steps) ps) xs
+seen_pages : ℕ → ℕ → List Page → List Call → List Observed
+seen_pages N B ps [] = []
+seen_pages N B ps (x ∷ xs) = let w = work_pages N B ps x.request in
+    record { request = x.request; code = code_under x.allowance w; erases = erases_in w.steps }
+    ∷ seen_pages N B (run_pages B (take x.allowance w.steps) ps) xs
 
-readPages : ℕ → ℕ → List Page → ℕ → ReadOutcome
-readPages N B ps b =
-    let code = (workPages N B ps (read b)).code in
-    let v = view_of N (segmentsOn N B ps) in
+read_pages : ℕ → ℕ → List Page → ℕ → ReadOutcome
+read_pages N B ps b =
+    let code = (work_pages N B ps (read b)).code in
+    let v = view_of N (segments_on N B ps) in
     cond (eqb code 0)
-    (record { code = 0; offset = contentsAt N B (place_of b v); length = length (contentsFound (lookup b (entriesIn v))) })
+    (record { code = 0; offset = contents_at N B (place_of b v); length = length (contents_found (lookup b (entries_in v))) })
     (record { code = code; offset = 0; length = 0 })
 
-recordedPages : Setup → List Page
-recordedPages u = runPages u.slots u.made (replicate (u.segments * (u.slots + 1)) (erased 256))
+recorded_pages : Setup → List Page
+recorded_pages u = run_pages u.slots u.made (replicate (u.segments * (u.slots + 1)) (erased 256))
 
-leftPages : Setup → List Page
-leftPages u = playPages u.segments u.slots (recordedPages u) u.calls
+left_pages : Setup → List Page
+left_pages u = play_pages u.segments u.slots (recorded_pages u) u.calls
 
-benchPages : Bench
-benchPages = record {
-  pages = λ u. leftPages u;
-  work = λ u r. workPages u.segments u.slots (leftPages u) r;
-  found = λ u b. readPages u.segments u.slots (leftPages u) b;
-  seen = λ u. seenPages u.segments u.slots (recordedPages u) u.calls;
+bench_pages : Bench
+bench_pages = record {
+  pages = λ u. left_pages u;
+  work = λ u r. work_pages u.segments u.slots (left_pages u) r;
+  found = λ u b. read_pages u.segments u.slots (left_pages u) b;
+  seen = λ u. seen_pages u.segments u.slots (recorded_pages u) u.calls;
 }
 
 -- the cuts of one request, of an image that is made once
-cutPages : ℕ → ℕ → List Page → Work → ℕ → ℕ → List ℕ → List ℕ → Bool
-cutPages N B ps w count b bytes [] = true
-cutPages N B ps w count b bytes (k ∷ ks) =
-    let rest = cutPages N B ps w count b bytes ks in
-    let cutOff = runPages B (take k w.steps) ps in
-    let mending = (workPages N B cutOff recover).steps in
-    let mended = runPages B (take 1000 mending) cutOff in
-    eqb (codeUnder k w) 9 && (eqb (length mending) count && (isCleanIn N B mended && (same (contentsIn N B b mended) bytes && rest)))
+cut_pages : ℕ → ℕ → List Page → Work → ℕ → ℕ → List ℕ → List ℕ → Bool
+cut_pages N B ps w count b bytes [] = true
+cut_pages N B ps w count b bytes (k ∷ ks) =
+    let rest = cut_pages N B ps w count b bytes ks in
+    let cut_off = run_pages B (take k w.steps) ps in
+    let mending = (work_pages N B cut_off recover).steps in
+    let mended = run_pages B (take 1000 mending) cut_off in
+    eqb (code_under k w) 9 && (eqb (length mending) count && (is_clean_in N B mended && (same (contents_in N B b mended) bytes && rest)))
 
-holdsPages : Example → Bool
-holdsPages (sizes N B l c) = exampleHolds benchPages (sizes N B l c)
-holdsPages (olds N i old) = exampleHolds benchPages (olds N i old)
-holdsPages (begins u p bytes) = exampleHolds benchPages (begins u p bytes)
-holdsPages (answers u r code n e) = exampleHolds benchPages (answers u r code n e)
-holdsPages (reads u b code at n) = exampleHolds benchPages (reads u b code at n)
-holdsPages (counts u e r l) = exampleHolds benchPages (counts u e r l)
-holdsPages (cuts u r ks n b bytes) = let ps = leftPages u in cutPages u.segments u.slots ps (workPages u.segments u.slots ps r) n b bytes ks
+holds_pages : Example → Bool
+holds_pages (sizes N B l c) = example_holds bench_pages (sizes N B l c)
+holds_pages (olds N i old) = example_holds bench_pages (olds N i old)
+holds_pages (begins u p bytes) = example_holds bench_pages (begins u p bytes)
+holds_pages (answers u r code n e) = example_holds bench_pages (answers u r code n e)
+holds_pages (reads u b code at n) = example_holds bench_pages (reads u b code at n)
+holds_pages (counts u e r l) = example_holds bench_pages (counts u e r l)
+holds_pages (cuts u r ks n b bytes) = let ps = left_pages u in cut_pages u.segments u.slots ps (work_pages u.segments u.slots ps r) n b bytes ks
 
 -- up to the first that fails
-allHold : List Example → Bool
-allHold [] = true
-allHold (x ∷ xs) = let rest = allHold xs in holdsPages x && rest
+all_hold : List Example → Bool
+all_hold [] = true
+all_hold (x ∷ xs) = let rest = all_hold xs in holds_pages x && rest
 
-computed : allHold examples ≡ true
-unfolding evaluate workPages playPages seenPages readPages recordedPages leftPages benchPages contentsAt cutPages holdsPages allHold
+computed : all_hold examples ≡ true
+unfolding evaluate work_pages play_pages seen_pages read_pages recorded_pages left_pages bench_pages contents_at cut_pages holds_pages all_hold
 computed = refl
 
 -- ---- the bench over pages is the bench over the image
 
-work-pages : (N B : ℕ) (s : Image) (r : Request) → length s ≡ imageLength N B → workOf N B s r ≡ workPages N B (pagesOf N B s) r
-unfolding workOf workPages rightSize segmentsOf
-work-pages N B s r h = rw (eq-eqb (length s) (imageLength N B) h, and-true (in_range N B))
+work_pages_lem : (N B : ℕ) (s : Image) (r : Request) → length s ≡ image_length N B → work_of N B s r ≡ work_pages N B (pages_of N B s) r
+unfolding work_of work_pages right_size segments_of
+work_pages_lem N B s r h = rw (eq-eqb (length s) (image_length N B) h, and-true (in_range N B))
 
-outcome-pages : (N B : ℕ) (s : Image) (x : Call) → length s ≡ imageLength N B
-    → pagesOf N B (outcomeOf N B s x.allowance x.request).image ≡ runPages B (take x.allowance (workPages N B (pagesOf N B s) x.request).steps) (pagesOf N B s)
-unfolding outcomeOf
-outcome-pages N B s x h = pages-run N B (take x.allowance (workOf N B s x.request).steps) s h
-    ∙ ap (λ (w : Work). runPages B (take x.allowance w.steps) (pagesOf N B s)) (work-pages N B s x.request h)
+outcome_pages : (N B : ℕ) (s : Image) (x : Call) → length s ≡ image_length N B
+    → pages_of N B (outcome_of N B s x.allowance x.request).image ≡ run_pages B (take x.allowance (work_pages N B (pages_of N B s) x.request).steps) (pages_of N B s)
+unfolding outcome_of
+outcome_pages N B s x h = pages_run N B (take x.allowance (work_of N B s x.request).steps) s h
+    ∙ ap (λ (w : Work). run_pages B (take x.allowance w.steps) (pages_of N B s)) (work_pages_lem N B s x.request h)
 
-outcome-length : (N B : ℕ) (s : Image) (a : ℕ) (r : Request) → length s ≡ imageLength N B → length (outcomeOf N B s a r).image ≡ imageLength N B
-unfolding outcomeOf
-outcome-length N B s a r h = run_length B (take a (workOf N B s r).steps) s ∙ h
+outcome_length : (N B : ℕ) (s : Image) (a : ℕ) (r : Request) → length s ≡ image_length N B → length (outcome_of N B s a r).image ≡ image_length N B
+unfolding outcome_of
+outcome_length N B s a r h = run_length B (take a (work_of N B s r).steps) s ∙ h
 
-play-length : (N B : ℕ) (xs : List Call) (s : Image) → length s ≡ imageLength N B → length (play N B s xs) ≡ imageLength N B
+play_length : (N B : ℕ) (xs : List Call) (s : Image) → length s ≡ image_length N B → length (play N B s xs) ≡ image_length N B
 unfolding play
-play-length N B [] s h = h
-play-length N B (x ∷ xs) s h = play-length N B xs (outcomeOf N B s x.allowance x.request).image (outcome-length N B s x.allowance x.request h)
+play_length N B [] s h = h
+play_length N B (x ∷ xs) s h = play_length N B xs (outcome_of N B s x.allowance x.request).image (outcome_length N B s x.allowance x.request h)
 
-play-pages : (N B : ℕ) (xs : List Call) (s : Image) → length s ≡ imageLength N B → pagesOf N B (play N B s xs) ≡ playPages N B (pagesOf N B s) xs
-unfolding play playPages
-play-pages N B [] s h = refl
-play-pages N B (x ∷ xs) s h = play-pages N B xs (outcomeOf N B s x.allowance x.request).image (outcome-length N B s x.allowance x.request h)
-    ∙ ap (λ y. playPages N B y xs) (outcome-pages N B s x h)
+play_pages_lem : (N B : ℕ) (xs : List Call) (s : Image) → length s ≡ image_length N B → pages_of N B (play N B s xs) ≡ play_pages N B (pages_of N B s) xs
+unfolding play play_pages
+play_pages_lem N B [] s h = refl
+play_pages_lem N B (x ∷ xs) s h = play_pages_lem N B xs (outcome_of N B s x.allowance x.request).image (outcome_length N B s x.allowance x.request h)
+    ∙ ap (λ y. play_pages N B y xs) (outcome_pages N B s x h)
 
-observe-pages : (N B : ℕ) (s : Image) (x : Call) → length s ≡ imageLength N B
-    → observe N B s x ≡ record { request = x.request; code = codeUnder x.allowance (workPages N B (pagesOf N B s) x.request); erases = erasesIn (workPages N B (pagesOf N B s) x.request).steps }
-unfolding observe outcomeOf
-observe-pages N B s x h = ap (λ (w : Work). record { request = x.request; code = codeUnder x.allowance w; erases = erasesIn w.steps }) (work-pages N B s x.request h)
+observe_pages : (N B : ℕ) (s : Image) (x : Call) → length s ≡ image_length N B
+    → observe N B s x ≡ record { request = x.request; code = code_under x.allowance (work_pages N B (pages_of N B s) x.request); erases = erases_in (work_pages N B (pages_of N B s) x.request).steps }
+unfolding observe outcome_of
+observe_pages N B s x h = ap (λ (w : Work). record { request = x.request; code = code_under x.allowance w; erases = erases_in w.steps }) (work_pages_lem N B s x.request h)
 
-seen-pages : (N B : ℕ) (xs : List Call) (s : Image) → length s ≡ imageLength N B → observed N B s xs ≡ seenPages N B (pagesOf N B s) xs
-unfolding observed seenPages
-seen-pages N B [] s h = refl
-seen-pages N B (x ∷ xs) s h =
-    ap₂ {C = List Observed} (λ y ys. y ∷ ys) (observe-pages N B s x h)
-    (seen-pages N B xs (outcomeOf N B s x.allowance x.request).image (outcome-length N B s x.allowance x.request h)
-    ∙ ap (λ y. seenPages N B y xs) (outcome-pages N B s x h))
+seen_pages_lem : (N B : ℕ) (xs : List Call) (s : Image) → length s ≡ image_length N B → observed N B s xs ≡ seen_pages N B (pages_of N B s) xs
+unfolding observed seen_pages
+seen_pages_lem N B [] s h = refl
+seen_pages_lem N B (x ∷ xs) s h =
+    ap₂ {C = List Observed} (λ y ys. y ∷ ys) (observe_pages N B s x h)
+    (seen_pages_lem N B xs (outcome_of N B s x.allowance x.request).image (outcome_length N B s x.allowance x.request h)
+    ∙ ap (λ y. seen_pages N B y xs) (outcome_pages N B s x h))
 
-read-pages : (N B : ℕ) (s : Image) (b : ℕ) → length s ≡ imageLength N B → readOutcome N B s b ≡ readPages N B (pagesOf N B s) b
-unfolding readOutcome readPages view segmentsOf
-read-pages N B s b h = rw (work-pages N B s (read b) h)
+read_pages_lem : (N B : ℕ) (s : Image) (b : ℕ) → length s ≡ image_length N B → read_outcome N B s b ≡ read_pages N B (pages_of N B s) b
+unfolding read_outcome read_pages view segments_of
+read_pages_lem N B s b h = rw (work_pages_lem N B s (read b) h)
 
 zeros : Setup → Image
-zeros u = replicate (imageLength u.segments u.slots) 0
+zeros u = replicate (image_length u.segments u.slots) 0
 
-zeros-length : (u : Setup) → length (zeros u) ≡ imageLength u.segments u.slots
+zeros_length : (u : Setup) → length (zeros u) ≡ image_length u.segments u.slots
 unfolding zeros
-zeros-length u = length-replicate (imageLength u.segments u.slots) 0
+zeros_length u = length-replicate (image_length u.segments u.slots) 0
 
-recorded-length : (u : Setup) → length (recorded u) ≡ imageLength u.segments u.slots
+recorded_length : (u : Setup) → length (recorded u) ≡ image_length u.segments u.slots
 unfolding recorded zeros
-recorded-length u = run_length u.slots (recording u) (zeros u) ∙ zeros-length u
+recorded_length u = run_length u.slots (recording u) (zeros u) ∙ zeros_length u
 
-recorded-pages : (u : Setup) → pagesOf u.segments u.slots (recorded u) ≡ recordedPages u
-unfolding recorded recording recordedPages zeros
-recorded-pages u =
-    let ps = pagesOf u.segments u.slots (zeros u) in
-    pages-run u.segments u.slots (recording u) (zeros u) (zeros-length u)
-    ∙ all-erased u.segments u.slots u.made ps (unfold pagesOf in chunk-length (u.segments * (u.slots + 1)) 256 (zeros u))
+recorded_pages_lem : (u : Setup) → pages_of u.segments u.slots (recorded u) ≡ recorded_pages u
+unfolding recorded recording recorded_pages zeros
+recorded_pages_lem u =
+    let ps = pages_of u.segments u.slots (zeros u) in
+    pages_run u.segments u.slots (recording u) (zeros u) (zeros_length u)
+    ∙ all_erased u.segments u.slots u.made ps (unfold pages_of in chunk_length (u.segments * (u.slots + 1)) 256 (zeros u))
 
-left-length : (u : Setup) → length (left u) ≡ imageLength u.segments u.slots
+left_length : (u : Setup) → length (left u) ≡ image_length u.segments u.slots
 unfolding left
-left-length u = play-length u.segments u.slots u.calls (recorded u) (recorded-length u)
+left_length u = play_length u.segments u.slots u.calls (recorded u) (recorded_length u)
 
-pages-same : (u : Setup) → bench.pages u ≡ benchPages.pages u
-unfolding bench benchPages left leftPages
-pages-same u = play-pages u.segments u.slots u.calls (recorded u) (recorded-length u) ∙ ap (λ y. playPages u.segments u.slots y u.calls) (recorded-pages u)
+pages_same : (u : Setup) → bench.pages u ≡ bench_pages.pages u
+unfolding bench bench_pages left left_pages
+pages_same u = play_pages_lem u.segments u.slots u.calls (recorded u) (recorded_length u) ∙ ap (λ y. play_pages u.segments u.slots y u.calls) (recorded_pages_lem u)
 
-work-same : (u : Setup) (r : Request) → bench.work u r ≡ benchPages.work u r
-unfolding bench benchPages
-work-same u r = work-pages u.segments u.slots (left u) r (left-length u) ∙ ap (λ y. workPages u.segments u.slots y r) (pages-same u)
+work_same : (u : Setup) (r : Request) → bench.work u r ≡ bench_pages.work u r
+unfolding bench bench_pages
+work_same u r = work_pages_lem u.segments u.slots (left u) r (left_length u) ∙ ap (λ y. work_pages u.segments u.slots y r) (pages_same u)
 
-found-same : (u : Setup) (b : ℕ) → bench.found u b ≡ benchPages.found u b
-unfolding bench benchPages
-found-same u b = read-pages u.segments u.slots (left u) b (left-length u) ∙ ap (λ y. readPages u.segments u.slots y b) (pages-same u)
+found_same : (u : Setup) (b : ℕ) → bench.found u b ≡ bench_pages.found u b
+unfolding bench bench_pages
+found_same u b = read_pages_lem u.segments u.slots (left u) b (left_length u) ∙ ap (λ y. read_pages u.segments u.slots y b) (pages_same u)
 
-seen_same : (u : Setup) → bench.seen u ≡ benchPages.seen u
-unfolding bench benchPages
-seen_same u = seen-pages u.segments u.slots u.calls (recorded u) (recorded-length u) ∙ ap (λ y. seenPages u.segments u.slots y u.calls) (recorded-pages u)
+seen_same : (u : Setup) → bench.seen u ≡ bench_pages.seen u
+unfolding bench bench_pages
+seen_same u = seen_pages_lem u.segments u.slots u.calls (recorded u) (recorded_length u) ∙ ap (λ y. seen_pages u.segments u.slots y u.calls) (recorded_pages_lem u)
 
-play-append : (N B : ℕ) (xs ys : List Call) (ps : List Page) → playPages N B ps (xs ++ ys) ≡ playPages N B (playPages N B ps xs) ys
-unfolding playPages
-play-append N B [] ys ps = refl
-play-append N B (x ∷ xs) ys ps = play-append N B xs ys (runPages B (take x.allowance (workPages N B ps x.request).steps) ps)
+play_append : (N B : ℕ) (xs ys : List Call) (ps : List Page) → play_pages N B ps (xs ++ ys) ≡ play_pages N B (play_pages N B ps xs) ys
+unfolding play_pages
+play_append N B [] ys ps = refl
+play_append N B (x ∷ xs) ys ps = play_append N B xs ys (run_pages B (take x.allowance (work_pages N B ps x.request).steps) ps)
 
-left-then : (u : Setup) (r : Request) (k : ℕ) → leftPages (and_then u (call r k ∷ [])) ≡ runPages u.slots (take k (workPages u.segments u.slots (leftPages u) r).steps) (leftPages u)
-unfolding leftPages playPages recordedPages
-left-then u r k = play-append u.segments u.slots u.calls (call r k ∷ []) (recordedPages u)
+left_then : (u : Setup) (r : Request) (k : ℕ) → left_pages (and_then u (call r k ∷ [])) ≡ run_pages u.slots (take k (work_pages u.segments u.slots (left_pages u) r).steps) (left_pages u)
+unfolding left_pages play_pages recorded_pages
+left_then u r k = play_append u.segments u.slots u.calls (call r k ∷ []) (recorded_pages u)
 
-cut-same : (u : Setup) (r : Request) (n b : ℕ) (bytes ks : List ℕ)
-    → cutHolds bench u r n b bytes ks ≡ cutPages u.segments u.slots (leftPages u) (workPages u.segments u.slots (leftPages u) r) n b bytes ks
-unfolding cutHolds cutPages benchPages
-cut-same u r n b bytes [] = refl
-cut-same u r n b bytes (k ∷ ks) =
-    let cutOff = and_then u (call r k ∷ []) in
-    rw (work-same u r, work-same cutOff recover, pages-same (and_then cutOff (whole recover ∷ [])), left-then cutOff recover 1000, left-then u r k, cut-same u r n b bytes ks)
+cut_same : (u : Setup) (r : Request) (n b : ℕ) (bytes ks : List ℕ)
+    → cut_holds bench u r n b bytes ks ≡ cut_pages u.segments u.slots (left_pages u) (work_pages u.segments u.slots (left_pages u) r) n b bytes ks
+unfolding cut_holds cut_pages bench_pages
+cut_same u r n b bytes [] = refl
+cut_same u r n b bytes (k ∷ ks) =
+    let cut_off = and_then u (call r k ∷ []) in
+    rw (work_same u r, work_same cut_off recover, pages_same (and_then cut_off (whole recover ∷ [])), left_then cut_off recover 1000, left_then u r k, cut_same u r n b bytes ks)
 
-example-same : (x : Example) → exampleHolds bench x ≡ holdsPages x
-unfolding exampleHolds holdsPages
-example-same (sizes N B l c) = refl
-example-same (olds N i old) = refl
-example-same (begins u p bytes) = rw (pages-same u)
-example-same (answers u r code n e) = rw (work-same u r)
-example-same (reads u b code at n) = rw (found-same u b)
-example-same (counts u e r l) = rw (seen_same u)
-example-same (cuts u r ks n b bytes) = cut-same u r n b bytes ks
+example_same : (x : Example) → example_holds bench x ≡ holds_pages x
+unfolding example_holds holds_pages
+example_same (sizes N B l c) = refl
+example_same (olds N i old) = refl
+example_same (begins u p bytes) = rw (pages_same u)
+example_same (answers u r code n e) = rw (work_same u r)
+example_same (reads u b code at n) = rw (found_same u b)
+example_same (counts u e r l) = rw (seen_same u)
+example_same (cuts u r ks n b bytes) = cut_same u r n b bytes ks
 
-none-fails : (i : ℕ) (xs : List Example) → allHold xs ≡ true → failing bench i xs ≡ []
-unfolding failing allHold
-none-fails i [] h = refl
-none-fails i (x ∷ xs) h = rw (example-same x, and_left (holdsPages x) (allHold xs) h) (none-fails (suc i) xs (and_right (holdsPages x) (allHold xs) h))
+none_fails : (i : ℕ) (xs : List Example) → all_hold xs ≡ true → failing bench i xs ≡ []
+unfolding failing all_hold
+none_fails i [] h = refl
+none_fails i (x ∷ xs) h = rw (example_same x, and_left (holds_pages x) (all_hold xs) h) (none_fails (suc i) xs (and_right (holds_pages x) (all_hold xs) h))
 
 -- no example of the table fails
-pub examples-hold : failing bench 0 examples ≡ []
-examples-hold = none-fails 0 examples computed
+pub examples_hold : failing bench 0 examples ≡ []
+examples_hold = none_fails 0 examples computed

@@ -2,8 +2,8 @@
 use Rattle.std.specs.Prelude.{ℕ, ◌≡◌, refl, Bool, true, false, cond, not, ◌&&◌, List, [], ◌∷◌, ◌++◌, eqb}
 use Rattle.model.specs.Lists.{all, chunk}
 use Rattle.model.specs.Chip.{erased}
-use Rattle.model.specs.Header.{isBlank}
-use Rattle.model.specs.Blank.{groups_of, lookedAt, blankGroups}
+use Rattle.model.specs.Header.{is_blank}
+use Rattle.model.specs.Blank.{groups_of, looked_at, blank_groups}
 
 -- bytes, whether all are 255, and the groups looked at
 pub record Corner : Type 0 where
@@ -35,8 +35,8 @@ corners =
     []
 
 abbrev holds : Corner → Bool
-holds c = cond c.yes (isBlank c.bytes) (not (isBlank c.bytes)) && eqb (blankGroups c.bytes) c.groups
+holds c = cond c.yes (is_blank c.bytes) (not (is_blank c.bytes)) && eqb (blank_groups c.bytes) c.groups
 
-pub corners-hold : all holds corners ≡ true
-unfolding all corners erased isBlank blankGroups groups_of lookedAt chunk
-corners-hold = refl
+pub corners_hold : all holds corners ≡ true
+unfolding all corners erased is_blank blank_groups groups_of looked_at chunk
+corners_hold = refl

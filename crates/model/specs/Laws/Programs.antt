@@ -3,8 +3,8 @@ use Rattle.std.specs.Prelude.{ℕ, suc, ◌+◌, ◌≤◌, ◌<◌, ◌≡◌, 
 use Rattle.std.proofs.Common.{sym, ap, ◌∙◌, inl, inr, append_assoc, arith, length-append, length-take, get_or-set_other}
 use Rattle.std.proofs.lemmas.List.{set_at, get_or_at}
 use Rattle.model.specs.Chip.{Image, Page, Bytes, Step, program, erase, clear, erased, step, run, Cut}
-use Rattle.model.specs.Steps.{programs, programPart}
-use Rattle.model.specs.Laws.Bytes.{clear-erased}
+use Rattle.model.specs.Steps.{programs, program_part}
+use Rattle.model.specs.Laws.Bytes.{clear_erased}
 
 -- ---- a byte that is kept
 
@@ -18,53 +18,53 @@ Spares i (erase k ∷ xs) = ⊥
 abbrev pub Outside : ℕ → ℕ → ℕ → Type 0
 Outside i at k = (i < at) ⊎ (at + k ≤ i)
 
-pub spares-append : (i : ℕ) (xs ys : List Step) → Spares i xs → Spares i ys → Spares i (xs ++ ys)
-spares-append i [] ys p q = q
-spares-append i (program at v ∷ xs) ys p q = (p.0, spares-append i xs ys p.1 q)
-spares-append i (erase k ∷ xs) ys p q = p
+pub spares_append : (i : ℕ) (xs ys : List Step) → Spares i xs → Spares i ys → Spares i (xs ++ ys)
+spares_append i [] ys p q = q
+spares_append i (program at v ∷ xs) ys p q = (p.0, spares_append i xs ys p.1 q)
+spares_append i (erase k ∷ xs) ys p q = p
 
-pub spares-programs : (i at : ℕ) (vs : List ℕ) → Outside i at (length vs) → Spares i (programs at vs)
+pub spares_programs : (i at : ℕ) (vs : List ℕ) → Outside i at (length vs) → Spares i (programs at vs)
 unfolding programs
-spares-programs i at [] o = tt
-spares-programs i at (v ∷ vs) (inl h) = ((λ e. omega arith), spares-programs i (suc at) vs (inl (omega arith)))
-spares-programs i at (v ∷ vs) (inr h) = ((λ e. omega arith), spares-programs i (suc at) vs (inr (omega arith)))
+spares_programs i at [] o = tt
+spares_programs i at (v ∷ vs) (inl h) = ((λ e. omega arith), spares_programs i (suc at) vs (inl (omega arith)))
+spares_programs i at (v ∷ vs) (inr h) = ((λ e. omega arith), spares_programs i (suc at) vs (inr (omega arith)))
 
-pub spares-part : (i : ℕ) (p : Page) (at k : ℕ) → Outside i at k → Spares i (programPart p at k)
-unfolding programPart
-spares-part i p at k (inl h) = spares-programs i at (take k (drop at p)) (inl h)
-spares-part i p at k (inr h) = spares-programs i at (take k (drop at p)) (inr (omega (arith, length-take k (drop at p))))
+pub spares_part : (i : ℕ) (p : Page) (at k : ℕ) → Outside i at k → Spares i (program_part p at k)
+unfolding program_part
+spares_part i p at k (inl h) = spares_programs i at (take k (drop at p)) (inl h)
+spares_part i p at k (inr h) = spares_programs i at (take k (drop at p)) (inr (omega (arith, length-take k (drop at p))))
 
-pub spared-run : (B i : ℕ) (xs : List Step) (s : Image) → Spares i xs → get_or (run B xs s) i 0 ≡ get_or s i 0
+pub spared_run : (B i : ℕ) (xs : List Step) (s : Image) → Spares i xs → get_or (run B xs s) i 0 ≡ get_or s i 0
 unfolding run step
-spared-run B i [] s p = refl
-spared-run B i (program at v ∷ xs) s p =
+spared_run B i [] s p = refl
+spared_run B i (program at v ∷ xs) s p =
     let w = clear (get_or s at 0) v in
-    spared-run B i xs (set s at w) p.1 ∙ get_or-set_other s at i w 0 p.0
-spared-run B i (erase k ∷ xs) s p = absurd p
+    spared_run B i xs (set s at w) p.1 ∙ get_or-set_other s at i w 0 p.0
+spared_run B i (erase k ∷ xs) s p = absurd p
 
-pub spared-cut : (B i : ℕ) (xs : List Step) (s t : Image) → Spares i xs → Cut B xs s t → get_or t i 0 ≡ get_or s i 0
+pub spared_cut : (B i : ℕ) (xs : List Step) (s t : Image) → Spares i xs → Cut B xs s t → get_or t i 0 ≡ get_or s i 0
 unfolding step
-spared-cut B i [] s t p e = ap (λ y. get_or y i 0) e
-spared-cut B i (erase k ∷ xs) s t p c = absurd p
-spared-cut B i (program at v ∷ xs) s t p (inl e) = ap (λ y. get_or y i 0) e
-spared-cut B i (program at v ∷ xs) s t p (inr (inl (x, b, e))) = ap (λ y. get_or y i 0) e ∙ get_or-set_other s at i x 0 p.0
-spared-cut B i (program at v ∷ xs) s t p (inr (inr c)) =
+spared_cut B i [] s t p e = ap (λ y. get_or y i 0) e
+spared_cut B i (erase k ∷ xs) s t p c = absurd p
+spared_cut B i (program at v ∷ xs) s t p (inl e) = ap (λ y. get_or y i 0) e
+spared_cut B i (program at v ∷ xs) s t p (inr (inl (x, b, e))) = ap (λ y. get_or y i 0) e ∙ get_or-set_other s at i x 0 p.0
+spared_cut B i (program at v ∷ xs) s t p (inr (inr c)) =
     let w = clear (get_or s at 0) v in
-    spared-cut B i xs (set s at w) t p.1 c ∙ get_or-set_other s at i w 0 p.0
+    spared_cut B i xs (set s at w) t p.1 c ∙ get_or-set_other s at i w 0 p.0
 
 -- ---- erased bytes
 
-pub program-at : (B at v : ℕ) (before after : List ℕ) → length before ≡ at → v < 256 → step B (program at v) (before ++ (255 ∷ after)) ≡ before ++ (v ∷ after)
+pub program_at : (B at v : ℕ) (before after : List ℕ) → length before ≡ at → v < 256 → step B (program at v) (before ++ (255 ∷ after)) ≡ before ++ (v ∷ after)
 unfolding step
-program-at B at v before after h b = rw (get_or_at before 255 after 0 at h, clear-erased v b) (set_at before 255 after v at h)
+program_at B at v before after h b = rw (get_or_at before 255 after 0 at h, clear_erased v b) (set_at before 255 after v at h)
 
 -- erased bytes between others
-pub programs-between : (B at : ℕ) (before vs after : List ℕ) → length before ≡ at → Bytes vs → run B (programs at vs) (before ++ (erased (length vs) ++ after)) ≡ before ++ (vs ++ after)
+pub programs_between : (B at : ℕ) (before vs after : List ℕ) → length before ≡ at → Bytes vs → run B (programs at vs) (before ++ (erased (length vs) ++ after)) ≡ before ++ (vs ++ after)
 unfolding run programs erased
-programs-between B at before [] after h b = refl
-programs-between B at before (v ∷ vs) after h b =
+programs_between B at before [] after h b = refl
+programs_between B at before (v ∷ vs) after h b =
     let rest = erased (length vs) ++ after in
     let front = before ++ (v ∷ []) in
-    ap (λ y. run B (programs (suc at) vs) y) (program-at B at v before rest h b.0 ∙ sym (append_assoc before (v ∷ []) rest))
-    ∙ programs-between B (suc at) front vs after (omega (arith, length-append before (v ∷ []))) b.1
+    ap (λ y. run B (programs (suc at) vs) y) (program_at B at v before rest h b.0 ∙ sym (append_assoc before (v ∷ []) rest))
+    ∙ programs_between B (suc at) front vs after (omega (arith, length-append before (v ∷ []))) b.1
     ∙ append_assoc before (v ∷ []) (vs ++ after)

@@ -9,132 +9,132 @@ use denote.Enum.Declared.{tag_of}
 use types.Run.{OneOf}
 use lib.ListN.{length, get_or}
 use Rattle.model.specs.Chip.{Image, Bytes}
-use Rattle.model.specs.Slot.{numberOk}
-use Rattle.model.specs.State.{entriesIn, holds, view}
-use Rattle.model.specs.Answers.{code_of, lengthOk, put, performed}
+use Rattle.model.specs.Slot.{number_ok}
+use Rattle.model.specs.State.{entries_in, holds, view}
+use Rattle.model.specs.Answers.{code_of, length_ok, put, performed}
 use Rattle.model.specs.Sequences.{among}
 use Rattle.model.specs.declared.Answer.{Answer}
 use Rattle.model.specs.declared.Answer.TheVariants.{Done, Size, Number, Length, Damaged, Unfinished, Absent as NotStored, Full, Worn, Cut, ShortTable, FormerVersion, Foreign, Shares, ShortBuffer}
 use Rattle.model.specs.declared.Performed.{Performed}
 use Rattle.model.specs.declared.SlotPlace.{SlotPlace}
-use Rattle.model.specs.Mounted.{Places, mountedRefusal, InStep, MountedPut}
-use Rattle.bridge.specs.Accepted.{refusal, read-passed}
-use Rattle.bridge.specs.Refusals.{put-number, put-length}
+use Rattle.model.specs.Mounted.{Places, mounted_refusal, InStep, MountedPut}
+use Rattle.bridge.specs.Accepted.{refusal, read_passed}
+use Rattle.bridge.specs.Refusals.{put_number, put_length}
 use Rattle.request.specs.Request.{Refused}
 use Rattle.find.specs.declared.Found.{Found}
 use Rattle.find.specs.declared.Found.TheVariants as finds
-use Rattle.find.specs.Search.{rows_at, foundIn}
+use Rattle.find.specs.Search.{rows_at, found_in}
 use Rattle.places.specs.declared.Entry.{Entry}
 use Rattle.places.specs.declared.Entry.TheVariants.{At, Absent, Stale}
 use Rattle.places.specs.contracts.Entry.{the_type}
-use Rattle.places.specs.Places.{entrySeen}
-use Rattle.bridge.specs.Mounting.{Kept, in-step-kept, kept-in-step}
+use Rattle.places.specs.Places.{entry_seen}
+use Rattle.bridge.specs.Mounting.{Kept, in_step_kept, kept_in_step}
 use Rattle.room.specs.declared.Plan.{Plan}
 use Rattle.put.specs.Writing.{Accepted}
 use Rattle.mounted_plan.specs.declared.Decision.{Decision}
 use Rattle.mounted_plan.specs.declared.Decision.TheVariants as decisions
 use Rattle.mounted_plan.specs.Decided.{Decides}
-use Rattle.mounted_plan.proofs.Callers.{refused-listed, refused-exact, accepted-agreed}
-use Rattle.mounted_write.specs.Continuing.{entryFor, foundFor}
+use Rattle.mounted_plan.proofs.Callers.{refused_listed, refused_exact, accepted_agreed}
+use Rattle.mounted_write.specs.Continuing.{entry_for, found_for}
 use Rattle.mounted_put.specs.Performing.{Performs}
-use Rattle.mounted.specs.Puts.{noneFound, Puts}
-use Rattle.mounted_read.proofs.Laws.Refusals.{passed, bound-not-cut, none-refuses}
-use Rattle.mounted_read.proofs.Laws.Reads.{kept-refusal, seen-there, seen_none, seen-stale}
-use Rattle.mounted.proofs.Laws.Writes.{refused-writes}
+use Rattle.mounted.specs.Puts.{none_found, Puts}
+use Rattle.mounted_read.proofs.Laws.Refusals.{passed, bound_not_cut, none_refuses}
+use Rattle.mounted_read.proofs.Laws.Reads.{kept_refusal, seen_there, seen_none, seen_stale}
+use Rattle.mounted.proofs.Laws.Writes.{refused_writes}
 
 -- the refusals of a plan are among those of a put
-planned-listed : (a : Answer) → among (code_of a) (4 ∷ 7 ∷ 8 ∷ 11 ∷ []) ≡ true → (among (code_of a) (0 ∷ 4 ∷ 5 ∷ 7 ∷ 8 ∷ 9 ∷ 11 ∷ []) ≡ true) × (code_of a ≢ 0) × (code_of a ≢ 9)
+planned_listed : (a : Answer) → among (code_of a) (4 ∷ 7 ∷ 8 ∷ 11 ∷ []) ≡ true → (among (code_of a) (0 ∷ 4 ∷ 5 ∷ 7 ∷ 8 ∷ 9 ∷ 11 ∷ []) ≡ true) × (code_of a ≢ 0) × (code_of a ≢ 9)
 unfolding code_of among
-planned-listed Done h = absurd (false≢true h)
-planned-listed Size h = absurd (false≢true h)
-planned-listed Number h = absurd (false≢true h)
-planned-listed Length h = absurd (false≢true h)
-planned-listed Damaged h = (refl, λ z. omega arith, λ z. omega arith)
-planned-listed Unfinished h = absurd (false≢true h)
-planned-listed NotStored h = absurd (false≢true h)
-planned-listed Full h = (refl, λ z. omega arith, λ z. omega arith)
-planned-listed Worn h = (refl, λ z. omega arith, λ z. omega arith)
-planned-listed Cut h = absurd (false≢true h)
-planned-listed ShortTable h = absurd (false≢true h)
-planned-listed FormerVersion h = (refl, λ z. omega arith, λ z. omega arith)
-planned-listed Foreign h = absurd (false≢true h)
-planned-listed Shares h = absurd (false≢true h)
-planned-listed ShortBuffer h = absurd (false≢true h)
+planned_listed Done h = absurd (false≢true h)
+planned_listed Size h = absurd (false≢true h)
+planned_listed Number h = absurd (false≢true h)
+planned_listed Length h = absurd (false≢true h)
+planned_listed Damaged h = (refl, λ z. omega arith, λ z. omega arith)
+planned_listed Unfinished h = absurd (false≢true h)
+planned_listed NotStored h = absurd (false≢true h)
+planned_listed Full h = (refl, λ z. omega arith, λ z. omega arith)
+planned_listed Worn h = (refl, λ z. omega arith, λ z. omega arith)
+planned_listed Cut h = absurd (false≢true h)
+planned_listed ShortTable h = absurd (false≢true h)
+planned_listed FormerVersion h = (refl, λ z. omega arith, λ z. omega arith)
+planned_listed Foreign h = absurd (false≢true h)
+planned_listed Shares h = absurd (false≢true h)
+planned_listed ShortBuffer h = absurd (false≢true h)
 
 module _ (N B : ℕ) (s : Image) (t : Places) (b : ℕ) (c : List ℕ) (budget : ℕ) where
   abbrev taken : Bool
-  taken = lengthOk (length c)
+  taken = length_ok (length c)
 
   -- refused before the table is looked at
-  pub put-bound : (k : Bool) → k ≡ lengthOk (length c) → (a : Answer) {p : Performed} → code_of a ≡ mountedRefusal N B s t b k → mountedRefusal N B s t b k ≢ 0 → Refused a p → MountedPut N B b c budget (performed p s) s t t
-  put-bound k l a {p} e h q = go (rw l at e) (rw l at h)
+  pub put_bound : (k : Bool) → k ≡ length_ok (length c) → (a : Answer) {p : Performed} → code_of a ≡ mounted_refusal N B s t b k → mounted_refusal N B s t b k ≢ 0 → Refused a p → MountedPut N B b c budget (performed p s) s t t
+  put_bound k l a {p} e h q = go (rw l at e) (rw l at h)
     where
-      go : code_of a ≡ mountedRefusal N B s t b taken → mountedRefusal N B s t b taken ≢ 0 → MountedPut N B b c budget (performed p s) s t t
-      go e h = refused-writes N B s t b taken _ (put b c) budget a q (λ z. h (sym e ∙ z)) (λ z. bound-not-cut N B s t b taken (sym e ∙ z)) (λ n. e) (λ z. absurd (h z)) (λ k. same k (numberOk b) taken refl refl)
+      go : code_of a ≡ mounted_refusal N B s t b taken → mounted_refusal N B s t b taken ≢ 0 → MountedPut N B b c budget (performed p s) s t t
+      go e h = refused_writes N B s t b taken _ (put b c) budget a q (λ z. h (sym e ∙ z)) (λ z. bound_not_cut N B s t b taken (sym e ∙ z)) (λ n. e) (λ z. absurd (h z)) (λ k. same k (number_ok b) taken refl refl)
         where
-          same : Kept N B s t → (n m : Bool) → numberOk b ≡ n → taken ≡ m → refusal N B s (put b c) ≡ code_of a
-          same k false m x y = put-number N B s k.size b c x ∙ sym (e ∙ (kept-refusal N B s t b taken k ∙ rw x))
-          same k true false x y = put-length N B s k.size b c x y ∙ sym (e ∙ (kept-refusal N B s t b taken k ∙ rw (x, y)))
-          same k true true x y = absurd (h (kept-refusal N B s t b taken k ∙ rw (x, y)))
+          same : Kept N B s t → (n m : Bool) → number_ok b ≡ n → taken ≡ m → refusal N B s (put b c) ≡ code_of a
+          same k false m x y = put_number N B s k.size b c x ∙ sym (e ∙ (kept_refusal N B s t b taken k ∙ rw x))
+          same k true false x y = put_length N B s k.size b c x y ∙ sym (e ∙ (kept_refusal N B s t b taken k ∙ rw (x, y)))
+          same k true true x y = absurd (h (kept_refusal N B s t b taken k ∙ rw (x, y)))
 
-  pub put-unbound : (k : Bool) → k ≡ lengthOk (length c) → (a : Answer) → code_of a ≡ mountedRefusal N B s t b k → a ≡ Done → mountedRefusal N B s t b (lengthOk (length c)) ≡ 0
-  put-unbound k l a e d = rw l at (none-refuses N B s t b k a e d)
+  pub put_unbound : (k : Bool) → k ≡ length_ok (length c) → (a : Answer) → code_of a ≡ mounted_refusal N B s t b k → a ≡ Done → mounted_refusal N B s t b (length_ok (length c)) ≡ 0
+  put_unbound k l a e d = rw l at (none_refuses N B s t b k a e d)
 
-  module _ (p : mountedRefusal N B s t b (lengthOk (length c)) ≡ 0) where
-    pub put-stale : entrySeen B s (get_or t b 0) ≡ Stale → {q : Performed} → Refused Damaged q → MountedPut N B b c budget (performed q s) s t t
+  module _ (p : mounted_refusal N B s t b (length_ok (length c)) ≡ 0) where
+    pub put_stale : entry_seen B s (get_or t b 0) ≡ Stale → {q : Performed} → Refused Damaged q → MountedPut N B b c budget (performed q s) s t t
     unfolding code_of among
-    put-stale e q = refused-writes N B s t b taken _ (put b c) budget Damaged q (λ z. omega arith) (λ z. omega arith) (λ n. absurd (n p)) (λ z. refl)
-        (λ k. absurd (seen-stale N B s t b k (passed N B s t b taken p).number e))
+    put_stale e q = refused_writes N B s t b taken _ (put b c) budget Damaged q (λ z. omega arith) (λ z. omega arith) (λ n. absurd (n p)) (λ z. refl)
+        (λ k. absurd (seen_stale N B s t b k (passed N B s t b taken p).number e))
 
     -- what the entry tells
-    puts-stored : (q : SlotPlace) (l : ℕ) → entrySeen B s (get_or t b 0) ≡ At q l → Puts N B (finds.At q l) b c s t
-    unfolding entryFor noneFound
-    puts-stored q l e = record { passed = p; seen = e; told = λ step. let k = in-step-kept N B s t step in rw (read-passed N B s b (seen-there N B s t b k (passed N B s t b taken p).number q l e).code) }
+    puts_stored : (q : SlotPlace) (l : ℕ) → entry_seen B s (get_or t b 0) ≡ At q l → Puts N B (finds.At q l) b c s t
+    unfolding entry_for none_found
+    puts_stored q l e = record { passed = p; seen = e; told = λ step. let k = in_step_kept N B s t step in rw (read_passed N B s b (seen_there N B s t b k (passed N B s t b taken p).number q l e).code) }
 
-    puts-new : entrySeen B s (get_or t b 0) ≡ Absent → Puts N B finds.Nothing b c s t
-    unfolding entryFor noneFound
-    puts-new e = record { passed = p; seen = e; told = λ step. rw (seen_none N B s t b (in-step-kept N B s t step) (passed N B s t b taken p).number e) }
+    puts_new : entry_seen B s (get_or t b 0) ≡ Absent → Puts N B finds.Nothing b c s t
+    unfolding entry_for none_found
+    puts_new e = record { passed = p; seen = e; told = λ step. rw (seen_none N B s t b (in_step_kept N B s t step) (passed N B s t b taken p).number e) }
 
-    pub puts-told : (e : Entry) → e ≡ entrySeen B s (get_or t b 0) → OneOf (0 ∷ 1 ∷ []) (tag_of the_type e) → (f : Found) → f ≡ foundFor e → Puts N B f b c s t
-    unfolding foundFor
-    puts-told (At q l) i k f j = rw j (puts-stored q l (sym i))
-    puts-told Absent i k f j = rw j (puts-new (sym i))
-    puts-told Stale i k f j = absurd (⊎_elim (λ z. omega arith) (λ z. omega arith) k)
+    pub puts_told : (e : Entry) → e ≡ entry_seen B s (get_or t b 0) → OneOf (0 ∷ 1 ∷ []) (tag_of the_type e) → (f : Found) → f ≡ found_for e → Puts N B f b c s t
+    unfolding found_for
+    puts_told (At q l) i k f j = rw j (puts_stored q l (sym i))
+    puts_told Absent i k f j = rw j (puts_new (sym i))
+    puts_told Stale i k f j = absurd (⊎_elim (λ z. omega arith) (λ z. omega arith) k)
 
-  module _ (f : Found) (g : Puts N B f b c s t) (absent : Bool) (i : absent ≡ noneFound f) (d : Decision) (w : Decides N B absent s d) where
-    told : InStep N B s t → absent ≡ not (holds b (entriesIn (view N B s)))
+  module _ (f : Found) (g : Puts N B f b c s t) (absent : Bool) (i : absent ≡ none_found f) (d : Decision) (w : Decides N B absent s d) where
+    told : InStep N B s t → absent ≡ not (holds b (entries_in (view N B s)))
     told step = i ∙ g.told step
 
     -- a plan refuses
     pub put_refused : (a : Answer) → d ≡ decisions.Refused a → {q : Performed} → Refused a q → MountedPut N B b c budget (performed q s) s t t
     put_refused a e q =
         let i = passed N B s t b taken g.passed in
-        let l = planned-listed a (refused-listed N B absent s d w a e) in
-        refused-writes N B s t b taken _ (put b c) budget a q l.1 l.2 (λ n. absurd (n g.passed)) (λ z. l.0)
-        (λ k. (refused-exact N B absent s d w a e k.fine b (told (kept-in-step N B s t k)) c i.number i.right).0)
+        let l = planned_listed a (refused_listed N B absent s d w a e) in
+        refused_writes N B s t b taken _ (put b c) budget a q l.1 l.2 (λ n. absurd (n g.passed)) (λ z. l.0)
+        (λ k. (refused_exact N B absent s d w a e k.fine b (told (kept_in_step N B s t k)) c i.number i.right).0)
 
     -- performed by a plan
-    pub put-performed : (pl : Plan) (total : ℕ) → d ≡ decisions.Accepted pl total → Bytes s → {q : Performed} {u : Image} {x : Places} → Performs N B pl total b c budget q s u t x → MountedPut N B b c budget (performed q u) s t x
+    pub put_performed : (pl : Plan) (total : ℕ) → d ≡ decisions.Accepted pl total → Bytes s → {q : Performed} {u : Image} {x : Places} → Performs N B pl total b c budget q s u t x → MountedPut N B b c budget (performed q u) s t x
     unfolding performed among
-    put-performed pl total e bytes {q} {u} {x} r = record {
+    put_performed pl total e bytes {q} {u} {x} r = record {
       bound = λ n. absurd (n g.passed);
       listed = λ z. ⊎_elim (λ y. rw y) (λ y. rw y) r.codes;
       refused = λ n m. absurd (⊎_elim (λ y. n y) (λ y. m y) r.codes);
       cut = r.cut;
       past = r.past;
       few = r.few;
-      same = λ step. (r.exact (in-step-kept N B s t step) there (agreed step)).0;
-      kept = λ step z. kept-in-step N B u x ((r.exact (in-step-kept N B s t step) there (agreed step)).1 z);
+      same = λ step. (r.exact (in_step_kept N B s t step) there (agreed step)).0;
+      kept = λ step z. kept_in_step N B u x ((r.exact (in_step_kept N B s t step) there (agreed step)).1 z);
     }
       where
         there : Found
-        there = foundIn N B pl.first.0 (rows_at N B s pl.used pl.first.0) b
+        there = found_in N B pl.first.0 (rows_at N B s pl.used pl.first.0) b
 
         agreed : InStep N B s t → Accepted N B pl total there b c s
         agreed step =
             let i = passed N B s t b taken g.passed in
-            let k = in-step-kept N B s t step in
-            let a = accepted-agreed N B absent s d w pl total e k.fine b (told step) in record {
+            let k = in_step_kept N B s t step in
+            let a = accepted_agreed N B absent s d w pl total e k.fine b (told step) in record {
               put = record { plan = a.plan; bytes = bytes; number = i.number; taken = i.right };
               second = a.second;
               found = λ h. refl;

@@ -8,32 +8,32 @@ use native.Mathlib.Omega.{arith}
 use lib.ListN.{length, get_or}
 use borrow.Author.Tests.{le-ltb}
 use Rattle.model.specs.Chip.{Image}
-use Rattle.model.specs.Slot.{mostContents, numberOk}
-use Rattle.model.specs.State.{holds, entriesIn, place_of, view}
+use Rattle.model.specs.Slot.{most_contents, number_ok}
+use Rattle.model.specs.State.{holds, entries_in, place_of, view}
 use Rattle.model.specs.Steps.{slot_at}
-use Rattle.model.specs.Table.{lookup, contentsFound}
+use Rattle.model.specs.Table.{lookup, contents_found}
 use Rattle.model.specs.Answers.{code_of, ◌when◌, first_of}
 use Rattle.model.specs.Sequences.{among}
 use Rattle.model.specs.declared.Answer.{Answer}
 use Rattle.model.specs.declared.Answer.TheVariants.{Damaged, Absent as NotStored}
 use Rattle.model.specs.declared.SlotPlace.{SlotPlace}
-use Rattle.model.specs.Mounted.{Places, leastPlaces, mountedRefusals, mountedRefusal, MountedRead}
-use Rattle.bridge.specs.Refusals.{read_number, read-absent, read_found}
+use Rattle.model.specs.Mounted.{Places, least_places, mounted_refusals, mounted_refusal, MountedRead}
+use Rattle.bridge.specs.Refusals.{read_number, read_absent, read_found}
 use Rattle.places.specs.declared.Entry.TheVariants.{At, Absent, Stale}
-use Rattle.places.specs.Places.{entrySeen}
-use Rattle.bridge.specs.Mounting.{Kept, in-step-kept}
-use Rattle.places.proofs.Laws.Found.{foundEntry, kept_seen}
-use Rattle.places.proofs.Laws.Seen.{Believed, seen-believed}
+use Rattle.places.specs.Places.{entry_seen}
+use Rattle.bridge.specs.Mounting.{Kept, in_step_kept}
+use Rattle.places.proofs.Laws.Found.{found_entry, kept_seen}
+use Rattle.places.proofs.Laws.Seen.{Believed, seen_believed}
 use Rattle.looking.specs.Look.{There, Kept as Refuses}
-use Rattle.store.proofs.Laws.Requests.{read-refused, read-there}
+use Rattle.store.proofs.Laws.Requests.{read_refused, read_there}
 use Rattle.mounted_read.proofs.Laws.Refusals.{passed}
 
 -- ---- in step
 
 -- only the block's number and the contents' length refuse a call there
-pub kept-refusal : (N B : ℕ) (s : Image) (t : Places) (b : ℕ) (taken : Bool) → Kept N B s t → mountedRefusal N B s t b taken ≡ cond (numberOk b) (cond taken 0 3) 2
-unfolding mountedRefusal mountedRefusals first_of
-kept-refusal N B s t b taken k = rw (k.size, le-ltb (length t) leastPlaces k.long, k.usable) (go (numberOk b) taken)
+pub kept_refusal : (N B : ℕ) (s : Image) (t : Places) (b : ℕ) (taken : Bool) → Kept N B s t → mounted_refusal N B s t b taken ≡ cond (number_ok b) (cond taken 0 3) 2
+unfolding mounted_refusal mounted_refusals first_of
+kept_refusal N B s t b taken k = rw (k.size, le-ltb (length t) least_places k.long, k.usable) (go (number_ok b) taken)
   where
     go : (n m : Bool) → first_of ((1 when false) ∷ (10 when false) ∷ (2 when not n) ∷ (3 when not m) ∷ (5 when false) ∷ []) ≡ cond n (cond m 0 3) 2
     go true true = refl
@@ -42,13 +42,13 @@ kept-refusal N B s t b taken k = rw (k.size, le-ltb (length t) leastPlaces k.lon
 
 module _ (N B : ℕ) (s : Image) (t : Places) (b : ℕ) (k : Kept N B s t) where
   -- what a read or a delete is refused for before the table is looked at
-  pub refuses-absent : (a : Answer) → code_of a ≡ mountedRefusal N B s t b true → mountedRefusal N B s t b true ≢ 0 → Refuses N B s b a
-  refuses-absent a e h = go (numberOk b) refl
+  pub refuses_absent : (a : Answer) → code_of a ≡ mounted_refusal N B s t b true → mounted_refusal N B s t b true ≢ 0 → Refuses N B s b a
+  refuses_absent a e h = go (number_ok b) refl
     where
-      r : mountedRefusal N B s t b true ≡ cond (numberOk b) 0 2
-      r = kept-refusal N B s t b true k
+      r : mounted_refusal N B s t b true ≡ cond (number_ok b) 0 2
+      r = kept_refusal N B s t b true k
 
-      go : (n : Bool) → numberOk b ≡ n → Refuses N B s b a
+      go : (n : Bool) → number_ok b ≡ n → Refuses N B s b a
       go true n = absurd (h (r ∙ rw n))
       go false n = let two : code_of a ≡ 2 = e ∙ (r ∙ rw n) in record { code = read_number N B s k.size b n ∙ sym two; some = rw two }
 
@@ -57,19 +57,19 @@ module _ (N B : ℕ) (s : Image) (t : Places) (b : ℕ) (k : Kept N B s t) where
   slot = record { 0 = slot_at N B (place_of b (view N B s)).number (place_of b (view N B s)).slot * 256 }
 
   abbrev size : ℕ
-  size = length (contentsFound (lookup b (entriesIn (view N B s))))
+  size = length (contents_found (lookup b (entries_in (view N B s))))
 
-  module _ (n : numberOk b ≡ true) where
-    seen : entrySeen B s (get_or t b 0) ≡ foundEntry N B b (view N B s)
+  module _ (n : number_ok b ≡ true) where
+    seen : entry_seen B s (get_or t b 0) ≡ found_entry N B b (view N B s)
     seen = kept_seen N B b s t k n
 
-    pub seen-there : (p : SlotPlace) (l : ℕ) → entrySeen B s (get_or t b 0) ≡ At p l → There N B s b p.0 l
-    seen-there p l e = go (holds b (entriesIn (view N B s))) refl
+    pub seen_there : (p : SlotPlace) (l : ℕ) → entry_seen B s (get_or t b 0) ≡ At p l → There N B s b p.0 l
+    seen_there p l e = go (holds b (entries_in (view N B s))) refl
       where
         i : Believed B s (get_or t b 0) p l
-        i = seen-believed B s (get_or t b 0) p l e
+        i = seen_believed B s (get_or t b 0) p l e
 
-        go : (x : Bool) → holds b (entriesIn (view N B s)) ≡ x → There N B s b p.0 l
+        go : (x : Bool) → holds b (entries_in (view N B s)) ≡ x → There N B s b p.0 l
         go true h = let q : At p l ≡ At slot size = sym e ∙ (seen ∙ rw h) in record {
           code = read_found N B s k.size b n k.fine h;
           place = let z : p ≡ slot = cc in ap (λ (y : SlotPlace). y.0) z;
@@ -79,21 +79,21 @@ module _ (N B : ℕ) (s : Image) (t : Places) (b : ℕ) (k : Kept N B s t) where
         }
         go false h = let q : At p l ≡ Absent = sym e ∙ (seen ∙ rw h) in absurd (let z : ◌≡◌ {A = ℕ} 0 1 = cc in omega arith)
 
-    pub seen_none : entrySeen B s (get_or t b 0) ≡ Absent → holds b (entriesIn (view N B s)) ≡ false
-    seen_none e = go (holds b (entriesIn (view N B s))) refl
+    pub seen_none : entry_seen B s (get_or t b 0) ≡ Absent → holds b (entries_in (view N B s)) ≡ false
+    seen_none e = go (holds b (entries_in (view N B s))) refl
       where
-        go : (x : Bool) → holds b (entriesIn (view N B s)) ≡ x → x ≡ false
+        go : (x : Bool) → holds b (entries_in (view N B s)) ≡ x → x ≡ false
         go false h = refl
         go true h = let q : Absent ≡ At slot size = sym e ∙ (seen ∙ rw h) in absurd (let z : ◌≡◌ {A = ℕ} 0 1 = cc in omega arith)
 
-    pub seen-absent : entrySeen B s (get_or t b 0) ≡ Absent → Refuses N B s b NotStored
+    pub seen_absent : entry_seen B s (get_or t b 0) ≡ Absent → Refuses N B s b NotStored
     unfolding code_of
-    seen-absent e = record { code = read-absent N B s k.size b n k.fine (seen_none e); some = refl }
+    seen_absent e = record { code = read_absent N B s k.size b n k.fine (seen_none e); some = refl }
 
-    pub seen-stale : entrySeen B s (get_or t b 0) ≡ Stale → ⊥
-    seen-stale e = go (holds b (entriesIn (view N B s))) refl
+    pub seen_stale : entry_seen B s (get_or t b 0) ≡ Stale → ⊥
+    seen_stale e = go (holds b (entries_in (view N B s))) refl
       where
-        go : (x : Bool) → holds b (entriesIn (view N B s)) ≡ x → ⊥
+        go : (x : Bool) → holds b (entries_in (view N B s)) ≡ x → ⊥
         go true h = let q : Stale ≡ At slot size = sym e ∙ (seen ∙ rw h) in let z : ◌≡◌ {A = ℕ} 0 1 = cc in omega arith
         go false h = let q : Stale ≡ Absent = sym e ∙ (seen ∙ rw h) in let z : ◌≡◌ {A = ℕ} 0 1 = cc in omega arith
 
@@ -101,42 +101,42 @@ module _ (N B : ℕ) (s : Image) (t : Places) (b : ℕ) (k : Kept N B s t) where
 
 module _ (N B : ℕ) (s : Image) (t : Places) (b : ℕ) where
   -- refused before the table is looked at
-  pub read-bound : (a : Answer) → code_of a ≡ mountedRefusal N B s t b true → mountedRefusal N B s t b true ≢ 0 → MountedRead N B b (record { code = code_of a; offset = 0; length = 0 }) s t
-  read-bound a e h = record {
+  pub read_bound : (a : Answer) → code_of a ≡ mounted_refusal N B s t b true → mounted_refusal N B s t b true ≢ 0 → MountedRead N B b (record { code = code_of a; offset = 0; length = 0 }) s t
+  read_bound a e h = record {
     bound = λ n. e;
     listed = λ z. absurd (h z);
     refused = λ n. (refl, refl);
     inside = (omega arith, omega arith);
-    same = λ step. let k = in-step-kept N B s t step in read-refused N B s b a (refuses-absent N B s t b k a e h);
+    same = λ step. let k = in_step_kept N B s t step in read_refused N B s b a (refuses_absent N B s t b k a e h);
   }
 
-  module _ (p : mountedRefusal N B s t b true ≡ 0) where
-    pub read-absent-entry : entrySeen B s (get_or t b 0) ≡ Absent → MountedRead N B b (record { code = code_of NotStored; offset = 0; length = 0 }) s t
+  module _ (p : mounted_refusal N B s t b true ≡ 0) where
+    pub read_absent_entry : entry_seen B s (get_or t b 0) ≡ Absent → MountedRead N B b (record { code = code_of NotStored; offset = 0; length = 0 }) s t
     unfolding code_of among
-    read-absent-entry e = record {
+    read_absent_entry e = record {
       bound = λ n. absurd (n p);
       listed = λ z. refl;
       refused = λ n. (refl, refl);
       inside = (omega arith, omega arith);
-      same = λ step. read-refused N B s b NotStored (seen-absent N B s t b (in-step-kept N B s t step) (passed N B s t b true p).number e);
+      same = λ step. read_refused N B s b NotStored (seen_absent N B s t b (in_step_kept N B s t step) (passed N B s t b true p).number e);
     }
 
-    pub read-stale-entry : entrySeen B s (get_or t b 0) ≡ Stale → MountedRead N B b (record { code = code_of Damaged; offset = 0; length = 0 }) s t
+    pub read_stale_entry : entry_seen B s (get_or t b 0) ≡ Stale → MountedRead N B b (record { code = code_of Damaged; offset = 0; length = 0 }) s t
     unfolding code_of among
-    read-stale-entry e = record {
+    read_stale_entry e = record {
       bound = λ n. absurd (n p);
       listed = λ z. refl;
       refused = λ n. (refl, refl);
       inside = (omega arith, omega arith);
-      same = λ step. absurd (seen-stale N B s t b (in-step-kept N B s t step) (passed N B s t b true p).number e);
+      same = λ step. absurd (seen_stale N B s t b (in_step_kept N B s t step) (passed N B s t b true p).number e);
     }
 
-    pub read-entry : (q : SlotPlace) (l : ℕ) → entrySeen B s (get_or t b 0) ≡ At q l → MountedRead N B b (record { code = 0; offset = q.0 + 8; length = l }) s t
-    unfolding among mostContents
-    read-entry q l e = let i = seen-believed B s (get_or t b 0) q l e in record {
+    pub read_entry : (q : SlotPlace) (l : ℕ) → entry_seen B s (get_or t b 0) ≡ At q l → MountedRead N B b (record { code = 0; offset = q.0 + 8; length = l }) s t
+    unfolding among most_contents
+    read_entry q l e = let i = seen_believed B s (get_or t b 0) q l e in record {
       bound = λ n. absurd (n p);
       listed = λ z. refl;
       refused = λ n. absurd (n refl);
       inside = (omega (arith, i.place, i.inside, i.short), i.short);
-      same = λ step. read-there N B s b q.0 l (seen-there N B s t b (in-step-kept N B s t step) (passed N B s t b true p).number q l e);
+      same = λ step. read_there N B s b q.0 l (seen_there N B s t b (in_step_kept N B s t step) (passed N B s t b true p).number q l e);
     }

@@ -5,91 +5,91 @@ use native.Mathlib.Omega.{arith}
 use lib.ListN.{length, take, drop, length-set}
 use Rattle.model.specs.Chip.{run}
 use Rattle.model.specs.Steps.{programs}
-use Rattle.flash.proofs.Laws.{ProgrammedTo, programs-covered}
-use Rattle.partition_items.proofs.Laws.{copied-turn, copied-length}
+use Rattle.flash.proofs.Laws.{ProgrammedTo, programs_covered}
+use Rattle.partition_items.proofs.Laws.{copied_turn, copied_length}
 use borrow.Author.Rules.{rules}
 use Rattle.partition_items.proofs.copy_data.Statement.{statement}
 use Rattle.partition_items.proofs.copy_data.Tie as tie
 
-abbrev invariant-loop : tie.invariant-loop
-invariant-loop image₀ from to size budget covered left₀ i₀ image left i =
+abbrev invariant_loop : tie.invariant-loop
+invariant_loop image₀ from to size budget covered left₀ i₀ image left i =
     ProgrammedTo to i (take size (drop from image₀)) image₀ image × (left ≡ budget - i) × (i ≤ min budget size) × (length image ≡ length image₀)
 
-abbrev decreases-loop : tie.decreases-loop
-decreases-loop image₀ from to size budget covered left₀ i₀ image left i = size - i
+abbrev decreases_loop : tie.decreases-loop
+decreases_loop image₀ from to size budget covered left₀ i₀ image left i = size - i
 
-least-requires : tie.Need-least-requires invariant-loop decreases-loop
-least-requires c κs = search rules
+least_requires : tie.Need-least-requires invariant_loop decreases_loop
+least_requires c κs = search rules
 
-loop-holds : tie.Need-loop-init invariant-loop decreases-loop
+loop_holds : tie.Need-loop-init invariant_loop decreases_loop
 unfolding programs run
-loop-holds c = (λ B. refl, omega arith, omega arith, refl)
+loop_holds c = (λ B. refl, omega arith, omega arith, refl)
 
-add-o : tie.Need-overflow-add-o invariant-loop decreases-loop
-add-o c = search rules
+add_o : tie.Need-overflow-add-o invariant_loop decreases_loop
+add_o c = search rules
 
-slice-read-image : tie.Need-slice-read-image invariant-loop decreases-loop
-slice-read-image c = search rules
+slice_read_image : tie.Need-slice-read-image invariant_loop decreases_loop
+slice_read_image c = search rules
 
-add-image : tie.Need-overflow-add-image invariant-loop decreases-loop
-add-image c = search rules
+add_image : tie.Need-overflow-add-image invariant_loop decreases_loop
+add_image c = search rules
 
-slice-read-image-2 : tie.Need-slice-read-image-2 invariant-loop decreases-loop
-slice-read-image-2 c = search rules
+slice_read_image_2 : tie.Need-slice-read-image-2 invariant_loop decreases_loop
+slice_read_image_2 c = search rules
 
-slice-write-image : tie.Need-slice-write-image invariant-loop decreases-loop
-slice-write-image c = search rules
+slice_write_image : tie.Need-slice-write-image invariant_loop decreases_loop
+slice_write_image c = search rules
 
-sub-left : tie.Need-overflow-sub-left invariant-loop decreases-loop
-sub-left c = let k = c.before.before.before in omega (arith, k.loop.invariant.1, k.before.least.ensures)
+sub_left : tie.Need-overflow-sub-left invariant_loop decreases_loop
+sub_left c = let k = c.before.before.before in omega (arith, k.loop.invariant.1, k.before.least.ensures)
 
-add-i : tie.Need-overflow-add-i invariant-loop decreases-loop
-add-i c = search rules
+add_i : tie.Need-overflow-add-i invariant_loop decreases_loop
+add_i c = search rules
 
-loop-less : tie.Need-loop-smaller invariant-loop decreases-loop
-loop-less c = search rules
+loop_less : tie.Need-loop-smaller invariant_loop decreases_loop
+loop_less c = search rules
 
-loop-again : tie.Need-loop-preserved invariant-loop decreases-loop
-loop-again c =
+loop_again : tie.Need-loop-preserved invariant_loop decreases_loop
+loop_again c =
     let k = c.before.before.before in
     let s = k.before.before.before in
     let a = s.args in
     let e = k.before.least.ensures in (
-      copied-turn a.from a.to a.size k.loop.i a.image.now k.loop.image s.requires.0 s.requires.2 (omega (arith, e)) k.loop.invariant.0,
+      copied_turn a.from a.to a.size k.loop.i a.image.now k.loop.image s.requires.0 s.requires.2 (omega (arith, e)) k.loop.invariant.0,
       omega (arith, k.loop.invariant.1),
       omega (arith, e),
       simp length-set k.loop.invariant.3,
     )
 
-same_length : tie.Need-same-length invariant-loop decreases-loop
+same_length : tie.Need-same-length invariant_loop decreases_loop
 same_length c = search rules
 
-returns : tie.Need-returns invariant-loop decreases-loop
+returns : tie.Need-returns invariant_loop decreases_loop
 returns c =
     let k = c.before in
     let s = k.before.before.before in
     let a = s.args in
     let e = k.before.least.ensures in
     let paid : k.loop.left ≡ a.budget - k.loop.i = k.loop.invariant.1 in
-    let all : k.loop.i ≡ min a.budget (length (take a.size (drop a.from a.image.now))) = rw (copied-length a.from a.size a.image.now s.requires.0) (omega (arith, e)) in
-    rw paid (programs-covered a.to a.budget k.loop.i (take a.size (drop a.from a.image.now)) a.image.now k.loop.image all k.loop.invariant.0)
+    let all : k.loop.i ≡ min a.budget (length (take a.size (drop a.from a.image.now))) = rw (copied_length a.from a.size a.image.now s.requires.0) (omega (arith, e)) in
+    rw paid (programs_covered a.to a.budget k.loop.i (take a.size (drop a.from a.image.now)) a.image.now k.loop.image all k.loop.invariant.0)
 
-pub copy-data-spec : {M : Type 1} → statement M
-copy-data-spec =
+pub copy_data_spec : {M : Type 1} → statement M
+copy_data_spec =
     tie.close
     (tie.spec
-    invariant-loop
-    decreases-loop
-    least-requires
-    loop-holds
-    add-o
-    slice-read-image
-    add-image
-    slice-read-image-2
-    slice-write-image
-    sub-left
-    add-i
-    loop-less
-    loop-again
+    invariant_loop
+    decreases_loop
+    least_requires
+    loop_holds
+    add_o
+    slice_read_image
+    add_image
+    slice_read_image_2
+    slice_write_image
+    sub_left
+    add_i
+    loop_less
+    loop_again
     same_length
     returns)

@@ -1,40 +1,40 @@
 -- `partition_items::item_erased` is the blank test of the item's bytes. Assumes nothing.
-use Rattle.partition_items.proofs.Laws.{part-blank}
+use Rattle.partition_items.proofs.Laws.{part_blank}
 use borrow.Author.Rules.{rules}
 use Rattle.partition_items.proofs.item_erased.Statement.{statement}
 use Rattle.partition_items.proofs.item_erased.Tie as tie
 
-add-end : tie.Need-overflow-add-end
-add-end c = search rules
+add_end : tie.Need-overflow-add-end
+add_end c = search rules
 
-add-end-2 : tie.Need-overflow-add-end-2
-add-end-2 c = search rules
+add_end_2 : tie.Need-overflow-add-end-2
+add_end_2 c = search rules
 
-sub-blank-test : tie.Need-overflow-sub-blank-test
-sub-blank-test c = search rules
+sub_blank_test : tie.Need-overflow-sub-blank-test
+sub_blank_test c = search rules
 
-part-blank-test-start : tie.Need-slice-bounds-blank-test-start
-part-blank-test-start c = search rules
+part_blank_test_start : tie.Need-slice-bounds-blank-test-start
+part_blank_test_start c = search rules
 
-part-blank-test-end : tie.Need-slice-bounds-blank-test-end
-part-blank-test-end c = search rules
+part_blank_test_end : tie.Need-slice-bounds-blank-test-end
+part_blank_test_end c = search rules
 
-blank-test-requires : tie.Need-blank-test-requires
-blank-test-requires c κs = search rules
+blank_test_requires : tie.Need-blank-test-requires
+blank_test_requires c κs = search rules
 
 returns : tie.Need-returns
 returns c =
     let a = c.before.before.before.args in
-    part-blank a.image.now a.at a.size c.blank-test.ensures.0
+    part_blank a.image.now a.at a.size c.blank-test.ensures.0
 
-pub item-erased-spec : {M : Type 1} → statement M
-item-erased-spec =
+pub item_erased_spec : {M : Type 1} → statement M
+item_erased_spec =
     tie.close
     (tie.spec
-    add-end
-    add-end-2
-    sub-blank-test
-    part-blank-test-start
-    part-blank-test-end
-    blank-test-requires
+    add_end
+    add_end_2
+    sub_blank_test
+    part_blank_test_start
+    part_blank_test_end
+    blank_test_requires
     returns)

@@ -4,14 +4,14 @@ use borrow.Author.Rules.{rules}
 use Rattle.partition_items.proofs.write_item.Statement.{statement}
 use Rattle.partition_items.proofs.write_item.Tie as tie
 
-add-program-run : tie.Need-overflow-add-program-run
-add-program-run c = search rules
+add_program_run : tie.Need-overflow-add-program-run
+add_program_run c = search rules
 
-program-run-requires : tie.Need-program-run-requires
-program-run-requires c κs = search rules
+program_run_requires : tie.Need-program-run-requires
+program_run_requires c κs = search rules
 
-program-byte-requires : tie.Need-program-byte-requires
-program-byte-requires c κs = search rules
+program_byte_requires : tie.Need-program-byte-requires
+program_byte_requires c κs = search rules
 
 same_length : tie.Need-same-length
 same_length c = search rules
@@ -22,7 +22,7 @@ returns c =
     let run = byte.before.before.before.before in
     λ B. ◌then◌ (run.program-run.ensures B) (byte.program-byte.ensures B)
 
-pub write-item-spec : {M : Type 1} → statement M
-write-item-spec =
+pub write_item_spec : {M : Type 1} → statement M
+write_item_spec =
     tie.close
-    (tie.spec add-program-run program-run-requires program-byte-requires same_length returns)
+    (tie.spec add_program_run program_run_requires program_byte_requires same_length returns)

@@ -3,71 +3,71 @@ use Prim.Native.Nat.{◌+◌, ◌-◌}
 use native.Mathlib.Omega.{arith}
 use lib.ListN.{length}
 use borrow.Author.Rules.{rules}
-use Rattle.partition_layout.proofs.Walk.{Sought, search-start, search-end, search-within, search-found, search-next}
+use Rattle.partition_layout.proofs.Walk.{Sought, search_start, search_end, search_within, search_found, search_next}
 use Rattle.partition_layout.proofs.find_item.Statement.{statement}
 use Rattle.partition_layout.proofs.find_item.Tie as tie
 
-abbrev invariant-loop : tie.invariant-loop
-invariant-loop layout item offset₀ at₀ offset at = Sought layout item offset at
+abbrev invariant_loop : tie.invariant-loop
+invariant_loop layout item offset₀ at₀ offset at = Sought layout item offset at
 
-abbrev decreases-loop : tie.decreases-loop
-decreases-loop layout item offset₀ at₀ offset at = length layout - at
+abbrev decreases_loop : tie.decreases-loop
+decreases_loop layout item offset₀ at₀ offset at = length layout - at
 
-loop-holds : tie.Need-loop-init invariant-loop decreases-loop
-loop-holds c = search-start _ _ c.requires.0
+loop_holds : tie.Need-loop-init invariant_loop decreases_loop
+loop_holds c = search_start _ _ c.requires.0
 
-add-length : tie.Need-overflow-add-length invariant-loop decreases-loop
-add-length c = search rules
+add_length : tie.Need-overflow-add-length invariant_loop decreases_loop
+add_length c = search rules
 
-shared-slice-read-length : tie.Need-shared-slice-read-length invariant-loop decreases-loop
-shared-slice-read-length c = search rules
+shared_slice_read_length : tie.Need-shared-slice-read-length invariant_loop decreases_loop
+shared_slice_read_length c = search rules
 
-cast-length : tie.Need-overflow-cast-length invariant-loop decreases-loop
-cast-length c = omega (arith, c.shared-slice-known.given (c.before.before.loop.at + 1))
+cast_length : tie.Need-overflow-cast-length invariant_loop decreases_loop
+cast_length c = omega (arith, c.shared-slice-known.given (c.before.before.loop.at + 1))
 
-shared-slice-read-if1 : tie.Need-shared-slice-read-if1 invariant-loop decreases-loop
-shared-slice-read-if1 c = search rules
+shared_slice_read_if1 : tie.Need-shared-slice-read-if1 invariant_loop decreases_loop
+shared_slice_read_if1 c = search rules
 
-returns : tie.Need-returns invariant-loop decreases-loop
-returns c = search-found c.before.before.before.before.loop.invariant c.before.before.before.loop-test.true c.if1.true
+returns : tie.Need-returns invariant_loop decreases_loop
+returns c = search_found c.before.before.before.before.loop.invariant c.before.before.before.loop-test.true c.if1.true
 
-add-offset : tie.Need-overflow-add-offset invariant-loop decreases-loop
-add-offset c =
+add_offset : tie.Need-overflow-add-offset invariant_loop decreases_loop
+add_offset c =
     let l = c.before.before.before.before in
-    omega (arith, l.before.requires.1, search-within l.loop.invariant c.before.before.before.loop-test.true)
+    omega (arith, l.before.requires.1, search_within l.loop.invariant c.before.before.before.loop-test.true)
 
-add-offset-2 : tie.Need-overflow-add-offset-2 invariant-loop decreases-loop
-add-offset-2 c =
+add_offset_2 : tie.Need-overflow-add-offset-2 invariant_loop decreases_loop
+add_offset_2 c =
     let l = c.before.before.before.before in
-    omega (arith, l.before.requires.1, search-within l.loop.invariant c.before.before.before.loop-test.true)
+    omega (arith, l.before.requires.1, search_within l.loop.invariant c.before.before.before.loop-test.true)
 
-add_at : tie.Need-overflow-add-at invariant-loop decreases-loop
+add_at : tie.Need-overflow-add-at invariant_loop decreases_loop
 add_at c = search rules
 
-loop-less : tie.Need-loop-smaller invariant-loop decreases-loop
-loop-less c = search rules
+loop_less : tie.Need-loop-smaller invariant_loop decreases_loop
+loop_less c = search rules
 
-loop-again : tie.Need-loop-preserved invariant-loop decreases-loop
-loop-again c = search-next c.before.before.before.before.loop.invariant c.before.before.before.loop-test.true c.if1.false
+loop_again : tie.Need-loop-preserved invariant_loop decreases_loop
+loop_again c = search_next c.before.before.before.before.loop.invariant c.before.before.before.loop-test.true c.if1.false
 
-returns-2 : tie.Need-returns-2 invariant-loop decreases-loop
-returns-2 c = search-end c.before.loop.invariant c.loop-test.false
+returns_2 : tie.Need-returns-2 invariant_loop decreases_loop
+returns_2 c = search_end c.before.loop.invariant c.loop-test.false
 
-pub find-item-spec : {M : Type 1} → statement M
-find-item-spec =
+pub find_item_spec : {M : Type 1} → statement M
+find_item_spec =
     tie.close
     (tie.spec
-    invariant-loop
-    decreases-loop
-    loop-holds
-    add-length
-    shared-slice-read-length
-    cast-length
-    shared-slice-read-if1
+    invariant_loop
+    decreases_loop
+    loop_holds
+    add_length
+    shared_slice_read_length
+    cast_length
+    shared_slice_read_if1
     returns
-    add-offset
-    add-offset-2
+    add_offset
+    add_offset_2
     add_at
-    loop-less
-    loop-again
-    returns-2)
+    loop_less
+    loop_again
+    returns_2)

@@ -1,19 +1,19 @@
 -- `partition_status::status_of` is the definition. Assumes nothing.
 use mathlib.Core.Path.{refl}
 use borrow.Author.Rules.{rules}
-use Rattle.partitions.specs.Partitions.{statusOf}
+use Rattle.partitions.specs.Partitions.{status_of}
 use Rattle.partition_status.proofs.status_of.Statement.{statement}
 use Rattle.partition_status.proofs.status_of.Tie as tie
 
-mul-result : tie.Need-overflow-mul-result
-mul-result c = search rules
+mul_result : tie.Need-overflow-mul-result
+mul_result c = search rules
 
-shared-slice-read-result : tie.Need-shared-slice-read-result
-shared-slice-read-result c = search rules
+shared_slice_read_result : tie.Need-shared-slice-read-result
+shared_slice_read_result c = search rules
 
 returns : tie.Need-returns
-unfolding statusOf
+unfolding status_of
 returns c = refl
 
-pub status-of-spec : {M : Type 1} → statement M
-status-of-spec = tie.close (tie.spec mul-result shared-slice-read-result returns)
+pub status_of_spec : {M : Type 1} → statement M
+status_of_spec = tie.close (tie.spec mul_result shared_slice_read_result returns)

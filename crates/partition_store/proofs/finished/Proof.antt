@@ -7,19 +7,19 @@ use borrow.Author.Rules.{rules}
 use Rattle.partition_store.proofs.finished.Statement.{statement}
 use Rattle.partition_store.proofs.finished.Tie as tie
 
-sub-t7 : tie.Need-overflow-sub-t7
-sub-t7 c = search rules
+sub_t7 : tie.Need-overflow-sub-t7
+sub_t7 c = search rules
 
 returns : tie.Need-returns
 unfolding number_of
 returns c = let a = c.before.args in record { code = rw (lt-ltb a.before a.last (omega (arith, c.if1.true))); count = refl }
 
-sub-t9 : tie.Need-overflow-sub-t9
-sub-t9 c = search rules
+sub_t9 : tie.Need-overflow-sub-t9
+sub_t9 c = search rules
 
-returns-2 : tie.Need-returns-2
+returns_2 : tie.Need-returns-2
 unfolding number_of
-returns-2 c = let a = c.before.args in record { code = rw (le-ltb a.before a.last (omega (arith, c.if1.false))); count = refl }
+returns_2 c = let a = c.before.args in record { code = rw (le-ltb a.before a.last (omega (arith, c.if1.false))); count = refl }
 
-pub finished-spec : {M : Type 1} → statement M
-finished-spec = tie.close (tie.spec sub-t7 returns sub-t9 returns-2)
+pub finished_spec : {M : Type 1} → statement M
+finished_spec = tie.close (tie.spec sub_t7 returns sub_t9 returns_2)

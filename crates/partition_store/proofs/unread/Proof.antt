@@ -6,5 +6,5 @@ use Rattle.partition_store.proofs.unread.Tie as tie
 returns : tie.Need-returns
 returns c = refl
 
-pub unread-spec : {M : Type 1} → statement M
-unread-spec = tie.close (tie.spec returns)
+pub unread_spec : {M : Type 1} → statement M
+unread_spec = tie.close (tie.spec returns)

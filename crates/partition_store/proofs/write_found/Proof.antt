@@ -2,55 +2,55 @@
 use Rattle.partitions.specs.declared.Written.{Written}
 use Rattle.partitions.specs.declared.Reply.TheVariants.{Statuses}
 use mathlib.Core.Path.{ap, ◌∙◌}
-use Rattle.partition_store.proofs.Answering.{refused-worked, work-nothing, work-newest, work_none}
+use Rattle.partition_store.proofs.Answering.{refused_worked, work_nothing, work_newest, work_none}
 use Prim.Native.Nat.{◌/◌}
 use native.Mathlib.Omega.{arith}
 use lib.ListN.{length}
 use Rattle.partitions.specs.Answers.{number_of, wrote}
 use native.Mathlib.Nat.{div-le_self}
-use Rattle.partition_store.proofs.Asking.{stands, board-whole, said-below}
+use Rattle.partition_store.proofs.Asking.{stands, board_whole, said_below}
 use borrow.Author.Rules.{rules}
 use Rattle.partition_store.proofs.write_found.Statement.{statement}
 use Rattle.partition_store.proofs.write_found.Tie as tie
 
-div-size : tie.Need-nonzero-div-size
-div-size c =
+div_size : tie.Need-nonzero-div-size
+div_size c =
     let start = c.before.before.before in
     let a = start.args in
     omega (arith, (stands a.partitions a.layout.now a.image.now a.item a.at _ start.requires).some)
 
-find-newest-requires : tie.Need-find-newest-requires
-find-newest-requires c κs =
+find_newest_requires : tie.Need-find-newest-requires
+find_newest_requires c κs =
     let start = c.before.before.before.before in
     let a = start.args in
     let z = stands a.partitions a.layout.now a.image.now a.item a.at _ start.requires in
-    (omega (arith, z.inside), omega (arith, board-whole a.partitions (length a.image.now) z.even))
+    (omega (arith, z.inside), omega (arith, board_whole a.partitions (length a.image.now) z.even))
 
 enum_told : tie.Need-enum-told
 enum_told c = search rules
 
-write-first-requires : tie.Need-write-first-requires
-write-first-requires c κs =
+write_first_requires : tie.Need-write-first-requires
+write_first_requires c κs =
     let start = c.before.before.before.before.before.before.before.before in
     let a = start.args in
     let z = stands a.partitions a.layout.now a.image.now a.item a.at _ start.requires in
     (z.inside, div-le_self (length a.image.now) a.partitions)
 
-enum-known-newest : tie.Need-enum-known-newest
-enum-known-newest c = search rules
+enum_known_newest : tie.Need-enum-known-newest
+enum_known_newest c = search rules
 
-write-newest-requires : tie.Need-write-newest-requires
-write-newest-requires c κs =
+write_newest_requires : tie.Need-write-newest-requires
+write_newest_requires c κs =
     let found = c.before.before.before.before in
     let start = found.before.before.before.before.before in
     let a = start.args in
-    (start.requires, said-below a.partitions _ a.image.now found.find-newest.ensures c.before.before.newest.given.1)
+    (start.requires, said_below a.partitions _ a.image.now found.find-newest.ensures c.before.before.newest.given.1)
 
-enum-told-2 : tie.Need-enum-told-2
-enum-told-2 c = search rules
+enum_told_2 : tie.Need-enum-told-2
+enum_told_2 c = search rules
 
-refused-requires : tie.Need-refused-requires
-refused-requires c κs = search rules
+refused_requires : tie.Need-refused-requires
+refused_requires c κs = search rules
 
 same_length : tie.Need-same-length
 same_length c = search rules
@@ -60,45 +60,45 @@ returns c =
     let found = c.before.before.before.before.before.before in
     let start = found.before.before.before.before.before in
     let a = start.args in
-    rw (work-nothing a.partitions a.layout.now a.image.now a.item a.at a.contents.now start.requires found.find-newest.ensures c.before.before.before.before.enum_told.given.1) c.before.before.write-first.ensures
+    rw (work_nothing a.partitions a.layout.now a.image.now a.item a.at a.contents.now start.requires found.find-newest.ensures c.before.before.before.before.enum_told.given.1) c.before.before.write-first.ensures
 
-same-length-2 : tie.Need-same-length-2
-same-length-2 c = search rules
+same_length_2 : tie.Need-same-length-2
+same_length_2 c = search rules
 
-returns-2 : tie.Need-returns-2
-returns-2 c =
+returns_2 : tie.Need-returns-2
+returns_2 c =
     let found = c.before.before.before.before.before.before.before in
     let start = found.before.before.before.before.before in
     let a = start.args in
-    rw (work-newest a.partitions a.layout.now a.image.now a.item a.at a.contents.now start.requires found.find-newest.ensures c.before.before.before.before.before.newest.given.1) c.before.before.write-newest.ensures
+    rw (work_newest a.partitions a.layout.now a.image.now a.item a.at a.contents.now start.requires found.find-newest.ensures c.before.before.before.before.before.newest.given.1) c.before.before.write-newest.ensures
 
-same-length-3 : tie.Need-same-length-3
-same-length-3 c = search rules
+same_length_3 : tie.Need-same-length-3
+same_length_3 c = search rules
 
-returns-3 : tie.Need-returns-3
+returns_3 : tie.Need-returns-3
 unfolding number_of
-returns-3 c =
+returns_3 c =
     let found = c.before.before.before in
     let start = found.before.before.before.before.before in
     let a = start.args in
     let s = a.image.now in
-    rw (work_none a.partitions a.layout.now a.image.now a.item a.at a.contents.now start.requires found.find-newest.ensures c.before.enum-told2.given.1) (ap (λ (w : Written). wrote w s) c.refused.ensures ∙ refused-worked (length s / a.partitions) Statuses s a.budget)
+    rw (work_none a.partitions a.layout.now a.image.now a.item a.at a.contents.now start.requires found.find-newest.ensures c.before.enum-told2.given.1) (ap (λ (w : Written). wrote w s) c.refused.ensures ∙ refused_worked (length s / a.partitions) Statuses s a.budget)
 
-pub write-found-spec : {M : Type 1} → statement M
-write-found-spec =
+pub write_found_spec : {M : Type 1} → statement M
+write_found_spec =
     tie.close
     (tie.spec
-    div-size
-    find-newest-requires
+    div_size
+    find_newest_requires
     enum_told
-    write-first-requires
-    enum-known-newest
-    write-newest-requires
-    enum-told-2
-    refused-requires
+    write_first_requires
+    enum_known_newest
+    write_newest_requires
+    enum_told_2
+    refused_requires
     same_length
     returns
-    same-length-2
-    returns-2
-    same-length-3
-    returns-3)
+    same_length_2
+    returns_2
+    same_length_3
+    returns_3)

@@ -8,58 +8,58 @@ use native.Mathlib.Nat.{mod-lt, mod-eq_of_lt, mul-add-mod_self_right, mul-le-mul
 use lib.ListN.{length, get_or}
 use lib.Dec.{ltb}
 use borrow.Author.Tests.{eq-eqb, ltb-true}
-use Rattle.model.specs.Chip.{Image, Page, imageLength}
-use Rattle.model.specs.Slot.{numberOk, mostContents, slotPage, Slot, live, slot_of, entry_of}
-use Rattle.model.specs.State.{View, entries, entriesIn, holds, Place, place_of, view}
+use Rattle.model.specs.Chip.{Image, Page, image_length}
+use Rattle.model.specs.Slot.{number_ok, most_contents, slot_page, Slot, live, slot_of, entry_of}
+use Rattle.model.specs.State.{View, entries, entries_in, holds, Place, place_of, view}
 use Rattle.model.specs.Steps.{slot_at}
-use Rattle.model.specs.Table.{lookup, contentsFound}
-use Rattle.model.specs.Mounted.{Places, placeEntry}
+use Rattle.model.specs.Table.{lookup, contents_found}
+use Rattle.model.specs.Mounted.{Places, place_entry}
 use Rattle.model.specs.Laws.Lists.{and_left}
-use Rattle.model.specs.Laws.Chip.{size-facts}
-use Rattle.model.specs.Laws.Segments.{part_of, page-byte}
-use Rattle.model.specs.Laws.SlotPage.{live_facts, number-below}
-use Rattle.model.specs.Laws.Tables.{lookup-append}
-use Rattle.bridge.specs.Held.{Held, held-lengths, held-of-clean}
-use Rattle.bridge.specs.Views.Places.{FirstLive, first_live, earlier, later, fill-entries, InView, in-view}
+use Rattle.model.specs.Laws.Chip.{size_facts}
+use Rattle.model.specs.Laws.Segments.{part_of, page_byte}
+use Rattle.model.specs.Laws.SlotPage.{live_facts, number_below}
+use Rattle.model.specs.Laws.Tables.{lookup_append}
+use Rattle.bridge.specs.Held.{Held, held_lengths, held_of_clean}
+use Rattle.bridge.specs.Views.Places.{FirstLive, first_live, earlier, later, fill_entries, InView, in_view}
 use Rattle.places.specs.declared.Entry.{Entry}
 use Rattle.places.specs.declared.Entry.TheVariants.{At, Absent}
-use Rattle.places.specs.Places.{entrySeen}
-use Rattle.places.proofs.Laws.Seen.{Believed, seen-absent, believed-seen}
-use Rattle.bridge.specs.Mounting.{Kept, live-page}
+use Rattle.places.specs.Places.{entry_seen}
+use Rattle.places.proofs.Laws.Seen.{Believed, seen_absent, believed_seen}
+use Rattle.bridge.specs.Mounting.{Kept, live_page}
 
 -- ---- where a stored block's slot lies
 
 module _ (N B b : ℕ) (s : Image) (v : View) (h : Held N B s v) (f : FirstLive b v.first v.slots) where
   -- a place that is believed, with the length of the contents
   abbrev Stored : ℕ → Type 0
-  Stored e = Believed B s e (record { 0 = e }) (length (contentsFound (lookup b (entriesIn v))))
+  Stored e = Believed B s e (record { 0 = e }) (length (contents_found (lookup b (entries_in v))))
 
   abbrev c : List ℕ
   c = f.contents
 
   abbrev n : ℕ
-  n = v.first + length f.gap.rowsBefore
+  n = v.first + length f.gap.rows_before
 
   abbrev j : ℕ
   j = length f.gap.before
 
   i : InView B v f.gap (live b c)
-  i = in-view B v f.gap (live b c) f.split (held-lengths N B s v h)
+  i = in_view B v f.gap (live b c) f.split (held_lengths N B s v h)
 
-  contents : contentsFound (lookup b (entriesIn v)) ≡ c
-  unfolding entriesIn entry_of lookup contentsFound
+  contents : contents_found (lookup b (entries_in v)) ≡ c
+  unfolding entries_in entry_of lookup contents_found
   contents =
-      ap (λ (r : List (List Slot)). contentsFound (lookup b (entries (flatten r)))) f.split
-      ∙ rw (fill-entries f.gap (live b c), lookup-append b (entries (earlier f.gap)) (record { block = b; contents = c } ∷ entries (later f.gap)), f.first, eq-eqb b b refl)
+      ap (λ (r : List (List Slot)). contents_found (lookup b (entries (flatten r)))) f.split
+      ∙ rw (fill_entries f.gap (live b c), lookup_append b (entries (earlier f.gap)) (record { block = b; contents = c } ∷ entries (later f.gap)), f.first, eq-eqb b b refl)
 
   here : n % N < N
-  here = mod-lt n {m = N} (omega (arith, (size-facts N B s h.size).two))
+  here = mod-lt n {m = N} (omega (arith, (size_facts N B s h.size).two))
 
   page : slot_of (get_or (part_of N B (n % N) s) (suc j) []) ≡ live b c
-  page = live-page N B b s v h f
+  page = live_page N B b s v h f
 
   byte : get_or s ((n % N * (B + 1) + suc j) * 256 + 1) 0 ≡ length c
-  byte = sym (page-byte N B (n % N) (suc j) 1 s here (omega (arith, i.short)) (omega arith)) ∙ (ap (λ (p : Page). get_or p 1 0) (live_facts (get_or (part_of N B (n % N) s) (suc j) []) b c page).page ∙ (unfold slotPage in refl))
+  byte = sym (page_byte N B (n % N) (suc j) 1 s here (omega (arith, i.short)) (omega arith)) ∙ (ap (λ (p : Page). get_or p 1 0) (live_facts (get_or (part_of N B (n % N) s) (suc j) []) b c page).page ∙ (unfold slot_page in refl))
 
   -- no header page: the remainder is the slot's page in its segment
   remainder : (n % N * (B + 1) + suc j) * 256 / 256 % (B + 1) ≡ suc j
@@ -68,45 +68,45 @@ module _ (N B b : ℕ) (s : Image) (v : View) (h : Held N B s v) (f : FirstLive 
       rw d (mul-add-mod_self_right (n % N) (B + 1) (suc j) ∙ mod-eq_of_lt {n = suc j} {m = B + 1} (omega (arith, i.short)))
 
   stored : Stored ((n % N * (B + 1) + suc j) * 256)
-  unfolding imageLength mostContents
+  unfolding image_length most_contents
   stored = record {
     place = refl;
     some = λ q. omega arith;
     even = omega arith;
     slot = λ q. omega (arith, remainder, q);
-    inside = omega (arith, (size-facts N B s h.size).whole, mul-le-mul_right (B + 1) here, suc-mul (n % N) (B + 1), i.short);
+    inside = omega (arith, (size_facts N B s h.size).whole, mul-le-mul_right (B + 1) here, suc-mul (n % N) (B + 1), i.short);
     long = ap length contents ∙ sym byte;
     short = omega (arith, ap length contents, (live_facts (get_or (part_of N B (n % N) s) (suc j) []) b c page).short);
   }
 
-  stored-first : Stored (slot_at N B (place_of b v).number (place_of b v).slot * 256)
+  stored_first : Stored (slot_at N B (place_of b v).number (place_of b v).slot * 256)
   unfolding slot_at place_of
-  stored-first = subst (λ (p : Place). Stored ((p.number % N * (B + 1) + suc p.slot) * 256)) (sym f.place) stored
+  stored_first = subst (λ (p : Place). Stored ((p.number % N * (B + 1) + suc p.slot) * 256)) (sym f.place) stored
 
-pub stored-place : (N B b : ℕ) (s : Image) (v : View) → Held N B s v → holds b (entriesIn v) ≡ true
-    → let e = slot_at N B (place_of b v).number (place_of b v).slot * 256 in Believed B s e (record { 0 = e }) (length (contentsFound (lookup b (entriesIn v))))
-unfolding entriesIn
-stored-place N B b s v h e = stored-first N B b s v h (first_live b v.first v.slots e)
+pub stored_place : (N B b : ℕ) (s : Image) (v : View) → Held N B s v → holds b (entries_in v) ≡ true
+    → let e = slot_at N B (place_of b v).number (place_of b v).slot * 256 in Believed B s e (record { 0 = e }) (length (contents_found (lookup b (entries_in v))))
+unfolding entries_in
+stored_place N B b s v h e = stored_first N B b s v h (first_live b v.first v.slots e)
 
 -- ---- the lookup
 
 -- what a lookup of block b finds in a view
-abbrev pub foundEntry : ℕ → ℕ → ℕ → View → Entry
-foundEntry N B b v = cond (holds b (entriesIn v)) (At (record { 0 = slot_at N B (place_of b v).number (place_of b v).slot * 256 }) (length (contentsFound (lookup b (entriesIn v))))) Absent
+abbrev pub found_entry : ℕ → ℕ → ℕ → View → Entry
+found_entry N B b v = cond (holds b (entries_in v)) (At (record { 0 = slot_at N B (place_of b v).number (place_of b v).slot * 256 }) (length (contents_found (lookup b (entries_in v))))) Absent
 
-pub entry_seen : (N B b : ℕ) (s : Image) (v : View) → Held N B s v → entrySeen B s (placeEntry N B v b) ≡ foundEntry N B b v
-unfolding placeEntry
-entry_seen N B b s v h = go (holds b (entriesIn v)) refl
+pub entry_seen_lem : (N B b : ℕ) (s : Image) (v : View) → Held N B s v → entry_seen B s (place_entry N B v b) ≡ found_entry N B b v
+unfolding place_entry
+entry_seen_lem N B b s v h = go (holds b (entries_in v)) refl
   where
-    go : (x : Bool) → holds b (entriesIn v) ≡ x → entrySeen B s (placeEntry N B v b) ≡ foundEntry N B b v
-    go true e = rw e (believed-seen B s (slot_at N B (place_of b v).number (place_of b v).slot * 256) _ _ (stored-place N B b s v h e))
-    go false e = rw e (sym (seen-absent B s 0 refl))
+    go : (x : Bool) → holds b (entries_in v) ≡ x → entry_seen B s (place_entry N B v b) ≡ found_entry N B b v
+    go true e = rw e (believed_seen B s (slot_at N B (place_of b v).number (place_of b v).slot * 256) _ _ (stored_place N B b s v h e))
+    go false e = rw e (sym (seen_absent B s 0 refl))
 
-pub number-above : (b : ℕ) → numberOk b ≡ true → 0 < b
-unfolding numberOk
-number-above b h = ltb-true 0 b (and_left (ltb 0 b) (ltb b 65535) h)
+pub number_above : (b : ℕ) → number_ok b ≡ true → 0 < b
+unfolding number_ok
+number_above b h = ltb-true 0 b (and_left (ltb 0 b) (ltb b 65535) h)
 
 -- in a table that is in step
-pub kept_seen : (N B b : ℕ) (s : Image) (t : Places) → Kept N B s t → numberOk b ≡ true → entrySeen B s (get_or t b 0) ≡ foundEntry N B b (view N B s)
+pub kept_seen : (N B b : ℕ) (s : Image) (t : Places) → Kept N B s t → number_ok b ≡ true → entry_seen B s (get_or t b 0) ≡ found_entry N B b (view N B s)
 kept_seen N B b s t k o =
-    rw (k.entry b (number-above b o) (omega (arith, number-below b o))) (entry_seen N B b s (view N B s) (held-of-clean N B s k.size k.fine))
+    rw (k.entry b (number_above b o) (omega (arith, number_below b o))) (entry_seen_lem N B b s (view N B s) (held_of_clean N B s k.size k.fine))

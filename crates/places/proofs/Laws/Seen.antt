@@ -8,37 +8,37 @@ use lib.Dec.{leb, eqb}
 use borrow.Author.Tests.{eqb-true, eqb-false, leb-true, eq-eqb, ne_eqb, le-leb, lt-leb}
 use Rattle.model.specs.declared.SlotPlace.{SlotPlace}
 use Rattle.model.specs.Chip.{Image}
-use Rattle.model.specs.Slot.{mostContents}
+use Rattle.model.specs.Slot.{most_contents}
 use Rattle.places.specs.declared.Entry.TheVariants.{At, Absent, Stale}
-use Rattle.places.specs.Places.{isSlotPlace, entrySeen}
+use Rattle.places.specs.Places.{is_slot_place, entry_seen}
 
 module _ (B : ℕ) (s : Image) (e : ℕ) where
-  pub seen-absent : e ≡ 0 → Absent ≡ entrySeen B s e
-  unfolding entrySeen
-  seen-absent z = simp (eq-eqb e 0 z)
+  pub seen_absent : e ≡ 0 → Absent ≡ entry_seen B s e
+  unfolding entry_seen
+  seen_absent z = simp (eq-eqb e 0 z)
 
   module _ (z : e ≡ 0 → ⊥) where
-    pub seen-uneven : (e % 256 ≡ 0 → ⊥) → Stale ≡ entrySeen B s e
-    unfolding entrySeen isSlotPlace
-    seen-uneven h = simp (ne_eqb e 0 z, ne_eqb (e % 256) 0 h)
+    pub seen_uneven : (e % 256 ≡ 0 → ⊥) → Stale ≡ entry_seen B s e
+    unfolding entry_seen is_slot_place
+    seen_uneven h = simp (ne_eqb e 0 z, ne_eqb (e % 256) 0 h)
 
     module _ (h : e % 256 ≡ 0) where
-      pub seen-header : e / 256 % (B + 1) ≡ 0 → Stale ≡ entrySeen B s e
-      unfolding entrySeen isSlotPlace
-      seen-header i = simp (ne_eqb e 0 z, eq-eqb (e % 256) 0 h, eq-eqb (e / 256 % (B + 1)) 0 i)
+      pub seen_header : e / 256 % (B + 1) ≡ 0 → Stale ≡ entry_seen B s e
+      unfolding entry_seen is_slot_place
+      seen_header i = simp (ne_eqb e 0 z, eq-eqb (e % 256) 0 h, eq-eqb (e / 256 % (B + 1)) 0 i)
 
       module _ (i : e / 256 % (B + 1) ≡ 0 → ⊥) where
-        pub seen-outside : length s < e + 256 → Stale ≡ entrySeen B s e
-        unfolding entrySeen isSlotPlace
-        seen-outside o = simp (ne_eqb e 0 z, eq-eqb (e % 256) 0 h, ne_eqb (e / 256 % (B + 1)) 0 i, lt-leb (e + 256) (length s) o)
+        pub seen_outside : length s < e + 256 → Stale ≡ entry_seen B s e
+        unfolding entry_seen is_slot_place
+        seen_outside o = simp (ne_eqb e 0 z, eq-eqb (e % 256) 0 h, ne_eqb (e / 256 % (B + 1)) 0 i, lt-leb (e + 256) (length s) o)
 
         module _ (o : e + 256 ≤ length s) where
-          pub seen-long : 248 < get_or s (e + 1) 0 → Stale ≡ entrySeen B s e
-          unfolding entrySeen isSlotPlace mostContents
-          seen-long l = simp (ne_eqb e 0 z, eq-eqb (e % 256) 0 h, ne_eqb (e / 256 % (B + 1)) 0 i, le-leb (e + 256) (length s) o, lt-leb (get_or s (e + 1) 0) 248 l)
+          pub seen_long : 248 < get_or s (e + 1) 0 → Stale ≡ entry_seen B s e
+          unfolding entry_seen is_slot_place most_contents
+          seen_long l = simp (ne_eqb e 0 z, eq-eqb (e % 256) 0 h, ne_eqb (e / 256 % (B + 1)) 0 i, le-leb (e + 256) (length s) o, lt-leb (get_or s (e + 1) 0) 248 l)
 
-          pub seen_at : get_or s (e + 1) 0 ≤ 248 → (l : ℕ) → l ≡ get_or s (e + 1) 0 → At (record { 0 = e }) l ≡ entrySeen B s e
-          unfolding entrySeen isSlotPlace mostContents
+          pub seen_at : get_or s (e + 1) 0 ≤ 248 → (l : ℕ) → l ≡ get_or s (e + 1) 0 → At (record { 0 = e }) l ≡ entry_seen B s e
+          unfolding entry_seen is_slot_place most_contents
           seen_at f l q = simp (ne_eqb e 0 z, eq-eqb (e % 256) 0 h, ne_eqb (e / 256 % (B + 1)) 0 i, le-leb (e + 256) (length s) o, le-leb (get_or s (e + 1) 0) 248 f, q)
 
 -- ---- all at once, and back: what is known of a place that was believed, whatever image and table are
@@ -52,14 +52,14 @@ pub record Believed (B : ℕ) (s : Image) (e : ℕ) (p : SlotPlace) (l : ℕ) : 
   pub long : l ≡ get_or s (e + 1) 0
   pub short : l ≤ 248
 
-pub believed-seen : (B : ℕ) (s : Image) (e : ℕ) (p : SlotPlace) (l : ℕ) → Believed B s e p l → entrySeen B s e ≡ At p l
-believed-seen B s e p l h =
+pub believed_seen : (B : ℕ) (s : Image) (e : ℕ) (p : SlotPlace) (l : ℕ) → Believed B s e p l → entry_seen B s e ≡ At p l
+believed_seen B s e p l h =
     sym (seen_at B s e h.some h.even h.slot h.inside (omega (arith, h.long, h.short)) l h.long)
     ∙ ap (λ (x : ℕ). At (record { 0 = x }) l) (sym h.place)
 
-pub seen-believed : (B : ℕ) (s : Image) (e : ℕ) (p : SlotPlace) (l : ℕ) → entrySeen B s e ≡ At p l → Believed B s e p l
-unfolding entrySeen isSlotPlace mostContents
-seen-believed B s e p l h = go (eqb e 0) (eqb (e % 256) 0) (eqb (e / 256 % (B + 1)) 0) (leb (e + 256) (length s)) (leb (get_or s (e + 1) 0) 248) refl refl refl refl refl h
+pub seen_believed : (B : ℕ) (s : Image) (e : ℕ) (p : SlotPlace) (l : ℕ) → entry_seen B s e ≡ At p l → Believed B s e p l
+unfolding entry_seen is_slot_place most_contents
+seen_believed B s e p l h = go (eqb e 0) (eqb (e % 256) 0) (eqb (e / 256 % (B + 1)) 0) (leb (e + 256) (length s)) (leb (get_or s (e + 1) 0) 248) refl refl refl refl refl h
   where
     go : (a b c d f : Bool) → eqb e 0 ≡ a → eqb (e % 256) 0 ≡ b → eqb (e / 256 % (B + 1)) 0 ≡ c → leb (e + 256) (length s) ≡ d → leb (get_or s (e + 1) 0) 248 ≡ f
         → cond a Absent (cond ((b && (not c && d)) && f) (At (record { 0 = e }) (get_or s (e + 1) 0)) Stale) ≡ At p l → Believed B s e p l

@@ -1,72 +1,72 @@
 -- `places::enter` enters the segments of the definition. The invariant: those that are left, entered, give the whole. Assumes nothing.
 use Prim.Native.Nat.{◌+◌, ◌-◌}
 use native.Mathlib.Omega.{arith}
-use Rattle.places.proofs.Laws.Walk.{Rounding, rounding-start, rounding-next, rounding-end, slots-within, few_bytes}
+use Rattle.places.proofs.Laws.Walk.{Rounding, rounding_start, rounding_next, rounding_end, slots_within, few_bytes}
 use borrow.Author.Rules.{rules}
 use Rattle.places.proofs.enter.Statement.{statement}
 use Rattle.places.proofs.enter.Tie as tie
 
-abbrev invariant-loop : tie.invariant-loop
-invariant-loop image segments slots first count places₀ turn₀ places turn = Rounding segments slots image first.0 count turn places places₀
+abbrev invariant_loop : tie.invariant-loop
+invariant_loop image segments slots first count places₀ turn₀ places turn = Rounding segments slots image first.0 count turn places places₀
 
-abbrev decreases-loop : tie.decreases-loop
-decreases-loop image segments slots first count places₀ turn₀ places turn = count - turn
+abbrev decreases_loop : tie.decreases-loop
+decreases_loop image segments slots first count places₀ turn₀ places turn = count - turn
 
-loop-holds : tie.Need-loop-init invariant-loop decreases-loop
-loop-holds c = rounding-start _ _ _ _ _ _
+loop_holds : tie.Need-loop-init invariant_loop decreases_loop
+loop_holds c = rounding_start _ _ _ _ _ _
 
-cast-number : tie.Need-overflow-cast-number invariant-loop decreases-loop
-cast-number c = search rules
+cast_number : tie.Need-overflow-cast-number invariant_loop decreases_loop
+cast_number c = search rules
 
-add-number : tie.Need-overflow-add-number invariant-loop decreases-loop
-add-number c = search rules
+add_number : tie.Need-overflow-add-number invariant_loop decreases_loop
+add_number c = search rules
 
-first-slot-requires : tie.Need-first-slot-requires invariant-loop decreases-loop
-first-slot-requires c κs = search rules
+first_slot_requires : tie.Need-first-slot-requires invariant_loop decreases_loop
+first_slot_requires c κs = search rules
 
-enter-slots-requires : tie.Need-enter-slots-requires invariant-loop decreases-loop
-enter-slots-requires c κs =
+enter_slots_requires : tie.Need-enter-slots-requires invariant_loop decreases_loop
+enter_slots_requires c κs =
     let k = c.before.before.before.before in
     let a = k.before.before.before in
     let z = a.requires.0 in (
-      omega (arith, c.before.first_slot.ensures, slots-within a.args.segments a.args.slots (a.args.first.0 + k.loop.turn) _ z),
+      omega (arith, c.before.first_slot.ensures, slots_within a.args.segments a.args.slots (a.args.first.0 + k.loop.turn) _ z),
       omega (arith, few_bytes _ _ _ z),
       omega (arith, a.requires.2, k.loop.invariant.long),
     )
 
-add_turn : tie.Need-overflow-add-turn invariant-loop decreases-loop
+add_turn : tie.Need-overflow-add-turn invariant_loop decreases_loop
 add_turn c = search rules
 
-loop-less : tie.Need-loop-smaller invariant-loop decreases-loop
-loop-less c = search rules
+loop_less : tie.Need-loop-smaller invariant_loop decreases_loop
+loop_less c = search rules
 
-loop-again : tie.Need-loop-preserved invariant-loop decreases-loop
-loop-again c =
+loop_again : tie.Need-loop-preserved invariant_loop decreases_loop
+loop_again c =
     let call = c.before.before in
     let place = call.before.before in
     let test = place.before.before in
     let k = test.before in
-    rounding-next _ _ _ _ _ _ _ _ k.loop.invariant _ _ test.loop-test.true k.before.before.before.requires.0.some place.first_slot.ensures call.enter-slots.ensures
+    rounding_next _ _ _ _ _ _ _ _ k.loop.invariant _ _ test.loop-test.true k.before.before.before.requires.0.some place.first_slot.ensures call.enter-slots.ensures
 
-same_length : tie.Need-same-length invariant-loop decreases-loop
+same_length : tie.Need-same-length invariant_loop decreases_loop
 same_length c = c.before.loop.invariant.long
 
-returns : tie.Need-returns invariant-loop decreases-loop
-returns c = rounding-end _ _ _ _ _ _ _ _ c.before.loop.invariant c.loop-test.false
+returns : tie.Need-returns invariant_loop decreases_loop
+returns c = rounding_end _ _ _ _ _ _ _ _ c.before.loop.invariant c.loop-test.false
 
 pub enter_spec : {M : Type 1} → statement M
 enter_spec =
     tie.close
     (tie.spec
-    invariant-loop
-    decreases-loop
-    loop-holds
-    cast-number
-    add-number
-    first-slot-requires
-    enter-slots-requires
+    invariant_loop
+    decreases_loop
+    loop_holds
+    cast_number
+    add_number
+    first_slot_requires
+    enter_slots_requires
     add_turn
-    loop-less
-    loop-again
+    loop_less
+    loop_again
     same_length
     returns)

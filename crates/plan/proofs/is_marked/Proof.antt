@@ -1,13 +1,13 @@
 -- `plan::is_marked` is the test of the definition. Assumes nothing.
-use Rattle.plan.proofs.Laws.Walks.{marked-dead, marked-cut}
+use Rattle.plan.proofs.Laws.Walks.{marked_dead, marked_cut}
 use Rattle.plan.proofs.is_marked.Statement.{statement}
 use Rattle.plan.proofs.is_marked.Tie as tie
 
 returns : tie.Need-returns
-returns c = marked-dead c.before.args.status c.if1.true
+returns c = marked_dead c.before.args.status c.if1.true
 
-returns-2 : tie.Need-returns-2
-returns-2 c = marked-cut c.before.args.status c.if1.false
+returns_2 : tie.Need-returns-2
+returns_2 c = marked_cut c.before.args.status c.if1.false
 
-pub is-marked-spec : {M : Type 1} → statement M
-is-marked-spec = tie.close (tie.spec returns returns-2)
+pub is_marked_spec : {M : Type 1} → statement M
+is_marked_spec = tie.close (tie.spec returns returns_2)

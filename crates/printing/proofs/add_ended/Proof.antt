@@ -6,14 +6,14 @@ use borrow.Author.Rules.{rules}
 use Rattle.printing.proofs.add_ended.Statement.{statement}
 use Rattle.printing.proofs.add_ended.Tie as tie
 
-add-labelled-requires : tie.Need-add-labelled-requires
-add-labelled-requires c κs = search rules
+add_labelled_requires : tie.Need-add-labelled-requires
+add_labelled_requires c κs = search rules
 
-slice-aggregate-add : tie.Need-slice-aggregate-add
-slice-aggregate-add c = search rules
+slice_aggregate_add : tie.Need-slice-aggregate-add
+slice_aggregate_add c = search rules
 
-add-requires : tie.Need-add-requires
-add-requires c κs = search rules
+add_requires : tie.Need-add-requires
+add_requires c κs = search rules
 
 same_length : tie.Need-same-length
 same_length c = search rules
@@ -25,6 +25,6 @@ returns c =
     let k1 = k2.before.before.before.before.before in
     (k1.add-labelled.ensures.0 then k2.add.ensures, omega (arith, k1.add-labelled.ensures.1, k2.add.ensures.ends))
 
-pub add-ended-spec : {M : Type 1} → statement M
-add-ended-spec =
-    tie.close (tie.spec add-labelled-requires slice-aggregate-add add-requires same_length returns)
+pub add_ended_spec : {M : Type 1} → statement M
+add_ended_spec =
+    tie.close (tie.spec add_labelled_requires slice_aggregate_add add_requires same_length returns)

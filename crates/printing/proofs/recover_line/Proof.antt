@@ -7,17 +7,17 @@ use borrow.Author.Rules.{rules}
 use Rattle.printing.proofs.recover_line.Statement.{statement}
 use Rattle.printing.proofs.recover_line.Tie as tie
 
-slice-aggregate-add-labelled : tie.Need-slice-aggregate-add-labelled
-slice-aggregate-add-labelled c = search rules
+slice_aggregate_add_labelled : tie.Need-slice-aggregate-add-labelled
+slice_aggregate_add_labelled c = search rules
 
-add-labelled-requires : tie.Need-add-labelled-requires
-add-labelled-requires c κs = search rules
+add_labelled_requires : tie.Need-add-labelled-requires
+add_labelled_requires c κs = search rules
 
-slice-aggregate-add-ended : tie.Need-slice-aggregate-add-ended
-slice-aggregate-add-ended c = search rules
+slice_aggregate_add_ended : tie.Need-slice-aggregate-add-ended
+slice_aggregate_add_ended c = search rules
 
-add-ended-requires : tie.Need-add-ended-requires
-add-ended-requires c κs = search rules
+add_ended_requires : tie.Need-add-ended-requires
+add_ended_requires c κs = search rules
 
 same_length : tie.Need-same-length
 same_length c = search rules
@@ -29,13 +29,13 @@ returns c =
     let k1 = k2.before.before.before.before.before in
     (k1.add-labelled.ensures.0 then k2.add-ended.ensures.0, omega (arith, k1.add-labelled.ensures.1, k2.add-ended.ensures.1))
 
-pub recover-line-spec : {M : Type 1} → statement M
-recover-line-spec =
+pub recover_line_spec : {M : Type 1} → statement M
+recover_line_spec =
     tie.close
     (tie.spec
-    slice-aggregate-add-labelled
-    add-labelled-requires
-    slice-aggregate-add-ended
-    add-ended-requires
+    slice_aggregate_add_labelled
+    add_labelled_requires
+    slice_aggregate_add_ended
+    add_ended_requires
     same_length
     returns)

@@ -5,11 +5,11 @@ use borrow.Author.Rules.{rules}
 use Rattle.printing.proofs.used_line.Statement.{statement}
 use Rattle.printing.proofs.used_line.Tie as tie
 
-add-labelled-requires : tie.Need-add-labelled-requires
-add-labelled-requires c κs = search rules
+add_labelled_requires : tie.Need-add-labelled-requires
+add_labelled_requires c κs = search rules
 
-counts-line-requires : tie.Need-counts-line-requires
-counts-line-requires c κs = search rules
+counts_line_requires : tie.Need-counts-line-requires
+counts_line_requires c κs = search rules
 
 same_length : tie.Need-same-length
 same_length c = search rules
@@ -21,6 +21,6 @@ returns c =
     let s = k1.before.before.before.before in
     (k1.add-labelled.ensures.0 then k2.counts-line.ensures.0, omega (arith, k1.add-labelled.ensures.1, k2.counts-line.ensures.1, s.requires.1))
 
-pub used-line-spec : {M : Type 1} → statement M
-used-line-spec =
-    tie.close (tie.spec add-labelled-requires counts-line-requires same_length returns)
+pub used_line_spec : {M : Type 1} → statement M
+used_line_spec =
+    tie.close (tie.spec add_labelled_requires counts_line_requires same_length returns)

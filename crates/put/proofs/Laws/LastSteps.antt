@@ -7,37 +7,37 @@ use native.Mathlib.Omega.{arith}
 use lib.ListN.{length, length-append}
 use Rattle.model.specs.Chip.{Image}
 use Rattle.model.specs.State.{View, place_of, view}
-use Rattle.model.specs.Steps.{onPage, slot_at, writeSlot, markDead, markPlace, topNumber, writeAtTop, markOld}
+use Rattle.model.specs.Steps.{on_page, slot_at, write_slot, mark_dead, mark_place, top_number, write_at_top, mark_old}
 use Rattle.model.specs.declared.Performed.{Performed}
 use Rattle.model.specs.declared.SlotPlace.{SlotPlace}
-use Rattle.bridge.specs.Held.{Held, held-of-clean, clean-view}
+use Rattle.bridge.specs.Held.{Held, held_of_clean, clean_view}
 use Rattle.find.specs.declared.Found.{Found}
 use Rattle.find.specs.declared.Found.TheVariants.{At, Nothing}
 use Rattle.find.proofs.Callers.{Inside, found_inside, FoundAt, found_at, found_nothing}
 use Rattle.flash.specs.Ran.{Ran, shifted}
-use Rattle.flash.proofs.Laws.{◌then◌, ran-length, ran-left, shifted-page}
+use Rattle.flash.proofs.Laws.{◌then◌, ran_length, ran_left, shifted_page}
 use Rattle.flash.specs.Pages.{Sized, OnPageAt}
-use Rattle.flash.proofs.Pages.{in-page, sized}
+use Rattle.flash.proofs.Pages.{in_page, sized}
 use Rattle.room.specs.declared.Plan.{Plan}
 use Rattle.room.specs.declared.Room.{Room}
 use Rattle.room.specs.Room.{Worked}
 use Rattle.request.specs.Request.{Finished}
-use Rattle.put.specs.Writing.{Ready, lastSteps, OldInside, Placed, markFound, lastStepsAt, Wrote}
-use Rattle.bridge.specs.Lengths.{page-length, write-length}
+use Rattle.put.specs.Writing.{Ready, last_steps, OldInside, Placed, mark_found, last_steps_at, Wrote}
+use Rattle.bridge.specs.Lengths.{page_length, write_length}
 
 -- ---- any image
 
 -- once room was made, a free slot and an old one inside the image are all that is left to test
-pub worked-placed : (N B : ℕ) (p : Plan) (total budget : ℕ) (r : Room) (f : Found) (c : List ℕ) {s t : Image} → Sized N B (length s) → Worked N B p total budget r s t
+pub worked_placed : (N B : ℕ) (p : Plan) (total budget : ℕ) (r : Room) (f : Found) (c : List ℕ) {s t : Image} → Sized N B (length s) → Worked N B p total budget r s t
     → r.slot < B → OldInside f (length t) → length c ≤ 248 → Placed N B r f c budget (length t)
-worked-placed N B p total budget r f c z w h o k = record {
-  sized = rw (ran-length w.ran) z;
+worked_placed N B p total budget r f c z w h o k = record {
+  sized = rw (ran_length w.ran) z;
   some = w.some;
   few = omega (arith, w.spare, z.segments);
   room = h;
   old = o;
   short = k;
-  left = ran-left w.ran;
+  left = ran_left w.ran;
 }
 
 module _ (N B : ℕ) (r : Room) (f : Found) (b : ℕ) (c : List ℕ) (budget : ℕ) (t : Image) (k : Placed N B r f c budget (length t)) where
@@ -49,37 +49,37 @@ module _ (N B : ℕ) (r : Room) (f : Found) (b : ℕ) (c : List ℕ) (budget : �
   place_inside at e = let z = k.sized in
       omega (arith, z.whole, k.room, suc-mul ((r.first.0 + r.used - 1) % N) (B + 1), mul-le-mul_right (B + 1) (mod-lt (r.first.0 + r.used - 1) {m = N} z.some))
 
-  pub old-inside : (q : SlotPlace) (n : ℕ) → f ≡ At q n → q.0 < length t
-  old-inside q n w = subst (λ (g : Found). OldInside g (length t)) w k.old
+  pub old_inside : (q : SlotPlace) (n : ℕ) → f ≡ At q n → q.0 < length t
+  old_inside q n w = subst (λ (g : Found). OldInside g (length t)) w k.old
 
-  wrote-length : length (onPage page (writeSlot b c)) ≡ 5 + length c
-  wrote-length = page-length page (writeSlot b c) ∙ write-length b c
+  wrote_length : length (on_page page (write_slot b c)) ≡ 5 + length c
+  wrote_length = page_length page (write_slot b c) ∙ write_length b c
 
-  module _ (at written : ℕ) {w : Image} (e : at ≡ slot_at N B (r.first.0 + r.used - 1) r.slot * 256) (d : OnPageAt at (writeSlot b c) r.left written t w) where
-    ran-top : Ran (onPage page (writeSlot b c)) B r.left written t w
-    ran-top = in-page at page (writeSlot b c) e d B
+  module _ (at written : ℕ) {w : Image} (e : at ≡ slot_at N B (r.first.0 + r.used - 1) r.slot * 256) (d : OnPageAt at (write_slot b c) r.left written t w) where
+    ran_top : Ran (on_page page (write_slot b c)) B r.left written t w
+    ran_top = in_page at page (write_slot b c) e d B
 
     -- nothing to mark
-    pub wrote-new : {p : Performed} → f ≡ Nothing → Finished budget written r.left (5 + length c) p → Wrote N B r f b c budget p t w
-    unfolding lastStepsAt markFound
-    wrote-new {p} m fin = record {
+    pub wrote_new : {p : Performed} → f ≡ Nothing → Finished budget written r.left (5 + length c) p → Wrote N B r f b c budget p t w
+    unfolding last_steps_at mark_found
+    wrote_new {p} m fin = record {
       left = written;
-      ran = rw (m, append-nil (onPage page (writeSlot b c))) ran-top;
-      finished = rw (m, append-nil (onPage page (writeSlot b c)), wrote-length) fin;
+      ran = rw (m, append-nil (on_page page (write_slot b c))) ran_top;
+      finished = rw (m, append-nil (on_page page (write_slot b c)), wrote_length) fin;
     }
 
     -- and then the old slot
-    module _ (q : SlotPlace) (n : ℕ) (o : f ≡ At q n) (left : ℕ) {x : Image} (g : OnPageAt q.0 markDead written left w x) where
-      mark-length : length (shifted q.0 markDead) ≡ 1
-      unfolding shifted markDead
-      mark-length = refl
+    module _ (q : SlotPlace) (n : ℕ) (o : f ≡ At q n) (left : ℕ) {x : Image} (g : OnPageAt q.0 mark_dead written left w x) where
+      mark_length : length (shifted q.0 mark_dead) ≡ 1
+      unfolding shifted mark_dead
+      mark_length = refl
 
-      pub wrote-old : {p : Performed} → Finished budget left r.left (5 + length c + 1) p → Wrote N B r f b c budget p t x
-      unfolding lastStepsAt markFound
-      wrote-old {p} fin =
-          let l : length (onPage page (writeSlot b c) ++ shifted q.0 markDead) ≡ 5 + length c + 1 = length-append (onPage page (writeSlot b c)) (shifted q.0 markDead) ∙ ap₂ ◌+◌ wrote-length mark-length in record {
+      pub wrote_old : {p : Performed} → Finished budget left r.left (5 + length c + 1) p → Wrote N B r f b c budget p t x
+      unfolding last_steps_at mark_found
+      wrote_old {p} fin =
+          let l : length (on_page page (write_slot b c) ++ shifted q.0 mark_dead) ≡ 5 + length c + 1 = length-append (on_page page (write_slot b c)) (shifted q.0 mark_dead) ∙ ap₂ ◌+◌ wrote_length mark_length in record {
             left = left;
-            ran = rw o (◌then◌ ran-top (g B));
+            ran = rw o (◌then◌ ran_top (g B));
             finished = rw (o, l) fin;
           }
 
@@ -90,12 +90,12 @@ module _ (N B : ℕ) (r : Room) (f : Found) (b : ℕ) (c : List ℕ) (budget : �
   v = view N B t
 
   h : Held N B t v
-  h = held-of-clean N B t k.size k.state
+  h = held_of_clean N B t k.size k.state
 
-  pub ready-placed : Placed N B r f c budget (length t)
-  ready-placed =
+  pub ready_placed : Placed N B r f c budget (length t)
+  ready_placed =
       let z = sized N B t k.size in
-      let x = clean-view N B t k.size k.state in record {
+      let x = clean_view N B t k.size k.state in record {
         sized = z;
         some = omega (arith, k.used, x.some);
         few = omega (arith, k.used, x.spare, z.segments);
@@ -112,14 +112,14 @@ module _ (N B : ℕ) (r : Room) (f : Found) (b : ℕ) (c : List ℕ) (budget : �
           omega (arith, i.0, z.whole)
       inside Nothing w = tt
 
-  marks : (g : Found) → f ≡ g → markFound f ≡ markOld N B b v
-  unfolding markFound markOld markPlace
+  marks : (g : Found) → f ≡ g → mark_found f ≡ mark_old N B b v
+  unfolding mark_found mark_old mark_place
   marks (At q n) w =
       let a : FoundAt N B b v q n = found_at N B b t v h k.first k.used k.old q n w in
-      rw (w, a.held, a.place) (shifted-page (slot_at N B (place_of b v).number (place_of b v).slot) markDead)
+      rw (w, a.held, a.place) (shifted_page (slot_at N B (place_of b v).number (place_of b v).slot) mark_dead)
   marks Nothing w = rw (w, found_nothing N B b t v h k.first k.used k.old w)
 
   -- the steps are those of the definition
-  pub last-steps : lastStepsAt N B r f b c ≡ lastSteps N B b c (view N B t)
-  unfolding lastStepsAt lastSteps writeAtTop topNumber
-  last-steps = rw (k.first, k.used, k.slot, marks f refl)
+  pub last_steps_lem : last_steps_at N B r f b c ≡ last_steps N B b c (view N B t)
+  unfolding last_steps_at last_steps write_at_top top_number
+  last_steps_lem = rw (k.first, k.used, k.slot, marks f refl)

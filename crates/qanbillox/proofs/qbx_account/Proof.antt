@@ -4,11 +4,11 @@ use borrow.Author.Rules.{rules}
 use Rattle.qanbillox.proofs.qbx_account.Statement.{statement}
 use Rattle.qanbillox.proofs.qbx_account.Tie as tie
 
-account-requires : tie.Need-account-requires
-account-requires c κs = search rules
+account_requires : tie.Need-account-requires
+account_requires c κs = search rules
 
-packed-print-requires : tie.Need-packed-print-requires
-packed-print-requires c κs = c.before.before.account.ensures.1
+packed_print_requires : tie.Need-packed-print-requires
+packed_print_requires c κs = c.before.before.account.ensures.1
 
 same_length : tie.Need-same-length
 same_length c = search rules
@@ -16,5 +16,5 @@ same_length c = search rules
 returns : tie.Need-returns
 returns c = prints _ _ _ _ c.before.before.before.account.ensures.0 c.packed-print.ensures
 
-pub qbx-account-spec : {M : Type 1} → statement M
-qbx-account-spec = tie.close (tie.spec account-requires packed-print-requires same_length returns)
+pub qbx_account_spec : {M : Type 1} → statement M
+qbx_account_spec = tie.close (tie.spec account_requires packed_print_requires same_length returns)

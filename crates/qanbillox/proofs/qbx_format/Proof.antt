@@ -5,11 +5,11 @@ use borrow.Author.Rules.{rules}
 use Rattle.qanbillox.proofs.qbx_format.Statement.{statement}
 use Rattle.qanbillox.proofs.qbx_format.Tie as tie
 
-format-requires : tie.Need-format-requires
-format-requires c κs = search rules
+format_requires : tie.Need-format-requires
+format_requires c κs = search rules
 
-packed-requires : tie.Need-packed-requires
-packed-requires c κs =
+packed_requires : tie.Need-packed-requires
+packed_requires c κs =
     let a = c.before.before.before.before.before in
     few a.args.n a.args.b a.args.image.now a.args.budget (format) _ _ c.before.before.format.ensures
 
@@ -19,5 +19,5 @@ same_length c = search rules
 returns : tie.Need-returns
 returns c = gives _ _ _ _ c.before.before.before.format.ensures c.packed.ensures
 
-pub qbx-format-spec : {M : Type 1} → statement M
-qbx-format-spec = tie.close (tie.spec format-requires packed-requires same_length returns)
+pub qbx_format_spec : {M : Type 1} → statement M
+qbx_format_spec = tie.close (tie.spec format_requires packed_requires same_length returns)

@@ -1,18 +1,18 @@
 -- `qanbillox::qbx_is_blank` gives what the definitions say, packed. Assumes nothing.
-use Rattle.qanbillox.specs.Packed.{packedBlank}
+use Rattle.qanbillox.specs.Packed.{packed_blank}
 use borrow.Author.Rules.{rules}
 use Rattle.qanbillox.proofs.qbx_is_blank.Statement.{statement}
 use Rattle.qanbillox.proofs.qbx_is_blank.Tie as tie
 
-blank-test-requires : tie.Need-blank-test-requires
-blank-test-requires c κs = search rules
+blank_test_requires : tie.Need-blank-test-requires
+blank_test_requires c κs = search rules
 
-packed-blank-requires : tie.Need-packed-blank-requires
-packed-blank-requires c κs = search rules
+packed_blank_requires : tie.Need-packed-blank-requires
+packed_blank_requires c κs = search rules
 
 returns : tie.Need-returns
-unfolding packedBlank
+unfolding packed_blank
 returns c = rw (c.packed-blank.ensures, c.before.blank-test.ensures.0, c.before.blank-test.ensures.1)
 
-pub qbx-is-blank-spec : {M : Type 1} → statement M
-qbx-is-blank-spec = tie.close (tie.spec blank-test-requires packed-blank-requires returns)
+pub qbx_is_blank_spec : {M : Type 1} → statement M
+qbx_is_blank_spec = tie.close (tie.spec blank_test_requires packed_blank_requires returns)

@@ -4,11 +4,11 @@ use borrow.Author.Rules.{rules}
 use Rattle.qanbillox.proofs.qbx_mount.Statement.{statement}
 use Rattle.qanbillox.proofs.qbx_mount.Tie as tie
 
-mount-requires : tie.Need-mount-requires
-mount-requires c κs = search rules
+mount_requires : tie.Need-mount-requires
+mount_requires c κs = search rules
 
-number-of-requires : tie.Need-number-of-requires
-number-of-requires c κs = search rules
+number_of_requires : tie.Need-number-of-requires
+number_of_requires c κs = search rules
 
 same_length : tie.Need-same-length
 same_length c = search rules
@@ -16,5 +16,5 @@ same_length c = search rules
 returns : tie.Need-returns
 returns c = mounts _ _ _ _ c.before.before.before.mount.ensures c.number_of_lem.ensures.0
 
-pub qbx-mount-spec : {M : Type 1} → statement M
-qbx-mount-spec = tie.close (tie.spec mount-requires number-of-requires same_length returns)
+pub qbx_mount_spec : {M : Type 1} → statement M
+qbx_mount_spec = tie.close (tie.spec mount_requires number_of_requires same_length returns)

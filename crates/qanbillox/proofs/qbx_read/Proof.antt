@@ -4,11 +4,11 @@ use borrow.Author.Rules.{rules}
 use Rattle.qanbillox.proofs.qbx_read.Statement.{statement}
 use Rattle.qanbillox.proofs.qbx_read.Tie as tie
 
-read-requires : tie.Need-read-requires
-read-requires c κs = search rules
+read_requires : tie.Need-read-requires
+read_requires c κs = search rules
 
-packed-read-requires : tie.Need-packed-read-requires
-packed-read-requires c κs =
+packed_read_requires : tie.Need-packed-read-requires
+packed_read_requires c κs =
     let a = c.before.before in
     small a.args.n a.args.b a.args.image.now a.args.block _ c.read.ensures
 
@@ -17,5 +17,5 @@ returns c =
     let a = c.before.before.before in
     tells a.args.n a.args.b a.args.image.now a.args.block _ _ c.before.read.ensures c.packed-read.ensures
 
-pub qbx-read-spec : {M : Type 1} → statement M
-qbx-read-spec = tie.close (tie.spec read-requires packed-read-requires returns)
+pub qbx_read_spec : {M : Type 1} → statement M
+qbx_read_spec = tie.close (tie.spec read_requires packed_read_requires returns)

@@ -1,21 +1,21 @@
 -- `qanbillox::qbx_rebuild` gives the packed outcome of the definition. Assumes nothing.
 use native.Mathlib.Omega.{arith}
-use Rattle.model.specs.Laws.Bytes.{bytes-known}
-use Rattle.salvage.specs.Facts.{rebuilt-few}
-use Rattle.qanbillox.proofs.Laws.{few-given, gives}
+use Rattle.model.specs.Laws.Bytes.{bytes_known}
+use Rattle.salvage.specs.Facts.{rebuilt_few}
+use Rattle.qanbillox.proofs.Laws.{few_given, gives}
 use borrow.Author.Rules.{rules}
 use Rattle.qanbillox.proofs.qbx_rebuild.Statement.{statement}
 use Rattle.qanbillox.proofs.qbx_rebuild.Tie as tie
 
-rebuild-requires : tie.Need-rebuild-requires
-rebuild-requires c κs = search rules
+rebuild_requires : tie.Need-rebuild-requires
+rebuild_requires c κs = search rules
 
-packed-requires : tie.Need-packed-requires
-packed-requires c κs =
+packed_requires : tie.Need-packed-requires
+packed_requires c κs =
     let m = c.before.before in
     let k = m.before.before.before in
     let a = k.before.args in
-    few-given _ _ _ (rebuilt-few a.n a.b a.source.now a.target-n a.target-b a.target.now a.budget (bytes-known a.source.now (λ i. omega (arith, k.shared-slice-known.given i)))) m.rebuild.ensures
+    few_given _ _ _ (rebuilt_few a.n a.b a.source.now a.target-n a.target-b a.target.now a.budget (bytes_known a.source.now (λ i. omega (arith, k.shared-slice-known.given i)))) m.rebuild.ensures
 
 same_length : tie.Need-same-length
 same_length c = search rules
@@ -23,5 +23,5 @@ same_length c = search rules
 returns : tie.Need-returns
 returns c = gives _ _ _ _ c.before.before.before.rebuild.ensures c.packed.ensures
 
-pub qbx-rebuild-spec : {M : Type 1} → statement M
-qbx-rebuild-spec = tie.close (tie.spec rebuild-requires packed-requires same_length returns)
+pub qbx_rebuild_spec : {M : Type 1} → statement M
+qbx_rebuild_spec = tie.close (tie.spec rebuild_requires packed_requires same_length returns)

@@ -5,11 +5,11 @@ use borrow.Author.Rules.{rules}
 use Rattle.qanbillox.proofs.qbx_recover.Statement.{statement}
 use Rattle.qanbillox.proofs.qbx_recover.Tie as tie
 
-recover-requires : tie.Need-recover-requires
-recover-requires c κs = search rules
+recover_requires : tie.Need-recover-requires
+recover_requires c κs = search rules
 
-packed-requires : tie.Need-packed-requires
-packed-requires c κs =
+packed_requires : tie.Need-packed-requires
+packed_requires c κs =
     let a = c.before.before.before.before.before in
     few a.args.n a.args.b a.args.image.now a.args.budget (recover) _ _ c.before.before.recover.ensures
 
@@ -19,5 +19,5 @@ same_length c = search rules
 returns : tie.Need-returns
 returns c = gives _ _ _ _ c.before.before.before.recover.ensures c.packed.ensures
 
-pub qbx-recover-spec : {M : Type 1} → statement M
-qbx-recover-spec = tie.close (tie.spec recover-requires packed-requires same_length returns)
+pub qbx_recover_spec : {M : Type 1} → statement M
+qbx_recover_spec = tie.close (tie.spec recover_requires packed_requires same_length returns)

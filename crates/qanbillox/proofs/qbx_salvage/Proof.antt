@@ -4,11 +4,11 @@ use borrow.Author.Rules.{rules}
 use Rattle.qanbillox.proofs.qbx_salvage.Statement.{statement}
 use Rattle.qanbillox.proofs.qbx_salvage.Tie as tie
 
-salvage-requires : tie.Need-salvage-requires
-salvage-requires c κs = search rules
+salvage_requires : tie.Need-salvage-requires
+salvage_requires c κs = search rules
 
-packed-print-requires : tie.Need-packed-print-requires
-packed-print-requires c κs = c.before.before.salvage.ensures.1
+packed_print_requires : tie.Need-packed-print-requires
+packed_print_requires c κs = c.before.before.salvage.ensures.1
 
 same_length : tie.Need-same-length
 same_length c = search rules
@@ -16,5 +16,5 @@ same_length c = search rules
 returns : tie.Need-returns
 returns c = prints _ _ _ _ c.before.before.before.salvage.ensures.0 c.packed-print.ensures
 
-pub qbx-salvage-spec : {M : Type 1} → statement M
-qbx-salvage-spec = tie.close (tie.spec salvage-requires packed-print-requires same_length returns)
+pub qbx_salvage_spec : {M : Type 1} → statement M
+qbx_salvage_spec = tie.close (tie.spec salvage_requires packed_print_requires same_length returns)

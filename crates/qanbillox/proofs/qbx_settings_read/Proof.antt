@@ -1,17 +1,17 @@
 -- `qanbillox::qbx_settings_read` gives the packed outcome of the definition. Assumes nothing.
-use Rattle.qanbillox.proofs.Laws.{settings-tells}
+use Rattle.qanbillox.proofs.Laws.{settings_tells}
 use borrow.Author.Rules.{rules}
 use Rattle.qanbillox.proofs.qbx_settings_read.Statement.{statement}
 use Rattle.qanbillox.proofs.qbx_settings_read.Tie as tie
 
-read-requires : tie.Need-read-requires
-read-requires c κs = search rules
+read_requires : tie.Need-read-requires
+read_requires c κs = search rules
 
-packed-spot-requires : tie.Need-packed-spot-requires
-packed-spot-requires c κs = c.read.ensures.1
+packed_spot_requires : tie.Need-packed-spot-requires
+packed_spot_requires c κs = c.read.ensures.1
 
 returns : tie.Need-returns
-returns c = settings-tells _ _ _ c.before.read.ensures.0 c.packed-spot.ensures
+returns c = settings_tells _ _ _ c.before.read.ensures.0 c.packed-spot.ensures
 
-pub qbx-settings-read-spec : {M : Type 1} → statement M
-qbx-settings-read-spec = tie.close (tie.spec read-requires packed-spot-requires returns)
+pub qbx_settings_read_spec : {M : Type 1} → statement M
+qbx_settings_read_spec = tie.close (tie.spec read_requires packed_spot_requires returns)

@@ -4,11 +4,11 @@ use borrow.Author.Rules.{rules}
 use Rattle.qanbillox.proofs.qbx_share_delete.Statement.{statement}
 use Rattle.qanbillox.proofs.qbx_share_delete.Tie as tie
 
-delete-requires : tie.Need-delete-requires
-delete-requires c κs = search rules
+delete_requires : tie.Need-delete-requires
+delete_requires c κs = search rules
 
-number-of-requires : tie.Need-number-of-requires
-number-of-requires c κs = search rules
+number_of_requires : tie.Need-number-of-requires
+number_of_requires c κs = search rules
 
 same_length : tie.Need-same-length
 same_length c = search rules
@@ -16,5 +16,5 @@ same_length c = search rules
 returns : tie.Need-returns
 returns c = serves _ _ _ _ c.before.before.before.delete.ensures c.number_of_lem.ensures.0
 
-pub qbx-share-delete-spec : {M : Type 1} → statement M
-qbx-share-delete-spec = tie.close (tie.spec delete-requires number-of-requires same_length returns)
+pub qbx_share_delete_spec : {M : Type 1} → statement M
+qbx_share_delete_spec = tie.close (tie.spec delete_requires number_of_requires same_length returns)

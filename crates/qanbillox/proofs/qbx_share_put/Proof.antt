@@ -4,11 +4,11 @@ use borrow.Author.Rules.{rules}
 use Rattle.qanbillox.proofs.qbx_share_put.Statement.{statement}
 use Rattle.qanbillox.proofs.qbx_share_put.Tie as tie
 
-put-requires : tie.Need-put-requires
-put-requires c κs = search rules
+put_requires : tie.Need-put-requires
+put_requires c κs = search rules
 
-number-of-requires : tie.Need-number-of-requires
-number-of-requires c κs = search rules
+number_of_requires : tie.Need-number-of-requires
+number_of_requires c κs = search rules
 
 same_length : tie.Need-same-length
 same_length c = search rules
@@ -16,5 +16,5 @@ same_length c = search rules
 returns : tie.Need-returns
 returns c = serves _ _ _ _ c.before.before.before.put.ensures c.number_of_lem.ensures.0
 
-pub qbx-share-put-spec : {M : Type 1} → statement M
-qbx-share-put-spec = tie.close (tie.spec put-requires number-of-requires same_length returns)
+pub qbx_share_put_spec : {M : Type 1} → statement M
+qbx_share_put_spec = tie.close (tie.spec put_requires number_of_requires same_length returns)

@@ -6,35 +6,35 @@ use borrow.Author.Rules.{rules}
 use Rattle.qbx.proofs.share_put.Statement.{statement}
 use Rattle.qbx.proofs.share_put.Tie as tie
 
-slice-aggregate-read-contents : tie.Need-slice-aggregate-read-contents
-slice-aggregate-read-contents c = search rules
+slice_aggregate_read_contents : tie.Need-slice-aggregate-read-contents
+slice_aggregate_read_contents c = search rules
 
-read-contents-requires : tie.Need-read-contents-requires
-read-contents-requires c κs = search rules
+read_contents_requires : tie.Need-read-contents-requires
+read_contents_requires c κs = search rules
 
 returns : tie.Need-returns
 returns c = search rules
 
-array-share-prefix-contents : tie.Need-array-share-prefix-contents
-array-share-prefix-contents c = search rules
+array_share_prefix_contents : tie.Need-array-share-prefix-contents
+array_share_prefix_contents c = search rules
 
-slice-aggregate-obey : tie.Need-slice-aggregate-obey
-slice-aggregate-obey c = sym (length-take-le _ _ (omega arith))
+slice_aggregate_obey : tie.Need-slice-aggregate-obey
+slice_aggregate_obey c = sym (length-take-le _ _ (omega arith))
 
-obey-requires : tie.Need-obey-requires
-obey-requires c κs = search rules
+obey_requires : tie.Need-obey-requires
+obey_requires c κs = search rules
 
-returns-2 : tie.Need-returns-2
-returns-2 c = search rules
+returns_2 : tie.Need-returns-2
+returns_2 c = search rules
 
-pub share-put-spec : {M : Type 1} → statement M
-share-put-spec =
+pub share_put_spec : {M : Type 1} → statement M
+share_put_spec =
     tie.close
     (tie.spec
-    slice-aggregate-read-contents
-    read-contents-requires
+    slice_aggregate_read_contents
+    read_contents_requires
     returns
-    array-share-prefix-contents
-    slice-aggregate-obey
-    obey-requires
-    returns-2)
+    array_share_prefix_contents
+    slice_aggregate_obey
+    obey_requires
+    returns_2)

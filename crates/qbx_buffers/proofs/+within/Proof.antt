@@ -7,182 +7,182 @@ use lib.Dec.{leb}
 use borrow.Fn.Kinds.{In}
 use borrow.Fn.PlainCycle.{Measures, is, falls, and}
 use Rattle.request.specs.Request.{size_of}
-use Rattle.qbx_rooms.specs.Rooms.{forBuffer, roomOf, need_of}
-use Rattle.qbx_rooms.proofs.Laws.{grows, last_one, held, not-held, lacks, taken}
+use Rattle.qbx_rooms.specs.Rooms.{for_buffer, room_of, need_of}
+use Rattle.qbx_rooms.proofs.Laws.{grows, last_one, held, not_held, lacks, taken}
 use Rattle.qbx_buffers.proofs.within.Reads as within
-use Rattle.qbx_buffers.proofs.within.Kinds as within-kinds
-use Rattle.qbx_buffers.proofs.+within.Lts-within as within-lts
-use Rattle.qbx_frames.proofs.large.Reads as large-reads
-use Rattle.qbx_frames.proofs.large_text.Reads as large-text-reads
-use Rattle.qbx_frames.proofs.middle.Reads as middle-reads
-use Rattle.qbx_frames.proofs.middle_text.Reads as middle-text-reads
-use Rattle.qbx_rooms.proofs.lacking.Reads as lacking-reads
-use Rattle.qbx_rooms.proofs.room_of.Reads as room-of-reads
-use Rattle.qbx_frames.proofs.small.Reads as small-reads
-use Rattle.qbx_frames.proofs.small_text.Reads as small-text-reads
-use Rattle.qbx_verbs.proofs.prints.Reads as prints-reads
-use Rattle.qbx_out.proofs.lack_stack.Reads as lack-stack-reads
-use Rattle.request.proofs.size_of.Reads as size-of-reads
+use Rattle.qbx_buffers.proofs.within.Kinds as within_kinds
+use Rattle.qbx_buffers.proofs.+within.Lts-within as within_lts
+use Rattle.qbx_frames.proofs.large.Reads as large_reads
+use Rattle.qbx_frames.proofs.large_text.Reads as large_text_reads
+use Rattle.qbx_frames.proofs.middle.Reads as middle_reads
+use Rattle.qbx_frames.proofs.middle_text.Reads as middle_text_reads
+use Rattle.qbx_rooms.proofs.lacking.Reads as lacking_reads
+use Rattle.qbx_rooms.proofs.room_of.Reads as room_of_reads
+use Rattle.qbx_frames.proofs.small.Reads as small_reads
+use Rattle.qbx_frames.proofs.small_text.Reads as small_text_reads
+use Rattle.qbx_verbs.proofs.prints.Reads as prints_reads
+use Rattle.qbx_out.proofs.lack_stack.Reads as lack_stack_reads
+use Rattle.request.proofs.size_of.Reads as size_of_reads
 use Rattle.qbx_buffers.proofs.+within.{statement}
 use Rattle.qbx_buffers.proofs.+within.Tie.{close}
 
-abbrev μ-within : Measures 2 within-kinds.ps ℕ
-μ-within κs a = a.0
+abbrev μ_within : Measures 2 within_kinds.ps ℕ
+μ_within κs a = a.0
 
-abbrev at : ℕ → In 2 within-kinds.ps
-at t = and 2 within-kinds.ps (is 2 within-kinds.ps μ-within t) within.Pre
+abbrev at : ℕ → In 2 within_kinds.ps
+at t = and 2 within_kinds.ps (is 2 within_kinds.ps μ_within t) within.Pre
 
-abbrev claims : ℕ → within-lts.Claims
+abbrev claims : ℕ → within_lts.Claims
 claims t = (
-  and 2 within-kinds.ps (falls 2 within-kinds.ps ◌<◌ μ-within t) within.Pre,
+  and 2 within_kinds.ps (falls 2 within_kinds.ps ◌<◌ μ_within t) within.Pre,
   within.Post,
-  size-of-reads.Asked,
-  size-of-reads.Learnt,
-  room-of-reads.Asked,
-  room-of-reads.Learnt,
-  prints-reads.Asked,
-  prints-reads.Learnt,
-  lacking-reads.Asked,
-  lacking-reads.Learnt,
-  lack-stack-reads.Asked,
-  lack-stack-reads.Learnt,
-  small-text-reads.Asked,
-  small-text-reads.Learnt,
-  middle-text-reads.Asked,
-  middle-text-reads.Learnt,
-  large-text-reads.Asked,
-  large-text-reads.Learnt,
-  small-reads.Asked,
-  small-reads.Learnt,
-  middle-reads.Asked,
-  middle-reads.Learnt,
-  large-reads.Asked,
-  large-reads.Learnt,
+  size_of_reads.Asked,
+  size_of_reads.Learnt,
+  room_of_reads.Asked,
+  room_of_reads.Learnt,
+  prints_reads.Asked,
+  prints_reads.Learnt,
+  lacking_reads.Asked,
+  lacking_reads.Learnt,
+  lack_stack_reads.Asked,
+  lack_stack_reads.Learnt,
+  small_text_reads.Asked,
+  small_text_reads.Learnt,
+  middle_text_reads.Asked,
+  middle_text_reads.Learnt,
+  large_text_reads.Asked,
+  large_text_reads.Learnt,
+  small_reads.Asked,
+  small_reads.Learnt,
+  middle_reads.Asked,
+  middle_reads.Learnt,
+  large_reads.Asked,
+  large_reads.Learnt,
 )
 
 -- what is asked of the buffers and of what is told stands first: an edit is refused for that
-large-text-requires : (t : ℕ) → within-lts.Need-large-text-requires (claims t) (at t) within.Post
-unfolding roomOf need_of forBuffer
-large-text-requires t c κs =
+large_text_requires : (t : ℕ) → within_lts.Need-large-text-requires (claims t) (at t) within.Post
+unfolding room_of need_of for_buffer
+large_text_requires t c κs =
     let k = c.before.before.before.before in
     taken k.before.before.before.before.before.before.before.before.args.last _ k.before.before.before.before.size-of.ensures.0 k.before.before.before.room_of.ensures 2 _ true (omega (arith, k.before.before.if3.false)) k.lacking.ensures (omega (arith, c.before.before.before.if4.false)) c.before.before.if5.true (last_one _ _ _ k.before.before.before.before.before.before.before.before.args.last c.before.if6.false c.if7.false) (last_one _ _ _ k.before.before.before.before.before.before.before.before.args.last c.before.if6.false c.if7.false)
 
-middle-text-requires : (t : ℕ) → within-lts.Need-middle-text-requires (claims t) (at t) within.Post
-middle-text-requires t c κs =
+middle_text_requires : (t : ℕ) → within_lts.Need-middle-text-requires (claims t) (at t) within.Post
+middle_text_requires t c κs =
     let k = c.before.before.before.before in
-    taken k.before.before.before.before.before.before.before.before.args.last _ k.before.before.before.before.size-of.ensures.0 k.before.before.before.room_of.ensures 1 _ true (omega (arith, k.before.before.if3.false)) k.lacking.ensures (omega (arith, c.before.before.before.if4.false)) c.before.before.if5.true (ap roomOf c.if7.true) (ap (need_of true) c.if7.true)
+    taken k.before.before.before.before.before.before.before.before.args.last _ k.before.before.before.before.size-of.ensures.0 k.before.before.before.room_of.ensures 1 _ true (omega (arith, k.before.before.if3.false)) k.lacking.ensures (omega (arith, c.before.before.before.if4.false)) c.before.before.if5.true (ap room_of c.if7.true) (ap (need_of true) c.if7.true)
 
-small-text-requires : (t : ℕ) → within-lts.Need-small-text-requires (claims t) (at t) within.Post
-small-text-requires t c κs =
+small_text_requires : (t : ℕ) → within_lts.Need-small-text-requires (claims t) (at t) within.Post
+small_text_requires t c κs =
     let k = c.before.before.before in
-    taken k.before.before.before.before.before.before.before.before.args.last _ k.before.before.before.before.size-of.ensures.0 k.before.before.before.room_of.ensures 0 _ true (omega (arith, k.before.before.if3.false)) k.lacking.ensures (omega (arith, c.before.before.if4.false)) c.before.if5.true (ap roomOf c.if6.true) (ap (need_of true) c.if6.true)
+    taken k.before.before.before.before.before.before.before.before.args.last _ k.before.before.before.before.size-of.ensures.0 k.before.before.before.room_of.ensures 0 _ true (omega (arith, k.before.before.if3.false)) k.lacking.ensures (omega (arith, c.before.before.if4.false)) c.before.if5.true (ap room_of c.if6.true) (ap (need_of true) c.if6.true)
 
-large-requires : (t : ℕ) → within-lts.Need-large-requires (claims t) (at t) within.Post
-unfolding roomOf need_of forBuffer
-large-requires t c κs =
+large_requires : (t : ℕ) → within_lts.Need-large-requires (claims t) (at t) within.Post
+unfolding room_of need_of for_buffer
+large_requires t c κs =
     let k = c.before.before.before.before in
     let h = taken k.before.before.before.before.before.before.before.before.args.last _ k.before.before.before.before.size-of.ensures.0 k.before.before.before.room_of.ensures 2 _ false {allowed = k.before.before.before.before.before.before.before.before.args.process.allowed} (omega (arith, k.before.before.if3.false)) k.lacking.ensures (omega (arith, c.before.before.before.if4.false)) c.before.before.if5.false (last_one _ _ _ k.before.before.before.before.before.before.before.before.args.last c.before.if8.false c.if9.false) (last_one _ _ _ k.before.before.before.before.before.before.before.before.args.last c.before.if8.false c.if9.false) in
     (h.0, h.1, sym k.before.prints.ensures ∙ c.before.before.if5.false)
 
-middle-requires : (t : ℕ) → within-lts.Need-middle-requires (claims t) (at t) within.Post
-middle-requires t c κs =
+middle_requires : (t : ℕ) → within_lts.Need-middle-requires (claims t) (at t) within.Post
+middle_requires t c κs =
     let k = c.before.before.before.before in
-    let h = taken k.before.before.before.before.before.before.before.before.args.last _ k.before.before.before.before.size-of.ensures.0 k.before.before.before.room_of.ensures 1 _ false {allowed = k.before.before.before.before.before.before.before.before.args.process.allowed} (omega (arith, k.before.before.if3.false)) k.lacking.ensures (omega (arith, c.before.before.before.if4.false)) c.before.before.if5.false (ap roomOf c.if9.true) (ap (need_of false) c.if9.true) in
+    let h = taken k.before.before.before.before.before.before.before.before.args.last _ k.before.before.before.before.size-of.ensures.0 k.before.before.before.room_of.ensures 1 _ false {allowed = k.before.before.before.before.before.before.before.before.args.process.allowed} (omega (arith, k.before.before.if3.false)) k.lacking.ensures (omega (arith, c.before.before.before.if4.false)) c.before.before.if5.false (ap room_of c.if9.true) (ap (need_of false) c.if9.true) in
     (h.0, h.1, sym k.before.prints.ensures ∙ c.before.before.if5.false)
 
-small-requires : (t : ℕ) → within-lts.Need-small-requires (claims t) (at t) within.Post
-small-requires t c κs =
+small_requires : (t : ℕ) → within_lts.Need-small-requires (claims t) (at t) within.Post
+small_requires t c κs =
     let k = c.before.before.before in
-    let h = taken k.before.before.before.before.before.before.before.before.args.last _ k.before.before.before.before.size-of.ensures.0 k.before.before.before.room_of.ensures 0 _ false {allowed = k.before.before.before.before.before.before.before.before.args.process.allowed} (omega (arith, k.before.before.if3.false)) k.lacking.ensures (omega (arith, c.before.before.if4.false)) c.before.if5.false (ap roomOf c.if8.true) (ap (need_of false) c.if8.true) in
+    let h = taken k.before.before.before.before.before.before.before.before.args.last _ k.before.before.before.before.size-of.ensures.0 k.before.before.before.room_of.ensures 0 _ false {allowed = k.before.before.before.before.before.before.before.before.args.process.allowed} (omega (arith, k.before.before.if3.false)) k.lacking.ensures (omega (arith, c.before.before.if4.false)) c.before.if5.false (ap room_of c.if8.true) (ap (need_of false) c.if8.true) in
     (h.0, h.1, sym k.before.prints.ensures ∙ c.before.if5.false)
 
-lack-stack-requires : (t : ℕ) → within-lts.Need-lack-stack-requires (claims t) (at t) within.Post
-lack-stack-requires t c κs = lacks _ _ c.before.before.lacking.ensures (omega (arith, c.before.if4.true))
+lack_stack_requires : (t : ℕ) → within_lts.Need-lack-stack-requires (claims t) (at t) within.Post
+lack_stack_requires t c κs = lacks _ _ c.before.before.lacking.ensures (omega (arith, c.before.if4.true))
 
-sub_within : (t : ℕ) → within-lts.Need-overflow-sub-within (claims t) (at t) within.Post
+sub_within : (t : ℕ) → within_lts.Need-overflow-sub-within (claims t) (at t) within.Post
 sub_within t c = omega arith
 
-within-requires : (t : ℕ) → within-lts.Need-within-requires (claims t) (at t) within.Post
-within-requires t c κs = (omega (arith, c.before.before.before.requires.0), tt)
+within_requires : (t : ℕ) → within_lts.Need-within-requires (claims t) (at t) within.Post
+within_requires t c κs = (omega (arith, c.before.before.before.requires.0), tt)
 
-returns : (t : ℕ) → within-lts.Need-returns (claims t) (at t) within.Post
+returns : (t : ℕ) → within_lts.Need-returns (claims t) (at t) within.Post
 returns t c =
     let k = c.before.before in
     let a = k.before.before.before.args in
     let n : suc (a.last - 1) ≡ a.last = omega (arith, k.if1.true) in
-    subst (λ (y : ℕ). true ≡ leb (size_of a.command.segments a.command.slots) (roomOf y)) n (grows (a.last - 1) _ (sym c.before.within.ensures ∙ c.if2.true))
+    subst (λ (y : ℕ). true ≡ leb (size_of a.command.segments a.command.slots) (room_of y)) n (grows (a.last - 1) _ (sym c.before.within.ensures ∙ c.if2.true))
 
-size-of-requires : (t : ℕ) → within-lts.Need-size-of-requires (claims t) (at t) within.Post
-size-of-requires t c κs = tt
+size_of_requires : (t : ℕ) → within_lts.Need-size-of-requires (claims t) (at t) within.Post
+size_of_requires t c κs = tt
 
-room-of-requires : (t : ℕ) → within-lts.Need-room-of-requires (claims t) (at t) within.Post
-room-of-requires t c κs = tt
+room_of_requires : (t : ℕ) → within_lts.Need-room-of-requires (claims t) (at t) within.Post
+room_of_requires t c κs = tt
 
-prints-requires : (t : ℕ) → within-lts.Need-prints-requires (claims t) (at t) within.Post
-prints-requires t c κs = tt
+prints_requires : (t : ℕ) → within_lts.Need-prints-requires (claims t) (at t) within.Post
+prints_requires t c κs = tt
 
-lacking-requires : (t : ℕ) → within-lts.Need-lacking-requires (claims t) (at t) within.Post
-lacking-requires t c κs = tt
+lacking_requires : (t : ℕ) → within_lts.Need-lacking-requires (claims t) (at t) within.Post
+lacking_requires t c κs = tt
 
-returns-2 : (t : ℕ) → within-lts.Need-returns-2 (claims t) (at t) within.Post
-returns-2 t c = not-held c.before.before.before.before.before.before.args.last _ c.before.before.size-of.ensures.0 c.before.room_of.ensures c.if3.true
+returns_2 : (t : ℕ) → within_lts.Need-returns-2 (claims t) (at t) within.Post
+returns_2 t c = not_held c.before.before.before.before.before.before.args.last _ c.before.before.size-of.ensures.0 c.before.room_of.ensures c.if3.true
 
-returns-3 : (t : ℕ) → within-lts.Need-returns-3 (claims t) (at t) within.Post
-returns-3 t c =
+returns_3 : (t : ℕ) → within_lts.Need-returns-3 (claims t) (at t) within.Post
+returns_3 t c =
     let k = c.before.before.before in
     held k.before.before.before.before.before.before.before.before.args.last _ k.before.before.before.before.size-of.ensures.0 k.before.before.before.room_of.ensures (omega (arith, k.before.before.if3.false))
 
-returns-4 : (t : ℕ) → within-lts.Need-returns-4 (claims t) (at t) within.Post
-returns-4 t c =
+returns_4 : (t : ℕ) → within_lts.Need-returns-4 (claims t) (at t) within.Post
+returns_4 t c =
     let k = c.before.before.before.before in
     c.small-text.ensures ∙ held k.before.before.before.before.before.before.before.before.args.last _ k.before.before.before.before.size-of.ensures.0 k.before.before.before.room_of.ensures (omega (arith, k.before.before.if3.false))
 
-returns-5 : (t : ℕ) → within-lts.Need-returns-5 (claims t) (at t) within.Post
-returns-5 t c =
+returns_5 : (t : ℕ) → within_lts.Need-returns-5 (claims t) (at t) within.Post
+returns_5 t c =
     let k = c.before.before.before.before.before in
     c.middle-text.ensures ∙ held k.before.before.before.before.before.before.before.before.args.last _ k.before.before.before.before.size-of.ensures.0 k.before.before.before.room_of.ensures (omega (arith, k.before.before.if3.false))
 
-returns-6 : (t : ℕ) → within-lts.Need-returns-6 (claims t) (at t) within.Post
-returns-6 t c =
+returns_6 : (t : ℕ) → within_lts.Need-returns-6 (claims t) (at t) within.Post
+returns_6 t c =
     let k = c.before.before.before.before.before in
     c.large-text.ensures ∙ held k.before.before.before.before.before.before.before.before.args.last _ k.before.before.before.before.size-of.ensures.0 k.before.before.before.room_of.ensures (omega (arith, k.before.before.if3.false))
 
-returns-7 : (t : ℕ) → within-lts.Need-returns-7 (claims t) (at t) within.Post
-returns-7 t c =
+returns_7 : (t : ℕ) → within_lts.Need-returns-7 (claims t) (at t) within.Post
+returns_7 t c =
     let k = c.before.before.before.before in
     c.small.ensures ∙ held k.before.before.before.before.before.before.before.before.args.last _ k.before.before.before.before.size-of.ensures.0 k.before.before.before.room_of.ensures (omega (arith, k.before.before.if3.false))
 
-returns-8 : (t : ℕ) → within-lts.Need-returns-8 (claims t) (at t) within.Post
-returns-8 t c =
+returns_8 : (t : ℕ) → within_lts.Need-returns-8 (claims t) (at t) within.Post
+returns_8 t c =
     let k = c.before.before.before.before.before in
     c.middle.ensures ∙ held k.before.before.before.before.before.before.before.before.args.last _ k.before.before.before.before.size-of.ensures.0 k.before.before.before.room_of.ensures (omega (arith, k.before.before.if3.false))
 
-returns-9 : (t : ℕ) → within-lts.Need-returns-9 (claims t) (at t) within.Post
-returns-9 t c =
+returns_9 : (t : ℕ) → within_lts.Need-returns-9 (claims t) (at t) within.Post
+returns_9 t c =
     let k = c.before.before.before.before.before in
     c.large.ensures ∙ held k.before.before.before.before.before.before.before.before.args.last _ k.before.before.before.before.size-of.ensures.0 k.before.before.before.room_of.ensures (omega (arith, k.before.before.if3.false))
 
-pub +within-spec : {M : Type 1} → statement M
-+within-spec = close μ-within (λ t. within-lts.spec (claims t) (at t) within.Post
+pub +within_spec : {M : Type 1} → statement M
++within_spec = close μ_within (λ t. within_lts.spec (claims t) (at t) within.Post
     (sub_within t)
-    (within-requires t)
+    (within_requires t)
     (returns t)
-    (size-of-requires t)
-    (room-of-requires t)
-    (returns-2 t)
-    (prints-requires t)
-    (lacking-requires t)
-    (lack-stack-requires t)
-    (returns-3 t)
-    (small-text-requires t)
-    (returns-4 t)
-    (middle-text-requires t)
-    (returns-5 t)
-    (large-text-requires t)
-    (returns-6 t)
-    (small-requires t)
-    (returns-7 t)
-    (middle-requires t)
-    (returns-8 t)
-    (large-requires t)
-    (returns-9 t))
+    (size_of_requires t)
+    (room_of_requires t)
+    (returns_2 t)
+    (prints_requires t)
+    (lacking_requires t)
+    (lack_stack_requires t)
+    (returns_3 t)
+    (small_text_requires t)
+    (returns_4 t)
+    (middle_text_requires t)
+    (returns_5 t)
+    (large_text_requires t)
+    (returns_6 t)
+    (small_requires t)
+    (returns_7 t)
+    (middle_requires t)
+    (returns_8 t)
+    (large_requires t)
+    (returns_9 t))

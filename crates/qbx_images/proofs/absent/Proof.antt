@@ -10,14 +10,14 @@ use borrow.Author.Rules.{rules}
 use Rattle.qbx_images.proofs.absent.Statement.{statement}
 use Rattle.qbx_images.proofs.absent.Tie as tie
 
-slice-relend-prefix-blank : tie.Need-slice-relend-prefix-blank
-slice-relend-prefix-blank c = search rules
+slice_relend_prefix_blank : tie.Need-slice-relend-prefix-blank
+slice_relend_prefix_blank c = search rules
 
-slice-aggregate-blank : tie.Need-slice-aggregate-blank
-slice-aggregate-blank c = sym (length-take-le _ _ (omega arith))
+slice_aggregate_blank : tie.Need-slice-aggregate-blank
+slice_aggregate_blank c = sym (length-take-le _ _ (omega arith))
 
-blank-requires : tie.Need-blank-requires
-blank-requires c κs = search rules
+blank_requires : tie.Need-blank-requires
+blank_requires c κs = search rules
 
 same_length : tie.Need-same-length
 same_length c = search rules
@@ -30,17 +30,17 @@ returns c =
     let e : length (take a.size a.image.now) ≡ a.size = length-take-le _ _ (omega arith) in
     rw k.if1.true (refl, ap (λ (l : List ℕ). l ++ drop a.size a.image.now) (c.before.before.blank.ensures ∙ ap (λ (n : ℕ). replicate n 255) e))
 
-returns-2 : tie.Need-returns-2
+returns_2 : tie.Need-returns-2
 unfolding made factory
-returns-2 c = rw c.if1.false (refl, refl)
+returns_2 c = rw c.if1.false (refl, refl)
 
-pub absent-spec : {M : Type 1} → statement M
-absent-spec =
+pub absent_spec : {M : Type 1} → statement M
+absent_spec =
     tie.close
     (tie.spec
-    slice-relend-prefix-blank
-    slice-aggregate-blank
-    blank-requires
+    slice_relend_prefix_blank
+    slice_aggregate_blank
+    blank_requires
     same_length
     returns
-    returns-2)
+    returns_2)

@@ -20,10 +20,10 @@ pub more : {l r : Line} {x t : List ℕ} → Added l x r → said l ≡ t → sa
 more {x = x} h e = h.says ∙ ap (λ (s : List ℕ). s ++ x) e
 
 -- a part, and nothing behind it
-pub more-none : {l r : Line} {x : List ℕ} → Added l x r → Added l (x ++ []) r
-more-none {l} {r} {x} h = subst (λ (t : List ℕ). Added l t r) (sym (append-nil x)) h
+pub more_none : {l r : Line} {x : List ℕ} → Added l x r → Added l (x ++ []) r
+more_none {l} {r} {x} h = subst (λ (t : List ℕ). Added l t r) (sym (append-nil x)) h
 
 -- two parts more
-pub more-both : {l m r : Line} {x y : List ℕ} → Added l x m → Added m y r → Added l (x ++ y) r
-more-both {l} {m} {r} {x} {y} h k =
+pub more_both : {l m r : Line} {x y : List ℕ} → Added l x m → Added m y r → Added l (x ++ y) r
+more_both {l} {m} {r} {x} {y} h k =
     record { says = more k h.says ∙ append_assoc (said l) x y; counts = let e = length-append x y in omega (arith, h.counts, k.counts) }

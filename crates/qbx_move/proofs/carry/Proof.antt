@@ -6,17 +6,17 @@ use borrow.Author.Rules.{rules}
 use Rattle.qbx_move.proofs.carry.Statement.{statement}
 use Rattle.qbx_move.proofs.carry.Tie as tie
 
-size-of-requires : tie.Need-size-of-requires
-size-of-requires c κs = search rules
+size_of_requires : tie.Need-size-of-requires
+size_of_requires c κs = search rules
 
-present-requires : tie.Need-present-requires
-present-requires c κs = search rules
+present_requires : tie.Need-present-requires
+present_requires c κs = search rules
 
-slice-aggregate-fail : tie.Need-slice-aggregate-fail
-slice-aggregate-fail c = search rules
+slice_aggregate_fail : tie.Need-slice-aggregate-fail
+slice_aggregate_fail c = search rules
 
-fail-requires : tie.Need-fail-requires
-fail-requires c κs = search rules
+fail_requires : tie.Need-fail-requires
+fail_requires c κs = search rules
 
 same_length : tie.Need-same-length
 same_length c = search rules
@@ -24,73 +24,73 @@ same_length c = search rules
 returns : tie.Need-returns
 returns c = search rules
 
-size-of-requires-2 : tie.Need-size-of-requires-2
-size-of-requires-2 c κs = search rules
+size_of_requires_2 : tie.Need-size-of-requires-2
+size_of_requires_2 c κs = search rules
 
-present-requires-2 : tie.Need-present-requires-2
-present-requires-2 c κs = search rules
+present_requires_2 : tie.Need-present-requires-2
+present_requires_2 c κs = search rules
 
-slice-aggregate-fail-2 : tie.Need-slice-aggregate-fail-2
-slice-aggregate-fail-2 c = search rules
+slice_aggregate_fail_2 : tie.Need-slice-aggregate-fail-2
+slice_aggregate_fail_2 c = search rules
 
-fail-requires-2 : tie.Need-fail-requires-2
-fail-requires-2 c κs = search rules
+fail_requires_2 : tie.Need-fail-requires-2
+fail_requires_2 c κs = search rules
 
-same-length-2 : tie.Need-same-length-2
-same-length-2 c = search rules
+same_length_2 : tie.Need-same-length-2
+same_length_2 c = search rules
 
-same-length-3 : tie.Need-same-length-3
-same-length-3 c = search rules
+same_length_3 : tie.Need-same-length-3
+same_length_3 c = search rules
 
-returns-2 : tie.Need-returns-2
-returns-2 c = search rules
+returns_2 : tie.Need-returns-2
+returns_2 c = search rules
 
-slice-reshare-prefix-work : tie.Need-slice-reshare-prefix-work
-slice-reshare-prefix-work c = search rules
+slice_reshare_prefix_work : tie.Need-slice-reshare-prefix-work
+slice_reshare_prefix_work c = search rules
 
-slice-aggregate-work : tie.Need-slice-aggregate-work
-slice-aggregate-work c = sym (length-take-le _ _ (omega arith))
+slice_aggregate_work : tie.Need-slice-aggregate-work
+slice_aggregate_work c = sym (length-take-le _ _ (omega arith))
 
-slice-relend-prefix-work : tie.Need-slice-relend-prefix-work
-slice-relend-prefix-work c = search rules
+slice_relend_prefix_work : tie.Need-slice-relend-prefix-work
+slice_relend_prefix_work c = search rules
 
-slice-aggregate-work-2 : tie.Need-slice-aggregate-work-2
-slice-aggregate-work-2 c = sym (length-take-le _ _ (omega arith))
+slice_aggregate_work_2 : tie.Need-slice-aggregate-work-2
+slice_aggregate_work_2 c = sym (length-take-le _ _ (omega arith))
 
-work-requires : tie.Need-work-requires
-work-requires c κs = search rules
+work_requires : tie.Need-work-requires
+work_requires c κs = search rules
 
-same-length-4 : tie.Need-same-length-4
-same-length-4 c = search rules
+same_length_4 : tie.Need-same-length-4
+same_length_4 c = search rules
 
-same-length-5 : tie.Need-same-length-5
-same-length-5 c = search rules
+same_length_5 : tie.Need-same-length-5
+same_length_5 c = search rules
 
-returns-3 : tie.Need-returns-3
-returns-3 c = search rules
+returns_3 : tie.Need-returns-3
+returns_3 c = search rules
 
-pub carry-spec : {M : Type 1} → statement M
-carry-spec =
+pub carry_spec : {M : Type 1} → statement M
+carry_spec =
     tie.close
     (tie.spec
-    size-of-requires
-    present-requires
-    slice-aggregate-fail
-    fail-requires
+    size_of_requires
+    present_requires
+    slice_aggregate_fail
+    fail_requires
     same_length
     returns
-    size-of-requires-2
-    present-requires-2
-    slice-aggregate-fail-2
-    fail-requires-2
-    same-length-2
-    same-length-3
-    returns-2
-    slice-reshare-prefix-work
-    slice-aggregate-work
-    slice-relend-prefix-work
-    slice-aggregate-work-2
-    work-requires
-    same-length-4
-    same-length-5
-    returns-3)
+    size_of_requires_2
+    present_requires_2
+    slice_aggregate_fail_2
+    fail_requires_2
+    same_length_2
+    same_length_3
+    returns_2
+    slice_reshare_prefix_work
+    slice_aggregate_work
+    slice_relend_prefix_work
+    slice_aggregate_work_2
+    work_requires
+    same_length_4
+    same_length_5
+    returns_3)

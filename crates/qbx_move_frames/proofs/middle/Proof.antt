@@ -1,25 +1,25 @@
 -- `qbx_move_frames::middle`: each buffer holds its image and a byte more. Assumes nothing.
 use native.Mathlib.Omega.{arith}
-use Rattle.qbx_rooms.specs.Rooms.{forBuffer, roomOf}
+use Rattle.qbx_rooms.specs.Rooms.{for_buffer, room_of}
 use Rattle.qbx_rooms.proofs.Laws.{as_many, longer}
 use borrow.Author.Rules.{rules}
 use Rattle.qbx_move_frames.proofs.middle.Statement.{statement}
 use Rattle.qbx_move_frames.proofs.middle.Tie as tie
 
-slice-aggregate-obey : tie.Need-slice-aggregate-obey
-slice-aggregate-obey c = as_many 4194305 255
+slice_aggregate_obey : tie.Need-slice-aggregate-obey
+slice_aggregate_obey c = as_many 4194305 255
 
-slice-aggregate-obey-2 : tie.Need-slice-aggregate-obey-2
-slice-aggregate-obey-2 c = as_many 4194305 255
+slice_aggregate_obey_2 : tie.Need-slice-aggregate-obey-2
+slice_aggregate_obey_2 c = as_many 4194305 255
 
-obey-requires : tie.Need-obey-requires
-unfolding roomOf forBuffer
-obey-requires c κs =
+obey_requires : tie.Need-obey-requires
+unfolding room_of for_buffer
+obey_requires c κs =
     let p = c.before.before.before.before.before.before.requires in
     (longer 4194305 _ 255 (omega (arith, p.0)), longer 4194305 _ 255 (omega (arith, p.1)))
 
 returns : tie.Need-returns
 returns c = search rules
 
-pub middle-spec : {M : Type 1} → statement M
-middle-spec = tie.close (tie.spec slice-aggregate-obey slice-aggregate-obey-2 obey-requires returns)
+pub middle_spec : {M : Type 1} → statement M
+middle_spec = tie.close (tie.spec slice_aggregate_obey slice_aggregate_obey_2 obey_requires returns)

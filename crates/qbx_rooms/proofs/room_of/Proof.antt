@@ -1,21 +1,21 @@
 -- `qbx_rooms::room_of` is the number of the definition. Assumes nothing.
 use mathlib.Core.Path.{sym, ap}
-use Rattle.qbx_rooms.specs.Rooms.{forBuffer, roomOf}
+use Rattle.qbx_rooms.specs.Rooms.{for_buffer, room_of}
 use Rattle.qbx_rooms.proofs.Laws.{last_one}
 use Rattle.qbx_rooms.proofs.room_of.Statement.{statement}
 use Rattle.qbx_rooms.proofs.room_of.Tie as tie
 
 returns : tie.Need-returns
-unfolding roomOf forBuffer
-returns c = sym (ap roomOf c.if1.true)
+unfolding room_of for_buffer
+returns c = sym (ap room_of c.if1.true)
 
-returns-2 : tie.Need-returns-2
-unfolding roomOf forBuffer
-returns-2 c = sym (ap roomOf c.if2.true)
+returns_2 : tie.Need-returns-2
+unfolding room_of for_buffer
+returns_2 c = sym (ap room_of c.if2.true)
 
-returns-3 : tie.Need-returns-3
-unfolding roomOf forBuffer
-returns-3 c = sym (last_one _ _ _ _ c.before.if1.false c.if2.false)
+returns_3 : tie.Need-returns-3
+unfolding room_of for_buffer
+returns_3 c = sym (last_one _ _ _ _ c.before.if1.false c.if2.false)
 
-pub room-of-spec : {M : Type 1} → statement M
-room-of-spec = tie.close (tie.spec returns returns-2 returns-3)
+pub room_of_spec : {M : Type 1} → statement M
+room_of_spec = tie.close (tie.spec returns returns_2 returns_3)

@@ -1,22 +1,22 @@
 -- `qbx_rooms::text_need_of` is the number of the definition. Assumes nothing.
 use mathlib.Core.Path.{sym, ap}
 use mathlib.Core.Bool.{true}
-use Rattle.qbx_rooms.specs.Rooms.{forBuffer, need_of}
+use Rattle.qbx_rooms.specs.Rooms.{for_buffer, need_of}
 use Rattle.qbx_rooms.proofs.Laws.{last_one}
 use Rattle.qbx_rooms.proofs.text_need_of.Statement.{statement}
 use Rattle.qbx_rooms.proofs.text_need_of.Tie as tie
 
 returns : tie.Need-returns
-unfolding need_of forBuffer
+unfolding need_of for_buffer
 returns c = sym (ap (need_of true) c.if1.true)
 
-returns-2 : tie.Need-returns-2
-unfolding need_of forBuffer
-returns-2 c = sym (ap (need_of true) c.if2.true)
+returns_2 : tie.Need-returns-2
+unfolding need_of for_buffer
+returns_2 c = sym (ap (need_of true) c.if2.true)
 
-returns-3 : tie.Need-returns-3
-unfolding need_of forBuffer
-returns-3 c = sym (last_one _ _ _ _ c.before.if1.false c.if2.false)
+returns_3 : tie.Need-returns-3
+unfolding need_of for_buffer
+returns_3 c = sym (last_one _ _ _ _ c.before.if1.false c.if2.false)
 
-pub text-need-of-spec : {M : Type 1} → statement M
-text-need-of-spec = tie.close (tie.spec returns returns-2 returns-3)
+pub text_need_of_spec : {M : Type 1} → statement M
+text_need_of_spec = tie.close (tie.spec returns returns_2 returns_3)

@@ -44,11 +44,11 @@ use Rattle.libc.specs.declared.types.stat.{stat}
 use Rattle.libc.proofs.types.stat as T
 use Rattle.libc.proofs.types.stat.Laws as T'
 use Rattle.libc.proofs.fstat as fstat
-use Rattle.libc.proofs.fstat.Symbol as fstat-def
+use Rattle.libc.proofs.fstat.Symbol as fstat_def
 use Rattle.libc.proofs.fstat.Symbol.{name as #libc·fstat}
-use Rattle.libc.proofs.fstat.Met as fstat-thm
+use Rattle.libc.proofs.fstat.Met as fstat_thm
 use Rattle.qbx_same.specs.contracts.status_of.Key.{name as #qbx-same·status-of}
-use Rattle.qbx_same.specs.contracts.status_of as status-of
+use Rattle.qbx_same.specs.contracts.status_of as status_of_lem
 use Rattle.qbx_same.proofs.status_of.Statement as stated
 use Rattle.qbx_same.proofs.status_of.Code as code
 
@@ -58,7 +58,7 @@ val = LL.val T.the_type T'.the_laws
 abbrev vals : stat → List Val
 vals = LL.vals T.the_type T'.the_laws
 
-abbrev stayed : Stays (status-of.ended).signature.params (status-of.ended).kept
+abbrev stayed : Stays (status_of_lem.ended).signature.params (status_of_lem.ended).kept
 stayed = (stay_none (λ _. i32) yes, (stay_none (λ _. T.the_row) yes, tt))
 
 module _ {M : Type 1} {𝓤 : Ura M} (𝓛 : Logic 𝓤) (at_mem : Memory → SProp 𝓤) (run : Routine → Fun 𝓤) (fd : ℤ) (blank : stat) where
@@ -72,28 +72,28 @@ module _ {M : Type 1} {𝓤 : Ura M} (𝓛 : Logic 𝓤) (at_mem : Memory → SP
   num = vint w32 (of_z w32 fd)
 
   abbrev Post : Val → SProp 𝓤
-  Post = (walk_of 𝓛 status-of.ended stayed (status-of.clauses 𝓛 at_mem run)).post ((tt, tt, tt, (fd, (blank, tt)), (num ∷ [], (vals blank, tt))), tt)
+  Post = (walk_of 𝓛 status_of_lem.ended stayed (status_of_lem.clauses 𝓛 at_mem run)).post ((tt, tt, tt, (fd, (blank, tt)), (num ∷ [], (vals blank, tt))), tt)
 
-  module _ (is-fd : Is i32 fd (num ∷ [])) (is-blank : Is T.the_row blank (vals blank)) where
+  module _ (is_fd : Is i32 fd (num ∷ [])) (is_blank_lem : Is T.the_row blank (vals blank)) where
     exits : (h : stat) → Is T.the_row h (vals h) → ent 𝓤 (emp 𝓤) (Post (val h))
     exits h g =
-        qed 𝓛 [] ∵ suffices ! _ (ends_at 𝓛 status-of.ended stayed (status-of.clauses 𝓛 at_mem run) ((tt, tt, tt, (fd, (blank, tt)), (num ∷ [], (vals blank, tt))), tt) (val h) h (tt, (tt, tt)) (tt, (tt, tt))) $
+        qed 𝓛 [] ∵ suffices ! _ (ends_at 𝓛 status_of_lem.ended stayed (status_of_lem.clauses 𝓛 at_mem run) ((tt, tt, tt, (fd, (blank, tt)), (num ∷ [], (vals blank, tt))), tt) (val h) h (tt, (tt, tt)) (tt, (tt, tt))) $
         owned ! T.the_row (Is T.the_row) (LL.makes T.the_type T'.the_plain 𝓛) h (vals h) g $ nothing ! $
-        owned ! T.the_row (Is T.the_row) (LL.makes T.the_type T'.the_plain 𝓛) blank (vals blank) is-blank $ fjoin ! $
-        owned ! i32 (Is i32) (sint_Makes 𝓛 w32) fd (num ∷ []) is-fd $ fjoin ! $ join ! $ nothing ! $ join ! $ frame ! $ done !
+        owned ! T.the_row (Is T.the_row) (LL.makes T.the_type T'.the_plain 𝓛) blank (vals blank) is_blank_lem $ fjoin ! $
+        owned ! i32 (Is i32) (sint_Makes 𝓛 w32) fd (num ∷ []) is_fd $ fjoin ! $ join ! $ nothing ! $ join ! $ frame ! $ done !
 
     -- the struct behind a reference for the lifetime α under the name δ
-    abbrev ref-at : ℕ → GName → ℕ → Fml
-    ref-at α δ l = (MutRef (named 0) (α ∷ []) T.the_row).own_val (record { ref_ptr = (l, 0); ghost_name = δ; now = blank }) (vptr l 0 ∷ [])
+    abbrev ref_at : ℕ → GName → ℕ → Fml
+    ref_at α δ l = (MutRef (named 0) (α ∷ []) T.the_row).own_val (record { ref_ptr = (l, 0); ghost_name = δ; now = blank }) (vptr l 0 ∷ [])
 
     -- what `fstat`'s triple binds outside: the descriptor, and that reference
     abbrev at_call : ℕ → GName → ℕ → Ask.Ghost
     at_call α δ l = (((α ∷ [], tt), (full_share, tt), tt, (fd, (record { ref_ptr = (l, 0); ghost_name = δ; now = blank }, tt)), (num ∷ [], (vptr l 0 ∷ [], tt))), tt)
 
-    goes : (α : ℕ) (δ : GName) (l : ℕ) → ent 𝓤 (sep 𝓤 (A.lft (α ∷ []) full_share) (sem 𝓛 (ref-at α δ l))) (Ask.pre (at_call α δ l))
+    goes : (α : ℕ) (δ : GName) (l : ℕ) → ent 𝓤 (sep 𝓤 (A.lft (α ∷ []) full_share) (sem 𝓛 (ref_at α δ l))) (Ask.pre (at_call α δ l))
     goes α δ l =
-        qed 𝓛 (‵ (flft (α ∷ []) full_share) ∷ ‵ (ref-at α δ l) ∷ []) ∵ move ! (1 ∷ []) $ nothing ! $ move ! (1 ∷ 0 ∷ []) $ fjoin ! $
-        owned ! i32 (Is i32) (sint_Makes 𝓛 w32) fd (num ∷ []) is-fd $ fjoin ! $ nothing ! $ move ! (2 ∷ 0 ∷ []) $ join ! $ join ! $ frame ! $ done !
+        qed 𝓛 (‵ (flft (α ∷ []) full_share) ∷ ‵ (ref_at α δ l) ∷ []) ∵ move ! (1 ∷ []) $ nothing ! $ move ! (1 ∷ 0 ∷ []) $ fjoin ! $
+        owned ! i32 (Is i32) (sint_Makes 𝓛 w32) fd (num ∷ []) is_fd $ fjoin ! $ nothing ! $ move ! (2 ∷ 0 ∷ []) $ join ! $ join ! $ frame ! $ done !
 
     -- the struct has a last value, of which nothing is said
     told : (α : ℕ) (δ : GName) (l : ℕ) (r : ℤ) → ent 𝓤 (ensured 𝓛 fstat.ended (fstat.clauses 𝓛 at_mem run) (at_call α δ l).0.0 (at_call α δ l).0.3 tt r) (ex 𝓤 (λ (h : stat). A.res δ ((T.the_row).coded.code h)))
@@ -105,21 +105,21 @@ module _ {M : Type 1} {𝓤 : Ura M} (𝓛 : Logic 𝓤) (at_mem : Memory → SP
     typed h g = ((LL.lawful T.the_type T'.the_laws 𝓛).typed h (vals h) g).0
 
     module _ (C : Calls 𝓤 H) (Λ : Loops 𝓤 H) (fm : FmC 𝓤 H 𝓛.laws C) (known : Triple 𝓤 (C #libc·fstat) Ask) where
-      walk : ent 𝓤 (on_entry 𝓛 status-of.signature tt tt (fd, (blank, tt)) (num ∷ [], (vals blank, tt))) (WpFn 𝓤 H C Λ code.function (num ∷ val blank ∷ []) Post)
+      walk : ent 𝓤 (on_entry 𝓛 status_of_lem.signature tt tt (fd, (blank, tt)) (num ∷ [], (vals blank, tt))) (WpFn 𝓤 H C Λ code.function (num ∷ val blank ∷ []) Post)
       unfolding part_of
       walk =
           qed 𝓛 (‵ ftrue ∷ ‵ (owns (i32 ∷ T.the_row ∷ []) (fd, (blank, tt)) (num ∷ [], (vals blank, tt))) ∷ []) ∵ keep ! [] $ enter ! C Λ code.function (num ∷ val blank ∷ []) _ $
           alloc1 ! (λ l₀. alloc1 ! (λ l₁. alloc1 ! (λ l₂. alloc1 ! (λ l₃. alloc1 ! (λ l₄. alloc1 ! (λ l₅. alloc0 ! $ params1 ! $
-          pass1 ! (init ! 8 refl ((sint_Lawful 𝓛 w32).typed fd (num ∷ []) is-fd).0) $ pass1 ! (init ! 6 refl (typed blank is-blank)) $ pass0 ! $
+          pass1 ! (init ! 8 refl ((sint_Lawful 𝓛 w32).typed fd (num ∷ []) is_fd).0) $ pass1 ! (init ! 6 refl (typed blank is_blank_lem)) $ pass0 ! $
           -- [_5; …; _4; …; _3; …; _2; …; _1; …; _0; …]
-          assigns ! (of_opd ! (load ! (from ! (stop !)) (look ! 6 refl))) (from ! (stop !)) (init ! 4 refl (typed blank is-blank)) $
+          assigns ! (of_opd ! (load ! (from ! (stop !)) (look ! 6 refl))) (from ! (stop !)) (init ! 4 refl (typed blank is_blank_lem)) $
           assigns ! (addr ! (from ! (stop !))) (from ! (stop !)) (init ! 0 refl (tt, tt)) $
           -- the local is lent for a new lifetime
           move ! (4 ∷ []) $ use1 𝓛 (‵ (cell_at full_share (T.the_row).mir (vals blank) l₃ 0)) (𝓛.laws.at_raw full_share T'.mir l₃ 0 (val blank)) $
-          owned ! T.the_row (Is T.the_row) (LL.makes T.the_type T'.the_plain 𝓛) blank (vals blank) is-blank $ move ! (1 ∷ 0 ∷ []) $ fjoin ! $
+          owned ! T.the_row (Is T.the_row) (LL.makes T.the_type T'.the_plain 𝓛) blank (vals blank) is_blank_lem $ move ! (1 ∷ 0 ∷ []) $ fjoin ! $
           fpack ! (List Val) (λ us. fsep (cell_at full_share (T.the_row).mir us l₃ 0) ((T.the_row).own_val blank us)) (vals blank) $
           lft_new ! tt (λ α. move ! (1 ∷ []) $
-          use1 𝓛 (later (some (λ (δ : GName). ‵ (ref-at α δ l₃) ⊛ ‵ (flent (α ∷ []) (Body (mem T.the_row) l₃ 0 δ))))) (lends_ref 𝓛 T.the_row (named 0) (α ∷ []) blank l₃ 0) $ await ! tt $ pick ! (λ δ. split ! $
+          use1 𝓛 (later (some (λ (δ : GName). ‵ (ref_at α δ l₃) ⊛ ‵ (flent (α ∷ []) (Body (mem T.the_row) l₃ 0 δ))))) (lends_ref 𝓛 T.the_row (named 0) (α ∷ []) blank l₃ 0) $ await ! tt $ pick ! (λ δ. split ! $
           move ! (2 ∷ 0 ∷ []) $ use2 𝓛 (raw (Ask.pre (at_call α δ l₃))) (goes α δ l₃) $
           -- [what the call asks; the lender's part; _5; …; _4; …; …; _2; …; _1; …; _0; …]
           calls_at ! fm Ask known (at_call α δ l₃) (and_then ! (load ! (from ! (stop !)) (look ! 9 refl)) (and_then ! (load ! (from ! (stop !)) (look ! 2 refl)) (no_more !))) (λ v.
@@ -142,17 +142,17 @@ module _ {M : Type 1} {𝓤 : Ura M} (𝓛 : Logic 𝓤) (at_mem : Memory → SP
   abbrev Asks : Contract 𝓤
   Asks = triple_of 𝓛 fstat.signature (fstat.spec 𝓛 at_mem run)
 
-  status-of-walks : (C : Calls 𝓤 H) (Λ : Loops 𝓤 H) → FmC 𝓤 H 𝓛.laws C → Triple 𝓤 (C #libc·fstat) Asks → Walks 𝓛 status-of.ended stayed (WpFn 𝓤 H C Λ code.function) (status-of.clauses 𝓛 at_mem run)
-  status-of-walks C Λ fm known = walked 𝓛 status-of.ended stayed (status-of.clauses 𝓛 at_mem run) (WpFn 𝓤 H C Λ code.function) (λ κs. (sint_vals w32, (vals, tt))) (λ κs. (sint_Tells w32, (LL.tells T.the_type T'.the_laws, tt)))
+  status_of_walks : (C : Calls 𝓤 H) (Λ : Loops 𝓤 H) → FmC 𝓤 H 𝓛.laws C → Triple 𝓤 (C #libc·fstat) Asks → Walks 𝓛 status_of_lem.ended stayed (WpFn 𝓤 H C Λ code.function) (status_of_lem.clauses 𝓛 at_mem run)
+  status_of_walks C Λ fm known = walked 𝓛 status_of_lem.ended stayed (status_of_lem.clauses 𝓛 at_mem run) (WpFn 𝓤 H C Λ code.function) (λ κs. (sint_vals w32, (vals, tt))) (λ κs. (sint_Tells w32, (LL.tells T.the_type T'.the_laws, tt)))
       (λ κs qs bounds a g are. via 𝓤 _ (fst∗ 𝓤 _ (emp 𝓤)) (walk 𝓛 at_mem run a.0 a.1.0 are.0 are.1.0 C Λ fm known))
 
-  status-of-meets : (𝓣 : Tables 𝓤 H) → Triple 𝓤 (𝓣.C #libc·fstat) Asks → Meets 𝓛 status-of.signature (WpFn 𝓤 H 𝓣.C 𝓣.Λ code.function) (status-of.spec 𝓛 at_mem run)
-  status-of-meets 𝓣 known = walk_Meets 𝓛 status-of.ended stayed (Goes-none 𝓛 0 (λ _. i32) yes (λ κs x f. refl), (Goes-none 𝓛 0 (λ _. T.the_row) yes (λ κs x f. refl), tt)) (status-of.clauses 𝓛 at_mem run) (WpFn 𝓤 H 𝓣.C 𝓣.Λ code.function) (WpFn-mono 𝓤 H 𝓛.laws 𝓣 code.function) (status-of-walks 𝓣.C 𝓣.Λ (fm_of 𝓤 H 𝓛.laws 𝓣) known)
+  status_of_meets : (𝓣 : Tables 𝓤 H) → Triple 𝓤 (𝓣.C #libc·fstat) Asks → Meets 𝓛 status_of_lem.signature (WpFn 𝓤 H 𝓣.C 𝓣.Λ code.function) (status_of_lem.spec 𝓛 at_mem run)
+  status_of_meets 𝓣 known = walk_Meets 𝓛 status_of_lem.ended stayed (Goes-none 𝓛 0 (λ _. i32) yes (λ κs x f. refl), (Goes-none 𝓛 0 (λ _. T.the_row) yes (λ κs x f. refl), tt)) (status_of_lem.clauses 𝓛 at_mem run) (WpFn 𝓤 H 𝓣.C 𝓣.Λ code.function) (WpFn-mono 𝓤 H 𝓛.laws 𝓣 code.function) (status_of_walks 𝓣.C 𝓣.Λ (fm_of 𝓤 H 𝓛.laws 𝓣) known)
 
-pub status-of-spec : {M : Type 1} → stated.statement M
+pub status_of_spec : {M : Type 1} → stated.statement M
 unfolding code.routine tables_of
-status-of-spec 𝓤 𝓛 𝓜 𝓡 =
-    entered 𝓤 𝓛.H (triple_of 𝓛 status-of.signature (status-of.spec 𝓛 𝓜.mem 𝓡.run))
+status_of_spec 𝓤 𝓛 𝓜 𝓡 =
+    entered 𝓤 𝓛.H (triple_of 𝓛 status_of_lem.signature (status_of_lem.spec 𝓛 𝓜.mem 𝓡.run))
     (tables 𝓤 𝓛.H 𝓜 𝓡 code.env).C (tables 𝓤 𝓛.H 𝓜 𝓡 code.env).Λ #qbx-same·status-of code.function (code.unfolded 𝓤 𝓛.H 𝓜 𝓡)
-    (status-of-meets 𝓛 𝓜.mem 𝓡.run (tables_of 𝓤 𝓛.H 𝓜 (tables 𝓤 𝓛.H 𝓜 𝓡 code.env))
-    (cited 𝓤 𝓛.H (Asks 𝓛 𝓜.mem 𝓡.run) 𝓜 𝓡 code.env #libc·fstat fstat-def.routine code.calls-libc::fstat (fstat-thm.met 𝓤 𝓛 𝓜 𝓡)))
+    (status_of_meets 𝓛 𝓜.mem 𝓡.run (tables_of 𝓤 𝓛.H 𝓜 (tables 𝓤 𝓛.H 𝓜 𝓡 code.env))
+    (cited 𝓤 𝓛.H (Asks 𝓛 𝓜.mem 𝓡.run) 𝓜 𝓡 code.env #libc·fstat fstat_def.routine code.calls-libc::fstat (fstat_thm.met 𝓤 𝓛 𝓜 𝓡)))

@@ -1,40 +1,40 @@
 -- `qbx_says::say_answer`: its parts, one after the other. Assumes nothing.
 use native.Mathlib.Omega.{arith}
-use Rattle.qbx_says.specs.Said.{answerText}
+use Rattle.qbx_says.specs.Said.{answer_text}
 use Rattle.qbx_lines.proofs.Laws.Lines.{more}
 use borrow.Author.Rules.{rules}
 use Rattle.qbx_says.proofs.say_answer.Statement.{statement}
 use Rattle.qbx_says.proofs.say_answer.Tie as tie
 
-number-of-requires : tie.Need-number-of-requires
-number-of-requires c κs = search rules
+number_of_requires : tie.Need-number-of-requires
+number_of_requires c κs = search rules
 
-empty-requires : tie.Need-empty-requires
-empty-requires c κs = search rules
+empty_requires : tie.Need-empty-requires
+empty_requires c κs = search rules
 
-add-verdict-requires : tie.Need-add-verdict-requires
-add-verdict-requires c κs = search rules
+add_verdict_requires : tie.Need-add-verdict-requires
+add_verdict_requires c κs = search rules
 
-add-number-requires : tie.Need-add-number-requires
-add-number-requires c κs = search rules
+add_number_requires : tie.Need-add-number-requires
+add_number_requires c κs = search rules
 
-add-reason-requires : tie.Need-add-reason-requires
-add-reason-requires c κs = search rules
+add_reason_requires : tie.Need-add-reason-requires
+add_reason_requires c κs = search rules
 
 returns : tie.Need-returns
-unfolding answerText
+unfolding answer_text
 returns c =
     let k = c.before.before.before in
     let whole = more c.add-reason.ensures.0 (more c.before.add-number.ensures.0 (more c.before.before.add-verdict.ensures.0 k.empty.ensures.0)) in
     (rw (← k.before.number_of_lem.ensures.0) whole, omega arith)
 
-pub say-answer-spec : {M : Type 1} → statement M
-say-answer-spec =
+pub say_answer_spec : {M : Type 1} → statement M
+say_answer_spec =
     tie.close
     (tie.spec
-    number-of-requires
-    empty-requires
-    add-verdict-requires
-    add-number-requires
-    add-reason-requires
+    number_of_requires
+    empty_requires
+    add_verdict_requires
+    add_number_requires
+    add_reason_requires
     returns)

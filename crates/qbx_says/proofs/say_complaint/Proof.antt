@@ -1,204 +1,204 @@
 -- `qbx_says::say_complaint`: each text is the definition's. Assumes nothing.
 use native.Mathlib.Omega.{arith}
 use Rattle.text.specs.Text.{text}
-use Rattle.qbx_says.specs.Said.{complaintText}
+use Rattle.qbx_says.specs.Said.{complaint_text}
 use Rattle.qbx_lines.proofs.Laws.Lines.{more}
 use borrow.Author.Rules.{rules}
 use Rattle.qbx_says.proofs.say_complaint.Statement.{statement}
 use Rattle.qbx_says.proofs.say_complaint.Tie as tie
 
-empty-requires : tie.Need-empty-requires
-empty-requires c κs = search rules
+empty_requires : tie.Need-empty-requires
+empty_requires c κs = search rules
 
 enum_told : tie.Need-enum-told
 enum_told c = search rules
 
-slice-aggregate-add : tie.Need-slice-aggregate-add
-slice-aggregate-add c = search rules
+slice_aggregate_add : tie.Need-slice-aggregate-add
+slice_aggregate_add c = search rules
 
-add-requires : tie.Need-add-requires
-add-requires c κs = search rules
+add_requires : tie.Need-add-requires
+add_requires c κs = search rules
 
-enum-told-2 : tie.Need-enum-told-2
-enum-told-2 c = search rules
+enum_told_2 : tie.Need-enum-told-2
+enum_told_2 c = search rules
 
-slice-aggregate-add-2 : tie.Need-slice-aggregate-add-2
-slice-aggregate-add-2 c = search rules
+slice_aggregate_add_2 : tie.Need-slice-aggregate-add-2
+slice_aggregate_add_2 c = search rules
 
-add-requires-2 : tie.Need-add-requires-2
-add-requires-2 c κs = search rules
+add_requires_2 : tie.Need-add-requires-2
+add_requires_2 c κs = search rules
 
-enum-told-3 : tie.Need-enum-told-3
-enum-told-3 c = search rules
+enum_told_3 : tie.Need-enum-told-3
+enum_told_3 c = search rules
 
-slice-aggregate-add-3 : tie.Need-slice-aggregate-add-3
-slice-aggregate-add-3 c = search rules
+slice_aggregate_add_3 : tie.Need-slice-aggregate-add-3
+slice_aggregate_add_3 c = search rules
 
-add-requires-3 : tie.Need-add-requires-3
-add-requires-3 c κs = search rules
+add_requires_3 : tie.Need-add-requires-3
+add_requires_3 c κs = search rules
 
-enum-told-4 : tie.Need-enum-told-4
-enum-told-4 c = search rules
+enum_told_4 : tie.Need-enum-told-4
+enum_told_4 c = search rules
 
-slice-aggregate-add-4 : tie.Need-slice-aggregate-add-4
-slice-aggregate-add-4 c = search rules
+slice_aggregate_add_4 : tie.Need-slice-aggregate-add-4
+slice_aggregate_add_4 c = search rules
 
-add-requires-4 : tie.Need-add-requires-4
-add-requires-4 c κs = search rules
+add_requires_4 : tie.Need-add-requires-4
+add_requires_4 c κs = search rules
 
-enum-told-5 : tie.Need-enum-told-5
-enum-told-5 c = search rules
+enum_told_5 : tie.Need-enum-told-5
+enum_told_5 c = search rules
 
-slice-aggregate-add-5 : tie.Need-slice-aggregate-add-5
-slice-aggregate-add-5 c = search rules
+slice_aggregate_add_5 : tie.Need-slice-aggregate-add-5
+slice_aggregate_add_5 c = search rules
 
-add-requires-5 : tie.Need-add-requires-5
-add-requires-5 c κs = search rules
+add_requires_5 : tie.Need-add-requires-5
+add_requires_5 c κs = search rules
 
-enum-told-6 : tie.Need-enum-told-6
-enum-told-6 c = search rules
+enum_told_6 : tie.Need-enum-told-6
+enum_told_6 c = search rules
 
-slice-aggregate-add-6 : tie.Need-slice-aggregate-add-6
-slice-aggregate-add-6 c = search rules
+slice_aggregate_add_6 : tie.Need-slice-aggregate-add-6
+slice_aggregate_add_6 c = search rules
 
-add-requires-6 : tie.Need-add-requires-6
-add-requires-6 c κs = search rules
+add_requires_6 : tie.Need-add-requires-6
+add_requires_6 c κs = search rules
 
-enum-told-7 : tie.Need-enum-told-7
-enum-told-7 c = search rules
+enum_told_7 : tie.Need-enum-told-7
+enum_told_7 c = search rules
 
-slice-aggregate-add-7 : tie.Need-slice-aggregate-add-7
-slice-aggregate-add-7 c = search rules
+slice_aggregate_add_7 : tie.Need-slice-aggregate-add-7
+slice_aggregate_add_7 c = search rules
 
-add-requires-7 : tie.Need-add-requires-7
-add-requires-7 c κs = search rules
+add_requires_7 : tie.Need-add-requires-7
+add_requires_7 c κs = search rules
 
-enum-told-8 : tie.Need-enum-told-8
-enum-told-8 c = search rules
+enum_told_8 : tie.Need-enum-told-8
+enum_told_8 c = search rules
 
-slice-aggregate-add-8 : tie.Need-slice-aggregate-add-8
-slice-aggregate-add-8 c = search rules
+slice_aggregate_add_8 : tie.Need-slice-aggregate-add-8
+slice_aggregate_add_8 c = search rules
 
-add-requires-8 : tie.Need-add-requires-8
-add-requires-8 c κs = search rules
+add_requires_8 : tie.Need-add-requires-8
+add_requires_8 c κs = search rules
 
-enum-told-9 : tie.Need-enum-told-9
-enum-told-9 c = search rules
+enum_told_9 : tie.Need-enum-told-9
+enum_told_9 c = search rules
 
-slice-aggregate-add-9 : tie.Need-slice-aggregate-add-9
-slice-aggregate-add-9 c = search rules
+slice_aggregate_add_9 : tie.Need-slice-aggregate-add-9
+slice_aggregate_add_9 c = search rules
 
-add-requires-9 : tie.Need-add-requires-9
-add-requires-9 c κs = search rules
+add_requires_9 : tie.Need-add-requires-9
+add_requires_9 c κs = search rules
 
-enum-told-10 : tie.Need-enum-told-10
-enum-told-10 c = search rules
+enum_told_10 : tie.Need-enum-told-10
+enum_told_10 c = search rules
 
-slice-aggregate-add-10 : tie.Need-slice-aggregate-add-10
-slice-aggregate-add-10 c = search rules
+slice_aggregate_add_10 : tie.Need-slice-aggregate-add-10
+slice_aggregate_add_10 c = search rules
 
-add-requires-10 : tie.Need-add-requires-10
-add-requires-10 c κs = search rules
+add_requires_10 : tie.Need-add-requires-10
+add_requires_10 c κs = search rules
 
-enum-told-11 : tie.Need-enum-told-11
-enum-told-11 c = search rules
+enum_told_11 : tie.Need-enum-told-11
+enum_told_11 c = search rules
 
-slice-aggregate-add-11 : tie.Need-slice-aggregate-add-11
-slice-aggregate-add-11 c = search rules
+slice_aggregate_add_11 : tie.Need-slice-aggregate-add-11
+slice_aggregate_add_11 c = search rules
 
-add-requires-11 : tie.Need-add-requires-11
-add-requires-11 c κs = search rules
+add_requires_11 : tie.Need-add-requires-11
+add_requires_11 c κs = search rules
 
 returns : tie.Need-returns
-unfolding text complaintText
+unfolding text complaint_text
 returns c = rw c.before.before.enum_told.given.1 (more c.add.ensures c.before.before.before.before.empty.ensures.0, omega arith)
 
-returns-2 : tie.Need-returns-2
-unfolding text complaintText
-returns-2 c = rw c.before.before.enum-told2.given.1 (more c.add2.ensures c.before.before.before.before.empty.ensures.0, omega arith)
+returns_2 : tie.Need-returns-2
+unfolding text complaint_text
+returns_2 c = rw c.before.before.enum-told2.given.1 (more c.add2.ensures c.before.before.before.before.empty.ensures.0, omega arith)
 
-returns-3 : tie.Need-returns-3
-unfolding text complaintText
-returns-3 c = rw c.before.before.enum-told3.given.1 (more c.add3.ensures c.before.before.before.before.empty.ensures.0, omega arith)
+returns_3 : tie.Need-returns-3
+unfolding text complaint_text
+returns_3 c = rw c.before.before.enum-told3.given.1 (more c.add3.ensures c.before.before.before.before.empty.ensures.0, omega arith)
 
-returns-4 : tie.Need-returns-4
-unfolding text complaintText
-returns-4 c = rw c.before.before.enum-told4.given.1 (more c.add4.ensures c.before.before.before.before.empty.ensures.0, omega arith)
+returns_4 : tie.Need-returns-4
+unfolding text complaint_text
+returns_4 c = rw c.before.before.enum-told4.given.1 (more c.add4.ensures c.before.before.before.before.empty.ensures.0, omega arith)
 
-returns-5 : tie.Need-returns-5
-unfolding text complaintText
-returns-5 c = rw c.before.before.enum-told5.given.1 (more c.add5.ensures c.before.before.before.before.empty.ensures.0, omega arith)
+returns_5 : tie.Need-returns-5
+unfolding text complaint_text
+returns_5 c = rw c.before.before.enum-told5.given.1 (more c.add5.ensures c.before.before.before.before.empty.ensures.0, omega arith)
 
-returns-6 : tie.Need-returns-6
-unfolding text complaintText
-returns-6 c = rw c.before.before.enum-told6.given.1 (more c.add6.ensures c.before.before.before.before.empty.ensures.0, omega arith)
+returns_6 : tie.Need-returns-6
+unfolding text complaint_text
+returns_6 c = rw c.before.before.enum-told6.given.1 (more c.add6.ensures c.before.before.before.before.empty.ensures.0, omega arith)
 
-returns-7 : tie.Need-returns-7
-unfolding text complaintText
-returns-7 c = rw c.before.before.enum-told7.given.1 (more c.add7.ensures c.before.before.before.before.empty.ensures.0, omega arith)
+returns_7 : tie.Need-returns-7
+unfolding text complaint_text
+returns_7 c = rw c.before.before.enum-told7.given.1 (more c.add7.ensures c.before.before.before.before.empty.ensures.0, omega arith)
 
-returns-8 : tie.Need-returns-8
-unfolding text complaintText
-returns-8 c = rw c.before.before.enum-told8.given.1 (more c.add8.ensures c.before.before.before.before.empty.ensures.0, omega arith)
+returns_8 : tie.Need-returns-8
+unfolding text complaint_text
+returns_8 c = rw c.before.before.enum-told8.given.1 (more c.add8.ensures c.before.before.before.before.empty.ensures.0, omega arith)
 
-returns-9 : tie.Need-returns-9
-unfolding text complaintText
-returns-9 c = rw c.before.before.enum-told9.given.1 (more c.add9.ensures c.before.before.before.before.empty.ensures.0, omega arith)
+returns_9 : tie.Need-returns-9
+unfolding text complaint_text
+returns_9 c = rw c.before.before.enum-told9.given.1 (more c.add9.ensures c.before.before.before.before.empty.ensures.0, omega arith)
 
-returns-10 : tie.Need-returns-10
-unfolding text complaintText
-returns-10 c = rw c.before.before.enum-told10.given.1 (more c.add10.ensures c.before.before.before.before.empty.ensures.0, omega arith)
+returns_10 : tie.Need-returns-10
+unfolding text complaint_text
+returns_10 c = rw c.before.before.enum-told10.given.1 (more c.add10.ensures c.before.before.before.before.empty.ensures.0, omega arith)
 
-returns-11 : tie.Need-returns-11
-unfolding text complaintText
-returns-11 c = rw c.before.before.enum-told11.given.1 (more c.add11.ensures c.before.before.before.before.empty.ensures.0, omega arith)
+returns_11 : tie.Need-returns-11
+unfolding text complaint_text
+returns_11 c = rw c.before.before.enum-told11.given.1 (more c.add11.ensures c.before.before.before.before.empty.ensures.0, omega arith)
 
-pub say-complaint-spec : {M : Type 1} → statement M
-say-complaint-spec =
+pub say_complaint_spec : {M : Type 1} → statement M
+say_complaint_spec =
     tie.close
     (tie.spec
-    empty-requires
+    empty_requires
     enum_told
-    slice-aggregate-add
-    add-requires
-    enum-told-2
-    slice-aggregate-add-2
-    add-requires-2
-    enum-told-3
-    slice-aggregate-add-3
-    add-requires-3
-    enum-told-4
-    slice-aggregate-add-4
-    add-requires-4
-    enum-told-5
-    slice-aggregate-add-5
-    add-requires-5
-    enum-told-6
-    slice-aggregate-add-6
-    add-requires-6
-    enum-told-7
-    slice-aggregate-add-7
-    add-requires-7
-    enum-told-8
-    slice-aggregate-add-8
-    add-requires-8
-    enum-told-9
-    slice-aggregate-add-9
-    add-requires-9
-    enum-told-10
-    slice-aggregate-add-10
-    add-requires-10
-    enum-told-11
-    slice-aggregate-add-11
-    add-requires-11
+    slice_aggregate_add
+    add_requires
+    enum_told_2
+    slice_aggregate_add_2
+    add_requires_2
+    enum_told_3
+    slice_aggregate_add_3
+    add_requires_3
+    enum_told_4
+    slice_aggregate_add_4
+    add_requires_4
+    enum_told_5
+    slice_aggregate_add_5
+    add_requires_5
+    enum_told_6
+    slice_aggregate_add_6
+    add_requires_6
+    enum_told_7
+    slice_aggregate_add_7
+    add_requires_7
+    enum_told_8
+    slice_aggregate_add_8
+    add_requires_8
+    enum_told_9
+    slice_aggregate_add_9
+    add_requires_9
+    enum_told_10
+    slice_aggregate_add_10
+    add_requires_10
+    enum_told_11
+    slice_aggregate_add_11
+    add_requires_11
     returns
-    returns-2
-    returns-3
-    returns-4
-    returns-5
-    returns-6
-    returns-7
-    returns-8
-    returns-9
-    returns-10
-    returns-11)
+    returns_2
+    returns_3
+    returns_4
+    returns_5
+    returns_6
+    returns_7
+    returns_8
+    returns_9
+    returns_10
+    returns_11)

@@ -6,35 +6,35 @@ use borrow.Author.Rules.{rules}
 use Rattle.qbx_script.proofs.play.Statement.{statement}
 use Rattle.qbx_script.proofs.play.Tie as tie
 
-large-buffer-requires : tie.Need-large-buffer-requires
-large-buffer-requires c κs = search rules
+large_buffer_requires : tie.Need-large-buffer-requires
+large_buffer_requires c κs = search rules
 
-slice-aggregate-fill : tie.Need-slice-aggregate-fill
-slice-aggregate-fill c = search rules
+slice_aggregate_fill : tie.Need-slice-aggregate-fill
+slice_aggregate_fill c = search rules
 
-fill-requires : tie.Need-fill-requires
-fill-requires c κs = search rules
+fill_requires : tie.Need-fill-requires
+fill_requires c κs = search rules
 
-array-share-prefix-script : tie.Need-array-share-prefix-script
-array-share-prefix-script c = search rules
+array_share_prefix_script : tie.Need-array-share-prefix-script
+array_share_prefix_script c = search rules
 
-slice-aggregate-play-lines : tie.Need-slice-aggregate-play-lines
-slice-aggregate-play-lines c = sym (length-take-le _ _ (omega arith))
+slice_aggregate_play_lines : tie.Need-slice-aggregate-play-lines
+slice_aggregate_play_lines c = sym (length-take-le _ _ (omega arith))
 
-play-lines-requires : tie.Need-play-lines-requires
-play-lines-requires c κs = search rules
+play_lines_requires : tie.Need-play-lines-requires
+play_lines_requires c κs = search rules
 
 returns : tie.Need-returns
 returns c = search rules
 
-pub play-spec : {M : Type 1} → statement M
-play-spec =
+pub play_spec : {M : Type 1} → statement M
+play_spec =
     tie.close
     (tie.spec
-    large-buffer-requires
-    slice-aggregate-fill
-    fill-requires
-    array-share-prefix-script
-    slice-aggregate-play-lines
-    play-lines-requires
+    large_buffer_requires
+    slice_aggregate_fill
+    fill_requires
+    array_share_prefix_script
+    slice_aggregate_play_lines
+    play_lines_requires
     returns)

@@ -6,32 +6,32 @@ use borrow.Author.Rules.{rules}
 use Rattle.qbx_script.proofs.step.Statement.{statement}
 use Rattle.qbx_script.proofs.step.Tie as tie
 
-slice-aggregate-write-all : tie.Need-slice-aggregate-write-all
-slice-aggregate-write-all c = search rules
+slice_aggregate_write_all : tie.Need-slice-aggregate-write-all
+slice_aggregate_write_all c = search rules
 
-write-all-requires : tie.Need-write-all-requires
-write-all-requires c κs = search rules
+write_all_requires : tie.Need-write-all-requires
+write_all_requires c κs = search rules
 
-write-all-requires-2 : tie.Need-write-all-requires-2
-write-all-requires-2 c κs = search rules
+write_all_requires_2 : tie.Need-write-all-requires-2
+write_all_requires_2 c κs = search rules
 
-slice-aggregate-write-all-2 : tie.Need-slice-aggregate-write-all-2
-slice-aggregate-write-all-2 c = search rules
+slice_aggregate_write_all_2 : tie.Need-slice-aggregate-write-all-2
+slice_aggregate_write_all_2 c = search rules
 
-write-all-requires-3 : tie.Need-write-all-requires-3
-write-all-requires-3 c κs = search rules
+write_all_requires_3 : tie.Need-write-all-requires-3
+write_all_requires_3 c κs = search rules
 
-find-requires : tie.Need-find-requires
-find-requires c κs = search rules
+find_requires : tie.Need-find-requires
+find_requires c κs = search rules
 
-sub-if1 : tie.Need-overflow-sub-if1
-sub-if1 c = search rules
+sub_if1 : tie.Need-overflow-sub-if1
+sub_if1 c = search rules
 
-slice-aggregate-obey : tie.Need-slice-aggregate-obey
-slice-aggregate-obey c = search rules
+slice_aggregate_obey : tie.Need-slice-aggregate-obey
+slice_aggregate_obey c = search rules
 
-obey-requires : tie.Need-obey-requires
-obey-requires c κs = search rules
+obey_requires : tie.Need-obey-requires
+obey_requires c κs = search rules
 
 returns : tie.Need-returns
 returns c = search rules
@@ -39,42 +39,42 @@ returns c = search rules
 add_start : tie.Need-overflow-add-start
 add_start c = search rules
 
-slice-aggregate-obey-2 : tie.Need-slice-aggregate-obey-2
-slice-aggregate-obey-2 c = sym (length-take-le _ _ (omega arith))
+slice_aggregate_obey_2 : tie.Need-slice-aggregate-obey-2
+slice_aggregate_obey_2 c = sym (length-take-le _ _ (omega arith))
 
-sub-obey : tie.Need-overflow-sub-obey
-sub-obey c = search rules
+sub_obey : tie.Need-overflow-sub-obey
+sub_obey c = search rules
 
-part-obey-start : tie.Need-slice-bounds-obey-start
-part-obey-start c = search rules
+part_obey_start : tie.Need-slice-bounds-obey-start
+part_obey_start c = search rules
 
-part-obey-end : tie.Need-slice-bounds-obey-end
-part-obey-end c = search rules
+part_obey_end : tie.Need-slice-bounds-obey-end
+part_obey_end c = search rules
 
-obey-requires-2 : tie.Need-obey-requires-2
-obey-requires-2 c κs = search rules
+obey_requires_2 : tie.Need-obey-requires-2
+obey_requires_2 c κs = search rules
 
-returns-2 : tie.Need-returns-2
-returns-2 c = search rules
+returns_2 : tie.Need-returns-2
+returns_2 c = search rules
 
 pub step_spec : {M : Type 1} → statement M
 step_spec =
     tie.close
     (tie.spec
-    slice-aggregate-write-all
-    write-all-requires
-    write-all-requires-2
-    slice-aggregate-write-all-2
-    write-all-requires-3
-    find-requires
-    sub-if1
-    slice-aggregate-obey
-    obey-requires
+    slice_aggregate_write_all
+    write_all_requires
+    write_all_requires_2
+    slice_aggregate_write_all_2
+    write_all_requires_3
+    find_requires
+    sub_if1
+    slice_aggregate_obey
+    obey_requires
     returns
     add_start
-    slice-aggregate-obey-2
-    sub-obey
-    part-obey-start
-    part-obey-end
-    obey-requires-2
-    returns-2)
+    slice_aggregate_obey_2
+    sub_obey
+    part_obey_start
+    part_obey_end
+    obey_requires_2
+    returns_2)

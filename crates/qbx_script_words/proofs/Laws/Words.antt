@@ -44,6 +44,6 @@ module _ (line : List ℕ) (at end : ℕ) (found : end ≡ at + index_of 32 (sli
         let m : length line ≤ end + 1 = omega arith in
         word_next k i h ∙ ap (word_at (k - (i + 1))) (drop_of_length-le line m) ∙ word_none (k - (i + 1))
 
-    pub word-here : (k i : ℕ) → k ≤ i → word_at (k - i) (drop at line) ≡ take (end - at) (drop at line)
+    pub word_here : (k i : ℕ) → k ≤ i → word_at (k - i) (drop at line) ≡ take (end - at) (drop at line)
     unfolding word_at
-    word-here k i h = let s : k - i ≡ 0 = omega arith in rw (s, far)
+    word_here k i h = let s : k - i ≡ 0 = omega arith in rw (s, far)

@@ -6,17 +6,17 @@ use borrow.Author.Rules.{rules}
 use Rattle.qbx_share.proofs.work.Statement.{statement}
 use Rattle.qbx_share.proofs.work.Tie as tie
 
-size-of-requires : tie.Need-size-of-requires
-size-of-requires c κs = search rules
+size_of_requires : tie.Need-size-of-requires
+size_of_requires c κs = search rules
 
-present-requires : tie.Need-present-requires
-present-requires c κs = search rules
+present_requires : tie.Need-present-requires
+present_requires c κs = search rules
 
-slice-aggregate-fail : tie.Need-slice-aggregate-fail
-slice-aggregate-fail c = search rules
+slice_aggregate_fail : tie.Need-slice-aggregate-fail
+slice_aggregate_fail c = search rules
 
-fail-requires : tie.Need-fail-requires
-fail-requires c κs = search rules
+fail_requires : tie.Need-fail-requires
+fail_requires c κs = search rules
 
 same_length : tie.Need-same-length
 same_length c = search rules
@@ -24,33 +24,33 @@ same_length c = search rules
 returns : tie.Need-returns
 returns c = search rules
 
-slice-relend-prefix-act : tie.Need-slice-relend-prefix-act
-slice-relend-prefix-act c = search rules
+slice_relend_prefix_act : tie.Need-slice-relend-prefix-act
+slice_relend_prefix_act c = search rules
 
-slice-aggregate-act : tie.Need-slice-aggregate-act
-slice-aggregate-act c = sym (length-take-le _ _ (omega arith))
+slice_aggregate_act : tie.Need-slice-aggregate-act
+slice_aggregate_act c = sym (length-take-le _ _ (omega arith))
 
-act-requires : tie.Need-act-requires
-act-requires c κs = search rules
+act_requires : tie.Need-act-requires
+act_requires c κs = search rules
 
-same-length-2 : tie.Need-same-length-2
-same-length-2 c = search rules
+same_length_2 : tie.Need-same-length-2
+same_length_2 c = search rules
 
-returns-2 : tie.Need-returns-2
-returns-2 c = search rules
+returns_2 : tie.Need-returns-2
+returns_2 c = search rules
 
-pub work-spec : {M : Type 1} → statement M
-work-spec =
+pub work_spec : {M : Type 1} → statement M
+work_spec =
     tie.close
     (tie.spec
-    size-of-requires
-    present-requires
-    slice-aggregate-fail
-    fail-requires
+    size_of_requires
+    present_requires
+    slice_aggregate_fail
+    fail_requires
     same_length
     returns
-    slice-relend-prefix-act
-    slice-aggregate-act
-    act-requires
-    same-length-2
-    returns-2)
+    slice_relend_prefix_act
+    slice_aggregate_act
+    act_requires
+    same_length_2
+    returns_2)

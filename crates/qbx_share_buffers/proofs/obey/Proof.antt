@@ -5,14 +5,14 @@ use borrow.Author.Rules.{rules}
 use Rattle.qbx_share_buffers.proofs.obey.Statement.{statement}
 use Rattle.qbx_share_buffers.proofs.obey.Tie as tie
 
-allowed-requires : tie.Need-allowed-requires
-allowed-requires c κs = search rules
+allowed_requires : tie.Need-allowed-requires
+allowed_requires c κs = search rules
 
-within-requires : tie.Need-within-requires
-within-requires c κs = search rules
+within_requires : tie.Need-within-requires
+within_requires c κs = search rules
 
 returns : tie.Need-returns
 returns c = c.within.ensures ∙ any_held _ _
 
-pub obey-spec : {M : Type 1} → statement M
-obey-spec = tie.close (tie.spec allowed-requires within-requires returns)
+pub obey_spec : {M : Type 1} → statement M
+obey_spec = tie.close (tie.spec allowed_requires within_requires returns)

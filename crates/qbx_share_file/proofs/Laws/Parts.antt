@@ -15,13 +15,13 @@ pub reach_here : (f : ℕ → Bool) (s : List ℕ) (i : ℕ) → i < length s �
 unfolding reach
 reach_here f s i h e = rw (drop-cons s i 0 h, e)
 
-pub reach-on : (f : ℕ → Bool) (s : List ℕ) (i : ℕ) → i < length s → f (get_or s i 0) ≡ false → reach f (drop i s) ≡ suc (reach f (drop (i + 1) s))
+pub reach_on : (f : ℕ → Bool) (s : List ℕ) (i : ℕ) → i < length s → f (get_or s i 0) ≡ false → reach f (drop i s) ≡ suc (reach f (drop (i + 1) s))
 unfolding reach
-reach-on f s i h e = rw (drop-cons s i 0 h, e, add-one)
+reach_on f s i h e = rw (drop-cons s i 0 h, e, add-one)
 
-pub reach-none : (f : ℕ → Bool) (s : List ℕ) (i : ℕ) → length s ≤ i → reach f (drop i s) ≡ 0
+pub reach_none : (f : ℕ → Bool) (s : List ℕ) (i : ℕ) → length s ≤ i → reach f (drop i s) ≡ 0
 unfolding reach
-reach-none f s i h = rw (drop_of_length-le s h)
+reach_none f s i h = rw (drop_of_length-le s h)
 
 -- ---- the first part, and the others
 
@@ -46,13 +46,13 @@ parts_first f (b ∷ s) = first_by f b s (f b) refl (parts_first f s)
 abbrev FilledOf : (ℕ → Bool) → List ℕ → Type 0
 FilledOf f s = filled (others f (drop (reach f s) s)) ≡ filled (parts f (drop (reach f s) s))
 
-filled-by : (f : ℕ → Bool) (b : ℕ) (s : List ℕ) (t : Bool) → f b ≡ t → FilledOf f s → FilledOf f (b ∷ s)
+filled_by : (f : ℕ → Bool) (b : ℕ) (s : List ℕ) (t : Bool) → f b ≡ t → FilledOf f s → FilledOf f (b ∷ s)
 unfolding parts reach others filled
-filled-by f b s true e h = rw (e, e)
-filled-by f b s false e h = rw e h
+filled_by f b s true e h = rw (e, e)
+filled_by f b s false e h = rw e h
 
 -- of the parts that are not empty, the same stand behind that byte as from it on
-pub filled-others : (f : ℕ → Bool) (s : List ℕ) → FilledOf f s
+pub filled_others : (f : ℕ → Bool) (s : List ℕ) → FilledOf f s
 unfolding parts reach others filled
-filled-others f [] = refl
-filled-others f (b ∷ s) = filled-by f b s (f b) refl (filled-others f s)
+filled_others f [] = refl
+filled_others f (b ∷ s) = filled_by f b s (f b) refl (filled_others f s)

@@ -7,54 +7,54 @@ use native.Mathlib.Numerals.{add-one}
 use native.Mathlib.Omega.{arith}
 use lib.ListN.{length, take, drop, get_or, drop_of_length-le}
 use lib.Seq.{take-nil, drop-cons, drop-drop}
-use Rattle.qbx_numbers.specs.Number.{number_of, fits32, number32Of}
+use Rattle.qbx_numbers.specs.Number.{number_of, fits32, number32_of}
 use Rattle.qbx_numbers.specs.declared.Parsed32.{Parsed32}
 use Rattle.qbx_numbers.specs.declared.Parsed32.TheVariants.{Number32, NoNumber32}
 use Rattle.qbx_share_file.specs.declared.LineRead.TheVariants.{Blank, Odd}
-use Rattle.qbx_share_file.specs.ShareFile.{parts, filled, isBlank, words_of, share_of, line_of}
+use Rattle.qbx_share_file.specs.ShareFile.{parts, filled, is_blank, words_of, share_of, line_of}
 use Rattle.qbx_share_file.specs.Steps.{reach}
-use Rattle.qbx_share_file.proofs.Laws.Parts.{parts_first, filled-others}
+use Rattle.qbx_share_file.proofs.Laws.Parts.{parts_first, filled_others}
 
 -- ---- from the front
 
-blank-by : (b : ℕ) (s : List ℕ) (t : Bool) → isBlank b ≡ t → reach isBlank (b ∷ s) ≡ 0 → words_of (b ∷ s) ≡ words_of s
+blank_by : (b : ℕ) (s : List ℕ) (t : Bool) → is_blank b ≡ t → reach is_blank (b ∷ s) ≡ 0 → words_of (b ∷ s) ≡ words_of s
 unfolding words_of parts filled reach
-blank-by b s true e h = rw e
-blank-by b s false e h = let z = rw e at h in absurd (omega arith)
+blank_by b s true e h = rw e
+blank_by b s false e h = let z = rw e at h in absurd (omega arith)
 
-word-by : (b : ℕ) (s : List ℕ) (t : Bool) → isBlank b ≡ t → 0 < reach isBlank (b ∷ s) → words_of (b ∷ s) ≡ take (reach isBlank (b ∷ s)) (b ∷ s) ∷ words_of (drop (reach isBlank (b ∷ s)) (b ∷ s))
+word_by : (b : ℕ) (s : List ℕ) (t : Bool) → is_blank b ≡ t → 0 < reach is_blank (b ∷ s) → words_of (b ∷ s) ≡ take (reach is_blank (b ∷ s)) (b ∷ s) ∷ words_of (drop (reach is_blank (b ∷ s)) (b ∷ s))
 unfolding words_of reach filled
-word-by b s true e h = let z = rw e at h in absurd (omega arith)
-word-by b s false e h =
-    rw (parts_first isBlank (b ∷ s), e) (ap (λ (ws : List (List ℕ)). (b ∷ take (reach isBlank s) s) ∷ ws) (rw e at (filled-others isBlank (b ∷ s))))
+word_by b s true e h = let z = rw e at h in absurd (omega arith)
+word_by b s false e h =
+    rw (parts_first is_blank (b ∷ s), e) (ap (λ (ws : List (List ℕ)). (b ∷ take (reach is_blank s) s) ∷ ws) (rw e at (filled_others is_blank (b ∷ s))))
 
-word_first : (s : List ℕ) → 0 < reach isBlank s → words_of s ≡ take (reach isBlank s) s ∷ words_of (drop (reach isBlank s) s)
+word_first : (s : List ℕ) → 0 < reach is_blank s → words_of s ≡ take (reach is_blank s) s ∷ words_of (drop (reach is_blank s) s)
 unfolding reach
 word_first [] h = absurd (omega arith)
-word_first (b ∷ s) h = word-by b s (isBlank b) refl h
+word_first (b ∷ s) h = word_by b s (is_blank b) refl h
 
 -- ---- at an offset, with the next blank at `end`
 
-module _ (line : List ℕ) (at end : ℕ) (found : end ≡ at + reach isBlank (drop at line)) where
-  pub words-blank : at < length line → end ≡ at → words_of (drop at line) ≡ words_of (drop (at + 1) line)
-  words-blank h e =
-      let r : reach isBlank (drop at line) ≡ 0 = omega arith in
-      let z : reach isBlank (get_or line at 0 ∷ drop (suc at) line) ≡ 0 = rw (drop-cons line at 0 h) at r in
-      rw (drop-cons line at 0 h, add-one) (blank-by (get_or line at 0) (drop (suc at) line) (isBlank (get_or line at 0)) refl z)
+module _ (line : List ℕ) (at end : ℕ) (found : end ≡ at + reach is_blank (drop at line)) where
+  pub words_blank : at < length line → end ≡ at → words_of (drop at line) ≡ words_of (drop (at + 1) line)
+  words_blank h e =
+      let r : reach is_blank (drop at line) ≡ 0 = omega arith in
+      let z : reach is_blank (get_or line at 0 ∷ drop (suc at) line) ≡ 0 = rw (drop-cons line at 0 h) at r in
+      rw (drop-cons line at 0 h, add-one) (blank_by (get_or line at 0) (drop (suc at) line) (is_blank (get_or line at 0)) refl z)
 
-  words-word : at < end → words_of (drop at line) ≡ take (end - at) (drop at line) ∷ words_of (drop end line)
-  words-word h =
-      let r : reach isBlank (drop at line) ≡ end - at = omega arith in
+  words_word : at < end → words_of (drop at line) ≡ take (end - at) (drop at line) ∷ words_of (drop end line)
+  words_word h =
+      let r : reach is_blank (drop at line) ≡ end - at = omega arith in
       let d : at + (end - at) ≡ end = omega arith in
       rw (word_first (drop at line) (omega arith), r, drop-drop (end - at) at line, d)
 
-  pub word-here : (left : ℕ) → at < end → left ≡ 0 → take (end - at) (drop at line) ≡ get_or (words_of (drop at line)) left []
-  word-here left h e = rw (e, words-word h)
+  pub word_here : (left : ℕ) → at < end → left ≡ 0 → take (end - at) (drop at line) ≡ get_or (words_of (drop at line)) left []
+  word_here left h e = rw (e, words_word h)
 
   pub word_over : (left : ℕ) → at < end → 0 < left → get_or (words_of (drop at line)) left [] ≡ get_or (words_of (drop end line)) (left - 1) []
   word_over left h l =
       let e : left ≡ suc (left - 1) = omega arith in
-      ap (λ (n : ℕ). get_or (words_of (drop at line)) n []) e ∙ rw (words-word h)
+      ap (λ (n : ℕ). get_or (words_of (drop at line)) n []) e ∙ rw (words_word h)
 
 pub word_none : (line : List ℕ) (at left : ℕ) → length line ≤ at → take (at - at) (drop at line) ≡ get_or (words_of (drop at line)) left []
 unfolding words_of parts filled
@@ -62,12 +62,12 @@ word_none line at left h = rw (drop_of_length-le line h) (take-nil {A = ℕ} (at
 
 -- ---- a word that is empty is not there
 
-pub none-behind : (ps : List (List ℕ)) (k : ℕ) → length (get_or (filled ps) k []) ≡ 0 → length (filled ps) ≤ k
+pub none_behind : (ps : List (List ℕ)) (k : ℕ) → length (get_or (filled ps) k []) ≡ 0 → length (filled ps) ≤ k
 unfolding filled
-none-behind [] k e = omega arith
-none-behind ([] ∷ ps) k e = none-behind ps k e
-none-behind ((b ∷ p) ∷ ps) zero e = absurd (omega arith)
-none-behind ((b ∷ p) ∷ ps) (suc k) e = omega (arith, none-behind ps k e)
+none_behind [] k e = omega arith
+none_behind ([] ∷ ps) k e = none_behind ps k e
+none_behind ((b ∷ p) ∷ ps) zero e = absurd (omega arith)
+none_behind ((b ∷ p) ∷ ps) (suc k) e = omega (arith, none_behind ps k e)
 
 -- ---- what words say
 
@@ -76,17 +76,17 @@ unfolding line_of
 no_word [] h = refl
 no_word (x ∷ ws) h = absurd (omega arith)
 
-pub blank-line : (line : List ℕ) → length (get_or (words_of line) 0 []) ≡ 0 → Blank ≡ line_of (words_of line)
+pub blank_line : (line : List ℕ) → length (get_or (words_of line) 0 []) ≡ 0 → Blank ≡ line_of (words_of line)
 unfolding words_of
-blank-line line e = no_word (filled (parts isBlank line)) (none-behind (parts isBlank line) 0 e)
+blank_line line e = no_word (filled (parts is_blank line)) (none_behind (parts is_blank line) 0 e)
 
-pub long-line : (ws : List (List ℕ)) → 0 < length (get_or ws 3 []) → Odd ≡ line_of ws
+pub long_line : (ws : List (List ℕ)) → 0 < length (get_or ws 3 []) → Odd ≡ line_of ws
 unfolding line_of
-long-line [] h = absurd (omega arith)
-long-line (x ∷ []) h = absurd (omega arith)
-long-line (x ∷ y ∷ []) h = absurd (omega arith)
-long-line (x ∷ y ∷ z ∷ []) h = absurd (omega arith)
-long-line (x ∷ y ∷ z ∷ w ∷ ws) h = refl
+long_line [] h = absurd (omega arith)
+long_line (x ∷ []) h = absurd (omega arith)
+long_line (x ∷ y ∷ []) h = absurd (omega arith)
+long_line (x ∷ y ∷ z ∷ []) h = absurd (omega arith)
+long_line (x ∷ y ∷ z ∷ w ∷ ws) h = refl
 
 no_second : (p r : Parsed32) → share_of p NoNumber32 r ≡ Odd
 unfolding share_of
@@ -99,16 +99,16 @@ no_third (Number32 n) (Number32 m) = refl
 no_third (Number32 n) NoNumber32 = refl
 no_third NoNumber32 q = refl
 
-up-to-three : (ws : List (List ℕ)) → (length (get_or ws 0 []) ≡ 0 → ⊥) → length ws ≤ 3 → share_of (number32Of (get_or ws 0 [])) (number32Of (get_or ws 1 [])) (number32Of (get_or ws 2 [])) ≡ line_of ws
-unfolding line_of number32Of number_of fits32
-up-to-three [] n h = absurd (n refl)
-up-to-three (x ∷ []) n h = no_second (number32Of x) NoNumber32
-up-to-three (x ∷ y ∷ []) n h = no_third (number32Of x) (number32Of y)
-up-to-three (x ∷ y ∷ z ∷ []) n h = refl
-up-to-three (x ∷ y ∷ z ∷ w ∷ ws) n h = absurd (omega arith)
+up_to_three : (ws : List (List ℕ)) → (length (get_or ws 0 []) ≡ 0 → ⊥) → length ws ≤ 3 → share_of (number32_of (get_or ws 0 [])) (number32_of (get_or ws 1 [])) (number32_of (get_or ws 2 [])) ≡ line_of ws
+unfolding line_of number32_of number_of fits32
+up_to_three [] n h = absurd (n refl)
+up_to_three (x ∷ []) n h = no_second (number32_of x) NoNumber32
+up_to_three (x ∷ y ∷ []) n h = no_third (number32_of x) (number32_of y)
+up_to_three (x ∷ y ∷ z ∷ []) n h = refl
+up_to_three (x ∷ y ∷ z ∷ w ∷ ws) n h = absurd (omega arith)
 
 -- a word and not four
-pub three-words : (line : List ℕ) (p q r : Parsed32) → (length (get_or (words_of line) 0 []) ≡ 0 → ⊥) → length (get_or (words_of line) 3 []) ≤ 0
-    → number32Of (get_or (words_of line) 0 []) ≡ p → number32Of (get_or (words_of line) 1 []) ≡ q → number32Of (get_or (words_of line) 2 []) ≡ r → share_of p q r ≡ line_of (words_of line)
+pub three_words : (line : List ℕ) (p q r : Parsed32) → (length (get_or (words_of line) 0 []) ≡ 0 → ⊥) → length (get_or (words_of line) 3 []) ≤ 0
+    → number32_of (get_or (words_of line) 0 []) ≡ p → number32_of (get_or (words_of line) 1 []) ≡ q → number32_of (get_or (words_of line) 2 []) ≡ r → share_of p q r ≡ line_of (words_of line)
 unfolding words_of
-three-words line p q r n e a b c = rw (sym a, sym b, sym c) (up-to-three (filled (parts isBlank line)) n (none-behind (parts isBlank line) 3 (omega arith)))
+three_words line p q r n e a b c = rw (sym a, sym b, sym c) (up_to_three (filled (parts is_blank line)) n (none_behind (parts is_blank line) 3 (omega arith)))

@@ -4,62 +4,62 @@ use mathlib.Core.Path.{◌≡◌, sym, ◌∙◌}
 use native.Mathlib.Omega.{arith}
 use lib.ListN.{length, drop}
 use borrow.Author.Rules.{rules}
-use Rattle.qbx_share_file.specs.ShareFile.{isBlank}
+use Rattle.qbx_share_file.specs.ShareFile.{is_blank}
 use Rattle.qbx_share_file.specs.Steps.{reach}
-use Rattle.qbx_share_file.proofs.Laws.Parts.{reach_here, reach-on, reach-none}
+use Rattle.qbx_share_file.proofs.Laws.Parts.{reach_here, reach_on, reach_none}
 use Rattle.qbx_share_file.proofs.blank_from.Statement.{statement}
 use Rattle.qbx_share_file.proofs.blank_from.Tie as tie
 
-abbrev invariant-loop : tie.invariant-loop
-invariant-loop line at i₀ i = (i ≤ length line) × (i + reach isBlank (drop i line) ≡ at + reach isBlank (drop at line))
+abbrev invariant_loop : tie.invariant-loop
+invariant_loop line at i₀ i = (i ≤ length line) × (i + reach is_blank (drop i line) ≡ at + reach is_blank (drop at line))
 
-abbrev decreases-loop : tie.decreases-loop
-decreases-loop line at i₀ i = length line - i
+abbrev decreases_loop : tie.decreases-loop
+decreases_loop line at i₀ i = length line - i
 
-loop-holds : tie.Need-loop-init invariant-loop decreases-loop
-loop-holds c = search rules
+loop_holds : tie.Need-loop-init invariant_loop decreases_loop
+loop_holds c = search rules
 
-shared-slice-read-is-blank : tie.Need-shared-slice-read-is-blank invariant-loop decreases-loop
-shared-slice-read-is-blank c = search rules
+shared_slice_read_is_blank : tie.Need-shared-slice-read-is-blank invariant_loop decreases_loop
+shared_slice_read_is_blank c = search rules
 
-is-blank-requires : tie.Need-is-blank-requires invariant-loop decreases-loop
-is-blank-requires c κs = search rules
+is_blank_requires : tie.Need-is-blank-requires invariant_loop decreases_loop
+is_blank_requires c κs = search rules
 
-returns : tie.Need-returns invariant-loop decreases-loop
+returns : tie.Need-returns invariant_loop decreases_loop
 returns c =
     let k = c.before.before.before.before in
-    let r = reach_here isBlank k.before.before.args.line.now k.loop.i c.before.before.before.loop-test.true (sym c.before.is-blank.ensures ∙ c.if1.true) in
+    let r = reach_here is_blank k.before.before.args.line.now k.loop.i c.before.before.before.loop-test.true (sym c.before.is-blank.ensures ∙ c.if1.true) in
     (omega (arith, r, k.loop.invariant.1), omega arith)
 
-add-i : tie.Need-overflow-add-i invariant-loop decreases-loop
-add-i c = search rules
+add_i : tie.Need-overflow-add-i invariant_loop decreases_loop
+add_i c = search rules
 
-loop-less : tie.Need-loop-smaller invariant-loop decreases-loop
-loop-less c = search rules
+loop_less : tie.Need-loop-smaller invariant_loop decreases_loop
+loop_less c = search rules
 
-loop-again : tie.Need-loop-preserved invariant-loop decreases-loop
-loop-again c =
+loop_again : tie.Need-loop-preserved invariant_loop decreases_loop
+loop_again c =
     let k = c.before.before.before.before in
-    let r = reach-on isBlank k.before.before.args.line.now k.loop.i c.before.before.before.loop-test.true (sym c.before.is-blank.ensures ∙ c.if1.false) in
+    let r = reach_on is_blank k.before.before.args.line.now k.loop.i c.before.before.before.loop-test.true (sym c.before.is-blank.ensures ∙ c.if1.false) in
     (omega arith, omega (arith, r, k.loop.invariant.1))
 
-returns-2 : tie.Need-returns-2 invariant-loop decreases-loop
-returns-2 c =
+returns_2 : tie.Need-returns-2 invariant_loop decreases_loop
+returns_2 c =
     let k = c.before in
-    let r = reach-none isBlank k.before.before.args.line.now k.loop.i c.loop-test.false in
+    let r = reach_none is_blank k.before.before.args.line.now k.loop.i c.loop-test.false in
     (omega (arith, r, k.loop.invariant.1), omega arith)
 
-pub blank-from-spec : {M : Type 1} → statement M
-blank-from-spec =
+pub blank_from_spec : {M : Type 1} → statement M
+blank_from_spec =
     tie.close
     (tie.spec
-    invariant-loop
-    decreases-loop
-    loop-holds
-    shared-slice-read-is-blank
-    is-blank-requires
+    invariant_loop
+    decreases_loop
+    loop_holds
+    shared_slice_read_is_blank
+    is_blank_requires
     returns
-    add-i
-    loop-less
-    loop-again
-    returns-2)
+    add_i
+    loop_less
+    loop_again
+    returns_2)

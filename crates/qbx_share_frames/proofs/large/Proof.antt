@@ -1,20 +1,20 @@
 -- `qbx_share_frames::large`: the buffer holds the image and a byte more. Assumes nothing.
 use native.Mathlib.Omega.{arith}
-use Rattle.qbx_rooms.specs.Rooms.{forBuffer, roomOf}
+use Rattle.qbx_rooms.specs.Rooms.{for_buffer, room_of}
 use Rattle.qbx_rooms.proofs.Laws.{as_many, longer}
 use borrow.Author.Rules.{rules}
 use Rattle.qbx_share_frames.proofs.large.Statement.{statement}
 use Rattle.qbx_share_frames.proofs.large.Tie as tie
 
-slice-aggregate-obey : tie.Need-slice-aggregate-obey
-slice-aggregate-obey c = as_many 16711681 255
+slice_aggregate_obey : tie.Need-slice-aggregate-obey
+slice_aggregate_obey c = as_many 16711681 255
 
-obey-requires : tie.Need-obey-requires
-unfolding roomOf forBuffer
-obey-requires c κs = longer 16711681 _ 255 (omega (arith, c.before.before.before.before.before.before.requires.0))
+obey_requires : tie.Need-obey-requires
+unfolding room_of for_buffer
+obey_requires c κs = longer 16711681 _ 255 (omega (arith, c.before.before.before.before.before.before.requires.0))
 
 returns : tie.Need-returns
 returns c = search rules
 
-pub large-spec : {M : Type 1} → statement M
-large-spec = tie.close (tie.spec slice-aggregate-obey obey-requires returns)
+pub large_spec : {M : Type 1} → statement M
+large_spec = tie.close (tie.spec slice_aggregate_obey obey_requires returns)

@@ -1,5 +1,5 @@
 -- `qbx_share_request::perform`: each verb is the layer's request. Assumes nothing.
-use Rattle.qbx_share_request.specs.ShareRequest.{askedBy, carriedBy}
+use Rattle.qbx_share_request.specs.ShareRequest.{asked_by, carried_by}
 use Rattle.qbx_share_request.proofs.Laws.{written, read}
 use borrow.Author.Rules.{rules}
 use Rattle.qbx_share_request.proofs.perform.Statement.{statement}
@@ -8,61 +8,61 @@ use Rattle.qbx_share_request.proofs.perform.Tie as tie
 enum_told : tie.Need-enum-told
 enum_told c = search rules
 
-put-requires : tie.Need-put-requires
-put-requires c κs = search rules
+put_requires : tie.Need-put-requires
+put_requires c κs = search rules
 
-enum-told-2 : tie.Need-enum-told-2
-enum-told-2 c = search rules
+enum_told_2 : tie.Need-enum-told-2
+enum_told_2 c = search rules
 
-read-requires : tie.Need-read-requires
-read-requires c κs = search rules
+read_requires : tie.Need-read-requires
+read_requires c κs = search rules
 
-enum-told-3 : tie.Need-enum-told-3
-enum-told-3 c = search rules
+enum_told_3 : tie.Need-enum-told-3
+enum_told_3 c = search rules
 
-delete-requires : tie.Need-delete-requires
-delete-requires c κs = search rules
+delete_requires : tie.Need-delete-requires
+delete_requires c κs = search rules
 
 same_length : tie.Need-same-length
 same_length c = search rules
 
 returns : tie.Need-returns
-unfolding carriedBy askedBy
+unfolding carried_by asked_by
 returns c = rw c.before.before.before.before.enum_told.given.1 (written _ _ _ _ c.before.before.put.ensures)
 
-same-length-2 : tie.Need-same-length-2
-same-length-2 c = search rules
+same_length_2 : tie.Need-same-length-2
+same_length_2 c = search rules
 
-same-length-3 : tie.Need-same-length-3
-same-length-3 c = search rules
+same_length_3 : tie.Need-same-length-3
+same_length_3 c = search rules
 
-returns-2 : tie.Need-returns-2
-unfolding carriedBy askedBy
-returns-2 c =
+returns_2 : tie.Need-returns-2
+unfolding carried_by asked_by
+returns_2 c =
     let a = c.before.before.before.before.before.before.before.before.before.before.before.before.args in
     rw c.before.before.before.before.before.enum-told2.given.1 (read _ _ _ _ _ _ a.given.now _ _ c.before.before.read.ensures.0)
 
-same-length-4 : tie.Need-same-length-4
-same-length-4 c = search rules
+same_length_4 : tie.Need-same-length-4
+same_length_4 c = search rules
 
-returns-3 : tie.Need-returns-3
-unfolding carriedBy askedBy
-returns-3 c = rw c.before.before.before.before.enum-told3.given.1 (written _ _ _ _ c.before.before.delete.ensures)
+returns_3 : tie.Need-returns-3
+unfolding carried_by asked_by
+returns_3 c = rw c.before.before.before.before.enum-told3.given.1 (written _ _ _ _ c.before.before.delete.ensures)
 
-pub perform-spec : {M : Type 1} → statement M
-perform-spec =
+pub perform_spec : {M : Type 1} → statement M
+perform_spec =
     tie.close
     (tie.spec
     enum_told
-    put-requires
-    enum-told-2
-    read-requires
-    enum-told-3
-    delete-requires
+    put_requires
+    enum_told_2
+    read_requires
+    enum_told_3
+    delete_requires
     same_length
     returns
-    same-length-2
-    same-length-3
-    returns-2
-    same-length-4
-    returns-3)
+    same_length_2
+    same_length_3
+    returns_2
+    same_length_4
+    returns_3)

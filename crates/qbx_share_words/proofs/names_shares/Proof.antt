@@ -3,59 +3,59 @@ use mathlib.Core.Path.{◌≡◌, sym, ◌∙◌}
 use mathlib.Core.Bool.{true, false}
 use Rattle.model.specs.Lists.{same}
 use Rattle.text.specs.Text.{text}
-use Rattle.qbx_share_words.specs.Share.{namesShares}
+use Rattle.qbx_share_words.specs.Share.{names_shares}
 use borrow.Author.Rules.{rules}
 use Rattle.qbx_share_words.proofs.names_shares.Statement.{statement}
 use Rattle.qbx_share_words.proofs.names_shares.Tie as tie
 
-slice-aggregate-is : tie.Need-slice-aggregate-is
-slice-aggregate-is c = search rules
+slice_aggregate_is : tie.Need-slice-aggregate-is
+slice_aggregate_is c = search rules
 
-is-requires : tie.Need-is-requires
-is-requires c κs = search rules
+is_requires : tie.Need-is-requires
+is_requires c κs = search rules
 
 returns : tie.Need-returns
-unfolding text namesShares
+unfolding text names_shares
 returns c =
     let put : same c.before.before.before.before.args.verb.now (text "share-put") ≡ true = sym c.before.is.ensures ∙ c.if1.true in
     rw put
 
-slice-aggregate-is-2 : tie.Need-slice-aggregate-is-2
-slice-aggregate-is-2 c = search rules
+slice_aggregate_is_2 : tie.Need-slice-aggregate-is-2
+slice_aggregate_is_2 c = search rules
 
-is-requires-2 : tie.Need-is-requires-2
-is-requires-2 c κs = search rules
+is_requires_2 : tie.Need-is-requires-2
+is_requires_2 c κs = search rules
 
-returns-2 : tie.Need-returns-2
-unfolding text namesShares
-returns-2 c =
+returns_2 : tie.Need-returns-2
+unfolding text names_shares
+returns_2 c =
     let put : same c.before.before.before.before.before.before.before.args.verb.now (text "share-put") ≡ false = sym c.before.before.before.before.is.ensures ∙ c.before.before.before.if1.false in
     let get : same c.before.before.before.before.before.before.before.args.verb.now (text "share-get") ≡ true = sym c.before.is2.ensures ∙ c.if2.true in
     rw (put, get)
 
-slice-aggregate-is-3 : tie.Need-slice-aggregate-is-3
-slice-aggregate-is-3 c = search rules
+slice_aggregate_is_3 : tie.Need-slice-aggregate-is-3
+slice_aggregate_is_3 c = search rules
 
-is-requires-3 : tie.Need-is-requires-3
-is-requires-3 c κs = search rules
+is_requires_3 : tie.Need-is-requires-3
+is_requires_3 c κs = search rules
 
-returns-3 : tie.Need-returns-3
-unfolding text namesShares
-returns-3 c =
+returns_3 : tie.Need-returns-3
+unfolding text names_shares
+returns_3 c =
     let put : same c.before.before.before.before.before.before.before.before.before.args.verb.now (text "share-put") ≡ false = sym c.before.before.before.before.before.before.is.ensures ∙ c.before.before.before.before.before.if1.false in
     let get : same c.before.before.before.before.before.before.before.before.before.args.verb.now (text "share-get") ≡ false = sym c.before.before.before.is2.ensures ∙ c.before.before.if2.false in
     rw (put, get) c.is3.ensures
 
-pub names-shares-spec : {M : Type 1} → statement M
-names-shares-spec =
+pub names_shares_spec : {M : Type 1} → statement M
+names_shares_spec =
     tie.close
     (tie.spec
-    slice-aggregate-is
-    is-requires
+    slice_aggregate_is
+    is_requires
     returns
-    slice-aggregate-is-2
-    is-requires-2
-    returns-2
-    slice-aggregate-is-3
-    is-requires-3
-    returns-3)
+    slice_aggregate_is_2
+    is_requires_2
+    returns_2
+    slice_aggregate_is_3
+    is_requires_3
+    returns_3)

@@ -45,9 +45,9 @@ use Rattle.libc.specs.declared.types.rlimit.{rlimit}
 use Rattle.libc.proofs.types.rlimit as T
 use Rattle.libc.proofs.types.rlimit.TheLaws as T'
 use Rattle.libc.proofs.getrlimit as getrlimit
-use Rattle.libc.proofs.getrlimit.Symbol as getrlimit-def
+use Rattle.libc.proofs.getrlimit.Symbol as getrlimit_def
 use Rattle.libc.proofs.getrlimit.Symbol.{name as #libc·getrlimit}
-use Rattle.libc.proofs.getrlimit.Met as getrlimit-thm
+use Rattle.libc.proofs.getrlimit.Met as getrlimit_thm
 use Rattle.qbx_stack.specs.contracts.allowed.Key.{name as #qbx-stack·allowed}
 use Rattle.qbx_stack.specs.contracts.allowed as allowed
 use Rattle.qbx_stack.proofs.allowed.Statement as stated
@@ -78,16 +78,16 @@ module _ {M : Type 1} {𝓤 : Ura M} (𝓛 : Logic 𝓤) (at_mem : Memory → SP
       owned ! u64 (Is u64) (uint_Makes 𝓛 w64) n _ (refl, fits) $ nothing ! $ join ! $ nothing ! $ join ! $ frame ! $ done !
 
   -- the struct behind a reference for the lifetime α under the name δ
-  abbrev ref-at : ℕ → GName → ℕ → Fml
-  ref-at α δ l = (MutRef (named 0) (α ∷ []) T.the_row).own_val (record { ref_ptr = (l, 0); ghost_name = δ; now = none }) (vptr l 0 ∷ [])
+  abbrev ref_at : ℕ → GName → ℕ → Fml
+  ref_at α δ l = (MutRef (named 0) (α ∷ []) T.the_row).own_val (record { ref_ptr = (l, 0); ghost_name = δ; now = none }) (vptr l 0 ∷ [])
 
   -- what `getrlimit`'s triple binds outside: RLIMIT_STACK, and that reference
   abbrev at_call : ℕ → GName → ℕ → Get.Ghost
   at_call α δ l = (((α ∷ [], tt), (full_share, tt), tt, (pos 3, (record { ref_ptr = (l, 0); ghost_name = δ; now = none }, tt)), (vint w32 3 ∷ [], (vptr l 0 ∷ [], tt))), tt)
 
-  goes : (α : ℕ) (δ : GName) (l : ℕ) → ent 𝓤 (sep 𝓤 (A.lft (α ∷ []) full_share) (sem 𝓛 (ref-at α δ l))) (Get.pre (at_call α δ l))
+  goes : (α : ℕ) (δ : GName) (l : ℕ) → ent 𝓤 (sep 𝓤 (A.lft (α ∷ []) full_share) (sem 𝓛 (ref_at α δ l))) (Get.pre (at_call α δ l))
   goes α δ l =
-      qed 𝓛 (‵ (flft (α ∷ []) full_share) ∷ ‵ (ref-at α δ l) ∷ []) ∵ move ! (1 ∷ []) $ nothing ! $ move ! (1 ∷ 0 ∷ []) $ fjoin ! $
+      qed 𝓛 (‵ (flft (α ∷ []) full_share) ∷ ‵ (ref_at α δ l) ∷ []) ∵ move ! (1 ∷ []) $ nothing ! $ move ! (1 ∷ 0 ∷ []) $ fjoin ! $
       owned ! i32 (Is i32) (sint_Makes 𝓛 w32) (pos 3) (vint w32 3 ∷ []) (refl, lit< tt) $ fjoin ! $ nothing ! $ move ! (2 ∷ 0 ∷ []) $ join ! $ join ! $ frame ! $ done !
 
   -- the struct has a last value, of which nothing is said
@@ -109,7 +109,7 @@ module _ {M : Type 1} {𝓤 : Ura M} (𝓛 : Logic 𝓤) (at_mem : Memory → SP
         owned ! T.the_row (Is T.the_row) (LL.makes T.the_type T'.the_plain 𝓛) none (vals none) made $ move ! (1 ∷ 0 ∷ []) $ fjoin ! $
         fpack ! (List Val) (λ us. fsep (cell_at full_share (T.the_row).mir us l₁ 0) ((T.the_row).own_val none us)) (vals none) $
         lft_new ! tt (λ α. move ! (1 ∷ []) $
-        use1 𝓛 (later (some (λ (δ : GName). ‵ (ref-at α δ l₁) ⊛ ‵ (flent (α ∷ []) (Body (mem T.the_row) l₁ 0 δ))))) (lends_ref 𝓛 T.the_row (named 0) (α ∷ []) none l₁ 0) $ await ! tt $ pick ! (λ δ. split ! $
+        use1 𝓛 (later (some (λ (δ : GName). ‵ (ref_at α δ l₁) ⊛ ‵ (flent (α ∷ []) (Body (mem T.the_row) l₁ 0 δ))))) (lends_ref 𝓛 T.the_row (named 0) (α ∷ []) none l₁ 0) $ await ! tt $ pick ! (λ δ. split ! $
         move ! (2 ∷ 0 ∷ []) $ use2 𝓛 (raw (Get.pre (at_call α δ l₁))) (goes α δ l₁) $
         -- [what the call asks; the lender's part; _3; …; _2; …; …; _0; …]
         calls_at ! fm Get known (at_call α δ l₁) (and_then ! (lit ! tt) (and_then ! (load ! (from ! (stop !)) (look ! 2 refl)) (no_more !))) (λ v.
@@ -126,16 +126,16 @@ module _ {M : Type 1} {𝓤 : Ura M} (𝓛 : Logic 𝓤) (at_mem : Memory → SP
         returns ! (look ! 8 refl) $ forget ! 0 refl $ forget ! 3 refl $ forget ! 5 refl $ forget ! 8 refl $
         move ! (8 ∷ 9 ∷ []) $ free1 ! $ move ! (0 ∷ 7 ∷ []) $ free1 ! $ move ! (4 ∷ 5 ∷ []) $ free1 ! $ move ! (2 ∷ 3 ∷ []) $ free1 ! $ free0 ! $ keep ! [] $ by ! (exits h.rlim_cur (LL.owed T.the_type T'.the_laws h _ g).0.1)))))))))))))
 
-  allowed-walks : (C : Calls 𝓤 H) (Λ : Loops 𝓤 H) → FmC 𝓤 H 𝓛.laws C → Triple 𝓤 (C #libc·getrlimit) Get → Walks 𝓛 allowed.ended tt (WpFn 𝓤 H C Λ code.function) (allowed.clauses 𝓛 at_mem run)
-  allowed-walks C Λ fm known = walked 𝓛 allowed.ended tt (allowed.clauses 𝓛 at_mem run) (WpFn 𝓤 H C Λ code.function) (λ κs. tt) (λ κs. tt) (λ κs qs bounds a g are. via 𝓤 _ (fst∗ 𝓤 _ (emp 𝓤)) (walk C Λ fm known))
+  allowed_walks : (C : Calls 𝓤 H) (Λ : Loops 𝓤 H) → FmC 𝓤 H 𝓛.laws C → Triple 𝓤 (C #libc·getrlimit) Get → Walks 𝓛 allowed.ended tt (WpFn 𝓤 H C Λ code.function) (allowed.clauses 𝓛 at_mem run)
+  allowed_walks C Λ fm known = walked 𝓛 allowed.ended tt (allowed.clauses 𝓛 at_mem run) (WpFn 𝓤 H C Λ code.function) (λ κs. tt) (λ κs. tt) (λ κs qs bounds a g are. via 𝓤 _ (fst∗ 𝓤 _ (emp 𝓤)) (walk C Λ fm known))
 
-  allowed-meets : (𝓣 : Tables 𝓤 H) → Triple 𝓤 (𝓣.C #libc·getrlimit) Get → Meets 𝓛 allowed.signature (WpFn 𝓤 H 𝓣.C 𝓣.Λ code.function) (allowed.spec 𝓛 at_mem run)
-  allowed-meets 𝓣 known = walk_Meets 𝓛 allowed.ended tt tt (allowed.clauses 𝓛 at_mem run) (WpFn 𝓤 H 𝓣.C 𝓣.Λ code.function) (WpFn-mono 𝓤 H 𝓛.laws 𝓣 code.function) (allowed-walks 𝓣.C 𝓣.Λ (fm_of 𝓤 H 𝓛.laws 𝓣) known)
+  allowed_meets : (𝓣 : Tables 𝓤 H) → Triple 𝓤 (𝓣.C #libc·getrlimit) Get → Meets 𝓛 allowed.signature (WpFn 𝓤 H 𝓣.C 𝓣.Λ code.function) (allowed.spec 𝓛 at_mem run)
+  allowed_meets 𝓣 known = walk_Meets 𝓛 allowed.ended tt tt (allowed.clauses 𝓛 at_mem run) (WpFn 𝓤 H 𝓣.C 𝓣.Λ code.function) (WpFn-mono 𝓤 H 𝓛.laws 𝓣 code.function) (allowed_walks 𝓣.C 𝓣.Λ (fm_of 𝓤 H 𝓛.laws 𝓣) known)
 
-pub allowed-spec : {M : Type 1} → stated.statement M
+pub allowed_spec : {M : Type 1} → stated.statement M
 unfolding code.routine tables_of
-allowed-spec 𝓤 𝓛 𝓜 𝓡 =
+allowed_spec 𝓤 𝓛 𝓜 𝓡 =
     entered 𝓤 𝓛.H (triple_of 𝓛 allowed.signature (allowed.spec 𝓛 𝓜.mem 𝓡.run))
     (tables 𝓤 𝓛.H 𝓜 𝓡 code.env).C (tables 𝓤 𝓛.H 𝓜 𝓡 code.env).Λ #qbx-stack·allowed code.function (code.unfolded 𝓤 𝓛.H 𝓜 𝓡)
-    (allowed-meets 𝓛 𝓜.mem 𝓡.run (tables_of 𝓤 𝓛.H 𝓜 (tables 𝓤 𝓛.H 𝓜 𝓡 code.env))
-    (cited 𝓤 𝓛.H (Get 𝓛 𝓜.mem 𝓡.run) 𝓜 𝓡 code.env #libc·getrlimit getrlimit-def.routine code.calls-libc::getrlimit (getrlimit-thm.met 𝓤 𝓛 𝓜 𝓡)))
+    (allowed_meets 𝓛 𝓜.mem 𝓡.run (tables_of 𝓤 𝓛.H 𝓜 (tables 𝓤 𝓛.H 𝓜 𝓡 code.env))
+    (cited 𝓤 𝓛.H (Get 𝓛 𝓜.mem 𝓡.run) 𝓜 𝓡 code.env #libc·getrlimit getrlimit_def.routine code.calls-libc::getrlimit (getrlimit_thm.met 𝓤 𝓛 𝓜 𝓡)))

@@ -9,51 +9,51 @@ use Rattle.qbx_state.proofs.add_top.Tie as tie
 enum_told : tie.Need-enum-told
 enum_told c = search rules
 
-slice-aggregate-add : tie.Need-slice-aggregate-add
-slice-aggregate-add c = search rules
+slice_aggregate_add : tie.Need-slice-aggregate-add
+slice_aggregate_add c = search rules
 
-add-requires : tie.Need-add-requires
-add-requires c κs = search rules
+add_requires : tie.Need-add-requires
+add_requires c κs = search rules
 
-enum-told-2 : tie.Need-enum-told-2
-enum-told-2 c = search rules
+enum_told_2 : tie.Need-enum-told-2
+enum_told_2 c = search rules
 
-slice-aggregate-add-2 : tie.Need-slice-aggregate-add-2
-slice-aggregate-add-2 c = search rules
+slice_aggregate_add_2 : tie.Need-slice-aggregate-add-2
+slice_aggregate_add_2 c = search rules
 
-add-requires-2 : tie.Need-add-requires-2
-add-requires-2 c κs = search rules
+add_requires_2 : tie.Need-add-requires-2
+add_requires_2 c κs = search rules
 
-enum-known-top : tie.Need-enum-known-top
-enum-known-top c = search rules
+enum_known_top : tie.Need-enum-known-top
+enum_known_top c = search rules
 
-add-tally-requires : tie.Need-add-tally-requires
-add-tally-requires c κs = search rules
+add_tally_requires : tie.Need-add-tally-requires
+add_tally_requires c κs = search rules
 
 returns : tie.Need-returns
 unfolding text top_text
 returns c = rw c.before.before.enum_told.given.1 (c.add.ensures, omega arith)
 
-returns-2 : tie.Need-returns-2
+returns_2 : tie.Need-returns-2
 unfolding text top_text
-returns-2 c = rw c.before.before.enum-told2.given.1 (c.add2.ensures, omega arith)
+returns_2 c = rw c.before.before.enum-told2.given.1 (c.add2.ensures, omega arith)
 
-returns-3 : tie.Need-returns-3
+returns_3 : tie.Need-returns-3
 unfolding text top_text
-returns-3 c = rw c.before.before.top.given.1 c.add-tally.ensures
+returns_3 c = rw c.before.before.top.given.1 c.add-tally.ensures
 
-pub add-top-spec : {M : Type 1} → statement M
-add-top-spec =
+pub add_top_spec : {M : Type 1} → statement M
+add_top_spec =
     tie.close
     (tie.spec
     enum_told
-    slice-aggregate-add
-    add-requires
-    enum-told-2
-    slice-aggregate-add-2
-    add-requires-2
-    enum-known-top
-    add-tally-requires
+    slice_aggregate_add
+    add_requires
+    enum_told_2
+    slice_aggregate_add_2
+    add_requires_2
+    enum_known_top
+    add_tally_requires
     returns
-    returns-2
-    returns-3)
+    returns_2
+    returns_3)

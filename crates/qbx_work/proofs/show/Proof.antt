@@ -6,14 +6,14 @@ use borrow.Author.Rules.{rules}
 use Rattle.qbx_work.proofs.show.Statement.{statement}
 use Rattle.qbx_work.proofs.show.Tie as tie
 
-present-requires : tie.Need-present-requires
-present-requires c κs = search rules
+present_requires : tie.Need-present-requires
+present_requires c κs = search rules
 
-slice-aggregate-fail : tie.Need-slice-aggregate-fail
-slice-aggregate-fail c = search rules
+slice_aggregate_fail : tie.Need-slice-aggregate-fail
+slice_aggregate_fail c = search rules
 
-fail-requires : tie.Need-fail-requires
-fail-requires c κs = search rules
+fail_requires : tie.Need-fail-requires
+fail_requires c κs = search rules
 
 same_length : tie.Need-same-length
 same_length c = search rules
@@ -21,116 +21,116 @@ same_length c = search rules
 returns : tie.Need-returns
 returns c = search rules
 
-slice-reshare-prefix-describe : tie.Need-slice-reshare-prefix-describe
-slice-reshare-prefix-describe c = search rules
+slice_reshare_prefix_describe : tie.Need-slice-reshare-prefix-describe
+slice_reshare_prefix_describe c = search rules
 
-slice-aggregate-describe : tie.Need-slice-aggregate-describe
-slice-aggregate-describe c = sym (length-take-le _ _ (omega arith))
+slice_aggregate_describe : tie.Need-slice-aggregate-describe
+slice_aggregate_describe c = sym (length-take-le _ _ (omega arith))
 
-describe-requires : tie.Need-describe-requires
-describe-requires c κs = search rules
+describe_requires : tie.Need-describe-requires
+describe_requires c κs = search rules
 
 enum_told : tie.Need-enum-told
 enum_told c = search rules
 
-slice-aggregate-write-all : tie.Need-slice-aggregate-write-all
-slice-aggregate-write-all c = search rules
+slice_aggregate_write_all : tie.Need-slice-aggregate-write-all
+slice_aggregate_write_all c = search rules
 
-write-all-requires : tie.Need-write-all-requires
-write-all-requires c κs = search rules
+write_all_requires : tie.Need-write-all-requires
+write_all_requires c κs = search rules
 
-same-length-2 : tie.Need-same-length-2
-same-length-2 c = search rules
+same_length_2 : tie.Need-same-length-2
+same_length_2 c = search rules
 
-same-length-3 : tie.Need-same-length-3
-same-length-3 c = search rules
+same_length_3 : tie.Need-same-length-3
+same_length_3 c = search rules
 
-returns-2 : tie.Need-returns-2
-returns-2 c = search rules
+returns_2 : tie.Need-returns-2
+returns_2 c = search rules
 
-enum-told-2 : tie.Need-enum-told-2
-enum-told-2 c = search rules
+enum_told_2 : tie.Need-enum-told-2
+enum_told_2 c = search rules
 
-tell-requires : tie.Need-tell-requires
-tell-requires c κs = search rules
+tell_requires : tie.Need-tell-requires
+tell_requires c κs = search rules
 
-same-length-4 : tie.Need-same-length-4
-same-length-4 c = search rules
+same_length_4 : tie.Need-same-length-4
+same_length_4 c = search rules
 
-same-length-5 : tie.Need-same-length-5
-same-length-5 c = search rules
+same_length_5 : tie.Need-same-length-5
+same_length_5 c = search rules
 
-returns-3 : tie.Need-returns-3
-returns-3 c = search rules
+returns_3 : tie.Need-returns-3
+returns_3 c = search rules
 
-slice-reshare-prefix-write-all : tie.Need-slice-reshare-prefix-write-all
-slice-reshare-prefix-write-all c = search rules
+slice_reshare_prefix_write_all : tie.Need-slice-reshare-prefix-write-all
+slice_reshare_prefix_write_all c = search rules
 
-slice-aggregate-write-all-2 : tie.Need-slice-aggregate-write-all-2
-slice-aggregate-write-all-2 c = sym (length-take-le _ _ (omega (arith, c.before.before.before.before.before.describe.ensures.1)))
+slice_aggregate_write_all_2 : tie.Need-slice-aggregate-write-all-2
+slice_aggregate_write_all_2 c = sym (length-take-le _ _ (omega (arith, c.before.before.before.before.before.describe.ensures.1)))
 
-write-all-requires-2 : tie.Need-write-all-requires-2
-write-all-requires-2 c κs = search rules
+write_all_requires_2 : tie.Need-write-all-requires-2
+write_all_requires_2 c κs = search rules
 
-slice-aggregate-fail-2 : tie.Need-slice-aggregate-fail-2
-slice-aggregate-fail-2 c = search rules
+slice_aggregate_fail_2 : tie.Need-slice-aggregate-fail-2
+slice_aggregate_fail_2 c = search rules
 
-slice-aggregate-fail-3 : tie.Need-slice-aggregate-fail-3
-slice-aggregate-fail-3 c = search rules
+slice_aggregate_fail_3 : tie.Need-slice-aggregate-fail-3
+slice_aggregate_fail_3 c = search rules
 
-fail-requires-2 : tie.Need-fail-requires-2
-fail-requires-2 c κs = search rules
+fail_requires_2 : tie.Need-fail-requires-2
+fail_requires_2 c κs = search rules
 
-same-length-6 : tie.Need-same-length-6
-same-length-6 c = search rules
+same_length_6 : tie.Need-same-length-6
+same_length_6 c = search rules
 
-same-length-7 : tie.Need-same-length-7
-same-length-7 c = search rules
+same_length_7 : tie.Need-same-length-7
+same_length_7 c = search rules
 
-returns-4 : tie.Need-returns-4
-returns-4 c = search rules
+returns_4 : tie.Need-returns-4
+returns_4 c = search rules
 
-same-length-8 : tie.Need-same-length-8
-same-length-8 c = search rules
+same_length_8 : tie.Need-same-length-8
+same_length_8 c = search rules
 
-same-length-9 : tie.Need-same-length-9
-same-length-9 c = search rules
+same_length_9 : tie.Need-same-length-9
+same_length_9 c = search rules
 
-returns-5 : tie.Need-returns-5
-returns-5 c = search rules
+returns_5 : tie.Need-returns-5
+returns_5 c = search rules
 
-pub show-spec : {M : Type 1} → statement M
-show-spec =
+pub show_spec : {M : Type 1} → statement M
+show_spec =
     tie.close
     (tie.spec
-    present-requires
-    slice-aggregate-fail
-    fail-requires
+    present_requires
+    slice_aggregate_fail
+    fail_requires
     same_length
     returns
-    slice-reshare-prefix-describe
-    slice-aggregate-describe
-    describe-requires
+    slice_reshare_prefix_describe
+    slice_aggregate_describe
+    describe_requires
     enum_told
-    slice-aggregate-write-all
-    write-all-requires
-    same-length-2
-    same-length-3
-    returns-2
-    enum-told-2
-    tell-requires
-    same-length-4
-    same-length-5
-    returns-3
-    slice-reshare-prefix-write-all
-    slice-aggregate-write-all-2
-    write-all-requires-2
-    slice-aggregate-fail-2
-    slice-aggregate-fail-3
-    fail-requires-2
-    same-length-6
-    same-length-7
-    returns-4
-    same-length-8
-    same-length-9
-    returns-5)
+    slice_aggregate_write_all
+    write_all_requires
+    same_length_2
+    same_length_3
+    returns_2
+    enum_told_2
+    tell_requires
+    same_length_4
+    same_length_5
+    returns_3
+    slice_reshare_prefix_write_all
+    slice_aggregate_write_all_2
+    write_all_requires_2
+    slice_aggregate_fail_2
+    slice_aggregate_fail_3
+    fail_requires_2
+    same_length_6
+    same_length_7
+    returns_4
+    same_length_8
+    same_length_9
+    returns_5)

@@ -6,66 +6,66 @@ use native.Mathlib.Omega.{arith}
 use lib.ListN.{length, take, length-set}
 use lib.Seq.{take_all}
 use borrow.Author.Rules.{rules}
-use Rattle.model.specs.Chip.{mostSegments}
-use Rattle.model.specs.State.{blank, numberAfter, segmentsOf}
-use Rattle.model.specs.Laws.Segments.{segments-length}
+use Rattle.model.specs.Chip.{most_segments}
+use Rattle.model.specs.State.{blank, number_after, segments_of}
+use Rattle.model.specs.Laws.Segments.{segments_length}
 use Rattle.descent.specs.Filled.{fill_more}
 use Rattle.regard.proofs.numbers.Statement.{statement}
 use Rattle.regard.proofs.numbers.Tie as tie
 
-abbrev invariant-loop : tie.invariant-loop
-invariant-loop image segments slots left₀ i₀ left i = (take i left ≡ map numberAfter (take i (segmentsOf segments slots image))) × (i ≤ segments) × (length left ≡ mostSegments)
+abbrev invariant_loop : tie.invariant-loop
+invariant_loop image segments slots left₀ i₀ left i = (take i left ≡ map number_after (take i (segments_of segments slots image))) × (i ≤ segments) × (length left ≡ most_segments)
 
-abbrev decreases-loop : tie.decreases-loop
-decreases-loop image segments slots left₀ i₀ left i = segments - i
+abbrev decreases_loop : tie.decreases-loop
+decreases_loop image segments slots left₀ i₀ left i = segments - i
 
-loop-holds : tie.Need-loop-init invariant-loop decreases-loop
-loop-holds c = (refl, omega arith, refl)
+loop_holds : tie.Need-loop-init invariant_loop decreases_loop
+loop_holds c = (refl, omega arith, refl)
 
-number-at-requires : tie.Need-number-at-requires invariant-loop decreases-loop
-number-at-requires c κs = search rules
+number_at_requires : tie.Need-number-at-requires invariant_loop decreases_loop
+number_at_requires c κs = search rules
 
-mul_left : tie.Need-overflow-mul-left invariant-loop decreases-loop
+mul_left : tie.Need-overflow-mul-left invariant_loop decreases_loop
 mul_left c = search rules
 
-array-write-left : tie.Need-array-write-left invariant-loop decreases-loop
-array-write-left c = search rules
+array_write_left : tie.Need-array-write-left invariant_loop decreases_loop
+array_write_left c = search rules
 
-add-i : tie.Need-overflow-add-i invariant-loop decreases-loop
-add-i c = search rules
+add_i : tie.Need-overflow-add-i invariant_loop decreases_loop
+add_i c = search rules
 
-loop-less : tie.Need-loop-smaller invariant-loop decreases-loop
-loop-less c = search rules
+loop_less : tie.Need-loop-smaller invariant_loop decreases_loop
+loop_less c = search rules
 
-loop-again : tie.Need-loop-preserved invariant-loop decreases-loop
-loop-again c =
+loop_again : tie.Need-loop-preserved invariant_loop decreases_loop
+loop_again c =
     let s = c.before.before.before.before in
     let l = c.before.before.loop in
     let t = c.before.loop-test.true in
-    let m = segmentsOf s.args.segments s.args.slots s.args.image.now in
-    let z = segments-length s.args.segments s.args.slots s.args.image.now in
-    (fill_more numberAfter m blank l.left l.i c.number_at.result (omega arith) (omega (arith, l.invariant.2, s.requires.segments)) c.number_at.ensures l.invariant.0, omega arith, simp length-set l.invariant.2)
+    let m = segments_of s.args.segments s.args.slots s.args.image.now in
+    let z = segments_length s.args.segments s.args.slots s.args.image.now in
+    (fill_more number_after m blank l.left l.i c.number_at.result (omega arith) (omega (arith, l.invariant.2, s.requires.segments)) c.number_at.ensures l.invariant.0, omega arith, simp length-set l.invariant.2)
 
-returns : tie.Need-returns invariant-loop decreases-loop
+returns : tie.Need-returns invariant_loop decreases_loop
 returns c =
     let s = c.before.before.before in
     let l = c.before.loop in
-    let m = segmentsOf s.args.segments s.args.slots s.args.image.now in
-    let z = segments-length s.args.segments s.args.slots s.args.image.now in
+    let m = segments_of s.args.segments s.args.slots s.args.image.now in
+    let z = segments_length s.args.segments s.args.slots s.args.image.now in
     let e : l.i ≡ s.args.segments = omega (arith, c.loop-test.false) in
-    ((rw e at l.invariant.0) ∙ ap (map numberAfter) (take_all s.args.segments m (omega arith)), l.invariant.2)
+    ((rw e at l.invariant.0) ∙ ap (map number_after) (take_all s.args.segments m (omega arith)), l.invariant.2)
 
-pub numbers-spec : {M : Type 1} → statement M
-numbers-spec =
+pub numbers_spec : {M : Type 1} → statement M
+numbers_spec =
     tie.close
     (tie.spec
-    invariant-loop
-    decreases-loop
-    loop-holds
-    number-at-requires
+    invariant_loop
+    decreases_loop
+    loop_holds
+    number_at_requires
     mul_left
-    array-write-left
-    add-i
-    loop-less
-    loop-again
+    array_write_left
+    add_i
+    loop_less
+    loop_again
     returns)

@@ -8,17 +8,17 @@ use borrow.Author.Rules.{rules}
 use Rattle.request.proofs.capacity.Statement.{statement}
 use Rattle.request.proofs.capacity.Tie as tie
 
-sub-result : tie.Need-overflow-sub-result
-sub-result c = search rules
+sub_result : tie.Need-overflow-sub-result
+sub_result c = search rules
 
-mul-result : tie.Need-overflow-mul-result
-mul-result c =
+mul_result : tie.Need-overflow-mul-result
+mul_result c =
     let n = c.args.segments - 1 in
     let a = mul-le-mul_left n c.requires.3 in
     omega (arith, c.requires.1)
 
-sub-result-2 : tie.Need-overflow-sub-result-2
-sub-result-2 c =
+sub_result_2 : tie.Need-overflow-sub-result-2
+sub_result_2 c =
     let h : 1 ≤ c.args.segments - 1 = omega (arith, c.requires.0) in
     omega (arith, c.requires.2, mul-le-mul_right c.args.slots h)
 
@@ -30,4 +30,4 @@ returns c =
     (refl, omega (arith, c.requires.1))
 
 pub capacity_spec : {M : Type 1} → statement M
-capacity_spec = tie.close (tie.spec sub-result mul-result sub-result-2 returns)
+capacity_spec = tie.close (tie.spec sub_result mul_result sub_result_2 returns)

@@ -1,17 +1,17 @@
 -- `request::number_ok` is the test of the definition. Assumes nothing.
-use Rattle.model.specs.Slot.{numberOk}
-use Rattle.request.proofs.Laws.{none-fails, some-passes}
+use Rattle.model.specs.Slot.{number_ok}
+use Rattle.request.proofs.Laws.{none_fails, some_passes}
 use borrow.Author.Rules.{rules}
 use Rattle.request.proofs.number_ok.Statement.{statement}
 use Rattle.request.proofs.number_ok.Tie as tie
 
 returns : tie.Need-returns
-unfolding numberOk
-returns c = search (rules, none-fails)
+unfolding number_ok
+returns c = search (rules, none_fails)
 
-returns-2 : tie.Need-returns-2
-unfolding numberOk
-returns-2 c = search (rules, some-passes)
+returns_2 : tie.Need-returns-2
+unfolding number_ok
+returns_2 c = search (rules, some_passes)
 
-pub number-ok-spec : {M : Type 1} → statement M
-number-ok-spec = tie.close (tie.spec returns returns-2)
+pub number_ok_spec : {M : Type 1} → statement M
+number_ok_spec = tie.close (tie.spec returns returns_2)

@@ -5,18 +5,18 @@ use borrow.Author.Rules.{rules}
 use Rattle.request.proofs.right_size.Statement.{statement}
 use Rattle.request.proofs.right_size.Tie as tie
 
-in-range-requires : tie.Need-in-range-requires
-in-range-requires c κs = search rules
+in_range_requires : tie.Need-in-range-requires
+in_range_requires c κs = search rules
 
-size-of-requires : tie.Need-size-of-requires
-size-of-requires c κs = search rules
+size_of_requires : tie.Need-size-of-requires
+size_of_requires c κs = search rules
 
 returns : tie.Need-returns
 unfolding size_of
 returns c = rw (c.size-of.ensures.0, sym c.before.before.in-range.ensures ∙ c.before.if1.true)
 
-returns-2 : tie.Need-returns-2
-returns-2 c = rw (sym c.before.in-range.ensures ∙ c.if1.false)
+returns_2 : tie.Need-returns-2
+returns_2 c = rw (sym c.before.in-range.ensures ∙ c.if1.false)
 
-pub right-size-spec : {M : Type 1} → statement M
-right-size-spec = tie.close (tie.spec in-range-requires size-of-requires returns returns-2)
+pub right_size_spec : {M : Type 1} → statement M
+right_size_spec = tie.close (tie.spec in_range_requires size_of_requires returns returns_2)

@@ -7,53 +7,53 @@ use borrow.Author.Rules.{rules}
 use Rattle.ring.proofs.last_used.Statement.{statement}
 use Rattle.ring.proofs.last_used.Tie as tie
 
-abbrev invariant-loop : tie.invariant-loop
-invariant-loop image segments slots index₀ index = (index < segments) × FreeAfter segments slots image index
+abbrev invariant_loop : tie.invariant-loop
+invariant_loop image segments slots index₀ index = (index < segments) × FreeAfter segments slots image index
 
-abbrev decreases-loop : tie.decreases-loop
-decreases-loop image segments slots index₀ index = index
+abbrev decreases_loop : tie.decreases-loop
+decreases_loop image segments slots index₀ index = index
 
-sub-index : tie.Need-overflow-sub-index invariant-loop decreases-loop
-sub-index c = search rules
+sub_index : tie.Need-overflow-sub-index invariant_loop decreases_loop
+sub_index c = search rules
 
-loop-holds : tie.Need-loop-init invariant-loop decreases-loop
-loop-holds c = (omega (arith, c.before.requires.some), λ j p q. absurd (omega arith))
+loop_holds : tie.Need-loop-init invariant_loop decreases_loop
+loop_holds c = (omega (arith, c.before.requires.some), λ j p q. absurd (omega arith))
 
-status-at-requires : tie.Need-status-at-requires invariant-loop decreases-loop
-status-at-requires c κs = search rules
+status_at_requires : tie.Need-status-at-requires invariant_loop decreases_loop
+status_at_requires c κs = search rules
 
-returns : tie.Need-returns invariant-loop decreases-loop
+returns : tie.Need-returns invariant_loop decreases_loop
 returns c =
     let k = c.before.before.before.loop in
     record { within = k.invariant.0; used = λ p e. c.if1.true (c.before.status-at.ensures ∙ e); free = k.invariant.1 }
 
-sub-index-2 : tie.Need-overflow-sub-index-2 invariant-loop decreases-loop
-sub-index-2 c = search rules
+sub_index_2 : tie.Need-overflow-sub-index-2 invariant_loop decreases_loop
+sub_index_2 c = search rules
 
-loop-less : tie.Need-loop-smaller invariant-loop decreases-loop
-loop-less c = search rules
+loop_less : tie.Need-loop-smaller invariant_loop decreases_loop
+loop_less c = search rules
 
-loop-again : tie.Need-loop-preserved invariant-loop decreases-loop
-loop-again c =
+loop_again : tie.Need-loop-preserved invariant_loop decreases_loop
+loop_again c =
     let k = c.before.before.before.loop in
     (omega (arith, k.invariant.0), free_more _ _ _ k.index k.invariant.1 (sym c.before.status-at.ensures ∙ c.if1.false))
 
-returns-2 : tie.Need-returns-2 invariant-loop decreases-loop
-returns-2 c =
+returns_2 : tie.Need-returns-2 invariant_loop decreases_loop
+returns_2 c =
     let k = c.before.loop in
     record { within = k.invariant.0; used = λ p. absurd (omega (arith, c.loop-test.false)); free = k.invariant.1 }
 
-pub last-used-spec : {M : Type 1} → statement M
-last-used-spec =
+pub last_used_spec : {M : Type 1} → statement M
+last_used_spec =
     tie.close
     (tie.spec
-    invariant-loop
-    decreases-loop
-    sub-index
-    loop-holds
-    status-at-requires
+    invariant_loop
+    decreases_loop
+    sub_index
+    loop_holds
+    status_at_requires
     returns
-    sub-index-2
-    loop-less
-    loop-again
-    returns-2)
+    sub_index_2
+    loop_less
+    loop_again
+    returns_2)

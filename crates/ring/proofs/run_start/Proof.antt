@@ -2,59 +2,59 @@
 use Prim.Native.Nat.{◌≤◌}
 use mathlib.Core.Path.{sym, ◌∙◌}
 use native.Mathlib.Omega.{arith}
-use Rattle.ring.proofs.Laws.Search.{UsedFrom, used-more}
+use Rattle.ring.proofs.Laws.Search.{UsedFrom, used_more}
 use borrow.Author.Rules.{rules}
 use Rattle.ring.proofs.run_start.Statement.{statement}
 use Rattle.ring.proofs.run_start.Tie as tie
 
-abbrev invariant-loop : tie.invariant-loop
-invariant-loop image segments slots end start₀ start = (start ≤ end) × UsedFrom slots image start end
+abbrev invariant_loop : tie.invariant-loop
+invariant_loop image segments slots end start₀ start = (start ≤ end) × UsedFrom slots image start end
 
-abbrev decreases-loop : tie.decreases-loop
-decreases-loop image segments slots end start₀ start = start
+abbrev decreases_loop : tie.decreases-loop
+decreases_loop image segments slots end start₀ start = start
 
-loop-holds : tie.Need-loop-init invariant-loop decreases-loop
-loop-holds c = (omega arith, λ j p q. absurd (omega arith))
+loop_holds : tie.Need-loop-init invariant_loop decreases_loop
+loop_holds c = (omega arith, λ j p q. absurd (omega arith))
 
-sub-status-at : tie.Need-overflow-sub-status-at invariant-loop decreases-loop
-sub-status-at c = search rules
+sub_status_at : tie.Need-overflow-sub-status-at invariant_loop decreases_loop
+sub_status_at c = search rules
 
-status-at-requires : tie.Need-status-at-requires invariant-loop decreases-loop
-status-at-requires c κs = search rules
+status_at_requires : tie.Need-status-at-requires invariant_loop decreases_loop
+status_at_requires c κs = search rules
 
-returns : tie.Need-returns invariant-loop decreases-loop
+returns : tie.Need-returns invariant_loop decreases_loop
 returns c =
     let k = c.before.before.before.loop in
     record { within = k.invariant.0; used = k.invariant.1; free = λ p. sym c.before.status-at.ensures ∙ c.if1.true }
 
-sub-start : tie.Need-overflow-sub-start invariant-loop decreases-loop
-sub-start c = search rules
+sub_start : tie.Need-overflow-sub-start invariant_loop decreases_loop
+sub_start c = search rules
 
-loop-less : tie.Need-loop-smaller invariant-loop decreases-loop
-loop-less c = search rules
+loop_less : tie.Need-loop-smaller invariant_loop decreases_loop
+loop_less c = search rules
 
-loop-again : tie.Need-loop-preserved invariant-loop decreases-loop
-loop-again c =
+loop_again : tie.Need-loop-preserved invariant_loop decreases_loop
+loop_again c =
     let test = c.before.before in
     let k = test.before.loop in
-    (omega (arith, k.invariant.0), used-more _ _ k.start _ test.loop-test.true k.invariant.1 (λ e. c.if1.false (c.before.status-at.ensures ∙ e)))
+    (omega (arith, k.invariant.0), used_more _ _ k.start _ test.loop-test.true k.invariant.1 (λ e. c.if1.false (c.before.status-at.ensures ∙ e)))
 
-returns-2 : tie.Need-returns-2 invariant-loop decreases-loop
-returns-2 c =
+returns_2 : tie.Need-returns-2 invariant_loop decreases_loop
+returns_2 c =
     let k = c.before.loop in
     record { within = k.invariant.0; used = k.invariant.1; free = λ p. absurd (omega (arith, c.loop-test.false)) }
 
-pub run-start-spec : {M : Type 1} → statement M
-run-start-spec =
+pub run_start_spec : {M : Type 1} → statement M
+run_start_spec =
     tie.close
     (tie.spec
-    invariant-loop
-    decreases-loop
-    loop-holds
-    sub-status-at
-    status-at-requires
+    invariant_loop
+    decreases_loop
+    loop_holds
+    sub_status_at
+    status_at_requires
     returns
-    sub-start
-    loop-less
-    loop-again
-    returns-2)
+    sub_start
+    loop_less
+    loop_again
+    returns_2)

@@ -11,10 +11,10 @@ use Rattle.judge.specs.Endings.{behind}
 use Rattle.judge.specs.contracts.Ending.{the_type}
 
 -- the tag of an ending that is not full
-pub behind-other : (e f : Ending) → OneOf (1 ∷ 2 ∷ 3 ∷ 4 ∷ []) (tag_of the_type e) → behind e f ≡ Bad
+pub behind_other : (e f : Ending) → OneOf (1 ∷ 2 ∷ 3 ∷ 4 ∷ []) (tag_of the_type e) → behind e f ≡ Bad
 unfolding behind
-behind-other Full f h = absurd (⊎_elim (λ q. omega arith) (⊎_elim (λ q. omega arith) (⊎_elim (λ q. omega arith) (λ q. omega arith))) h)
-behind-other Room f h = refl
-behind-other TornLast f h = refl
-behind-other TwinLast f h = refl
-behind-other Bad f h = refl
+behind_other Full f h = absurd (⊎_elim (λ q. omega arith) (⊎_elim (λ q. omega arith) (⊎_elim (λ q. omega arith) (λ q. omega arith))) h)
+behind_other Room f h = refl
+behind_other TornLast f h = refl
+behind_other TwinLast f h = refl
+behind_other Bad f h = refl

@@ -9,37 +9,37 @@ use Rattle.model.specs.Lists.{chunk}
 use Rattle.model.specs.Slot.{slot_of, kind_of}
 use Rattle.model.specs.declared.SlotKind.{SlotKind}
 use Rattle.model.specs.declared.SlotKind.TheVariants.{Empty, Torn, Live, Dead, Cut, Wrong}
-use Rattle.judge.specs.Rows.{Pass, noRow, see, seeAll, kindsAt, slotsAt, Small}
+use Rattle.judge.specs.Rows.{Pass, no_row, see, see_all, kinds_at, slots_at, Small}
 
-pub none-small : Small noRow 0
-unfolding noRow
-none-small = record { live = omega arith; dead = omega arith; cut = omega arith }
+pub none_small : Small no_row 0
+unfolding no_row
+none_small = record { live = omega arith; dead = omega arith; cut = omega arith }
 
-pub see-small : (k : SlotKind) (p : Pass) (i : ℕ) → Small p.row i → Small (see k p).row (i + 1)
+pub see_small : (k : SlotKind) (p : Pass) (i : ℕ) → Small p.row i → Small (see k p).row (i + 1)
 unfolding see
-see-small Empty p i h = record { live = omega arith; dead = omega arith; cut = omega arith }
-see-small Torn p i h = record { live = omega arith; dead = omega arith; cut = omega arith }
-see-small (Live l n) p i h = record { live = omega arith; dead = omega arith; cut = omega arith }
-see-small Dead p i h = record { live = omega arith; dead = omega arith; cut = omega arith }
-see-small Cut p i h = record { live = omega arith; dead = omega arith; cut = omega arith }
-see-small Wrong p i h = record { live = omega arith; dead = omega arith; cut = omega arith }
+see_small Empty p i h = record { live = omega arith; dead = omega arith; cut = omega arith }
+see_small Torn p i h = record { live = omega arith; dead = omega arith; cut = omega arith }
+see_small (Live l n) p i h = record { live = omega arith; dead = omega arith; cut = omega arith }
+see_small Dead p i h = record { live = omega arith; dead = omega arith; cut = omega arith }
+see_small Cut p i h = record { live = omega arith; dead = omega arith; cut = omega arith }
+see_small Wrong p i h = record { live = omega arith; dead = omega arith; cut = omega arith }
 
-pub kinds-next : (m : List ℕ) (o c : ℕ) → kindsAt m o (suc c) ≡ kind_of (slot_of (take 256 (drop o m))) ∷ kindsAt m (o + 256) c
-unfolding kindsAt slotsAt chunk
-kinds-next m o c = rw (drop-drop 256 o m)
+pub kinds_next : (m : List ℕ) (o c : ℕ) → kinds_at m o (suc c) ≡ kind_of (slot_of (take 256 (drop o m))) ∷ kinds_at m (o + 256) c
+unfolding kinds_at slots_at chunk
+kinds_next m o c = rw (drop-drop 256 o m)
 
 pub row_next : (m : List ℕ) (at i slots : ℕ) (p : Pass) → i < slots
-    → seeAll (kindsAt m (at + i * 256) (slots - i)) p ≡ seeAll (kindsAt m (at + (i + 1) * 256) (slots - (i + 1))) (see (kind_of (slot_of (take 256 (drop (at + i * 256) m)))) p)
-unfolding seeAll
+    → see_all (kinds_at m (at + i * 256) (slots - i)) p ≡ see_all (kinds_at m (at + (i + 1) * 256) (slots - (i + 1))) (see (kind_of (slot_of (take 256 (drop (at + i * 256) m)))) p)
+unfolding see_all
 row_next m at i slots p h =
     let d : slots - i ≡ suc (slots - (i + 1)) = omega arith in
     let e : at + i * 256 + 256 ≡ at + (i + 1) * 256 = omega arith in
-    rw (d, kinds-next m (at + i * 256) (slots - (i + 1)), e)
+    rw (d, kinds_next m (at + i * 256) (slots - (i + 1)), e)
 
-pub row-end : (m : List ℕ) (o i slots : ℕ) (p : Pass) → slots ≤ i → seeAll (kindsAt m o (slots - i)) p ≡ p
-unfolding seeAll kindsAt slotsAt chunk
-row-end m o i slots p h = let d : slots - i ≡ 0 = omega arith in rw d
+pub row_end : (m : List ℕ) (o i slots : ℕ) (p : Pass) → slots ≤ i → see_all (kinds_at m o (slots - i)) p ≡ p
+unfolding see_all kinds_at slots_at chunk
+row_end m o i slots p h = let d : slots - i ≡ 0 = omega arith in rw d
 
 -- the page that a part of the image is
-pub page-part : (m : List ℕ) (o : ℕ) → take (o + 256 - o) (drop o m) ≡ take 256 (drop o m)
-page-part m o = let d : o + 256 - o ≡ 256 = omega arith in rw d
+pub page_part : (m : List ℕ) (o : ℕ) → take (o + 256 - o) (drop o m) ≡ take 256 (drop o m)
+page_part m o = let d : o + 256 - o ≡ 256 = omega arith in rw d

@@ -1,5 +1,5 @@
 -- `rows::leave_room` is the definition's. Assumes nothing.
-use Rattle.judge.specs.Endings.{leaveRoom}
+use Rattle.judge.specs.Endings.{leave_room}
 use borrow.Author.Rules.{rules}
 use Rattle.rows.proofs.leave_room.Statement.{statement}
 use Rattle.rows.proofs.leave_room.Tie as tie
@@ -7,49 +7,49 @@ use Rattle.rows.proofs.leave_room.Tie as tie
 enum_told : tie.Need-enum-told
 enum_told c = search rules
 
-enum-told-2 : tie.Need-enum-told-2
-enum-told-2 c = search rules
+enum_told_2 : tie.Need-enum-told-2
+enum_told_2 c = search rules
 
-enum-told-3 : tie.Need-enum-told-3
-enum-told-3 c = search rules
+enum_told_3 : tie.Need-enum-told-3
+enum_told_3 c = search rules
 
-enum-told-4 : tie.Need-enum-told-4
-enum-told-4 c = search rules
+enum_told_4 : tie.Need-enum-told-4
+enum_told_4 c = search rules
 
-enum-told-5 : tie.Need-enum-told-5
-enum-told-5 c = search rules
+enum_told_5 : tie.Need-enum-told-5
+enum_told_5 c = search rules
 
 returns : tie.Need-returns
-unfolding leaveRoom
+unfolding leave_room
 returns c = rw c.enum_told.given.1
 
-returns-2 : tie.Need-returns-2
-unfolding leaveRoom
-returns-2 c = rw c.enum-told2.given.1
+returns_2 : tie.Need-returns-2
+unfolding leave_room
+returns_2 c = rw c.enum-told2.given.1
 
-returns-3 : tie.Need-returns-3
-unfolding leaveRoom
-returns-3 c = rw c.enum-told3.given.1
+returns_3 : tie.Need-returns-3
+unfolding leave_room
+returns_3 c = rw c.enum-told3.given.1
 
-returns-4 : tie.Need-returns-4
-unfolding leaveRoom
-returns-4 c = rw c.enum-told4.given.1
+returns_4 : tie.Need-returns-4
+unfolding leave_room
+returns_4 c = rw c.enum-told4.given.1
 
-returns-5 : tie.Need-returns-5
-unfolding leaveRoom
-returns-5 c = rw c.enum-told5.given.1
+returns_5 : tie.Need-returns-5
+unfolding leave_room
+returns_5 c = rw c.enum-told5.given.1
 
-pub leave-room-spec : {M : Type 1} → statement M
-leave-room-spec =
+pub leave_room_spec : {M : Type 1} → statement M
+leave_room_spec =
     tie.close
     (tie.spec
     enum_told
-    enum-told-2
-    enum-told-3
-    enum-told-4
-    enum-told-5
+    enum_told_2
+    enum_told_3
+    enum_told_4
+    enum_told_5
     returns
-    returns-2
-    returns-3
-    returns-4
-    returns-5)
+    returns_2
+    returns_3
+    returns_4
+    returns_5)

@@ -3,35 +3,35 @@ use Prim.Native.Nat.{ℕ}
 use mathlib.Core.Path.{ap, ◌∙◌}
 use Rattle.judge.specs.Verdict.{orderly}
 use Rattle.scan.specs.declared.Surveyed.TheVariants.{TornSegment}
-use Rattle.scan.specs.Surveys.{tornIn}
+use Rattle.scan.specs.Surveys.{torn_in}
 use Rattle.scan.proofs.Laws.Surveys.{tested}
 use borrow.Author.Rules.{rules}
 use Rattle.scan.proofs.survey_torn.Statement.{statement}
 use Rattle.scan.proofs.survey_torn.Tie as tie
 
-capacity-requires : tie.Need-capacity-requires
-capacity-requires c κs = search rules
+capacity_requires : tie.Need-capacity-requires
+capacity_requires c κs = search rules
 
-orderly-requires : tie.Need-orderly-requires
-orderly-requires c κs = search rules
+orderly_requires : tie.Need-orderly-requires
+orderly_requires c κs = search rules
 
-top-number-requires : tie.Need-top-number-requires
-top-number-requires c κs = search rules
+top_number_requires : tie.Need-top-number-requires
+top_number_requires c κs = search rules
 
 returns : tie.Need-returns
-unfolding tornIn
+unfolding torn_in
 returns c =
     let a = c.before.before.before.before.before.args in
     let o = tested orderly a.exam.sum c.before.before.before.capacity.ensures.0 c.before.before.orderly.ensures in
     rw (o ∙ c.before.if1.true) (ap (λ (k : ℕ). TornSegment (record { 0 = k })) c.top-number.ensures)
 
-returns-2 : tie.Need-returns-2
-unfolding tornIn
-returns-2 c =
+returns_2 : tie.Need-returns-2
+unfolding torn_in
+returns_2 c =
     let a = c.before.before.before.before.args in
     let o = tested orderly a.exam.sum c.before.before.capacity.ensures.0 c.before.orderly.ensures in
     rw (o ∙ c.if1.false)
 
-pub survey-torn-spec : {M : Type 1} → statement M
-survey-torn-spec =
-    tie.close (tie.spec capacity-requires orderly-requires top-number-requires returns returns-2)
+pub survey_torn_spec : {M : Type 1} → statement M
+survey_torn_spec =
+    tie.close (tie.spec capacity_requires orderly_requires top_number_requires returns returns_2)

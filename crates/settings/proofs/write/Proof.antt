@@ -6,43 +6,43 @@ use borrow.Author.Rules.{rules}
 use Rattle.settings.proofs.write.Statement.{statement}
 use Rattle.settings.proofs.write.Tie as tie
 
-slice-aggregate-fill : tie.Need-slice-aggregate-fill
-slice-aggregate-fill c = search rules
+slice_aggregate_fill : tie.Need-slice-aggregate-fill
+slice_aggregate_fill c = search rules
 
-fill-requires : tie.Need-fill-requires
-fill-requires c κs = search rules
+fill_requires : tie.Need-fill-requires
+fill_requires c κs = search rules
 
-slice-aggregate-write-all : tie.Need-slice-aggregate-write-all
-slice-aggregate-write-all c = search rules
+slice_aggregate_write_all : tie.Need-slice-aggregate-write-all
+slice_aggregate_write_all c = search rules
 
-write-all-requires : tie.Need-write-all-requires
-write-all-requires c κs = search rules
+write_all_requires : tie.Need-write-all-requires
+write_all_requires c κs = search rules
 
 returns : tie.Need-returns
 returns c = search rules
 
-array-share-prefix-contents : tie.Need-array-share-prefix-contents
-array-share-prefix-contents c = search rules
+array_share_prefix_contents : tie.Need-array-share-prefix-contents
+array_share_prefix_contents c = search rules
 
-slice-aggregate-obey : tie.Need-slice-aggregate-obey
-slice-aggregate-obey c = sym (length-take-le _ _ (omega arith))
+slice_aggregate_obey : tie.Need-slice-aggregate-obey
+slice_aggregate_obey c = sym (length-take-le _ _ (omega arith))
 
-obey-requires : tie.Need-obey-requires
-obey-requires c κs = search rules
+obey_requires : tie.Need-obey-requires
+obey_requires c κs = search rules
 
-returns-2 : tie.Need-returns-2
-returns-2 c = search rules
+returns_2 : tie.Need-returns-2
+returns_2 c = search rules
 
 pub write_spec : {M : Type 1} → statement M
 write_spec =
     tie.close
     (tie.spec
-    slice-aggregate-fill
-    fill-requires
-    slice-aggregate-write-all
-    write-all-requires
+    slice_aggregate_fill
+    fill_requires
+    slice_aggregate_write_all
+    write_all_requires
     returns
-    array-share-prefix-contents
-    slice-aggregate-obey
-    obey-requires
-    returns-2)
+    array_share_prefix_contents
+    slice_aggregate_obey
+    obey_requires
+    returns_2)

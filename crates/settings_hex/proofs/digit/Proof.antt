@@ -1,24 +1,24 @@
 -- `settings_hex::digit`: the tests of the definition. Assumes nothing.
 use native.Mathlib.Omega.{arith}
 use borrow.Author.Tests.{lt-ltb, le-ltb}
-use Rattle.settings_hex.specs.Hex.{hexDigit}
+use Rattle.settings_hex.specs.Hex.{hex_digit}
 use borrow.Author.Rules.{rules}
 use Rattle.settings_hex.proofs.digit.Statement.{statement}
 use Rattle.settings_hex.proofs.digit.Tie as tie
 
-add-result : tie.Need-overflow-add-result
-add-result c = search rules
+add_result : tie.Need-overflow-add-result
+add_result c = search rules
 
 returns : tie.Need-returns
-unfolding hexDigit
+unfolding hex_digit
 returns c = rw (lt-ltb c.before.args.n 10 (omega arith))
 
-add-result-2 : tie.Need-overflow-add-result-2
-add-result-2 c = search rules
+add_result_2 : tie.Need-overflow-add-result-2
+add_result_2 c = search rules
 
-returns-2 : tie.Need-returns-2
-unfolding hexDigit
-returns-2 c = rw (le-ltb c.before.args.n 10 (omega arith))
+returns_2 : tie.Need-returns-2
+unfolding hex_digit
+returns_2 c = rw (le-ltb c.before.args.n 10 (omega arith))
 
-pub digit-spec : {M : Type 1} → statement M
-digit-spec = tie.close (tie.spec add-result returns add-result-2 returns-2)
+pub digit_spec : {M : Type 1} → statement M
+digit_spec = tie.close (tie.spec add_result returns add_result_2 returns_2)

@@ -3,37 +3,37 @@ use native.Mathlib.Omega.{arith}
 use Rattle.text.specs.Text.{text}
 use Rattle.qbx_lines.proofs.Laws.Lines.{more}
 use Rattle.text.proofs.Laws.{wrote_as}
-use Rattle.settings_item_lines.specs.ItemLines.{unwrittenLine}
+use Rattle.settings_item_lines.specs.ItemLines.{unwritten_line}
 use borrow.Author.Rules.{rules}
 use Rattle.settings_item_lines.proofs.unwritten_line.Statement.{statement}
 use Rattle.settings_item_lines.proofs.unwritten_line.Tie as tie
 
-item-head-requires : tie.Need-item-head-requires
-item-head-requires c κs = search rules
+item_head_requires : tie.Need-item-head-requires
+item_head_requires c κs = search rules
 
-slice-aggregate-add : tie.Need-slice-aggregate-add
-slice-aggregate-add c = search rules
+slice_aggregate_add : tie.Need-slice-aggregate-add
+slice_aggregate_add c = search rules
 
-add-requires : tie.Need-add-requires
-add-requires c κs = search rules
+add_requires : tie.Need-add-requires
+add_requires c κs = search rules
 
-add-line-requires : tie.Need-add-line-requires
-add-line-requires c κs = search rules
+add_line_requires : tie.Need-add-line-requires
+add_line_requires c κs = search rules
 
 same_length : tie.Need-same-length
 same_length c = search rules
 
 returns : tie.Need-returns
-unfolding text unwrittenLine
+unfolding text unwritten_line
 returns c = (wrote_as _ (more c.before.before.before.add.ensures c.before.before.before.before.before.item-head.ensures.0) c.before.before.add-line.ensures.0, omega arith)
 
-pub unwritten-line-spec : {M : Type 1} → statement M
-unwritten-line-spec =
+pub unwritten_line_spec : {M : Type 1} → statement M
+unwritten_line_spec =
     tie.close
     (tie.spec
-    item-head-requires
-    slice-aggregate-add
-    add-requires
-    add-line-requires
+    item_head_requires
+    slice_aggregate_add
+    add_requires
+    add_line_requires
     same_length
     returns)

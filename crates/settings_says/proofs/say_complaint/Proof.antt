@@ -2,118 +2,118 @@
 use native.Mathlib.Omega.{arith}
 use Rattle.text.specs.Text.{text}
 use Rattle.qbx_lines.proofs.Laws.Lines.{more}
-use Rattle.settings_says.specs.Said.{complaintText}
+use Rattle.settings_says.specs.Said.{complaint_text}
 use borrow.Author.Rules.{rules}
 use Rattle.settings_says.proofs.say_complaint.Statement.{statement}
 use Rattle.settings_says.proofs.say_complaint.Tie as tie
 
-empty-requires : tie.Need-empty-requires
-empty-requires c κs = search rules
+empty_requires : tie.Need-empty-requires
+empty_requires c κs = search rules
 
 enum_told : tie.Need-enum-told
 enum_told c = search rules
 
-slice-aggregate-add : tie.Need-slice-aggregate-add
-slice-aggregate-add c = search rules
+slice_aggregate_add : tie.Need-slice-aggregate-add
+slice_aggregate_add c = search rules
 
-add-requires : tie.Need-add-requires
-add-requires c κs = search rules
+add_requires : tie.Need-add-requires
+add_requires c κs = search rules
 
-enum-told-2 : tie.Need-enum-told-2
-enum-told-2 c = search rules
+enum_told_2 : tie.Need-enum-told-2
+enum_told_2 c = search rules
 
-slice-aggregate-add-2 : tie.Need-slice-aggregate-add-2
-slice-aggregate-add-2 c = search rules
+slice_aggregate_add_2 : tie.Need-slice-aggregate-add-2
+slice_aggregate_add_2 c = search rules
 
-add-requires-2 : tie.Need-add-requires-2
-add-requires-2 c κs = search rules
+add_requires_2 : tie.Need-add-requires-2
+add_requires_2 c κs = search rules
 
-enum-told-3 : tie.Need-enum-told-3
-enum-told-3 c = search rules
+enum_told_3 : tie.Need-enum-told-3
+enum_told_3 c = search rules
 
-slice-aggregate-add-3 : tie.Need-slice-aggregate-add-3
-slice-aggregate-add-3 c = search rules
+slice_aggregate_add_3 : tie.Need-slice-aggregate-add-3
+slice_aggregate_add_3 c = search rules
 
-add-requires-3 : tie.Need-add-requires-3
-add-requires-3 c κs = search rules
+add_requires_3 : tie.Need-add-requires-3
+add_requires_3 c κs = search rules
 
-enum-told-4 : tie.Need-enum-told-4
-enum-told-4 c = search rules
+enum_told_4 : tie.Need-enum-told-4
+enum_told_4 c = search rules
 
-slice-aggregate-add-4 : tie.Need-slice-aggregate-add-4
-slice-aggregate-add-4 c = search rules
+slice_aggregate_add_4 : tie.Need-slice-aggregate-add-4
+slice_aggregate_add_4 c = search rules
 
-add-requires-4 : tie.Need-add-requires-4
-add-requires-4 c κs = search rules
+add_requires_4 : tie.Need-add-requires-4
+add_requires_4 c κs = search rules
 
-enum-told-5 : tie.Need-enum-told-5
-enum-told-5 c = search rules
+enum_told_5 : tie.Need-enum-told-5
+enum_told_5 c = search rules
 
-slice-aggregate-add-5 : tie.Need-slice-aggregate-add-5
-slice-aggregate-add-5 c = search rules
+slice_aggregate_add_5 : tie.Need-slice-aggregate-add-5
+slice_aggregate_add_5 c = search rules
 
-add-requires-5 : tie.Need-add-requires-5
-add-requires-5 c κs = search rules
+add_requires_5 : tie.Need-add-requires-5
+add_requires_5 c κs = search rules
 
-enum-told-6 : tie.Need-enum-told-6
-enum-told-6 c = search rules
+enum_told_6 : tie.Need-enum-told-6
+enum_told_6 c = search rules
 
-slice-aggregate-add-6 : tie.Need-slice-aggregate-add-6
-slice-aggregate-add-6 c = search rules
+slice_aggregate_add_6 : tie.Need-slice-aggregate-add-6
+slice_aggregate_add_6 c = search rules
 
-add-requires-6 : tie.Need-add-requires-6
-add-requires-6 c κs = search rules
+add_requires_6 : tie.Need-add-requires-6
+add_requires_6 c κs = search rules
 
 returns : tie.Need-returns
-unfolding text complaintText
+unfolding text complaint_text
 returns c = rw c.before.before.enum_told.given.1 (more c.add.ensures c.before.before.before.before.empty.ensures.0, omega arith)
 
-returns-2 : tie.Need-returns-2
-unfolding text complaintText
-returns-2 c = rw c.before.before.enum-told2.given.1 (more c.add2.ensures c.before.before.before.before.empty.ensures.0, omega arith)
+returns_2 : tie.Need-returns-2
+unfolding text complaint_text
+returns_2 c = rw c.before.before.enum-told2.given.1 (more c.add2.ensures c.before.before.before.before.empty.ensures.0, omega arith)
 
-returns-3 : tie.Need-returns-3
-unfolding text complaintText
-returns-3 c = rw c.before.before.enum-told3.given.1 (more c.add3.ensures c.before.before.before.before.empty.ensures.0, omega arith)
+returns_3 : tie.Need-returns-3
+unfolding text complaint_text
+returns_3 c = rw c.before.before.enum-told3.given.1 (more c.add3.ensures c.before.before.before.before.empty.ensures.0, omega arith)
 
-returns-4 : tie.Need-returns-4
-unfolding text complaintText
-returns-4 c = rw c.before.before.enum-told4.given.1 (more c.add4.ensures c.before.before.before.before.empty.ensures.0, omega arith)
+returns_4 : tie.Need-returns-4
+unfolding text complaint_text
+returns_4 c = rw c.before.before.enum-told4.given.1 (more c.add4.ensures c.before.before.before.before.empty.ensures.0, omega arith)
 
-returns-5 : tie.Need-returns-5
-unfolding text complaintText
-returns-5 c = rw c.before.before.enum-told5.given.1 (more c.add5.ensures c.before.before.before.before.empty.ensures.0, omega arith)
+returns_5 : tie.Need-returns-5
+unfolding text complaint_text
+returns_5 c = rw c.before.before.enum-told5.given.1 (more c.add5.ensures c.before.before.before.before.empty.ensures.0, omega arith)
 
-returns-6 : tie.Need-returns-6
-unfolding text complaintText
-returns-6 c = rw c.before.before.enum-told6.given.1 (more c.add6.ensures c.before.before.before.before.empty.ensures.0, omega arith)
+returns_6 : tie.Need-returns-6
+unfolding text complaint_text
+returns_6 c = rw c.before.before.enum-told6.given.1 (more c.add6.ensures c.before.before.before.before.empty.ensures.0, omega arith)
 
-pub say-complaint-spec : {M : Type 1} → statement M
-say-complaint-spec =
+pub say_complaint_spec : {M : Type 1} → statement M
+say_complaint_spec =
     tie.close
     (tie.spec
-    empty-requires
+    empty_requires
     enum_told
-    slice-aggregate-add
-    add-requires
-    enum-told-2
-    slice-aggregate-add-2
-    add-requires-2
-    enum-told-3
-    slice-aggregate-add-3
-    add-requires-3
-    enum-told-4
-    slice-aggregate-add-4
-    add-requires-4
-    enum-told-5
-    slice-aggregate-add-5
-    add-requires-5
-    enum-told-6
-    slice-aggregate-add-6
-    add-requires-6
+    slice_aggregate_add
+    add_requires
+    enum_told_2
+    slice_aggregate_add_2
+    add_requires_2
+    enum_told_3
+    slice_aggregate_add_3
+    add_requires_3
+    enum_told_4
+    slice_aggregate_add_4
+    add_requires_4
+    enum_told_5
+    slice_aggregate_add_5
+    add_requires_5
+    enum_told_6
+    slice_aggregate_add_6
+    add_requires_6
     returns
-    returns-2
-    returns-3
-    returns-4
-    returns-5
-    returns-6)
+    returns_2
+    returns_3
+    returns_4
+    returns_5
+    returns_6)

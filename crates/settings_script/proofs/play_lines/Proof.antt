@@ -5,59 +5,59 @@ use borrow.Author.Rules.{rules}
 use Rattle.settings_script.proofs.play_lines.Statement.{statement}
 use Rattle.settings_script.proofs.play_lines.Tie as tie
 
-abbrev invariant-loop : tie.invariant-loop
-invariant-loop script at₀ at = at ≤ length script
+abbrev invariant_loop : tie.invariant-loop
+invariant_loop script at₀ at = at ≤ length script
 
-abbrev decreases-loop : tie.decreases-loop
-decreases-loop script at₀ at = length script - at
+abbrev decreases_loop : tie.decreases-loop
+decreases_loop script at₀ at = length script - at
 
-loop-holds : tie.Need-loop-init invariant-loop decreases-loop
-loop-holds c = search rules
+loop_holds : tie.Need-loop-init invariant_loop decreases_loop
+loop_holds c = search rules
 
-find-requires : tie.Need-find-requires invariant-loop decreases-loop
-find-requires c κs = search rules
+find_requires : tie.Need-find-requires invariant_loop decreases_loop
+find_requires c κs = search rules
 
-sub-step : tie.Need-overflow-sub-step invariant-loop decreases-loop
-sub-step c = search rules
+sub_step : tie.Need-overflow-sub-step invariant_loop decreases_loop
+sub_step c = search rules
 
-part-step-start : tie.Need-slice-bounds-step-start invariant-loop decreases-loop
-part-step-start c = search rules
+part_step_start : tie.Need-slice-bounds-step-start invariant_loop decreases_loop
+part_step_start c = search rules
 
-part-step-end : tie.Need-slice-bounds-step-end invariant-loop decreases-loop
-part-step-end c = search rules
+part_step_end : tie.Need-slice-bounds-step-end invariant_loop decreases_loop
+part_step_end c = search rules
 
-step-requires : tie.Need-step-requires invariant-loop decreases-loop
-step-requires c κs = search rules
+step_requires : tie.Need-step-requires invariant_loop decreases_loop
+step_requires c κs = search rules
 
-returns : tie.Need-returns invariant-loop decreases-loop
+returns : tie.Need-returns invariant_loop decreases_loop
 returns c = search rules
 
-add_at : tie.Need-overflow-add-at invariant-loop decreases-loop
+add_at : tie.Need-overflow-add-at invariant_loop decreases_loop
 add_at c = search rules
 
-loop-less : tie.Need-loop-smaller invariant-loop decreases-loop
-loop-less c = search rules
+loop_less : tie.Need-loop-smaller invariant_loop decreases_loop
+loop_less c = search rules
 
-loop-again : tie.Need-loop-preserved invariant-loop decreases-loop
-loop-again c = search rules
+loop_again : tie.Need-loop-preserved invariant_loop decreases_loop
+loop_again c = search rules
 
-returns-2 : tie.Need-returns-2 invariant-loop decreases-loop
-returns-2 c = search rules
+returns_2 : tie.Need-returns-2 invariant_loop decreases_loop
+returns_2 c = search rules
 
-pub play-lines-spec : {M : Type 1} → statement M
-play-lines-spec =
+pub play_lines_spec : {M : Type 1} → statement M
+play_lines_spec =
     tie.close
     (tie.spec
-    invariant-loop
-    decreases-loop
-    loop-holds
-    find-requires
-    sub-step
-    part-step-start
-    part-step-end
-    step-requires
+    invariant_loop
+    decreases_loop
+    loop_holds
+    find_requires
+    sub_step
+    part_step_start
+    part_step_end
+    step_requires
     returns
     add_at
-    loop-less
-    loop-again
-    returns-2)
+    loop_less
+    loop_again
+    returns_2)

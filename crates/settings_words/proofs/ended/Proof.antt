@@ -5,16 +5,16 @@ use borrow.Author.Rules.{rules}
 use Rattle.settings_words.proofs.ended.Statement.{statement}
 use Rattle.settings_words.proofs.ended.Tie as tie
 
-is-missing-requires : tie.Need-is-missing-requires
-is-missing-requires c κs = search rules
+is_missing_requires : tie.Need-is-missing-requires
+is_missing_requires c κs = search rules
 
 returns : tie.Need-returns
 unfolding ended
 returns c = rw (sym c.before.is-missing.ensures ∙ c.if1.true)
 
-returns-2 : tie.Need-returns-2
+returns_2 : tie.Need-returns-2
 unfolding ended
-returns-2 c = rw (sym c.before.is-missing.ensures ∙ c.if1.false)
+returns_2 c = rw (sym c.before.is-missing.ensures ∙ c.if1.false)
 
-pub ended-spec : {M : Type 1} → statement M
-ended-spec = tie.close (tie.spec is-missing-requires returns returns-2)
+pub ended_spec : {M : Type 1} → statement M
+ended_spec = tie.close (tie.spec is_missing_requires returns returns_2)

@@ -2,69 +2,69 @@
 use mathlib.Core.Path.{sym, ◌∙◌}
 use borrow.Author.Tests.{not-true, not-false}
 use Rattle.text.specs.Text.{text}
-use Rattle.settings_words.specs.Command.{as_number, withBudget}
+use Rattle.settings_words.specs.Command.{as_number, with_budget}
 use borrow.Author.Rules.{rules}
 use Rattle.settings_words.proofs.with_budget.Statement.{statement}
 use Rattle.settings_words.proofs.with_budget.Tie as tie
 
-is-missing-requires : tie.Need-is-missing-requires
-is-missing-requires c κs = search rules
+is_missing_requires : tie.Need-is-missing-requires
+is_missing_requires c κs = search rules
 
-ended-requires : tie.Need-ended-requires
-ended-requires c κs = search rules
+ended_requires : tie.Need-ended-requires
+ended_requires c κs = search rules
 
 returns : tie.Need-returns
-unfolding withBudget as_number text
+unfolding with_budget as_number text
 returns c = rw (sym c.before.before.is-missing.ensures ∙ c.before.if1.true) c.ended.ensures
 
-slice-aggregate-is : tie.Need-slice-aggregate-is
-slice-aggregate-is c = search rules
+slice_aggregate_is : tie.Need-slice-aggregate-is
+slice_aggregate_is c = search rules
 
-is-requires : tie.Need-is-requires
-is-requires c κs = search rules
+is_requires : tie.Need-is-requires
+is_requires c κs = search rules
 
-returns-2 : tie.Need-returns-2
-unfolding withBudget as_number text
-returns-2 c = rw (sym c.before.before.before.before.is-missing.ensures ∙ c.before.before.before.if1.false, sym c.before.is.ensures ∙ not-true _ c.if2.true)
+returns_2 : tie.Need-returns-2
+unfolding with_budget as_number text
+returns_2 c = rw (sym c.before.before.before.before.is-missing.ensures ∙ c.before.before.before.if1.false, sym c.before.is.ensures ∙ not-true _ c.if2.true)
 
-writes-requires : tie.Need-writes-requires
-writes-requires c κs = search rules
+writes_requires : tie.Need-writes-requires
+writes_requires c κs = search rules
 
-returns-3 : tie.Need-returns-3
-unfolding withBudget as_number text
-returns-3 c = rw (sym c.before.before.before.before.before.before.is-missing.ensures ∙ c.before.before.before.before.before.if1.false, sym c.before.before.before.is.ensures ∙ not-false _ c.before.before.if2.false, sym c.before.writes.ensures ∙ not-true _ c.if3.true)
+returns_3 : tie.Need-returns-3
+unfolding with_budget as_number text
+returns_3 c = rw (sym c.before.before.before.before.before.before.is-missing.ensures ∙ c.before.before.before.before.before.if1.false, sym c.before.before.before.is.ensures ∙ not-false _ c.before.before.if2.false, sym c.before.writes.ensures ∙ not-true _ c.if3.true)
 
-number-requires : tie.Need-number-requires
-number-requires c κs = search rules
+number_requires : tie.Need-number-requires
+number_requires c κs = search rules
 
-enum-known-budget : tie.Need-enum-known-budget
-enum-known-budget c = search rules
+enum_known_budget : tie.Need-enum-known-budget
+enum_known_budget c = search rules
 
 enum_told : tie.Need-enum-told
 enum_told c = search rules
 
-returns-4 : tie.Need-returns-4
-unfolding withBudget as_number text
-returns-4 c = rw (sym c.before.before.before.before.before.before.before.before.before.is-missing.ensures ∙ c.before.before.before.before.before.before.before.before.if1.false, sym c.before.before.before.before.before.before.is.ensures ∙ not-false _ c.before.before.before.before.before.if2.false, sym c.before.before.before.before.writes.ensures ∙ not-false _ c.before.before.before.if3.false, sym c.before.before.number.ensures ∙ c.enum_told.given.1)
+returns_4 : tie.Need-returns-4
+unfolding with_budget as_number text
+returns_4 c = rw (sym c.before.before.before.before.before.before.before.before.before.is-missing.ensures ∙ c.before.before.before.before.before.before.before.before.if1.false, sym c.before.before.before.before.before.before.is.ensures ∙ not-false _ c.before.before.before.before.before.if2.false, sym c.before.before.before.before.writes.ensures ∙ not-false _ c.before.before.before.if3.false, sym c.before.before.number.ensures ∙ c.enum_told.given.1)
 
-returns-5 : tie.Need-returns-5
-unfolding withBudget as_number text
-returns-5 c = rw (sym c.before.before.before.before.before.before.before.before.before.before.is-missing.ensures ∙ c.before.before.before.before.before.before.before.before.before.if1.false, sym c.before.before.before.before.before.before.before.is.ensures ∙ not-false _ c.before.before.before.before.before.before.if2.false, sym c.before.before.before.before.before.writes.ensures ∙ not-false _ c.before.before.before.before.if3.false, sym c.before.before.before.number.ensures ∙ c.before.budget.given.1)
+returns_5 : tie.Need-returns-5
+unfolding with_budget as_number text
+returns_5 c = rw (sym c.before.before.before.before.before.before.before.before.before.before.is-missing.ensures ∙ c.before.before.before.before.before.before.before.before.before.if1.false, sym c.before.before.before.before.before.before.before.is.ensures ∙ not-false _ c.before.before.before.before.before.before.if2.false, sym c.before.before.before.before.before.writes.ensures ∙ not-false _ c.before.before.before.before.if3.false, sym c.before.before.before.number.ensures ∙ c.before.budget.given.1)
 
-pub with-budget-spec : {M : Type 1} → statement M
-with-budget-spec =
+pub with_budget_spec : {M : Type 1} → statement M
+with_budget_spec =
     tie.close
     (tie.spec
-    is-missing-requires
-    ended-requires
+    is_missing_requires
+    ended_requires
     returns
-    slice-aggregate-is
-    is-requires
-    returns-2
-    writes-requires
-    returns-3
-    number-requires
-    enum-known-budget
+    slice_aggregate_is
+    is_requires
+    returns_2
+    writes_requires
+    returns_3
+    number_requires
+    enum_known_budget
     enum_told
-    returns-4
-    returns-5)
+    returns_4
+    returns_5)

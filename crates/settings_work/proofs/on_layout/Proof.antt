@@ -3,96 +3,96 @@ use mathlib.Core.Path.{sym, ◌∙◌}
 use native.Mathlib.Omega.{arith}
 use lib.ListN.{length-take}
 use lib.Seq.{length-take-le}
-use Rattle.qbx_share_file.proofs.Laws.Lines.{listed-within}
+use Rattle.qbx_share_file.proofs.Laws.Lines.{listed_within}
 use borrow.Author.Rules.{rules}
 use Rattle.settings_work.proofs.on_layout.Statement.{statement}
 use Rattle.settings_work.proofs.on_layout.Tie as tie
 
-slice-aggregate-present : tie.Need-slice-aggregate-present
-slice-aggregate-present c = search rules
+slice_aggregate_present : tie.Need-slice-aggregate-present
+slice_aggregate_present c = search rules
 
-present-requires : tie.Need-present-requires
-present-requires c κs = search rules
+present_requires : tie.Need-present-requires
+present_requires c κs = search rules
 
-slice-aggregate-fail : tie.Need-slice-aggregate-fail
-slice-aggregate-fail c = search rules
+slice_aggregate_fail : tie.Need-slice-aggregate-fail
+slice_aggregate_fail c = search rules
 
-fail-requires : tie.Need-fail-requires
-fail-requires c κs = search rules
+fail_requires : tie.Need-fail-requires
+fail_requires c κs = search rules
 
 returns : tie.Need-returns
 returns c = search rules
 
-slice-aggregate-write-all : tie.Need-slice-aggregate-write-all
-slice-aggregate-write-all c = search rules
+slice_aggregate_write_all : tie.Need-slice-aggregate-write-all
+slice_aggregate_write_all c = search rules
 
-write-all-requires : tie.Need-write-all-requires
-write-all-requires c κs = search rules
+write_all_requires : tie.Need-write-all-requires
+write_all_requires c κs = search rules
 
-returns-2 : tie.Need-returns-2
-returns-2 c = search rules
+returns_2 : tie.Need-returns-2
+returns_2 c = search rules
 
-array-share-prefix-text : tie.Need-array-share-prefix-text
-array-share-prefix-text c = search rules
+array_share_prefix_text : tie.Need-array-share-prefix-text
+array_share_prefix_text c = search rules
 
-slice-aggregate-read-layout : tie.Need-slice-aggregate-read-layout
-slice-aggregate-read-layout c = sym (length-take-le _ _ (omega arith))
+slice_aggregate_read_layout : tie.Need-slice-aggregate-read-layout
+slice_aggregate_read_layout c = sym (length-take-le _ _ (omega arith))
 
-slice-aggregate-read-layout-2 : tie.Need-slice-aggregate-read-layout-2
-slice-aggregate-read-layout-2 c = search rules
+slice_aggregate_read_layout_2 : tie.Need-slice-aggregate-read-layout-2
+slice_aggregate_read_layout_2 c = search rules
 
-read-layout-requires : tie.Need-read-layout-requires
-read-layout-requires c κs = search rules
+read_layout_requires : tie.Need-read-layout-requires
+read_layout_requires c κs = search rules
 
-enum-known-listing : tie.Need-enum-known-listing
-enum-known-listing c = search rules
+enum_known_listing : tie.Need-enum-known-listing
+enum_known_listing c = search rules
 
-array-share-prefix-layout : tie.Need-array-share-prefix-layout
-array-share-prefix-layout c = omega (arith, listed-within 512 _ _ (sym c.before.listing.given.1 ∙ c.before.before.before.before.read-layout.ensures.0))
+array_share_prefix_layout : tie.Need-array-share-prefix-layout
+array_share_prefix_layout c = omega (arith, listed_within 512 _ _ (sym c.before.listing.given.1 ∙ c.before.before.before.before.read-layout.ensures.0))
 
-slice-aggregate-on-image : tie.Need-slice-aggregate-on-image
-slice-aggregate-on-image c = sym (length-take-le _ _ (omega (arith, listed-within 512 _ _ (sym c.before.before.listing.given.1 ∙ c.before.before.before.before.before.read-layout.ensures.0))))
+slice_aggregate_on_image : tie.Need-slice-aggregate-on-image
+slice_aggregate_on_image c = sym (length-take-le _ _ (omega (arith, listed_within 512 _ _ (sym c.before.before.listing.given.1 ∙ c.before.before.before.before.before.read-layout.ensures.0))))
 
-on-image-requires : tie.Need-on-image-requires
-on-image-requires c κs = search rules
+on_image_requires : tie.Need-on-image-requires
+on_image_requires c κs = search rules
 
-enum-known-listing-2 : tie.Need-enum-known-listing-2
-enum-known-listing-2 c = search rules
+enum_known_listing_2 : tie.Need-enum-known-listing-2
+enum_known_listing_2 c = search rules
 
-say-wrong-line-requires : tie.Need-say-wrong-line-requires
-say-wrong-line-requires c κs = search rules
+say_wrong_line_requires : tie.Need-say-wrong-line-requires
+say_wrong_line_requires c κs = search rules
 
-print-requires : tie.Need-print-requires
-print-requires c κs = search rules
+print_requires : tie.Need-print-requires
+print_requires c κs = search rules
 
-returns-3 : tie.Need-returns-3
-returns-3 c = search rules
+returns_3 : tie.Need-returns-3
+returns_3 c = search rules
 
-returns-4 : tie.Need-returns-4
-returns-4 c = search rules
+returns_4 : tie.Need-returns-4
+returns_4 c = search rules
 
-pub on-layout-spec : {M : Type 1} → statement M
-on-layout-spec =
+pub on_layout_spec : {M : Type 1} → statement M
+on_layout_spec =
     tie.close
     (tie.spec
-    slice-aggregate-present
-    present-requires
-    slice-aggregate-fail
-    fail-requires
+    slice_aggregate_present
+    present_requires
+    slice_aggregate_fail
+    fail_requires
     returns
-    slice-aggregate-write-all
-    write-all-requires
-    returns-2
-    array-share-prefix-text
-    slice-aggregate-read-layout
-    slice-aggregate-read-layout-2
-    read-layout-requires
-    enum-known-listing
-    array-share-prefix-layout
-    slice-aggregate-on-image
-    on-image-requires
-    enum-known-listing-2
-    say-wrong-line-requires
-    print-requires
-    returns-3
-    returns-4)
+    slice_aggregate_write_all
+    write_all_requires
+    returns_2
+    array_share_prefix_text
+    slice_aggregate_read_layout
+    slice_aggregate_read_layout_2
+    read_layout_requires
+    enum_known_listing
+    array_share_prefix_layout
+    slice_aggregate_on_image
+    on_image_requires
+    enum_known_listing_2
+    say_wrong_line_requires
+    print_requires
+    returns_3
+    returns_4)

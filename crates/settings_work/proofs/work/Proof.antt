@@ -6,14 +6,14 @@ use borrow.Author.Rules.{rules}
 use Rattle.settings_work.proofs.work.Statement.{statement}
 use Rattle.settings_work.proofs.work.Tie as tie
 
-present-requires : tie.Need-present-requires
-present-requires c κs = search rules
+present_requires : tie.Need-present-requires
+present_requires c κs = search rules
 
-slice-aggregate-fail : tie.Need-slice-aggregate-fail
-slice-aggregate-fail c = search rules
+slice_aggregate_fail : tie.Need-slice-aggregate-fail
+slice_aggregate_fail c = search rules
 
-fail-requires : tie.Need-fail-requires
-fail-requires c κs = search rules
+fail_requires : tie.Need-fail-requires
+fail_requires c κs = search rules
 
 same_length : tie.Need-same-length
 same_length c = search rules
@@ -21,48 +21,48 @@ same_length c = search rules
 returns : tie.Need-returns
 returns c = search rules
 
-slice-aggregate-write-all : tie.Need-slice-aggregate-write-all
-slice-aggregate-write-all c = search rules
+slice_aggregate_write_all : tie.Need-slice-aggregate-write-all
+slice_aggregate_write_all c = search rules
 
-write-all-requires : tie.Need-write-all-requires
-write-all-requires c κs = search rules
+write_all_requires : tie.Need-write-all-requires
+write_all_requires c κs = search rules
 
-same-length-2 : tie.Need-same-length-2
-same-length-2 c = search rules
+same_length_2 : tie.Need-same-length-2
+same_length_2 c = search rules
 
-returns-2 : tie.Need-returns-2
-returns-2 c = search rules
+returns_2 : tie.Need-returns-2
+returns_2 c = search rules
 
-slice-relend-prefix-act : tie.Need-slice-relend-prefix-act
-slice-relend-prefix-act c = search rules
+slice_relend_prefix_act : tie.Need-slice-relend-prefix-act
+slice_relend_prefix_act c = search rules
 
-slice-aggregate-act : tie.Need-slice-aggregate-act
-slice-aggregate-act c = sym (length-take-le _ _ (omega arith))
+slice_aggregate_act : tie.Need-slice-aggregate-act
+slice_aggregate_act c = sym (length-take-le _ _ (omega arith))
 
-act-requires : tie.Need-act-requires
-act-requires c κs = search rules
+act_requires : tie.Need-act-requires
+act_requires c κs = search rules
 
-same-length-3 : tie.Need-same-length-3
-same-length-3 c = search rules
+same_length_3 : tie.Need-same-length-3
+same_length_3 c = search rules
 
-returns-3 : tie.Need-returns-3
-returns-3 c = search rules
+returns_3 : tie.Need-returns-3
+returns_3 c = search rules
 
-pub work-spec : {M : Type 1} → statement M
-work-spec =
+pub work_spec : {M : Type 1} → statement M
+work_spec =
     tie.close
     (tie.spec
-    present-requires
-    slice-aggregate-fail
-    fail-requires
+    present_requires
+    slice_aggregate_fail
+    fail_requires
     same_length
     returns
-    slice-aggregate-write-all
-    write-all-requires
-    same-length-2
-    returns-2
-    slice-relend-prefix-act
-    slice-aggregate-act
-    act-requires
-    same-length-3
-    returns-3)
+    slice_aggregate_write_all
+    write_all_requires
+    same_length_2
+    returns_2
+    slice_relend_prefix_act
+    slice_aggregate_act
+    act_requires
+    same_length_3
+    returns_3)

@@ -5,55 +5,55 @@ use lib.ListN.{length}
 use borrow.Author.Rules.{rules}
 use borrow.Author.Tests.{not-true, not-false}
 use Rattle.shares.specs.Shares.{shares_of, disjoint}
-use Rattle.share_list.specs.Places.{Stands, sharesFrom}
-use Rattle.share_list.proofs.Laws.{shares-end, stands-next, disjoint-next, goes_on, stops}
+use Rattle.share_list.specs.Places.{Stands, shares_from}
+use Rattle.share_list.proofs.Laws.{shares_end, stands_next, disjoint_next, goes_on, stops}
 use Rattle.share_list.proofs.all_apart.Statement.{statement}
 use Rattle.share_list.proofs.all_apart.Tie as tie
 
-abbrev invariant-loop : tie.invariant-loop
-invariant-loop shares at₀ at = Stands shares at × (disjoint (shares_of shares) ≡ disjoint (sharesFrom shares at))
+abbrev invariant_loop : tie.invariant-loop
+invariant_loop shares at₀ at = Stands shares at × (disjoint (shares_of shares) ≡ disjoint (shares_from shares at))
 
-abbrev decreases-loop : tie.decreases-loop
-decreases-loop shares at₀ at = length shares - at
+abbrev decreases_loop : tie.decreases-loop
+decreases_loop shares at₀ at = length shares - at
 
-loop-holds : tie.Need-loop-init invariant-loop decreases-loop
-loop-holds c = (c.before.requires, refl)
+loop_holds : tie.Need-loop-init invariant_loop decreases_loop
+loop_holds c = (c.before.requires, refl)
 
-apart-requires : tie.Need-apart-requires invariant-loop decreases-loop
-apart-requires c κs = (c.before.loop.invariant.0, c.loop-test.true)
+apart_requires : tie.Need-apart-requires invariant_loop decreases_loop
+apart_requires c κs = (c.before.loop.invariant.0, c.loop-test.true)
 
-returns : tie.Need-returns invariant-loop decreases-loop
+returns : tie.Need-returns invariant_loop decreases_loop
 returns c =
     let l = c.before.before.before in
-    stops _ _ (l.loop.invariant.1 ∙ disjoint-next l.before.before.args.shares.now l.loop.at l.loop.invariant.0 c.before.before.loop-test.true) (sym c.before.apart.ensures ∙ not-true _ c.if1.true)
+    stops _ _ (l.loop.invariant.1 ∙ disjoint_next l.before.before.args.shares.now l.loop.at l.loop.invariant.0 c.before.before.loop-test.true) (sym c.before.apart.ensures ∙ not-true _ c.if1.true)
 
-add_at : tie.Need-overflow-add-at invariant-loop decreases-loop
+add_at : tie.Need-overflow-add-at invariant_loop decreases_loop
 add_at c = search rules
 
-loop-less : tie.Need-loop-smaller invariant-loop decreases-loop
-loop-less c = search rules
+loop_less : tie.Need-loop-smaller invariant_loop decreases_loop
+loop_less c = search rules
 
-loop-again : tie.Need-loop-preserved invariant-loop decreases-loop
-loop-again c =
+loop_again : tie.Need-loop-preserved invariant_loop decreases_loop
+loop_again c =
     let l = c.before.before.before in
     let ns = l.before.before.args.shares.now in
     let here = c.before.before.loop-test.true in
-    (stands-next ns l.loop.at l.loop.invariant.0 here, goes_on _ _ (l.loop.invariant.1 ∙ disjoint-next ns l.loop.at l.loop.invariant.0 here) (sym c.before.apart.ensures ∙ not-false _ c.if1.false))
+    (stands_next ns l.loop.at l.loop.invariant.0 here, goes_on _ _ (l.loop.invariant.1 ∙ disjoint_next ns l.loop.at l.loop.invariant.0 here) (sym c.before.apart.ensures ∙ not-false _ c.if1.false))
 
-returns-2 : tie.Need-returns-2 invariant-loop decreases-loop
+returns_2 : tie.Need-returns-2 invariant_loop decreases_loop
 unfolding disjoint
-returns-2 c = let l = c.before.loop in sym (l.invariant.1 ∙ ap disjoint (shares-end _ l.at l.invariant.0 c.loop-test.false))
+returns_2 c = let l = c.before.loop in sym (l.invariant.1 ∙ ap disjoint (shares_end _ l.at l.invariant.0 c.loop-test.false))
 
-pub all-apart-spec : {M : Type 1} → statement M
-all-apart-spec =
+pub all_apart_spec : {M : Type 1} → statement M
+all_apart_spec =
     tie.close
     (tie.spec
-    invariant-loop
-    decreases-loop
-    loop-holds
-    apart-requires
+    invariant_loop
+    decreases_loop
+    loop_holds
+    apart_requires
     returns
     add_at
-    loop-less
-    loop-again
-    returns-2)
+    loop_less
+    loop_again
+    returns_2)

@@ -4,8 +4,8 @@ use borrow.Author.Rules.{rules}
 use Rattle.slot.proofs.mark_dead.Statement.{statement}
 use Rattle.slot.proofs.mark_dead.Tie as tie
 
-program-byte-requires : tie.Need-program-byte-requires
-program-byte-requires c κs = search rules
+program_byte_requires : tie.Need-program-byte-requires
+program_byte_requires c κs = search rules
 
 same_length : tie.Need-same-length
 same_length c = search rules
@@ -13,5 +13,5 @@ same_length c = search rules
 returns : tie.Need-returns
 returns c = marked _ c.before.before.program-byte.ensures
 
-pub mark-dead-spec : {M : Type 1} → statement M
-mark-dead-spec = tie.close (tie.spec program-byte-requires same_length returns)
+pub mark_dead_spec : {M : Type 1} → statement M
+mark_dead_spec = tie.close (tie.spec program_byte_requires same_length returns)

@@ -1,17 +1,17 @@
 -- `slot::write_slot` does the steps of the definition, in the slot's page. Assumes nothing.
-use Rattle.slot.proofs.Laws.Writes.{slot-written}
+use Rattle.slot.proofs.Laws.Writes.{slot_written}
 use borrow.Author.Rules.{rules}
 use Rattle.slot.proofs.write_slot.Statement.{statement}
 use Rattle.slot.proofs.write_slot.Tie as tie
 
-slot-page-requires : tie.Need-slot-page-requires
-slot-page-requires c κs = search rules
+slot_page_requires : tie.Need-slot-page-requires
+slot_page_requires c κs = search rules
 
-slice-aggregate-write-page : tie.Need-slice-aggregate-write-page
-slice-aggregate-write-page c = search rules
+slice_aggregate_write_page : tie.Need-slice-aggregate-write-page
+slice_aggregate_write_page c = search rules
 
-write-page-requires : tie.Need-write-page-requires
-write-page-requires c κs = search rules
+write_page_requires : tie.Need-write-page-requires
+write_page_requires c κs = search rules
 
 same_length : tie.Need-same-length
 same_length c = search rules
@@ -19,14 +19,14 @@ same_length c = search rules
 returns : tie.Need-returns
 returns c =
     let a = c.before.before.before.before.before.before.before.before.args in
-    slot-written a.place.0 a.block.0 a.contents.now _ c.before.before.before.before.before.slot-page.ensures c.before.before.write-page.ensures
+    slot_written a.place.0 a.block.0 a.contents.now _ c.before.before.before.before.before.slot-page.ensures c.before.before.write-page.ensures
 
-pub write-slot-spec : {M : Type 1} → statement M
-write-slot-spec =
+pub write_slot_spec : {M : Type 1} → statement M
+write_slot_spec =
     tie.close
     (tie.spec
-    slot-page-requires
-    slice-aggregate-write-page
-    write-page-requires
+    slot_page_requires
+    slice_aggregate_write_page
+    write_page_requires
     same_length
     returns)

@@ -1,27 +1,27 @@
 -- `store::delete` is the request of the definition. Assumes nothing.
 use mathlib.Core.Path.{subst}
 use Rattle.looking.specs.Look.{Looks}
-use Rattle.store.proofs.Laws.Requests.{delete-refused, delete-page, delete-done}
+use Rattle.store.proofs.Laws.Requests.{delete_refused, delete_page, delete_done}
 use borrow.Author.Rules.{rules}
 use Rattle.store.proofs.delete.Statement.{statement}
 use Rattle.store.proofs.delete.Tie as tie
 
-look-requires : tie.Need-look-requires
-look-requires c κs = search rules
+look_requires : tie.Need-look-requires
+look_requires c κs = search rules
 
-enum-known-looked : tie.Need-enum-known-looked
-enum-known-looked c = search rules
+enum_known_looked : tie.Need-enum-known-looked
+enum_known_looked c = search rules
 
-refused-requires : tie.Need-refused-requires
-refused-requires c κs = search rules
+refused_requires : tie.Need-refused-requires
+refused_requires c κs = search rules
 
-enum-known-looked-2 : tie.Need-enum-known-looked-2
-enum-known-looked-2 c = search rules
+enum_known_looked_2 : tie.Need-enum-known-looked-2
+enum_known_looked_2 c = search rules
 
-mark-slot-requires : tie.Need-mark-slot-requires
-mark-slot-requires c κs =
+mark_slot_requires : tie.Need-mark-slot-requires
+mark_slot_requires c κs =
     let a = c.before.before.before.before.before.before.before.args in
-    delete-page a.segments a.slots a.image.now a.budget a.block.0 (subst (Looks a.segments a.slots a.image.now a.block.0) c.before.before.looked2.given.1 c.before.before.before.before.look.ensures)
+    delete_page a.segments a.slots a.image.now a.budget a.block.0 (subst (Looks a.segments a.slots a.image.now a.block.0) c.before.before.looked2.given.1 c.before.before.before.before.look.ensures)
 
 same_length : tie.Need-same-length
 same_length c = search rules
@@ -29,28 +29,28 @@ same_length c = search rules
 returns : tie.Need-returns
 returns c =
     let a = c.before.before.before.before.before.before.before.args in
-    delete-refused a.segments a.slots a.image.now a.budget a.block.0 c.before.before.looked.given.0.0
+    delete_refused a.segments a.slots a.image.now a.budget a.block.0 c.before.before.looked.given.0.0
     (subst (Looks a.segments a.slots a.image.now a.block.0) c.before.before.looked.given.1 c.before.before.before.before.look.ensures) c.refused.ensures
 
-same-length-2 : tie.Need-same-length-2
-same-length-2 c = search rules
+same_length_2 : tie.Need-same-length-2
+same_length_2 c = search rules
 
-returns-2 : tie.Need-returns-2
-returns-2 c =
+returns_2 : tie.Need-returns-2
+returns_2 c =
     let a = c.before.before.before.before.before.before.before.before.before.before.args in
-    delete-done a.segments a.slots a.image.now a.budget a.block.0
+    delete_done a.segments a.slots a.image.now a.budget a.block.0
     (subst (Looks a.segments a.slots a.image.now a.block.0) c.before.before.before.before.before.looked2.given.1 c.before.before.before.before.before.before.before.look.ensures) c.before.before.mark-slot.ensures
 
-pub delete-spec : {M : Type 1} → statement M
-delete-spec =
+pub delete_spec : {M : Type 1} → statement M
+delete_spec =
     tie.close
     (tie.spec
-    look-requires
-    enum-known-looked
-    refused-requires
-    enum-known-looked-2
-    mark-slot-requires
+    look_requires
+    enum_known_looked
+    refused_requires
+    enum_known_looked_2
+    mark_slot_requires
     same_length
     returns
-    same-length-2
-    returns-2)
+    same_length_2
+    returns_2)

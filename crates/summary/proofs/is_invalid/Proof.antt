@@ -1,6 +1,6 @@
 -- `summary::is_invalid` is the test of the definition. Assumes nothing.
-use Rattle.model.specs.State.{isInvalid}
-use Rattle.judge.specs.Heads.{bare, bareOf}
+use Rattle.model.specs.State.{is_invalid}
+use Rattle.judge.specs.Heads.{bare, bare_of}
 use borrow.Author.Rules.{rules}
 use Rattle.summary.proofs.is_invalid.Statement.{statement}
 use Rattle.summary.proofs.is_invalid.Tie as tie
@@ -8,32 +8,32 @@ use Rattle.summary.proofs.is_invalid.Tie as tie
 enum_told : tie.Need-enum-told
 enum_told c = search rules
 
-enum-told-2 : tie.Need-enum-told-2
-enum-told-2 c = search rules
+enum_told_2 : tie.Need-enum-told-2
+enum_told_2 c = search rules
 
-enum-told-3 : tie.Need-enum-told-3
-enum-told-3 c = search rules
+enum_told_3 : tie.Need-enum-told-3
+enum_told_3 c = search rules
 
-enum-told-4 : tie.Need-enum-told-4
-enum-told-4 c = search rules
+enum_told_4 : tie.Need-enum-told-4
+enum_told_4 c = search rules
 
 returns : tie.Need-returns
-unfolding isInvalid bare bareOf
+unfolding is_invalid bare bare_of
 returns c = rw c.enum_told.given.1
 
-returns-2 : tie.Need-returns-2
-unfolding isInvalid bare bareOf
-returns-2 c = rw c.enum-told2.given.1
+returns_2 : tie.Need-returns-2
+unfolding is_invalid bare bare_of
+returns_2 c = rw c.enum-told2.given.1
 
-returns-3 : tie.Need-returns-3
-unfolding isInvalid bare bareOf
-returns-3 c = rw c.enum-told3.given.1
+returns_3 : tie.Need-returns-3
+unfolding is_invalid bare bare_of
+returns_3 c = rw c.enum-told3.given.1
 
-returns-4 : tie.Need-returns-4
-unfolding isInvalid bare bareOf
-returns-4 c = rw c.enum-told4.given.1
+returns_4 : tie.Need-returns-4
+unfolding is_invalid bare bare_of
+returns_4 c = rw c.enum-told4.given.1
 
-pub is-invalid-spec : {M : Type 1} → statement M
-is-invalid-spec =
+pub is_invalid_spec : {M : Type 1} → statement M
+is_invalid_spec =
     tie.close
-    (tie.spec enum_told enum-told-2 enum-told-3 enum-told-4 returns returns-2 returns-3 returns-4)
+    (tie.spec enum_told enum_told_2 enum_told_3 enum_told_4 returns returns_2 returns_3 returns_4)

@@ -4,17 +4,17 @@ use borrow.Author.Rules.{rules}
 use Rattle.summary.proofs.shows_blank.Statement.{statement}
 use Rattle.summary.proofs.shows_blank.Tie as tie
 
-is-in-use-requires : tie.Need-is-in-use-requires
-is-in-use-requires c κs = search rules
+is_in_use_requires : tie.Need-is-in-use-requires
+is_in_use_requires c κs = search rules
 
 returns : tie.Need-returns
 returns c = rw (sym c.before.is-in-use.ensures ∙ c.if1.true)
 
-is-invalid-requires : tie.Need-is-invalid-requires
-is-invalid-requires c κs = search rules
+is_invalid_requires : tie.Need-is-invalid-requires
+is_invalid_requires c κs = search rules
 
-returns-2 : tie.Need-returns-2
-returns-2 c = rw (c.is-invalid.ensures, sym c.before.before.is-in-use.ensures ∙ c.before.if1.false)
+returns_2 : tie.Need-returns-2
+returns_2 c = rw (c.is-invalid.ensures, sym c.before.before.is-in-use.ensures ∙ c.before.if1.false)
 
-pub shows-blank-spec : {M : Type 1} → statement M
-shows-blank-spec = tie.close (tie.spec is-in-use-requires returns is-invalid-requires returns-2)
+pub shows_blank_spec : {M : Type 1} → statement M
+shows_blank_spec = tie.close (tie.spec is_in_use_requires returns is_invalid_requires returns_2)

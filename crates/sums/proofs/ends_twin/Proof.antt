@@ -1,5 +1,5 @@
 -- `sums::ends_twin` is the test of the definition. Assumes nothing.
-use Rattle.judge.specs.Endings.{endsTwin}
+use Rattle.judge.specs.Endings.{ends_twin}
 use borrow.Author.Rules.{rules}
 use Rattle.sums.proofs.ends_twin.Statement.{statement}
 use Rattle.sums.proofs.ends_twin.Tie as tie
@@ -7,49 +7,49 @@ use Rattle.sums.proofs.ends_twin.Tie as tie
 enum_told : tie.Need-enum-told
 enum_told c = search rules
 
-enum-told-2 : tie.Need-enum-told-2
-enum-told-2 c = search rules
+enum_told_2 : tie.Need-enum-told-2
+enum_told_2 c = search rules
 
-enum-told-3 : tie.Need-enum-told-3
-enum-told-3 c = search rules
+enum_told_3 : tie.Need-enum-told-3
+enum_told_3 c = search rules
 
-enum-told-4 : tie.Need-enum-told-4
-enum-told-4 c = search rules
+enum_told_4 : tie.Need-enum-told-4
+enum_told_4 c = search rules
 
-enum-told-5 : tie.Need-enum-told-5
-enum-told-5 c = search rules
+enum_told_5 : tie.Need-enum-told-5
+enum_told_5 c = search rules
 
 returns : tie.Need-returns
-unfolding endsTwin
+unfolding ends_twin
 returns c = rw c.enum_told.given.1
 
-returns-2 : tie.Need-returns-2
-unfolding endsTwin
-returns-2 c = rw c.enum-told2.given.1
+returns_2 : tie.Need-returns-2
+unfolding ends_twin
+returns_2 c = rw c.enum-told2.given.1
 
-returns-3 : tie.Need-returns-3
-unfolding endsTwin
-returns-3 c = rw c.enum-told3.given.1
+returns_3 : tie.Need-returns-3
+unfolding ends_twin
+returns_3 c = rw c.enum-told3.given.1
 
-returns-4 : tie.Need-returns-4
-unfolding endsTwin
-returns-4 c = rw c.enum-told4.given.1
+returns_4 : tie.Need-returns-4
+unfolding ends_twin
+returns_4 c = rw c.enum-told4.given.1
 
-returns-5 : tie.Need-returns-5
-unfolding endsTwin
-returns-5 c = rw c.enum-told5.given.1
+returns_5 : tie.Need-returns-5
+unfolding ends_twin
+returns_5 c = rw c.enum-told5.given.1
 
-pub ends-twin-spec : {M : Type 1} → statement M
-ends-twin-spec =
+pub ends_twin_spec : {M : Type 1} → statement M
+ends_twin_spec =
     tie.close
     (tie.spec
     enum_told
-    enum-told-2
-    enum-told-3
-    enum-told-4
-    enum-told-5
+    enum_told_2
+    enum_told_3
+    enum_told_4
+    enum_told_5
     returns
-    returns-2
-    returns-3
-    returns-4
-    returns-5)
+    returns_2
+    returns_3
+    returns_4
+    returns_5)

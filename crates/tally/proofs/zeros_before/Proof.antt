@@ -4,53 +4,53 @@ use mathlib.Core.Path.{◌≡◌}
 use native.Mathlib.Nat.{zero-add}
 use native.Mathlib.Omega.{arith}
 use lib.ListN.{length, drop}
-use Rattle.tally.specs.Seen.{zerosBefore}
-use Rattle.tally.proofs.Laws.{zeros-next, zeros-stop, zeros-end}
+use Rattle.tally.specs.Seen.{zeros_before}
+use Rattle.tally.proofs.Laws.{zeros_next, zeros_stop, zeros_end}
 use borrow.Author.Rules.{rules}
 use Rattle.tally.proofs.zeros_before.Statement.{statement}
 use Rattle.tally.proofs.zeros_before.Tie as tie
 
-abbrev invariant-loop : tie.invariant-loop
-invariant-loop bytes i₀ i = (i ≤ length bytes) × (i + zerosBefore (drop i bytes) ≡ zerosBefore bytes)
+abbrev invariant_loop : tie.invariant-loop
+invariant_loop bytes i₀ i = (i ≤ length bytes) × (i + zeros_before (drop i bytes) ≡ zeros_before bytes)
 
-abbrev decreases-loop : tie.decreases-loop
-decreases-loop bytes i₀ i = length bytes - i
+abbrev decreases_loop : tie.decreases-loop
+decreases_loop bytes i₀ i = length bytes - i
 
-loop-holds : tie.Need-loop-init invariant-loop decreases-loop
-loop-holds c = (omega arith, zero-add _)
+loop_holds : tie.Need-loop-init invariant_loop decreases_loop
+loop_holds c = (omega arith, zero-add _)
 
-shared-slice-read-if1 : tie.Need-shared-slice-read-if1 invariant-loop decreases-loop
-shared-slice-read-if1 c = search rules
+shared_slice_read_if1 : tie.Need-shared-slice-read-if1 invariant_loop decreases_loop
+shared_slice_read_if1 c = search rules
 
-returns : tie.Need-returns invariant-loop decreases-loop
+returns : tie.Need-returns invariant_loop decreases_loop
 returns c =
     let k = c.before.before.before in
-    omega (arith, zeros-stop k.before.args.bytes.now k.loop.i c.before.before.loop-test.true c.if1.true, k.loop.invariant.1)
+    omega (arith, zeros_stop k.before.args.bytes.now k.loop.i c.before.before.loop-test.true c.if1.true, k.loop.invariant.1)
 
-add-i : tie.Need-overflow-add-i invariant-loop decreases-loop
-add-i c = search rules
+add_i : tie.Need-overflow-add-i invariant_loop decreases_loop
+add_i c = search rules
 
-loop-less : tie.Need-loop-smaller invariant-loop decreases-loop
-loop-less c = search rules
+loop_less : tie.Need-loop-smaller invariant_loop decreases_loop
+loop_less c = search rules
 
-loop-again : tie.Need-loop-preserved invariant-loop decreases-loop
-loop-again c =
+loop_again : tie.Need-loop-preserved invariant_loop decreases_loop
+loop_again c =
     let k = c.before.before.before in
-    (omega arith, omega (arith, zeros-next k.before.args.bytes.now k.loop.i c.before.before.loop-test.true c.if1.false, k.loop.invariant.1))
+    (omega arith, omega (arith, zeros_next k.before.args.bytes.now k.loop.i c.before.before.loop-test.true c.if1.false, k.loop.invariant.1))
 
-returns-2 : tie.Need-returns-2 invariant-loop decreases-loop
-returns-2 c = omega (arith, zeros-end c.before.before.args.bytes.now c.before.loop.i c.loop-test.false, c.before.loop.invariant.1)
+returns_2 : tie.Need-returns-2 invariant_loop decreases_loop
+returns_2 c = omega (arith, zeros_end c.before.before.args.bytes.now c.before.loop.i c.loop-test.false, c.before.loop.invariant.1)
 
-pub zeros-before-spec : {M : Type 1} → statement M
-zeros-before-spec =
+pub zeros_before_spec : {M : Type 1} → statement M
+zeros_before_spec =
     tie.close
     (tie.spec
-    invariant-loop
-    decreases-loop
-    loop-holds
-    shared-slice-read-if1
+    invariant_loop
+    decreases_loop
+    loop_holds
+    shared_slice_read_if1
     returns
-    add-i
-    loop-less
-    loop-again
-    returns-2)
+    add_i
+    loop_less
+    loop_again
+    returns_2)

@@ -6,43 +6,43 @@ use native.Mathlib.Omega.{arith}
 use lib.ListN.{length, take, set, get_or, length-set}
 use lib.Seq.{take_all}
 use Rattle.text.specs.Buffer.{over}
-use Rattle.text.proofs.Laws.{copy-none, copy_more}
+use Rattle.text.proofs.Laws.{copy_none, copy_more}
 use borrow.Author.Rules.{rules}
 use Rattle.text.proofs.add.Statement.{statement}
 use Rattle.text.proofs.add.Tie as tie
 
-abbrev invariant-loop : tie.invariant-loop
-invariant-loop text₀ at bytes end i₀ text i = (i ≤ length bytes) × (at + length bytes ≤ length text₀) × (length text ≡ length text₀) × (text ≡ over text₀ at (take i bytes))
+abbrev invariant_loop : tie.invariant-loop
+invariant_loop text₀ at bytes end i₀ text i = (i ≤ length bytes) × (at + length bytes ≤ length text₀) × (length text ≡ length text₀) × (text ≡ over text₀ at (take i bytes))
 
-abbrev decreases-loop : tie.decreases-loop
-decreases-loop text₀ at bytes end i₀ text i = length bytes - i
+abbrev decreases_loop : tie.decreases-loop
+decreases_loop text₀ at bytes end i₀ text i = length bytes - i
 
-add-end : tie.Need-overflow-add-end invariant-loop decreases-loop
-add-end c = search rules
+add_end : tie.Need-overflow-add-end invariant_loop decreases_loop
+add_end c = search rules
 
-returns : tie.Need-returns invariant-loop decreases-loop
+returns : tie.Need-returns invariant_loop decreases_loop
 returns c = record { ends = refl; kept = refl; there = λ h. absurd (omega (arith, c.if1.true)) }
 
-loop-holds : tie.Need-loop-init invariant-loop decreases-loop
-loop-holds c = (omega arith, omega (arith, c.if1.false), refl, copy-none c.before.args.text.now c.before.args.at c.before.args.bytes.now)
+loop_holds : tie.Need-loop-init invariant_loop decreases_loop
+loop_holds c = (omega arith, omega (arith, c.if1.false), refl, copy_none c.before.args.text.now c.before.args.at c.before.args.bytes.now)
 
-shared-slice-read-text : tie.Need-shared-slice-read-text invariant-loop decreases-loop
-shared-slice-read-text c = search rules
+shared_slice_read_text : tie.Need-shared-slice-read-text invariant_loop decreases_loop
+shared_slice_read_text c = search rules
 
-add-text : tie.Need-overflow-add-text invariant-loop decreases-loop
-add-text c = search rules
+add_text : tie.Need-overflow-add-text invariant_loop decreases_loop
+add_text c = search rules
 
-slice-write-text : tie.Need-slice-write-text invariant-loop decreases-loop
-slice-write-text c = search rules
+slice_write_text : tie.Need-slice-write-text invariant_loop decreases_loop
+slice_write_text c = search rules
 
-add-i : tie.Need-overflow-add-i invariant-loop decreases-loop
-add-i c = search rules
+add_i : tie.Need-overflow-add-i invariant_loop decreases_loop
+add_i c = search rules
 
-loop-less : tie.Need-loop-smaller invariant-loop decreases-loop
-loop-less c = search rules
+loop_less : tie.Need-loop-smaller invariant_loop decreases_loop
+loop_less c = search rules
 
-loop-again : tie.Need-loop-preserved invariant-loop decreases-loop
-loop-again c =
+loop_again : tie.Need-loop-preserved invariant_loop decreases_loop
+loop_again c =
     let k = c.before.before in
     let t = c.before.loop-test.true in
     let e = k.loop.invariant.3 in (
@@ -52,11 +52,11 @@ loop-again c =
       ap (λ (z : List ℕ). set z (k.before.before.args.at + k.loop.i) (get_or k.before.before.args.bytes.now k.loop.i 0)) e ∙ copy_more _ _ _ _ t k.loop.invariant.1,
     )
 
-same_length : tie.Need-same-length invariant-loop decreases-loop
+same_length : tie.Need-same-length invariant_loop decreases_loop
 same_length c = search rules
 
-returns-2 : tie.Need-returns-2 invariant-loop decreases-loop
-returns-2 c =
+returns_2 : tie.Need-returns-2 invariant_loop decreases_loop
+returns_2 c =
     let k = c.before in
     let a = k.before.before.args in
     let w : take k.loop.i a.bytes.now ≡ a.bytes.now = take_all k.loop.i a.bytes.now c.loop-test.false in
@@ -66,16 +66,16 @@ pub add_spec : {M : Type 1} → statement M
 add_spec =
     tie.close
     (tie.spec
-    invariant-loop
-    decreases-loop
-    add-end
+    invariant_loop
+    decreases_loop
+    add_end
     returns
-    loop-holds
-    shared-slice-read-text
-    add-text
-    slice-write-text
-    add-i
-    loop-less
-    loop-again
+    loop_holds
+    shared_slice_read_text
+    add_text
+    slice_write_text
+    add_i
+    loop_less
+    loop_again
     same_length
-    returns-2)
+    returns_2)

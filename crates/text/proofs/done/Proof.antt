@@ -8,5 +8,5 @@ returns : tie.Need-returns
 unfolding done_of
 returns c = refl
 
-pub done-spec : {M : Type 1} → statement M
-done-spec = tie.close (tie.spec returns)
+pub done_spec : {M : Type 1} → statement M
+done_spec = tie.close (tie.spec returns)

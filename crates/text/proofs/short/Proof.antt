@@ -8,5 +8,5 @@ returns : tie.Need-returns
 unfolding short_of
 returns c = refl
 
-pub short-spec : {M : Type 1} → statement M
-short-spec = tie.close (tie.spec returns)
+pub short_spec : {M : Type 1} → statement M
+short_spec = tie.close (tie.spec returns)

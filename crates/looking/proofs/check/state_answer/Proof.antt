@@ -1,5 +1,5 @@
 -- `looking::check::state_answer` goes by the state that a survey says. Assumes nothing.
-use Rattle.scan.specs.Surveys.{stateIn}
+use Rattle.scan.specs.Surveys.{state_in}
 use Rattle.bridge.specs.Refusals.{answer_in}
 use borrow.Author.Rules.{rules}
 use Rattle.looking.proofs.check.state_answer.Statement.{statement}
@@ -8,58 +8,58 @@ use Rattle.looking.proofs.check.state_answer.Tie as tie
 enum_told : tie.Need-enum-told
 enum_told c = search rules
 
-enum-told-2 : tie.Need-enum-told-2
-enum-told-2 c = search rules
+enum_told_2 : tie.Need-enum-told-2
+enum_told_2 c = search rules
 
-enum-told-3 : tie.Need-enum-told-3
-enum-told-3 c = search rules
+enum_told_3 : tie.Need-enum-told-3
+enum_told_3 c = search rules
 
-enum-told-4 : tie.Need-enum-told-4
-enum-told-4 c = search rules
+enum_told_4 : tie.Need-enum-told-4
+enum_told_4 c = search rules
 
-enum-told-5 : tie.Need-enum-told-5
-enum-told-5 c = search rules
+enum_told_5 : tie.Need-enum-told-5
+enum_told_5 c = search rules
 
-enum-told-6 : tie.Need-enum-told-6
-enum-told-6 c = search rules
+enum_told_6 : tie.Need-enum-told-6
+enum_told_6 c = search rules
 
 returns : tie.Need-returns
-unfolding stateIn answer_in
+unfolding state_in answer_in
 returns c = rw c.enum_told.given.1
 
-returns-2 : tie.Need-returns-2
-unfolding stateIn answer_in
-returns-2 c = rw c.enum-told2.given.1
+returns_2 : tie.Need-returns-2
+unfolding state_in answer_in
+returns_2 c = rw c.enum-told2.given.1
 
-returns-3 : tie.Need-returns-3
-unfolding stateIn answer_in
-returns-3 c = rw c.enum-told3.given.1
+returns_3 : tie.Need-returns-3
+unfolding state_in answer_in
+returns_3 c = rw c.enum-told3.given.1
 
-returns-4 : tie.Need-returns-4
-unfolding stateIn answer_in
-returns-4 c = rw c.enum-told4.given.1
+returns_4 : tie.Need-returns-4
+unfolding state_in answer_in
+returns_4 c = rw c.enum-told4.given.1
 
-returns-5 : tie.Need-returns-5
-unfolding stateIn answer_in
-returns-5 c = rw c.enum-told5.given.1
+returns_5 : tie.Need-returns-5
+unfolding state_in answer_in
+returns_5 c = rw c.enum-told5.given.1
 
-returns-6 : tie.Need-returns-6
-unfolding stateIn answer_in
-returns-6 c = rw c.enum-told6.given.1
+returns_6 : tie.Need-returns-6
+unfolding state_in answer_in
+returns_6 c = rw c.enum-told6.given.1
 
-pub state-answer-spec : {M : Type 1} → statement M
-state-answer-spec =
+pub state_answer_spec : {M : Type 1} → statement M
+state_answer_spec =
     tie.close
     (tie.spec
     enum_told
-    enum-told-2
-    enum-told-3
-    enum-told-4
-    enum-told-5
-    enum-told-6
+    enum_told_2
+    enum_told_3
+    enum_told_4
+    enum_told_5
+    enum_told_6
     returns
-    returns-2
-    returns-3
-    returns-4
-    returns-5
-    returns-6)
+    returns_2
+    returns_3
+    returns_4
+    returns_5
+    returns_6)

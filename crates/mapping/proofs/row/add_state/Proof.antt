@@ -6,17 +6,17 @@ use borrow.Author.Rules.{rules}
 use Rattle.mapping.proofs.row.add_state.Statement.{statement}
 use Rattle.mapping.proofs.row.add_state.Tie as tie
 
-add-requires : tie.Need-add-requires
-add-requires c κs = search rules
+add_requires : tie.Need-add-requires
+add_requires c κs = search rules
 
-add-padded-requires : tie.Need-add-padded-requires
-add-padded-requires c κs = search rules
+add_padded_requires : tie.Need-add-padded-requires
+add_padded_requires c κs = search rules
 
-slice-aggregate-add : tie.Need-slice-aggregate-add
-slice-aggregate-add c = search rules
+slice_aggregate_add : tie.Need-slice-aggregate-add
+slice_aggregate_add c = search rules
 
-add-requires-2 : tie.Need-add-requires-2
-add-requires-2 c κs = search rules
+add_requires_2 : tie.Need-add-requires-2
+add_requires_2 c κs = search rules
 
 same_length : tie.Need-same-length
 same_length c = search rules
@@ -29,13 +29,13 @@ returns c =
     let k = j.before.before.before.before in
     (k.add.ensures then (j.add-padded.ensures.0 then l), omega (arith, k.add.ensures.ends, j.add-padded.ensures.1, l.ends, k.before.before.before.before.requires))
 
-pub add-state-spec : {M : Type 1} → statement M
-add-state-spec =
+pub add_state_spec : {M : Type 1} → statement M
+add_state_spec =
     tie.close
     (tie.spec
-    add-requires
-    add-padded-requires
-    slice-aggregate-add
-    add-requires-2
+    add_requires
+    add_padded_requires
+    slice_aggregate_add
+    add_requires_2
     same_length
     returns)

@@ -7,94 +7,94 @@ use Rattle.qbx_verbs.proofs.kinds.writes.Tie as tie
 enum_told : tie.Need-enum-told
 enum_told c = search rules
 
-enum-told-2 : tie.Need-enum-told-2
-enum-told-2 c = search rules
+enum_told_2 : tie.Need-enum-told-2
+enum_told_2 c = search rules
 
-enum-told-3 : tie.Need-enum-told-3
-enum-told-3 c = search rules
+enum_told_3 : tie.Need-enum-told-3
+enum_told_3 c = search rules
 
-enum-told-4 : tie.Need-enum-told-4
-enum-told-4 c = search rules
+enum_told_4 : tie.Need-enum-told-4
+enum_told_4 c = search rules
 
-enum-told-5 : tie.Need-enum-told-5
-enum-told-5 c = search rules
+enum_told_5 : tie.Need-enum-told-5
+enum_told_5 c = search rules
 
-enum-told-6 : tie.Need-enum-told-6
-enum-told-6 c = search rules
+enum_told_6 : tie.Need-enum-told-6
+enum_told_6 c = search rules
 
-enum-told-7 : tie.Need-enum-told-7
-enum-told-7 c = search rules
+enum_told_7 : tie.Need-enum-told-7
+enum_told_7 c = search rules
 
-enum-told-8 : tie.Need-enum-told-8
-enum-told-8 c = search rules
+enum_told_8 : tie.Need-enum-told-8
+enum_told_8 c = search rules
 
-enum-told-9 : tie.Need-enum-told-9
-enum-told-9 c = search rules
+enum_told_9 : tie.Need-enum-told-9
+enum_told_9 c = search rules
 
-enum-told-10 : tie.Need-enum-told-10
-enum-told-10 c = search rules
+enum_told_10 : tie.Need-enum-told-10
+enum_told_10 c = search rules
 
 returns : tie.Need-returns
 unfolding writes
 returns c = rw c.enum_told.given.1
 
-returns-2 : tie.Need-returns-2
+returns_2 : tie.Need-returns-2
 unfolding writes
-returns-2 c = rw c.enum-told2.given.1
+returns_2 c = rw c.enum-told2.given.1
 
-returns-3 : tie.Need-returns-3
+returns_3 : tie.Need-returns-3
 unfolding writes
-returns-3 c = rw c.enum-told3.given.1
+returns_3 c = rw c.enum-told3.given.1
 
-returns-4 : tie.Need-returns-4
+returns_4 : tie.Need-returns-4
 unfolding writes
-returns-4 c = rw c.enum-told4.given.1
+returns_4 c = rw c.enum-told4.given.1
 
-returns-5 : tie.Need-returns-5
+returns_5 : tie.Need-returns-5
 unfolding writes
-returns-5 c = rw c.enum-told5.given.1
+returns_5 c = rw c.enum-told5.given.1
 
-returns-6 : tie.Need-returns-6
+returns_6 : tie.Need-returns-6
 unfolding writes
-returns-6 c = rw c.enum-told6.given.1
+returns_6 c = rw c.enum-told6.given.1
 
-returns-7 : tie.Need-returns-7
+returns_7 : tie.Need-returns-7
 unfolding writes
-returns-7 c = rw c.enum-told7.given.1
+returns_7 c = rw c.enum-told7.given.1
 
-returns-8 : tie.Need-returns-8
+returns_8 : tie.Need-returns-8
 unfolding writes
-returns-8 c = rw c.enum-told8.given.1
+returns_8 c = rw c.enum-told8.given.1
 
-returns-9 : tie.Need-returns-9
+returns_9 : tie.Need-returns-9
 unfolding writes
-returns-9 c = rw c.enum-told9.given.1
+returns_9 c = rw c.enum-told9.given.1
 
-returns-10 : tie.Need-returns-10
+returns_10 : tie.Need-returns-10
 unfolding writes
-returns-10 c = rw c.enum-told10.given.1
+returns_10 c = rw c.enum-told10.given.1
 
-pub writes-spec : {M : Type 1} → statement M
-writes-spec =
+pub writes_spec : {M : Type 1} → statement M
+writes_spec =
     tie.close
     (tie.spec
     enum_told
-    enum-told-2
-    enum-told-3
-    enum-told-4
-    enum-told-5
-    enum-told-6
-    enum-told-7
-    enum-told-8
-    enum-told-9
-    enum-told-10
+    enum_told_2
+    enum_told_3
+    enum_told_4
+    enum_told_5
+    enum_told_6
+    enum_told_7
+    enum_told_8
+    enum_told_9
+    enum_told_10
     returns
-    returns-2
-    returns-3
-    returns-4
-    returns-5
-    returns-6
-    returns-7
-    returns-8
-    returns-9
-    returns-10)
+    returns_2
+    returns_3
+    returns_4
+    returns_5
+    returns_6
+    returns_7
+    returns_8
+    returns_9
+    returns_10)
