@@ -119,6 +119,11 @@ set_other rows a d i j x h n = elim (ℕ_discrete i a) [
   | no e ↦ ap (λ (y : List Slot). get_or y j empty) (get_or-set_other rows a i (set (get_or rows a []) d x) [] e)
 ]
 
+-- a live slot of another block holds nothing of this one
+unheld : (a b : ℕ) → a ≢ b → (e : List ℕ) → holds a (entry_of (live b e)) ≡ false
+unfolding holds entry_of
+unheld a b n e = rw (ne_eqb a b n)
+
 module _ (N B b : ℕ) (c : List ℕ) (r : View) (k : CleanView N B r) (h : has_room r ≡ true) where
   g : TopGap r
   g = shape_gap (clean_shape k) h
@@ -175,15 +180,12 @@ module _ (N B b : ℕ) (c : List ℕ) (r : View) (k : CleanView N B r) (h : has_
       same = once_entry N B (put_into b c r) b i j c (ap distinct (stored N B b c r k h).entries ∙ stored_last_distinct b c (entries_in r) (clean_distinct k)) put_here
           ∙ rw (first, ← g.number, ← g.slot)
 
-      unheld : a ≢ b → (e : List ℕ) → holds a (entry_of (live b e)) ≡ false
-      unheld n e = unfold holds entry_of in (rw (ne_eqb a b n))
-
       other : a ≢ b → place_entry N B (put_into b c r) a ≡ place_entry N B r a
       other n = go (holds b (entries_in r)) refl
         where
           into : place_entry N B (written b c r) a ≡ place_entry N B r a
           into = view_entry N B (written b c r) a ∙ (ap (λ (y : View). rows_entry N B y.first y.slots a) (written_at b c r g)
-              ∙ (fill_entry a (live b c) empty (unheld n c) (unfold holds entry_of in refl) N B r.first g.gap
+              ∙ (fill_entry a (live b c) empty (unheld a b n c) (unfold holds entry_of in refl) N B r.first g.gap
               ∙ (ap (λ y. rows_entry N B r.first y a) (sym g.split) ∙ sym (view_entry N B r a))))
 
           go : (t : Bool) → holds b (entries_in r) ≡ t → place_entry N B (cond t (marked (place_of b r) (written b c r)) (written b c r)) a ≡ place_entry N B r a
