@@ -1,4 +1,5 @@
 // The pages of live slots added to a fresh image one after the other (request #106).
+#![tactic(auto)]
 ghost use Rattle.std.specs.Prelude.{◌≡◌, length};
 ghost use Rattle.model.specs.Slot.{slot_of, entry_of};
 ghost use Rattle.adding.specs.Adding.{Going, LivePage, Opened, Added};
@@ -12,7 +13,7 @@ const SLOT_STEPS: u64 = 5;
 
 // How far the writing has come: the top, how many of its slots are still empty, what is left of the budget, and how many steps
 // the list has so far. Those are counted though the budget covers none of them: only so is it known at the end that it was cut.
-#[derive(Drop)]
+#[derive(Clone, Copy)]
 pub struct Progress {
     pub top: SegmentNumber,
     pub free: usize,

@@ -8,7 +8,7 @@ use model::{Answer, BlockNumber, Counted};
 use share_list::Part;
 
 // The tenant's share, which the block is of; or why the request is refused.
-#[derive(Drop)]
+#[derive(Clone, Copy)]
 pub enum Admitted {
     Part(Part),
     Refused(Answer),

@@ -1,4 +1,5 @@
 // The blank test: whether bytes are as an erase has left them, eight at a time.
+#![tactic(auto)]
 ghost use Rattle.std.specs.Prelude.{◌≡◌, ◌*◌, ◌/◌, length};
 ghost use Rattle.model.specs.Lists.{chunk};
 ghost use Rattle.model.specs.Header.{is_blank};
@@ -6,7 +7,7 @@ ghost use Rattle.model.specs.Blank.{groups_of, blank_groups};
 ghost use Rattle.blank.specs.Leading.{leading_blank};
 
 // What it tells of some bytes: whether each is 255, and how many groups of eight were looked at.
-#[derive(Drop)]
+#[derive(Clone, Copy)]
 pub struct BlankTest {
     pub blank: bool,
     pub groups: usize,

@@ -1,4 +1,5 @@
 // The lines of the blocks of an account, added to a text.
+#![tactic(auto)]
 ghost use Rattle.std.specs.Prelude.{◌++◌, ◌+◌, ◌*◌, ◌<◌, ◌≤◌, length};
 ghost use Rattle.flash.specs.Pages.{Sized};
 ghost use Rattle.text.specs.Text.{text as ascii};
@@ -64,6 +65,7 @@ fn chain_lines(
 }
 
 // One for each live slot, by rising block number.
+#[tactic(auto, unfolding(account_text::specs::Account::block_lines))]
 pub fn block_lines(
     image: &[u8],
     segments: usize,

@@ -1,4 +1,5 @@
 // The live slots of one segment copied to another under a budget.
+#![tactic(auto)]
 ghost use Rattle.std.specs.Prelude.{length};
 ghost use Rattle.flash.specs.Pages.{Sized};
 ghost use Rattle.live_slots.specs.Live.{Apart, Copied};
@@ -6,7 +7,7 @@ ghost use Rattle.live_slots.specs.Live.{Apart, Copied};
 use model::{SegmentNumber, SlotKind, SlotPlace};
 
 // What is left of the budget, and how many live slots the old segment has, copied or not for want of budget.
-#[derive(Drop)]
+#[derive(Clone, Copy)]
 pub struct Compacted {
     pub left: u64,
     pub copied: usize,

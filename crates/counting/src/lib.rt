@@ -16,7 +16,7 @@ const UNWRITTEN: u8 = 255;
 
 // What is looked for: the blocks of a range of numbers, its first and its last among them, and one block. Any numbers will do: a
 // range that ends before it begins has no block.
-#[derive(Drop)]
+#[derive(Clone, Copy)]
 pub struct Sought {
     pub first: BlockNumber,
     pub last: BlockNumber,
@@ -24,7 +24,7 @@ pub struct Sought {
 }
 
 // How many blocks of the range were met, and whether the one was.
-#[derive(Drop)]
+#[derive(Clone, Copy)]
 pub struct Met {
     pub blocks: usize,
     pub stored: bool,

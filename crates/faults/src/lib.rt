@@ -14,7 +14,7 @@ use judge::{HeaderCounts, Summary};
 use model::SlotKind;
 
 // The segments by their headers: counted, whether none is owing, and whether all that are not in use are blank.
-#[derive(Drop)]
+#[derive(Clone, Copy)]
 struct HeadTests {
     counts: HeaderCounts,
     none_owing: bool,
@@ -22,7 +22,7 @@ struct HeadTests {
 }
 
 // The smallest number in use, how many segments are, and the first of conditions 1 to 4 that fails, or 0.
-#[derive(Drop)]
+#[derive(Clone, Copy)]
 struct HeadsTold {
     first: usize,
     used: usize,
@@ -31,7 +31,7 @@ struct HeadsTold {
 
 // The slots so far, oldest segment first: whether none is wrong or torn; whether no block was met twice; whether empty ones
 // come last, and in the last segment only; whether that one has any; and how many are live.
-#[derive(Drop)]
+#[derive(Clone, Copy)]
 struct SlotTests {
     sound: bool,
     distinct: bool,

@@ -1,4 +1,6 @@
 // The search for a block: segment by segment, oldest first, and slot by slot, up to the first live slot that holds it.
+#![tactic(auto)]
+
 ghost use Rattle.std.specs.Prelude.{◌≡◌, ◌+◌, ◌*◌, ◌<◌, ◌≤◌, length};
 ghost use Rattle.model.specs.Steps.{slot_at};
 ghost use Rattle.flash.specs.Pages.{Sized};
@@ -10,7 +12,7 @@ use model::{BlockNumber, SegmentNumber, SlotKind, SlotPlace};
 const WRITTEN: u8 = 0x3F;
 
 // Where a block's slot is, and the length of its contents.
-#[derive(Drop)]
+#[derive(Clone, Copy)]
 pub enum Found {
     At(SlotPlace, usize),
     Nothing,

@@ -1,4 +1,5 @@
 // Whether a header page is that of a segment in use, and what it says then.
+#![tactic(auto)]
 ghost use Rattle.std.specs.Prelude.{◌≡◌, ◌<◌, ◌≤◌, length};
 ghost use Rattle.model.specs.Lists.{same};
 ghost use Rattle.model.specs.Header.{header_in_use, old_index, status_in_use};
@@ -8,7 +9,7 @@ use header::{BITS, COMPACTED, ERASE_PENDING, FIELDS, NO_OLD_SEGMENT, OPENED, TOT
 use model::{ERASE_LIMIT, SegmentNumber};
 
 // A header page: of a segment in use, whether it has version 1, its status and its number.
-#[derive(Drop)]
+#[derive(Clone, Copy)]
 pub enum HeaderSeen {
     InUse {
         former: bool,

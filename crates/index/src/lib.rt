@@ -1,10 +1,11 @@
 // What an account shows of an image: its segments, and its live slots by block number, in tables that lie on the stack. What
 // they say stands in specs/. There is no code here.
+#![tactic(auto)]
 use judge::SegmentState;
 use model::SegmentNumber;
 
 // The slots of a segment by kind; torn and wrong ones are in no count. A segment has at most 255 slots.
-#[derive(Drop)]
+#[derive(Clone, Copy)]
 pub struct Counts {
     pub live: u8,
     pub dead: u8,
@@ -13,7 +14,7 @@ pub struct Counts {
 }
 
 // A segment as it is shown: its state, and of one in use the number and the counts.
-#[derive(Drop)]
+#[derive(Clone, Copy)]
 pub struct Shown {
     pub number: SegmentNumber,
     pub counts: Counts,

@@ -171,6 +171,11 @@ module _ (n : ℕ) (ver : Version) (l : List (List Slot)) (t : List Slot) where
   unfolding entries_in
   entries_of = ap entries (flatten_last l t) ∙ entries_append (flatten l) t
 
+-- a torn slot ends the rows that are full before it
+torn_turn : (p : List Entry) → turn Full p torn ≡ TornLast
+unfolding turn behind
+torn_turn p = refl
+
 -- one slot exchanged for another
 module _ (n : ℕ) (ver : Version) (g : Gap) (k m : Slot) where
   pub swap_sound : not (is_wrong k || is_torn k) ≡ true → not (is_wrong m || is_torn m) ≡ true
@@ -230,7 +235,7 @@ module _ (N B n : ℕ) (ver : Version) (l : List (List Slot)) (t : List Slot) wh
             split = e;
             plain = ending_plain l x cut y (unfold is_empty in refl) r o;
             rest = r;
-            ending = (unfold turn behind in refl);
+            ending = torn_turn (before_top l ++ entries x);
             stops = (unfold is_full in refl);
           }) in
           rw (s, ← (torn_entries x y e r)) (unfold ends_torn in g.1)

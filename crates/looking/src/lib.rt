@@ -12,7 +12,7 @@ use room::Plan;
 use scan::Surveyed;
 
 // The place of a block's live slot and the length of its contents; or why there is none.
-#[derive(Drop)]
+#[derive(Clone, Copy)]
 pub enum Looked {
     At(SlotPlace, usize),
     Refused(Answer),

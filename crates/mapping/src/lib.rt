@@ -1,4 +1,5 @@
 // The rows of a picture of an image, added to a text: one for each segment by index.
+#![tactic(auto)]
 mod row;
 
 ghost use Rattle.std.specs.Prelude.{◌≡◌, map, ◌+◌, ◌*◌, ◌≤◌, length, take};

@@ -1,5 +1,7 @@
 // The candidates of one segment, the last one first, met by a table by block number (request #113). The walk comes from the
 // highest number down, so that the first one met of a block is given, and those after it are only compared with it.
+#![tactic(auto)]
+
 ghost use Rattle.std.specs.Prelude.{◌≡◌, not, ◌+◌, ◌*◌, ◌<◌, ◌≤◌, length, take, drop};
 ghost use Rattle.model.specs.Lists.{same};
 ghost use Rattle.model.specs.Slot.{slot_of, kind_of};

@@ -13,7 +13,7 @@ use ring::Ring;
 use room::Plan;
 
 // A put decided before its first step: refused; or a plan, and the total that a new header carries on.
-#[derive(Drop)]
+#[derive(Clone, Copy)]
 pub enum Decision {
     Refused(Answer),
     Accepted { plan: Plan, total: usize },

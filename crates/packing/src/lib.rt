@@ -1,4 +1,5 @@
 // What the exports give, packed into one number: an answer with a count, a place or a length.
+#![tactic(auto)]
 ghost use Rattle.std.specs.Prelude.{◌≡◌, cond, ◌+◌, ◌*◌, ◌%◌, ◌≤◌};
 ghost use Rattle.model.specs.Chip.{largest_image};
 ghost use Rattle.model.specs.Answers.{code_of};
@@ -31,6 +32,7 @@ pub fn packed_read(p: Located) -> u64
 
 // The same of a mounted call, of whose list of steps nothing is known if the table is not the image's. In step it is told
 // whole.
+#[tactic(auto, unfolding(crate::specs::Counts::counts))]
 pub fn packed_mounted(p: Performed) -> u64
     ensures { result ≡ code_of p.answer + 256 * (p.steps % counts) }
 {

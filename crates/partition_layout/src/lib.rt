@@ -1,5 +1,6 @@
 // The layout table of a board with the older partition format (request #109), tested and searched. Nothing is required of who
 // made the table: it is tested at every request.
+#![tactic(auto)]
 ghost use Rattle.std.specs.Prelude.{◌≡◌, ◌%◌, ◌≤◌, length};
 ghost use Rattle.partitions.specs.Layout.{items_of, bytes_used, layout_ok};
 ghost use Rattle.partition_layout.specs.Places.{Placed};
@@ -11,7 +12,7 @@ const NO_IDENTIFIER: usize = 255;
 const STATUS_BYTES: usize = 1;
 
 // Where an item stands in a partition, and the length of its data; or the table has none with the identifier.
-#[derive(Drop)]
+#[derive(Clone, Copy)]
 pub enum Place {
     At(usize, usize),
     Nowhere,

@@ -1,7 +1,6 @@
 -- The statuses of an image, one partition after the other: how many there may be, what follows what, and the ends of runs.
 use Prim.Native.Nat.{ℕ, zero, suc, ◌+◌, ◌-◌, ◌*◌, ◌%◌, ◌≤◌, ◌<◌}
 use mathlib.Core.Path.{◌≡◌, refl, sym, ap, ◌∙◌}
-use mathlib.Core.Logic.{inl, inr}
 use mathlib.Core.Bool.{Bool, true, false, cond, ◌&&◌, not, and-true, and-false, true≢false}
 use mathlib.Core.List.{List, [], ◌∷◌, ◌++◌, append-nil}
 use native.Mathlib.Omega.{arith}
@@ -10,25 +9,12 @@ use native.Mathlib.Nat.{zero-mul, suc-mul, mul-le-mul_right, mod-lt, mod-eq_of_l
 use native.Mathlib.Decide.{dec_le}
 use lib.ListN.{length, get_or, length-append}
 use lib.Dec.{eqb}
-use types.Run.{OneOf}
 use borrow.Author.Tests.{eqb-true, eq-eqb, ne_eqb, not-true}
 use Rattle.model.specs.Lists.{all}
 use Rattle.model.specs.Laws.Lists.{and_left, all_append}
 use Rattle.model.specs.Chip.{Image}
-use Rattle.model.specs.Sequences.{among}
 use Rattle.partitions.specs.Laws.{kept_append}
-use Rattle.partitions.specs.Partitions.{partitions_ok, no_status, next_status, status_of, next_partition, ends_run, indices, kept, nothing, newest, no_run, only_one, newest_in}
-
--- ---- how many partitions
-
-pub accepted : {x k : ℕ} → x ≡ k → partitions_ok k ≡ true → true ≡ partitions_ok x
-accepted e h = rw e (sym h)
-
--- none of a list of numbers
-pub unlisted : (x k : ℕ) (ks : List ℕ) → (OneOf (k ∷ ks) x → ⊥) → false ≡ among x (k ∷ ks)
-unfolding among
-unlisted x k [] n = rw (ne_eqb x k n)
-unlisted x k (j ∷ ks) n = rw (ne_eqb x k (λ e. n (inl e))) (unlisted x j ks (λ r. n (inr r)))
+use Rattle.partitions.specs.Partitions.{no_status, next_status, status_of, next_partition, ends_run, indices, kept, nothing, newest, no_run, only_one, newest_in}
 
 -- ---- the partitions' places, and the next one
 

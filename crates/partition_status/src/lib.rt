@@ -1,4 +1,6 @@
 // The partitions of a board with the older partition format (request #109): how many there may be, and which is the newest.
+#![tactic(auto)]
+
 ghost use Rattle.std.specs.Prelude.{◌≡◌, ◌&&◌, not, ◌*◌, ◌≤◌, ◌<◌, length, eqb};
 ghost use Rattle.partitions.specs.Partitions.{partitions_ok, no_status, next_status, status_of, next_partition, newest_in};
 ghost use Rattle.partition_status.specs.Said.{said};
@@ -10,7 +12,7 @@ const NO_STATUS: u8 = 255;
 const STATUSES: u16 = 255;
 
 // No partition has a status; the last partition of the run of statuses; or the statuses are no single run.
-#[derive(Drop)]
+#[derive(Clone, Copy)]
 pub enum Newest {
     Nothing,
     At(usize),
@@ -18,6 +20,7 @@ pub enum Newest {
 }
 
 // Whether a board may have so many partitions.
+#[tactic(auto, unfolding(partitions::specs::Partitions::partitions_ok, model::specs::Sequences::among))]
 pub fn partitions_ok(partitions: usize) -> bool
     ensures { result ≡ partitions_ok partitions }
 {

@@ -16,7 +16,7 @@ use partitions::{Reply, Spot, Written};
 // ---- what a request asks for
 
 // It is refused; or its item's identifier byte stands at this offset of a partition, with so many bytes of data.
-#[derive(Drop)]
+#[derive(Clone, Copy)]
 enum Asked {
     Refused(Reply),
     Item(usize, usize),

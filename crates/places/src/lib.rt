@@ -1,4 +1,5 @@
 // The table of places by block number (request #102): looked up, entered by a walk over slots, filled, and noted after a call.
+#![tactic(auto)]
 ghost use Rattle.std.specs.Prelude.{◌≡◌, ◌+◌, ◌*◌, ◌≤◌, ◌<◌, length, get_or, drop};
 ghost use Rattle.model.specs.Lists.{chunk};
 ghost use Rattle.model.specs.Chip.{most_slots};
@@ -23,7 +24,7 @@ const MOST_CONTENTS: usize = 248;
 
 // What an entry says: where the block's slot is and the length in it; that the block is not stored; or what cannot be, since
 // the table is not that of the image.
-#[derive(Drop)]
+#[derive(Clone, Copy)]
 pub enum Entry {
     At(SlotPlace, usize),
     Absent,

@@ -10,7 +10,7 @@ ghost use Rattle.prognosis.specs.Foretold.{prognosis_of, Small};
 use model::SegmentNumber;
 use scan::Surveyed;
 
-#[derive(Drop)]
+#[derive(Clone, Copy)]
 pub enum Prognosis {
     // Answer 0, after so many steps.
     Recovers { steps: u32 },

@@ -9,7 +9,7 @@ use header_seen::HeaderSeen;
 use model::SlotKind;
 
 // Segments in use, and their slots by kind.
-#[derive(Drop)]
+#[derive(Clone, Copy)]
 pub struct Census {
     pub segments: u64,
     pub live: u64,

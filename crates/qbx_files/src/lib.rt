@@ -4,7 +4,7 @@ ghost use Rattle.io.specs.Counts.{IsPrefixLen};
 ghost use Rattle.qbx_files.specs.Files.{beside_of, larger_of};
 
 // What was read: how many bytes, and whether that is all there is or the buffer is full.
-#[derive(Drop)]
+#[derive(Clone, Copy)]
 pub struct Filled {
     pub count: usize,
     pub whole: bool,

@@ -3,7 +3,7 @@ ghost use Rattle.std.specs.Prelude.{◌≡◌, ◌≤◌, length, take, drop, re
 ghost use Rattle.qbx_images.specs.Images.{made, factory};
 
 // The file in the first bytes of the buffer: how many, whether they could be had, and how many the file has.
-#[derive(Drop)]
+#[derive(Clone, Copy)]
 pub struct ImageFile {
     pub count: usize,
     pub whole: bool,

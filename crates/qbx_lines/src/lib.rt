@@ -1,4 +1,6 @@
 // Lines of text, put together.
+#![tactic(auto)]
+
 ghost use Rattle.std.specs.Prelude.{◌≡◌, [], ◌++◌, ◌+◌, ◌≤◌, length};
 ghost use Rattle.qbx_lines.specs.Lines.{most_line, said, Added};
 ghost use Rattle.text.specs.Decimal.{decimal};
@@ -42,6 +44,7 @@ pub fn add(line: Line, text: &[u8]) -> Line
 }
 
 // A number at the end of a line.
+#[tactic(auto, unfolding(text::specs::Decimal::decimal))]
 pub fn add_number(line: Line, n: u64) -> Line
     requires { line.count + 20 ≤ most_line }
     ensures { Added line (decimal n) result × (length (decimal n) ≤ 20) }

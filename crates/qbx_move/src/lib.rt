@@ -9,7 +9,7 @@ use qbx_out::{fail, print};
 use qbx_same::Clash;
 
 // How many bytes the two files have.
-#[derive(Drop)]
+#[derive(Clone, Copy)]
 struct There {
     source: u64,
     target: u64,

@@ -8,14 +8,14 @@ use qbx_numbers::{Parsed, number};
 use qbx_words::{Complaint, is, is_missing};
 
 // N and B of an image.
-#[derive(Drop)]
+#[derive(Clone, Copy)]
 pub struct Geometry {
     pub segments: u64,
     pub slots: u64,
 }
 
 // A move whose words were right: of a clean image's blocks, or, as a rebuild, of those that can be salvaged from any.
-#[derive(Drop)]
+#[derive(Clone, Copy)]
 pub struct Move {
     pub salvages: bool,
     pub source: Geometry,
@@ -23,7 +23,7 @@ pub struct Move {
     pub budget: u64,
 }
 
-#[derive(Drop)]
+#[derive(Clone, Copy)]
 pub enum MoveReading {
     Right(Move),
     Wrong(Complaint),

@@ -1,16 +1,17 @@
 // Numbers in decimal, read from a word.
+#![tactic(auto)]
 ghost use Rattle.std.specs.Prelude.{◌≡◌};
 ghost use Rattle.qbx_numbers.specs.Number.{digit_of, number_of, number32_of};
 
 // A number read from a word.
-#[derive(Drop)]
+#[derive(Clone, Copy)]
 pub enum Parsed {
     Number(u64),
     NoNumber,
 }
 
 // A number of 32 bits read from a word.
-#[derive(Drop)]
+#[derive(Clone, Copy)]
 pub enum Parsed32 {
     Number32(u32),
     NoNumber32,
@@ -56,6 +57,7 @@ pub fn number(word: &[u8]) -> Parsed
 }
 
 // A number as `number` reads it, if it fits 32 bits.
+#[tactic(auto, unfolding(crate::specs::Number::number32_of, crate::specs::Number::fits32))]
 pub fn number32(word: &[u8]) -> Parsed32
     ensures { result ≡ number32_of word.now }
 {

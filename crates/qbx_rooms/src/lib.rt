@@ -1,9 +1,10 @@
 // The buffers for images, by number: what each holds, and the stack that it asks for.
+#![tactic(auto)]
 ghost use Rattle.std.specs.Prelude.{◌≡◌, true};
 ghost use Rattle.qbx_rooms.specs.Rooms.{room_of, need_of, move_need_of, lack_of};
 
 // What the process has: the KiB of stack that it may use, and the descriptors for what is said and for what is wrong.
-#[derive(Drop)]
+#[derive(Clone, Copy)]
 pub struct Process {
     pub allowed: u64,
     pub out: i32,

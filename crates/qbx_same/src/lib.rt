@@ -7,7 +7,7 @@ use libc::types::{stat, timespec};
 
 // What tells a file from every other one while it is open: its device and its number there. The kind is 0 where the system
 // has told nothing.
-#[derive(Drop)]
+#[derive(Clone, Copy)]
 pub struct Identity {
     pub device: u64,
     pub number: u64,
@@ -15,7 +15,7 @@ pub struct Identity {
 }
 
 // What a name leads to.
-#[derive(Drop)]
+#[derive(Clone, Copy)]
 pub enum Found {
     File(Identity),
     Nothing,
@@ -24,7 +24,7 @@ pub enum Found {
 
 // Whether the source stays as it is if the target is written: its own file, or that beside it, is the source, or something
 // else than a plain file is in the way; or a name could not be looked at, and the system's reason stays to be told.
-#[derive(Drop)]
+#[derive(Clone, Copy)]
 pub enum Clash {
     Apart,
     IsSource,

@@ -1,4 +1,5 @@
 // The words of a script's line.
+#![tactic(auto)]
 ghost use Rattle.std.specs.Prelude.{◌≡◌};
 ghost use Rattle.qbx_script_words.specs.Script.{word_at};
 

@@ -1,4 +1,5 @@
 // A file of shares, read: its text has the first block, the last block and the quota of a tenant to a line.
+#![tactic(auto)]
 ghost use Rattle.std.specs.Prelude.{◌≡◌, [], ◌∷◌, ◌+◌, ◌≤◌, length, drop, get_or};
 ghost use Rattle.qbx_share_file.specs.ShareFile.{is_blank, words_of, line_of, numbers_in, is_right, said_in, listing, over};
 ghost use Rattle.qbx_share_file.specs.Steps.{reach, Kept};
@@ -6,7 +7,7 @@ ghost use Rattle.qbx_share_file.specs.Steps.{reach, Kept};
 use qbx_numbers::{Parsed32, number32};
 
 // What a line says: nothing, a tenant's share, or something else.
-#[derive(Drop)]
+#[derive(Clone, Copy)]
 pub enum LineRead {
     Blank,
     Share(u32, u32, u32),
@@ -14,7 +15,7 @@ pub enum LineRead {
 }
 
 // What a file says: how many numbers were listed, or which line is wrong, from 1.
-#[derive(Drop)]
+#[derive(Clone, Copy)]
 pub enum Listing {
     Listed(usize),
     Wrong(usize),

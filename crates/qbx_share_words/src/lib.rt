@@ -6,7 +6,7 @@ use model::BlockNumber;
 use qbx_numbers::{Parsed, Parsed32, number, number32};
 use qbx_words::{Complaint, is, is_missing};
 
-#[derive(Drop)]
+#[derive(Clone, Copy)]
 pub enum ShareVerb {
     Put,
     Get,
@@ -14,7 +14,7 @@ pub enum ShareVerb {
 }
 
 // A tenant's command whose words were right. The file of the shares is named beside it.
-#[derive(Drop)]
+#[derive(Clone, Copy)]
 pub struct ShareCommand {
     pub segments: u64,
     pub slots: u64,
@@ -23,7 +23,7 @@ pub struct ShareCommand {
     pub block: BlockNumber,
 }
 
-#[derive(Drop)]
+#[derive(Clone, Copy)]
 pub enum ShareReading {
     Right(ShareCommand),
     Wrong(Complaint),

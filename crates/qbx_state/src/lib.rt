@@ -6,7 +6,7 @@ ghost use Rattle.qbx_state.specs.State.{condition_text, slots_text, tally_text, 
 use qbx_lines::{Line, add, add_count, empty};
 
 // The state of an image, with the exception of an unfinished one.
-#[derive(Drop)]
+#[derive(Clone, Copy)]
 pub enum Condition {
     Clean,
     UnfinishedA,
@@ -18,7 +18,7 @@ pub enum Condition {
 
 // The header of the top, if a segment is in use: its version, and in version 2 the tally of recoveries' erases, and whether
 // no bit is left to count one more.
-#[derive(Drop)]
+#[derive(Clone, Copy)]
 pub enum TopSeen {
     Missing,
     Version1,
@@ -26,7 +26,7 @@ pub enum TopSeen {
 }
 
 // What a check tells: the state, the segments in use, their slots by kind, and the top's header.
-#[derive(Drop)]
+#[derive(Clone, Copy)]
 pub struct Report {
     pub condition: Condition,
     pub segments: u64,

@@ -1,15 +1,16 @@
 -- Words compared.
 use Prim.Native.Nat.{ℕ}
-use mathlib.Core.Path.{◌≡◌, refl, sym, ◌∙◌, subst}
-use mathlib.Core.Bool.{Bool, true, false}
-use mathlib.Core.List.{List}
+use mathlib.Core.Path.{◌≡◌, refl, ap}
+use mathlib.Core.Bool.{Bool, ◌&&◌}
+use mathlib.Core.List.{List, [], ◌∷◌}
+use lib.Dec.{eqb}
+use lib.Pointwise.{pointwise}
 use Rattle.model.specs.Lists.{same}
-use Rattle.model.specs.Laws.Bytes.{same_eq, same_refl}
 
--- a test that is true just of equal words is `same`
-pub same_decided : (a b : List ℕ) (t : Bool) → (t ≡ true → a ≡ b) × (a ≡ b → t ≡ true) → t ≡ same a b
-same_decided a b true h = sym (subst (λ (x : List ℕ). same a x ≡ true) (h.0 refl) (same_refl a))
-same_decided a b false h = go (same a b) refl where
-  go : (u : Bool) → same a b ≡ u → false ≡ same a b
-  go true e = h.1 (same_eq a b e) ∙ sym e
-  go false e = sym e
+-- equality of slices is `same`
+pub pointwise_same : (a b : List ℕ) → pointwise eqb a b ≡ same a b
+unfolding same
+pointwise_same [] [] = refl
+pointwise_same [] (y ∷ ys) = refl
+pointwise_same (x ∷ xs) [] = refl
+pointwise_same (x ∷ xs) (y ∷ ys) = ap (λ (t : Bool). eqb x y && t) (pointwise_same xs ys)

@@ -1,4 +1,6 @@
 // The word of a verb, read.
+#![tactic(auto)]
+
 ghost use Rattle.std.specs.Prelude.{◌≡◌};
 ghost use Rattle.model.specs.Lists.{same};
 ghost use Rattle.qbx_verb_words.specs.Verb.{verb_of};
@@ -9,7 +11,7 @@ use qbx_verbs::Verb;
 pub fn is(word: &[u8], name: &[u8]) -> bool
     ensures { result ≡ same word.now name.now }
 {
-    check::same(word, name)
+    word == name
 }
 
 // The verb that a word is.

@@ -1,4 +1,5 @@
 // The verbs of qbx, and what each is for.
+#![tactic(auto)]
 mod kinds;
 
 ghost use Rattle.std.specs.Prelude.{◌≡◌};
@@ -6,7 +7,7 @@ ghost use Rattle.qbx_verbs.specs.Verbs.{prints};
 
 pub use kinds::{known, names_block, writes};
 
-#[derive(Drop)]
+#[derive(Clone, Copy)]
 pub enum Verb {
     Format,
     Put,

@@ -7,7 +7,7 @@ pub use qbx_verb_words::is;
 use qbx_verbs::Verb;
 
 // A command whose words were right. A verb that names no block has block 0.
-#[derive(Drop)]
+#[derive(Clone, Copy)]
 pub struct Command {
     pub segments: u64,
     pub slots: u64,
@@ -17,7 +17,7 @@ pub struct Command {
 }
 
 // The word of a command that is wrong.
-#[derive(Drop)]
+#[derive(Clone, Copy)]
 pub enum Complaint {
     Segments,
     Slots,
@@ -32,7 +32,7 @@ pub enum Complaint {
     Budget,
 }
 
-#[derive(Drop)]
+#[derive(Clone, Copy)]
 pub enum Reading {
     Right(Command),
     Wrong(Complaint),

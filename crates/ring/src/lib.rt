@@ -1,5 +1,6 @@
 // The segments in use, found by looking at the status bytes and the numbers in headers alone (request #102): of any image the
 // answer is in bounds, and of a clean one it is what the definitions say.
+#![tactic(auto)]
 ghost use Rattle.std.specs.Prelude.{◌≡◌, ◌<◌, ◌≤◌, length};
 ghost use Rattle.flash.specs.Pages.{Sized};
 ghost use Rattle.ring.specs.Seen.{status_at, number_at, LastFollowing, LastUsed, RunFrom, TopSeen, UsedSeen, SeenRing};
@@ -7,7 +8,7 @@ ghost use Rattle.ring.specs.Seen.{status_at, number_at, LastFollowing, LastUsed,
 use model::{ERASE_LIMIT, SegmentNumber};
 
 // The segments in use as their headers tell them: the smallest number and their count; or they are no ring.
-#[derive(Drop)]
+#[derive(Clone, Copy)]
 pub enum Ring {
     InUse { first: SegmentNumber, used: usize },
     Broken,

@@ -6,7 +6,7 @@ use model::SegmentNumber;
 
 // The segments in use: the smallest number, their count, the first empty slot of the top (or the count of slots, if there
 // is none), and how many compactions would make room.
-#[derive(Drop)]
+#[derive(Clone, Copy)]
 pub struct Plan {
     pub first: SegmentNumber,
     pub used: usize,
@@ -15,7 +15,7 @@ pub struct Plan {
 }
 
 // What is left of the budget once room was made; and, if anything is left, the segments in use and the first empty slot of the top.
-#[derive(Drop)]
+#[derive(Clone, Copy)]
 pub struct Room {
     pub left: u64,
     pub first: SegmentNumber,

@@ -1,4 +1,6 @@
 // The slots of one segment, looked at once, in order.
+#![tactic(auto)]
+
 ghost use Rattle.std.specs.Prelude.{◌≡◌, cond, ◌+◌, ◌*◌, ◌≤◌, length};
 ghost use Rattle.model.specs.Chip.{most_slots};
 ghost use Rattle.judge.specs.Bitmap.{in_bits, put_bit};
@@ -27,6 +29,7 @@ pub fn meet(seen: &mut [u64; 1024], block: BlockNumber) -> bool
 }
 
 // A written slot follows: it may follow written ones only.
+#[tactic(auto, unfolding(judge::specs::Endings::behind))]
 pub fn behind(before: Ending, then: Ending) -> Ending
     ensures { result ≡ behind before then }
 {

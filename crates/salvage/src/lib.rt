@@ -1,1 +1,2 @@
 // Salvage, as definitions, and what they come to. They stand in specs/. There is no code here.
+#![tactic(auto)]

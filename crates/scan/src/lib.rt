@@ -14,7 +14,7 @@ use model::{SegmentNumber, SlotPlace};
 use sums::Exam;
 
 // The state of an image, with what a request needs in that state.
-#[derive(Drop)]
+#[derive(Clone, Copy)]
 pub enum Surveyed {
     // The smallest number in use, how many segments are, how many slots are live, the top's first empty slot, or as
     // many as it has, and how many compactions make room when there is none.

@@ -9,7 +9,7 @@ use qbx_share_file::{Listing, word};
 use settings_numbers::{ParsedByte, byte};
 
 // What a line says: nothing, an item's identifier and length, or something else.
-#[derive(Drop)]
+#[derive(Clone, Copy)]
 pub enum PairRead {
     Blank,
     Pair(u8, u8),

@@ -17,7 +17,7 @@ use settings_item_lines::{add_line, item_lines};
 pub const MOST_LIST: usize = 180224;
 
 // An answer, and the length of the text.
-#[derive(Drop)]
+#[derive(Clone, Copy)]
 pub struct Listed {
     pub answer: Reply,
     pub length: usize,

@@ -7,7 +7,7 @@ use qbx_numbers::{Parsed, number};
 use qbx_words::{is, is_missing};
 use settings_numbers::{ParsedByte, byte};
 
-#[derive(Drop)]
+#[derive(Clone, Copy)]
 pub enum Verb {
     Read,
     Write,
@@ -15,7 +15,7 @@ pub enum Verb {
 }
 
 // A command whose words were right. The file of the layout is named beside it; a list is of no item, and its item is 0.
-#[derive(Drop)]
+#[derive(Clone, Copy)]
 pub struct Command {
     pub partitions: u64,
     pub verb: Verb,
@@ -24,7 +24,7 @@ pub struct Command {
 }
 
 // The word of a command that is wrong.
-#[derive(Drop)]
+#[derive(Clone, Copy)]
 pub enum Complaint {
     Partitions,
     NoLayout,
@@ -34,7 +34,7 @@ pub enum Complaint {
     Budget,
 }
 
-#[derive(Drop)]
+#[derive(Clone, Copy)]
 pub enum Reading {
     Right(Command),
     Wrong(Complaint),

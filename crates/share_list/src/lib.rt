@@ -1,5 +1,7 @@
 // A list of shares for tenants (request #110): three numbers for each, the first and the last of its block numbers, and how
 // many of them it may have stored. Nothing is required of who made the list: it is tested at every request.
+#![tactic(auto)]
+
 ghost use Rattle.std.specs.Prelude.{◌≡◌, true, ◌&&◌, ◌+◌, ◌-◌, ◌*◌, ◌≤◌, ◌<◌, length, leb};
 ghost use Rattle.model.specs.Lists.{all};
 ghost use Rattle.model.specs.Slot.{number_ok};
@@ -12,7 +14,7 @@ use model::BlockNumber;
 const MOST_NUMBERS: usize = 120;
 
 // A tenant's share, its range as block numbers.
-#[derive(Drop)]
+#[derive(Clone, Copy)]
 pub struct Part {
     pub first: BlockNumber,
     pub last: BlockNumber,

@@ -1,4 +1,6 @@
 // One segment by its header: its summary, before its slots are looked at, and what that tells.
+#![tactic(auto)]
+
 ghost use Rattle.std.specs.Prelude.{◌≡◌, cond, not, ◌&&◌, ◌||◌, ◌-◌, ◌<◌, ◌≤◌, max, length, get_or};
 ghost use Rattle.model.specs.State.{blank, is_in_use, is_invalid, is_owing, number_after, of_version, segments_of};
 ghost use Rattle.flash.specs.Pages.{Sized};
@@ -38,6 +40,7 @@ fn state_seen(status: u8) -> SegmentState
 }
 
 // The segment at an index, by its header; one that is not in use is tested for blank as a whole.
+#[tactic(auto, unfolding(judge::specs::Heads::bare_of))]
 pub fn see_segment(image: &[u8], segments: usize, slots: usize, index: usize) -> Summary
     requires { Sized segments slots (length image.now) × (index < segments) }
     ensures { bare result ≡ outline (get_or (segments_of segments slots image.now) index blank) }

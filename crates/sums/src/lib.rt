@@ -1,4 +1,6 @@
 // The rows of the segments in use, oldest first, gathered and added up.
+#![tactic(auto)]
+
 ghost use Rattle.std.specs.Prelude.{◌≡◌, map, ◌+◌, ◌≤◌, length, take};
 ghost use Rattle.model.specs.Chip.{most_segments, most_slots};
 ghost use Rattle.flash.specs.Pages.{Sized};
@@ -12,7 +14,7 @@ use judge::{Ending, Frame, Row, SegmentState, Sum, Summary};
 use model::{BlockNumber, MOST_SEGMENTS, SegmentNumber};
 
 // The segments in use that a table of summaries shows, and their rows added up.
-#[derive(Drop)]
+#[derive(Clone, Copy)]
 pub struct Exam {
     pub first: usize,
     pub used: usize,

@@ -1,4 +1,5 @@
 // The tally of recoveries' erases in a header of version 2: read, and one more counted under a budget.
+#![tactic(auto)]
 ghost use Rattle.std.specs.Prelude.{◌≡◌, ◌<◌, ◌≤◌, length};
 ghost use Rattle.model.specs.Header.{cleared_in, cleared_bits, header_version};
 ghost use Rattle.model.specs.Steps.{on_page, header_at, highest_bit, count_erase};
@@ -11,7 +12,7 @@ use model::SegmentNumber;
 
 // What a header tells of recoveries' erases: whether it has version 1, which counts none; how many there are, those
 // carried on from earlier headers and those since; and whether it has no bit left to count one more.
-#[derive(Drop)]
+#[derive(Clone, Copy)]
 pub struct Tally {
     pub former: bool,
     pub count: usize,

@@ -1,7 +1,6 @@
 -- Laws of slot pages: the test of a live slot byte by byte is the test of the definition; a slot of another kind than live holds nothing.
 use Prim.Native.Nat.{ℕ, zero, suc, ◌+◌, ◌-◌, ◌*◌, ◌/◌, ◌%◌, ◌≤◌, ◌<◌}
 use mathlib.Core.Path.{◌≡◌, refl, ◌∙◌}
-use mathlib.Core.Logic.{⊎_elim}
 use mathlib.Core.Bool.{Bool, true, false, cond, ◌&&◌, and-false}
 use mathlib.Core.List.{List, [], ◌∷◌, ◌++◌}
 use native.Mathlib.Omega.{arith}
@@ -9,8 +8,6 @@ use lib.ListN.{length, get_or, take, drop, length-drop}
 use lib.Seq.{length-take-le, take_all, drop-drop}
 use lib.Dec.{leb, eqb}
 use borrow.Author.Tests.{leb-true, eq-eqb, ne_eqb, le-leb, lt-leb, lt-ltb}
-use denote.Enum.Declared.{tag_of}
-use types.Run.{OneOf}
 use Rattle.model.specs.Lists.{same}
 use Rattle.model.specs.Chip.{Page, erased}
 use Rattle.model.specs.Header.{is_blank}
@@ -18,7 +15,6 @@ use Rattle.model.specs.Slot.{most_contents, write_begun, written, number_ok, slo
 use Rattle.model.specs.declared.BlockNumber.{BlockNumber}
 use Rattle.model.specs.declared.SlotKind.{SlotKind}
 use Rattle.model.specs.declared.SlotKind.TheVariants.{Empty, Torn, Live, Dead, Cut, Wrong}
-use Rattle.model.specs.contracts.SlotKind.{the_type}
 use Rattle.model.specs.Laws.Lists.{and_left}
 use Rattle.blank.proofs.Blank.{same_erased}
 
@@ -158,10 +154,7 @@ module _ (p : Page) where
 -- ---- the kinds that `let SlotKind::Live .. else` tells apart
 
 abbrev pub Other : SlotKind → Type 0
-Other k = OneOf (0 ∷ 1 ∷ 3 ∷ 4 ∷ 5 ∷ []) (tag_of the_type k)
-
-no_live : (l : ℕ) (b : BlockNumber) → Other (Live l b) → ⊥
-no_live l b h = ⊎_elim (λ e. omega arith) (⊎_elim (λ e. omega arith) (⊎_elim (λ e. omega arith) (⊎_elim (λ e. omega arith) (λ e. omega arith)))) h
+Other k = (l : ℕ) (b : BlockNumber) → k ≡ Live l b → ⊥
 
 -- a slot of another kind holds nothing
 pub other_holds : (k : Slot) → Other (kind_of k) → entry_of k ≡ []
@@ -171,4 +164,4 @@ other_holds torn h = refl
 other_holds dead h = refl
 other_holds cut h = refl
 other_holds wrong h = refl
-other_holds (live b c) h = absurd (no_live (length c) (record { 0 = b }) h)
+other_holds (live b c) h = absurd (h (length c) (record { 0 = b }) refl)

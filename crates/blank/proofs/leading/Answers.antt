@@ -1,0 +1,37 @@
+-- `blank::leading` counts the whole groups before the first that differs. The invariant: those looked at are blank. Assumes nothing.
+use Prim.Native.Nat.{◌*◌, ◌/◌}
+use mathlib.Core.Path.{sym, ◌∙◌}
+use mathlib.Core.Bool.{true}
+use native.Mathlib.Omega.{arith}
+use lib.ListN.{length}
+use borrow.Author.Tests.{not-true, not-false}
+use Rattle.blank.proofs.Blank.{leads, part_turn, part_differs, parts_whole, stops_among}
+use Rattle.blank.proofs.leading.Goals as goal
+
+pub returns-then-groups-bytes : goal.returns-then-groups-bytes
+returns-then-groups-bytes c =
+    let s = c.args.bytes.now in
+    stops_among 8 (4 * (length s / 32)) (length s / 8) s _ c.leading_fours-groups.ensures c.if-groups-bytes.true (omega arith)
+
+pub loop-groups-init : goal.loop-groups-init
+loop-groups-init c =
+    let s = c.args.bytes.now in
+    let f = leads 8 (4 * (length s / 32)) s _ c.leading_fours-groups.ensures in
+    (omega (arith, f.within), f.blank)
+
+pub returns-then-not-group_blank : goal.returns-then-not-group_blank
+returns-then-not-group_blank c =
+    let e = sym c.group_blank.ensures ∙ c.if-not-group_blank.true in
+    let s = c.args.bytes.now in
+    part_differs 8 s c.loop-groups.groups c.loop-groups.invariant.1 (length s / 8) (omega arith) e
+
+pub loop-groups-preserved : goal.loop-groups-preserved
+loop-groups-preserved c =
+    let s = c.args.bytes.now in
+    let e = sym c.group_blank.ensures ∙ c.if-not-group_blank.false in
+    (omega arith, part_turn 8 s c.loop-groups.groups c.loop-groups.invariant.1 e)
+
+pub returns : goal.returns
+returns c =
+    let s = c.args.bytes.now in
+    parts_whole 8 s c.loop-groups.groups c.loop-groups.invariant.1 (length s / 8) (omega arith)

@@ -1,0 +1,15 @@
+-- `printing::counts_line`: each count behind its label, and the end of the line. Assumes nothing.
+use native.Mathlib.Omega.{arith}
+use Rattle.text.specs.Text.{text}
+use Rattle.text.specs.Buffer.{labelled}
+use Rattle.text.proofs.Laws.{◌then◌, wrote_as}
+use Rattle.printing.proofs.Laws.{counts_ended}
+use Rattle.printing.proofs.counts_line.Goals as goal
+
+pub returns : goal.returns
+unfolding labelled text
+returns c =
+    (
+      wrote_as _ (counts_ended c.args.counts) (c.add_labelled-lives.ensures.0 then c.add_labelled-deads.ensures.0 then c.add_labelled-cuts.ensures.0 then c.add_ended.ensures.0),
+      omega (arith, c.add_labelled-lives.ensures.1, c.add_labelled-deads.ensures.1, c.add_labelled-cuts.ensures.1, c.add_ended.ensures.1),
+    )

@@ -1,0 +1,116 @@
+-- The first word that fits.
+use Rattle.std.proofs.Common.{sym, ◌∙◌}
+use Rattle.text.specs.Text.{text}
+use Rattle.qbx_verb_words.specs.Verb.{verb_of}
+use Rattle.qbx_verb_words.proofs.verb_of.Goals as goal
+
+pub returns-then-is : goal.returns-then-is
+unfolding text verb_of
+returns-then-is c = rw (sym c.is.ensures ∙ c.if-is.true)
+
+pub returns-then-is-2 : goal.returns-then-is-2
+unfolding text verb_of
+returns-then-is-2 c =
+    rw (
+      sym c.is.ensures ∙ c.if-is.false,
+      sym c.is-2.ensures ∙ c.if-is-2.true,
+    )
+
+pub returns-then-is-3 : goal.returns-then-is-3
+unfolding text verb_of
+returns-then-is-3 c =
+    rw (
+      sym c.is.ensures ∙ c.if-is.false,
+      sym c.is-2.ensures ∙ c.if-is-2.false,
+      sym c.is-3.ensures ∙ c.if-is-3.true,
+    )
+
+pub returns-then-is-4 : goal.returns-then-is-4
+unfolding text verb_of
+returns-then-is-4 c =
+    rw (
+      sym c.is.ensures ∙ c.if-is.false,
+      sym c.is-2.ensures ∙ c.if-is-2.false,
+      sym c.is-3.ensures ∙ c.if-is-3.false,
+      sym c.is-4.ensures ∙ c.if-is-4.true,
+    )
+
+pub returns-then-is-5 : goal.returns-then-is-5
+unfolding text verb_of
+returns-then-is-5 c =
+    rw (
+      sym c.is.ensures ∙ c.if-is.false,
+      sym c.is-2.ensures ∙ c.if-is-2.false,
+      sym c.is-3.ensures ∙ c.if-is-3.false,
+      sym c.is-4.ensures ∙ c.if-is-4.false,
+      sym c.is-5.ensures ∙ c.if-is-5.true,
+    )
+
+pub returns-then-is-6 : goal.returns-then-is-6
+unfolding text verb_of
+returns-then-is-6 c =
+    rw (
+      sym c.is.ensures ∙ c.if-is.false,
+      sym c.is-2.ensures ∙ c.if-is-2.false,
+      sym c.is-3.ensures ∙ c.if-is-3.false,
+      sym c.is-4.ensures ∙ c.if-is-4.false,
+      sym c.is-5.ensures ∙ c.if-is-5.false,
+      sym c.is-6.ensures ∙ c.if-is-6.true,
+    )
+
+pub returns-then-is-7 : goal.returns-then-is-7
+unfolding text verb_of
+returns-then-is-7 c =
+    rw (
+      sym c.is.ensures ∙ c.if-is.false,
+      sym c.is-2.ensures ∙ c.if-is-2.false,
+      sym c.is-3.ensures ∙ c.if-is-3.false,
+      sym c.is-4.ensures ∙ c.if-is-4.false,
+      sym c.is-5.ensures ∙ c.if-is-5.false,
+      sym c.is-6.ensures ∙ c.if-is-6.false,
+      sym c.is-7.ensures ∙ c.if-is-7.true,
+    )
+
+pub returns-then-is-8 : goal.returns-then-is-8
+unfolding text verb_of
+returns-then-is-8 c =
+    rw (
+      sym c.is.ensures ∙ c.if-is.false,
+      sym c.is-2.ensures ∙ c.if-is-2.false,
+      sym c.is-3.ensures ∙ c.if-is-3.false,
+      sym c.is-4.ensures ∙ c.if-is-4.false,
+      sym c.is-5.ensures ∙ c.if-is-5.false,
+      sym c.is-6.ensures ∙ c.if-is-6.false,
+      sym c.is-7.ensures ∙ c.if-is-7.false,
+      sym c.is-8.ensures ∙ c.if-is-8.true,
+    )
+
+pub returns-then-is-9 : goal.returns-then-is-9
+unfolding text verb_of
+returns-then-is-9 c =
+    rw (
+      sym c.is.ensures ∙ c.if-is.false,
+      sym c.is-2.ensures ∙ c.if-is-2.false,
+      sym c.is-3.ensures ∙ c.if-is-3.false,
+      sym c.is-4.ensures ∙ c.if-is-4.false,
+      sym c.is-5.ensures ∙ c.if-is-5.false,
+      sym c.is-6.ensures ∙ c.if-is-6.false,
+      sym c.is-7.ensures ∙ c.if-is-7.false,
+      sym c.is-8.ensures ∙ c.if-is-8.false,
+      sym c.is-9.ensures ∙ c.if-is-9.true,
+    )
+
+pub returns : goal.returns
+unfolding text verb_of
+returns c =
+    rw (
+      sym c.is.ensures ∙ c.if-is.false,
+      sym c.is-2.ensures ∙ c.if-is-2.false,
+      sym c.is-3.ensures ∙ c.if-is-3.false,
+      sym c.is-4.ensures ∙ c.if-is-4.false,
+      sym c.is-5.ensures ∙ c.if-is-5.false,
+      sym c.is-6.ensures ∙ c.if-is-6.false,
+      sym c.is-7.ensures ∙ c.if-is-7.false,
+      sym c.is-8.ensures ∙ c.if-is-8.false,
+      sym c.is-9.ensures ∙ c.if-is-9.false,
+    )

@@ -1,0 +1,21 @@
+-- `request::in_range`: the tests of the definition, in its order. Assumes nothing.
+use native.Mathlib.Omega.{arith}
+use borrow.Author.Tests.{le-leb, lt-leb}
+use Rattle.model.specs.Chip.{most_segments, in_range}
+use Rattle.request.proofs.in_range.Goals as goal
+
+pub returns-then-segments-lt2 : goal.returns-then-segments-lt2
+unfolding in_range
+returns-then-segments-lt2 c = rw (lt-leb 2 _ c.if-segments-lt2.true)
+
+pub returns-then-segments-gt-MOST_SEGMENTS : goal.returns-then-segments-gt-MOST_SEGMENTS
+unfolding in_range
+returns-then-segments-gt-MOST_SEGMENTS c = rw (le-leb 2 _ c.if-segments-lt2.false, lt-leb c.args.segments most_segments (omega (arith, c.if-segments-gt-MOST_SEGMENTS.true)))
+
+pub returns-then-slots-lt2 : goal.returns-then-slots-lt2
+unfolding in_range
+returns-then-slots-lt2 c = rw (le-leb 2 _ c.if-segments-lt2.false, le-leb _ most_segments c.if-segments-gt-MOST_SEGMENTS.false, lt-leb 2 _ c.if-slots-lt2.true)
+
+pub returns : goal.returns
+unfolding in_range
+returns c = rw (le-leb 2 _ c.if-segments-lt2.false, le-leb _ most_segments c.if-segments-gt-MOST_SEGMENTS.false, le-leb 2 _ c.if-slots-lt2.false)
