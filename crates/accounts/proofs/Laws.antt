@@ -1,11 +1,10 @@
 -- A wrong size and a right one; the parts of an account in a row.
 use Prim.Native.Nat.{ℕ}
 use mathlib.Core.Path.{◌≡◌, refl, sym, ◌∙◌}
-use mathlib.Core.Bool.{Bool, true, ◌&&◌, not}
+use mathlib.Core.Bool.{Bool, true, false, ◌&&◌}
 use mathlib.Core.List.{List, ◌++◌, map}
 use lib.ListN.{length, take}
 use lib.Dec.{eqb}
-use borrow.Author.Tests.{not-true}
 use Rattle.model.specs.Chip.{Image, image_length, in_range, right_size}
 use Rattle.model.specs.State.{Segment, segments_of}
 use Rattle.account_text.specs.Account.{shown, by_block, block_lines, last_line, account_on, account_text, wrong_size}
@@ -21,9 +20,9 @@ use Rattle.accounts.specs.Foretells.{foretold}
 
 -- ---- sizes
 
-pub wrong_account : (N B : ℕ) (s : Image) (t : Bool) → t ≡ (in_range N B && eqb (length s) (image_length N B)) → not t ≡ true → wrong_size ≡ account_text N B s
+pub wrong_account : (N B : ℕ) (s : Image) (t : Bool) → t ≡ (in_range N B && eqb (length s) (image_length N B)) → t ≡ false → wrong_size ≡ account_text N B s
 unfolding account_text right_size
-wrong_account N B s t e h = rw (sym e ∙ not-true t h)
+wrong_account N B s t e h = rw (sym e ∙ h)
 
 pub right_account : (N B : ℕ) (s : Image) → right_size N B s ≡ true → account_on N B (segments_of N B s) ≡ account_text N B s
 unfolding account_text

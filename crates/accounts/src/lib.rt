@@ -1,6 +1,8 @@
 // The account of an image (request #101), and its picture, handed on from `pictures`, each in a lent buffer. Neither has a
 // `requires`: any bytes, any N and B. A text is put together twice, once where nothing holds it, so that its length is known
 // before its first byte is written.
+#![tactic(auto)]
+
 ghost use Rattle.std.specs.Prelude.{◌≡◌, map, ◌+◌, ◌≤◌, length, take};
 ghost use Rattle.model.specs.State.{segments_of};
 ghost use Rattle.flash.specs.Pages.{Sized};

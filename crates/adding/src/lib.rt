@@ -1,5 +1,6 @@
 // The pages of live slots added to a fresh image one after the other (request #106).
 #![tactic(auto)]
+
 ghost use Rattle.std.specs.Prelude.{◌≡◌, length};
 ghost use Rattle.model.specs.Slot.{slot_of, entry_of};
 ghost use Rattle.adding.specs.Adding.{Going, LivePage, Opened, Added};

@@ -1,4 +1,6 @@
 // What a tenant's request is refused for before the image is looked at (request #110), and how its quota decides a put.
+#![tactic(auto)]
+
 ghost use Rattle.std.specs.Prelude.{◌≡◌, cond, ◌&&◌, not, leb};
 ghost use Rattle.model.specs.Answers.{code_of};
 ghost use Rattle.shares.specs.Layer.{before_full};
@@ -52,6 +54,7 @@ pub fn quota_used(counted: Counted, quota: usize) -> bool
 }
 
 // What a put is answered where the quota is used: what the store asks before its own room, or 7.
+#[tactic(auto, unfolding(model::specs::Answers::code_of, shares::specs::Layer::before_full))]
 pub fn before_full(answer: Answer) -> Answer
     ensures { code_of result ≡ cond (before_full (code_of answer)) (code_of answer) 7 }
 {

@@ -1,5 +1,6 @@
 // The blank test: whether bytes are as an erase has left them, eight at a time.
 #![tactic(auto)]
+
 ghost use Rattle.std.specs.Prelude.{◌≡◌, ◌*◌, ◌/◌, length};
 ghost use Rattle.model.specs.Lists.{chunk};
 ghost use Rattle.model.specs.Header.{is_blank};

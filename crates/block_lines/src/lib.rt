@@ -1,5 +1,6 @@
 // The lines of the blocks of an account, added to a text.
 #![tactic(auto)]
+
 ghost use Rattle.std.specs.Prelude.{◌++◌, ◌+◌, ◌*◌, ◌<◌, ◌≤◌, length};
 ghost use Rattle.flash.specs.Pages.{Sized};
 ghost use Rattle.text.specs.Text.{text as ascii};

@@ -1,5 +1,6 @@
 // Compaction of one segment under a budget (document 01: tidying).
 #![tactic(auto)]
+
 ghost use Rattle.std.specs.Prelude.{length};
 ghost use Rattle.flash.specs.Pages.{Sized};
 ghost use Rattle.live_slots.specs.Live.{Apart};

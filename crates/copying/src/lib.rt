@@ -1,5 +1,6 @@
 // The live slots of one segment copied to another under a budget.
 #![tactic(auto)]
+
 ghost use Rattle.std.specs.Prelude.{length};
 ghost use Rattle.flash.specs.Pages.{Sized};
 ghost use Rattle.live_slots.specs.Live.{Apart, Copied};

@@ -1,5 +1,7 @@
 // How many blocks of a range of numbers a clean image stores, and whether it stores one block (request #110): one walk over the
 // slots in use, by their statuses and block numbers.
+#![tactic(auto)]
+
 ghost use Rattle.std.specs.Prelude.{◌≡◌, cond, ◌&&◌, ◌+◌, ◌*◌, ◌≤◌, ◌<◌, length, drop};
 ghost use Rattle.model.specs.Lists.{chunk};
 ghost use Rattle.model.specs.State.{holds};

@@ -1,6 +1,7 @@
 // The walk over the segments in use, from the top down. The numbers of those that are left lie in a table by index, one more
 // each, and 0 for a segment that is not in use or was walked over; the next is the largest, whatever the others are.
 #![tactic(auto)]
+
 ghost use Rattle.std.specs.Prelude.{◌≡◌, ◌≤◌, length, take};
 ghost use Rattle.model.specs.Chip.{most_segments};
 ghost use Rattle.descent.specs.Descent.{largest};

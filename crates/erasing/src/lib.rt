@@ -1,5 +1,6 @@
 // Segments erased one after the other.
 #![tactic(auto)]
+
 ghost use Rattle.std.specs.Prelude.{length};
 ghost use Rattle.model.specs.Steps.{erase_first};
 ghost use Rattle.flash.specs.Ran.{Ran};

@@ -1,5 +1,7 @@
 // The first of the eight conditions of Clean that an image fails (request #101: fails). Nothing is excused, and any bytes may
 // be in the image. Headers first; slots only where conditions 1 to 4 hold, since they say which segments are looked at.
+#![tactic(auto)]
+
 ghost use Rattle.std.specs.Prelude.{◌≡◌, true, not, ◌&&◌, ◌||◌, ◌+◌, ◌*◌, ◌<◌, ◌≤◌, length};
 ghost use Rattle.model.specs.Chip.{most_segments, most_slots, right_size};
 ghost use Rattle.model.specs.State.{conditions, numbers_from, segments_of};
@@ -114,6 +116,7 @@ fn one_version(counts: HeaderCounts) -> bool
 }
 
 // The first of conditions 1 to 4 that fails, or 0.
+#[tactic(auto, unfolding(crate::specs::Tests::head_place, account_text::specs::Account::first_failing))]
 fn head_place(tests: HeadTests, follow: bool, segments: usize) -> usize
     requires { 0 < segments }
     ensures { result ≡ head_place segments tests follow }

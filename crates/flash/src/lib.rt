@@ -1,5 +1,6 @@
 // Flash steps under a budget. Each function that writes takes the budget and returns what is left of it.
 #![tactic(auto)]
+
 ghost use Rattle.std.specs.Prelude.{◌≡◌, [], ◌∷◌, ◌+◌, ◌*◌, ◌<◌, ◌≤◌, min, length};
 ghost use Rattle.model.specs.Chip.{program, erase};
 ghost use Rattle.model.specs.Steps.{programs, program_part};

@@ -1,5 +1,6 @@
 // The fields of a header page taken apart, those that both versions have made up, and its place.
 #![tactic(auto)]
+
 ghost use Rattle.std.specs.Prelude.{◌≡◌, ◌+◌, ◌*◌, ◌%◌, ◌<◌, ◌≤◌, length};
 ghost use Rattle.model.specs.Header.{is_former, header_number, header_version};
 ghost use Rattle.model.specs.Steps.{header_at};

@@ -1,5 +1,6 @@
 // Whether a header page is that of a segment in use, and what it says then.
 #![tactic(auto)]
+
 ghost use Rattle.std.specs.Prelude.{◌≡◌, ◌<◌, ◌≤◌, length};
 ghost use Rattle.model.specs.Lists.{same};
 ghost use Rattle.model.specs.Header.{header_in_use, old_index, status_in_use};

@@ -1,5 +1,6 @@
 // A header page made up, and programmed under a budget.
 #![tactic(auto)]
+
 ghost use Rattle.std.specs.Prelude.{◌≡◌, ◌%◌, ◌<◌, ◌≤◌, length};
 ghost use Rattle.model.specs.Header.{erase_pending, new_version, header_page};
 ghost use Rattle.model.specs.Steps.{open_segment, settle};

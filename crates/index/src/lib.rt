@@ -1,6 +1,7 @@
 // What an account shows of an image: its segments, and its live slots by block number, in tables that lie on the stack. What
 // they say stands in specs/. There is no code here.
 #![tactic(auto)]
+
 use judge::SegmentState;
 use model::SegmentNumber;
 

@@ -1,6 +1,7 @@
 // What a look at an image tells: rows of slots, tables of summaries, and their sums. What each says of the image's state
 // stands in specs/. There is no code here.
 #![tactic(auto)]
+
 use model::{BlockNumber, SegmentNumber};
 
 // What a segment's header and a blank test tell: blank; neither in use nor blank; in use; in use with the old segment still to be erased.

@@ -1,5 +1,6 @@
 // The slots of one segment, the last one first: counted, and the live ones put before those of their block.
 #![tactic(auto)]
+
 ghost use Rattle.std.specs.Prelude.{◌≡◌, ◌+◌, ◌*◌, ◌<◌, ◌≤◌, length};
 ghost use Rattle.model.specs.Chip.{most_slots};
 ghost use Rattle.judge.specs.Rows.{kinds_at};

@@ -1,5 +1,6 @@
 // The segments of an image as an account shows them, and its live slots by block number, found in one walk over the
 // segments in use, from the top down.
+#![tactic(auto)]
 ghost use Rattle.std.specs.Prelude.{◌≡◌, true, map, ◌+◌, ◌%◌, ◌<◌, ◌≤◌, length, take, replicate};
 ghost use Rattle.model.specs.Chip.{most_segments, right_size};
 ghost use Rattle.model.specs.State.{segments_of};
@@ -67,6 +68,7 @@ fn see_all(image: &[u8], segments: usize, slots: usize) -> [Shown; MOST_SEGMENTS
 
 // Shows a table as an account does. In an image unfinished by (b) the segment after the top is not looked at: it is torn,
 // unless it is blank.
+#[tactic(auto, unfolding(crate::specs::Walk::hidden))]
 fn hide(table: [Shown; MOST_SEGMENTS], segments: usize, survey: Surveyed) -> [Shown; MOST_SEGMENTS]
     requires { (0 < segments) × (segments ≤ most_segments) }
     ensures { result ≡ hidden survey segments table }

@@ -1,5 +1,6 @@
 // The live slots of one segment: where they lie, a page of theirs by value, and what copying them is.
 #![tactic(auto)]
+
 ghost use Rattle.std.specs.Prelude.{◌≡◌, ◌*◌, ◌%◌, ◌<◌, ◌≤◌, length};
 ghost use Rattle.live_slots.specs.Live.{first_slot};
 

@@ -1,4 +1,6 @@
 // A block looked for, by delete and by both forms of reading.
+#![tactic(auto)]
+
 pub mod check;
 
 ghost use Rattle.std.specs.Prelude.{◌≡◌, true};

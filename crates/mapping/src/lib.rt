@@ -1,5 +1,6 @@
 // The rows of a picture of an image, added to a text: one for each segment by index.
 #![tactic(auto)]
+
 mod row;
 
 ghost use Rattle.std.specs.Prelude.{◌≡◌, map, ◌+◌, ◌*◌, ◌≤◌, length, take};

@@ -1,6 +1,7 @@
 // The slots of a segment as characters of a picture's row, added to a text. The bounds on offsets are far above any row's
 // end: they keep sums from wrapping.
 #![tactic(auto)]
+
 ghost use Rattle.std.specs.Prelude.{◌≡◌, [], ◌∷◌, ◌++◌, ◌+◌, ◌*◌, ◌≤◌, length};
 ghost use Rattle.judge.specs.Rows.{slots_at};
 ghost use Rattle.text.specs.Buffer.{Wrote};

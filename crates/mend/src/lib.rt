@@ -1,4 +1,6 @@
 // The steps of a recovery; a delete has one of them too.
+#![tactic(auto)]
+
 ghost use Rattle.std.specs.Prelude.{◌≡◌, true, cond, [], ◌∷◌, ◌+◌, ◌%◌, length};
 ghost use Rattle.model.specs.Chip.{erase, right_size};
 ghost use Rattle.model.specs.State.{segments_of};
@@ -39,6 +41,7 @@ fn erase_after(
 }
 
 // Counts an erase in the top's header, and then makes it: that of the segment after the top.
+#[tactic(auto, unfolding(crate::specs::Erasing::counting))]
 fn erase_torn(
     image: &mut [u8],
     segments: usize,
@@ -55,6 +58,7 @@ fn erase_torn(
 }
 
 // Counts and makes the same erase, unless that segment is blank; what is left of the budget.
+#[tactic(auto, unfolding(crate::specs::Erasing::erasing, crate::specs::Erasing::counting))]
 fn erase_old(
     image: &mut [u8],
     segments: usize,

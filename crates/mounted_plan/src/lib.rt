@@ -1,5 +1,7 @@
 // A put decided before its first step, on any image of a right size, from as few bytes as can be (request #102): whether it
 // is refused, and otherwise how room is made.
+#![tactic(auto)]
+
 ghost use Rattle.std.specs.Prelude.{◌≡◌, true, ◌+◌, ◌-◌, ◌≤◌, length};
 ghost use Rattle.model.specs.Chip.{most_segments, right_size};
 ghost use Rattle.model.specs.Header.{is_former, header_version};

@@ -1,5 +1,7 @@
 // A mounted put performed (request #102): room made by a plan, the table mended where compaction has moved blocks, and the
 // slot written. It holds on any image of the plan's length, with any table of places that is long enough.
+#![tactic(auto)]
+
 ghost use Rattle.std.specs.Prelude.{◌≡◌, ◌≤◌, length, get_or};
 ghost use Rattle.model.specs.Mounted.{least_places};
 ghost use Rattle.places.specs.Places.{entry_seen};

@@ -1,5 +1,7 @@
 // The parts of a mounted put (request #102) once room was made: the table mended, the slot written, and its place noted. They
 // hold on any image of the plan's length, with any table of places that is long enough.
+#![tactic(auto)]
+
 ghost use Rattle.std.specs.Prelude.{◌≡◌, ◌+◌, ◌-◌, ◌*◌, ◌≤◌, length};
 ghost use Rattle.model.specs.Steps.{slot_at};
 ghost use Rattle.model.specs.Answers.{code_of};

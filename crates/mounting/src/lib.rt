@@ -1,4 +1,6 @@
 // The mount (request #102): a table of places, lent by the caller, filled from a clean image. Nothing is required of a caller.
+#![tactic(auto)]
+
 ghost use Rattle.std.specs.Prelude.{◌≡◌};
 ghost use Rattle.model.specs.Mounted.{mounted_as, mount_outcome};
 

@@ -1,5 +1,6 @@
 // What the exports give, packed into one number: an answer with a count, a place or a length.
 #![tactic(auto)]
+
 ghost use Rattle.std.specs.Prelude.{◌≡◌, cond, ◌+◌, ◌*◌, ◌%◌, ◌≤◌};
 ghost use Rattle.model.specs.Chip.{largest_image};
 ghost use Rattle.model.specs.Answers.{code_of};

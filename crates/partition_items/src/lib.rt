@@ -1,5 +1,6 @@
 // The items of a partition (request #109), programmed, tested, and carried to another partition under a budget.
 #![tactic(auto)]
+
 ghost use Rattle.std.specs.Prelude.{◌≡◌, [], ◌∷◌, ◌++◌, ◌+◌, ◌≤◌, length, take, drop};
 ghost use Rattle.model.specs.Chip.{program};
 ghost use Rattle.model.specs.Header.{is_blank};

@@ -1,6 +1,7 @@
 // The layout table of a board with the older partition format (request #109), tested and searched. Nothing is required of who
 // made the table: it is tested at every request.
 #![tactic(auto)]
+
 ghost use Rattle.std.specs.Prelude.{◌≡◌, ◌%◌, ◌≤◌, length};
 ghost use Rattle.partitions.specs.Layout.{items_of, bytes_used, layout_ok};
 ghost use Rattle.partition_layout.specs.Places.{Placed};

@@ -1,4 +1,5 @@
 // What the exports of the older partition format (request #109) give, packed into one number.
+#![tactic(auto)]
 ghost use Rattle.std.specs.Prelude.{◌≡◌, ◌+◌, ◌*◌, ◌%◌, ◌≤◌};
 ghost use Rattle.partitions.specs.Answers.{number_of};
 ghost use Rattle.partition_packing.specs.Offsets.{offsets};
@@ -18,6 +19,7 @@ pub fn packed_write(p: Written) -> u64
 }
 
 // The answer, 256 times the length and 65,536 times the offset.
+#[tactic(auto, unfolding(crate::specs::Offsets::offsets))]
 pub fn packed_spot(p: Spot) -> u64
     requires { p.length ≤ 255 }
     ensures { result ≡ number_of p.answer + 256 * p.length + 65536 * (p.offset % offsets) }

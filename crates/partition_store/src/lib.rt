@@ -1,5 +1,7 @@
 // Reader and writer of a board with the older partition format (request #109). Nothing is required of image, table and item:
 // they are tested at every request.
+#![tactic(auto)]
+
 ghost use Rattle.std.specs.Prelude.{◌≡◌, [], ◌∷◌, ℕ, ◌+◌, ◌/◌, ◌≤◌, ◌<◌, length};
 ghost use Rattle.partitions.specs.Layout.{items_of};
 ghost use Rattle.partitions.specs.Partitions as board;
@@ -73,7 +75,7 @@ fn unread(answer: Reply) -> Spot
 // Reads by the newest partition.
 fn read_found(image: &[u8], partitions: usize, item: u8, at: usize, bytes: usize) -> Spot
     requires { Stands partitions at bytes (length image.now) }
-    ensures { (told result ≡ read_on (length image.now / partitions) image.now (board.newestIn partitions (length image.now / partitions) image.now) (record { identifier = item; size = bytes; at = at })) × (result.length ≤ 255) }
+    ensures { (told result ≡ read_on (length image.now / partitions) image.now (board.newest_in partitions (length image.now / partitions) image.now) (record { identifier = item; size = bytes; at = at })) × (result.length ≤ 255) }
 {
     let size = image.len() / partitions;
     let newest = partition_status::find_newest(image, partitions, size);
@@ -172,7 +174,7 @@ fn write_next(
     budget: u64,
 ) -> Written
     requires { Carry size from to layout.now item contents.now (length image.old) }
-    ensures { Performs (fill size to (carried size image.old from (entry_for layout.now item contents.now) (items_of layout.now)) (board.nextStatus (board.statusOf size image.old from))) size budget result image.old image.new }
+    ensures { Performs (fill size to (carried size image.old from (entry_for layout.now item contents.now) (items_of layout.now)) (board.next_status (board.status_of size image.old from))) size budget result image.old image.new }
 {
     let status = image[from * size];
     let following = partition_status::next_status(status);
@@ -216,7 +218,7 @@ fn write_found(
     budget: u64,
 ) -> Written
     requires { Known partitions layout.now image.old item at (length contents.now) }
-    ensures { wrote result image.new ≡ worked_in (length image.old / partitions) (write_on partitions (length image.old / partitions) (items_of layout.now) image.old (board.newestIn partitions (length image.old / partitions) image.old) (entry_for layout.now item contents.now)) image.old budget }
+    ensures { wrote result image.new ≡ worked_in (length image.old / partitions) (write_on partitions (length image.old / partitions) (items_of layout.now) image.old (board.newest_in partitions (length image.old / partitions) image.old) (entry_for layout.now item contents.now)) image.old budget }
 {
     let size = image.len() / partitions;
     let newest = partition_status::find_newest(image, partitions, size);

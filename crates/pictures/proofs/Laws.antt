@@ -1,11 +1,10 @@
 -- A wrong size and a right one; the parts of a picture in a row.
 use Prim.Native.Nat.{ℕ}
 use mathlib.Core.Path.{◌≡◌, refl, sym, ap, ◌∙◌}
-use mathlib.Core.Bool.{Bool, true, ◌&&◌, not}
+use mathlib.Core.Bool.{Bool, true, false, ◌&&◌}
 use mathlib.Core.List.{List, ◌++◌, map}
 use lib.ListN.{length, take}
 use lib.Dec.{eqb}
-use borrow.Author.Tests.{not-true}
 use Rattle.model.specs.Chip.{Image, image_length, in_range, right_size}
 use Rattle.model.specs.State.{Segment, segments_of, next_number}
 use Rattle.account_text.specs.Account.{shown, wrong_size}
@@ -15,9 +14,9 @@ use Rattle.index.specs.Shows.{uncounted, after_shown}
 use Rattle.descent.specs.Descent.{largest, largest_next}
 use Rattle.listing.proofs.Laws.Shows.{uncounted_all}
 
-pub wrong_map : (N B : ℕ) (s : Image) (t : Bool) → t ≡ (in_range N B && eqb (length s) (image_length N B)) → not t ≡ true → wrong_size ≡ map_text N B s
+pub wrong_map : (N B : ℕ) (s : Image) (t : Bool) → t ≡ (in_range N B && eqb (length s) (image_length N B)) → t ≡ false → wrong_size ≡ map_text N B s
 unfolding map_text right_size
-wrong_map N B s t e h = rw (sym e ∙ not-true t h)
+wrong_map N B s t e h = rw (sym e ∙ h)
 
 pub right_map : (N B : ℕ) (s : Image) → right_size N B s ≡ true → map_on N B (segments_of N B s) ≡ map_text N B s
 unfolding map_text

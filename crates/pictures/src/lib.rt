@@ -1,5 +1,7 @@
 // The picture of an image, for who would rather look than read, in a lent buffer. It has no `requires`, and is put together
 // twice, as an account is.
+#![tactic(auto)]
+
 ghost use Rattle.std.specs.Prelude.{◌≡◌, map as each, length, take};
 ghost use Rattle.model.specs.State.{segments_of, next_number};
 ghost use Rattle.flash.specs.Pages.{Sized};

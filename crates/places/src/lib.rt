@@ -1,5 +1,6 @@
 // The table of places by block number (request #102): looked up, entered by a walk over slots, filled, and noted after a call.
 #![tactic(auto)]
+
 ghost use Rattle.std.specs.Prelude.{◌≡◌, ◌+◌, ◌*◌, ◌≤◌, ◌<◌, length, get_or, drop};
 ghost use Rattle.model.specs.Lists.{chunk};
 ghost use Rattle.model.specs.Chip.{most_slots};

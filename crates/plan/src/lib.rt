@@ -1,6 +1,7 @@
 // What a put must know of the slots of an image, found by looking at their status bytes alone (request #102): of any image it
 // is in bounds, and of a clean one it is what the definitions say.
 #![tactic(auto)]
+
 ghost use Rattle.std.specs.Prelude.{◌≡◌, ◌+◌, ◌*◌, ◌<◌, ◌≤◌, min, length, leb};
 ghost use mathlib.Core.List.{flatten};
 ghost use Rattle.model.specs.Lists.{count};

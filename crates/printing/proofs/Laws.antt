@@ -1,14 +1,13 @@
 -- Lines of the segments of a table, written one after the other; an image of a right size.
 use Prim.Native.Nat.{ℕ, suc, ◌+◌, ◌<◌}
 use mathlib.Core.Path.{◌≡◌, sym, ap, ◌∙◌}
-use mathlib.Core.Bool.{Bool, true, false, ◌&&◌, not}
+use mathlib.Core.Bool.{Bool, true, ◌&&◌}
 use mathlib.Core.List.{List, [], ◌∷◌, ◌++◌, append-nil, append_assoc}
 use native.Mathlib.Omega.{arith}
 use native.Mathlib.Numerals.{add-one}
 use lib.ListN.{length, take, get_or}
 use lib.Seq.{take-suc, length-take-le}
 use lib.Dec.{eqb}
-use borrow.Author.Tests.{not-false}
 use Rattle.model.specs.Chip.{Image, image_length, in_range, right_size}
 use Rattle.judge.specs.declared.SegmentState.TheVariants.{Blank, Invalid, InUse, Owing}
 use Rattle.text.specs.Text.{text}
@@ -56,6 +55,6 @@ segment_more table i d h =
 
 -- ---- sizes
 
-pub right : (N B : ℕ) (s : Image) (t : Bool) → t ≡ (in_range N B && eqb (length s) (image_length N B)) → not t ≡ false → right_size N B s ≡ true
+pub right : (N B : ℕ) (s : Image) (t : Bool) → t ≡ (in_range N B && eqb (length s) (image_length N B)) → t ≡ true → right_size N B s ≡ true
 unfolding right_size
-right N B s t e h = sym e ∙ not-false t h
+right N B s t e h = sym e ∙ h

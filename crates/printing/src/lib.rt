@@ -1,5 +1,6 @@
 // The lines of an account, but for those of blocks, added to a text.
 #![tactic(auto)]
+
 ghost use Rattle.std.specs.Prelude.{◌≡◌, ◌++◌, ◌+◌, ◌*◌, ◌≤◌, length, take};
 ghost use Rattle.model.specs.Chip.{most_segments};
 ghost use Rattle.text.specs.Text.{text as ascii};

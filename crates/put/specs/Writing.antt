@@ -1,5 +1,5 @@
 -- A put: what its parts want to know of the image, and its last steps.
-use Rattle.std.specs.Prelude.{ℕ, ◌+◌, ◌-◌, ◌≤◌, ◌<◌, ◌≡◌, true, false, not, List, [], ◌++◌, length, leb}
+use Rattle.std.specs.Prelude.{ℕ, ◌+◌, ◌-◌, ◌≤◌, ◌<◌, ◌≡◌, true, false, List, [], ◌++◌, length, leb}
 use Rattle.model.specs.Chip.{Image, Bytes, Step, most_segments, right_size}
 use Rattle.model.specs.Header.{is_former, tally_of}
 use Rattle.model.specs.Slot.{number_ok}

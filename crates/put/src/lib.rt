@@ -1,4 +1,6 @@
 // A put on a clean image. Its last parts hold on any.
+#![tactic(auto)]
+
 ghost use Rattle.std.specs.Prelude.{◌≡◌, false, ◌+◌, ◌-◌, ◌*◌, ◌≤◌, ◌<◌, length};
 ghost use Rattle.model.specs.State.{entries_in, view};
 ghost use Rattle.model.specs.Steps.{slot_at};

@@ -1,5 +1,6 @@
 // What a put on a clean image is answered, before its first step: from a plan, the top's tally, the count of live slots and a
 // search.
+#![tactic(auto)]
 ghost use Rattle.std.specs.Prelude.{◌≡◌, ◌+◌, ◌-◌, ◌≤◌, ◌<◌, length};
 ghost use Rattle.model.specs.Chip.{most_segments, most_slots};
 ghost use Rattle.flash.specs.Pages.{Sized};
@@ -47,6 +48,7 @@ pub fn is_worn(segments: usize, slots: usize, plan: Plan, tally: Tally) -> bool
 }
 
 // Whether a put of a block that is not stored finds as many slots live as may be.
+#[tactic(auto, unfolding(crate::specs::Answering::full_by))]
 fn is_full(segments: usize, slots: usize, live: usize, found: Found) -> bool
     requires { (2 ≤ segments) × (segments ≤ most_segments) × (2 ≤ slots) × (slots ≤ most_slots) }
     ensures { result ≡ full_by segments slots live found }
@@ -60,6 +62,7 @@ fn is_full(segments: usize, slots: usize, live: usize, found: Found) -> bool
 // Where a block's slot is, if it has to be known before room is made: where nothing will move, or where the answer turns on
 // it. Else a pass over all slots is saved. `Found::Nothing` is harmless there: below capacity the answer does not turn on
 // it, and `put::old_slot` searches once room was made.
+#[tactic(auto, unfolding(crate::specs::Answering::found_before))]
 pub fn slot_before(
     image: &[u8],
     segments: usize,

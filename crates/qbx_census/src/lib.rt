@@ -1,4 +1,6 @@
 // The segments in use of an image and their slots by kind, counted.
+#![tactic(auto)]
+
 ghost use Rattle.std.specs.Prelude.{◌≡◌, ◌+◌, ◌*◌, ◌<◌, ◌≤◌, length, get_or};
 ghost use Rattle.model.specs.State.{blank, segments_of};
 ghost use Rattle.flash.specs.Pages.{Sized};

@@ -18,19 +18,13 @@ beside_none most path h = rw (lt-leb (length path + 4) most h)
 abbrev pub ending : List ℕ
 ending = 46 ∷ 110 ∷ 101 ∷ 119 ∷ []
 
-module _ (path name mid part more rest : List ℕ) (fits : length path + 4 ≤ length name)
-    (copied : mid ≡ take (length path) path ++ drop (length path) name) (ended : part ≡ ending ++ more) where
-  begins : take (length path) mid ≡ path
-  begins = rw (copied, take-length path, take-append_seam path (drop (length path) name))
+module _ (path name one two kept rest : List ℕ) (fits : length path + 4 ≤ length name) (copied : one ≡ path) (ended : two ≡ ending) where
+  begins : take (length path) (one ++ kept) ≡ path
+  begins = rw (copied, take-append_seam path kept)
 
-  starts : take (length path + 4) (take (length path) mid ++ (part ++ rest)) ≡ path ++ ending
-  starts = rw (begins, take-append-add path (part ++ rest) 4, ended)
-
-  pub beside_made : IsPrefixLen (length path + 4) (take (length path) mid ++ (part ++ rest)) × (take (length path + 4) (take (length path) mid ++ (part ++ rest)) ≡ beside_of (length name) path)
+  pub beside_made : take (length path + 4) (take (length path) (one ++ kept) ++ (two ++ rest)) ≡ beside_of (length name) path
   unfolding beside_of text
-  beside_made =
-      let n : length path + 4 ≡ length (take (length path + 4) (take (length path) mid ++ (part ++ rest))) = sym (ap length starts ∙ length-append path ending) in
-      ((omega (arith, length-take (length path + 4) (take (length path) mid ++ (part ++ rest))), n), rw (le-leb (length path + 4) (length name) fits) starts)
+  beside_made = rw (begins, take-append-add path (two ++ rest) 4, ended, le-leb (length path + 4) (length name) fits)
 
 pub larger_count : (z : ℤ) (k : ℕ) → k ≤ larger_of z k
 unfolding larger_of

@@ -1,6 +1,10 @@
 // An image's file read into a buffer, and a part of an image.
+#![tactic(auto)]
+
 ghost use Rattle.std.specs.Prelude.{◌≡◌, ◌≤◌, length, take, drop, replicate};
 ghost use Rattle.qbx_images.specs.Images.{made, factory};
+
+use qbx_system::{ENOENT, System};
 
 // The file in the first bytes of the buffer: how many, whether they could be had, and how many the file has.
 #[derive(Clone, Copy)]
@@ -12,26 +16,29 @@ pub struct ImageFile {
 
 // Has an image's file in the buffer: the file's own bytes, or a chip from the factory of so many bytes where there is no file
 // and one may be made. Where it cannot be had, the system's reason stays to be told.
-pub fn present(image: &mut [u8], path: &[u8], size: usize, makes: bool) -> ImageFile
+pub fn present(
+    system: &mut System,
+    image: &mut [u8],
+    path: &[u8],
+    size: usize,
+    makes: bool,
+) -> ImageFile
     requires { size ≤ length image.old }
     ensures { result.count ≤ length image.new }
 {
-    let fd = os::open_read(path);
-    if fd < 0 {
-        let is_missing = os::errno() == libc::ENOENT;
+    let Some(mut file) = system.open_read(path) else {
+        let is_missing = system.reason() == ENOENT;
         return absent(image, size, makes && is_missing);
-    }
-    let filled = qbx_files::fill(fd, image);
+    };
+    let filled = qbx_files::fill(system, &mut file, image);
     if !filled.whole {
-        libc::close(fd);
         return ImageFile {
             count: 0,
             whole: false,
             there: 0,
         };
     }
-    let there = qbx_files::length_of(fd, filled.count);
-    libc::close(fd);
+    let there = qbx_files::length_of(&mut file, filled.count);
     ImageFile {
         count: filled.count,
         whole: true,

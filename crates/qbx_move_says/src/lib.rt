@@ -1,4 +1,6 @@
 // What a move or a rebuild says that no other verb does, a line each.
+#![tactic(auto)]
+
 ghost use Rattle.std.specs.Prelude.{◌≡◌, ◌+◌, ◌≤◌};
 ghost use Rattle.qbx_lines.specs.Lines.{most_line, said, Added};
 ghost use Rattle.qbx_move_says.specs.MoveSaid.{name_text, move_size_line, clash_text};

@@ -1,5 +1,6 @@
 // The words of a move, read: IMAGE N B move TARGET N B [--budget STEPS]; those of a rebuild, which differ in the verb alone; and
 // how large its images are.
+#![tactic(auto)]
 ghost use Rattle.std.specs.Prelude.{◌≡◌};
 ghost use Rattle.request.specs.Request.{size_of};
 ghost use Rattle.qbx_move_words.specs.Move.{names_target, with_budget, onto, move_of, larger_size};
@@ -40,6 +41,7 @@ pub fn names_target(verb: &[u8]) -> bool
 }
 
 // The option at the end.
+#[tactic(auto, unfolding(crate::specs::Move::with_budget, crate::specs::Move::as_number, text::specs::Text::text))]
 fn with_budget(command: Move, option: &[u8], steps: &[u8]) -> MoveReading
     ensures { result ≡ with_budget command option.now steps.now }
 {
@@ -64,6 +66,7 @@ fn with_budget(command: Move, option: &[u8], steps: &[u8]) -> MoveReading
 }
 
 // The words after the target's name.
+#[tactic(auto, unfolding(crate::specs::Move::onto, crate::specs::Move::as_number))]
 fn onto(
     salvages: bool,
     source: Geometry,
@@ -94,6 +97,7 @@ fn onto(
 }
 
 // The words after the image's name; those that are missing are empty.
+#[tactic(auto, unfolding(crate::specs::Move::move_of, crate::specs::Move::as_number, crate::specs::Move::is_rebuild, text::specs::Text::text))]
 pub fn move_of(
     segments: &[u8],
     slots: &[u8],

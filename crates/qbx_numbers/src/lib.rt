@@ -1,5 +1,6 @@
 // Numbers in decimal, read from a word.
 #![tactic(auto)]
+
 ghost use Rattle.std.specs.Prelude.{◌≡◌};
 ghost use Rattle.qbx_numbers.specs.Number.{digit_of, number_of, number32_of};
 

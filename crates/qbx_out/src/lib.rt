@@ -1,8 +1,11 @@
 // What the program says, written out.
+#![tactic(auto)]
+
 ghost use Rattle.std.specs.Prelude.{◌<◌, ◌≤◌};
 ghost use Rattle.qbx_lines.specs.Lines.{most_line};
 
 use qbx_lines::Line;
+use qbx_system::{STDERR_FILENO, System};
 use qbx_words::Complaint;
 
 // Says a line.
@@ -15,17 +18,17 @@ pub fn print(fd: i32, line: Line)
 }
 
 // Says what could not be done with a file, on standard error with the system's reason.
-pub fn fail(fd: i32, what: &[u8], path: &[u8]) {
-    fail_as(b"qbx", fd, what, path);
+pub fn fail(system: &System, fd: i32, what: &[u8], path: &[u8]) {
+    fail_as(system, b"qbx", fd, what, path);
 }
 
 // The same of a program of this name.
-pub fn fail_as(name: &[u8], fd: i32, what: &[u8], path: &[u8]) {
+pub fn fail_as(system: &System, name: &[u8], fd: i32, what: &[u8], path: &[u8]) {
     io::write_all(fd, name);
     io::write_all(fd, b": cannot ");
     io::write_all(fd, what);
-    if fd == libc::STDERR_FILENO {
-        os::fail(path);
+    if fd == STDERR_FILENO {
+        system.fail(path);
         return;
     }
     io::write_all(fd, path);

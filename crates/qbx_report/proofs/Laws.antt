@@ -2,11 +2,8 @@
 use Prim.Native.Nat.{ℕ, ◌-◌, ◌%◌, ◌<◌}
 use mathlib.Core.Path.{◌≡◌, refl, sym, ap, ◌∙◌}
 use mathlib.Core.Bool.{cond}
-use mathlib.Core.List.{List, [], ◌∷◌}
-use mathlib.Core.Logic.{⊎_elim}
+use mathlib.Core.List.{List}
 use native.Mathlib.Omega.{arith}
-use denote.Enum.Declared.{tag_of}
-use types.Run.{OneOf}
 use lib.ListN.{length, get_or, set}
 use lib.Seq.{set_out}
 use borrow.Author.Tests.{eq-eqb, ne_eqb}
@@ -23,7 +20,6 @@ use Rattle.scan.specs.Surveys.{survey_of, state_in, survey_state}
 use Rattle.account_text.specs.Account.{unseen, shown_in, shown}
 use Rattle.qbx_state.specs.declared.Condition.{Condition}
 use Rattle.qbx_state.specs.declared.Condition.TheVariants.{Clean, UnfinishedA, UnfinishedB, UnfinishedC, UnfinishedD, Damaged}
-use Rattle.qbx_state.specs.contracts.Condition.{the_type}
 use Rattle.qbx_state.specs.declared.TopSeen.TheVariants.{Missing, Version1, Version2}
 use Rattle.qbx_census.specs.declared.Census.{Census}
 use Rattle.qbx_census.specs.Census.{set_aside, census_of}
@@ -38,11 +34,11 @@ condition_told N B l r t e q = ap (λ (x : Surveyed). condition_of (state_in x))
 
 module _ (N : ℕ) (l : List Segment) where
   -- the tag of another condition than (b)
-  pub aside_none : (k : Condition) → OneOf (0 ∷ 1 ∷ 3 ∷ 4 ∷ 5 ∷ []) (tag_of the_type k) → aside_in N l k ≡ N
+  pub aside_none : (k : Condition) → (k ≡ UnfinishedB → ⊥) → aside_in N l k ≡ N
   unfolding aside_in
   aside_none Clean h = refl
   aside_none UnfinishedA h = refl
-  aside_none UnfinishedB h = absurd (⊎_elim (λ q. omega arith) (⊎_elim (λ q. omega arith) (⊎_elim (λ q. omega arith) (⊎_elim (λ q. omega arith) (λ q. omega arith)))) h)
+  aside_none UnfinishedB h = absurd (h refl)
   aside_none UnfinishedC h = refl
   aside_none UnfinishedD h = refl
   aside_none Damaged h = refl

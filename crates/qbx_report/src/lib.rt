@@ -1,4 +1,6 @@
 // What `qbx check` tells of an image: its state, what is in it, counted, and the top's version and tally.
+#![tactic(auto)]
+
 ghost use Rattle.std.specs.Prelude.{◌≡◌, true};
 ghost use Rattle.model.specs.Chip.{right_size};
 ghost use Rattle.model.specs.State.{segments_of, state_of};

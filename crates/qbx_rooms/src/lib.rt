@@ -1,5 +1,6 @@
 // The buffers for images, by number: what each holds, and the stack that it asks for.
 #![tactic(auto)]
+
 ghost use Rattle.std.specs.Prelude.{◌≡◌, true};
 ghost use Rattle.qbx_rooms.specs.Rooms.{room_of, need_of, move_need_of, lack_of};
 

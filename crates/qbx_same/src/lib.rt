@@ -1,9 +1,18 @@
 // Whether a name leads to a certain file. A move or a rebuild writes its target under one name and gives it another;
 // neither may be its source's, whatever the names look like.
+#![tactic(auto)]
+
 ghost use Rattle.std.specs.Prelude.{◌≡◌};
 ghost use Rattle.qbx_same.specs.Same.{is_same, target_clash, beside_clash, clash_of};
 
-use libc::types::{stat, timespec};
+use qbx_system::{ENOENT, System};
+use std::fs::File;
+use std::os::unix::fs::MetadataExt;
+
+// The bits of a mode that tell a file's kind, and the kind of a plain file.
+const S_IFMT: u32 = 0o170000;
+
+const S_IFREG: u32 = 0o100000;
 
 // What tells a file from every other one while it is open: its device and its number there. The kind is 0 where the system
 // has told nothing.
@@ -37,61 +46,34 @@ pub enum Clash {
 
 // ---- what the system tells: nothing is promised of it
 
-// All that is known of an open file. A call that fails leaves the struct as it was.
-fn status_of(fd: i32, before: stat) -> stat {
-    let mut status = before;
-    libc::fstat(fd, &mut status);
-    status
-}
-
-fn no_status() -> stat {
-    let never = timespec {
-        tv_sec: 0,
-        tv_nsec: 0,
-    };
-    stat {
-        st_dev: 0,
-        st_ino: 0,
-        st_nlink: 0,
-        st_mode: 0,
-        st_uid: 0,
-        st_gid: 0,
-        __pad: 0,
-        st_rdev: 0,
-        st_size: 0,
-        st_blksize: 0,
-        st_blocks: 0,
-        st_atim: never,
-        st_mtim: never,
-        st_ctim: never,
-        __unused: [0; 3],
-    }
-}
-
-fn identify(fd: i32) -> Identity {
-    let status = status_of(fd, no_status());
-    Identity {
-        device: status.st_dev,
-        number: status.st_ino,
-        kind: status.st_mode & libc::S_IFMT,
+fn identify(system: &mut System, file: &File) -> Identity {
+    match system.status(file) {
+        Some(status) => Identity {
+            device: status.dev(),
+            number: status.ino(),
+            kind: status.mode() & S_IFMT,
+        },
+        None => Identity {
+            device: 0,
+            number: 0,
+            kind: 0,
+        },
     }
 }
 
 // What a name leads to, through links too.
-fn look(path: &[u8]) -> Found {
-    let fd = os::open_read(path);
-    if fd < 0 {
-        if os::errno() == libc::ENOENT {
+fn look(system: &mut System, path: &[u8]) -> Found {
+    let Some(file) = system.open_read(path) else {
+        if system.reason() == ENOENT {
             return Found::Nothing;
         }
         return Found::Untold;
-    }
-    let file = identify(fd);
-    libc::close(fd);
-    if file.kind == 0 {
+    };
+    let found = identify(system, &file);
+    if found.kind == 0 {
         return Found::Untold;
     }
-    Found::File(file)
+    Found::File(found)
 }
 
 // ---- what follows from it
@@ -106,6 +88,7 @@ fn is_same(a: Identity, b: Identity) -> bool
 }
 
 // The name beside the target's: what has it is removed. A link to a folder could be on the way to the source.
+#[tactic(auto, unfolding(crate::specs::Same::beside_clash, crate::specs::Same::is_plain))]
 fn with_beside(source: Identity, beside: Found) -> Clash
     ensures { result ≡ beside_clash source beside }
 {
@@ -116,7 +99,7 @@ fn with_beside(source: Identity, beside: Found) -> Clash
             if is_same(source, file) {
                 return Clash::SourceBeside;
             }
-            if file.kind == libc::S_IFREG {
+            if file.kind == S_IFREG {
                 return Clash::Apart;
             }
             Clash::InTheWay
@@ -125,6 +108,7 @@ fn with_beside(source: Identity, beside: Found) -> Clash
 }
 
 // The target's own name: the file that has it is replaced. Where it is no clash, there may be one beside it.
+#[tactic(auto, unfolding(crate::specs::Same::target_clash))]
 fn with_target(source: Identity, target: Found, beside: Clash) -> Clash
     ensures { result ≡ target_clash source target beside }
 {
@@ -149,27 +133,25 @@ fn judge(source: Identity, target: Found, beside: Found) -> Clash
 // ---- the names
 
 // The name beside the target's is looked at only if its own could be, or the system would tell its reason of the other one.
-fn against(source: Identity, target: &[u8]) -> Clash {
+fn against(system: &mut System, source: Identity, target: &[u8]) -> Clash {
     if source.kind == 0 {
         return Clash::NoSource;
     }
-    let own = look(target);
+    let own = look(system, target);
     if let Found::Untold = own {
         return Clash::NoTarget;
     }
     let mut name = io::buffer();
     let n = qbx_files::beside(target, &mut name);
-    judge(source, own, look(&name[..n]))
+    judge(source, own, look(system, &name[..n]))
 }
 
 // Whether the target can be written without a change to the source. The source stays open until that is known: the system may
 // give the number of a closed file to another one.
-pub fn clash_of(path: &[u8], target: &[u8]) -> Clash {
-    let fd = os::open_read(path);
-    if fd < 0 {
+pub fn clash_of(system: &mut System, path: &[u8], target: &[u8]) -> Clash {
+    let Some(file) = system.open_read(path) else {
         return Clash::NoSource;
-    }
-    let told = against(identify(fd), target);
-    libc::close(fd);
-    told
+    };
+    let source = identify(system, &file);
+    against(system, source, target)
 }

@@ -1,4 +1,6 @@
 // What qbx says, a line each. Nothing is written here.
+#![tactic(auto)]
+
 ghost use Rattle.std.specs.Prelude.{◌≡◌, ◌+◌, ◌<◌, ◌≤◌};
 ghost use Rattle.qbx_lines.specs.Lines.{most_line, said, Added};
 ghost use Rattle.qbx_says.specs.Said.{verdict, reason, steps_word, answer_text, performed_text, performed_line, asked_text, size_line, complaint_text, stack_line};
@@ -47,6 +49,7 @@ fn add_reason(line: Line, answer: Answer) -> Line
 }
 
 // An answer, with no line end.
+#[tactic(auto, unfolding(crate::specs::Said::answer_text))]
 pub fn say_answer(answer: Answer) -> Line
     ensures { (said result ≡ answer_text answer) × (result.count ≤ 44) }
 {

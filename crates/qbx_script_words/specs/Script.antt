@@ -1,6 +1,6 @@
 -- A script's words.
 use Rattle.std.specs.Prelude.{ℕ, zero, suc, ◌+◌, List, take, drop}
-use Rattle.bytes.specs.Bytes.{index_of}
+use Rattle.byte_search.specs.Bytes.{index_of}
 
 -- what stands before the first space, or after so many spaces and before the next
 unfoldable pub word_at : ℕ → List ℕ → List ℕ

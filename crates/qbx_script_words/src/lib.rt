@@ -1,5 +1,6 @@
 // The words of a script's line.
 #![tactic(auto)]
+
 ghost use Rattle.std.specs.Prelude.{◌≡◌};
 ghost use Rattle.qbx_script_words.specs.Script.{word_at};
 
@@ -10,13 +11,13 @@ pub fn word(line: &[u8], k: usize) -> &[u8]
     let mut at = 0;
     let mut i = 0;
     while i < k {
-        let end = bytes::scan::find(line, at, line.len(), b' ');
+        let end = byte_search::find(line, at, line.len(), b' ');
         if end == line.len() {
             return &line[end..end];
         }
         at = end + 1;
         i += 1;
     }
-    let end = bytes::scan::find(line, at, line.len(), b' ');
+    let end = byte_search::find(line, at, line.len(), b' ');
     &line[at..end]
 }

@@ -1,5 +1,6 @@
 // A file of shares, read: its text has the first block, the last block and the quota of a tenant to a line.
 #![tactic(auto)]
+
 ghost use Rattle.std.specs.Prelude.{◌≡◌, [], ◌∷◌, ◌+◌, ◌≤◌, length, drop, get_or};
 ghost use Rattle.qbx_share_file.specs.ShareFile.{is_blank, words_of, line_of, numbers_in, is_right, said_in, listing, over};
 ghost use Rattle.qbx_share_file.specs.Steps.{reach, Kept};
@@ -71,6 +72,7 @@ pub fn word(line: &[u8], k: usize) -> &[u8]
 }
 
 // A line's share, if that is what it says.
+#[tactic(auto, unfolding(crate::specs::ShareFile::share_of))]
 fn read_line(line: &[u8]) -> LineRead
     ensures { result ≡ line_of (words_of line.now) }
 {
@@ -138,6 +140,7 @@ fn is_right(line: LineRead) -> bool
 }
 
 // The shares that a file's text lists, in a lent slice; numbers that it does not hold are left out.
+#[tactic(auto, unfolding(crate::specs::ShareFile::share_line, crate::specs::ShareFile::said_in))]
 pub fn read_shares(text: &[u8], shares: &mut [u32]) -> Listing
     ensures { (result ≡ listing (length shares.old) (said_in text.now)) × (shares.new ≡ over (said_in text.now).numbers shares.old) }
 {
@@ -145,7 +148,7 @@ pub fn read_shares(text: &[u8], shares: &mut [u32]) -> Listing
     let mut number = 1;
     let mut count = 0;
     while at < text.len() {
-        let end = bytes::scan::find(text, at, text.len(), b'\n');
+        let end = byte_search::find(text, at, text.len(), b'\n');
         let line = read_line(&text[at..end]);
         if !is_right(line) {
             return Listing::Wrong(number);

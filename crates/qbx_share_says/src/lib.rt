@@ -1,4 +1,6 @@
 // What a tenant's command says that no other does, a line each.
+#![tactic(auto)]
+
 ghost use Rattle.std.specs.Prelude.{◌≡◌, ◌≤◌};
 ghost use Rattle.qbx_lines.specs.Lines.{most_line, said};
 ghost use Rattle.qbx_share_says.specs.ShareSaid.{shared_line, shared_size_line, wrong_line};

@@ -1,4 +1,5 @@
 // The words of a tenant's command, read: IMAGE N B share-put SHARES TENANT BLOCK, or with share-get or share-delete.
+#![tactic(auto)]
 ghost use Rattle.std.specs.Prelude.{◌≡◌};
 ghost use Rattle.qbx_share_words.specs.Share.{names_shares, share_verb_of, of_tenant, share_of};
 
@@ -56,6 +57,7 @@ fn share_verb_of(verb: &[u8]) -> ShareVerb
 }
 
 // The words after the name of the shares' file.
+#[tactic(auto, unfolding(crate::specs::Share::of_tenant, crate::specs::Share::as_number, crate::specs::Share::as_number32))]
 fn of_tenant(
     segments: u64,
     slots: u64,
@@ -84,6 +86,7 @@ fn of_tenant(
 }
 
 // The words after the image's name; those that are missing are empty.
+#[tactic(auto, unfolding(crate::specs::Share::share_of, crate::specs::Share::as_number))]
 pub fn share_of(
     segments: &[u8],
     slots: &[u8],

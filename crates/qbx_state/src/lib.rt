@@ -1,4 +1,6 @@
 // What `qbx check` says of an image, as one line.
+#![tactic(auto)]
+
 ghost use Rattle.std.specs.Prelude.{◌≡◌, ◌+◌, ◌≤◌};
 ghost use Rattle.qbx_lines.specs.Lines.{most_line, said, Added};
 ghost use Rattle.qbx_state.specs.State.{condition_text, slots_text, tally_text, top_text, report_text};

@@ -6,11 +6,10 @@ ghost use Rattle.std.specs.Prelude.{◌≤◌, length};
 ghost use Rattle.io.specs.Counts.{IsPrefixLen};
 
 use std::env::FillError;
-use std::fmt;
-use std::fs;
 use std::fs::{File, Metadata, OpenOptions};
 use std::io::{Error, ErrorKind, Read, StdinLock};
 use std::rt::Env;
+use std::{fmt, fs};
 
 // The descriptors of standard output and standard error.
 pub const STDOUT_FILENO: i32 = 1;

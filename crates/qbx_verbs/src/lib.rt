@@ -1,5 +1,6 @@
 // The verbs of qbx, and what each is for.
 #![tactic(auto)]
+
 mod kinds;
 
 ghost use Rattle.std.specs.Prelude.{◌≡◌};

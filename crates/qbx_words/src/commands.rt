@@ -16,6 +16,7 @@ pub fn is_missing(word: &[u8]) -> bool
 }
 
 // The option at the end.
+#[tactic(auto, unfolding(crate::specs::Command::with_budget, crate::specs::Command::as_number, text::specs::Text::text))]
 fn with_budget(command: Command, option: &[u8], steps: &[u8]) -> Reading
     ensures { result ≡ with_budget command option.now steps.now }
 {
@@ -43,6 +44,7 @@ fn with_budget(command: Command, option: &[u8], steps: &[u8]) -> Reading
 }
 
 // The words after a verb that names a block.
+#[tactic(auto, unfolding(crate::specs::Command::with_block, crate::specs::Command::as_number))]
 fn with_block(command: Command, block: &[u8], option: &[u8], steps: &[u8]) -> Reading
     ensures { result ≡ with_block command block.now option.now steps.now }
 {
@@ -78,6 +80,7 @@ fn after_verb(command: Command, first: &[u8], second: &[u8], third: &[u8]) -> Re
 }
 
 // The words after the image's name; those that are missing are empty.
+#[tactic(auto, unfolding(crate::specs::Command::command_of, crate::specs::Command::as_number))]
 pub fn command_of(
     segments: &[u8],
     slots: &[u8],

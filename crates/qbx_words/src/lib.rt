@@ -1,4 +1,6 @@
 // The words of the command line of qbx, read.
+#![tactic(auto)]
+
 mod commands;
 
 pub use commands::{command_of, is_missing};

@@ -1,5 +1,7 @@
 // The segments that salvage looks at (request #113), by their numbers: those in use, and where the top is owing, the one after
 // it is left aside.
+#![tactic(auto)]
+
 ghost use Rattle.std.specs.Prelude.{◌≡◌, map, ◌<◌, length, get_or, take};
 ghost use Rattle.model.specs.Chip.{most_segments};
 ghost use Rattle.model.specs.State.{blank, number_after, segments_of};

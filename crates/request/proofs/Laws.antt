@@ -1,12 +1,12 @@
 -- Laws of the tests that come before the image is looked at.
 use Prim.Native.Nat.{ℕ, ◌+◌, ◌*◌, ◌≤◌}
 use mathlib.Core.Path.{◌≡◌, sym, ◌∙◌}
-use mathlib.Core.Bool.{Bool, true, false, ◌&&◌, not}
+use mathlib.Core.Bool.{Bool, true, false, ◌&&◌}
 use native.Mathlib.Nat.{mul-le-mul}
 use native.Mathlib.Omega.{arith}
 use lib.ListN.{length}
 use lib.Dec.{leb, ltb, eqb}
-use borrow.Author.Tests.{leb-true, lt-ltb, not-true, not-false}
+use borrow.Author.Tests.{leb-true, lt-ltb}
 use Rattle.model.specs.Chip.{Image, most_segments, most_slots, in_range, image_length, right_size}
 use Rattle.model.specs.Laws.Lists.{and_left, and_right}
 
@@ -31,10 +31,10 @@ some_passes n t h = rw (lt-ltb 0 n (omega arith))
 
 -- the test of the size as the requests use it
 module _ (N B : ℕ) (s : Image) (r : Bool) (e : r ≡ (in_range N B && eqb (length s) (image_length N B))) where
-  pub wrong_size : not r ≡ true → right_size N B s ≡ false
+  pub wrong_size : r ≡ false → right_size N B s ≡ false
   unfolding right_size
-  wrong_size h = sym e ∙ not-true r h
+  wrong_size h = sym e ∙ h
 
-  pub right_size_lem : not r ≡ false → right_size N B s ≡ true
+  pub right_size_lem : r ≡ true → right_size N B s ≡ true
   unfolding right_size
-  right_size_lem h = sym e ∙ not-false r h
+  right_size_lem h = sym e ∙ h

@@ -1,6 +1,7 @@
 // The segments in use, found by looking at the status bytes and the numbers in headers alone (request #102): of any image the
 // answer is in bounds, and of a clean one it is what the definitions say.
 #![tactic(auto)]
+
 ghost use Rattle.std.specs.Prelude.{◌≡◌, ◌<◌, ◌≤◌, length};
 ghost use Rattle.flash.specs.Pages.{Sized};
 ghost use Rattle.ring.specs.Seen.{status_at, number_at, LastFollowing, LastUsed, RunFrom, TopSeen, UsedSeen, SeenRing};

@@ -1,4 +1,6 @@
 // Room for a put.
+#![tactic(auto)]
+
 ghost use Rattle.std.specs.Prelude.{◌≡◌, ◌+◌, ◌-◌, ◌≤◌, ◌<◌, length};
 ghost use Rattle.room.specs.Room.{Plannable, Full, Worked};
 

@@ -1,4 +1,6 @@
 // All segments by their headers, and the tests that need no more.
+#![tactic(auto)]
+
 ghost use Rattle.std.specs.Prelude.{◌≡◌, cond, ◌||◌, ◌+◌, ◌<◌, ◌≤◌, length};
 ghost use Rattle.model.specs.Chip.{most_segments};
 ghost use Rattle.model.specs.State.{blank, is_invalid, is_owing, segments_of, settled};
@@ -23,6 +25,7 @@ pub fn none_counted() -> HeaderCounts
 }
 
 // One segment more.
+#[tactic(auto, unfolding(judge::specs::Heads::count_one))]
 pub fn count_one(counts: HeaderCounts, s: Summary) -> HeaderCounts
     requires { (counts.used < most_segments) × (counts.next ≤ 4294967296) }
     ensures { (result ≡ count_one counts (bare s)) × (result.used ≤ counts.used + 1) × (result.next ≤ 4294967296) }
@@ -69,6 +72,7 @@ fn may_be_fine(counts: HeaderCounts, segments: usize) -> bool
 }
 
 // The frame of the segments that a table shows.
+#[tactic(auto, unfolding(judge::specs::Heads::no_counts))]
 fn see_frame(table: [Summary; MOST_SEGMENTS], segments: usize) -> Frame
     requires { (0 < segments) × (segments ≤ most_segments) }
     ensures { (result ≡ frame_of segments (heads segments table)) × Ranged result }

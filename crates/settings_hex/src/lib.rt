@@ -1,5 +1,6 @@
 // Bytes in hex, added to a text in a lent buffer.
 #![tactic(auto)]
+
 ghost use Rattle.std.specs.Prelude.{◌≡◌, ◌+◌, ◌*◌, ◌<◌, ◌≤◌, length};
 ghost use Rattle.text.specs.Buffer.{Wrote, most_text};
 ghost use Rattle.settings_hex.specs.Hex.{hex_digit, hex};

@@ -1,4 +1,6 @@
 // The lines of the items of a layout table, each with what a read of the item gives, added to a text.
+#![tactic(auto)]
+
 ghost use Rattle.std.specs.Prelude.{◌≡◌, ◌+◌, ◌*◌, ◌≤◌, length};
 ghost use Rattle.text.specs.Buffer.{Wrote, most_text};
 ghost use Rattle.partitions.specs.Answers.{read_outcome};

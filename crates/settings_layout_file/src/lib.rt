@@ -1,5 +1,7 @@
 // A file of a layout table, read: its text has the identifier and the length of an item to a line. Lines and words are parted as
 // those of a file of shares.
+#![tactic(auto)]
+
 ghost use Rattle.std.specs.Prelude.{◌≡◌, [], ◌∷◌, ◌≤◌, length};
 ghost use Rattle.qbx_share_file.specs.ShareFile.{words_of, listing, over};
 ghost use Rattle.qbx_share_file.specs.Steps.{Kept};
@@ -17,6 +19,7 @@ pub enum PairRead {
 }
 
 // A line's pair, if that is what it says.
+#[tactic(auto, unfolding(crate::specs::LayoutFile::pair_of))]
 fn read_line(line: &[u8]) -> PairRead
     ensures { result ≡ line_of (words_of line.now) }
 {
@@ -80,6 +83,7 @@ fn is_right(line: PairRead) -> bool
 }
 
 // The table that a file's text lists, in a lent slice; bytes that it does not hold are left out.
+#[tactic(auto, unfolding(crate::specs::LayoutFile::layout_line, crate::specs::LayoutFile::layout_in))]
 pub fn read_layout(text: &[u8], layout: &mut [u8]) -> Listing
     ensures { (result ≡ listing (length layout.old) (layout_in text.now)) × (layout.new ≡ over (layout_in text.now).numbers layout.old) }
 {
@@ -87,7 +91,7 @@ pub fn read_layout(text: &[u8], layout: &mut [u8]) -> Listing
     let mut number = 1;
     let mut count = 0;
     while at < text.len() {
-        let end = bytes::scan::find(text, at, text.len(), b'\n');
+        let end = byte_search::find(text, at, text.len(), b'\n');
         let line = read_line(&text[at..end]);
         if !is_right(line) {
             return Listing::Wrong(number);

@@ -1,5 +1,6 @@
 // A number that fits a byte, read from a word.
 #![tactic(auto)]
+
 ghost use Rattle.std.specs.Prelude.{◌≡◌};
 ghost use Rattle.settings_numbers.specs.Byte.{byte_of};
 

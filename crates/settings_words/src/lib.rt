@@ -1,5 +1,6 @@
 // The words of the command line of settings, read: IMAGE P LAYOUT read ITEM, IMAGE P LAYOUT write ITEM [--budget STEPS], or
 // IMAGE P LAYOUT list.
+#![tactic(auto)]
 ghost use Rattle.std.specs.Prelude.{◌≡◌};
 ghost use Rattle.settings_words.specs.Command.{writes, ended, with_budget, of_item, of_list, command_of};
 
@@ -61,6 +62,7 @@ fn ended(command: Command, steps: &[u8]) -> Reading
 }
 
 // The option at the end.
+#[tactic(auto, unfolding(crate::specs::Command::with_budget, crate::specs::Command::as_number, text::specs::Text::text))]
 fn with_budget(command: Command, option: &[u8], steps: &[u8]) -> Reading
     ensures { result ≡ with_budget command option.now steps.now }
 {
@@ -86,6 +88,7 @@ fn with_budget(command: Command, option: &[u8], steps: &[u8]) -> Reading
 }
 
 // The words after a verb that names an item.
+#[tactic(auto, unfolding(crate::specs::Command::of_item, crate::specs::Command::as_byte))]
 fn of_item(partitions: u64, verb: Verb, item: &[u8], option: &[u8], steps: &[u8]) -> Reading
     ensures { result ≡ of_item partitions verb item.now option.now steps.now }
 {
@@ -118,6 +121,7 @@ fn of_list(partitions: u64, item: &[u8], option: &[u8], steps: &[u8]) -> Reading
 }
 
 // The words after the image's name; those that are missing are empty.
+#[tactic(auto, unfolding(crate::specs::Command::command_of, crate::specs::Command::as_number, text::specs::Text::text))]
 pub fn command_of(
     partitions: &[u8],
     layout: &[u8],

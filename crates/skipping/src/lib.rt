@@ -1,5 +1,6 @@
 // Entries of a table by block number that tell no place, passed over (requests #106 and #113).
 #![tactic(auto)]
+
 ghost use Rattle.std.specs.Prelude.{◌≡◌, true, ◌≤◌, length};
 ghost use Rattle.model.specs.Mounted.{least_places};
 ghost use Rattle.skipping.specs.Passed.{AllNone, Passed};

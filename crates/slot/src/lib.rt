@@ -1,5 +1,6 @@
 // A slot page taken apart, or made up and programmed under a budget.
 #![tactic(auto)]
+
 ghost use Rattle.std.specs.Prelude.{◌≡◌, ◌+◌, ◌*◌, ◌<◌, ◌≤◌, length, get_or};
 ghost use Rattle.model.specs.Slot.{written, slot_page, slot_fits, slot_of, kind_of};
 ghost use Rattle.model.specs.Steps.{write_slot, mark_dead};

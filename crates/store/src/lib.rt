@@ -3,6 +3,7 @@
 // Forms that document 01 names: the budget (its allowance) falls with each flash step, and `request` counts the steps by it;
 // block numbers, segment numbers and slot places are the three tuple structs of `model`; `let .. else` takes the clean
 // survey or the slot that was found, and all else is a refusal; `read_or` returns a part of either of two slices.
+#![tactic(auto)]
 ghost use Rattle.std.specs.Prelude.{◌≡◌, false};
 ghost use Rattle.model.specs.Answers.{performed, outcome_of, format, put, delete, recover, located, read_outcome, piece_or, counted, count_outcome};
 
@@ -88,6 +89,7 @@ pub fn delete(
 }
 
 // Where a block's contents are in the image.
+#[tactic(auto, unfolding(model::specs::Answers::located))]
 pub fn read(image: &[u8], segments: usize, slots: usize, block: BlockNumber) -> Located
     ensures { located result ≡ read_outcome segments slots image.now block.0 }
 {

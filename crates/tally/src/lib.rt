@@ -1,5 +1,6 @@
 // The tally of recoveries' erases in a header of version 2: read, and one more counted under a budget.
 #![tactic(auto)]
+
 ghost use Rattle.std.specs.Prelude.{◌≡◌, ◌<◌, ◌≤◌, length};
 ghost use Rattle.model.specs.Header.{cleared_in, cleared_bits, header_version};
 ghost use Rattle.model.specs.Steps.{on_page, header_at, highest_bit, count_erase};

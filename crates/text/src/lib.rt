@@ -1,6 +1,7 @@
 // Text put together in a lent buffer. A piece is written if the buffer holds it, and in any case the offset behind it comes
 // back: the same calls on an empty buffer tell how long a text is before its first byte is written.
 #![tactic(auto)]
+
 ghost use Rattle.std.specs.Prelude.{◌≡◌, ◌++◌, ◌+◌, ◌≤◌, length};
 ghost use Rattle.text.specs.Decimal.{decimal};
 ghost use Rattle.text.specs.Buffer.{printed, print_in, short_of, done_of, Wrote, most_text};

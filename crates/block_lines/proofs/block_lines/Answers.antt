@@ -31,8 +31,8 @@ loop-block-preserved c =
     let i = c.requires.1 in
     let t = c.loop-block-test.true in
     elim c.if-first-ne0.branch [
-      then-first-ne0 w ↦ blocks_as w.text-is w.end-is (blocks_more l.invariant t w.chain_lines-end.ensures.0 w.chain_lines-end.ensures.1)
-    | else-first-ne0 w ↦ blocks_as w.text-is w.end-is (blocks_none (chain_none a.slots a.nexts.now a.lengths.now (get_or a.firsts.now l.block 0) _ (i.listed l.block) (omega (arith, w.if-first-ne0.false))) l.invariant t)
+      | then-first-ne0 w ↦ blocks_as w.text-is w.end-is (blocks_more l.invariant t w.chain_lines-end.ensures.0 w.chain_lines-end.ensures.1)
+      | else-first-ne0 w ↦ blocks_as w.text-is w.end-is (blocks_none (chain_none a.slots a.nexts.now a.lengths.now (get_or a.firsts.now l.block 0) _ (i.listed l.block) (omega (arith, w.if-first-ne0.false))) l.invariant t)
     ]
 
 pub returns : goal.returns

@@ -8,8 +8,7 @@ use Rattle.block_lines.proofs.block_text.Goals as goal
 
 pub returns : goal.returns
 unfolding block_text labelled text
-returns c =
-    (
-      c.add_labelled-blocks.ensures.0 then c.add_labelled-lengths.ensures.0 then c.add_labelled-segments.ensures.0 then c.add_labelled.ensures.0,
-      omega (arith, c.add_labelled-blocks.ensures.1, c.add_labelled-lengths.ensures.1, c.add_labelled-segments.ensures.1, c.add_labelled.ensures.1),
-    )
+returns c = (
+  c.add_labelled-blocks.ensures.0 then c.add_labelled-lengths.ensures.0 then c.add_labelled-segments.ensures.0 then c.add_labelled.ensures.0,
+  omega (arith, c.add_labelled-blocks.ensures.1, c.add_labelled-lengths.ensures.1, c.add_labelled-segments.ensures.1, c.add_labelled.ensures.1),
+)

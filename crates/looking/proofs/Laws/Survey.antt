@@ -1,12 +1,8 @@
 -- A survey by its kinds: a clean image and its plan, or another.
 use Prim.Native.Nat.{ℕ, ◌≤◌}
-use mathlib.Core.Path.{◌≡◌, ap, ◌∙◌}
-use mathlib.Core.Logic.{⊎_elim}
+use mathlib.Core.Path.{◌≡◌, refl, ap, ◌∙◌}
 use mathlib.Core.Bool.{true}
-use mathlib.Core.List.{[], ◌∷◌}
 use native.Mathlib.Omega.{arith}
-use denote.Enum.Declared.{tag_of}
-use types.Run.{OneOf}
 use lib.ListN.{length}
 use Rattle.model.specs.Chip.{Image, right_size}
 use Rattle.model.specs.State.{segments_of, View, entries_in, clean, state, view}
@@ -14,7 +10,6 @@ use Rattle.model.specs.Steps.{top_row, first_empty, compactions as compactions_i
 use Rattle.model.specs.declared.SegmentNumber.{SegmentNumber}
 use Rattle.scan.specs.declared.Surveyed.{Surveyed}
 use Rattle.scan.specs.declared.Surveyed.TheVariants.{Clean, TornSegment, ErasePending, TornSlot, OldSlot, Damaged}
-use Rattle.scan.specs.contracts.Surveyed.{the_type}
 use Rattle.scan.specs.Surveys.{survey_in, survey_of, state_in}
 use Rattle.bridge.specs.Views.Room.{compactions_length}
 use Rattle.room.specs.Room.{Planned}
@@ -22,11 +17,11 @@ use Rattle.scan.proofs.Laws.Told.{survey_says, told, survey_clean}
 
 -- a survey of another kind
 abbrev pub Other : Surveyed → Type 0
-Other r = OneOf (1 ∷ 2 ∷ 3 ∷ 4 ∷ 5 ∷ []) (tag_of the_type r)
+Other r = (first : SegmentNumber) (used live free compactions : ℕ) → r ≡ Clean first used live free compactions → ⊥
 
 other_state : (r : Surveyed) → Other r → state_in r ≡ clean → ⊥
 unfolding state_in
-other_state (Clean n u l f c) h e = ⊎_elim (λ q. omega arith) (⊎_elim (λ q. omega arith) (⊎_elim (λ q. omega arith) (⊎_elim (λ q. omega arith) (λ q. omega arith)))) h
+other_state (Clean n u l f c) h e = absurd (h n u l f c refl)
 other_state (TornSegment n) h e = let z : ◌≡◌ {A = ℕ} 0 1 = cc in omega arith
 other_state (ErasePending n b) h e = let z : ◌≡◌ {A = ℕ} 0 1 = cc in omega arith
 other_state (TornSlot p) h e = let z : ◌≡◌ {A = ℕ} 0 1 = cc in omega arith

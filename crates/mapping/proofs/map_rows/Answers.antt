@@ -35,3 +35,13 @@ returns c =
     let l = shown a.segments a.slots (segments_of a.segments a.slots a.image.now) in
     let n : length l ≤ c.loop-i.i = omega (arith, c.loop-i-test.false, (held_shown a.segments a.slots a.image.now c.requires.0.some).count) in
     (rw (← c.requires.2) (finish_end (rows_end a.next c.loop-i.i l n) c.loop-i.invariant.0), omega (arith, c.loop-i.invariant.1, c.loop-i.invariant.2))
+
+pub loop-i-preserved : goal.loop-i-preserved
+loop-i-preserved c =
+    let a = c.args in
+    let i = c.loop-i.i in
+    let t = c.loop-i-test.true in (
+      finish_more (rows_next a.segments a.slots a.next a.image.now a.table i _ c.requires.0.some t c.requires.1) c.loop-i.invariant.0 c.map_row-end.ensures.0,
+      omega arith,
+      omega (arith, c.loop-i.invariant.2, c.map_row-end.ensures.1),
+    )

@@ -5,8 +5,6 @@ use mathlib.Core.Logic.{◌≢◌, ⊎_elim}
 use mathlib.Core.Bool.{Bool, true, false, not, false≢true}
 use mathlib.Core.List.{List, [], ◌∷◌}
 use native.Mathlib.Omega.{arith}
-use denote.Enum.Declared.{tag_of}
-use types.Run.{OneOf}
 use lib.ListN.{length, get_or}
 use Rattle.model.specs.Chip.{Image, Bytes}
 use Rattle.model.specs.Slot.{number_ok}
@@ -26,7 +24,6 @@ use Rattle.find.specs.declared.Found.TheVariants as finds
 use Rattle.find.specs.Search.{rows_at, found_in}
 use Rattle.places.specs.declared.Entry.{Entry}
 use Rattle.places.specs.declared.Entry.TheVariants.{At, Absent, Stale}
-use Rattle.places.specs.contracts.Entry.{the_type}
 use Rattle.places.specs.Places.{entry_seen}
 use Rattle.bridge.specs.Mounting.{Kept, in_step_kept, kept_in_step}
 use Rattle.room.specs.declared.Plan.{Plan}
@@ -95,11 +92,11 @@ module _ (N B : ℕ) (s : Image) (t : Places) (b : ℕ) (c : List ℕ) (budget :
     unfolding entry_for none_found
     puts_new e = record { passed = p; seen = e; told = λ step. rw (seen_none N B s t b (in_step_kept N B s t step) (passed N B s t b taken p).number e) }
 
-    pub puts_told : (e : Entry) → e ≡ entry_seen B s (get_or t b 0) → OneOf (0 ∷ 1 ∷ []) (tag_of the_type e) → (f : Found) → f ≡ found_for e → Puts N B f b c s t
+    pub puts_told : (e : Entry) → e ≡ entry_seen B s (get_or t b 0) → (e ≡ Stale → ⊥) → (f : Found) → f ≡ found_for e → Puts N B f b c s t
     unfolding found_for
     puts_told (At q l) i k f j = rw j (puts_stored q l (sym i))
     puts_told Absent i k f j = rw j (puts_new (sym i))
-    puts_told Stale i k f j = absurd (⊎_elim (λ z. omega arith) (λ z. omega arith) k)
+    puts_told Stale i k f j = absurd (k refl)
 
   module _ (f : Found) (g : Puts N B f b c s t) (absent : Bool) (i : absent ≡ none_found f) (d : Decision) (w : Decides N B absent s d) where
     told : InStep N B s t → absent ≡ not (holds b (entries_in (view N B s)))

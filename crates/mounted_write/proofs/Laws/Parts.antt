@@ -1,11 +1,9 @@
 -- The parts of a put once room was made, as the code takes them one after the other, on any image with any table.
 use Prim.Native.Nat.{ℕ, ◌+◌, ◌-◌, ◌*◌, ◌≤◌, ◌<◌}
 use mathlib.Core.Path.{◌≡◌, refl, sym, ap, ◌∙◌}
-use mathlib.Core.Logic.{inl, inr, ⊎_elim}
-use mathlib.Core.List.{List, [], ◌∷◌}
+use mathlib.Core.Logic.{inl, inr}
+use mathlib.Core.List.{List}
 use native.Mathlib.Omega.{arith}
-use denote.Enum.Declared.{tag_of}
-use types.Run.{OneOf}
 use lib.ListN.{length, get_or, set}
 use Rattle.model.specs.Chip.{Image}
 use Rattle.model.specs.Steps.{slot_at}
@@ -17,7 +15,6 @@ use Rattle.find.specs.declared.Found.TheVariants.{At, Nothing}
 use Rattle.request.specs.Request.{Finished}
 use Rattle.places.specs.declared.Entry.{Entry}
 use Rattle.places.specs.declared.Entry.TheVariants as entries
-use Rattle.places.specs.contracts.Entry.{the_type}
 use Rattle.places.specs.Places.{entry_seen, noted}
 use Rattle.places.proofs.Laws.Seen.{seen_believed}
 use Rattle.places.proofs.Laws.Walk.{few_bytes}
@@ -39,11 +36,11 @@ pub place_fits : (N B : ℕ) (r : Room) (f : Found) (b : ℕ) (c : List ℕ) (bu
 place_fits N B r f b c budget s k at e = omega (arith, place_inside N B r f b c budget s k at e, few_bytes N B (length s) k.sized)
 
 -- an entry that can be tells of what was found
-told_back : (e : Entry) → OneOf (0 ∷ 1 ∷ []) (tag_of the_type e) → entry_for (found_for e) ≡ e
+told_back : (e : Entry) → (e ≡ entries.Stale → ⊥) → entry_for (found_for e) ≡ e
 unfolding entry_for found_for
 told_back (entries.At q n) k = refl
 told_back entries.Absent k = refl
-told_back entries.Stale k = absurd (⊎_elim (λ q. omega arith) (λ q. omega arith) k)
+told_back entries.Stale k = absurd (k refl)
 
 module _ (N B : ℕ) (r : Room) (b : ℕ) (c : List ℕ) (budget : ℕ) (s : Image) (t : Places) where
   -- ---- a slot may be written
@@ -59,14 +56,14 @@ module _ (N B : ℕ) (r : Room) (b : ℕ) (c : List ℕ) (budget : ℕ) (s : Ima
 
   -- ---- it was written, or nothing was
 
-  pub found_told : (e : Entry) → e ≡ entry_seen B s (get_or t b 0) → OneOf (0 ∷ 1 ∷ []) (tag_of the_type e) → (f : Found) → f ≡ found_for e → entry_seen B s (get_or t b 0) ≡ entry_for f
+  pub found_told : (e : Entry) → e ≡ entry_seen B s (get_or t b 0) → (e ≡ entries.Stale → ⊥) → (f : Found) → f ≡ found_for e → entry_seen B s (get_or t b 0) ≡ entry_for f
   found_told e seen k f i = rw i (sym seen ∙ sym (told_back e k))
 
   pub found_placed : RoomMade N B r c budget (length s) → r.slot < B → (f : Found) → entry_seen B s (get_or t b 0) ≡ entry_for f → Placed N B r f c budget (length s)
   found_placed m h f e = placed m h f (old_inside f e)
 
   module _ (e : Entry) (seen : e ≡ entry_seen B s (get_or t b 0)) {p : Performed} {u : Image} {w : Places} where
-    pub continued_written : OneOf (0 ∷ 1 ∷ []) (tag_of the_type e) → (f : Found) → f ≡ found_for e → Wrote N B r f b c budget p s u → w ≡ noted t b (slot_at N B (r.first.0 + r.used - 1) r.slot * 256) (code_of p.answer)
+    pub continued_written : (e ≡ entries.Stale → ⊥) → (f : Found) → f ≡ found_for e → Wrote N B r f b c budget p s u → w ≡ noted t b (slot_at N B (r.first.0 + r.used - 1) r.slot * 256) (code_of p.answer)
         → Continued N B r b c budget p s u t w
     continued_written k f i d j = inl (f, record { seen = found_told e seen k f i; wrote = d; table = j })
 

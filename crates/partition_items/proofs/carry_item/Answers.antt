@@ -1,6 +1,7 @@
 -- `partition_items::carry_item` is the new data, the old data or nothing, by the two tests of the definition. Assumes nothing.
 use mathlib.Core.Logic.{inl, inr, ⊎_elim}
 use native.Mathlib.Omega.{arith}
+use Rattle.flash.proofs.Laws.{◌then◌}
 use Rattle.partition_items.proofs.Carrying.{carry_new, carry_old, carry_none}
 use borrow.Author.Rules.{rules}
 use Rattle.partition_items.proofs.carry_item.Goals as goal
@@ -10,9 +11,16 @@ returns-then-identifier-item c =
     let a = c.args in
     carry_new a.image.now a.from a.to a.identifier a.size a.item a.contents.now c.if-identifier-item.true c.write_item.ensures
 
--- after `returns`, so that a test of another item is refused for what is written, and not for where
+-- after `returns-then-identifier-item`, so that a test of another item is refused for what is written, and not for where
 pub write_item-requires : goal.write_item-requires
 write_item-requires c = omega (arith, c.requires.own c.if-identifier-item.true)
+
+-- before `returns-then-image-from`, so that a test of another byte is refused for the item that is copied
+pub returns : goal.returns
+returns c =
+    let a = c.args in
+    carry_old a.image.now a.from a.to a.identifier a.size a.item a.contents.now c.if-identifier-item.false c.if-image-from.false
+    (λ B. ◌then◌ (c.copy_data-left.ensures B) (c.program_byte.ensures B))
 
 pub returns-then-image-from : goal.returns-then-image-from
 returns-then-image-from c =

@@ -1,12 +1,9 @@
 -- The table after a call for a block: by the answer, and what stays.
 use Prim.Native.Nat.{ℕ, ◌≤◌, ◌<◌}
 use mathlib.Core.Path.{◌≡◌, refl}
-use mathlib.Core.Logic.{◌≢◌, ⊎_elim}
+use mathlib.Core.Logic.{◌≢◌}
 use mathlib.Core.Bool.{Bool, true, false, cond}
-use mathlib.Core.List.{[], ◌∷◌}
 use native.Mathlib.Omega.{arith}
-use denote.Enum.Declared.{tag_of}
-use types.Run.{OneOf}
 use lib.ListN.{length, get_or, drop, set}
 use lib.Seq.{drop-set-lt, get_or-set_same}
 use lib.Dec.{eqb}
@@ -15,21 +12,14 @@ use Rattle.model.specs.Answers.{code_of}
 use Rattle.model.specs.Mounted.{Places, least_places, unusable}
 use Rattle.model.specs.declared.Answer.{Answer}
 use Rattle.model.specs.declared.Answer.TheVariants.{Done, Size, Number, Length, Damaged, Unfinished, Absent, Full, Worn, Cut, ShortTable, FormerVersion, Foreign, Shares, ShortBuffer}
-use Rattle.model.specs.contracts.Answer.{the_type}
 use Rattle.places.specs.Places.{noted}
 
 -- ---- by the answer
 
 -- an answer other than 0
-abbrev Other : Answer → Type 0
-Other a = OneOf (1 ∷ 2 ∷ 3 ∷ 4 ∷ 5 ∷ 6 ∷ 7 ∷ 8 ∷ 9 ∷ 10 ∷ 11 ∷ 12 ∷ 13 ∷ 14 ∷ []) (tag_of the_type a)
-
-done_not : Other Done → ⊥
-done_not h = ⊎_elim (λ q. omega arith) (⊎_elim (λ q. omega arith) (⊎_elim (λ q. omega arith) (⊎_elim (λ q. omega arith) (⊎_elim (λ q. omega arith) (⊎_elim (λ q. omega arith) (⊎_elim (λ q. omega arith) (⊎_elim (λ q. omega arith) (⊎_elim (λ q. omega arith) (⊎_elim (λ q. omega arith) (⊎_elim (λ q. omega arith) (⊎_elim (λ q. omega arith) (⊎_elim (λ q. omega arith) (λ q. omega arith))))))))))))) h
-
-other_code : (a : Answer) → Other a → eqb (code_of a) 0 ≡ false
+other_code : (a : Answer) → (a ≡ Done → ⊥) → eqb (code_of a) 0 ≡ false
 unfolding code_of
-other_code Done h = absurd (done_not h)
+other_code Done h = absurd (h refl)
 other_code Size h = refl
 other_code Number h = refl
 other_code Length h = refl
@@ -46,13 +36,7 @@ other_code Shares h = refl
 other_code ShortBuffer h = refl
 
 -- an answer other than 9
-abbrev Uncut : Answer → Type 0
-Uncut a = OneOf (0 ∷ 1 ∷ 2 ∷ 3 ∷ 4 ∷ 5 ∷ 6 ∷ 7 ∷ 8 ∷ 10 ∷ 11 ∷ 12 ∷ 13 ∷ 14 ∷ []) (tag_of the_type a)
-
-cut_not : Uncut Cut → ⊥
-cut_not h = ⊎_elim (λ q. omega arith) (⊎_elim (λ q. omega arith) (⊎_elim (λ q. omega arith) (⊎_elim (λ q. omega arith) (⊎_elim (λ q. omega arith) (⊎_elim (λ q. omega arith) (⊎_elim (λ q. omega arith) (⊎_elim (λ q. omega arith) (⊎_elim (λ q. omega arith) (⊎_elim (λ q. omega arith) (⊎_elim (λ q. omega arith) (⊎_elim (λ q. omega arith) (⊎_elim (λ q. omega arith) (λ q. omega arith))))))))))))) h
-
-uncut_code : (a : Answer) → Uncut a → eqb (code_of a) 9 ≡ false
+uncut_code : (a : Answer) → (a ≡ Cut → ⊥) → eqb (code_of a) 9 ≡ false
 unfolding code_of
 uncut_code Done h = refl
 uncut_code Size h = refl
@@ -63,7 +47,7 @@ uncut_code Unfinished h = refl
 uncut_code Absent h = refl
 uncut_code Full h = refl
 uncut_code Worn h = refl
-uncut_code Cut h = absurd (cut_not h)
+uncut_code Cut h = absurd (h refl)
 uncut_code ShortTable h = refl
 uncut_code FormerVersion h = refl
 uncut_code Foreign h = refl
@@ -79,7 +63,7 @@ module _ (t : Places) (b place : ℕ) (a : Answer) where
   unfolding noted unusable code_of
   noted_cut_lem e = rw e
 
-  pub noted_refused : OneOf (1 ∷ 2 ∷ 3 ∷ 4 ∷ 5 ∷ 6 ∷ 7 ∷ 8 ∷ 9 ∷ 10 ∷ 11 ∷ 12 ∷ 13 ∷ 14 ∷ []) (tag_of the_type a) → OneOf (0 ∷ 1 ∷ 2 ∷ 3 ∷ 4 ∷ 5 ∷ 6 ∷ 7 ∷ 8 ∷ 10 ∷ 11 ∷ 12 ∷ 13 ∷ 14 ∷ []) (tag_of the_type a) → t ≡ noted t b place (code_of a)
+  pub noted_refused : (a ≡ Done → ⊥) → (a ≡ Cut → ⊥) → t ≡ noted t b place (code_of a)
   unfolding noted
   noted_refused h k = rw (other_code a h, uncut_code a k)
 

@@ -6,12 +6,11 @@ use Rattle.places.proofs.Laws.Filled.{fill_number, begun_length, fill_length, fi
 use Rattle.places.proofs.fill.Goals as goal
 
 pub enter-requires : goal.enter-requires
-enter-requires c =
-    (
-      sized c.args.segments c.args.slots c.args.image.now c.requires.0.size,
-      fill_number c.args.segments c.args.slots c.args.image.now _ _ c.requires.0,
-      omega (arith, c.requires.1, begun_length c.args.places.now c.requires.1 _ c.empty.ensures),
-    )
+enter-requires c = (
+  sized c.args.segments c.args.slots c.args.image.now c.requires.0.size,
+  fill_number c.args.segments c.args.slots c.args.image.now _ _ c.requires.0,
+  omega (arith, c.requires.1, begun_length c.args.places.now c.requires.1 _ c.empty.ensures),
+)
 
 pub shape_of-places : goal.shape_of-places
 shape_of-places c =

@@ -8,8 +8,7 @@ use Rattle.printing.proofs.counts_line.Goals as goal
 
 pub returns : goal.returns
 unfolding labelled text
-returns c =
-    (
-      wrote_as _ (counts_ended c.args.counts) (c.add_labelled-lives.ensures.0 then c.add_labelled-deads.ensures.0 then c.add_labelled-cuts.ensures.0 then c.add_ended.ensures.0),
-      omega (arith, c.add_labelled-lives.ensures.1, c.add_labelled-deads.ensures.1, c.add_labelled-cuts.ensures.1, c.add_ended.ensures.1),
-    )
+returns c = (
+  wrote_as _ (counts_ended c.args.counts) (c.add_labelled-lives.ensures.0 then c.add_labelled-deads.ensures.0 then c.add_labelled-cuts.ensures.0 then c.add_ended.ensures.0),
+  omega (arith, c.add_labelled-lives.ensures.1, c.add_labelled-deads.ensures.1, c.add_labelled-cuts.ensures.1, c.add_ended.ensures.1),
+)

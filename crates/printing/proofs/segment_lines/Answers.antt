@@ -11,6 +11,7 @@ use Rattle.printing.proofs.segment_lines.Goals as goal
 pub loop-i-init : goal.loop-i-init
 unfolding shown_lines
 loop-i-init c = (wrote_none _ _, omega arith, omega arith)
+
 pub loop-i-preserved : goal.loop-i-preserved
 loop-i-preserved c =
     let l = c.loop-i in
@@ -24,4 +25,3 @@ returns c =
     let l = c.loop-i in
     let same : l.i ≡ c.args.segments = omega (arith, l.invariant.1, c.loop-i-test.false) in
     (wrote_as _ (ap (λ (k : ℕ). shown_lines 0 (take k c.args.table)) same) l.invariant.0, omega (arith, l.invariant.2))
-

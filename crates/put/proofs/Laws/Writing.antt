@@ -1,12 +1,9 @@
 -- Laws of a put on a clean image: it is refused, or accepted, as the answer says.
 use Prim.Native.Nat.{ℕ}
 use mathlib.Core.Path.{◌≡◌, refl, sym, ap, ◌∙◌, subst}
-use mathlib.Core.Logic.{⊎_elim}
 use mathlib.Core.Bool.{Bool, true, false, cond}
-use mathlib.Core.List.{List, [], ◌∷◌}
+use mathlib.Core.List.{List}
 use native.Mathlib.Omega.{arith}
-use denote.Enum.Declared.{tag_of}
-use types.Run.{OneOf}
 use lib.Dec.{eqb}
 use lib.ListN.{length}
 use borrow.Author.Tests.{lt-ltb, leb-false}
@@ -17,7 +14,6 @@ use Rattle.model.specs.Steps.{is_worn}
 use Rattle.model.specs.Answers.{code_of, put, is_full}
 use Rattle.model.specs.declared.Answer.{Answer}
 use Rattle.model.specs.declared.Answer.TheVariants.{Done, Full, Worn, FormerVersion}
-use Rattle.model.specs.contracts.Answer.{the_type}
 use Rattle.bridge.specs.Accepted.{refusal}
 use Rattle.find.specs.declared.Found.{Found}
 use Rattle.tally.specs.declared.Tally.{Tally}
@@ -33,10 +29,10 @@ use Rattle.bridge.specs.Refusals.{put_former, put_full, put_worn}
 
 -- an answer other than 0
 abbrev pub Refusing : Answer → Type 0
-Refusing a = OneOf (1 ∷ 2 ∷ 3 ∷ 4 ∷ 5 ∷ 6 ∷ 7 ∷ 8 ∷ 9 ∷ 10 ∷ 11 ∷ 12 ∷ 13 ∷ 14 ∷ []) (tag_of the_type a)
+Refusing a = a ≡ Done → ⊥
 
 pub refusing_not : Refusing Done → ⊥
-refusing_not h = ⊎_elim (λ q. omega arith) (⊎_elim (λ q. omega arith) (⊎_elim (λ q. omega arith) (⊎_elim (λ q. omega arith) (⊎_elim (λ q. omega arith) (⊎_elim (λ q. omega arith) (⊎_elim (λ q. omega arith) (⊎_elim (λ q. omega arith) (⊎_elim (λ q. omega arith) (⊎_elim (λ q. omega arith) (⊎_elim (λ q. omega arith) (⊎_elim (λ q. omega arith) (⊎_elim (λ q. omega arith) (λ q. omega arith))))))))))))) h
+refusing_not h = h refl
 
 module _ (N B : ℕ) (p : Plan) (live b : ℕ) (c : List ℕ) (s : Image) (u : Puttable N B p b c s) (t : Tally) (seen : t ≡ tally_seen (view N B s).version) where
   abbrev k : Planned N B p s

@@ -5,7 +5,7 @@ use mathlib.Core.List.{List, []}
 use native.Mathlib.Omega.{arith}
 use lib.ListN.{length, take, drop, drop_of_length-le}
 use lib.Seq.{take-length, take-nil, drop-nil, drop-drop}
-use Rattle.bytes.specs.Bytes.{index_of, slice}
+use Rattle.byte_search.specs.Bytes.{index_of, slice}
 use Rattle.qbx_script_words.specs.Script.{word_at}
 
 -- a part with nothing in it

@@ -9,7 +9,7 @@ use lib.ListN.{length, take, drop, length-append, drop_of_length-le}
 use lib.Seq.{take-length, drop-drop}
 use lib.Dec.{eqb}
 use borrow.Author.Tests.{ne_eqb}
-use Rattle.bytes.specs.Bytes.{index_of, index_after, slice}
+use Rattle.byte_search.specs.Bytes.{index_of, slice}
 use Rattle.qbx_share_file.specs.declared.Listing.TheVariants.{Listed, Wrong}
 use Rattle.qbx_share_file.specs.ShareFile.{parts, filled, is_line_end, words_of, line_of, numbers_in, is_right, LineSaid, Said, on_line, lines_from, file_says, share_line, listing, over}
 use Rattle.qbx_share_file.specs.Steps.{reach, behind, Kept}
@@ -19,7 +19,7 @@ use Rattle.qbx_share_file.proofs.Laws.Kept.{behind_none}
 -- ---- the next line
 
 index_by : (b : ℕ) (s : List ℕ) (t : Bool) → eqb b 10 ≡ t → index_of 10 s ≡ reach is_line_end s → index_of 10 (b ∷ s) ≡ reach is_line_end (b ∷ s)
-unfolding index_of index_after reach is_line_end
+unfolding index_of reach is_line_end
 index_by b s true e h = rw e
 index_by b s false e h = rw (e, h)
 

@@ -1,7 +1,7 @@
 -- `settings_hex::add_hex`. The invariant: the first `i` bytes are there, two digits each. Assumes nothing.
 use Prim.Native.Nat.{ℕ, ◌+◌}
 use mathlib.Core.Path.{◌≡◌, ap, ◌∙◌}
-use mathlib.Core.List.{◌∷◌, ◌++◌}
+use mathlib.Core.List.{◌∷◌, ◌++◌, []}
 use native.Mathlib.Omega.{arith}
 use lib.ListN.{length, take}
 use lib.Seq.{take-length}
@@ -23,3 +23,13 @@ returns c =
     let b = c.args.bytes.now in
     let n : l.i ≡ length b = omega (arith, l.invariant.1, c.loop-i-test.false) in
     (wrote_as _ (ap (λ (k : ℕ). hex (take k b)) n ∙ ap hex (take-length b)) l.invariant.0, omega (arith, l.invariant.2))
+
+pub loop-i-preserved : goal.loop-i-preserved
+loop-i-preserved c =
+    let l = c.loop-i in
+    let b = c.args.bytes.now in
+    let w = c.add-end.ensures in
+    let d = c.digit in
+    let e = c.digit-in-loop-i in
+    let more : hex (take l.i b) ++ (d.result ∷ e.result ∷ []) ≡ hex (take (l.i + 1) b) = rw (d.ensures, e.ensures) (hex_next b l.i (omega (arith, c.loop-i-test.true))) in
+    (wrote_as _ more (l.invariant.0 then w), omega arith, omega (arith, w.ends, l.invariant.2))

@@ -9,9 +9,8 @@ pub returns-then-is_former : goal.returns-then-is_former
 returns-then-is_former c = (former_seen _ (sym c.is_former.ensures ∙ c.if-is_former.true), omega arith)
 
 pub returns : goal.returns
-returns c =
-    (
-      second_seen c.args.page.now c.requires (sym c.is_former.ensures ∙ c.if-is_former.false) _ _ _
-          c.header_total.ensures.0 c.cleared_bits-cleared.ensures.0 c.zeros_before.ensures,
-      search rules,
-    )
+returns c = (
+  second_seen c.args.page.now c.requires (sym c.is_former.ensures ∙ c.if-is_former.false) _ _ _
+      c.header_total.ensures.0 c.cleared_bits-cleared.ensures.0 c.zeros_before.ensures,
+  search rules,
+)

@@ -1,0 +1,25 @@
+-- `listing::see`. Assumes nothing.
+use mathlib.Core.Path.{◌≡◌, ap, ◌∙◌}
+use lib.ListN.{take}
+use Rattle.model.specs.State.{segments_of}
+use Rattle.model.specs.Laws.Segments.{segments_length}
+use Rattle.scan.proofs.Laws.Surveys.{right_size_lem}
+use Rattle.scan.specs.declared.Surveyed.{Surveyed}
+use Rattle.listing.specs.Walk.{hidden}
+use Rattle.listing.proofs.Laws.Shows.{hidden_shown}
+use Rattle.listing.proofs.see.Goals as goal
+
+pub see_all-requires : goal.see_all-requires
+see_all-requires c = (right_size_lem _ _ _ c.requires.0).0
+
+pub hide-requires : goal.hide-requires
+hide-requires c = let r = right_size_lem _ _ _ c.requires.0 in (r.0.some, r.0.segments)
+
+pub returns : goal.returns
+returns c =
+    let a = c.args in
+    let l = segments_of a.segments a.slots a.image.now in
+    let r = right_size_lem _ _ _ c.requires.0 in
+    let e : take a.segments c.hide.result ≡ take a.segments (hidden a.survey a.segments c.see_all.result) = ap (take a.segments) c.hide.ensures in
+    e ∙ (ap (λ (x : Surveyed). take a.segments (hidden x a.segments c.see_all.result)) c.requires.1
+    ∙ hidden_shown a.segments a.slots l c.see_all.result r.0.some (segments_length a.segments a.slots a.image.now) c.see_all.ensures)

@@ -1,0 +1,13 @@
+-- `put_answers::slot_before` is the search of the definition, left out where it can be. Assumes nothing.
+use native.Mathlib.Omega.{arith}
+use mathlib.Core.Logic.{⊎_elim}
+use borrow.Author.Tests.{lt-ltb, le-ltb, le-leb, lt-leb}
+use Rattle.model.specs.State.{capacity}
+use Rattle.put_answers.specs.Answering.{found_before}
+use Rattle.put_answers.proofs.slot_before.Goals as goal
+
+pub returns-then-live-capacity : goal.returns-then-live-capacity
+unfolding found_before
+returns-then-live-capacity c =
+    let a = c.args in
+    rw (le-ltb _ _ c.if-slots-plan.true, lt-leb (capacity a.segments a.slots) a.live (omega arith))

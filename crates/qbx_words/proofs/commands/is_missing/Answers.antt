@@ -1,0 +1,6 @@
+-- `qbx_words::commands::is_missing` is the test of the definition. Assumes nothing.
+use Rattle.qbx_words.proofs.Laws.{missing_length}
+use Rattle.qbx_words.proofs.commands.is_missing.Goals as goal
+
+pub returns : goal.returns
+returns c = missing_length _

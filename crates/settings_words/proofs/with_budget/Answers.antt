@@ -1,0 +1,18 @@
+-- `settings_words::with_budget`: the tests of the definition, in its order. Assumes nothing.
+use mathlib.Core.Path.{sym, ◌∙◌}
+use borrow.Author.Tests.{not-true, not-false}
+use Rattle.text.specs.Text.{text}
+use Rattle.settings_words.specs.Command.{as_number, with_budget}
+use Rattle.settings_words.proofs.with_budget.Goals as goal
+
+pub returns-then-is_missing : goal.returns-then-is_missing
+unfolding with_budget as_number text
+returns-then-is_missing c = rw (sym c.is_missing.ensures ∙ c.if-is_missing.true) c.ended.ensures
+
+pub returns-then-not-is : goal.returns-then-not-is
+unfolding with_budget as_number text
+returns-then-not-is c = rw (sym c.is_missing.ensures ∙ c.if-is_missing.false, sym c.is.ensures ∙ c.if-not-is.true)
+
+pub returns-then-not-writes : goal.returns-then-not-writes
+unfolding with_budget as_number text
+returns-then-not-writes c = rw (sym c.is_missing.ensures ∙ c.if-is_missing.false, sym c.is.ensures ∙ c.if-not-is.false, sym c.writes.ensures ∙ c.if-not-writes.true)

@@ -1,0 +1,19 @@
+-- `store::count` counts as the definition does. Assumes nothing.
+use mathlib.Core.Path.{ap, ◌∙◌}
+use Rattle.bridge.specs.Refusals.{answer_in}
+use Rattle.request.proofs.Laws.{wrong_size, right_size_lem}
+use Rattle.scan.proofs.Laws.Told.{survey_says}
+use Rattle.looking.proofs.Laws.Survey.{survey_other, survey_plan}
+use Rattle.store.proofs.Laws.Counts.{count_size, count_unclean, count_clean}
+use Rattle.store.proofs.count.Goals as goal
+
+pub returns-then-not-right_size : goal.returns-then-not-right_size
+returns-then-not-right_size c =
+    let a = c.args in
+    count_size a.segments a.slots a.image.now a.first.0 a.last.0 a.block.0
+    (wrong_size a.segments a.slots a.image.now _ c.right_size.ensures c.if-not-right_size.true) c.uncounted.ensures
+
+pub survey-surveyed-requires : goal.survey-surveyed-requires
+survey-surveyed-requires c =
+    let a = c.args in
+    right_size_lem a.segments a.slots a.image.now _ c.right_size.ensures c.if-not-right_size.false
