@@ -1,7 +1,7 @@
 /* How much stack does a request take? Each is made on a stack of our own that was painted before, and how far the
  * paint is gone says how deep it went.
  *
- *     rt staticlib qanbillox                                        (at the root of the repository)
+ *     tools/build qanbillox                                        (at the root of the repository)
  *     cc -O2 -Wall -Wextra -Werror -Iinclude bench/stack.c target/staticlib/libqanbillox.a -o target/stack
  *     target/stack [BYTES ACCOUNT MOVE SALVAGE REBUILD]
  *

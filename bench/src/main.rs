@@ -2,7 +2,7 @@
 //! implementation of the same rules, which is compiled twice: with its blank test byte by byte,
 //! and with its blank test by words of eight bytes.
 //!
-//!     rt staticlib qanbillox                  # at the root of the repository
+//!     tools/build qanbillox                  # at the root of the repository
 //!     cargo run --release --offline           # here; with mounted, move, salvage, shares or settings those tables alone
 //!
 //! One process; the three sides get the same images in turn, and their answers, steps and images

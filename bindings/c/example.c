@@ -2,7 +2,7 @@
  * chip, what can be salvaged once that one is damaged, the store mounted, and one of two tenants on it. At the end the
  * settings of a board with the older partition format, which are no store's.
  *
- *     rt staticlib qanbillox                                        (at the root of the repository)
+ *     tools/build qanbillox                                        (at the root of the repository)
  *     cc -Wall -Wextra -Werror -Iinclude bindings/c/example.c target/staticlib/libqanbillox.a -o target/example
  *     target/example
  */

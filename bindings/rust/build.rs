@@ -1,7 +1,7 @@
 //! Finds the static library, `libqanbillox.a`.
 //!
 //! It is looked for in the directory that `QANBILLOX_LIB_DIR` names, otherwise where the
-//! repository builds it (`rt staticlib qanbillox` writes to `target/staticlib` at the root). If it
+//! repository builds it (`tools/build qanbillox` writes to `target/staticlib` at the root). If it
 //! is there, it is linked and `cfg(qbx_lib)` is set; if not, the crate still compiles and its
 //! tests run on the reference implementation alone. A directory that is named must have it.
 
@@ -37,7 +37,7 @@ fn main() {
     } else {
         println!(
             "cargo:warning={ARCHIVE} is not in target/staticlib of the repository: build it with \
-             `rt staticlib qanbillox` or set QANBILLOX_LIB_DIR. Programs will not link, and tests \
+             `tools/build qanbillox` or set QANBILLOX_LIB_DIR. Programs will not link, and tests \
              run without the library."
         );
     }

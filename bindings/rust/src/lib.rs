@@ -90,7 +90,7 @@
 //!
 //! # The static library
 //!
-//! `rt staticlib qanbillox` proves the store and writes `target/staticlib/libqanbillox.a`, where
+//! `tools/build qanbillox` proves the store and writes `target/staticlib/libqanbillox.a`, where
 //! this crate's build script finds it; `QANBILLOX_LIB_DIR` names another directory.
 
 #![no_std]

@@ -1,6 +1,7 @@
 // The candidates of an image by block number (request #113), gathered in one walk over the segments that are looked at, from
 // the highest number down and in each from the last slot up.
 #![tactic(auto)]
+
 ghost use Rattle.std.specs.Prelude.{◌≡◌, true, false, length, replicate};
 ghost use Rattle.model.specs.Chip.{right_size};
 ghost use Rattle.model.specs.State.{segments_of};

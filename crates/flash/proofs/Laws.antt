@@ -1,99 +1,58 @@
 -- Laws of steps under a budget: nothing, one step, one call after another, a budget that is spent; bytes programmed in a loop; a part of the image.
 use mathlib.Core.Path.{◌≡◌, refl, sym, ap, ◌∙◌, subst}
 use Prim.Native.Nat.{ℕ, zero, suc, ◌+◌, ◌-◌, ◌*◌, ◌≤◌, ◌<◌, min}
-use native.Mathlib.Nat.{sub-zero, le_of_eq, mul_assoc, add-zero, zero-add, suc-add, min-eq_left, min-eq_right, min-le_left}
+use native.Mathlib.Nat.{sub-zero, le_of_eq, add-zero, zero-add, suc-add, min-eq_left, min-eq_right, min-le_left}
 use native.Mathlib.Numerals.{add-one}
 use native.Mathlib.Decide.{dec_le}
 use native.Mathlib.Omega.{arith}
-use mathlib.Core.Bool.{Bool, true, false, cond}
 use mathlib.Core.List.{List, [], ◌∷◌, ◌++◌, append_assoc}
-use lib.ListN.{length, get_or, take, drop, set, replicate, length-append, length-set, length-take, length-drop, length-replicate, get_or-replicate, take-append-drop, get_or-append}
-use lib.Dec.{leb}
+use lib.ListN.{length, get_or, take, drop, set, replicate, length-append, length-drop, length-replicate, get_or-replicate, take-append-drop, get_or-append}
 use lib.Bits.{bit_and}
 use lib.Seq.{take-suc, take-length, paste, paste-suc, take_all, get_or-append-add, set-append_left, length-take-le}
-use borrow.Author.Tests.{le-leb, leb-true}
-use Rattle.model.specs.Chip.{Image, Step, program, erase, clear, erased, with_segment, step, run}
+use borrow.Author.Tests.{le-leb}
+use Rattle.model.specs.Chip.{Image, Step, program, erase, clear, erased, with_segment, step, run, run_first}
 use Rattle.model.specs.Steps.{programs, on_page}
-use Rattle.model.specs.Laws.Chip.{step_length, run_length, run_append, take_append}
-use Rattle.flash.specs.Units.{with_unit, step_in, run_in, Erases, segments, units, done}
-use Rattle.flash.specs.Ran.{RanOn, Ran, RanIn, Programmed, shifted, Within}
+use Rattle.model.specs.Laws.Chip.{step_length, run_length, run_append, first_append}
+use Rattle.flash.specs.Ran.{Ran, Programmed, shifted, Within}
 
--- ---- lists of steps, whatever an erase takes
-
-step_in_length : (S : ℕ) (x : Step) (s : Image) → length (step_in S x s) ≡ length s
-unfolding step_in with_unit erased
-step_in_length S (program at v) s = length-set s at (clear (get_or s at 0) v)
-step_in_length S (erase i) s = go (leb (i * S + S) (length s)) refl
-  where
-    go : (t : Bool) → leb (i * S + S) (length s) ≡ t → length (cond t (take (i * S) s ++ (replicate S 255 ++ drop (i * S + S) s)) s) ≡ length s
-    go true e = let b = leb-true (i * S + S) (length s) e in simp (length-append, length-take, length-drop, length-replicate) (omega arith)
-    go false e = refl
-
-pub done_length : (chip : Erases) (xs : List Step) (s : Image) → length (done chip xs s) ≡ length s
-unfolding run_in
-done_length (segments B) xs s = run_length B xs s
-done_length (units S) [] s = refl
-done_length (units S) (x ∷ xs) s = done_length (units S) xs (step_in S x s) ∙ step_in_length S x s
-
-pub done_append : (chip : Erases) (xs ys : List Step) (s : Image) → done chip (xs ++ ys) s ≡ done chip ys (done chip xs s)
-unfolding run_in
-done_append (segments B) xs ys s = run_append B xs ys s
-done_append (units S) [] ys s = refl
-done_append (units S) (x ∷ xs) ys s = done_append (units S) xs ys (step_in S x s)
-
-done_none : (chip : Erases) (s : Image) → done chip [] s ≡ s
-unfolding run run_in
-done_none (segments B) s = refl
-done_none (units S) s = refl
+-- ---- lists of steps
 
 -- nothing done
-pub on_none : (chip : Erases) (n : ℕ) (s : Image) → RanOn chip [] n n s s
-on_none chip zero s = record { image = sym (done_none chip s); rest = refl }
-on_none chip (suc n) s = record { image = sym (done_none chip s); rest = sym (sub-zero (suc n)) }
+pub ran_none : (B n : ℕ) (s : Image) → Ran [] B n n s s
+unfolding run
+ran_none B zero s = record { image = refl; rest = refl }
+ran_none B (suc n) s = record { image = refl; rest = sym (sub-zero (suc n)) }
 
 -- one step that the budget covers
-on_one : (chip : Erases) (x : Step) (n : ℕ) (s : Image) → (n ≡ 0 → ⊥) → RanOn chip (x ∷ []) n (n - 1) s (done chip (x ∷ []) s)
-on_one chip x zero s h = absurd (h refl)
-on_one chip x (suc zero) s h = record { image = refl; rest = refl }
-on_one chip x (suc (suc n)) s h = record { image = refl; rest = refl }
+pub ran_one : (x : Step) (B n : ℕ) (s : Image) → (n ≡ 0 → ⊥) → Ran (x ∷ []) B n (n - 1) s (step B x s)
+unfolding run
+ran_one x B zero s h = absurd (h refl)
+ran_one x B (suc zero) s h = record { image = refl; rest = refl }
+ran_one x B (suc (suc n)) s h = record { image = refl; rest = refl }
 
 -- a budget that is spent: nothing more is done
-pub on_spent : (chip : Erases) (xs : List Step) (n : ℕ) (s : Image) → n ≡ 0 → RanOn chip xs n 0 s s
-on_spent chip xs n s h = record { image = rw h (sym (done_none chip s)); rest = omega arith }
+pub ran_spent : (xs : List Step) (B n : ℕ) (s : Image) → n ≡ 0 → Ran xs B n 0 s s
+unfolding run
+ran_spent xs B n s h = record { image = rw h; rest = omega arith }
 
 -- the budget does not grow
-pub ran_left : {chip : Erases} {xs : List Step} {n m : ℕ} {s t : Image} → RanOn chip xs n m s t → m ≤ n
+pub ran_left : {xs : List Step} {B n m : ℕ} {s t : Image} → Ran xs B n m s t → m ≤ n
 ran_left d = omega (arith, d.rest)
 
 -- what is left of a budget says that all was done
-pub whole_run : {chip : Erases} {xs : List Step} {n m : ℕ} {s t : Image} → RanOn chip xs n m s t → 0 < m → t ≡ done chip xs s
-whole_run {chip} {xs} {n} {m} {s} {t} d h = d.image ∙ ap (λ (y : List Step). done chip y s) (take_all n xs (omega (arith, d.rest)))
-
--- one call after another does the one list after the other
-pub ◌then◌ : {chip : Erases} {xs ys : List Step} {n n₁ n₂ : ℕ} {s s₁ s₂ : Image} → RanOn chip xs n n₁ s s₁ → RanOn chip ys n₁ n₂ s₁ s₂ → RanOn chip (xs ++ ys) n n₂ s s₂
-◌then◌ {chip} {xs} {ys} {n} {n₁} {n₂} {s} {s₁} {s₂} d e =
-    let a : done chip (take n (xs ++ ys)) s ≡ done chip (take (n - length xs) ys) (done chip (take n xs) s) = rw (take_append n xs ys) (done_append chip (take n xs) (take (n - length xs) ys) s) in
-    record { image = cc (a, d.image, d.rest, e.image); rest = omega (arith, d.rest, e.rest, length-append xs ys) }
+pub whole_run : {xs : List Step} {B n m : ℕ} {s t : Image} → Ran xs B n m s t → 0 < m → t ≡ run B xs s
+whole_run {xs} {B} {n} {m} {s} {t} d h = d.image ∙ ap (λ (y : List Step). run B y s) (take_all n xs (omega (arith, d.rest)))
 
 -- an image keeps its length
-pub ran_length : {chip : Erases} {xs : List Step} {n r : ℕ} {s u : Image} → RanOn chip xs n r s u → length u ≡ length s
-ran_length {chip} {xs} {n} {r} {s} d = ap length d.image ∙ done_length chip (take n xs) s
+pub ran_length : {xs : List Step} {B n r : ℕ} {s u : Image} → Ran xs B n r s u → length u ≡ length s
+ran_length {xs} {B} {n} {r} {s} d = ap length d.image ∙ run_length B (take n xs) s
 
--- on the store's chip
-pub ran_none : (B n : ℕ) (s : Image) → Ran [] B n n s s
-ran_none B n s = on_none (segments B) n s
-
-pub ran_one : (x : Step) (B n : ℕ) (s : Image) → (n ≡ 0 → ⊥) → Ran (x ∷ []) B n (n - 1) s (step B x s)
-unfolding run
-ran_one x B n s h = on_one (segments B) x n s h
-
-pub ran_spent : (xs : List Step) (B n : ℕ) (s : Image) → n ≡ 0 → Ran xs B n 0 s s
-ran_spent xs B n s h = on_spent (segments B) xs n s h
-
--- on one whose unit has S bytes
-pub ran_one_in : (x : Step) (S n : ℕ) (s : Image) → (n ≡ 0 → ⊥) → RanIn (x ∷ []) S n (n - 1) s (step_in S x s)
-unfolding run_in
-ran_one_in x S n s h = on_one (units S) x n s h
+-- one call after another does the one list after the other
+pub ◌then◌ : {xs ys : List Step} {B n n₁ n₂ : ℕ} {s s₁ s₂ : Image} → Ran xs B n n₁ s s₁ → Ran ys B n₁ n₂ s₁ s₂ → Ran (xs ++ ys) B n n₂ s s₂
+unfolding run_first
+◌then◌ {xs} {ys} {B} {n} {n₁} {n₂} {s} {s₁} {s₂} d e =
+    let a : run B (take n (xs ++ ys)) s ≡ run B (take (n - length xs) ys) (run B (take n xs) s) = first_append B n xs ys s in
+    record { image = cc (a, d.image, d.rest, e.image); rest = omega (arith, d.rest, e.rest, length-append xs ys) }
 
 -- ---- programming
 
@@ -149,7 +108,7 @@ programs_covered at n i bs s t h e B = record {
 
 -- ---- erasing
 
--- a unit being erased: the first i of its bytes are 255
+-- a segment being erased: the first i of its bytes are 255
 abbrev pub erasing : ℕ → ℕ → ℕ → Image → Image
 erasing at n i s = paste s at (erased n) i
 
@@ -160,26 +119,13 @@ erasing_next at n i s h k =
     ∙ paste-suc s at (replicate n 255) i 0 (omega arith) (rw length-replicate k)
     ∙ ap (λ (j : ℕ). erasing at n j s) (sym (add-one i))
 
-pub erasing_end : (S i j : ℕ) (s : Image) → i * S + S ≤ length s → j ≡ S → erasing (i * S) S j s ≡ step_in S (erase i) s
-unfolding erased step_in with_unit
-erasing_end S i j s h e =
-    let u : List ℕ = replicate S 255 in
-    let w : take S u ≡ u = take_all S u (le_of_eq (length-replicate S 255)) in
-    rw (e, w, le-leb (i * S + S) (length s) h, append_assoc)
-
--- a segment is a unit of B + 1 pages
-segment_is_unit : (B i : ℕ) (s : Image) → step_in ((B + 1) * 256) (erase i) s ≡ step B (erase i) s
-unfolding step_in with_unit step with_segment
-segment_is_unit B i s =
-    let from : i * ((B + 1) * 256) ≡ i * (B + 1) * 256 = omega (arith, mul_assoc i (B + 1) 256) in
-    let to : i * ((B + 1) * 256) + (B + 1) * 256 ≡ (i * (B + 1) + (B + 1)) * 256 = omega arith in
-    rw (to, from)
-
-pub segment_erased : (B i n : ℕ) {m : ℕ} {s t : Image} → RanIn (erase i ∷ []) ((B + 1) * 256) n m s t → Ran (erase i ∷ []) B n m s t
-unfolding run run_in
-segment_erased B i zero d = record { image = d.image; rest = d.rest }
-segment_erased B i (suc zero) {m} {s} d = record { image = d.image ∙ segment_is_unit B i s; rest = d.rest }
-segment_erased B i (suc (suc n)) {m} {s} d = record { image = d.image ∙ segment_is_unit B i s; rest = d.rest }
+pub erasing_end : (B i j : ℕ) (s : Image) → (i * (B + 1) + (B + 1)) * 256 ≤ length s → j ≡ (B + 1) * 256 → erasing (i * (B + 1) * 256) ((B + 1) * 256) j s ≡ step B (erase i) s
+unfolding erased step with_segment
+erasing_end B i j s h e =
+    let a : i * (B + 1) * 256 + (B + 1) * 256 ≡ (i * (B + 1) + (B + 1)) * 256 = omega arith in
+    let u : List ℕ = replicate ((B + 1) * 256) 255 in
+    let w : take ((B + 1) * 256) u ≡ u = take_all ((B + 1) * 256) u (le_of_eq (length-replicate ((B + 1) * 256) 255)) in
+    rw (e, a, w, le-leb ((i * (B + 1) + (B + 1)) * 256) (length s) h, append_assoc)
 
 -- ---- a part of the image: steps on it are the shifted steps on the whole
 
@@ -218,17 +164,6 @@ ran_part at c s xs {B} {n} h w d =
     let e = run_part B n (take at s) (take c (drop at s)) (drop c (drop at s)) xs (subst (λ (k : ℕ). Within k xs) (sym lp) w) in
     let g : take at s ++ (take c (drop at s) ++ drop c (drop at s)) ≡ s = rw (take-append-drop c (drop at s)) (take-append-drop at s) in
     record { image = rw d.image (sym (rw (la, g) at e)); rest = rw shifted_length d.rest }
-
--- bytes programmed are so whatever an erase would take
-same_programmed : (S n c : ℕ) (xs : List Step) (s : Image) → Within c xs → run_in S (take n xs) s ≡ run 0 (take n xs) s
-unfolding run run_in step step_in
-same_programmed S zero c xs s w = refl
-same_programmed S (suc n) c [] s w = refl
-same_programmed S (suc n) c (program at v ∷ xs) s w = same_programmed S n c xs (set s at (clear (get_or s at 0) v)) w.1
-same_programmed S (suc n) c (erase i ∷ xs) s w = absurd w
-
-pub programmed_in : (S c : ℕ) {n m : ℕ} {xs : List Step} {s t : Image} → Within c xs → Programmed xs n m s t → RanIn xs S n m s t
-programmed_in S c {n} {m} {xs} {s} w d = record { image = (d 0).image ∙ sym (same_programmed S n c xs s w); rest = (d 0).rest }
 
 -- steps in a page are the steps shifted by the page's offset
 pub shifted_page : (p : ℕ) (xs : List Step) → shifted (p * 256) xs ≡ on_page p xs

@@ -1,20 +1,11 @@
 -- The relation that every writer's contract states: a list of steps carried out under a budget.
 use Rattle.std.specs.Prelude.{ℕ, ◌+◌, ◌-◌, ◌<◌, ◌≡◌, List, [], ◌∷◌, length, take}
-use Rattle.model.specs.Chip.{Image, Step, program, erase}
-use Rattle.flash.specs.Units.{Erases, segments, units, done}
+use Rattle.model.specs.Chip.{Image, Step, program, erase, run}
 
 -- the image is that after as many of the steps as the budget covers, and each step done has taken one from the budget
-pub record RanOn (chip : Erases) (steps : List Step) (budget left : ℕ) (from to : Image) : Type 0 where
-  pub image : to ≡ done chip (take budget steps) from
+pub record Ran (steps : List Step) (B budget left : ℕ) (from to : Image) : Type 0 where
+  pub image : to ≡ run B (take budget steps) from
   pub rest : left ≡ budget - length steps
-
--- on the store's chip
-abbrev pub Ran : List Step → ℕ → ℕ → ℕ → Image → Image → Type 0
-Ran steps B budget left from to = RanOn (segments B) steps budget left from to
-
--- on one whose erase unit has S bytes
-abbrev pub RanIn : List Step → ℕ → ℕ → ℕ → Image → Image → Type 0
-RanIn steps S budget left from to = RanOn (units S) steps budget left from to
 
 -- the same for steps that only program bytes, whatever the count of slots
 abbrev pub Programmed : List Step → ℕ → ℕ → Image → Image → Type 0

@@ -1,6 +1,6 @@
 -- A chip of which any number of bytes is one erase unit (request #109). Programming is as on the store's chip, whose unit is a segment of B + 1 pages.
-use Rattle.std.specs.Prelude.{ℕ, ◌+◌, ◌*◌, cond, List, [], ◌∷◌, ◌++◌, length, get_or, take, drop, set, leb}
-use Rattle.model.specs.Chip.{Image, Step, program, erase, clear, erased, run}
+use Rattle.std.specs.Prelude.{ℕ, ◌+◌, ◌-◌, ◌*◌, ◌≡◌, cond, List, [], ◌∷◌, ◌++◌, length, get_or, take, drop, set, leb}
+use Rattle.model.specs.Chip.{Image, Step, program, erase, clear, erased}
 
 -- the image with the S bytes of unit i replaced by these
 unfoldable pub with_unit : ℕ → ℕ → List ℕ → Image → Image
@@ -15,11 +15,7 @@ unfoldable pub run_in : ℕ → List Step → Image → Image
 run_in S [] s = s
 run_in S (x ∷ xs) s = run_in S xs (step_in S x s)
 
--- what an erase takes: a segment of B slots, or a unit of S bytes
-pub data Erases : Type 0 where
-  segments : ℕ → Erases
-  units : ℕ → Erases
-
-abbrev pub done : Erases → List Step → Image → Image
-done (segments B) xs s = run B xs s
-done (units S) xs s = run_in S xs s
+-- as `Ran`, on a chip whose erase unit has S bytes
+pub record RanIn (steps : List Step) (S budget left : ℕ) (from to : Image) : Type 0 where
+  pub image : to ≡ run_in S (take budget steps) from
+  pub rest : left ≡ budget - length steps

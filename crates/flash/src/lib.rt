@@ -4,7 +4,8 @@
 ghost use Rattle.std.specs.Prelude.{◌≡◌, [], ◌∷◌, ◌+◌, ◌*◌, ◌<◌, ◌≤◌, min, length};
 ghost use Rattle.model.specs.Chip.{program, erase};
 ghost use Rattle.model.specs.Steps.{programs, program_part};
-ghost use Rattle.flash.specs.Ran.{Ran, RanIn, Programmed};
+ghost use Rattle.flash.specs.Ran.{Ran, Programmed};
+ghost use Rattle.flash.specs.Units.{RanIn};
 
 // Programs one byte.
 pub fn program_byte(image: &mut [u8], at: usize, value: u8, budget: u64) -> u64
@@ -73,6 +74,15 @@ pub fn erase_segment(image: &mut [u8], index: usize, slots: usize, budget: u64) 
     requires { (index * (slots + 1) + (slots + 1)) * 256 ≤ length image.old }
     ensures { Ran (erase index ∷ []) slots budget result image.old image.new }
 {
-    let bytes = (slots + 1) * 256;
-    erase_unit(image, index, bytes, budget)
+    if budget == 0 {
+        return 0;
+    }
+    let at = index * (slots + 1) * 256;
+    let count = (slots + 1) * 256;
+    let mut i = 0;
+    while i < count {
+        image[at + i] = 255;
+        i += 1;
+    }
+    budget - 1
 }

@@ -1,5 +1,6 @@
 // The lines of salvage's report: the candidates given, one for each block number that has any.
 #![tactic(auto)]
+
 ghost use Rattle.std.specs.Prelude.{◌≡◌, cond, true, ◌+◌, ◌*◌, ◌≤◌};
 ghost use mathlib.Core.List.{◌++◌, flat_map};
 ghost use Rattle.model.specs.Chip.{right_size};

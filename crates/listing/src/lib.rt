@@ -1,6 +1,7 @@
 // The segments of an image as an account shows them, and its live slots by block number, found in one walk over the
 // segments in use, from the top down.
 #![tactic(auto)]
+
 ghost use Rattle.std.specs.Prelude.{◌≡◌, true, map, ◌+◌, ◌%◌, ◌<◌, ◌≤◌, length, take, replicate};
 ghost use Rattle.model.specs.Chip.{most_segments, right_size};
 ghost use Rattle.model.specs.State.{segments_of};

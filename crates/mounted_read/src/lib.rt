@@ -1,4 +1,6 @@
 // The mounted form of read (request #102), and what refuses every mounted call. Nothing is required of a caller.
+#![tactic(auto)]
+
 ghost use Rattle.std.specs.Prelude.{◌≡◌};
 ghost use Rattle.model.specs.Answers.{code_of, located};
 ghost use Rattle.model.specs.Mounted.{mounted_refusal, MountedRead};

@@ -1,5 +1,7 @@
 // Moving to another chip (request #106): from a clean image a fresh one of another geometry with the same table of blocks is built
 // in a second buffer. The source is only read. Nothing is required of a caller.
+#![tactic(auto)]
+
 ghost use Rattle.std.specs.Prelude.{◌≡◌};
 ghost use Rattle.model.specs.Answers.{performed};
 ghost use Rattle.moves.specs.Moves.{move_outcome};

@@ -10,8 +10,10 @@ use borrow.Author.Tests.{eqb-true, eqb-false, eq-eqb, ne_eqb, not-true}
 use Rattle.model.specs.Lists.{all}
 use Rattle.model.specs.Laws.Lists.{and_left, and_right}
 use Rattle.model.specs.Chip.{Image, Step}
-use Rattle.flash.specs.Ran.{RanIn, Programmed}
-use Rattle.flash.proofs.Laws.{◌then◌, on_none, ran_length, programmed_in}
+use Rattle.flash.specs.Ran.{Programmed}
+use Rattle.flash.specs.Units.{RanIn}
+use Rattle.flash.proofs.Laws.{ran_none}
+use Rattle.flash.proofs.UnitLaws.{◌then◌, none_in, length_in, programmed_in}
 use Rattle.partitions.specs.Layout.{Item, items_from, items_of, distinct, bytes_used, layout_ok, item_of}
 use Rattle.partitions.specs.Items.{identifier_at, data_at, data_in, is_written}
 use Rattle.partitions.specs.Writes.{Entry, write_item, write_items, carried, item_steps, entry_for}
@@ -34,7 +36,7 @@ module _ (s : Image) (from to identifier size item : ℕ) (contents : List ℕ) 
 
   pub carry_none : (n : ℕ) → (identifier ≡ item → ⊥) → (get_or s from 0 ≡ identifier → ⊥) → Programmed (carry_steps s from to identifier size item contents) n n s s
   unfolding carry_steps
-  carry_none n e f B = rw (ne_eqb identifier item e, ne_eqb (get_or s from 0) identifier f) (on_none _ n s)
+  carry_none n e f B = rw (ne_eqb identifier item e, ne_eqb (get_or s from 0) identifier f) (ran_none B n s)
 
 -- it programs bytes of its place alone
 carry_inside : (s : Image) (S p from to identifier size item : ℕ) (contents : List ℕ) → p * S ≤ to → to + 1 + size ≤ p * S + S → (identifier ≡ item → length contents ≡ size)
@@ -143,7 +145,7 @@ module _ (S from to item budget : ℕ) (layout contents : List ℕ) (start : Ima
   module _ (s : Image) (left at i : ℕ) (c : Carrying S from to layout entry budget start s left at i) where
     pub carrying_end : length layout ≤ i → RanIn (write_items S to (carried S start from entry (items_of layout))) S budget left start s
     unfolding carried write_items
-    carrying_end h = c.finish left s (rw (items_end layout i at c.pairs h) (on_none _ left s))
+    carrying_end h = c.finish left s (rw (items_end layout i at c.pairs h) (none_in _ left s))
 
     module _ (n : ℕ) (h : i < length layout) (f : n ≡ get_or layout (i + 1) 0) where
       abbrev first : Item
@@ -183,7 +185,7 @@ module _ (S from to item budget : ℕ) (layout contents : List ℕ) (start : Ima
           let steps : List Step = carry_steps s (from * S + at) (to * S + at) (get_or layout i 0) n item contents in
           let inside : Inside S to steps = carry_inside s S to (from * S + at) (to * S + at) (get_or layout i 0) n item contents (omega arith) (omega (arith, room)) own in
           let done : RanIn steps S left r s t = programmed_in S (to * S + S) (inside_within S to steps inside) d in
-          let l : length t ≡ length s = ran_length done in
+          let l : length t ≡ length s = length_in done in
           let same : carried S t from entry later ≡ carried S s from entry later =
           carried_same S from entry t s l (ran_kept S to from z.apart inside done) (at + (1 + n)) (drop (i + 2) layout) (omega (arith, room)) in
           let first_steps : write_items S to (carried S s from entry (items_at layout i at)) ≡ steps ++ write_items S to (carried S s from entry later) =

@@ -5,7 +5,8 @@ ghost use Rattle.std.specs.Prelude.{◌≡◌, [], ◌∷◌, ◌++◌, ◌+◌,
 ghost use Rattle.model.specs.Chip.{program};
 ghost use Rattle.model.specs.Header.{is_blank};
 ghost use Rattle.model.specs.Steps.{programs};
-ghost use Rattle.flash.specs.Ran.{RanIn, Programmed};
+ghost use Rattle.flash.specs.Ran.{Programmed};
+ghost use Rattle.flash.specs.Units.{RanIn};
 ghost use Rattle.partitions.specs.Layout.{items_of};
 ghost use Rattle.partitions.specs.Writes.{write_items, carried, entry_for};
 ghost use Rattle.partition_items.specs.Carrying.{carry_steps, Disjoint, CarryOne, Carry};

@@ -1,5 +1,6 @@
 // What the exports of the older partition format (request #109) give, packed into one number.
 #![tactic(auto)]
+
 ghost use Rattle.std.specs.Prelude.{◌≡◌, ◌+◌, ◌*◌, ◌%◌, ◌≤◌};
 ghost use Rattle.partitions.specs.Answers.{number_of};
 ghost use Rattle.partition_packing.specs.Offsets.{offsets};

@@ -7,14 +7,14 @@ use Rattle.model.specs.Chip.{Image, Step, program, erase, clear, erased, Bytes}
 use Rattle.model.specs.Steps.{programs}
 use Rattle.model.specs.Laws.Bytes.{clear_erased, clear_le, bytes_append, bytes_take, bytes_drop, bytes_get, bytes_set, erased_bytes}
 use Rattle.model.specs.Laws.Programs.{Outside}
-use Rattle.flash.specs.Units.{with_unit, step_in, run_in, units}
-use Rattle.flash.proofs.Laws.{done_append, done_length}
+use Rattle.flash.specs.Units.{with_unit, step_in, run_in}
+use Rattle.flash.proofs.UnitLaws.{run_in_append, run_in_length}
 
 pub run_append : (S : ℕ) (xs ys : List Step) (s : Image) → run_in S (xs ++ ys) s ≡ run_in S ys (run_in S xs s)
-run_append S xs ys s = done_append (units S) xs ys s
+run_append S xs ys s = run_in_append S xs ys s
 
 pub run_length : (S : ℕ) (xs : List Step) (s : Image) → length (run_in S xs s) ≡ length s
-run_length S xs s = done_length (units S) xs s
+run_length S xs s = run_in_length S xs s
 
 -- ---- bytes left alone
 

@@ -11,9 +11,10 @@ use Rattle.model.specs.Chip.{Image, Step, program, erase}
 use Rattle.model.specs.Header.{is_blank}
 use Rattle.model.specs.Steps.{programs}
 use Rattle.model.specs.Answers.{◌when◌, first_of, Work, code_under, ReadOutcome}
-use Rattle.flash.specs.Units.{run_in}
-use Rattle.flash.specs.Ran.{RanIn, Programmed}
-use Rattle.flash.proofs.Laws.{◌then◌, ran_length, programmed_in, within_append, within_programs}
+use Rattle.flash.specs.Units.{run_in, RanIn}
+use Rattle.flash.specs.Ran.{Programmed}
+use Rattle.flash.proofs.Laws.{within_append, within_programs}
+use Rattle.flash.proofs.UnitLaws.{◌then◌, length_in, programmed_in}
 use Rattle.request.proofs.Answered.{cut_short}
 use Rattle.partitions.specs.declared.Reply.{Reply}
 use Rattle.partitions.specs.declared.Written.{Written}
@@ -87,7 +88,7 @@ pub erased_next : (S from to item : ℕ) (layout contents : List ℕ) {n m : ℕ
     → carried S t from (entry_for layout item contents) (items_of layout) ≡ carried S s from (entry_for layout item contents) (items_of layout)
 unfolding items_of
 erased_next S from to item layout contents {n} {m} {s} {t} z d =
-    carried_same S from (entry_for layout item contents) t s (ran_length d) (erase_kept S to from n z.apart d) 1 layout (omega (arith, (right_layout S layout z.right).fit))
+    carried_same S from (entry_for layout item contents) t s (length_in d) (erase_kept S to from n z.apart d) 1 layout (omega (arith, (right_layout S layout z.right).fit))
 
 -- ---- a write by its newest partition
 

@@ -1,5 +1,6 @@
 // What recovery would answer, told from the survey of an image without a step (request #101: the account's last line).
 #![tactic(auto)]
+
 ghost use Rattle.std.specs.Prelude.{◌≡◌, true, cond, ◌+◌, ◌≤◌, length};
 ghost use Rattle.model.specs.Chip.{right_size};
 ghost use Rattle.model.specs.State.{segments_of};

@@ -1,6 +1,7 @@
 // What a put on a clean image is answered, before its first step: from a plan, the top's tally, the count of live slots and a
 // search.
 #![tactic(auto)]
+
 ghost use Rattle.std.specs.Prelude.{◌≡◌, ◌+◌, ◌-◌, ◌≤◌, ◌<◌, length};
 ghost use Rattle.model.specs.Chip.{most_segments, most_slots};
 ghost use Rattle.flash.specs.Pages.{Sized};

@@ -51,11 +51,6 @@ slots_end m o i slots c h = let d : slots - i ≡ 0 = omega arith in rw d
 
 -- ---- segments
 
--- a header that is not that of a segment in use
-pub not_in_use : (r : HeaderSeen) → ((f : Bool) (st : ℕ) (n : SegmentNumber) → r ≡ InUse f st n → ⊥) → r ≡ NotInUse
-not_in_use (InUse f st n) h = absurd (h f st n refl)
-not_in_use NotInUse h = refl
-
 module _ (N B i : ℕ) (s : Image) (h : i < N) (r : HeaderSeen)
     (e : r ≡ header_seen N B i (take (header_offset B i + 256 - header_offset B i) (drop (header_offset B i) s))) where
   hd : Page

@@ -1,6 +1,7 @@
 // The words of a move, read: IMAGE N B move TARGET N B [--budget STEPS]; those of a rebuild, which differ in the verb alone; and
 // how large its images are.
 #![tactic(auto)]
+
 ghost use Rattle.std.specs.Prelude.{◌≡◌};
 ghost use Rattle.request.specs.Request.{size_of};
 ghost use Rattle.qbx_move_words.specs.Move.{names_target, with_budget, onto, move_of, larger_size};

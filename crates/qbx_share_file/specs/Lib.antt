@@ -1,3 +1,4 @@
 pub mod ShareFile
 pub mod Instances
 pub mod Steps
+pub mod AnyFile

@@ -1,5 +1,5 @@
 -- A file of shares, three numbers to a line: what its text says, and what is left of that in a lent list.
-use Rattle.std.specs.Prelude.{ℕ, suc, min, Bool, true, false, cond, ◌||◌, List, [], ◌∷◌, ◌++◌, length, eqb}
+use Rattle.std.specs.Prelude.{ℕ, suc, min, Bool, cond, ◌||◌, List, [], ◌∷◌, length, eqb}
 use Rattle.qbx_numbers.specs.Number.{number32_of}
 use Rattle.qbx_numbers.specs.declared.Parsed32.{Parsed32}
 use Rattle.qbx_numbers.specs.declared.Parsed32.TheVariants.{Number32, NoNumber32}
@@ -51,22 +51,7 @@ line_of (x ∷ y ∷ []) = Odd
 line_of (x ∷ y ∷ z ∷ []) = share_of (number32_of x) (number32_of y) (number32_of z)
 line_of (x ∷ y ∷ z ∷ w ∷ ws) = Odd
 
--- the numbers of a line, and whether it is as it should be
-unfoldable pub numbers_in : LineRead → List ℕ
-numbers_in Blank = []
-numbers_in (Share f l q) = f ∷ l ∷ q ∷ []
-numbers_in Odd = []
-
-unfoldable pub is_right : LineRead → Bool
-is_right Blank = true
-is_right (Share f l q) = true
-is_right Odd = false
-
--- ---- what a file says, by what is said of a line
-
-pub record LineSaid : Type 0 where
-  pub numbers : List ℕ
-  pub right : Bool
+-- ---- what a file says
 
 -- the numbers up to the first line that is wrong, and which one that is, from 1; 0 if none is
 pub record Said : Type 0 where
@@ -74,26 +59,18 @@ pub record Said : Type 0 where
   pub wrong : ℕ
 
 -- line k, before what the lines behind it say
-unfoldable pub on_line : ℕ → LineSaid → Said → Said
-on_line k l x = cond l.right (record { numbers = l.numbers ++ x.numbers; wrong = x.wrong }) (record { numbers = []; wrong = k })
+unfoldable pub on_line : ℕ → LineRead → Said → Said
+on_line k Blank x = x
+on_line k (Share f l q) x = record { numbers = f ∷ l ∷ q ∷ x.numbers; wrong = x.wrong }
+on_line k Odd x = record { numbers = []; wrong = k }
 
 -- the lines from number k on
-unfoldable pub lines_from : (List ℕ → LineSaid) → ℕ → List (List ℕ) → Said
-lines_from f k [] = record { numbers = []; wrong = 0 }
-lines_from f k (l ∷ ls) = on_line k (f l) (lines_from f (suc k) ls)
-
-unfoldable pub file_says : (List ℕ → LineSaid) → List ℕ → Said
-file_says f text = lines_from f 1 (parts is_line_end text)
-
--- a file of shares
-abbrev pub shares_in : LineRead → LineSaid
-shares_in v = record { numbers = numbers_in v; right = is_right v }
-
-unfoldable pub share_line : List ℕ → LineSaid
-share_line l = shares_in (line_of (words_of l))
+unfoldable pub lines_from : ℕ → List (List ℕ) → Said
+lines_from k [] = record { numbers = []; wrong = 0 }
+lines_from k (l ∷ ls) = on_line k (line_of (words_of l)) (lines_from (suc k) ls)
 
 unfoldable pub said_in : List ℕ → Said
-said_in text = file_says share_line text
+said_in text = lines_from 1 (parts is_line_end text)
 
 -- ---- what comes back, and the lent list afterwards
 

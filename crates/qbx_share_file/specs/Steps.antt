@@ -1,5 +1,7 @@
 -- The way of the code through a file: where a part ends, and numbers put behind those that are there.
-use Rattle.std.specs.Prelude.{ℕ, zero, suc, ◌+◌, ◌≤◌, min, ◌≡◌, Bool, cond, List, [], ◌∷◌, ◌++◌, length, take, drop}
+use Rattle.std.specs.Prelude.{ℕ, zero, suc, ◌+◌, ◌≤◌, min, ◌≡◌, Bool, true, false, cond, List, [], ◌∷◌, ◌++◌, length, take, drop}
+use Rattle.qbx_share_file.specs.declared.LineRead.{LineRead}
+use Rattle.qbx_share_file.specs.declared.LineRead.TheVariants.{Blank, Share, Odd}
 use Rattle.qbx_share_file.specs.ShareFile.{over}
 use Rattle.qbx_share_file.specs.Instances.{right_files}
 
@@ -18,3 +20,14 @@ pub record Kept (ns : List ℕ) (count : ℕ) (lent : List ℕ) (next : ℕ) (af
   pub counts : (more : ℕ) → min (count + (length ns + more)) (length lent) ≡ min (next + more) (length lent)
   pub within : next ≤ length lent
   pub long : length after ≡ length lent
+
+-- the numbers of a line
+unfoldable pub numbers_in : LineRead → List ℕ
+numbers_in Blank = []
+numbers_in (Share f l q) = f ∷ l ∷ q ∷ []
+numbers_in Odd = []
+
+unfoldable pub is_right : LineRead → Bool
+is_right Blank = true
+is_right (Share f l q) = true
+is_right Odd = false

@@ -2,8 +2,8 @@
 #![tactic(auto)]
 
 ghost use Rattle.std.specs.Prelude.{◌≡◌, [], ◌∷◌, ◌+◌, ◌≤◌, length, drop, get_or};
-ghost use Rattle.qbx_share_file.specs.ShareFile.{is_blank, words_of, line_of, numbers_in, is_right, said_in, listing, over};
-ghost use Rattle.qbx_share_file.specs.Steps.{reach, Kept};
+ghost use Rattle.qbx_share_file.specs.ShareFile.{is_blank, words_of, line_of, said_in, listing, over};
+ghost use Rattle.qbx_share_file.specs.Steps.{reach, Kept, numbers_in, is_right};
 
 use qbx_numbers::{Parsed32, number32};
 
@@ -140,7 +140,6 @@ fn is_right(line: LineRead) -> bool
 }
 
 // The shares that a file's text lists, in a lent slice; numbers that it does not hold are left out.
-#[tactic(auto, unfolding(crate::specs::ShareFile::share_line, crate::specs::ShareFile::said_in))]
 pub fn read_shares(text: &[u8], shares: &mut [u32]) -> Listing
     ensures { (result ≡ listing (length shares.old) (said_in text.now)) × (shares.new ≡ over (said_in text.now).numbers shares.old) }
 {

@@ -1,5 +1,6 @@
 // The words of a tenant's command, read: IMAGE N B share-put SHARES TENANT BLOCK, or with share-get or share-delete.
 #![tactic(auto)]
+
 ghost use Rattle.std.specs.Prelude.{◌≡◌};
 ghost use Rattle.qbx_share_words.specs.Share.{names_shares, share_verb_of, of_tenant, share_of};
 

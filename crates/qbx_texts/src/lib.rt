@@ -1,5 +1,6 @@
 // What a command prints of an image, in a lent buffer.
 #![tactic(auto)]
+
 ghost use Rattle.std.specs.Prelude.{◌≡◌, ◌≤◌, length};
 ghost use Rattle.text.specs.Buffer.{printed};
 ghost use Rattle.qbx_texts.specs.Texts.{printed_by};

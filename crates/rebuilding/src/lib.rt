@@ -1,5 +1,7 @@
 // The second part of salvage (request #113): a fresh image of any geometry built from the candidates given of an image, whatever
 // its damage. The source is only read. Nothing is required of a caller.
+#![tactic(auto)]
+
 ghost use Rattle.std.specs.Prelude.{◌≡◌, true, length, ltb};
 ghost use Rattle.model.specs.Lists.{count};
 ghost use Rattle.model.specs.Chip.{right_size};

@@ -1,5 +1,6 @@
 // A request before the image is looked at, and what comes back from it.
 #![tactic(auto)]
+
 ghost use Rattle.std.specs.Prelude.{◌≡◌, ◌&&◌, ◌≤◌, eqb};
 ghost use Rattle.model.specs.Chip.{most_segments, most_slots, largest_image, in_range, image_length};
 ghost use Rattle.model.specs.Slot.{number_ok};

@@ -2,6 +2,7 @@
 // required of a caller, and the image is only read. The text is put together twice, once where nothing holds it, so that its
 // length is known before its first byte is written.
 #![tactic(auto)]
+
 ghost use Rattle.std.specs.Prelude.{◌≡◌, true, ◌≤◌};
 ghost use Rattle.model.specs.Chip.{right_size};
 ghost use Rattle.text.specs.Buffer.{printed, Wrote, most_text};

@@ -1,5 +1,6 @@
 // The state of an image and what requests need of it, decided in one pass.
 #![tactic(auto)]
+
 ghost use Rattle.std.specs.Prelude.{◌≡◌, true, false, ◌+◌, ◌-◌, ◌*◌, ◌<◌, ◌≤◌, length};
 ghost use Rattle.model.specs.Chip.{most_segments, most_slots, right_size};
 ghost use Rattle.model.specs.State.{numbers_from, segments_of, slots_from};

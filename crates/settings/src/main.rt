@@ -1,8 +1,10 @@
 // settings IMAGE P LAYOUT read ITEM, write ITEM [--budget STEPS], or list: one request on a board with the older partition
 // format (request #109), whose image is a file.
+#![tactic(auto)]
+
 ghost use Rattle.io.specs.Counts.{IsPrefixLen};
 
-use libc::{STDERR_FILENO, STDIN_FILENO, STDOUT_FILENO};
+use qbx_system::{ENAMETOOLONG, STDERR_FILENO, STDOUT_FILENO, System};
 use settings_words::{Command, Reading, Verb};
 
 // How a command is written.
@@ -42,11 +44,11 @@ fn usage(fd: i32) {
 }
 
 // A word of the command line. Of one that is too long the start is given, with dots, so that it means nothing.
-fn word(i: usize, buf: &mut [u8; 64]) -> usize
+fn word(system: &mut System, i: usize, buf: &mut [u8; 64]) -> usize
     ensures { IsPrefixLen result buf.new }
 {
-    let n = os::arg(i, buf);
-    if os::errno() == libc::ENAMETOOLONG {
+    let n = system.arg(i, buf);
+    if system.reason() == ENAMETOOLONG {
         buf[61] = b'.';
         buf[62] = b'.';
         buf[63] = b'.';
@@ -56,15 +58,17 @@ fn word(i: usize, buf: &mut [u8; 64]) -> usize
 }
 
 // The data to write are on standard input. A byte more than an item has is read, so that too many are seen.
-fn write(path: &[u8], layout: &[u8], command: Command) {
+fn write(system: &mut System, path: &[u8], layout: &[u8], command: Command) {
     let mut contents = [0u8; 256];
-    let filled = qbx_files::fill(STDIN_FILENO, &mut contents);
+    let mut input = system.stdin();
+    let filled = qbx_files::fill(system, &mut input, &mut contents);
     if !filled.whole {
         io::write_all(STDERR_FILENO, b"settings: cannot read standard input\n");
         return;
     }
     let n = filled.count;
     settings_work::obey(
+        system,
         path,
         layout,
         command,
@@ -74,26 +78,34 @@ fn write(path: &[u8], layout: &[u8], command: Command) {
     );
 }
 
-fn obey(path: &[u8], layout: &[u8], command: Command) {
+fn obey(system: &mut System, path: &[u8], layout: &[u8], command: Command) {
     let verb = command.verb;
     if let Verb::Write = verb {
-        write(path, layout, command);
+        write(system, path, layout, command);
     } else {
-        settings_work::obey(path, layout, command, b"", STDOUT_FILENO, STDERR_FILENO);
+        settings_work::obey(
+            system,
+            path,
+            layout,
+            command,
+            b"",
+            STDOUT_FILENO,
+            STDERR_FILENO,
+        );
     }
 }
 
-fn read_words(path: &[u8], layout: &[u8]) {
+fn read_words(system: &mut System, path: &[u8], layout: &[u8]) {
     let mut partitions = [0u8; 64];
-    let a = word(2, &mut partitions);
+    let a = word(system, 2, &mut partitions);
     let mut verb = [0u8; 64];
-    let b = word(4, &mut verb);
+    let b = word(system, 4, &mut verb);
     let mut item = [0u8; 64];
-    let c = word(5, &mut item);
+    let c = word(system, 5, &mut item);
     let mut option = [0u8; 64];
-    let d = word(6, &mut option);
+    let d = word(system, 6, &mut option);
     let mut steps = [0u8; 64];
-    let e = word(7, &mut steps);
+    let e = word(system, 7, &mut steps);
     let reading = settings_words::command_of(
         &partitions[..a],
         layout,
@@ -103,13 +115,13 @@ fn read_words(path: &[u8], layout: &[u8]) {
         &steps[..e],
     );
     match reading {
-        Reading::Right(command) => obey(path, layout, command),
+        Reading::Right(command) => obey(system, path, layout, command),
         Reading::Wrong(complaint) => settings_work::complain(complaint, STDERR_FILENO),
     }
 }
 
 // A command of five to eight words, its own name among them.
-fn read(path: &[u8], words: usize) {
+fn read(system: &mut System, path: &[u8], words: usize) {
     if words < 5 {
         usage(STDERR_FILENO);
         return;
@@ -119,13 +131,14 @@ fn read(path: &[u8], words: usize) {
         return;
     }
     let mut layout = io::buffer();
-    let n = os::arg(3, &mut layout);
-    read_words(path, &layout[..n]);
+    let n = system.arg(3, &mut layout);
+    read_words(system, path, &layout[..n]);
 }
 
-fn main() {
+fn main(rt: HostRuntime) {
+    let mut system = System::new(rt);
     let mut path = io::buffer();
-    let n = os::arg(1, &mut path);
+    let n = system.arg(1, &mut path);
     if qbx_words::is(&path[..n], b"--help") {
         usage(STDOUT_FILENO);
         return;
@@ -134,5 +147,6 @@ fn main() {
         usage(STDERR_FILENO);
         return;
     }
-    read(&path[..n], os::arg_count());
+    let words = system.arg_count();
+    read(&mut system, &path[..n], words);
 }

@@ -1,6 +1,7 @@
 -- A file of a layout table, two numbers to a line: what its text says.
 use Rattle.std.specs.Prelude.{ℕ, Bool, true, false, List, [], ◌∷◌}
-use Rattle.qbx_share_file.specs.ShareFile.{words_of, LineSaid, Said, file_says}
+use Rattle.qbx_share_file.specs.ShareFile.{words_of, Said}
+use Rattle.qbx_share_file.specs.AnyFile.{LineSaid, file_says}
 use Rattle.settings_numbers.specs.Byte.{byte_of}
 use Rattle.settings_numbers.specs.declared.ParsedByte.{ParsedByte}
 use Rattle.settings_numbers.specs.declared.ParsedByte.TheVariants.{Byte, NoByte}

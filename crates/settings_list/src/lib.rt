@@ -1,4 +1,6 @@
 // The list of a board: its newest partition and the items of its layout table, in a lent buffer.
+#![tactic(auto)]
+
 ghost use Rattle.std.specs.Prelude.{◌≡◌, ◌/◌, ◌≤◌, length};
 ghost use Rattle.text.specs.Buffer.{Wrote};
 ghost use Rattle.partitions.specs.Partitions as board;
@@ -51,9 +53,10 @@ fn list_items(text: &mut [u8], at: usize, image: &[u8], partitions: usize, layou
 }
 
 // The list of a board whose P and table are right, by its newest partition.
+#[tactic(auto, unfolding(partition_status::specs::Said::said))]
 fn list_board(text: &mut [u8], image: &[u8], partitions: usize, layout: &[u8]) -> Listed
     requires { Right partitions layout.now image.now }
-    ensures { Lists (list_on partitions layout.now image.now (board.newestIn partitions (length image.now / partitions) image.now)) result text.old text.new }
+    ensures { Lists (list_on partitions layout.now image.now (board.newest_in partitions (length image.now / partitions) image.now)) result text.old text.new }
 {
     let size = image.len() / partitions;
     let newest = partition_status::find_newest(image, partitions, size);

@@ -1,4 +1,6 @@
 // What a command asks of the library, on the image and the layout table alone.
+#![tactic(auto)]
+
 ghost use Rattle.std.specs.Prelude.{◌≡◌};
 ghost use Rattle.partitions.specs.Answers.{write_outcome, wrote, read_outcome, told};
 ghost use Rattle.settings_list.specs.BoardList.{list_outcome};

@@ -1,4 +1,6 @@
 // What settings says, a line each. Nothing is written here.
+#![tactic(auto)]
+
 ghost use Rattle.std.specs.Prelude.{◌≡◌, ◌+◌, ◌≤◌};
 ghost use Rattle.qbx_lines.specs.Lines.{most_line, said, Added};
 ghost use Rattle.partitions.specs.Answers.{number_of};
@@ -26,6 +28,7 @@ fn add_reason(line: Line, answer: Reply) -> Line
 }
 
 // An answer, with no line end.
+#[tactic(auto, unfolding(crate::specs::Said::reply_text))]
 fn say_reply(answer: Reply) -> Line
     ensures { (said result ≡ reply_text answer) × (result.count ≤ 40) }
 {
@@ -35,6 +38,7 @@ fn say_reply(answer: Reply) -> Line
 }
 
 // Behind the refusal of P what it is to be, and the bytes that are there.
+#[tactic(auto, unfolding(text::specs::Text::text, crate::specs::Said::board_text))]
 fn add_board(line: Line, answer: Reply, there: u64) -> Line
     requires { line.count ≤ 70 }
     ensures { Added line (board_text (number_of answer) there) result × (result.count ≤ line.count + 110) }

@@ -1,12 +1,14 @@
 // Plays a script of commands, one to a line, each as settings would obey it: IMAGE P LAYOUT read ITEM, IMAGE P LAYOUT write ITEM
 // [--budget STEPS] [< data], or IMAGE P LAYOUT list. It goes as the scripts of qbx do, and is not theirs: no function is handed in.
 // All that is said goes to standard output, so that a whole story is one output to compare.
-use libc::{STDIN_FILENO, STDOUT_FILENO};
+#![tactic(auto)]
+
 use qbx_script_words::word;
+use qbx_system::{STDOUT_FILENO, System};
 use settings_words::Reading;
 
 // The words of a command, and what stands behind '<'.
-fn obey(line: &[u8], contents: &[u8]) {
+fn obey(system: &mut System, line: &[u8], contents: &[u8]) {
     let layout = word(line, 2);
     let reading = settings_words::command_of(
         word(line, 1),
@@ -19,6 +21,7 @@ fn obey(line: &[u8], contents: &[u8]) {
     match reading {
         Reading::Right(command) => {
             settings_work::obey(
+                system,
                 word(line, 0),
                 layout,
                 command,
@@ -31,24 +34,24 @@ fn obey(line: &[u8], contents: &[u8]) {
     }
 }
 
-fn step(line: &[u8]) {
+fn step(system: &mut System, line: &[u8]) {
     io::write_all(STDOUT_FILENO, b"$ settings ");
     io::write_all(STDOUT_FILENO, line);
     io::write_all(STDOUT_FILENO, b"\n");
-    let end = bytes::scan::find(line, 0, line.len(), b'<');
+    let end = byte_search::find(line, 0, line.len(), b'<');
     if line.len() - end < 2 {
-        obey(line, b"");
+        obey(system, line, b"");
         return;
     }
     let start = end + 2;
-    obey(&line[..end], &line[start..]);
+    obey(system, &line[..end], &line[start..]);
 }
 
-fn play_lines(script: &[u8]) {
+fn play_lines(system: &mut System, script: &[u8]) {
     let mut at = 0;
     while at < script.len() {
-        let end = bytes::scan::find(script, at, script.len(), b'\n');
-        step(&script[at..end]);
+        let end = byte_search::find(script, at, script.len(), b'\n');
+        step(system, &script[at..end]);
         if end == script.len() {
             return;
         }
@@ -57,9 +60,11 @@ fn play_lines(script: &[u8]) {
 }
 
 // The script is on standard input.
-pub fn play() {
+pub fn play(rt: HostRuntime) {
+    let mut system = System::new(rt);
     let mut script = io::large_buffer();
-    let filled = qbx_files::fill(STDIN_FILENO, &mut script);
+    let mut input = system.stdin();
+    let filled = qbx_files::fill(&mut system, &mut input, &mut script);
     let n = filled.count;
-    play_lines(&script[..n]);
+    play_lines(&mut system, &script[..n]);
 }

@@ -1,5 +1,7 @@
 // A board's life: its first write, one in place, one to the next partition, cuts before the status and inside the items with reads
 // behind them, and the ring of partitions and statuses gone round. The commands are in stdin.
-fn main() {
-    settings_script::play();
+#![tactic(auto)]
+
+fn main(rt: HostRuntime) {
+    settings_script::play(rt);
 }

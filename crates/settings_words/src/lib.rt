@@ -1,6 +1,7 @@
 // The words of the command line of settings, read: IMAGE P LAYOUT read ITEM, IMAGE P LAYOUT write ITEM [--budget STEPS], or
 // IMAGE P LAYOUT list.
 #![tactic(auto)]
+
 ghost use Rattle.std.specs.Prelude.{◌≡◌};
 ghost use Rattle.settings_words.specs.Command.{writes, ended, with_budget, of_item, of_list, command_of};
 

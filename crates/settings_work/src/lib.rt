@@ -1,8 +1,11 @@
 // The work of the program settings, with its words handed in: the file of the layout and the image's file are read, the library
 // asked, the image's file replaced and the answer said.
+#![tactic(auto)]
+
 use qbx_out::print;
 use qbx_same::Clash;
 use qbx_share_file::Listing;
+use qbx_system::System;
 use settings_list::MOST_LIST;
 use settings_says::say_answer;
 use settings_words::{Command, Complaint, Verb};
@@ -18,8 +21,8 @@ const MOST_TEXT: usize = 4096;
 const MOST_LAYOUT: usize = 512;
 
 // Says what could not be done with a file.
-fn fail(fd: i32, what: &[u8], path: &[u8]) {
-    qbx_out::fail_as(b"settings", fd, what, path);
+fn fail(system: &System, fd: i32, what: &[u8], path: &[u8]) {
+    qbx_out::fail_as(system, b"settings", fd, what, path);
 }
 
 // Says what is wrong with a command's words.
@@ -29,6 +32,7 @@ pub fn complain(complaint: Complaint, err: i32) {
 
 // Steps that were done are in the file before they are said.
 fn write(
+    system: &mut System,
     image: &mut [u8],
     path: &[u8],
     layout: &[u8],
@@ -40,8 +44,8 @@ fn write(
     let there = image.len() as u64;
     let written = settings_request::write(image, layout, command, contents);
     if written.steps > 0 {
-        if !qbx_files::replace(path, image) {
-            fail(err, b"write ", path);
+        if !qbx_files::replace(system, path, image) {
+            fail(system, err, b"write ", path);
             return;
         }
     }
@@ -49,13 +53,13 @@ fn write(
 }
 
 // The data alone go out. Where the answer goes there too, a line end keeps them apart.
-fn read(image: &[u8], layout: &[u8], command: Command, out: i32, err: i32) {
+fn read(system: &mut System, image: &[u8], layout: &[u8], command: Command, out: i32, err: i32) {
     let spot = settings_request::read(image, layout, command);
     let answer = spot.answer;
     let at = spot.offset;
     let count = spot.length;
-    if !io::write_all(out, qbx_images::piece(image, at, count)) {
-        fail(err, b"write ", b"standard output");
+    if !system.write_all(out, qbx_images::piece(image, at, count)) {
+        fail(system, err, b"write ", b"standard output");
         return;
     }
     if out == err {
@@ -67,7 +71,7 @@ fn read(image: &[u8], layout: &[u8], command: Command, out: i32, err: i32) {
 }
 
 // The text alone goes out; what refuses it is told with what is wrong.
-fn list(image: &[u8], layout: &[u8], command: Command, out: i32, err: i32) {
+fn list(system: &mut System, image: &[u8], layout: &[u8], command: Command, out: i32, err: i32) {
     let mut text = [0u8; MOST_LIST];
     let listed = settings_request::list(&mut text, image, layout, command);
     let answer = listed.answer;
@@ -76,13 +80,14 @@ fn list(image: &[u8], layout: &[u8], command: Command, out: i32, err: i32) {
         print(err, say_answer(answer, image.len() as u64));
         return;
     }
-    if !io::write_all(out, &text[..n]) {
-        fail(err, b"write ", b"standard output");
+    if !system.write_all(out, &text[..n]) {
+        fail(system, err, b"write ", b"standard output");
     }
 }
 
 // A command on the image's bytes.
 fn act(
+    system: &mut System,
     image: &mut [u8],
     path: &[u8],
     layout: &[u8],
@@ -93,14 +98,15 @@ fn act(
 ) {
     let verb = command.verb;
     match verb {
-        Verb::Read => read(&image[..], layout, command, out, err),
-        Verb::Write => write(image, path, layout, command, contents, out, err),
-        Verb::List => list(&image[..], layout, command, out, err),
+        Verb::Read => read(system, &image[..], layout, command, out, err),
+        Verb::Write => write(system, image, path, layout, command, contents, out, err),
+        Verb::List => list(system, &image[..], layout, command, out, err),
     }
 }
 
 // A command on the image's file, in a buffer of a byte more than an image may have, so that a larger file is seen to be one.
 fn work(
+    system: &mut System,
     image: &mut [u8],
     path: &[u8],
     layout: &[u8],
@@ -109,9 +115,9 @@ fn work(
     out: i32,
     err: i32,
 ) {
-    let file = qbx_images::present(image, path, 0, false);
+    let file = qbx_images::present(system, image, path, 0, false);
     if !file.whole {
-        fail(err, b"read ", path);
+        fail(system, err, b"read ", path);
         return;
     }
     let n = file.count;
@@ -119,16 +125,36 @@ fn work(
         io::write_all(err, b"settings: IMAGE is longer than 1048576 bytes\n");
         return;
     }
-    act(&mut image[..n], path, layout, command, contents, out, err);
+    act(
+        system,
+        &mut image[..n],
+        path,
+        layout,
+        command,
+        contents,
+        out,
+        err,
+    );
 }
 
-fn on_image(path: &[u8], layout: &[u8], command: Command, contents: &[u8], out: i32, err: i32) {
+fn on_image(
+    system: &mut System,
+    path: &[u8],
+    layout: &[u8],
+    command: Command,
+    contents: &[u8],
+    out: i32,
+    err: i32,
+) {
     let mut image = [255u8; MOST_IMAGE + 1];
-    work(&mut image, path, layout, command, contents, out, err);
+    work(
+        system, &mut image, path, layout, command, contents, out, err,
+    );
 }
 
 // A command with the file of the layout read.
 fn on_layout(
+    system: &mut System,
     path: &[u8],
     layout_path: &[u8],
     command: Command,
@@ -137,9 +163,9 @@ fn on_layout(
     err: i32,
 ) {
     let mut text = [0u8; MOST_TEXT + 1];
-    let file = qbx_images::present(&mut text, layout_path, 0, false);
+    let file = qbx_images::present(system, &mut text, layout_path, 0, false);
     if !file.whole {
-        fail(err, b"read ", layout_path);
+        fail(system, err, b"read ", layout_path);
         return;
     }
     let n = file.count;
@@ -150,7 +176,15 @@ fn on_layout(
     let mut layout = [0u8; MOST_LAYOUT];
     let listing = settings_layout_file::read_layout(&text[..n], &mut layout);
     match listing {
-        Listing::Listed(count) => on_image(path, &layout[..count], command, contents, out, err),
+        Listing::Listed(count) => on_image(
+            system,
+            path,
+            &layout[..count],
+            command,
+            contents,
+            out,
+            err,
+        ),
         Listing::Wrong(line) => print(err, settings_says::say_wrong_line(line)),
     }
 }
@@ -159,6 +193,7 @@ fn on_layout(
 // and a list's refusal: their bytes go out alone. Neither the image's file nor the one that is written beside it, and given its
 // name, may be the file of the layout: it would be gone.
 pub fn obey(
+    system: &mut System,
     path: &[u8],
     layout_path: &[u8],
     command: Command,
@@ -166,7 +201,7 @@ pub fn obey(
     out: i32,
     err: i32,
 ) {
-    let clash = qbx_same::clash_of(layout_path, path);
+    let clash = qbx_same::clash_of(system, layout_path, path);
     if let Clash::IsSource = clash {
         io::write_all(err, b"settings: LAYOUT is IMAGE: name another\n");
         return;
@@ -178,5 +213,5 @@ pub fn obey(
         );
         return;
     }
-    on_layout(path, layout_path, command, contents, out, err);
+    on_layout(system, path, layout_path, command, contents, out, err);
 }

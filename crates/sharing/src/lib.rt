@@ -1,5 +1,7 @@
 // Put, delete and read by tenant (request #110): a layer over the store, which knows no tenants. It asks the store by its
 // public requests alone, so that what the layer promises follows from their contracts. Nothing is required of a caller.
+#![tactic(auto)]
+
 ghost use Rattle.std.specs.Prelude.{◌≡◌, length, ◌≤◌, true};
 ghost use Rattle.model.specs.Chip.{right_size};
 ghost use Rattle.model.specs.Slot.{most_contents, number_ok};
@@ -41,6 +43,7 @@ fn put_within(
 }
 
 // Stores contents under a tenant's block number.
+#[tactic(auto, unfolding(shares::specs::Layer::wrote, shares::specs::Layer::block_asked))]
 pub fn put(
     image: &mut [u8],
     segments: usize,
@@ -60,6 +63,7 @@ pub fn put(
 }
 
 // Deletes a tenant's block.
+#[tactic(auto, unfolding(shares::specs::Layer::wrote, shares::specs::Layer::block_asked))]
 pub fn delete(
     image: &mut [u8],
     segments: usize,
@@ -80,6 +84,7 @@ pub fn delete(
 
 // Copies the contents of a tenant's block to the front of a lent buffer, or leaves all of it as it is. The tenant is not told
 // where in the image they lie.
+#[tactic(auto, unfolding(text::specs::Buffer::printed, shares::specs::Layer::gave_in, shares::specs::Layer::block_asked, model::specs::Slot::most_contents))]
 pub fn read(
     image: &[u8],
     segments: usize,

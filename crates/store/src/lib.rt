@@ -4,6 +4,7 @@
 // block numbers, segment numbers and slot places are the three tuple structs of `model`; `let .. else` takes the clean
 // survey or the slot that was found, and all else is a refusal; `read_or` returns a part of either of two slices.
 #![tactic(auto)]
+
 ghost use Rattle.std.specs.Prelude.{◌≡◌, false};
 ghost use Rattle.model.specs.Answers.{performed, outcome_of, format, put, delete, recover, located, read_outcome, piece_or, counted, count_outcome};
 

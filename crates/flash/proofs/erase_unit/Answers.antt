@@ -5,11 +5,12 @@ use native.Mathlib.Omega.{arith}
 use lib.ListN.{length-set}
 use lib.Seq.{paste-zero}
 use Rattle.model.specs.Chip.{erase, erased}
-use Rattle.flash.proofs.Laws.{on_spent, ran_one_in, erasing_next, erasing_end}
+use Rattle.flash.proofs.Laws.{erasing_next}
+use Rattle.flash.proofs.UnitLaws.{spent_in, one_in, unit_erased}
 use Rattle.flash.proofs.erase_unit.Goals as goal
 
 pub returns-then-budget-eq0 : goal.returns-then-budget-eq0
-returns-then-budget-eq0 c = on_spent _ _ _ _ c.if-budget-eq0.true
+returns-then-budget-eq0 c = spent_in _ _ _ _ c.if-budget-eq0.true
 
 pub loop-i-init : goal.loop-i-init
 loop-i-init c =
@@ -27,4 +28,4 @@ shape_of-image c = c.loop-i.invariant.2
 pub returns : goal.returns
 returns c =
     let a = c.args in
-    rw (c.loop-i.invariant.0 ∙ erasing_end a.bytes a.index c.loop-i.i a.image.now c.requires (omega arith)) (ran_one_in (erase a.index) a.bytes a.budget a.image.now c.if-budget-eq0.false)
+    rw (c.loop-i.invariant.0 ∙ unit_erased a.bytes a.index c.loop-i.i a.image.now c.requires (omega arith)) (one_in (erase a.index) a.bytes a.budget a.image.now c.if-budget-eq0.false)

@@ -21,11 +21,6 @@ use Rattle.looking.specs.Look.{There, Kept}
 use Rattle.bridge.specs.Refusals.{answer_in, unclean_code, wrong_size_code, read_number, read_unclean, read_absent, read_found}
 use Rattle.room.proofs.Laws.{plan_held, plan_sized}
 
--- no place was found
-pub found_other : (r : Found) → ((q : SlotPlace) (n : ℕ) → r ≡ At q n → ⊥) → r ≡ Nothing
-found_other (At q n) h = absurd (h q n refl)
-found_other Nothing h = refl
-
 module _ (N B : ℕ) (s : Image) (p : Plan) (k : Planned N B p s) where
   module _ (b : ℕ) (r : Found) (e : r ≡ found_in N B p.first.0 (rows_at N B s p.used p.first.0) b) where
     pub plan_found : (q : SlotPlace) (n : ℕ) → r ≡ At q n → FoundAt N B b (view N B s) q n

@@ -60,11 +60,6 @@ is_whole : Ring → Bool
 is_whole (InUse f u) = true
 is_whole Broken = false
 
--- a ring of no segments in use is broken
-pub not_in_use : (r : Ring) → ((f : SegmentNumber) (u : ℕ) → r ≡ InUse f u → ⊥) → r ≡ Broken
-not_in_use (InUse f u) h = absurd (h f u refl)
-not_in_use Broken h = refl
-
 module _ (N B : ℕ) (s : Image) (z : right_size N B s ≡ true) (r : Ring) (w : SeenRing N B s r) where
   pub ringed : (f : SegmentNumber) (u : ℕ) → r ≡ InUse f u → Ringed N B f u s
   unfolding first_in used_in

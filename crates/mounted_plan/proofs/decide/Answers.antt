@@ -2,7 +2,7 @@
 use native.Mathlib.Omega.{arith}
 use Rattle.model.specs.Laws.Chip.{size_facts}
 use Rattle.flash.proofs.Pages.{sized}
-use Rattle.mounted_plan.proofs.Laws.Decided.{not_in_use, ringed, number_fits, plan_fits, decided_damaged, decided_former, decided_full, decided_there, decided_header}
+use Rattle.mounted_plan.proofs.Laws.Decided.{ringed, number_fits, plan_fits, decided_damaged, decided_former, decided_full, decided_there, decided_header}
 use Rattle.mounted_plan.proofs.decide.Goals as goal
 
 pub see_ring-ring-requires : goal.see_ring-ring-requires
@@ -19,7 +19,7 @@ first_free-slot-requires c =
 pub returns-in_default : goal.returns-in_default
 returns-in_default c =
     let a = c.args in
-    decided_damaged a.segments a.slots a.image.now c.requires _ c.see_ring-ring.ensures a.absent (not_in_use _ c.in_default.not-InUse)
+    decided_damaged a.segments a.slots a.image.now c.requires _ c.see_ring-ring.ensures a.absent c.in_default.is
 
 pub top_number-top-requires : goal.top_number-top-requires
 top_number-top-requires c =

@@ -11,8 +11,11 @@ use lib.Dec.{eqb}
 use borrow.Author.Tests.{ne_eqb}
 use Rattle.byte_search.specs.Bytes.{index_of, slice}
 use Rattle.qbx_share_file.specs.declared.Listing.TheVariants.{Listed, Wrong}
-use Rattle.qbx_share_file.specs.ShareFile.{parts, filled, is_line_end, words_of, line_of, numbers_in, is_right, LineSaid, Said, on_line, lines_from, file_says, share_line, listing, over}
-use Rattle.qbx_share_file.specs.Steps.{reach, behind, Kept}
+use Rattle.qbx_share_file.specs.declared.LineRead.{LineRead}
+use Rattle.qbx_share_file.specs.declared.LineRead.TheVariants.{Blank, Share, Odd}
+use Rattle.qbx_share_file.specs.ShareFile.{parts, filled, is_line_end, words_of, line_of, Said, on_line, lines_from, said_in, listing, over}
+use Rattle.qbx_share_file.specs.AnyFile.{LineSaid, on_any, any_from, file_says, shares_in, share_line}
+use Rattle.qbx_share_file.specs.Steps.{reach, behind, Kept, numbers_in, is_right}
 use Rattle.qbx_share_file.proofs.Laws.Parts.{others, parts_first}
 use Rattle.qbx_share_file.proofs.Laws.Kept.{behind_none}
 
@@ -31,20 +34,20 @@ index_reach (b ∷ s) = index_by b s (eqb b 10) refl (index_reach s)
 
 module _ (f : List ℕ → LineSaid) (quiet : f [] ≡ record { numbers = []; right = true }) where
   -- behind the last line nothing is said, so it may or may not have an end
-  others_say : (k : ℕ) (s : List ℕ) → lines_from f k (others is_line_end s) ≡ lines_from f k (parts is_line_end (drop 1 s))
-  unfolding lines_from on_line parts others
+  others_say : (k : ℕ) (s : List ℕ) → any_from f k (others is_line_end s) ≡ any_from f k (parts is_line_end (drop 1 s))
+  unfolding any_from on_any parts others
   others_say k [] = rw quiet
   others_say k (b ∷ s) = refl
 
-  next_line : (k : ℕ) (s : List ℕ) → lines_from f k (parts is_line_end s) ≡ on_line k (f (take (reach is_line_end s) s)) (lines_from f (k + 1) (parts is_line_end (drop (reach is_line_end s + 1) s)))
-  unfolding lines_from
+  next_line : (k : ℕ) (s : List ℕ) → any_from f k (parts is_line_end s) ≡ on_any k (f (take (reach is_line_end s) s)) (any_from f (k + 1) (parts is_line_end (drop (reach is_line_end s + 1) s)))
+  unfolding any_from
   next_line k s = rw (add-one k, parts_first is_line_end s, others_say (suc k) (drop (reach is_line_end s) s), drop-drop 1 (reach is_line_end s) s)
 
 -- ---- what is left to be read
 
 -- what the lines from `at` on say, of which the first is number `k`
 unfoldable pub said_from : (List ℕ → LineSaid) → List ℕ → ℕ → ℕ → Said
-said_from f text at k = lines_from f k (parts is_line_end (drop at text))
+said_from f text at k = any_from f k (parts is_line_end (drop at text))
 
 -- `count` numbers are listed, and what is left to be read gives what the whole text does
 pub record Left (f : List ℕ → LineSaid) (text lent : List ℕ) (at k count : ℕ) (list : List ℕ) : Type 0 where
@@ -60,18 +63,18 @@ pub left_all : (f : List ℕ → LineSaid) (text lent : List ℕ) → Left f tex
 unfolding said_from file_says behind
 left_all f text lent = record { counted = omega arith; begun = omega arith; within = omega arith; long = refl; lists = refl; counts = omega arith; wrong = refl }
 
-odd_says : (k : ℕ) (v : LineSaid) (y : Said) → v.right ≡ false → ((on_line k v y).numbers ≡ []) × ((on_line k v y).wrong ≡ k)
-unfolding on_line
+odd_says : (k : ℕ) (v : LineSaid) (y : Said) → v.right ≡ false → ((on_any k v y).numbers ≡ []) × ((on_any k v y).wrong ≡ k)
+unfolding on_any
 odd_says k v y e = rw e (refl, refl)
 
-right_says : (k : ℕ) (v : LineSaid) (y : Said) → v.right ≡ true → ((on_line k v y).numbers ≡ v.numbers ++ y.numbers) × ((on_line k v y).wrong ≡ y.wrong)
-unfolding on_line
+right_says : (k : ℕ) (v : LineSaid) (y : Said) → v.right ≡ true → ((on_any k v y).numbers ≡ v.numbers ++ y.numbers) × ((on_any k v y).wrong ≡ y.wrong)
+unfolding on_any
 right_says k v y e = rw e (refl, refl)
 
 module _ (f : List ℕ → LineSaid) (quiet : f [] ≡ record { numbers = []; right = true }) (text lent : List ℕ) (at k count : ℕ) (list : List ℕ) (x : Left f text lent at k count list) where
   -- nothing is left
   pub left_none : length text ≤ at → (Listed count ≡ listing (length lent) (file_says f text)) × (list ≡ over (file_says f text).numbers lent)
-  unfolding said_from lines_from on_line parts listing
+  unfolding said_from any_from on_any parts listing
   left_none h =
       let e = drop_of_length-le text h in
       let l : behind count [] list ≡ over (file_says f text).numbers lent = rw (e, quiet) at x.lists in
@@ -84,7 +87,7 @@ module _ (f : List ℕ → LineSaid) (quiet : f [] ≡ record { numbers = []; ri
       (found : end ≡ at + index_of 10 (slice at (length text) text))
       (read : line ≡ f (take (end - at) (drop at text))) where
     -- the next line, and the rest
-    split : said_from f text at k ≡ on_line k line (said_from f text (end + 1) (k + 1))
+    split : said_from f text at k ≡ on_any k line (said_from f text (end + 1) (k + 1))
     unfolding said_from slice
     split =
         let g : end ≡ at + reach is_line_end (drop at text) = found ∙ ap (λ (l : List ℕ). at + index_of 10 (drop at l)) (take-length text) ∙ ap (λ (n : ℕ). at + n) (index_reach (drop at text)) in
@@ -121,6 +124,22 @@ module _ (f : List ℕ → LineSaid) (quiet : f [] ≡ record { numbers = []; ri
 pub share_quiet : share_line [] ≡ record { numbers = []; right = true }
 unfolding share_line line_of words_of filled parts numbers_in is_right
 share_quiet = refl
+
+-- what is said of each line of a file of shares is what that line says
+line_any : (k : ℕ) (v : LineRead) (x : Said) → on_line k v x ≡ on_any k (shares_in v) x
+unfolding on_line on_any numbers_in is_right
+line_any k Blank x = refl
+line_any k (Share f l q) x = refl
+line_any k Odd x = refl
+
+lines_any : (k : ℕ) (ls : List (List ℕ)) → lines_from k ls ≡ any_from share_line k ls
+unfolding lines_from any_from share_line
+lines_any k [] = refl
+lines_any k (l ∷ ls) = line_any k (line_of (words_of l)) (lines_from (suc k) ls) ∙ ap (on_any k (shares_in (line_of (words_of l)))) (lines_any (suc k) ls)
+
+pub said_any : (text : List ℕ) → said_in text ≡ file_says share_line text
+unfolding said_in file_says
+said_any text = lines_any 1 (parts is_line_end text)
 
 -- ---- for who reads a file
 

@@ -1,5 +1,5 @@
 -- `qbx_share_file::is_right` is the test of the definition. Assumes nothing.
-use Rattle.qbx_share_file.specs.ShareFile.{is_right}
+use Rattle.qbx_share_file.specs.Steps.{is_right}
 use Rattle.qbx_share_file.proofs.is_right.Goals as goal
 
 pub returns-in-Blank : goal.returns-in-Blank

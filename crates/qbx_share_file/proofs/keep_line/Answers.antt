@@ -1,5 +1,5 @@
 -- `qbx_share_file::keep_line`: a share's numbers, or none. Assumes nothing.
-use Rattle.qbx_share_file.specs.ShareFile.{numbers_in}
+use Rattle.qbx_share_file.specs.Steps.{numbers_in}
 use Rattle.qbx_share_file.proofs.Laws.Kept.{kept_none}
 use Rattle.qbx_share_file.proofs.keep_line.Goals as goal
 

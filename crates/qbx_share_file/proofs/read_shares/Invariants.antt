@@ -1,7 +1,7 @@
 -- `qbx_share_file::read_shares`. The invariant: what is left to be read gives what the whole text does. Assumes nothing.
 use Prim.Native.Nat.{◌-◌}
 use lib.ListN.{length}
-use Rattle.qbx_share_file.specs.ShareFile.{share_line}
+use Rattle.qbx_share_file.specs.AnyFile.{share_line}
 use Rattle.qbx_share_file.proofs.Laws.Lines.{Left}
 use Rattle.qbx_share_file.proofs.read_shares.Given as goal
 

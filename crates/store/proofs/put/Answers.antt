@@ -1,7 +1,6 @@
 -- `store::put` is the request of the definition. Assumes nothing.
 use mathlib.Core.Path.{refl, sym, ap, ◌∙◌}
 use native.Mathlib.Omega.{arith}
-use borrow.Author.Tests.{not-true, not-false}
 use Rattle.model.specs.Answers.{code_of, put}
 use Rattle.model.specs.declared.Answer.TheVariants.{Number, Length}
 use Rattle.bridge.specs.Refusals.{answer_in, put_number, put_length}
@@ -40,3 +39,27 @@ pub survey-surveyed-requires : goal.survey-surveyed-requires
 survey-surveyed-requires c =
     let a = c.args in
     right_size_lem a.segments a.slots a.image.now _ c.right_size.ensures c.if-not-right_size.false
+
+pub returns-in_default : goal.returns-in_default
+returns-in_default c =
+    let a = c.args in
+    let r = c.survey-surveyed in
+    put_unclean_refused a.segments a.slots a.image.now a.budget a.block.0 a.contents.now (right_size_lem a.segments a.slots a.image.now _ c.right_size.ensures c.if-not-right_size.false)
+    (sym c.number_ok.ensures ∙ c.if-not-number_ok.false) (sym c.length_ok.ensures ∙ c.if-not-length_ok.false) _
+    (survey_other a.segments a.slots a.image.now r.result r.ensures c.in_default.not-Clean)
+    (c.state_answer.ensures ∙ ap answer_in (survey_says a.segments a.slots a.image.now r.result r.ensures)) c.refused-in_default.ensures
+
+pub put_clean-requires : goal.put_clean-requires
+put_clean-requires c =
+    let a = c.args in
+    let r = c.survey-surveyed in
+    let w = c.in-Clean.is in (
+      record {
+        plan = survey_plan a.segments a.slots a.image.now r.result r.ensures _ _ _ _ _ w (right_size_lem a.segments a.slots a.image.now _ c.right_size.ensures c.if-not-right_size.false);
+        bytes = bytes_known a.image.now (λ i. omega (arith, c.slice_known-1.given i));
+        number = sym c.number_ok.ensures ∙ c.if-not-number_ok.false;
+        taken = sym c.length_ok.ensures ∙ c.if-not-length_ok.false;
+      },
+      survey_live a.segments a.slots a.image.now r.result r.ensures _ _ _ _ _ w,
+      survey_few a.segments a.slots a.image.now r.result r.ensures _ _ _ _ _ w,
+    )

@@ -12,3 +12,16 @@ returns-in-At c =
     let a = c.args in
     read_there a.segments a.slots a.image.now a.block.0 _ _
     (subst (Looks a.segments a.slots a.image.now a.block.0) c.in-At.is c.look-looked.ensures)
+
+pub overflow_add-result : goal.overflow_add-result
+overflow_add-result c =
+    let a = c.args in
+    let there = subst (Looks a.segments a.slots a.image.now a.block.0) c.in-At.is c.look-looked.ensures in
+    omega (arith, there.inside)
+
+pub returns-in-Refused : goal.returns-in-Refused
+unfolding located
+returns-in-Refused c =
+    let a = c.args in
+    read_refused a.segments a.slots a.image.now a.block.0 c.in-Refused.answer
+    (subst (Looks a.segments a.slots a.image.now a.block.0) c.in-Refused.is c.look-looked.ensures)
