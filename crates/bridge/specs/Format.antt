@@ -1,5 +1,5 @@
 -- A finished format, of any image of a right size: an image of bytes, clean, with one empty segment.
-use Prim.Native.Nat.{ℕ, zero, suc, ◌+◌, ◌-◌, ◌*◌, ◌%◌, ◌≤◌, ◌<◌}
+use Prim.Native.Nat.{ℕ, zero, suc, ◌+◌, ◌*◌, ◌%◌, ◌≤◌, ◌<◌}
 use Rattle.std.specs.Prelude.{◌≡◌, true, length, get_or, take, drop, set, replicate}
 use Rattle.std.proofs.Math.Path.{refl, ap}
 use Rattle.std.proofs.Common.{sym, ap₂, ◌∙◌, mod-eq_of_lt, length-take, drop_of_length-le, take_all, take_at, drop-cons, get_or-set_same, le-leb}

@@ -1,5 +1,5 @@
 -- Tables that candidates were met by tell of each block the one given, and whether another disagrees.
-use Rattle.std.specs.Prelude.{ℕ, ◌*◌, ◌<◌, ◌≢◌, ◌⊎◌, Bool, cond, ◌||◌, ◌&&◌, set}
+use Rattle.std.specs.Prelude.{ℕ, ◌*◌, ◌<◌, ◌≢◌, Bool, cond, ◌||◌, ◌&&◌, set}
 use Rattle.std.proofs.Math.Path.{◌≡◌, refl, sym}
 use Rattle.std.proofs.Common.{ap, ◌∙◌, subst, inl, inr, ⊎_elim, true≢false, arith, length-set, get_or-set_same}
 use Rattle.std.proofs.Math.Bool.{true, false, not}

@@ -7,7 +7,6 @@ use Rattle.model.specs.Answers.{Request}
 use Rattle.model.specs.Histories.{Seen, shown}
 use Rattle.crash.specs.Machine.{Promise, settled, interrupted, unknown, Moves}
 use Rattle.crash.specs.Demand2.{board}
-use Rattle.crash.specs.Reading
 use Rattle.crash.specs.Sound.{Sound, Clean, former_in, former_shown}
 
 pub record Stores (N B : ℕ) (f : Bool) (s : Image) (t : Table) : Type 0 where

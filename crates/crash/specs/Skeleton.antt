@@ -22,7 +22,6 @@ use Rattle.bridge.specs.Accepted.{recover_none}
 use Rattle.bridge.specs.Format.{format_bytes}
 use Rattle.crash.specs.Machine.{malformed, plain_code, plain_bytes, plain, made, next, code_on_table, Promise, settled, interrupted, unknown, IsCut, OnTable, WantsRecovery, Holds, answers, answers_again, asks_recovery, refuses_malformed, not_begun, wholly_done, formats, format_cut, no_promise, PlainRuns, NoFormat}
 use Rattle.crash.specs.Demand2.{Keeps, board}
-use Rattle.crash.specs.Reading
 use Rattle.crash.specs.Sound.{SoundAs, Sound, Clean, finished, CutOf, former_in, DoneWith, LeftWith, RequestLaws}
 use Rattle.crash.specs.Requests.{refused_idle, idle_finished, idle_cut, read_idle, read_or_idle, read_or_work, shown_clean, former_clean, sound_clean, read_refused, read_or_bytes, bytes_refused, ended, ended_or_stopped, code_clean, Unfinished, code_unfinished, code_recover, code_format, steps_format, malformed_small, code_agree, agree_made, distinct_made}
 use Rattle.crash.specs.Invariant.{Stores, WillShow, Invariant, Follows}

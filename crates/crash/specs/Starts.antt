@@ -6,16 +6,15 @@ use Rattle.model.specs.State.{distinct, clean}
 use Rattle.model.specs.Steps.{format_steps}
 use Rattle.model.specs.Table.{table_of}
 use Rattle.model.specs.Answers.{Request, format, put, delete, read, read_or, recover, work_of}
-use Rattle.model.specs.Histories.{lost, Event, recovered, shown}
+use Rattle.model.specs.Histories.{Event, recovered, shown}
 use Rattle.model.specs.Laws.Chip.{run_size}
 use Rattle.model.specs.Laws.Tables.{agree_of}
 use Rattle.bridge.specs.Views.Shape.{clean_distinct}
 use Rattle.bridge.specs.Held.{clean_view}
 use Rattle.bridge.specs.Format.{format_bytes}
 use Rattle.crash.specs.Machine.{settled, interrupted, unknown}
-use Rattle.crash.specs.Demand2.{board, Demand2, FromClean, FromFormer, FromFormerLeft}
-use Rattle.crash.specs.Reading
-use Rattle.crash.specs.Sound.{Sound, Clean, finished, former_in, former_shown, RequestLaws}
+use Rattle.crash.specs.Demand2.{Demand2, FromClean, FromFormer, FromFormerLeft}
+use Rattle.crash.specs.Sound.{Sound, Clean, former_in, former_shown, RequestLaws}
 use Rattle.crash.specs.Invariant.{Stores, WillShow}
 use Rattle.crash.specs.Skeleton.{May, AllMay, runs_on, unformatted}
 

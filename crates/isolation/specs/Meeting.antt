@@ -23,7 +23,6 @@ use Rattle.crash.specs.Theorem.{request_laws}
 use Rattle.shares.specs.Layer.{Asked, puts, deletes, reads, store_request, share_code, share_work, contents_asked, share_outcome}
 use Rattle.isolation.specs.Law.{Call, served, reply_to, Serves, Begun, ByLayer}
 use Rattle.isolation.specs.Codes.{Taken, taken, of_layer, store_same}
-use Rattle.isolation.specs.Instances
 
 -- ---- what the store accepts of put, delete and read, it accepts on a clean image
 

@@ -1,5 +1,5 @@
 -- The ending of the rows, the count of live slots and the capacity decide conditions 5 to 8, (c) and (d).
-use Rattle.std.specs.Prelude.{ℕ, ◌+◌, ◌-◌, ◌≡◌, Bool, ◌||◌, ◌&&◌, length, leb}
+use Rattle.std.specs.Prelude.{ℕ, ◌≡◌, Bool, ◌||◌, ◌&&◌, length, leb}
 use Rattle.std.proofs.Math.Path.{refl, sym, ap}
 use Rattle.std.proofs.Common.{◌∙◌, inl, inr, true≢false}
 use Rattle.std.proofs.Math.Bool.{true, false, cond, not, and-eq-true_iff}

@@ -1,5 +1,5 @@
 -- What an ending says of the slots: all plain; or plain up to a slot that stops them, and empty ones after it.
-use Rattle.std.specs.Prelude.{◌+◌, ◌≡◌, ◌⊎◌, Bool, true, cond, ◌||◌, not}
+use Rattle.std.specs.Prelude.{◌≡◌, ◌⊎◌, Bool, true, cond, ◌||◌, not}
 use Rattle.std.proofs.Math.Path.{refl}
 use Rattle.std.proofs.Common.{sym, ap, ◌∙◌, inl, inr, true≢false, arith}
 use Rattle.std.proofs.Math.Bool.{false, and-eq-true_iff}

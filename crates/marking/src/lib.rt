@@ -27,7 +27,7 @@ fn mark_of(kind: SlotKind) -> u8
     }
 }
 
-// A wide segment is wrapped: so many slots to a row; `mostMarks` in the definitions.
+// A wide segment is wrapped: so many slots to a row; `most_marks` in the definitions.
 const MOST_MARKS: usize = 64;
 
 // The end of a full row, and spaces up to below its first slot.

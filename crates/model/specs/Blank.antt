@@ -1,5 +1,5 @@
 -- Request #103, "Blank test by whole words": bytes looked at in groups of eight, up to the first group that differs.
--- Whether all are 255 is `Header.isBlank`.
+-- Whether all are 255 is `Header.is_blank`.
 use Rattle.std.specs.Prelude.{ℕ, suc, ◌+◌, ◌/◌, cond, List, [], ◌∷◌, length}
 use Rattle.model.specs.Lists.{chunk}
 use Rattle.model.specs.Header.{is_blank}

@@ -2,11 +2,11 @@
 // document 01 that speaks of it. There is no code here.
 #![tactic(auto)]
 
-// The most segments of an image; `mostSegments` in specs/.
+// The most segments of an image; `most_segments` in specs/.
 pub const MOST_SEGMENTS: usize = 255;
 
 // The erases of one segment that a chip is good for: totals stay below it, and segment numbers below it times the count
-// of segments; `eraseLimit` in specs/.
+// of segments; `erase_limit` in specs/.
 pub const ERASE_LIMIT: usize = 100000;
 
 // Names a record, 1 to 65,534 (document 01: block number).

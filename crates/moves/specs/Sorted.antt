@@ -14,7 +14,6 @@ use Rattle.model.specs.Laws.CopyOut.{Valids}
 use Rattle.model.specs.Laws.Tables.{copies_cons, copies_distinct, distinct_copies, lookup_absent, agree_holds}
 use Rattle.moves.specs.Moves.{insert, by_number}
 -- so that a wrong definition is refused by what it computes before it is by a law
-use Rattle.moves.specs.Instances.{just_fits}
 
 -- ---- the same table
 

@@ -1,5 +1,5 @@
 -- Two histories on the smallest store, computed. In the first a put is cut and a recovery marks its slot. In the second a recovery loses the power inside its erase, and a dead slot of the segment that it erases looks cut.
-use Rattle.std.specs.Prelude.{ℕ, zero, suc, ◌+◌, ◌≡◌, refl, true, List, [], ◌∷◌, ◌++◌, get_or, set, replicate, take, drop}
+use Rattle.std.specs.Prelude.{ℕ, zero, suc, ◌≡◌, refl, true, List, [], ◌∷◌, ◌++◌, get_or, set, replicate, take, drop}
 use Rattle.std.proofs.Common.{◌∙◌, subst, inl, inr, arith, mod-eq_of_lt}
 use Rattle.std.specs.Int.Bits.{and_self}
 use Rattle.std.proofs.lemmas.Nat.{and_mask}

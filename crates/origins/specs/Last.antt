@@ -1,5 +1,5 @@
 -- (c): the last slot of the top is torn, a recovery marks it cut, and every other slot stays. With it, that a recovery of (c) makes exactly one.
-use Rattle.std.specs.Prelude.{ℕ, suc, ◌-◌, ◌%◌, ◌<◌, ◌≡◌, refl, ◌⊎◌, ◌≢◌, true, false, set}
+use Rattle.std.specs.Prelude.{ℕ, suc, ◌-◌, ◌%◌, ◌<◌, ◌≡◌, refl, ◌⊎◌, true, false, set}
 use Rattle.std.proofs.Math.Path.{sym, ap}
 use Rattle.std.proofs.Common.{ap₂, ◌∙◌, true≢false, arith, length-set}
 use Rattle.std.proofs.Math.Logic.{inl, inr, ⊎_elim}

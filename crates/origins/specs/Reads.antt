@@ -1,5 +1,5 @@
 -- What one segment reads at a place, and what a slot set in it changes.
-use Rattle.std.specs.Prelude.{ℕ, zero, suc, ◌-◌, ◌%◌, ◌≡◌, refl, ◌⊎◌, ◌≢◌, Bool, true, false, cond, List, [], ◌∷◌, get_or, set, replicate, eqb}
+use Rattle.std.specs.Prelude.{ℕ, zero, suc, ◌%◌, ◌≡◌, refl, ◌⊎◌, ◌≢◌, Bool, true, false, cond, List, [], ◌∷◌, get_or, set, replicate, eqb}
 use Rattle.std.proofs.Common.{sym, ap, ◌∙◌, subst, inl, inr, ⊎_elim, eqb-true, eq-eqb}
 use Rattle.model.specs.Slot.{Slot, empty, torn, dead, cut, wrong, live}
 use Rattle.model.specs.State.{Segment, blank, invalid, in_use, number_after, slots_in, with_slot, Place}

@@ -1,5 +1,5 @@
 -- Room made for a put, whole or cut: a segment opened or copied to has only live and empty slots, and the one that it replaces is left aside.
-use Prim.Native.Nat.{ℕ, zero, suc, ◌+◌, ◌-◌, ◌%◌, ◌<◌}
+use Prim.Native.Nat.{ℕ, zero, suc, ◌-◌, ◌%◌, ◌<◌}
 use Rattle.std.specs.Prelude.{◌≡◌, true, false, get_or, replicate}
 use Rattle.std.proofs.Common.{sym, ◌∙◌, subst, inl}
 use Rattle.std.proofs.Math.Path.{ap}

@@ -4,7 +4,6 @@ use Rattle.std.proofs.Common.{sym, ◌∙◌}
 use Rattle.std.proofs.Math.Path.{ap}
 use mathlib.Core.List.{List, [], ◌∷◌}
 use Rattle.model.specs.Chip.{Image, right_size}
-use Rattle.model.specs.Slot.{Slot}
 use Rattle.model.specs.State.{Segment, blank, invalid, in_use, segments_of, slots_in, next_index, next_blanked, case_a, case_b, case_c, case_d, State, clean, unfinished, damaged, state_of, state}
 use Rattle.account_text.specs.Account.{unseen, shown_in, shown}
 use Rattle.origins.specs.Law.{in_force}

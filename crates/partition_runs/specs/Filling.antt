@@ -1,5 +1,5 @@
 -- A partition filled or an item written in place, as far as an allowance goes: the reach of the run of statuses, the statuses set, and the bytes of other partitions.
-use Rattle.std.specs.Prelude.{ℕ, suc, ◌+◌, ◌-◌, ◌*◌, ◌/◌, ◌%◌, ◌≤◌, ◌<◌, ◌≡◌, ◌≢◌, true, take, eqb}
+use Rattle.std.specs.Prelude.{ℕ, suc, ◌+◌, ◌*◌, ◌/◌, ◌%◌, ◌≤◌, ◌<◌, ◌≡◌, ◌≢◌, true, take, eqb}
 use Rattle.std.proofs.Math.Path.{refl, sym, ap}
 use Rattle.std.proofs.Common.{◌∙◌, ⊎_elim, arith, mod-lt, mul_comm, suc-mul, mul-le-mul_right, div-add-mod', eqb-true}
 use mathlib.Core.List.{List, [], ◌∷◌, ◌++◌}

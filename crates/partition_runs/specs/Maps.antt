@@ -1,6 +1,6 @@
 -- One write and the items of the newest partition: done, the written one holds its new data and every other what it held; cut, all hold what they held.
-use Prim.Native.Nat.{ℕ, zero, suc, ◌+◌, ◌-◌, ◌*◌, ◌%◌, ◌≤◌, ◌<◌}
-use Rattle.std.specs.Prelude.{◌≡◌, refl, ◌⊎◌, ◌≢◌, Bool, true, false, cond, ◌||◌, length, get_or, take, drop, eqb}
+use Prim.Native.Nat.{ℕ, zero, suc, ◌+◌, ◌*◌, ◌%◌, ◌≤◌, ◌<◌}
+use Rattle.std.specs.Prelude.{◌≡◌, refl, ◌≢◌, Bool, true, false, cond, ◌||◌, length, get_or, take, drop, eqb}
 use Rattle.std.proofs.Common.{sym, ap, ◌∙◌, subst, arith, mod-lt, add-zero, length-append, length-drop, get_or-take, get_or-drop, length-take-le, eqb-true}
 use Rattle.std.proofs.Math.Logic.{inl, inr, ⊎_elim}
 use Rattle.std.proofs.lemmas.Bool.{false≢true, eqb-false}

@@ -6,7 +6,6 @@ use Rattle.std.proofs.Math.Decide.{dec_le, ℕ_discrete}
 use Rattle.model.specs.Lists.{all}
 use Rattle.model.specs.Laws.Lists.{mod_inj, all_append, and_left, and_right}
 use Rattle.partitions.specs.Laws.{kept_append}
-use Rattle.partition_runs.specs.Instances.{board}
 use Rattle.partitions.specs.Partitions.{indices, kept, next_status, next_partition, newest, only_one}
 
 -- ---- partitions

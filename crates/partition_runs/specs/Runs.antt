@@ -1,5 +1,5 @@
 -- The newest partition is the last of a single run of statuses, and the other way round. Nothing is asked of P but that 2 ≤ P ≤ 128: a full ring never closes, since P is not a multiple of 255.
-use Rattle.std.specs.Prelude.{ℕ, suc, ◌+◌, ◌-◌, ◌%◌, ◌≤◌, ◌<◌, ◌≢◌, Bool, ◌||◌, ◌&&◌, leb}
+use Rattle.std.specs.Prelude.{ℕ, suc, ◌+◌, ◌%◌, ◌≤◌, ◌<◌, ◌≢◌, Bool, ◌||◌, ◌&&◌, leb}
 use Rattle.std.proofs.Math.Path.{◌≡◌, refl}
 use Rattle.std.proofs.Common.{sym, ap, ◌∙◌, true≢false, mod-lt}
 use Rattle.std.proofs.Math.Bool.{true, false, cond, not}

@@ -6,7 +6,6 @@ use Rattle.model.specs.Lists.{all}
 use Rattle.model.specs.Laws.Lists.{and_left, and_right}
 use Rattle.partitions.specs.Layout.{Item, items_from, items_of, distinct, bytes_used, layout_ok, has_item, item_of}
 use Rattle.partitions.specs.Partitions.{kept}
-use Rattle.partitions.specs.Instances.{two}
 
 -- ---- a right table
 

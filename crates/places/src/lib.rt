@@ -12,7 +12,7 @@ ghost use Rattle.places.specs.Places.{entry_seen, entered, entered_from, emptied
 
 use model::{Answer, BlockNumber, SegmentNumber, SlotPlace};
 
-// The entries that a table has at least; `leastPlaces` in specs/.
+// The entries that a table has at least; `least_places` in specs/.
 pub const LEAST_PLACES: usize = 65536;
 
 // The status of a live slot, and of one that nothing was written to.

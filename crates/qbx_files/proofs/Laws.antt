@@ -1,13 +1,12 @@
 -- The name beside a path, and the larger of two counts.
 use Prim.Native.Nat.{ℕ, ◌+◌, ◌<◌, ◌≤◌}
-use mathlib.Core.Path.{◌≡◌, sym, ◌∙◌, ap}
+use mathlib.Core.Path.{◌≡◌}
 use mathlib.Core.List.{List, [], ◌∷◌, ◌++◌}
 use native.Mathlib.Omega.{arith}
-use lib.ListN.{length, take, drop, length-append, length-take}
-use lib.Seq.{take-length, take-append_seam, take-append-add}
+use lib.ListN.{length, take}
+use lib.Seq.{take-append_seam, take-append-add}
 use lib.IntN.{ℤ, pos, negsuc}
 use borrow.Author.Tests.{le-leb, lt-leb}
-use Rattle.io.specs.Counts.{IsPrefixLen}
 use Rattle.text.specs.Text.{text}
 use Rattle.qbx_files.specs.Files.{beside_of, larger_of}
 

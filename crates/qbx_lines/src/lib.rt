@@ -5,7 +5,7 @@ ghost use Rattle.std.specs.Prelude.{◌≡◌, [], ◌++◌, ◌+◌, ◌≤◌,
 ghost use Rattle.qbx_lines.specs.Lines.{most_line, said, Added};
 ghost use Rattle.text.specs.Decimal.{decimal};
 
-// The most bytes of a line; `mostLine` in specs/.
+// The most bytes of a line; `most_line` in specs/.
 pub const MOST_LINE: usize = 240;
 
 // A line that is being put together.

@@ -3,7 +3,6 @@ use Rattle.std.specs.Prelude.{ℕ, zero, suc, ◌+◌, ◌≤◌, min, ◌≡◌
 use Rattle.qbx_share_file.specs.declared.LineRead.{LineRead}
 use Rattle.qbx_share_file.specs.declared.LineRead.TheVariants.{Blank, Share, Odd}
 use Rattle.qbx_share_file.specs.ShareFile.{over}
-use Rattle.qbx_share_file.specs.Instances.{right_files}
 
 -- how many bytes come before the first of a kind
 unfoldable pub reach : (ℕ → Bool) → List ℕ → ℕ

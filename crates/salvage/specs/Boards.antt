@@ -2,8 +2,8 @@
 use Rattle.std.specs.Prelude.{ℕ, suc, ◌+◌, ◌*◌, ◌≡◌, refl, Bool, cond, ◌&&◌, length, replicate, eqb}
 use Prim.Native.String.{String}
 use mathlib.Core.List.{List, [], ◌∷◌, ◌++◌, flatten}
-use Rattle.model.specs.Lists.{same, all}
-use Rattle.model.specs.Chip.{Image, Page, erased, image_length, right_size, pages_of, with_segment, step, run}
+use Rattle.model.specs.Lists.{same}
+use Rattle.model.specs.Chip.{Image, Page, image_length, right_size, pages_of, with_segment, step, run}
 use Rattle.model.specs.Header.{opened, erase_pending, compacted, version1}
 use Rattle.model.specs.Slot.{slot_page}
 use Rattle.model.specs.State.{segments_on, segments_of, State, clean, state, view}

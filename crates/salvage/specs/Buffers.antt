@@ -8,7 +8,6 @@ use Rattle.text.specs.Buffer.{Print, print_in}
 use Rattle.account_text.specs.Account.{live_in, live_slots, by_block}
 use Rattle.salvage.specs.Salvage.{regarded, candidates, given, salvage_on, salvage_text, salvage_outcome}
 -- so that a wrong definition is refused by what it computes before it is by a law
-use Rattle.salvage.specs.Boards.{reports}
 
 -- three segments of two slots, without a candidate
 abbrev none : Image

@@ -28,7 +28,6 @@ use Rattle.salvage.specs.Salvage.{regarded, candidates, held_in, salvaged, rebui
 use Rattle.salvage.specs.Given.{given_lasts, given_distinct, valid_lasts}
 use Rattle.salvage.specs.Ring.{held_append, held_from}
 -- so that a wrong definition is refused by what it computes before it is by a law
-use Rattle.salvage.specs.Boards.{reports}
 
 -- ---- the slots of an image of bytes
 

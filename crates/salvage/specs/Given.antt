@@ -10,7 +10,6 @@ use Rattle.model.specs.Laws.Tables.{copies_none, copies_cons_same, copies_cons_o
 use Rattle.account_text.specs.Account.{LiveSlot}
 use Rattle.salvage.specs.Salvage.{held_in, given}
 -- so that a wrong definition is refused by what it computes before it is by a law
-use Rattle.salvage.specs.Boards.{reports}
 
 -- ---- of a table, the last entry of each block
 

@@ -17,7 +17,6 @@ use Rattle.bridge.specs.Views.Slots.{entries_append}
 use Rattle.account_text.specs.Account.{LiveSlot, live_at, live_from, live_in, live_slots}
 use Rattle.salvage.specs.Salvage.{held_in}
 -- so that a wrong definition is refused by what it computes before it is by a law
-use Rattle.salvage.specs.Boards.{reports}
 
 -- ---- one segment
 

@@ -8,7 +8,6 @@ use Rattle.partitions.specs.Answers.{number_of}
 use Rattle.settings_item_lines.specs.ItemLines.{most_layout}
 use Rattle.settings_list.specs.declared.Listed.{Listed}
 use Rattle.settings_list.specs.BoardList.{ListOutcome}
-use Rattle.settings_list.specs.Instances.{shown}
 
 -- every list is shorter
 abbrev pub most_list : ℕ

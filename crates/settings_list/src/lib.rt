@@ -15,7 +15,7 @@ use partitions::Reply;
 use qbx_lines::{Line, add, add_count, empty};
 use settings_item_lines::{add_line, item_lines};
 
-// The most bytes of a list; `mostList` in specs/.
+// The most bytes of a list; `most_list` in specs/.
 pub const MOST_LIST: usize = 180224;
 
 // An answer, and the length of the text.

@@ -16,7 +16,7 @@ const MOST_IMAGE: usize = 1048576;
 // The most bytes of a file of a layout.
 const MOST_TEXT: usize = 4096;
 
-// A pair for each of 256 items: one more than a right table has, so that too many are seen. `mostLayout` in the specs of
+// A pair for each of 256 items: one more than a right table has, so that too many are seen. `most_layout` in the specs of
 // `settings_item_lines`.
 const MOST_LAYOUT: usize = 512;
 

@@ -110,7 +110,7 @@ shares_length (f ∷ []) = omega arith
 shares_length (f ∷ l ∷ []) = omega arith
 shares_length (f ∷ l ∷ q ∷ ns) = let e = shares_length ns in omega arith
 
--- `sharesOk`, where C is what there is to share
+-- `shares_ok`, where C is what there is to share
 pub within_capacity_lem : (N B : ℕ) (ns : List ℕ) → shares_within (capacity N B) ns ≡ shares_ok N B ns
 unfolding shares_ok
 within_capacity_lem N B ns = refl

@@ -1,5 +1,5 @@
 -- Lists of shares, and tenants on small chips, computed: what the definitions give, and so which wrong ones they are not.
-use Rattle.std.specs.Prelude.{ℕ, zero, suc, ◌≡◌, refl, Bool, true, false, List, [], ◌∷◌, ◌++◌, map, replicate}
+use Rattle.std.specs.Prelude.{ℕ, zero, suc, ◌≡◌, refl, true, false, List, [], ◌∷◌, ◌++◌, map, replicate}
 use Rattle.model.specs.Chip.{Image, Step, right_size, pages_of, with_segment, step, run}
 use Rattle.model.specs.Header.{Version, version1, new_version}
 use Rattle.model.specs.State.{segments_of, state, view}
@@ -8,7 +8,7 @@ use Rattle.model.specs.Table.{live_between, table_of}
 use Rattle.model.specs.Answers.{work_of}
 use Rattle.model.specs.Laws.Bench.{evaluate}
 use Rattle.shares.specs.Shares.{shares_of, range_ok, overlap, disjoint, quota_sum, shares_within, shares_ok, is_tenant, share_of, owns}
-use Rattle.shares.specs.Layer.{Asked, puts, deletes, reads, block_asked, store_request, bounds, before_full, quota_used, rows, share_code, share_work, contents_asked, Shared, share_outcome, gave_in}
+use Rattle.shares.specs.Layer.{Asked, puts, deletes, reads, block_asked, store_request, bounds, before_full, quota_used, rows, share_code, share_work, contents_asked, share_outcome, gave_in}
 
 -- every definition unfolds where this name does
 unfoldable computes : ℕ

@@ -1,4 +1,4 @@
--- Request #112: what is counted of a history with cuts, by its answers, its step lists and what a finished recovery shows. K, the cuts, is `cutsIn`, which a cut inside a recovery counts in too.
+-- Request #112: what is counted of a history with cuts, by its answers, its step lists and what a finished recovery shows. K, the cuts, is `cuts_in`, which a cut inside a recovery counts in too.
 use Rattle.std.specs.Prelude.{ℕ, ◌+◌, max, cond, List, [], ◌∷◌, ◌++◌, length, eqb}
 use Rattle.model.specs.Histories.{Seen, answered, lost}
 use Rattle.model.specs.Sequences.{Ledger, noted}

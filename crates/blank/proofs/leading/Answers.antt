@@ -4,7 +4,6 @@ use mathlib.Core.Path.{sym, ◌∙◌}
 use mathlib.Core.Bool.{true}
 use native.Mathlib.Omega.{arith}
 use lib.ListN.{length}
-use borrow.Author.Tests.{not-true, not-false}
 use Rattle.blank.proofs.Blank.{leads, part_turn, part_differs, parts_whole, stops_among}
 use Rattle.blank.proofs.leading.Goals as goal
 

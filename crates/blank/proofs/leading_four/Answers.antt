@@ -1,7 +1,6 @@
 -- `blank::leading_four` counts the groups of four before the first that differs. Assumes nothing.
 use mathlib.Core.Path.{refl, sym, ◌∙◌}
 use native.Mathlib.Omega.{arith}
-use borrow.Author.Tests.{not-true, not-false}
 use Rattle.blank.proofs.Blank.{no_part, part_turn, part_differs, parts_whole}
 use Rattle.blank.proofs.leading_four.Goals as goal
 

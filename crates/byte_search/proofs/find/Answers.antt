@@ -1,4 +1,4 @@
-use Rattle.std.proofs.Common.{◌+◌, ◌≤◌, arith}
+use Rattle.std.proofs.Common.{arith}
 use Rattle.byte_search.proofs.Laws.{found_here, found_on, found_none}
 use Rattle.byte_search.proofs.find.Goals as goal
 

@@ -4,7 +4,7 @@ use native.Mathlib.Omega.{arith}
 use Rattle.flash.proofs.Pages.{sized}
 use Rattle.block_lines.proofs.Laws.{blocks_start}
 use Rattle.meeting.specs.Sheet.{sheet}
-use Rattle.given_lines.proofs.Laws.{lines_short, lines_one, lines_passed, lines_room, lines_end}
+use Rattle.given_lines.proofs.Laws.{lines_one, lines_passed, lines_room, lines_end}
 use Rattle.given_lines.proofs.given_lines.Goals as goal
 
 pub overflow_cast-pages : goal.overflow_cast-pages

@@ -3,7 +3,6 @@ use mathlib.Core.Path.{sym, ◌∙◌}
 use mathlib.Core.Bool.{true, false}
 use native.Mathlib.Omega.{arith}
 use native.Mathlib.Nat.{mod-lt}
-use borrow.Author.Tests.{not-true, not-false}
 use Rattle.header_seen.proofs.Laws.{unused_status, unused_number, unused_index, used_page}
 use Rattle.header_seen.proofs.header_in_use.Goals as goal
 

@@ -1,7 +1,7 @@
 -- `linking::list_slot`, by the kind of the slot. Assumes nothing.
-use mathlib.Core.Path.{refl, subst}
+use mathlib.Core.Path.{refl}
 use Rattle.linking.specs.Counts.{count_kind}
-use Rattle.index.specs.Tables.{link_kind, Brief}
+use Rattle.index.specs.Tables.{link_kind}
 use Rattle.linking.proofs.list_slot.Goals as goal
 
 pub returns-in-Empty : goal.returns-in-Empty

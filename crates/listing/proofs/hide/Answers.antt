@@ -1,7 +1,4 @@
 -- `listing::hide`, by the survey. Assumes nothing.
-use Prim.Native.Nat.{◌+◌}
-use native.Mathlib.Omega.{arith}
-use native.Mathlib.Nat.{mod-lt}
 use Rattle.listing.specs.Walk.{hidden}
 use Rattle.listing.proofs.hide.Goals as goal
 

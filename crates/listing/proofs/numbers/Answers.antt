@@ -1,9 +1,6 @@
 -- `listing::numbers`. The invariant: the first `i` are there. Assumes nothing.
 use mathlib.Core.Path.{◌≡◌, refl}
 use native.Mathlib.Omega.{arith}
-use lib.ListN.{length-set}
-use Rattle.index.specs.Shows.{after_shown}
-use Rattle.descent.specs.Filled.{fill_more}
 use Rattle.listing.proofs.numbers.Goals as goal
 
 pub loop-i-init : goal.loop-i-init

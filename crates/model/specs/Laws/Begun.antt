@@ -10,7 +10,6 @@ use Rattle.model.specs.Histories.{reply_of, Seen, answered, lost, Proper, Does, 
 use Rattle.model.specs.Sequences.{Call, play, erases_in}
 use Rattle.model.specs.Begun.{is_mark, marks_in, CutBegun, DoesBegun, Turn, Turns}
 use Rattle.model.specs.Laws.Lists.{count_append}
-use Rattle.model.specs.Laws.Counts
 
 pub begun_cut : (B : ℕ) (xs : List Step) (s u : Image) (es : List ℕ) (f : ℕ) → CutBegun B xs s u es f → Cut B xs s u
 begun_cut B [] s u es f c = c.0

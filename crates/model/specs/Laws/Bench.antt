@@ -1,5 +1,5 @@
 -- Every bench example holds: computed over pages, and carried to the image by the law that joins the two.
-use Rattle.std.specs.Prelude.{ℕ, suc, ◌+◌, ◌-◌, ◌*◌, ◌≡◌, refl, Bool, true, cond, ◌&&◌, length, take, replicate, eqb}
+use Rattle.std.specs.Prelude.{ℕ, suc, ◌+◌, ◌*◌, ◌≡◌, refl, Bool, true, cond, ◌&&◌, length, take, replicate, eqb}
 use Rattle.std.proofs.Common.{ap, ap₂, ◌∙◌, eq-eqb}
 use Rattle.std.proofs.Math.Bool.{and-true}
 use mathlib.Core.List.{List, [], ◌∷◌, ◌++◌, flat_map, flatten}

@@ -1,6 +1,6 @@
 -- Clean, taken apart: conditions 1 to 4 make the segments in use a ring, and 5 to 8 speak of the view.
 use Prim.Native.Nat.{ℕ, zero, suc, ◌+◌, ◌-◌, ◌%◌, ◌≤◌, ◌<◌}
-use Rattle.std.specs.Prelude.{◌≡◌, ◌≢◌, Bool, true, cond, ◌&&◌, List, length, get_or, leb}
+use Rattle.std.specs.Prelude.{◌≡◌, Bool, true, cond, ◌&&◌, List, length, get_or, leb}
 use Rattle.std.proofs.Math.Path.{refl}
 use Rattle.std.proofs.Common.{ap, true≢false, mod-lt, leb-true, le-leb}
 use Rattle.std.proofs.Math.Bool.{false, not}

@@ -11,7 +11,6 @@ use Rattle.model.specs.Steps.{programs, program_part, on_page, header_at, open_s
 use Rattle.model.specs.Laws.Lists.{and_left, and_right}
 use Rattle.model.specs.Laws.Bytes.{clear_byte, number_value, same_eq, same_refl, erased_get}
 use Rattle.model.specs.Laws.Pages.{InPage, in_append, in_part}
-use Rattle.model.specs.Laws.AnyByte
 
 -- ---- the fields of an encoded page
 

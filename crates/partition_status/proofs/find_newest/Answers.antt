@@ -65,7 +65,7 @@ loop-partition-preserved c =
       | else-ends_run w ↦ looked_inner v.invariant more place ran w.if-ends_run.false w.ends-is w.last-is
     ]
 
--- after `loop-again`, so that another next partition is refused for its status, and not for where that stands
+-- after `loop_again`, so that another next partition is refused for its status, and not for where that stands
 pub bounds-image-at : goal.bounds-image-at
 bounds-image-at c =
     let v = c.loop-partition in

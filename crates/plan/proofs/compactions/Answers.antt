@@ -1,6 +1,5 @@
 -- `plan::compactions` is the place of the first row with a dead slot. The invariant: with the rows from `turn` on it is whole. Assumes nothing.
 use native.Mathlib.Omega.{arith}
-use borrow.Author.Tests.{not-true, not-false}
 use Rattle.plan.proofs.Laws.Walks.{first_start, first_next, first_stop, first_end}
 use Rattle.plan.proofs.compactions.Goals as goal
 

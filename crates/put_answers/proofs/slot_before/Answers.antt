@@ -1,7 +1,6 @@
 -- `put_answers::slot_before` is the search of the definition, left out where it can be. Assumes nothing.
 use native.Mathlib.Omega.{arith}
-use mathlib.Core.Logic.{⊎_elim}
-use borrow.Author.Tests.{lt-ltb, le-ltb, le-leb, lt-leb}
+use borrow.Author.Tests.{le-ltb, lt-leb}
 use Rattle.model.specs.State.{capacity}
 use Rattle.put_answers.specs.Answering.{found_before}
 use Rattle.put_answers.proofs.slot_before.Goals as goal

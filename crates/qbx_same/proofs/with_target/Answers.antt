@@ -1,5 +1,4 @@
 -- `qbx_same::with_target`: by what was found. Assumes nothing.
-use mathlib.Core.Path.{sym, ◌∙◌}
 use Rattle.qbx_same.specs.Same.{target_clash}
 use Rattle.qbx_same.proofs.with_target.Goals as goal
 

@@ -1,4 +1,4 @@
-use Rattle.std.proofs.Common.{◌≤◌, sym, ◌∙◌, arith}
+use Rattle.std.proofs.Common.{sym, ◌∙◌, arith}
 use Rattle.qbx_script_words.proofs.Laws.Words.{take_none, word_next, word_over, word_here}
 use Rattle.qbx_script_words.proofs.word.Goals as goal
 

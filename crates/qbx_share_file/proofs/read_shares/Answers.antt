@@ -1,6 +1,5 @@
 -- `qbx_share_file::read_shares`. The invariant: what is left to be read gives what the whole text does. Assumes nothing.
 use mathlib.Core.Path.{sym, ap, ◌∙◌}
-use native.Mathlib.Omega.{arith}
 use Rattle.qbx_share_file.specs.AnyFile.{shares_in, share_line}
 use Rattle.qbx_share_file.proofs.Laws.Lines.{left_all, left_none, left_wrong, left_next, share_quiet, said_any}
 use Rattle.qbx_share_file.proofs.read_shares.Goals as goal

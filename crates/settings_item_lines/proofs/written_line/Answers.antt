@@ -4,7 +4,6 @@ use Rattle.text.specs.Text.{text}
 use Rattle.qbx_lines.proofs.Laws.Lines.{more}
 use Rattle.text.proofs.Laws.{◌then◌, wrote_as}
 use Rattle.settings_item_lines.specs.ItemLines.{written_line}
-use Rattle.text.proofs.add.Reads as add_reads'
 use Rattle.settings_item_lines.proofs.written_line.Goals as goal
 
 pub returns : goal.returns

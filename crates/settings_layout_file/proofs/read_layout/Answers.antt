@@ -1,6 +1,5 @@
 -- `settings_layout_file::read_layout`. The invariant: what is left to be read gives what the whole text does. Assumes nothing.
 use mathlib.Core.Path.{sym, ap, ◌∙◌}
-use native.Mathlib.Omega.{arith}
 use Rattle.settings_layout_file.specs.LayoutFile.{pair_in, layout_line, layout_in}
 use Rattle.qbx_share_file.proofs.Laws.Lines.{left_all, left_none, left_wrong, left_next}
 use Rattle.settings_layout_file.proofs.Laws.{quiet}

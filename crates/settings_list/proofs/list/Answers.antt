@@ -1,7 +1,6 @@
 -- `settings_list::list`: the tests of a request, in its order. Assumes nothing.
 use mathlib.Core.Path.{sym, ◌∙◌}
 use native.Mathlib.Omega.{arith}
-use borrow.Author.Tests.{not-true, not-false}
 use Rattle.model.specs.Laws.Bytes.{bytes_known}
 use Rattle.partitions.specs.Few.{short_table}
 use Rattle.partition_store.proofs.Asking.{partitions_some}

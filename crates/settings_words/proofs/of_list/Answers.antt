@@ -1,6 +1,5 @@
 -- `settings_words::of_list`: no item, and nothing behind it. Assumes nothing.
 use mathlib.Core.Path.{sym, ◌∙◌}
-use borrow.Author.Tests.{not-true, not-false}
 use Rattle.settings_words.specs.Command.{of_list}
 use Rattle.settings_words.proofs.of_list.Goals as goal
 

@@ -1,6 +1,5 @@
 -- `settings_words::with_budget`: the tests of the definition, in its order. Assumes nothing.
 use mathlib.Core.Path.{sym, ◌∙◌}
-use borrow.Author.Tests.{not-true, not-false}
 use Rattle.text.specs.Text.{text}
 use Rattle.settings_words.specs.Command.{as_number, with_budget}
 use Rattle.settings_words.proofs.with_budget.Goals as goal

@@ -1,6 +1,5 @@
 -- `share_list::all_apart`. The invariant: whether all ranges are disjoint is whether those left are. Assumes nothing.
 use mathlib.Core.Path.{refl, sym, ap, ◌∙◌}
-use borrow.Author.Tests.{not-true, not-false}
 use Rattle.shares.specs.Shares.{disjoint}
 use Rattle.share_list.proofs.Laws.{shares_end, stands_next, disjoint_next, goes_on, stops}
 use Rattle.share_list.proofs.all_apart.Goals as goal

@@ -1,7 +1,6 @@
 -- `share_list::owns` is the test of the definition. Assumes nothing.
 use mathlib.Core.Path.{sym, ◌∙◌}
 use native.Mathlib.Omega.{arith}
-use borrow.Author.Tests.{not-true, not-false}
 use Rattle.share_list.proofs.Laws.{stranger, tenant_first, tenant_inside, owns_below, owns_from}
 use Rattle.share_list.proofs.owns.Goals as goal
 

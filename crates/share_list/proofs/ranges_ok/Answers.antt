@@ -1,6 +1,5 @@
 -- `share_list::ranges_ok`. The invariant: whether all ranges are right is whether those left are. Assumes nothing.
 use mathlib.Core.Path.{refl, sym, ap, ◌∙◌}
-use borrow.Author.Tests.{not-true, not-false}
 use Rattle.model.specs.Lists.{all}
 use Rattle.shares.specs.Shares.{range_ok}
 use Rattle.share_list.proofs.Laws.{shares_end, stands_next, all_next, goes_on, stops}

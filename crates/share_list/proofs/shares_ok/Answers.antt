@@ -1,7 +1,6 @@
 -- `share_list::shares_ok` is the test of the definition, one part after the other. Assumes nothing.
 use mathlib.Core.Path.{sym, ◌∙◌}
 use native.Mathlib.Omega.{arith}
-use borrow.Author.Tests.{not-true, not-false}
 use Rattle.shares.specs.Shares.{shares_of, quota_sum}
 use Rattle.share_list.proofs.Laws.{goes_on, stops, within_odd, within_many, within_few, sum_tested}
 use Rattle.share_list.proofs.shares_ok.Goals as goal

@@ -1,6 +1,5 @@
 -- `skipping::pass_empty` passes over entries of 0. The invariant: those from `from` to `block` are 0. Assumes nothing.
 use native.Mathlib.Omega.{arith}
-use borrow.Author.Tests.{not-false}
 use Rattle.skipping.proofs.Laws.{passed_none, passed_eight}
 use Rattle.skipping.proofs.pass_empty.Goals as goal
 

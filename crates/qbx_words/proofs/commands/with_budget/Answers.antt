@@ -2,7 +2,6 @@
 use mathlib.Core.Path.{sym, ◌∙◌}
 use Rattle.text.specs.Text.{text}
 use Rattle.qbx_words.specs.Command.{as_number, with_budget}
-use borrow.Author.Tests.{not-true, not-false}
 use Rattle.qbx_words.proofs.commands.with_budget.Goals as goal
 
 pub returns-then-is_missing : goal.returns-then-is_missing
