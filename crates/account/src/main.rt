@@ -1,6 +1,8 @@
 // account FILE: the account of a board's image (request #101), of 4 segments with 15 slots each, on standard output.
-use libc::{STDERR_FILENO, STDOUT_FILENO};
+#![tactic(auto)]
+
 use model::Answer;
+use qbx_system::{STDERR_FILENO, STDOUT_FILENO, System};
 
 fn usage() {
     io::write_all(
@@ -10,14 +12,14 @@ fn usage() {
 }
 
 // Says what could not be done with a file, with the system's reason.
-fn fail(what: &[u8], path: &[u8]) {
+fn fail(system: &System, what: &[u8], path: &[u8]) {
     io::write_all(STDERR_FILENO, b"account: cannot ");
     io::write_all(STDERR_FILENO, what);
-    os::fail(path);
+    system.fail(path);
 }
 
 // The account of an image. The longest one of a board has 2,220 bytes.
-fn print(image: &[u8]) {
+fn print(system: &mut System, image: &[u8]) {
     let mut text = [0u8; 4096];
     let printed = accounts::account(image, 4, 15, &mut text);
     let answer = printed.answer;
@@ -29,40 +31,38 @@ fn print(image: &[u8]) {
         return;
     }
     let n = printed.length;
-    if !io::write_all(STDOUT_FILENO, &text[..n]) {
-        fail(b"write ", b"standard output");
+    if !system.write_all(STDOUT_FILENO, &text[..n]) {
+        fail(system, b"write ", b"standard output");
     }
 }
 
 // A byte more than a board has is read, so that a larger file is seen to be one.
-fn account(path: &[u8]) {
-    let fd = os::open_read(path);
-    if fd < 0 {
-        fail(b"read ", path);
+fn account(system: &mut System, path: &[u8]) {
+    let Some(mut file) = system.open_read(path) else {
+        fail(system, b"read ", path);
         return;
-    }
+    };
     let mut image = [0u8; 16385];
-    let filled = qbx_files::fill(fd, &mut image);
+    let filled = qbx_files::fill(system, &mut file, &mut image);
     if !filled.whole {
-        fail(b"read ", path);
-        libc::close(fd);
+        fail(system, b"read ", path);
         return;
     }
-    libc::close(fd);
     let n = filled.count;
-    print(&image[..n]);
+    print(system, &image[..n]);
 }
 
-fn main() {
+fn main(rt: HostRuntime) {
+    let mut system = System::new(rt);
     let mut path = io::buffer();
-    let n = os::arg(1, &mut path);
+    let n = system.arg(1, &mut path);
     if n == 0 {
         usage();
         return;
     }
-    if os::arg_count() != 2 {
+    if system.arg_count() != 2 {
         usage();
         return;
     }
-    account(&path[..n]);
+    account(&mut system, &path[..n]);
 }

@@ -1,4 +1,3 @@
 pub mod Account
 pub mod Map
 pub mod Boards
-pub mod Samples

@@ -12,7 +12,7 @@ use Rattle.model.specs.Header.{new_version}
 use Rattle.model.specs.Slot.{most_contents, slot_page, live, slot_of, Entry, entry_of}
 use Rattle.model.specs.Steps.{on_page, slot_at, write_slot, open_segment}
 use Rattle.model.specs.Table.{Table}
-use Rattle.model.specs.Laws.SlotPage.{live_facts}
+use Rattle.model.proofs.Laws.SlotPage.{live_facts}
 use Rattle.bridge.specs.Lengths.{page_length, write_length, open_length}
 use Rattle.moves.specs.Placed.{placed}
 use Rattle.flash.specs.Ran.{Programmed}

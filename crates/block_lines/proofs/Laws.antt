@@ -14,9 +14,9 @@ use Rattle.text.specs.Text.{text as ascii}
 use Rattle.text.specs.Buffer.{Wrote}
 use Rattle.text.proofs.Laws.{◌then◌, wrote_none, wrote_as}
 use Rattle.account_text.specs.Account.{LiveSlot, block_text, block_line, block_lines, by_block}
-use Rattle.index.specs.Chains.{page_few}
+use Rattle.index.proofs.Chains.{page_few}
 use Rattle.index.specs.Tables.{most_pages, page_of, of_block, Chain, Stands, AllStand, blocks_below}
-use Rattle.index.specs.Sorted.{AllBelow, AllOf, below_few, sorted}
+use Rattle.index.proofs.Sorted.{AllBelow, AllOf, below_few, sorted}
 
 -- ---- a chain of pages
 

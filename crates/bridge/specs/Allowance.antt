@@ -3,7 +3,7 @@ use Rattle.std.specs.Prelude.{ℕ, ◌<◌, ◌≡◌, refl, ◌⊎◌, ◌≢�
 use Rattle.std.proofs.Common.{ap, inl, inr, ⊎_elim, take_all, leb-true, leb-false}
 use Rattle.model.specs.Chip.{Image, Step, run, Cut}
 use Rattle.model.specs.Answers.{Request, work_of, code_under, outcome_of}
-use Rattle.model.specs.Laws.Chip.{prefix_cut}
+use Rattle.model.proofs.Laws.Chip.{prefix_cut}
 
 -- its whole list done
 pub record Ends (N B : ℕ) (s : Image) (allowance : ℕ) (r : Request) : Type 0 where

@@ -15,13 +15,13 @@ use Rattle.model.specs.Slot.{Slot, empty, dead, live, Entry}
 use Rattle.model.specs.State.{Segment, blank, in_use, segments_of, of_version, next_number, next_index, used_count, first_number, View, view_of, view, with_slot}
 use Rattle.model.specs.Steps.{on_page, slot_at, write_slot, mark_dead, open_segment, copy_out, settle, compact, top_number, copied, next_version, open_next}
 use Rattle.model.specs.Laws.Lists.{mod_inj}
-use Rattle.model.specs.Laws.Chip.{SizeFacts, size_facts, run_size, run_append, run_length, step_length}
-use Rattle.model.specs.Laws.HeaderPage.{old_index_lem}
-use Rattle.model.specs.Laws.SlotPage.{Valid, live_markable}
-use Rattle.model.specs.Laws.Effects.{mark_effect, write_effect, slot_kind, slot_page_at, erase_effect, open_effect, settle_effect}
-use Rattle.model.specs.Laws.CopyOut.{Valids, copy_out_effect}
-use Rattle.model.specs.Laws.Clean.{index_inside, next_blank}
-use Rattle.model.specs.Laws.View.{slot_changed, slot_ring, slot_view, all_seconds, taken_ring, taken_view, moved_ring, moved_view}
+use Rattle.model.proofs.Laws.Chip.{SizeFacts, size_facts, run_size, run_append, run_length, step_length}
+use Rattle.model.proofs.Laws.HeaderPage.{old_index_lem}
+use Rattle.model.proofs.Laws.SlotPage.{Valid, live_markable}
+use Rattle.model.proofs.Laws.Effects.{mark_effect, write_effect, slot_kind, slot_page_at, erase_effect, open_effect, settle_effect}
+use Rattle.model.proofs.Laws.CopyOut.{Valids, copy_out_effect}
+use Rattle.model.proofs.Laws.Clean.{index_inside, next_blank}
+use Rattle.model.proofs.Laws.View.{slot_changed, slot_ring, slot_view, all_seconds, taken_ring, taken_view, moved_ring, moved_view}
 use Rattle.bridge.specs.Predicted.{Carries}
 use Rattle.bridge.specs.Held.{Held, held_first, held_count, held_next, held_top, held_row}
 

@@ -16,13 +16,13 @@ use Rattle.model.specs.Slot.{Slot, empty}
 use Rattle.model.specs.State.{Segment, blank, in_use, is_in_use, is_invalid, is_owing, number_after, slots_in, version_in, of_version, segments_of, next_number, top_index, top_version, used_count, first_number, slots_from, numbers_from, view_of, view, entries, entries_in, distinct, capacity, none_owing, others_blank, state, clean}
 use Rattle.model.specs.Steps.{open_segment, erase_first, format_steps}
 use Rattle.model.specs.Laws.Lists.{all_set, all_replicate}
-use Rattle.model.specs.Laws.Chip.{run_append, run_length, size_facts, run_size}
-use Rattle.model.specs.Laws.Bytes.{run_bytes, erased_bytes, erased_length, erased_add}
-use Rattle.model.specs.Laws.Segments.{segments_length}
-use Rattle.model.specs.Laws.Effects.{erase_effect, open_effect}
-use Rattle.model.specs.Laws.Ring.{used_more, next_raised}
-use Rattle.model.specs.Laws.Clean.{RingFacts}
-use Rattle.model.specs.Laws.View.{seconds_one}
+use Rattle.model.proofs.Laws.Chip.{run_append, run_length, size_facts, run_size}
+use Rattle.model.proofs.Laws.Bytes.{run_bytes, erased_bytes, erased_length, erased_add}
+use Rattle.model.proofs.Laws.Segments.{segments_length}
+use Rattle.model.proofs.Laws.Effects.{erase_effect, open_effect}
+use Rattle.model.proofs.Laws.Ring.{used_more, next_raised}
+use Rattle.model.proofs.Laws.Clean.{RingFacts}
+use Rattle.model.proofs.Laws.View.{seconds_one}
 use Rattle.bridge.specs.Predicted.{fresh, CleanView}
 use Rattle.bridge.specs.Views.Slots.{copied_none}
 use Rattle.bridge.specs.Views.Shape.{shape_clean, added_shape, added_entries, row_added}

@@ -8,14 +8,14 @@ use Rattle.model.specs.Slot.{Slot, empty, torn, dead, cut, wrong, live, slot_of,
 use Rattle.model.specs.State.{Segment, blank, in_use, segments_of, number_after, slots_in, version_in, next_number, used_count, first_number, slots_from, View, view_of, entries, entries_in, is_clean, clean, state, view}
 use Rattle.model.specs.Steps.{top_number}
 use Rattle.model.specs.Table.{table_of}
-use Rattle.model.specs.Laws.Chip.{size_facts}
-use Rattle.model.specs.Laws.Bytes.{chunk_bytes}
-use Rattle.model.specs.Laws.SlotPage.{live_valid}
-use Rattle.model.specs.Laws.Segments.{part_of, part_page, part_size, segment_at, segments_length}
-use Rattle.model.specs.Laws.Effects.{in_use_parts, slot_count}
-use Rattle.model.specs.Laws.CopyOut.{Valids}
-use Rattle.model.specs.Laws.Ring.{slots_get, slots_length}
-use Rattle.model.specs.Laws.Clean.{RingFacts, clean_ring, clean_slots, ring_clean, state_clean, clean_state, used_next, numbered, in_use_numbered}
+use Rattle.model.proofs.Laws.Chip.{size_facts}
+use Rattle.model.proofs.Laws.Bytes.{chunk_bytes}
+use Rattle.model.proofs.Laws.SlotPage.{live_valid}
+use Rattle.model.proofs.Laws.Segments.{part_of, part_page, part_size, segment_at, segments_length}
+use Rattle.model.proofs.Laws.Effects.{in_use_parts, slot_count}
+use Rattle.model.proofs.Laws.CopyOut.{Valids}
+use Rattle.model.proofs.Laws.Ring.{slots_get, slots_length}
+use Rattle.model.proofs.Laws.Clean.{RingFacts, clean_ring, clean_slots, ring_clean, state_clean, clean_state, used_next, numbered, in_use_numbered}
 use Rattle.bridge.specs.Predicted.{Rows, CleanView}
 
 pub record Held (N B : ℕ) (s : Image) (v : View) : Type 0 where

@@ -14,9 +14,9 @@ use Rattle.model.specs.Steps.{top_row, top_number, first_empty, programs, progra
 use Rattle.model.specs.Table.{present, lookup, contents_found}
 use Rattle.model.specs.Answers.{Request, format, put, delete, read, read_or, recover, steps_for, work_of, outcome_of, ReadOutcome, read_outcome, contents_at}
 use Rattle.model.specs.Laws.Lists.{map_length}
-use Rattle.model.specs.Laws.Chip.{size_facts}
-use Rattle.model.specs.Laws.SlotPage.{live_facts}
-use Rattle.model.specs.Laws.Segments.{part_of, part_size, segment_at, segments_length}
+use Rattle.model.proofs.Laws.Chip.{size_facts}
+use Rattle.model.proofs.Laws.SlotPage.{live_facts}
+use Rattle.model.proofs.Laws.Segments.{part_of, part_size, segment_at, segments_length}
 use Rattle.bridge.specs.Accepted.{refused_none, accepted, put_passed, read_passed, size_passed}
 use Rattle.bridge.specs.Views.Slots.{entries_append, entries_length, copied_entries, copied_length}
 use Rattle.bridge.specs.Views.Places.{first_live}

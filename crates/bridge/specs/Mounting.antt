@@ -11,11 +11,11 @@ use Rattle.model.specs.Chip.{Image, right_size}
 use Rattle.model.specs.Slot.{number_ok, live, slot_of}
 use Rattle.model.specs.State.{View, entries_in, holds, clean, state, view}
 use Rattle.model.specs.Mounted.{Places, least_places, place_entry, places_from, filled_places, MountOutcome, mount_refusals, mount_outcome, InStep}
-use Rattle.model.specs.Laws.Mounted.{mount_clean}
-use Rattle.model.specs.Laws.Chip.{size_facts}
-use Rattle.model.specs.Laws.Segments.{part_of}
-use Rattle.model.specs.Laws.SlotPage.{live_facts}
-use Rattle.model.specs.Laws.Effects.{slot_kind}
+use Rattle.model.proofs.Laws.Mounted.{mount_clean}
+use Rattle.model.proofs.Laws.Chip.{size_facts}
+use Rattle.model.proofs.Laws.Segments.{part_of}
+use Rattle.model.proofs.Laws.SlotPage.{live_facts}
+use Rattle.model.proofs.Laws.Effects.{slot_kind}
 use Rattle.bridge.specs.Refusals.{none_applies, neither}
 use Rattle.bridge.specs.Held.{Held, held_row, held_lengths}
 use Rattle.bridge.specs.Views.Places.{FirstLive, first_live, in_view}

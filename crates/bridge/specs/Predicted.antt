@@ -5,7 +5,7 @@ use Rattle.model.specs.Header.{new_version, is_former, tally_of}
 use Rattle.model.specs.Slot.{Slot, empty, dead, live}
 use Rattle.model.specs.State.{View, entries_in, holds, capacity, Place, place_of, none_wrong_or_torn, blocks_distinct, empty_slots_last, within_capacity}
 use Rattle.model.specs.Steps.{top_row, top_number, first_empty, room_for}
-unfoldable pub use Rattle.model.specs.Laws.View.{slot_changed}
+unfoldable pub use Rattle.model.proofs.Laws.View.{slot_changed}
 
 -- ---- predictions
 

@@ -16,11 +16,11 @@ use Rattle.model.specs.Steps.{mark_place, top_number, has_room, Room, open_next,
 use Rattle.model.specs.Table.{Agree, store}
 use Rattle.model.specs.Answers.{put, delete, steps_for, work_of}
 use Rattle.model.specs.Laws.Lists.{all_row}
-use Rattle.model.specs.Laws.Chip.{run_append, size_facts}
-use Rattle.model.specs.Laws.Bytes.{run_bytes}
-use Rattle.model.specs.Laws.SlotPage.{Valid}
-use Rattle.model.specs.Laws.Effects.{numbered_at}
-use Rattle.model.specs.Laws.Clean.{numbered}
+use Rattle.model.proofs.Laws.Chip.{run_append, size_facts}
+use Rattle.model.proofs.Laws.Bytes.{run_bytes}
+use Rattle.model.proofs.Laws.SlotPage.{Valid}
+use Rattle.model.proofs.Laws.Effects.{numbered_at}
+use Rattle.model.proofs.Laws.Clean.{numbered}
 use Rattle.bridge.specs.Predicted.{slot_changed, written, marked, put_into, after_put, after_delete, CleanView, Carries, Rows}
 use Rattle.bridge.specs.Views.Slots.{same_rows, slots_counted, sound}
 use Rattle.bridge.specs.Views.Places.{in_view, TopGap, written_place, written_holds}

@@ -5,8 +5,8 @@ use Rattle.std.proofs.Common.{◌∙◌, arith}
 use Rattle.model.specs.Chip.{Image, Bytes, number_limit, run}
 use Rattle.model.specs.State.{View}
 use Rattle.model.specs.Steps.{top_number, compact_oldest, compactions}
-use Rattle.model.specs.Laws.Chip.{run_append}
-use Rattle.model.specs.Laws.Bytes.{run_bytes}
+use Rattle.model.proofs.Laws.Chip.{run_append}
+use Rattle.model.proofs.Laws.Bytes.{run_bytes}
 use Rattle.bridge.specs.Predicted.{Carries}
 use Rattle.bridge.specs.Held.{Held}
 use Rattle.bridge.specs.Requests.{carries_next, one_compaction}

@@ -8,9 +8,9 @@ use Rattle.model.specs.Slot.{live, slot_of}
 use Rattle.model.specs.State.{blank, is_in_use, is_owing, segments_of, next_index, next_number, top_index, next_blanked, used_count, holds}
 use Rattle.account_text.specs.Account.{LiveSlot, live_in, live_slots}
 use Rattle.index.specs.Tables.{most_pages, page_of}
-use Rattle.index.specs.Sorted.{AllBelow}
-use Rattle.index.specs.Lives.{Each, row_each, live_stands}
-use Rattle.index.specs.Walks.{Held, held_all, held_without, used_most, in_each, in_few}
+use Rattle.index.proofs.Sorted.{AllBelow}
+use Rattle.index.proofs.Lives.{Each, row_each, live_stands}
+use Rattle.index.proofs.Walks.{Held, held_all, held_without, used_most, in_each, in_few}
 use Rattle.salvage.specs.Salvage.{regarded, candidates, held_in, given}
 use Rattle.candidates.specs.Gathered.{Lies}
 use Rattle.candidates.specs.Told.{AllLie}

@@ -14,8 +14,8 @@ use Rattle.model.specs.Lists.{same, all}
 use Rattle.model.specs.Chip.{Image, Page}
 use Rattle.model.specs.Slot.{live, slot_of, slot_page}
 use Rattle.model.specs.State.{holds}
-use Rattle.model.specs.Laws.Bytes.{same_eq, same_refl}
-use Rattle.model.specs.Laws.SlotPage.{live_facts}
+use Rattle.model.proofs.Laws.Bytes.{same_eq, same_refl}
+use Rattle.model.proofs.Laws.SlotPage.{live_facts}
 use Rattle.account_text.specs.Account.{LiveSlot}
 use Rattle.index.specs.Tables.{most_pages, page_of, of_block}
 use Rattle.salvage.specs.Salvage.{held_in, given, agreed}

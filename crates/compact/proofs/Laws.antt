@@ -10,8 +10,8 @@ use Rattle.model.specs.Header.{Version, new_version}
 use Rattle.model.specs.Slot.{slot_of}
 use Rattle.model.specs.State.{entries}
 use Rattle.model.specs.Steps.{header_at, settle}
-use Rattle.model.specs.Laws.Segments.{InSegment, page_in_segment}
-use Rattle.model.specs.Laws.HeaderPage.{compaction_header, compaction_in_page}
+use Rattle.model.proofs.Laws.Segments.{InSegment, page_in_segment}
+use Rattle.model.proofs.Laws.HeaderPage.{compaction_header, compaction_in_page}
 use Rattle.flash.specs.Ran.{Ran, Programmed}
 use Rattle.flash.proofs.Laws.{◌then◌}
 use Rattle.flash.specs.Pages.{Sized}

@@ -2,7 +2,7 @@
 use Rattle.std.specs.Prelude.{ℕ, zero, suc, ◌+◌, ◌*◌, ◌%◌, Bool, cond, ◌||◌, ◌&&◌, List, [], ◌∷◌, ◌++◌, get_or, drop, leb, eqb}
 use Rattle.model.specs.Chip.{Image, Page, most_segments, most_slots}
 use Rattle.model.specs.Slot.{written, page_block}
-use Rattle.model.specs.Laws.Segments.{part_of}
+use Rattle.model.proofs.Laws.Segments.{part_of}
 use Rattle.counting.specs.declared.Sought.{Sought}
 use Rattle.counting.specs.declared.Met.{Met}
 

@@ -13,8 +13,8 @@ use Rattle.std.proofs.Math.Dec.{eqb}
 use Rattle.model.specs.Header.{Version, version1, version2, is_former, version_number}
 use Rattle.model.specs.State.{Segment, blank, invalid, in_use, is_invalid, is_owing, number_after, version_in, next_number, top_index, next_index, top_version, used_count, view_of, is_clean, next_blanked, is_a, settled, top_settled, is_b}
 use Rattle.model.specs.Laws.Lists.{and_left, and_right, and_both, mod_inj}
-use Rattle.model.specs.Laws.Ring.{next_kept, used_kept}
-use Rattle.model.specs.Laws.Counted.{with_version, with_version_use, with_version_owing, SameRows, alike_next, alike_rows, alike_clean}
+use Rattle.model.proofs.Laws.Ring.{next_kept, used_kept}
+use Rattle.model.proofs.Laws.Counted.{with_version, with_version_use, with_version_owing, SameRows, alike_next, alike_rows, alike_clean}
 
 pub record Like (N : ℕ) (l m : List Segment) : Type 0 where
   pub version : Version

@@ -6,11 +6,11 @@ use Rattle.std.proofs.Math.ListN.{set}
 use Rattle.model.specs.Chip.{Image, Page, Step, number_limit, right_size, Cut}
 use Rattle.model.specs.State.{Segment, blank, in_use, segments_of, slots_in, next_number, top_index, top_version}
 use Rattle.model.specs.Steps.{on_page, header_at, count_erase}
-use Rattle.model.specs.Laws.Chip.{size_facts}
-use Rattle.model.specs.Laws.Segments.{parts, part_of, page_byte, Only}
-use Rattle.model.specs.Laws.Effects.{index, numbered_at, top_at}
-use Rattle.model.specs.Laws.Clean.{in_use_numbered}
-use Rattle.model.specs.Laws.Counted.{with_version, count_cut}
+use Rattle.model.proofs.Laws.Chip.{size_facts}
+use Rattle.model.proofs.Laws.Segments.{parts, part_of, page_byte, Only}
+use Rattle.model.proofs.Laws.Effects.{index, numbered_at, top_at}
+use Rattle.model.proofs.Laws.Clean.{in_use_numbered}
+use Rattle.model.proofs.Laws.Counted.{with_version, count_cut}
 use Rattle.crash.specs.Alike.{Like}
 
 -- ---- headers

@@ -7,10 +7,10 @@ use Rattle.model.specs.Chip.{Image}
 use Rattle.model.specs.Header.{all_blank}
 use Rattle.model.specs.Slot.{Slot}
 use Rattle.model.specs.State.{Segment, blank, invalid, segment_of, segments_of, number_after, version_in, next_number, top_version, with_slot}
-use Rattle.model.specs.Laws.HeaderPage.{bit_6_unused}
-use Rattle.model.specs.Laws.Segments.{part_of, Only, only_segments}
-use Rattle.model.specs.Laws.Ring.{next_kept}
-use Rattle.model.specs.Laws.View.{with_slot_number, with_slot_version, version_kept}
+use Rattle.model.proofs.Laws.HeaderPage.{bit_6_unused}
+use Rattle.model.proofs.Laws.Segments.{part_of, Only, only_segments}
+use Rattle.model.proofs.Laws.Ring.{next_kept}
+use Rattle.model.proofs.Laws.View.{with_slot_number, with_slot_version, version_kept}
 
 pub record SameTop (N B : ℕ) (s u : Image) : Type 0 where
   pub next : next_number (segments_of N B u) ≡ next_number (segments_of N B s)

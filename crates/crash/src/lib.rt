@@ -1,2 +1,2 @@
-// Demand 2, stated and proved in specs/. There is no code here.
+// Demand 2, stated in specs/ and proved in proofs/. There is no code here.
 #![tactic(auto)]

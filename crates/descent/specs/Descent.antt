@@ -4,7 +4,7 @@ use Rattle.std.proofs.Common.{ap}
 use mathlib.Core.List.{List, [], ◌∷◌, map}
 use Rattle.model.specs.Chip.{Image, most_segments}
 use Rattle.model.specs.State.{Segment, number_after, next_number}
-use Rattle.index.specs.Walks.{Held}
+use Rattle.index.proofs.Walks.{Held}
 
 -- 0 if there are none
 unfoldable pub largest : List ℕ → ℕ

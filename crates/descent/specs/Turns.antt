@@ -13,12 +13,12 @@ use Rattle.model.specs.Chip.{Image, most_segments, most_slots}
 use Rattle.model.specs.Slot.{Slot}
 use Rattle.model.specs.State.{Segment, blank, invalid, in_use, is_in_use, number_after, slots_in, top_index, top_slots, next_number, used_count}
 use Rattle.model.specs.Laws.Lists.{map_set, count_none}
-use Rattle.model.specs.Laws.Ring.{next_at, next_ge}
+use Rattle.model.proofs.Laws.Ring.{next_at, next_ge}
 use Rattle.judge.specs.Rows.{slots_at}
 use Rattle.judge.specs.Parts.{slots_offset}
 use Rattle.account_text.specs.Account.{live_from, live_in}
 use Rattle.index.specs.Tables.{most_pages}
-use Rattle.index.specs.Walks.{Held, some_next, held_less, top_below, top_used, used_fewer, number_use}
+use Rattle.index.proofs.Walks.{Held, some_next, held_less, top_below, top_used, used_fewer, number_use}
 use Rattle.descent.specs.Descent.{largest, largest_next, Descent}
 
 -- how many are left, by their numbers

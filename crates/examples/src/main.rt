@@ -1,10 +1,14 @@
 // Bench examples 2 to 11 of document 01, as requests #104 and #105 change them; recoveries until no bit is left; and what is
 // from before those requests, an image of version 1 and an empty record; run on the code. What comes out is held to the file
 // stdout.
+#![tactic(auto)]
+
 ghost use Rattle.std.specs.Prelude.{◌≡◌};
 
-use libc::STDOUT_FILENO;
 use model::{BlockNumber, Located, Performed};
+
+// The descriptor of standard output.
+const STDOUT_FILENO: i32 = 1;
 
 // Steps enough for any request here.
 const ENOUGH: u64 = 100000;

@@ -13,7 +13,7 @@ use Rattle.model.specs.Slot.{most_contents, Slot, empty, torn, dead, cut, wrong,
 use Rattle.model.specs.State.{View, entries, entries_in, holds, place_of}
 use Rattle.model.specs.Steps.{slot_at}
 use Rattle.model.specs.Table.{absent, present, lookup, contents_found}
-use Rattle.model.specs.Laws.SlotPage.{live_facts}
+use Rattle.model.proofs.Laws.SlotPage.{live_facts}
 use Rattle.bridge.specs.Held.{Held}
 use Rattle.find.specs.declared.Found.{Found}
 use Rattle.find.specs.declared.Found.TheVariants.{At, Nothing}

@@ -19,15 +19,15 @@ use Rattle.model.specs.State.{entries, holds, slot_from, place_from}
 use Rattle.model.specs.Steps.{slot_at}
 use Rattle.model.specs.Table.{lookup, contents_found}
 use Rattle.model.specs.Laws.Chunk.{chunk_part}
-use Rattle.model.specs.Laws.Segments.{part_of, part_page, part_size, page_in}
-use Rattle.model.specs.Laws.SlotPage.{live_facts}
+use Rattle.model.proofs.Laws.Segments.{part_of, part_page, part_size, page_in}
+use Rattle.model.proofs.Laws.SlotPage.{live_facts}
 use Rattle.bridge.specs.Views.Slots.{entries_append, entries_cons}
 use Rattle.flash.specs.Pages.{Sized}
 use Rattle.slot.proofs.Laws.Kinds.{Other, other_holds}
 use Rattle.find.specs.declared.Found.{Found}
 use Rattle.find.specs.declared.Found.TheVariants.{At, Nothing}
 use Rattle.find.specs.Search.{may_hold, rows_at, found_in}
-use Rattle.model.specs.Laws.Tables.{holds_append, lookup_append}
+use Rattle.model.proofs.Laws.Tables.{holds_append, lookup_append}
 
 -- ---- what a slot's kind says of the block
 

@@ -8,10 +8,10 @@ use Rattle.model.specs.Slot.{Slot, slot_of, written}
 use Rattle.model.specs.State.{View, entries, entries_in, holds, place_from, place_of}
 use Rattle.model.specs.Steps.{slot_at}
 use Rattle.model.specs.Table.{lookup, contents_found}
-use Rattle.model.specs.Laws.Segments.{part_of, segment_at}
-use Rattle.model.specs.Laws.Effects.{in_use_parts}
+use Rattle.model.proofs.Laws.Segments.{part_of, segment_at}
+use Rattle.model.proofs.Laws.Effects.{in_use_parts}
 use Rattle.bridge.specs.Held.{Held, held_row}
-use Rattle.model.specs.Laws.Chip.{size_facts}
+use Rattle.model.proofs.Laws.Chip.{size_facts}
 use Rattle.find.specs.declared.Found.{Found}
 use Rattle.find.specs.declared.Found.TheVariants.{At, Nothing}
 

@@ -12,7 +12,7 @@ use lib.Seq.{take-suc, take-length, paste, paste-suc, take_all, get_or-append-ad
 use borrow.Author.Tests.{le-leb}
 use Rattle.model.specs.Chip.{Image, Step, program, erase, clear, erased, with_segment, step, run, run_first}
 use Rattle.model.specs.Steps.{programs, on_page}
-use Rattle.model.specs.Laws.Chip.{step_length, run_length, run_append, first_append}
+use Rattle.model.proofs.Laws.Chip.{step_length, run_length, run_append, first_append}
 use Rattle.flash.specs.Ran.{Ran, Programmed, shifted, Within}
 
 -- ---- lists of steps

@@ -10,7 +10,7 @@ use lib.Dec.{leb}
 use lib.Seq.{take_all}
 use borrow.Author.Tests.{le-leb, leb-true}
 use Rattle.model.specs.Chip.{Image, Step, program, erase, clear, erased, step, run}
-use Rattle.model.specs.Laws.Chip.{take_append}
+use Rattle.model.proofs.Laws.Chip.{take_append}
 use Rattle.flash.specs.Ran.{Programmed, Within}
 use Rattle.flash.specs.Units.{with_unit, step_in, run_in, RanIn}
 use Rattle.flash.proofs.Laws.{erasing}

@@ -16,11 +16,11 @@ use Rattle.model.specs.Steps.{format_steps}
 use Rattle.model.specs.Table.{Table}
 use Rattle.model.specs.Answers.{Work, format, steps_for, work_on, work_of, performed, Outcome, worked, outcome_of}
 use Rattle.model.specs.Mounted.{Places}
-use Rattle.model.specs.Laws.Chip.{size_facts}
+use Rattle.model.proofs.Laws.Chip.{size_facts}
 use Rattle.model.specs.declared.Performed.{Performed}
 use Rattle.bridge.specs.Refusals.{format_code}
 use Rattle.moves.specs.Placed.{placed}
-use Rattle.moves.specs.Counted.{format_length}
+use Rattle.moves.proofs.Counted.{format_length}
 use Rattle.flash.specs.Ran.{Ran}
 use Rattle.flash.specs.Pages.{Sized}
 use Rattle.flash.proofs.Laws.{◌then◌, ran_none, ran_length}

@@ -1,5 +1,6 @@
 // A fresh image built from the live slots that a table of places tells (request #106).
 #![tactic(auto)]
+
 ghost use Rattle.std.specs.Prelude.{◌≡◌, true, ◌++◌};
 ghost use Rattle.model.specs.Chip.{right_size};
 ghost use Rattle.model.specs.Steps.{format_steps};

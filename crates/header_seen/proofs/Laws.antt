@@ -13,7 +13,7 @@ use borrow.Author.Tests.{eq-eqb, ne_eqb, lt-ltb, le-ltb}
 use Rattle.model.specs.Lists.{same}
 use Rattle.model.specs.Chip.{Page, erased, erase_limit, number_limit}
 use Rattle.model.specs.Header.{number_bytes, inverted, value, opened, erase_pending, compacted, status_in_use, Version, version1, version2, new_version, is_former, version_number, total_fits, tally_bytes, header_page, header_status, header_number, header_version, old_index, header_in_use, is_blank}
-use Rattle.model.specs.Laws.Bytes.{same_refl}
+use Rattle.model.proofs.Laws.Bytes.{same_refl}
 use Rattle.blank.proofs.Blank.{same_erased}
 use Rattle.header.specs.Parts.{header_total, header_fields}
 use Rattle.header.proofs.Laws.Tests.{four_bytes, either_version}

@@ -12,7 +12,7 @@ use Rattle.model.specs.Lists.{count}
 use Rattle.model.specs.Slot.{Entry}
 use Rattle.model.specs.State.{holds, distinct, copies}
 use Rattle.model.specs.Table.{Table, lookup, without, store, live_between}
-use Rattle.model.specs.Laws.Tables.{copies_cons, copies_none, distinct_copies, held_copies, lookup_absent, absent_free, found_held, lookup_without_same, lookup_without_other, distinct_without}
+use Rattle.model.proofs.Laws.Tables.{copies_cons, copies_none, distinct_copies, held_copies, lookup_absent, absent_free, found_held, lookup_without_same, lookup_without_other, distinct_without}
 
 module _ (first last : ℕ) where
   -- a number of the range

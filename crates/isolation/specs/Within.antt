@@ -5,7 +5,7 @@ use Rattle.std.proofs.lemmas.Bool.{false≢true}
 use Rattle.std.proofs.Math.Decide.{ℕ_discrete}
 use Rattle.model.specs.State.{holds, distinct, capacity}
 use Rattle.model.specs.Table.{Table, lookup, without, store, Agree, contents_found}
-use Rattle.model.specs.Laws.Tables.{agree_holds, lookup_held, found_held, absent_free, lookup_without_same, lookup_without_other, lookup_store_other}
+use Rattle.model.proofs.Laws.Tables.{agree_holds, lookup_held, found_held, absent_free, lookup_without_same, lookup_without_other, lookup_store_other}
 use Rattle.crash.specs.Machine.{made}
 use Rattle.shares.specs.Shares.{Share, shares_of, shares_ok, share_of, owns}
 use Rattle.shares.specs.Layer.{Asked, puts, deletes, reads, block_asked, store_request, quota_used}

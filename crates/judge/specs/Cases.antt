@@ -12,13 +12,13 @@ use Rattle.model.specs.Slot.{Slot, empty, dead, cut, live, is_torn, entry_of}
 use Rattle.model.specs.State.{Segment, blank, is_invalid, is_owing, next_number, top_index, next_index, top_slots, used_count, first_number, View, view_of, entries_in, some_in_use, consecutive, one_version, none_owing, others_blank, none_wrong_or_torn, blocks_distinct, empty_slots_last, within_capacity, conditions, is_clean, next_blanked, is_a, top_settled, is_b, with_slot, filled, last_slot, last_kind, torn_marked, is_c, Place, place_of, block_in, last_block, copies, older, older_marked, is_d, Exception, case_a, case_b, case_c, case_d, State, clean, unfinished, damaged, state_of}
 use Rattle.model.specs.Steps.{top_row, top_number}
 use Rattle.model.specs.Laws.Lists.{and_left, and_right, all_same}
-use Rattle.model.specs.Laws.Ring.{next_kept, used_kept, get_kept, numbers_kept, slots_get}
-use Rattle.model.specs.Laws.Clean.{RingFacts, used_next, index_inside, view_length}
-use Rattle.model.specs.Laws.View.{slot_changed, slot_view, with_slot_number, with_slot_use, with_slot_owing, with_slot_invalid, with_slot_of, one_kept}
-use Rattle.model.specs.Laws.Exclusive.{invalid_paid, no_owing, no_invalid}
+use Rattle.model.proofs.Laws.Ring.{next_kept, used_kept, get_kept, numbers_kept, slots_get}
+use Rattle.model.proofs.Laws.Clean.{RingFacts, used_next, index_inside, view_length}
+use Rattle.model.proofs.Laws.View.{slot_changed, slot_view, with_slot_number, with_slot_use, with_slot_owing, with_slot_invalid, with_slot_of, one_kept}
+use Rattle.model.proofs.Laws.Exclusive.{invalid_paid, no_owing, no_invalid}
 use Rattle.bridge.specs.Views.Places.{FirstLive, fill_length}
 use Rattle.bridge.specs.Views.Shape.{first_live_in}
-use Rattle.model.specs.Laws.Tables.{holds_copies}
+use Rattle.model.proofs.Laws.Tables.{holds_copies}
 
 -- ---- definitions
 

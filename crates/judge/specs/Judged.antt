@@ -14,7 +14,7 @@ use Rattle.judge.specs.declared.Ending.{Ending}
 use Rattle.judge.specs.declared.Ending.TheVariants.{Full, Room, TornLast, TwinLast, Bad}
 use Rattle.judge.specs.Endings.{behind, leave_room, turn, judge, ring, is_full, is_bad}
 use Rattle.model.specs.Laws.Lists.{all_join, all_parts}
-use Rattle.model.specs.Laws.Tables.{copies_append, copies_cons_same, copies_cons_other, copies_none, absent_copies, copies_absent, distinct_copies, copies_distinct}
+use Rattle.model.proofs.Laws.Tables.{copies_append, copies_cons_same, copies_cons_other, copies_none, absent_copies, copies_absent, distinct_copies, copies_distinct}
 
 -- ---- tables of distinct blocks
 

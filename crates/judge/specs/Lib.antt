@@ -10,5 +10,4 @@ pub mod Rows
 pub mod Parts
 pub mod Heads
 pub mod Tally
-pub mod TallyLaws
 pub mod Verdict

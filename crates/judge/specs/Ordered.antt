@@ -14,7 +14,7 @@ use Rattle.model.specs.Slot.{Slot, empty, torn, dead, cut, wrong, live, is_empty
 use Rattle.model.specs.State.{View, entries, entries_in, distinct, empty_last, only_top_empty, none_wrong_or_torn, blocks_distinct, empty_slots_last, filled, block_in}
 use Rattle.model.specs.Steps.{top_row, top_number}
 use Rattle.model.specs.Laws.Lists.{all_join, all_parts, all_flatten, flatten_last}
-use Rattle.model.specs.Laws.View.{slot_changed}
+use Rattle.model.proofs.Laws.View.{slot_changed}
 use Rattle.bridge.specs.Views.Slots.{full, sound, entries_append, entries_cons, all_empty_entries, all_empty_last, filled_none, filled_at, full_then, top_row_lem, only_top_empty_lem}
 use Rattle.judge.specs.Cases.{last_written, last_marked, twin_block}
 use Rattle.judge.specs.Judged.{Plain, distinct_front}

@@ -13,7 +13,7 @@ use Rattle.model.specs.Slot.{Slot}
 use Rattle.model.specs.State.{Segment, blank, invalid, in_use, segment_of, segments_of, number_after, slots_in, slots_from, numbers_from}
 use Rattle.model.specs.Laws.Lists.{and_left, and_right}
 use Rattle.model.specs.Laws.Chunk.{chunk_part}
-use Rattle.model.specs.Laws.Segments.{part_of, segment_at}
+use Rattle.model.proofs.Laws.Segments.{part_of, segment_at}
 use Rattle.judge.specs.Rows.{slots_at}
 
 -- ---- parts of parts

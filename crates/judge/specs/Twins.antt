@@ -14,7 +14,7 @@ use Rattle.model.specs.Header.{Version}
 use Rattle.model.specs.Slot.{Slot, empty, torn, dead, cut, wrong, live, is_empty, is_torn, is_wrong, Entry, entry_of}
 use Rattle.model.specs.State.{View, entries, entries_in, holds, distinct, none_wrong_or_torn, blocks_distinct, empty_slots_last, capacity, place_of, block_in, copies}
 use Rattle.model.specs.Table.{Table}
-use Rattle.model.specs.Laws.View.{slot_changed}
+use Rattle.model.proofs.Laws.View.{slot_changed}
 use Rattle.bridge.specs.Predicted.{marked}
 use Rattle.bridge.specs.Views.Places.{fill, marked_at, marked_entries}
 use Rattle.bridge.specs.Views.Shape.{first_live_in}
@@ -25,7 +25,7 @@ use Rattle.judge.specs.Cases.{fine, last_written, twin_block, twin_marked, twin_
 use Rattle.judge.specs.Judged.{Plain, Judged, stop_judge}
 use Rattle.judge.specs.Ordered.{ordered, rows_with, before_top, Ordered, ordered_facts, facts_ordered, ordered_rows, top_entries, ordered_ending, ending_plain, find_last, last_written_lem, last_block_lem, none_written}
 use Rattle.judge.specs.Ends.{both_ways, fine_ordered, stop_twin, ending, rows_then, rows_plain, entries_of, swap_sound, swap_last}
-use Rattle.model.specs.Laws.Tables.{copies_append, copies_cons_same, copies_cons_other, copies_none, copies_cons, holds_copies, held_copies, distinct_copies, copies_distinct, without_first}
+use Rattle.model.proofs.Laws.Tables.{copies_append, copies_cons_same, copies_cons_other, copies_none, copies_cons, holds_copies, held_copies, distinct_copies, copies_distinct, without_first}
 
 -- ---- the first entry of a block taken out
 

@@ -16,9 +16,9 @@ use Rattle.model.specs.Slot.{written, most_contents, slot_page, Slot, empty, tor
 use Rattle.model.specs.State.{entries}
 use Rattle.model.specs.Steps.{on_page, slot_at, write_slot, copy_entries}
 use Rattle.model.specs.Laws.Chunk.{chunk_part}
-use Rattle.model.specs.Laws.Pages.{InPage}
-use Rattle.model.specs.Laws.Segments.{parts, part_of, part_page, part_size, page_in, Only, only_run, InSegment, page_in_segment}
-use Rattle.model.specs.Laws.SlotPage.{live_facts, live_status, write_in_page}
+use Rattle.model.proofs.Laws.Pages.{InPage}
+use Rattle.model.proofs.Laws.Segments.{parts, part_of, part_page, part_size, page_in, Only, only_run, InSegment, page_in_segment}
+use Rattle.model.proofs.Laws.SlotPage.{live_facts, live_status, write_in_page}
 use Rattle.flash.specs.Ran.{Ran, Programmed}
 use Rattle.flash.proofs.Laws.{◌then◌, ran_none, ran_length, ran_lent}
 use Rattle.flash.specs.Pages.{OnPageAt, Sized}

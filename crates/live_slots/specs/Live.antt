@@ -4,7 +4,7 @@ use Rattle.model.specs.Chip.{Image}
 use Rattle.model.specs.Slot.{slot_of, Entry}
 use Rattle.model.specs.State.{entries}
 use Rattle.model.specs.Steps.{copy_entries}
-use Rattle.model.specs.Laws.Segments.{part_of}
+use Rattle.model.proofs.Laws.Segments.{part_of}
 use Rattle.flash.specs.Ran.{Programmed}
 
 -- what the live slots of the segment with number o hold

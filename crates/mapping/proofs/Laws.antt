@@ -23,7 +23,7 @@ use Rattle.account_text.specs.Account.{shown}
 use Rattle.account_text.specs.Map.{marks_from, padded, row_start, state_word, map_row, map_rows}
 use Rattle.index.specs.declared.Shown.{Shown}
 use Rattle.index.specs.Shows.{shown_as, uncounted}
-use Rattle.index.specs.Walks.{held_shown}
+use Rattle.index.proofs.Walks.{held_shown}
 use Rattle.mapping.specs.Marks.{segment_by}
 
 -- ---- a number with spaces before it

@@ -15,7 +15,7 @@ use Rattle.judge.specs.Rows.{slots_at}
 use Rattle.text.specs.Buffer.{Wrote}
 use Rattle.text.proofs.Laws.{◌then◌, wrote_none}
 use Rattle.account_text.specs.Map.{mark, most_marks, margin, row_break, marks_from}
-use Rattle.index.specs.Lives.{slots_next}
+use Rattle.index.proofs.Lives.{slots_next}
 use Rattle.marking.specs.Finishes.{Finishes}
 
 -- ---- pieces in a loop

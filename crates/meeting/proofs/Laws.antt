@@ -15,11 +15,11 @@ use Rattle.model.specs.Chip.{Image, Page}
 use Rattle.model.specs.Slot.{Slot, empty, torn, dead, cut, wrong, live, slot_of, kind_of, entry_of, written}
 use Rattle.model.specs.declared.SlotKind.{SlotKind}
 use Rattle.model.specs.declared.SlotKind.TheVariants.{Live}
-use Rattle.model.specs.Laws.SlotPage.{live_status}
+use Rattle.model.proofs.Laws.SlotPage.{live_status}
 use Rattle.model.specs.declared.BlockNumber.{BlockNumber}
 use Rattle.slot.proofs.Laws.Kinds.{Other, other_holds}
 use Rattle.index.specs.Tables.{Brief}
-use Rattle.index.specs.Lives.{brief}
+use Rattle.index.proofs.Lives.{brief}
 use Rattle.judge.specs.Rows.{kinds_at, slots_at}
 use Rattle.rows.proofs.Laws.Rows.{kinds_next, page_part}
 use Rattle.meeting.specs.Sheet.{Sheet, sheet, page_at, met, met_kind, met_row}

@@ -4,6 +4,7 @@
 //
 // The form that document 01 names for it: a `&mut [u32]` kept equal to the scan's answers by put and delete.
 #![tactic(auto)]
+
 ghost use Rattle.std.specs.Prelude.{◌≡◌, length};
 ghost use Rattle.model.specs.Answers.{performed};
 ghost use Rattle.model.specs.Mounted.{MountedPut, MountedDelete};
@@ -27,7 +28,6 @@ fn is_absent(old: Found) -> bool
 }
 
 // Puts a block, where nothing has refused it yet: decided from the image's status bytes, then performed.
-#[tactic(auto, unfolding(model::specs::Slot::most_contents))]
 fn put_block(
     image: &mut [u8],
     segments: usize,

@@ -8,7 +8,7 @@ use Rattle.model.specs.State.{State, clean, unfinished, damaged, state}
 use Rattle.model.specs.Answers.{code_of}
 use Rattle.model.specs.declared.Answer.{Answer}
 use Rattle.model.specs.Mounted.{Places, least_places, unusable, mounted_as, mount_outcome}
-use Rattle.model.specs.Laws.Mounted.{mount_damaged, mount_unfinished}
+use Rattle.model.proofs.Laws.Mounted.{mount_damaged, mount_unfinished}
 use Rattle.bridge.specs.Refusals.{answer_in}
 
 -- 4 or 5

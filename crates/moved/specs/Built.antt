@@ -13,26 +13,26 @@ use Rattle.model.specs.Histories.{answered, Event, History}
 use Rattle.model.specs.Sequences.{Call, observed, Uncut}
 use Rattle.model.specs.Mounted.{Places}
 use Rattle.model.specs.Laws.Lists.{count_append, flatten_last}
-use Rattle.model.specs.Laws.Chip.{run_size, size_facts}
-use Rattle.model.specs.Laws.Tables.{agree_of, agree_trans}
+use Rattle.model.proofs.Laws.Chip.{run_size, size_facts}
+use Rattle.model.proofs.Laws.Tables.{agree_of, agree_trans}
 use Rattle.bridge.specs.Views.Slots.{rows_length, slots_counted}
 use Rattle.bridge.specs.Views.Shape.{row_added}
 use Rattle.crash.specs.Machine.{Promise, settled, PlainRuns}
 use Rattle.crash.specs.Demand2.{Keeps, board}
-use Rattle.crash.specs.Reading.{code_seen}
-use Rattle.crash.specs.ReadingRuns.{Reads, factory_of, AllSpare, replied}
-use Rattle.crash.specs.Sentences.{store_stored_stays}
-use Rattle.crash.specs.Theorem.{from_clean}
+use Rattle.crash.proofs.Reading.{code_seen}
+use Rattle.crash.proofs.ReadingRuns.{Reads, factory_of, AllSpare, replied}
+use Rattle.crash.proofs.Sentences.{store_stored_stays}
+use Rattle.crash.proofs.Theorem.{from_clean}
 use Rattle.wear.specs.Demand3.{stocked, Bounded}
 use Rattle.wear.specs.Counting.{deads, copied_dead}
-use Rattle.wear.specs.Requests.{tracks_stocked}
-use Rattle.wear.specs.Sequence.{bounded_from}
+use Rattle.wear.proofs.Requests.{tracks_stocked}
+use Rattle.wear.proofs.Sequence.{bounded_from}
 use Rattle.sessions.specs.Law.{Turn, Session, events_in, Observes, Unbroken}
-use Rattle.sessions.specs.Theorem.{unmounted_history, history_calls}
+use Rattle.sessions.proofs.Theorem.{unmounted_history, history_calls}
 use Rattle.moves.specs.Moves.{by_number, fresh_steps}
-use Rattle.moves.specs.Sorted.{sorted_agree}
-use Rattle.moves.specs.Filling.{filling, Filled, Built}
-use Rattle.moves.specs.Fresh.{Fits, fresh_built, fresh_bytes, built_clean, built_table, built_second}
+use Rattle.moves.proofs.Sorted.{sorted_agree}
+use Rattle.moves.proofs.Filling.{filling, Filled, Built}
+use Rattle.moves.proofs.Fresh.{Fits, fresh_built, fresh_bytes, built_clean, built_table, built_second}
 
 -- no slot of a fresh image is dead
 none_dead_lem : (M D : ℕ) (rows : List (List Slot)) (top : Table) → Filled M D rows top → deads (filling D rows top).slots ≡ 0

@@ -14,7 +14,7 @@ use Rattle.model.specs.Mounted.{Places}
 use Rattle.wear.specs.Demand3.{stocked, Bounded}
 use Rattle.sessions.specs.Law.{Turn, Session, events_in, Observes, Unbroken}
 use Rattle.moves.specs.Moves.{by_number, move_work, move_outcome}
-use Rattle.moves.specs.Counted.{slot_steps}
+use Rattle.moves.proofs.Counted.{slot_steps}
 
 -- the target as a move leaves it
 abbrev pub target_after : ℕ → ℕ → Image → ℕ → ℕ → Image → ℕ → Image

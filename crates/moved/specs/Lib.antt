@@ -1,4 +1,3 @@
 -- The statements, what holds of any fresh image that is built from a table, and the proofs.
 pub mod Law
 pub mod Built
-pub mod Theorem

@@ -4,6 +4,7 @@ use Rattle.model.specs.Chip.{Step}
 use Rattle.model.specs.Header.{new_version}
 use Rattle.model.specs.Steps.{on_page, slot_at, write_slot, open_segment}
 use Rattle.model.specs.Table.{Table}
+
 -- so that a wrong definition is refused by what it computes before it is by a law
 
 -- the entries written to a fresh image, the first to slot j of the segment with number n if it has so many slots, and else to the next segment, which is opened

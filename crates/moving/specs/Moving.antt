@@ -2,7 +2,7 @@
 use Rattle.std.specs.Prelude.{ℕ}
 use Rattle.model.specs.Chip.{Image}
 use Rattle.places.specs.Places.{Fillable}
-use Rattle.moves.specs.Facts.{Movable}
+use Rattle.moves.proofs.Facts.{Movable}
 
 -- a move that nothing refuses, with the numbers of the source's segments in use: the smallest and their count
 pub record Carriable (N B : ℕ) (s : Image) (first used M D : ℕ) (t : Image) : Type 0 where

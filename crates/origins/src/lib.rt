@@ -1,3 +1,3 @@
-// Where a slot's mark comes from, as a theorem over histories with cuts. Its statement and proof stand in specs/. There is
+// Where a slot's mark comes from, as a theorem over histories with cuts. Its statement stands in specs/, its proof in proofs/. There is
 // no code here.
 #![tactic(auto)]

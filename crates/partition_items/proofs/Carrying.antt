@@ -17,7 +17,7 @@ use Rattle.flash.proofs.UnitLaws.{◌then◌, none_in, length_in, programmed_in}
 use Rattle.partitions.specs.Layout.{Item, items_from, items_of, distinct, bytes_used, layout_ok, item_of}
 use Rattle.partitions.specs.Items.{identifier_at, data_at, data_in, is_written}
 use Rattle.partitions.specs.Writes.{Entry, write_item, write_items, carried, item_steps, entry_for}
-use Rattle.partitions.specs.Laws.{right_layout, used_some}
+use Rattle.partitions.proofs.Laws.{right_layout, used_some}
 use Rattle.partition_layout.proofs.Walk.{items_at, item_at, Whole, items_end, items_next, whole_next}
 use Rattle.partition_items.specs.Carrying.{carry_steps, CarryOne, Carry}
 use Rattle.partition_items.proofs.Laws.{Inside, inside_within, inside_item, Same, ran_kept, piece_same, places_disjoint}

@@ -16,7 +16,7 @@ use Rattle.model.specs.Chip.{Image, Step, program, erase, clear, erased}
 use Rattle.model.specs.Header.{is_blank}
 use Rattle.model.specs.Steps.{programs}
 use Rattle.flash.specs.Units.{with_unit, step_in, run_in, RanIn}
-use Rattle.model.specs.Laws.Programs.{Outside, spares_programs, spared_run}
+use Rattle.model.proofs.Laws.Programs.{Outside, spares_programs, spared_run}
 use Rattle.flash.specs.Ran.{Within}
 use Rattle.flash.proofs.Laws.{ProgrammedTo, programs_turn}
 use Rattle.partitions.specs.Writes.{item_steps}

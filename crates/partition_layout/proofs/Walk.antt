@@ -9,7 +9,7 @@ use lib.Seq.{drop-cons, drop-length, get_or-set_same, get_or-set_other}
 use lib.Dec.{leb, eqb}
 use borrow.Author.Tests.{eqb-true, eqb-false, leb-true, leb-false, le-leb, lt-leb, eq-eqb, ne_eqb}
 use Rattle.model.specs.Lists.{all}
-use Rattle.partitions.specs.Laws.{used_some}
+use Rattle.partitions.proofs.Laws.{used_some}
 use Rattle.partitions.specs.Layout.{Item, items_from, items_of, distinct, bytes_used, layout_ok, has_item, item_of}
 
 -- ---- from a place on

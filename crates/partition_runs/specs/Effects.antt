@@ -5,8 +5,8 @@ use Rattle.std.proofs.lemmas.List.{length-replicate, get_or-replicate}
 use Rattle.std.proofs.Math.ListN.{get_or-append}
 use Rattle.model.specs.Chip.{Image, Step, program, erase, clear, erased, Bytes}
 use Rattle.model.specs.Steps.{programs}
-use Rattle.model.specs.Laws.Bytes.{clear_erased, clear_le, bytes_append, bytes_take, bytes_drop, bytes_get, bytes_set, erased_bytes}
-use Rattle.model.specs.Laws.Programs.{Outside}
+use Rattle.model.proofs.Laws.Bytes.{clear_erased, clear_le, bytes_append, bytes_take, bytes_drop, bytes_get, bytes_set, erased_bytes}
+use Rattle.model.proofs.Laws.Programs.{Outside}
 use Rattle.flash.specs.Units.{with_unit, step_in, run_in}
 use Rattle.flash.proofs.UnitLaws.{run_in_append, run_in_length}
 

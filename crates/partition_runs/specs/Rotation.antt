@@ -5,7 +5,7 @@ use Rattle.std.proofs.Math.Nat.{mod-add-mod, add-mod-mod, add-mod_right, add-mul
 use Rattle.std.proofs.Math.Decide.{dec_le, ℕ_discrete}
 use Rattle.model.specs.Lists.{all}
 use Rattle.model.specs.Laws.Lists.{mod_inj, all_append, and_left, and_right}
-use Rattle.partitions.specs.Laws.{kept_append}
+use Rattle.partitions.proofs.Laws.{kept_append}
 use Rattle.partitions.specs.Partitions.{indices, kept, next_status, next_partition, newest, only_one}
 
 -- ---- partitions

@@ -8,7 +8,7 @@ use Rattle.std.proofs.Math.ListN.{get_or, take}
 use Rattle.model.specs.Chip.{Image, Step, program, Bytes}
 use Rattle.model.specs.Table.{Found, absent, present}
 use Rattle.model.specs.Steps.{programs}
-use Rattle.model.specs.Laws.Programs.{Outside}
+use Rattle.model.proofs.Laws.Programs.{Outside}
 use Rattle.flash.specs.Units.{step_in, run_in}
 use Rattle.partitions.specs.Layout.{Item}
 use Rattle.partitions.specs.Items.{identifier_at, data_at, data_in, is_written}

@@ -13,7 +13,7 @@ use borrow.Author.Tests.{eqb-true, eq-eqb, ne_eqb, not-true}
 use Rattle.model.specs.Lists.{all}
 use Rattle.model.specs.Laws.Lists.{and_left, all_append}
 use Rattle.model.specs.Chip.{Image}
-use Rattle.partitions.specs.Laws.{kept_append}
+use Rattle.partitions.proofs.Laws.{kept_append}
 use Rattle.partitions.specs.Partitions.{no_status, next_status, status_of, next_partition, ends_run, indices, kept, nothing, newest, no_run, only_one, newest_in}
 
 -- ---- the partitions' places, and the next one

@@ -29,7 +29,7 @@ use Rattle.partition_status.specs.declared.Newest as status
 use Rattle.partition_status.specs.declared.Newest.TheVariants.{Nothing, At, NoRun}
 use Rattle.partition_status.specs.Said.{said}
 use Rattle.partition_items.specs.Carrying.{Carry}
-use Rattle.partitions.specs.Laws.{right_layout}
+use Rattle.partitions.proofs.Laws.{right_layout}
 use Rattle.partition_items.proofs.Laws.{inside_item, inside_within, erase_kept}
 use Rattle.partition_items.proofs.Carrying.{carried_same}
 use Rattle.partition_store.specs.Asking.{Known, Asks}

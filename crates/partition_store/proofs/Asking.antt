@@ -18,7 +18,7 @@ use Rattle.partitions.specs.declared.Reply.TheVariants.{Partitions, Layout, Mism
 use Rattle.partitions.specs.Layout.{Item, items_from, items_of, layout_ok, has_item, item_of}
 use Rattle.partitions.specs.Partitions.{partitions_ok, image_ok, partition_size, next_partition, status_of, no_status, ends_run, indices, kept, nothing, newest, only_one, newest_in}
 use Rattle.partitions.specs.Answers.{number_of, refusals}
-use Rattle.partitions.specs.Laws.{right_layout, item_lies, used_some}
+use Rattle.partitions.proofs.Laws.{right_layout, item_lies, used_some}
 use Rattle.partition_status.specs.declared.Newest as status
 use Rattle.partition_status.specs.declared.Newest.TheVariants.{At}
 use Rattle.partition_status.specs.Said.{said}

@@ -4,6 +4,3 @@ pub mod Partitions
 pub mod Items
 pub mod Writes
 pub mod Answers
-pub mod Instances
-pub mod Laws
-pub mod Few

@@ -5,7 +5,7 @@ use Rattle.model.specs.Slot.{written, most_contents, page_block}
 use Rattle.model.specs.State.{clean, state, view}
 use Rattle.model.specs.Steps.{slot_at}
 use Rattle.model.specs.Mounted.{Places, unusable}
-use Rattle.model.specs.Laws.Segments.{part_of}
+use Rattle.model.proofs.Laws.Segments.{part_of}
 use Rattle.places.specs.declared.Entry.{Entry}
 use Rattle.places.specs.declared.Entry.TheVariants.{At, Absent, Stale}
 

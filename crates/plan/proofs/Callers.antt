@@ -14,9 +14,9 @@ use Rattle.model.specs.Slot.{Slot, empty, slot_of, is_empty, is_torn, is_wrong}
 use Rattle.model.specs.State.{View, entries_in, none_wrong_or_torn, empty_last, only_top_empty, empty_slots_last, capacity, clean, state, view}
 use Rattle.model.specs.Steps.{slot_at, top_row, top_number, first_empty, compactions}
 use Rattle.model.specs.Laws.Lists.{and_right, all_row, all_get}
-use Rattle.model.specs.Laws.Chip.{size_facts}
-use Rattle.model.specs.Laws.Segments.{part_of, page_byte}
-use Rattle.model.specs.Laws.Effects.{slot_kind, slot_page_size, slot_count}
+use Rattle.model.proofs.Laws.Chip.{size_facts}
+use Rattle.model.proofs.Laws.Segments.{part_of, page_byte}
+use Rattle.model.proofs.Laws.Effects.{slot_kind, slot_page_size, slot_count}
 use Rattle.bridge.specs.Predicted.{CleanView}
 use Rattle.bridge.specs.Views.Slots.{full, rows_length, top_row_lem, find_top, only_top_empty_lem}
 use Rattle.bridge.specs.Held.{Held, held_of_clean, held_row, clean_view}

@@ -11,7 +11,7 @@ use Rattle.model.specs.Header.{is_former, tally_of, no_bit_left, header_version}
 use Rattle.model.specs.State.{segments_of, next_number, View, view_of, entries_in, capacity, view}
 use Rattle.model.specs.Steps.{top_number, compactions, new_numbers, is_worn}
 use Rattle.model.specs.Answers.{is_full}
-use Rattle.model.specs.Laws.Chip.{size_facts}
+use Rattle.model.proofs.Laws.Chip.{size_facts}
 use Rattle.bridge.specs.Held.{Held, held_top}
 use Rattle.find.specs.declared.Found.{Found}
 use Rattle.find.specs.declared.Found.TheVariants.{At, Nothing}

@@ -8,8 +8,8 @@ use native.Mathlib.Decide.{ℕ_discrete}
 use native.Mathlib.Omega.{arith}
 use lib.ListN.{length, get_or}
 use Rattle.model.specs.Chip.{Image, image_length, largest_image, right_size}
-use Rattle.model.specs.Laws.Chip.{size_facts}
-use Rattle.model.specs.Laws.Bytes.{bytes_known}
+use Rattle.model.proofs.Laws.Chip.{size_facts}
+use Rattle.model.proofs.Laws.Bytes.{bytes_known}
 use Rattle.model.specs.Slot.{most_contents}
 use Rattle.model.specs.Header.{is_blank}
 use Rattle.model.specs.Blank.{blank_groups}
@@ -29,7 +29,7 @@ use Rattle.shares.specs.Layer.{Shared, wrote}
 use Rattle.partitions.specs.declared.Written.{Written}
 use Rattle.partitions.specs.declared.Spot.{Spot}
 use Rattle.partitions.specs.Answers as settings
-use Rattle.partitions.specs.Few.{few_done as settings_done}
+use Rattle.partitions.proofs.Few.{few_done as settings_done}
 use Rattle.partition_packing.specs.Offsets.{offsets}
 use Rattle.qanbillox.specs.Packed.{packed, Gives, packed_read, packed_spot, Packs, Mounts, packed_blank, packed_print, Prints, Serves}
 
@@ -112,7 +112,7 @@ serves o a s r e h = record { number = h ∙ ap (λ (x : Shared). x.code) e; ima
 
 -- ---- the older partition format
 
-pub settings_few : (P : ℕ) (ns : List ℕ) (t : Image) (i : ℕ) (d : List ℕ) (budget : ℕ) (w : Written) (s : Image) → ((k : ℕ) → get_or ns k 0 < 256) → settings.wrote w s ≡ settings.writeOutcome P ns t i d budget → w.steps ≤ 65538
+pub settings_few : (P : ℕ) (ns : List ℕ) (t : Image) (i : ℕ) (d : List ℕ) (budget : ℕ) (w : Written) (s : Image) → ((k : ℕ) → get_or ns k 0 < 256) → settings.wrote w s ≡ settings.write_outcome P ns t i d budget → w.steps ≤ 65538
 unfolding settings.wrote
 settings_few P ns t i d budget w s b e = omega (arith, ap (λ (o : Outcome). o.count) e, settings_done P ns t i d budget (bytes_known ns b))
 

@@ -1,5 +1,7 @@
 // The library's exports to C and Rust: the requests, with a table of places too, the blank test, the account, the move to
 // another chip, salvage, requests by tenant and the older partition format, with what comes back packed into one number.
+#![tactic(auto)]
+
 ghost use Rattle.std.specs.Prelude.{◌≡◌, length};
 ghost use Rattle.model.specs.Answers.{outcome_of, read_outcome, format, put, delete, recover};
 ghost use Rattle.model.specs.Mounted.{mount_outcome, MountedPut, MountedDelete, MountedRead};
@@ -201,7 +203,7 @@ pub extern "C" fn qbx_share_read(
 
 #[unsafe(no_mangle)]
 pub extern "C" fn qbx_settings_read(image: &[u8], partitions: usize, layout: &[u8], item: u8) -> u64
-    ensures { result ≡ packed_spot (settings.readOutcome partitions layout.now image.now item) }
+    ensures { result ≡ packed_spot (settings.read_outcome partitions layout.now image.now item) }
 {
     partition_packing::packed_spot(partition_store::read(image, partitions, layout, item))
 }
@@ -215,7 +217,7 @@ pub extern "C" fn qbx_settings_write(
     contents: &[u8],
     budget: u64,
 ) -> u64
-    ensures { Gives (settings.writeOutcome partitions layout.now image.old item contents.now budget) result image.new }
+    ensures { Gives (settings.write_outcome partitions layout.now image.old item contents.now budget) result image.new }
 {
     partition_packing::packed_write(partition_store::write(
         image, partitions, layout, item, contents, budget,

@@ -1,13 +1,15 @@
 // qbx IMAGE N B VERB [BLOCK] [--budget STEPS]: one request on a record store whose image is a file. With the verb move or rebuild
 // TARGET and its N and B follow: the records, or what can be salvaged of them, are carried to another image. With share-put,
 // share-get or share-delete a file of shares, a tenant and a block follow: the block is put, read or deleted for the tenant.
+#![tactic(auto)]
+
 ghost use Rattle.std.specs.Prelude.{◌≤◌, length};
 ghost use Rattle.io.specs.Counts.{IsPrefixLen};
 
-use libc::{STDERR_FILENO, STDIN_FILENO, STDOUT_FILENO};
 use qbx_files::Filled;
 use qbx_move_words::MoveReading;
 use qbx_share_words::{ShareCommand, ShareReading, ShareVerb};
+use qbx_system::{ENAMETOOLONG, STDERR_FILENO, STDOUT_FILENO, System};
 use qbx_verbs::Verb;
 use qbx_words::{Command, Reading};
 
@@ -72,11 +74,11 @@ fn usage(fd: i32) {
 }
 
 // A word of the command line. Of one that is too long the start is given, with dots, so that it means nothing.
-fn word(i: usize, buf: &mut [u8; 64]) -> usize
+fn word(system: &mut System, i: usize, buf: &mut [u8; 64]) -> usize
     ensures { IsPrefixLen result buf.new }
 {
-    let n = os::arg(i, buf);
-    if os::errno() == libc::ENAMETOOLONG {
+    let n = system.arg(i, buf);
+    if system.reason() == ENAMETOOLONG {
         buf[61] = b'.';
         buf[62] = b'.';
         buf[63] = b'.';
@@ -86,48 +88,56 @@ fn word(i: usize, buf: &mut [u8; 64]) -> usize
 }
 
 // The contents to put are on standard input. A byte more than fits is read, so that too many are seen.
-fn read_contents(contents: &mut [u8]) -> Filled
+fn read_contents(system: &mut System, contents: &mut [u8]) -> Filled
     ensures { result.count ≤ length contents.new }
 {
-    let filled = qbx_files::fill(STDIN_FILENO, contents);
+    let mut input = system.stdin();
+    let filled = qbx_files::fill(system, &mut input, contents);
     if !filled.whole {
         io::write_all(STDERR_FILENO, b"qbx: cannot read standard input\n");
     }
     filled
 }
 
-fn put(path: &[u8], command: Command) {
+fn put(system: &mut System, path: &[u8], command: Command) {
     let mut contents = [0u8; 249];
-    let filled = read_contents(&mut contents);
+    let filled = read_contents(system, &mut contents);
     if !filled.whole {
         return;
     }
     let n = filled.count;
-    qbx_buffers::obey(path, command, &contents[..n], STDOUT_FILENO, STDERR_FILENO);
+    qbx_buffers::obey(
+        system,
+        path,
+        command,
+        &contents[..n],
+        STDOUT_FILENO,
+        STDERR_FILENO,
+    );
 }
 
-fn obey(path: &[u8], command: Command) {
+fn obey(system: &mut System, path: &[u8], command: Command) {
     let verb = command.verb;
     if let Verb::Put = verb {
-        put(path, command);
+        put(system, path, command);
     } else {
-        qbx_buffers::obey(path, command, b"", STDOUT_FILENO, STDERR_FILENO);
+        qbx_buffers::obey(system, path, command, b"", STDOUT_FILENO, STDERR_FILENO);
     }
 }
 
-fn read_words(path: &[u8]) {
+fn read_words(system: &mut System, path: &[u8]) {
     let mut segments = [0u8; 64];
-    let a = word(2, &mut segments);
+    let a = word(system, 2, &mut segments);
     let mut slots = [0u8; 64];
-    let b = word(3, &mut slots);
+    let b = word(system, 3, &mut slots);
     let mut verb = [0u8; 64];
-    let c = word(4, &mut verb);
+    let c = word(system, 4, &mut verb);
     let mut first = [0u8; 64];
-    let d = word(5, &mut first);
+    let d = word(system, 5, &mut first);
     let mut second = [0u8; 64];
-    let e = word(6, &mut second);
+    let e = word(system, 6, &mut second);
     let mut third = [0u8; 64];
-    let f = word(7, &mut third);
+    let f = word(system, 7, &mut third);
     let reading = qbx_words::command_of(
         &segments[..a],
         &slots[..b],
@@ -137,25 +147,25 @@ fn read_words(path: &[u8]) {
         &third[..f],
     );
     match reading {
-        Reading::Right(command) => obey(path, command),
+        Reading::Right(command) => obey(system, path, command),
         Reading::Wrong(complaint) => qbx_out::complain(complaint, STDERR_FILENO),
     }
 }
 
 // The words of a move or a rebuild.
-fn read_move(path: &[u8], verb: &[u8], target: &[u8]) {
+fn read_move(system: &mut System, path: &[u8], verb: &[u8], target: &[u8]) {
     let mut segments = [0u8; 64];
-    let a = word(2, &mut segments);
+    let a = word(system, 2, &mut segments);
     let mut slots = [0u8; 64];
-    let b = word(3, &mut slots);
+    let b = word(system, 3, &mut slots);
     let mut target_segments = [0u8; 64];
-    let c = word(6, &mut target_segments);
+    let c = word(system, 6, &mut target_segments);
     let mut target_slots = [0u8; 64];
-    let d = word(7, &mut target_slots);
+    let d = word(system, 7, &mut target_slots);
     let mut option = [0u8; 64];
-    let e = word(8, &mut option);
+    let e = word(system, 8, &mut option);
     let mut steps = [0u8; 64];
-    let f = word(9, &mut steps);
+    let f = word(system, 9, &mut steps);
     let reading = qbx_move_words::move_of(
         &segments[..a],
         &slots[..b],
@@ -168,20 +178,21 @@ fn read_move(path: &[u8], verb: &[u8], target: &[u8]) {
     );
     match reading {
         MoveReading::Right(command) => {
-            qbx_move_buffers::obey(path, target, command, STDOUT_FILENO, STDERR_FILENO);
+            qbx_move_buffers::obey(system, path, target, command, STDOUT_FILENO, STDERR_FILENO);
         }
         MoveReading::Wrong(complaint) => qbx_out::complain(complaint, STDERR_FILENO),
     }
 }
 
-fn share_put(path: &[u8], shares: &[u8], command: ShareCommand) {
+fn share_put(system: &mut System, path: &[u8], shares: &[u8], command: ShareCommand) {
     let mut contents = [0u8; 249];
-    let filled = read_contents(&mut contents);
+    let filled = read_contents(system, &mut contents);
     if !filled.whole {
         return;
     }
     let n = filled.count;
     qbx_share_buffers::obey(
+        system,
         path,
         shares,
         command,
@@ -191,25 +202,33 @@ fn share_put(path: &[u8], shares: &[u8], command: ShareCommand) {
     );
 }
 
-fn share(path: &[u8], shares: &[u8], command: ShareCommand) {
+fn share(system: &mut System, path: &[u8], shares: &[u8], command: ShareCommand) {
     let verb = command.verb;
     if let ShareVerb::Put = verb {
-        share_put(path, shares, command);
+        share_put(system, path, shares, command);
     } else {
-        qbx_share_buffers::obey(path, shares, command, b"", STDOUT_FILENO, STDERR_FILENO);
+        qbx_share_buffers::obey(
+            system,
+            path,
+            shares,
+            command,
+            b"",
+            STDOUT_FILENO,
+            STDERR_FILENO,
+        );
     }
 }
 
 // The words of a tenant's command.
-fn read_share(path: &[u8], verb: &[u8], shares: &[u8]) {
+fn read_share(system: &mut System, path: &[u8], verb: &[u8], shares: &[u8]) {
     let mut segments = [0u8; 64];
-    let a = word(2, &mut segments);
+    let a = word(system, 2, &mut segments);
     let mut slots = [0u8; 64];
-    let b = word(3, &mut slots);
+    let b = word(system, 3, &mut slots);
     let mut tenant = [0u8; 64];
-    let c = word(6, &mut tenant);
+    let c = word(system, 6, &mut tenant);
     let mut block = [0u8; 64];
-    let d = word(7, &mut block);
+    let d = word(system, 7, &mut block);
     let reading = qbx_share_words::share_of(
         &segments[..a],
         &slots[..b],
@@ -219,23 +238,23 @@ fn read_share(path: &[u8], verb: &[u8], shares: &[u8]) {
         &block[..d],
     );
     match reading {
-        ShareReading::Right(command) => share(path, shares, command),
+        ShareReading::Right(command) => share(system, path, shares, command),
         ShareReading::Wrong(complaint) => qbx_out::complain(complaint, STDERR_FILENO),
     }
 }
 
 // A command by its verb. A path follows some: a move's and a rebuild's, which have more words than any other, and a tenant's.
-fn read(path: &[u8], words: usize) {
+fn read(system: &mut System, path: &[u8], words: usize) {
     let mut verb = [0u8; 64];
-    let n = word(4, &mut verb);
+    let n = word(system, 4, &mut verb);
     if qbx_move_words::names_target(&verb[..n]) {
         if words > 10 {
             usage(STDERR_FILENO);
             return;
         }
         let mut target = io::buffer();
-        let m = os::arg(5, &mut target);
-        read_move(path, &verb[..n], &target[..m]);
+        let m = system.arg(5, &mut target);
+        read_move(system, path, &verb[..n], &target[..m]);
         return;
     }
     if qbx_share_words::names_shares(&verb[..n]) {
@@ -247,20 +266,21 @@ fn read(path: &[u8], words: usize) {
             return;
         }
         let mut shares = io::buffer();
-        let m = os::arg(5, &mut shares);
-        read_share(path, &verb[..n], &shares[..m]);
+        let m = system.arg(5, &mut shares);
+        read_share(system, path, &verb[..n], &shares[..m]);
         return;
     }
     if words > 8 {
         usage(STDERR_FILENO);
         return;
     }
-    read_words(path);
+    read_words(system, path);
 }
 
-fn main() {
+fn main(rt: HostRuntime) {
+    let mut system = System::new(rt);
     let mut path = io::buffer();
-    let n = os::arg(1, &mut path);
+    let n = system.arg(1, &mut path);
     if qbx_words::is(&path[..n], b"--help") {
         usage(STDOUT_FILENO);
         return;
@@ -269,9 +289,10 @@ fn main() {
         usage(STDERR_FILENO);
         return;
     }
-    if os::arg_count() < 5 {
+    if system.arg_count() < 5 {
         usage(STDERR_FILENO);
         return;
     }
-    read(&path[..n], os::arg_count());
+    let words = system.arg_count();
+    read(&mut system, &path[..n], words);
 }

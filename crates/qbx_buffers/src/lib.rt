@@ -1,9 +1,12 @@
 // A command on its image in the smallest of three buffers that holds it, each with its own limit of the stack.
+#![tactic(auto)]
+
 ghost use Rattle.std.specs.Prelude.{◌≡◌, true, leb};
 ghost use Rattle.request.specs.Request.{size_of};
 ghost use Rattle.qbx_rooms.specs.Rooms.{room_of};
 
 use qbx_rooms::Process;
+use qbx_system::System;
 use qbx_words::Command;
 
 // Obeys a command in the first buffer that holds its image, up to the given one, or tells that the stack is too small for
@@ -12,11 +15,18 @@ use qbx_words::Command;
 // It calls itself, and not as the last thing it does, for the compiler's sake: what is small it makes part of its caller, but
 // nothing with large locals part of a function that calls itself. So each buffer stays in a frame of its own, and a small image
 // does not need a large one's stack, nor a command that prints no text that of one that does.
-fn within(last: u8, process: Process, path: &[u8], command: Command, contents: &[u8]) -> bool
+fn within(
+    system: &mut System,
+    last: u8,
+    process: Process,
+    path: &[u8],
+    command: Command,
+    contents: &[u8],
+) -> bool
     ensures { result ≡ leb (size_of command.segments command.slots) (room_of last) }
 {
     if last > 0 {
-        if within(last - 1, process, path, command, contents) {
+        if within(system, last - 1, process, path, command, contents) {
             return true;
         }
     }
@@ -33,28 +43,35 @@ fn within(last: u8, process: Process, path: &[u8], command: Command, contents: &
     }
     if prints {
         if last == 0 {
-            return qbx_frames::small_text(process, path, command);
+            return qbx_frames::small_text(system, process, path, command);
         }
         if last == 1 {
-            return qbx_frames::middle_text(process, path, command);
+            return qbx_frames::middle_text(system, process, path, command);
         }
-        return qbx_frames::large_text(process, path, command);
+        return qbx_frames::large_text(system, process, path, command);
     }
     if last == 0 {
-        return qbx_frames::small(process, path, command, contents);
+        return qbx_frames::small(system, process, path, command, contents);
     }
     if last == 1 {
-        return qbx_frames::middle(process, path, command, contents);
+        return qbx_frames::middle(system, process, path, command, contents);
     }
-    qbx_frames::large(process, path, command, contents)
+    qbx_frames::large(system, process, path, command, contents)
 }
 
 // A command on the image's file, or that the stack is too small for its image: one of the two, always. What it says goes to the
 // one descriptor, and what is wrong to the other.
-pub fn obey(path: &[u8], command: Command, contents: &[u8], out: i32, err: i32) -> bool
+pub fn obey(
+    system: &mut System,
+    path: &[u8],
+    command: Command,
+    contents: &[u8],
+    out: i32,
+    err: i32,
+) -> bool
     ensures { result ≡ true }
 {
-    let allowed = qbx_stack::allowed() / 1024;
+    let allowed = qbx_stack::allowed(system) / 1024;
     let process = Process { allowed, out, err };
-    within(2, process, path, command, contents)
+    within(system, 2, process, path, command, contents)
 }

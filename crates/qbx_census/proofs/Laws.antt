@@ -12,7 +12,7 @@ use Rattle.model.specs.Chip.{Image, Page}
 use Rattle.model.specs.Header.{is_former, header_version, header_in_use, header_status, header_number, is_blank}
 use Rattle.model.specs.Slot.{slot_of, kind_of}
 use Rattle.model.specs.State.{Segment, blank, invalid, in_use, segments_of}
-use Rattle.model.specs.Laws.Segments.{segments_length}
+use Rattle.model.proofs.Laws.Segments.{segments_length}
 use Rattle.model.specs.declared.SegmentNumber.{SegmentNumber}
 use Rattle.model.specs.declared.SlotKind.{SlotKind}
 use Rattle.model.specs.declared.SlotKind.TheVariants.{Empty, Torn, Live, Dead, Cut, Wrong}

@@ -1,5 +1,7 @@
 // The work of a move or a rebuild, with its words handed in: both images' files are read, the target is built anew from what
 // the source stores, or what can be salvaged of it, its file is replaced and the answer said. The source's file is only read.
+#![tactic(auto)]
+
 ghost use Rattle.std.specs.Prelude.{◌<◌, length};
 ghost use Rattle.request.specs.Request.{size_of};
 
@@ -7,6 +9,7 @@ use model::Answer;
 use qbx_move_words::Move;
 use qbx_out::{fail, print};
 use qbx_same::Clash;
+use qbx_system::System;
 
 // How many bytes the two files have.
 #[derive(Clone, Copy)]
@@ -36,6 +39,7 @@ fn tell_size(source: &[u8], command: Move, there: There, out: i32) {
 
 // Steps that were done are in the target's file before they are said.
 fn work(
+    system: &mut System,
     source: &[u8],
     target: &mut [u8],
     path: &[u8],
@@ -46,8 +50,8 @@ fn work(
 ) {
     let performed = qbx_move_request::perform(source, target, command);
     if performed.steps > 0 {
-        if !qbx_files::replace(path, target) {
-            fail(err, b"write ", path);
+        if !qbx_files::replace(system, path, target) {
+            fail(system, err, b"write ", path);
             return;
         }
     }
@@ -61,6 +65,7 @@ fn work(
 
 // Both files are read; where the target has none yet, it is a chip from the factory.
 fn carry(
+    system: &mut System,
     source: &mut [u8],
     target: &mut [u8],
     path: &[u8],
@@ -72,15 +77,21 @@ fn carry(
     requires { (size_of command.source.segments command.source.slots < length source.old) × (size_of command.target.segments command.target.slots < length target.old) }
 {
     let from = command.source;
-    let file = qbx_images::present(source, path, qbx_move_words::size_of(from), false);
+    let file = qbx_images::present(system, source, path, qbx_move_words::size_of(from), false);
     if !file.whole {
-        fail(err, b"read ", path);
+        fail(system, err, b"read ", path);
         return;
     }
     let to = command.target;
-    let other = qbx_images::present(target, target_path, qbx_move_words::size_of(to), true);
+    let other = qbx_images::present(
+        system,
+        target,
+        target_path,
+        qbx_move_words::size_of(to),
+        true,
+    );
     if !other.whole {
-        fail(err, b"read ", target_path);
+        fail(system, err, b"read ", target_path);
         return;
     }
     let there = There {
@@ -90,6 +101,7 @@ fn carry(
     let n = file.count;
     let m = other.count;
     work(
+        system,
         &source[..n],
         &mut target[..m],
         target_path,
@@ -101,18 +113,18 @@ fn carry(
 }
 
 // Says that the name beside a path could not be looked at.
-fn fail_beside(path: &[u8], err: i32) {
+fn fail_beside(system: &mut System, path: &[u8], err: i32) {
     let mut name = io::buffer();
     let n = qbx_files::beside(path, &mut name);
-    fail(err, b"read ", &name[..n]);
+    fail(system, err, b"read ", &name[..n]);
 }
 
 // Says why the target is not written.
-fn refuse(clash: Clash, path: &[u8], target_path: &[u8], err: i32) {
+fn refuse(system: &mut System, clash: Clash, path: &[u8], target_path: &[u8], err: i32) {
     match clash {
-        Clash::NoSource => fail(err, b"read ", path),
-        Clash::NoTarget => fail(err, b"read ", target_path),
-        Clash::NoBeside => fail_beside(target_path, err),
+        Clash::NoSource => fail(system, err, b"read ", path),
+        Clash::NoTarget => fail(system, err, b"read ", target_path),
+        Clash::NoBeside => fail_beside(system, target_path, err),
         Clash::Apart | Clash::IsSource | Clash::SourceBeside | Clash::InTheWay => {
             print(err, qbx_move_says::say_clash(clash))
         }
@@ -122,6 +134,7 @@ fn refuse(clash: Clash, path: &[u8], target_path: &[u8], err: i32) {
 // A move, in buffers that hold the images and more, so that larger files are seen to be such. That the target is not the source
 // is known before either is read. What it says goes to the one descriptor, and what is wrong to the other.
 pub fn obey(
+    system: &mut System,
     source: &mut [u8],
     target: &mut [u8],
     path: &[u8],
@@ -132,10 +145,10 @@ pub fn obey(
 )
     requires { (size_of command.source.segments command.source.slots < length source.old) × (size_of command.target.segments command.target.slots < length target.old) }
 {
-    let clash = qbx_same::clash_of(path, target_path);
+    let clash = qbx_same::clash_of(system, path, target_path);
     if let Clash::Apart = clash {
-        carry(source, target, path, target_path, command, out, err);
+        carry(system, source, target, path, target_path, command, out, err);
         return;
     }
-    refuse(clash, path, target_path, err);
+    refuse(system, clash, path, target_path, err);
 }

@@ -1,4 +1,6 @@
 // What a move or a rebuild asks of the library, on the images alone.
+#![tactic(auto)]
+
 ghost use Rattle.std.specs.Prelude.{◌≡◌};
 ghost use Rattle.model.specs.Answers.{performed};
 ghost use Rattle.qbx_move_request.specs.MoveRequest.{built_by};

@@ -1,5 +1,6 @@
 // What a command asks of the store, on the image alone.
 #![tactic(auto)]
+
 ghost use Rattle.std.specs.Prelude.{◌≡◌};
 ghost use Rattle.model.specs.Answers.{code_of, performed};
 ghost use Rattle.qbx_requests.specs.Requests.{performed_by};

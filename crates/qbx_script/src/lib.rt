@@ -2,14 +2,16 @@
 // IMAGE N B move TARGET N B [--budget STEPS], or the same with rebuild, or IMAGE N B share-put SHARES TENANT BLOCK [< contents], or
 // the same with share-get or share-delete.
 // All that is said goes to standard output, so that a whole story is one output to compare.
-use libc::{STDIN_FILENO, STDOUT_FILENO};
+#![tactic(auto)]
+
 use qbx_move_words::MoveReading;
 use qbx_script_words::word;
 use qbx_share_words::ShareReading;
+use qbx_system::{STDOUT_FILENO, System};
 use qbx_words::Reading;
 
 // The words of a move or a rebuild.
-fn carry(line: &[u8]) {
+fn carry(system: &mut System, line: &[u8]) {
     let target = word(line, 4);
     let reading = qbx_move_words::move_of(
         word(line, 1),
@@ -23,14 +25,21 @@ fn carry(line: &[u8]) {
     );
     match reading {
         MoveReading::Right(command) => {
-            qbx_move_buffers::obey(word(line, 0), target, command, STDOUT_FILENO, STDOUT_FILENO);
+            qbx_move_buffers::obey(
+                system,
+                word(line, 0),
+                target,
+                command,
+                STDOUT_FILENO,
+                STDOUT_FILENO,
+            );
         }
         MoveReading::Wrong(complaint) => qbx_out::complain(complaint, STDOUT_FILENO),
     }
 }
 
 // The words of a tenant's command, and what stands behind '<'.
-fn share(line: &[u8], contents: &[u8]) {
+fn share(system: &mut System, line: &[u8], contents: &[u8]) {
     if word(line, 7).len() > 0 {
         io::write_all(
             STDOUT_FILENO,
@@ -50,6 +59,7 @@ fn share(line: &[u8], contents: &[u8]) {
     match reading {
         ShareReading::Right(command) => {
             qbx_share_buffers::obey(
+                system,
                 word(line, 0),
                 shares,
                 command,
@@ -63,13 +73,13 @@ fn share(line: &[u8], contents: &[u8]) {
 }
 
 // The words of a command, and what stands behind '<'.
-fn obey(line: &[u8], contents: &[u8]) {
+fn obey(system: &mut System, line: &[u8], contents: &[u8]) {
     if qbx_move_words::names_target(word(line, 3)) {
-        carry(line);
+        carry(system, line);
         return;
     }
     if qbx_share_words::names_shares(word(line, 3)) {
-        share(line, contents);
+        share(system, line, contents);
         return;
     }
     let reading = qbx_words::command_of(
@@ -83,6 +93,7 @@ fn obey(line: &[u8], contents: &[u8]) {
     match reading {
         Reading::Right(command) => {
             qbx_buffers::obey(
+                system,
                 word(line, 0),
                 command,
                 contents,
@@ -94,24 +105,24 @@ fn obey(line: &[u8], contents: &[u8]) {
     }
 }
 
-fn step(line: &[u8]) {
+fn step(system: &mut System, line: &[u8]) {
     io::write_all(STDOUT_FILENO, b"$ qbx ");
     io::write_all(STDOUT_FILENO, line);
     io::write_all(STDOUT_FILENO, b"\n");
-    let end = bytes::scan::find(line, 0, line.len(), b'<');
+    let end = byte_search::find(line, 0, line.len(), b'<');
     if line.len() - end < 2 {
-        obey(line, b"");
+        obey(system, line, b"");
         return;
     }
     let start = end + 2;
-    obey(&line[..end], &line[start..]);
+    obey(system, &line[..end], &line[start..]);
 }
 
-fn play_lines(script: &[u8]) {
+fn play_lines(system: &mut System, script: &[u8]) {
     let mut at = 0;
     while at < script.len() {
-        let end = bytes::scan::find(script, at, script.len(), b'\n');
-        step(&script[at..end]);
+        let end = byte_search::find(script, at, script.len(), b'\n');
+        step(system, &script[at..end]);
         if end == script.len() {
             return;
         }
@@ -120,9 +131,11 @@ fn play_lines(script: &[u8]) {
 }
 
 // The script is on standard input.
-pub fn play() {
+pub fn play(rt: HostRuntime) {
+    let mut system = System::new(rt);
     let mut script = io::large_buffer();
-    let filled = qbx_files::fill(STDIN_FILENO, &mut script);
+    let mut input = system.stdin();
+    let filled = qbx_files::fill(&mut system, &mut input, &mut script);
     let n = filled.count;
-    play_lines(&script[..n]);
+    play_lines(&mut system, &script[..n]);
 }

@@ -1,5 +1,7 @@
 // The work of a tenant's command, with its words handed in: the file of shares and the image's file are read, the library asked,
 // the image's file replaced and the answer said.
+#![tactic(auto)]
+
 ghost use Rattle.std.specs.Prelude.{◌<◌, length};
 ghost use Rattle.request.specs.Request.{size_of};
 
@@ -9,6 +11,7 @@ use qbx_out::{fail, print};
 use qbx_same::Clash;
 use qbx_share_file::Listing;
 use qbx_share_words::{ShareCommand, ShareVerb};
+use qbx_system::System;
 
 // Three numbers for each of 41 tenants: one more than there may be, so that too many are seen.
 const NUMBERS: usize = 123;
@@ -33,10 +36,10 @@ fn tell(fd: i32, answer: Answer, command: ShareCommand, there: u64) {
 }
 
 // Has the image in its file, if it was changed. Whether it is there is the system's word, of which nothing is proved.
-fn settle(image: &[u8], path: &[u8], answer: Answer, err: i32) -> bool {
+fn settle(system: &mut System, image: &[u8], path: &[u8], answer: Answer, err: i32) -> bool {
     if let Answer::Done = answer {
-        if !qbx_files::replace(path, image) {
-            fail(err, b"write ", path);
+        if !qbx_files::replace(system, path, image) {
+            fail(system, err, b"write ", path);
             return false;
         }
     }
@@ -45,9 +48,9 @@ fn settle(image: &[u8], path: &[u8], answer: Answer, err: i32) -> bool {
 
 // The contents alone go out; whether they did is the system's word too. Where the answer goes there too, a line end keeps them
 // apart.
-fn give(contents: &[u8], out: i32, err: i32) -> bool {
-    if !io::write_all(out, contents) {
-        fail(err, b"write ", b"standard output");
+fn give(system: &mut System, contents: &[u8], out: i32, err: i32) -> bool {
+    if !system.write_all(out, contents) {
+        fail(system, err, b"write ", b"standard output");
         return false;
     }
     if out == err {
@@ -60,6 +63,7 @@ fn give(contents: &[u8], out: i32, err: i32) -> bool {
 
 // A command on the image's bytes. What was done is in the file, and what was read is out, before it is said.
 fn act(
+    system: &mut System,
     image: &mut [u8],
     path: &[u8],
     shares: &[u32],
@@ -74,18 +78,24 @@ fn act(
     let answer = printed.answer;
     let verb = command.verb;
     if let ShareVerb::Get = verb {
-        if give(qbx_images::piece(&given, 0, printed.length), out, err) {
+        if give(
+            system,
+            qbx_images::piece(&given, 0, printed.length),
+            out,
+            err,
+        ) {
             tell(err, answer, command, there);
         }
         return;
     }
-    if settle(&image[..], path, answer, err) {
+    if settle(system, &image[..], path, answer, err) {
         tell(out, answer, command, there);
     }
 }
 
 // A command on the image's file, with the shares.
 fn work(
+    system: &mut System,
     image: &mut [u8],
     path: &[u8],
     shares: &[u32],
@@ -97,13 +107,14 @@ fn work(
     requires { size_of command.segments command.slots < length image.old }
 {
     let size = request::size_of(command.segments as usize, command.slots as usize);
-    let file = qbx_images::present(image, path, size, false);
+    let file = qbx_images::present(system, image, path, size, false);
     if !file.whole {
-        fail(err, b"read ", path);
+        fail(system, err, b"read ", path);
         return;
     }
     let n = file.count;
     act(
+        system,
         &mut image[..n],
         path,
         shares,
@@ -116,21 +127,19 @@ fn work(
 }
 
 // Reads the file of shares: how many bytes, and whether they could be had, by the system's word.
-fn text_of(path: &[u8], text: &mut [u8]) -> Filled {
-    let fd = os::open_read(path);
-    if fd < 0 {
+fn text_of(system: &mut System, path: &[u8], text: &mut [u8]) -> Filled {
+    let Some(mut file) = system.open_read(path) else {
         return Filled {
             count: 0,
             whole: false,
         };
-    }
-    let filled = qbx_files::fill(fd, text);
-    libc::close(fd);
-    filled
+    };
+    qbx_files::fill(system, &mut file, text)
 }
 
 // A command with the file of shares read.
 fn serve(
+    system: &mut System,
     image: &mut [u8],
     path: &[u8],
     shares_path: &[u8],
@@ -143,9 +152,9 @@ fn serve(
 {
     // a byte more than it may have, so that a longer file is seen to be one
     let mut text = [0u8; MOST_TEXT + 1];
-    let filled = text_of(shares_path, &mut text);
+    let filled = text_of(system, shares_path, &mut text);
     if !filled.whole {
-        fail(err, b"read ", shares_path);
+        fail(system, err, b"read ", shares_path);
         return;
     }
     let n = filled.count;
@@ -156,7 +165,16 @@ fn serve(
     let mut shares = [0u32; NUMBERS];
     let listing = qbx_share_file::read_shares(&text[..n], &mut shares);
     match listing {
-        Listing::Listed(count) => work(image, path, &shares[..count], command, contents, out, err),
+        Listing::Listed(count) => work(
+            system,
+            image,
+            path,
+            &shares[..count],
+            command,
+            contents,
+            out,
+            err,
+        ),
         Listing::Wrong(line) => print(err, qbx_share_says::say_wrong_line(line)),
     }
 }
@@ -165,6 +183,7 @@ fn serve(
 // goes to the one descriptor, and what is wrong to the other, beside a read's answer: its contents go out alone. The file that is
 // written beside the image's, and given its name, may not be the file of shares: it would be gone.
 pub fn obey(
+    system: &mut System,
     image: &mut [u8],
     path: &[u8],
     shares_path: &[u8],
@@ -175,7 +194,7 @@ pub fn obey(
 )
     requires { size_of command.segments command.slots < length image.old }
 {
-    let clash = qbx_same::clash_of(shares_path, path);
+    let clash = qbx_same::clash_of(system, shares_path, path);
     if let Clash::SourceBeside = clash {
         io::write_all(
             err,
@@ -183,5 +202,14 @@ pub fn obey(
         );
         return;
     }
-    serve(image, path, shares_path, command, contents, out, err);
+    serve(
+        system,
+        image,
+        path,
+        shares_path,
+        command,
+        contents,
+        out,
+        err,
+    );
 }

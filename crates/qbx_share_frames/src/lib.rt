@@ -1,13 +1,17 @@
 // The image of a tenant's command, on the stack, a frame for each buffer.
+#![tactic(auto)]
+
 ghost use Rattle.std.specs.Prelude.{◌≡◌, true, false, ◌≤◌};
 ghost use Rattle.request.specs.Request.{size_of};
 ghost use Rattle.qbx_rooms.specs.Rooms.{room_of, need_of};
 
 use qbx_rooms::Process;
 use qbx_share_words::ShareCommand;
+use qbx_system::System;
 
 // Each buffer has a byte more than the largest image in it, so that a larger file is seen to be one.
 pub fn small(
+    system: &mut System,
     process: Process,
     path: &[u8],
     shares: &[u8],
@@ -19,6 +23,7 @@ pub fn small(
 {
     let mut image = [255u8; 1048577];
     qbx_share::obey(
+        system,
         &mut image,
         path,
         shares,
@@ -31,6 +36,7 @@ pub fn small(
 }
 
 pub fn middle(
+    system: &mut System,
     process: Process,
     path: &[u8],
     shares: &[u8],
@@ -42,6 +48,7 @@ pub fn middle(
 {
     let mut image = [255u8; 4194305];
     qbx_share::obey(
+        system,
         &mut image,
         path,
         shares,
@@ -54,6 +61,7 @@ pub fn middle(
 }
 
 pub fn large(
+    system: &mut System,
     process: Process,
     path: &[u8],
     shares: &[u8],
@@ -65,6 +73,7 @@ pub fn large(
 {
     let mut image = [255u8; 16711681];
     qbx_share::obey(
+        system,
         &mut image,
         path,
         shares,

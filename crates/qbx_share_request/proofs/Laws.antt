@@ -7,7 +7,7 @@ use lib.Dec.{eqb}
 use lib.ListN.{length}
 use Rattle.model.specs.Chip.{Image, Step, run}
 use Rattle.model.specs.declared.Answer.{Answer}
-use Rattle.crash.specs.Requests.{read_idle}
+use Rattle.crash.proofs.Requests.{read_idle}
 use Rattle.text.specs.Buffer.{Print, printed}
 use Rattle.text.specs.declared.Printed.{Printed}
 use Rattle.shares.specs.Layer.{Shared, reads, store_request, share_code, share_work, share_outcome, wrote, gave_in}

@@ -1,5 +1,7 @@
 // The work of the program qbx, with its words handed in: the image's file is read, the store asked, the file replaced and
 // the answer said.
+#![tactic(auto)]
+
 ghost use Rattle.std.specs.Prelude.{◌≡◌, false, ◌<◌, ◌≤◌, length};
 ghost use Rattle.request.specs.Request.{size_of};
 ghost use Rattle.qbx_verbs.specs.Verbs.{prints};
@@ -7,20 +9,21 @@ ghost use Rattle.qbx_verbs.specs.Verbs.{prints};
 use model::{Answer, Performed};
 use qbx_images::ImageFile;
 use qbx_out::{fail, print};
+use qbx_system::System;
 use qbx_verbs::Verb;
 use qbx_words::Command;
 
 // Has the image's file in the buffer: the file's own bytes, or a chip from the factory where format finds none.
-fn present(image: &mut [u8], path: &[u8], command: Command) -> ImageFile
+fn present(system: &mut System, image: &mut [u8], path: &[u8], command: Command) -> ImageFile
     requires { size_of command.segments command.slots < length image.old }
     ensures { result.count ≤ length image.new }
 {
     let size = request::size_of(command.segments as usize, command.slots as usize);
     let verb = command.verb;
     if let Verb::Format = verb {
-        return qbx_images::present(image, path, size, true);
+        return qbx_images::present(system, image, path, size, true);
     }
-    qbx_images::present(image, path, size, false)
+    qbx_images::present(system, image, path, size, false)
 }
 
 // Says an answer and the steps done; beside a wrong size what N and B ask for, and the bytes that are there.
@@ -38,6 +41,7 @@ fn tell(fd: i32, performed: Performed, command: Command, there: u64) {
 
 // A verb that writes. Steps that were done are in the file before they are said.
 fn change(
+    system: &mut System,
     image: &mut [u8],
     path: &[u8],
     command: Command,
@@ -48,8 +52,8 @@ fn change(
 ) {
     let performed = qbx_requests::perform(image, command, contents);
     if performed.steps > 0 {
-        if !qbx_files::replace(path, image) {
-            fail(err, b"write ", path);
+        if !qbx_files::replace(system, path, image) {
+            fail(system, err, b"write ", path);
             return;
         }
     }
@@ -57,7 +61,7 @@ fn change(
 }
 
 // The contents alone go out. Where the answer goes there too, a line end keeps them apart.
-fn get(image: &[u8], command: Command, there: u64, out: i32, err: i32) {
+fn get(system: &mut System, image: &[u8], command: Command, there: u64, out: i32, err: i32) {
     let block = command.block;
     let found = store::read(
         image,
@@ -68,8 +72,8 @@ fn get(image: &[u8], command: Command, there: u64, out: i32, err: i32) {
     let answer = found.answer;
     let at = found.offset;
     let count = found.length;
-    if !io::write_all(out, qbx_images::piece(image, at, count)) {
-        fail(err, b"write ", b"standard output");
+    if !system.write_all(out, qbx_images::piece(image, at, count)) {
+        fail(system, err, b"write ", b"standard output");
         return;
     }
     if out == err {
@@ -97,6 +101,7 @@ fn check(image: &[u8], command: Command, there: u64, out: i32) {
 
 // A command on the image's bytes.
 fn act(
+    system: &mut System,
     image: &mut [u8],
     path: &[u8],
     command: Command,
@@ -107,7 +112,7 @@ fn act(
 ) {
     let verb = command.verb;
     match verb {
-        Verb::Get => get(&image[..], command, there, out, err),
+        Verb::Get => get(system, &image[..], command, there, out, err),
         Verb::Check => check(&image[..], command, there, out),
         Verb::Format
         | Verb::Put
@@ -116,22 +121,31 @@ fn act(
         | Verb::Account
         | Verb::Map
         | Verb::Salvage
-        | Verb::Unknown => change(image, path, command, contents, there, out, err),
+        | Verb::Unknown => change(system, image, path, command, contents, there, out, err),
     }
 }
 
 // A command that prints no text, on the image's file in a buffer that holds the image and more, so that a larger file is seen to
 // be one. What it says goes to the one descriptor, and what is wrong to the other, beside a read's answer: its contents go out alone.
-pub fn obey(image: &mut [u8], path: &[u8], command: Command, contents: &[u8], out: i32, err: i32)
+pub fn obey(
+    system: &mut System,
+    image: &mut [u8],
+    path: &[u8],
+    command: Command,
+    contents: &[u8],
+    out: i32,
+    err: i32,
+)
     requires { (size_of command.segments command.slots < length image.old) × (prints command.verb ≡ false) }
 {
-    let file = present(image, path, command);
+    let file = present(system, image, path, command);
     if !file.whole {
-        fail(err, b"read ", path);
+        fail(system, err, b"read ", path);
         return;
     }
     let n = file.count;
     act(
+        system,
         &mut image[..n],
         path,
         command,
@@ -144,12 +158,20 @@ pub fn obey(image: &mut [u8], path: &[u8], command: Command, contents: &[u8], ou
 
 // A text about the image's file, in a buffer of its own beside the image's; nothing else goes out, and where a wrong size gives
 // none, that is told with what is wrong. It is not done by `obey`: what it needs of the stack would be taken for every command.
-pub fn show(image: &mut [u8], text: &mut [u8], path: &[u8], command: Command, out: i32, err: i32)
+pub fn show(
+    system: &mut System,
+    image: &mut [u8],
+    text: &mut [u8],
+    path: &[u8],
+    command: Command,
+    out: i32,
+    err: i32,
+)
     requires { size_of command.segments command.slots < length image.old }
 {
-    let file = present(image, path, command);
+    let file = present(system, image, path, command);
     if !file.whole {
-        fail(err, b"read ", path);
+        fail(system, err, b"read ", path);
         return;
     }
     let n = file.count;
@@ -164,7 +186,7 @@ pub fn show(image: &mut [u8], text: &mut [u8], path: &[u8], command: Command, ou
         return;
     }
     let length = printed.length;
-    if !io::write_all(out, &text[..length]) {
-        fail(err, b"write ", b"standard output");
+    if !system.write_all(out, &text[..length]) {
+        fail(system, err, b"write ", b"standard output");
     }
 }

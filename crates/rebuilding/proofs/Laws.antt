@@ -26,16 +26,16 @@ use Rattle.request.specs.Request.{Refused}
 use Rattle.request.proofs.Answered.{refused_worked}
 use Rattle.account_text.specs.Account.{LiveSlot, by_block}
 use Rattle.index.specs.Tables.{most_pages, page_of, of_block, blocks_below, Stands}
-use Rattle.index.specs.Sorted.{sorted, sorted_length}
+use Rattle.index.proofs.Sorted.{sorted, sorted_length}
 use Rattle.moves.specs.Moves.{by_number, fresh_work}
 use Rattle.moves.specs.Placed.{placed}
-use Rattle.moves.specs.Sorted.{found_at, rising, sorted_rising}
-use Rattle.moves.specs.Fresh.{fresh_list}
+use Rattle.moves.proofs.Sorted.{found_at, rising, sorted_rising}
+use Rattle.moves.proofs.Fresh.{fresh_list}
 use Rattle.flash.proofs.Pages.{sized}
 use Rattle.adding.specs.Adding.{LivePage}
 use Rattle.fresh.specs.Fresh.{page_at, listed, Pointing}
 use Rattle.salvage.specs.Salvage.{held_in, candidates, given, salvaged, rebuild_refusals, rebuild_work, rebuild_outcome}
-use Rattle.salvage.specs.Facts.{salvaged_distinct, salvaged_valid, rebuild_fits}
+use Rattle.salvage.proofs.Facts.{salvaged_distinct, salvaged_valid, rebuild_fits}
 use Rattle.meeting.specs.Sheet.{Sheet}
 use Rattle.candidates.specs.Gathered.{NoneOf, OneOf, Tells, Gathered}
 use Rattle.candidates.specs.Lie.{candidates_lie, given_below}

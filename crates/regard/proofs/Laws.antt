@@ -15,13 +15,13 @@ use Rattle.model.specs.Slot.{Slot}
 use Rattle.model.specs.State.{Segment, blank, invalid, in_use, is_in_use, is_owing, number_after, segments_of, next_number, next_index, top_index, next_blanked}
 use Rattle.model.specs.declared.SegmentNumber.{SegmentNumber}
 use Rattle.model.specs.Laws.Lists.{map_set}
-use Rattle.model.specs.Laws.Ring.{owing_number, next_ge, next_at}
+use Rattle.model.proofs.Laws.Ring.{owing_number, next_ge, next_at}
 use Rattle.judge.specs.Rows.{slots_at}
 use Rattle.judge.specs.Parts.{header_offset, slots_offset, segment_seen, segment_seen_lem}
 use Rattle.header_seen.specs.declared.HeaderSeen.{HeaderSeen}
 use Rattle.header_seen.specs.declared.HeaderSeen.TheVariants.{InUse, NotInUse}
 use Rattle.header_seen.specs.Seen.{header_seen}
-use Rattle.index.specs.Walks.{held_all, number_use}
+use Rattle.index.proofs.Walks.{held_all, number_use}
 use Rattle.descent.specs.Descent.{largest, largest_next}
 use Rattle.salvage.specs.Salvage.{regarded}
 

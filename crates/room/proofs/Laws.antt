@@ -17,10 +17,10 @@ use Rattle.model.specs.Header.{new_version, is_former, bit_values, cleared_in, c
 use Rattle.model.specs.Slot.{Slot, empty, is_empty}
 use Rattle.model.specs.State.{View, entries, clean, state, view}
 use Rattle.model.specs.Steps.{top_row, top_number, has_room, first_empty, open_segment, compact, copied, next_version, open_next, compact_oldest, room_for, compactions, new_numbers, is_worn}
-use Rattle.model.specs.Laws.Chip.{size_facts}
-use Rattle.model.specs.Laws.Ring.{apart_before}
-use Rattle.model.specs.Laws.Segments.{part_of, segment_at}
-use Rattle.model.specs.Laws.Effects.{in_use_parts}
+use Rattle.model.proofs.Laws.Chip.{size_facts}
+use Rattle.model.proofs.Laws.Ring.{apart_before}
+use Rattle.model.proofs.Laws.Segments.{part_of, segment_at}
+use Rattle.model.proofs.Laws.Effects.{in_use_parts}
 use Rattle.bridge.specs.Predicted.{Rows, CleanView, Carries}
 use Rattle.bridge.specs.Held.{Held, held_of_clean, clean_view, held_row}
 use Rattle.bridge.specs.Requests.{held_below}

@@ -7,15 +7,15 @@ use mathlib.Core.List.{List, [], ◌∷◌, ◌++◌, map, flatten}
 use Rattle.model.specs.Slot.{Slot, empty, Entry, entry_of}
 use Rattle.model.specs.State.{Segment, blank, invalid, in_use, is_in_use, is_invalid, is_owing, number_after, slots_in, of_version, used_count, first_number, slots_from, view_of, entries, entries_in, none_owing, others_blank, is_clean, with_slot, blocks_distinct}
 use Rattle.model.specs.Laws.Lists.{all_same}
-use Rattle.model.specs.Laws.Ring.{next_kept, used_kept, get_kept, numbers_kept}
-use Rattle.model.specs.Laws.Clean.{RingFacts, clean_ring, clean_slots}
-use Rattle.model.specs.Laws.View.{one_kept}
-use Rattle.model.specs.Laws.Exclusive.{no_owing}
+use Rattle.model.proofs.Laws.Ring.{next_kept, used_kept, get_kept, numbers_kept}
+use Rattle.model.proofs.Laws.Clean.{RingFacts, clean_ring, clean_slots}
+use Rattle.model.proofs.Laws.View.{one_kept}
+use Rattle.model.proofs.Laws.Exclusive.{no_owing}
 use Rattle.bridge.specs.Views.Slots.{entries_append, entries_cons}
 use Rattle.account_text.specs.Account.{live_slots}
 use Rattle.salvage.specs.Salvage.{held_in}
-use Rattle.salvage.specs.Given.{lasts, lasts_distinct}
-use Rattle.salvage.specs.Ring.{Chained, chained_view, ring_chained}
+use Rattle.salvage.proofs.Given.{lasts, lasts_distinct}
+use Rattle.salvage.proofs.Ring.{Chained, chained_view, ring_chained}
 
 -- ---- the entries of rows
 

@@ -13,13 +13,13 @@ use Rattle.model.specs.Mounted.{Places}
 use Rattle.crash.specs.Machine.{Promise, settled, interrupted, unknown, next, IsCut, Holds, PlainRuns, NoFormat}
 use Rattle.crash.specs.Sound.{Sound, former_shown}
 use Rattle.crash.specs.Demand2.{Keeps, board}
-use Rattle.crash.specs.ReadingRuns.{FinishedFormat}
+use Rattle.crash.proofs.ReadingRuns.{FinishedFormat}
 use Rattle.wear.specs.Demand3.{stocked, Bounded}
 use Rattle.sessions.specs.Law.{Turn, Session, events_in, Observes, Unbroken}
 use Rattle.text.specs.Text.{text}
 use Rattle.account_text.specs.Account.{LiveSlot, live_slots, by_block, block_text}
 use Rattle.moves.specs.Moves.{by_number, move_outcome}
-use Rattle.moves.specs.Counted.{slot_steps}
+use Rattle.moves.proofs.Counted.{slot_steps}
 use Rattle.moved.specs.Law.{Tried}
 use Rattle.salvage.specs.Salvage.{candidates, held_in, given, agreed, salvage_text, salvaged, rebuild_work, rebuild_outcome}
 

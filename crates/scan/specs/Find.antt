@@ -5,9 +5,9 @@ use Rattle.model.specs.Chip.{Image}
 use Rattle.model.specs.Slot.{Slot}
 use Rattle.model.specs.State.{blank, number_after, slots_in, version_in, segments_of, numbers_from, slots_from}
 use Rattle.model.specs.Laws.Lists.{and_left, and_right}
-use Rattle.model.specs.Laws.Segments.{part_of, segment_at}
-use Rattle.model.specs.Laws.Effects.{in_use_parts}
-use Rattle.model.specs.Laws.Clean.{in_use_numbered}
+use Rattle.model.proofs.Laws.Segments.{part_of, segment_at}
+use Rattle.model.proofs.Laws.Effects.{in_use_parts}
+use Rattle.model.proofs.Laws.Clean.{in_use_numbered}
 use Rattle.find.specs.Search.{rows_at, found_in}
 
 -- the slots as they stand are those of the segments in use

@@ -1,4 +1,3 @@
 pub mod Find
 pub mod Surveys
 pub mod SurveyLaws
-pub mod SurveyCases

@@ -12,17 +12,18 @@ use Rattle.model.specs.Chip.{Image, Page}
 use Rattle.model.specs.Slot.{Slot, empty, torn, dead, cut, wrong, live, slot_of, number_ok}
 use Rattle.model.specs.State.{Segment, blank, invalid, in_use, segments_of, is_in_use, number_after, slots_in, next_number, top_index, next_index, top_version, used_count, first_number, slots_from, view_of, numbers_from, capacity, next_blanked, settled, top_settled, damaged}
 use Rattle.model.specs.Laws.Lists.{and_left, and_right}
-use Rattle.model.specs.Laws.Ring.{slots_length, number_in_use}
-use Rattle.model.specs.Laws.SlotPage.{KindFacts, kind_facts, number_below}
-use Rattle.model.specs.Laws.Segments.{segments_length}
+use Rattle.model.proofs.Laws.Ring.{slots_length, number_in_use}
+use Rattle.model.proofs.Laws.SlotPage.{KindFacts, kind_facts, number_below}
+use Rattle.model.proofs.Laws.Segments.{segments_length}
 use Rattle.judge.specs.Endings.{in_order, ends_torn, ends_twin}
 use Rattle.judge.specs.Cases.{frame, fine, slot_state, frame_ring}
 use Rattle.judge.specs.Rows.{slots_at}
 use Rattle.judge.specs.Parts.{slots_offset, rows_on, used_rows}
 use Rattle.judge.specs.Heads.{frame_of}
 use Rattle.judge.specs.Tally.{none_met, tallies, add_rows, no_sum, bad_sum}
-use Rattle.judge.specs.TallyLaws.{Narrow, NarrowRows}
-use Rattle.judge.specs.Verdict.{orderly, torn_within, twin_within, verdict, Told, told}
+use Rattle.judge.proofs.TallyLaws.{Narrow, NarrowRows}
+use Rattle.judge.specs.Verdict.{orderly, torn_within, twin_within, verdict}
+use Rattle.judge.proofs.VerdictLaws.{Told, told}
 use Rattle.sums.specs.Exams.{sum_on, exam_of}
 
 -- ---- block numbers on an image

@@ -1,3 +1,2 @@
 -- The statements, and their proofs.
 pub mod Law
-pub mod Theorem

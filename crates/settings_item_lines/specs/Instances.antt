@@ -4,7 +4,7 @@ use Rattle.model.specs.Chip.{Image}
 use Rattle.text.specs.Text.{text}
 use Rattle.text.specs.Decimal.{decimal_of, decimal}
 use Rattle.partitions.specs.Answers.{read_outcome}
-use Rattle.partitions.specs.Instances.{computes, two}
+use Rattle.partitions.proofs.Instances.{computes, two}
 use Rattle.settings_hex.specs.Hex.{hex_digit, hex}
 use Rattle.settings_item_lines.specs.ItemLines.{item_head, written_line, unwritten_line, item_line, item_lines}
 

@@ -17,7 +17,7 @@ use Rattle.partitions.specs.declared.Reply.TheVariants.{Done, Partitions, Layout
 use Rattle.partitions.specs.Layout.{layout_ok, items_of}
 use Rattle.partitions.specs.Partitions.{partitions_ok, image_ok, partition_size, status_of, Newest, nothing, newest, no_run, newest_in, newest_of}
 use Rattle.partitions.specs.Answers.{number_of, is_no_run, refusals, read_outcome}
-use Rattle.partitions.specs.Laws.{right_layout, used_some}
+use Rattle.partitions.proofs.Laws.{right_layout, used_some}
 use Rattle.partition_store.proofs.Asking.{partitions_some, board_whole, unit_inside, newest_below}
 use Rattle.settings_item_lines.specs.ItemLines.{item_lines, most_layout}
 use Rattle.settings_list.specs.declared.Listed.{Listed}

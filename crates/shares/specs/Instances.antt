@@ -6,7 +6,7 @@ use Rattle.model.specs.State.{segments_of, state, view}
 use Rattle.model.specs.Steps.{on_page, slot_at, programs, write_slot, open_segment, erase_first}
 use Rattle.model.specs.Table.{live_between, table_of}
 use Rattle.model.specs.Answers.{work_of}
-use Rattle.model.specs.Laws.Bench.{evaluate}
+use Rattle.model.proofs.Laws.Bench.{evaluate}
 use Rattle.shares.specs.Shares.{shares_of, range_ok, overlap, disjoint, quota_sum, shares_within, shares_ok, is_tenant, share_of, owns}
 use Rattle.shares.specs.Layer.{Asked, puts, deletes, reads, block_asked, store_request, bounds, before_full, quota_used, rows, share_code, share_work, contents_asked, share_outcome, gave_in}
 

@@ -40,7 +40,6 @@ fn state_seen(status: u8) -> SegmentState
 }
 
 // The segment at an index, by its header; one that is not in use is tested for blank as a whole.
-#[tactic(auto, unfolding(judge::specs::Heads::bare_of))]
 pub fn see_segment(image: &[u8], segments: usize, slots: usize, index: usize) -> Summary
     requires { Sized segments slots (length image.now) × (index < segments) }
     ensures { bare result ≡ outline (get_or (segments_of segments slots image.now) index blank) }

@@ -1,7 +1,2 @@
 -- The statement, and what a put and a recovery do to the top; the induction over histories.
 pub mod Law
-pub mod Counts
-pub mod Puts
-pub mod Recovers
-pub mod Theorem
-pub mod Examples

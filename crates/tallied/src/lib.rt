@@ -1,2 +1,2 @@
-// What the tally tells of erases (request #104), stated and proved in specs/. There is no code here.
+// What the tally tells of erases (request #104), stated in specs/ and proved in proofs/. There is no code here.
 #![tactic(auto)]

@@ -18,11 +18,11 @@ use Rattle.model.specs.Header.{Version, version1, version2, is_former, bit_value
 use Rattle.model.specs.State.{blank, segments_of, slots_in, version_in, next_number, top_index, top_version}
 use Rattle.model.specs.Steps.{on_page, header_at, highest_of, highest_bit, clear_next, count_erase}
 use Rattle.model.specs.Laws.Lists.{and_left, and_right}
-use Rattle.model.specs.Laws.Bytes.{below, all_below}
+use Rattle.model.proofs.Laws.Bytes.{below, all_below}
 use Rattle.model.specs.Laws.Chunk.{chunk_part}
-use Rattle.model.specs.Laws.Segments.{part_of, part_page, page_in, segment_at}
-use Rattle.model.specs.Laws.Effects.{in_use_parts, top_at}
-use Rattle.model.specs.Laws.Clean.{in_use_numbered}
+use Rattle.model.proofs.Laws.Segments.{part_of, part_page, page_in, segment_at}
+use Rattle.model.proofs.Laws.Effects.{in_use_parts, top_at}
+use Rattle.model.proofs.Laws.Clean.{in_use_numbered}
 use Rattle.flash.specs.Ran.{Programmed, Within}
 use Rattle.flash.specs.Pages.{Sized}
 use Rattle.flash.proofs.Laws.{ran_none}

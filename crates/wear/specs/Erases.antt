@@ -11,7 +11,7 @@ use Rattle.model.specs.State.{View, entries_in, holds, Place, place_of}
 use Rattle.model.specs.Steps.{programs, program_part, on_page, write_slot, mark_dead, mark_place, open_segment, copy_entries, copy_out, settle, compact, mark_old, write_at_top, delete_steps}
 use Rattle.model.specs.Sequences.{erases_in}
 use Rattle.model.specs.Laws.Lists.{count_append}
-pub use Rattle.model.specs.Laws.Begun.{erases_append}
+pub use Rattle.model.proofs.Laws.Begun.{erases_append}
 
 -- ---- the erase steps of lists
 

@@ -4,7 +4,3 @@ pub mod Counting
 pub mod Erases
 pub mod Room
 pub mod Stored
-pub mod Requests
-pub mod Sequence
-pub mod Instances
-pub mod Examples

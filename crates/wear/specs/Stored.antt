@@ -6,7 +6,7 @@ use Rattle.std.proofs.Math.Bool.{and-false, and-eq-true_iff}
 use Rattle.model.specs.State.{holds, distinct}
 use Rattle.model.specs.Table.{Table, without, store, blocks, Agree}
 use Rattle.model.specs.Sequences.{among, removed, inserted}
-use Rattle.model.specs.Laws.Tables.{agree_holds}
+use Rattle.model.proofs.Laws.Tables.{agree_holds}
 
 -- ---- lists of block numbers
 

@@ -1,2 +1,2 @@
-// Demand 3, stated and proved in specs/. There is no code here.
+// Demand 3, stated in specs/ and proved in proofs/. There is no code here.
 #![tactic(auto)]

@@ -10,8 +10,8 @@ use Rattle.model.specs.Histories.{answered, bytes_read, reply_of, recovered, sho
 use Rattle.model.specs.Sequences.{Call, play, among, removed, inserted, stored_after, replaces, start, noted, erase_count, erases_of}
 use Rattle.model.specs.Begun.{is_mark, marks_in, Turn, cut_seen, cuts_in, by_recovery}
 use Rattle.model.specs.Bench.{call, whole}
-use Rattle.model.specs.Laws.Bench.{evaluate}
-use Rattle.model.specs.Laws.Begun.{turns_of}
+use Rattle.model.proofs.Laws.Bench.{evaluate}
+use Rattle.model.proofs.Laws.Begun.{turns_of}
 use Rattle.wear_counts.specs.Counts.{marks_of, noted_cut, noted_as, ledger_of}
 use Rattle.wear_counts.specs.Law.{TidyingsPaid, FewBegun, Within, OneErase, FewEach, OldestIs}
 

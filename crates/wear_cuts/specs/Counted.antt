@@ -14,17 +14,17 @@ use Rattle.model.specs.Histories.{Seen, recovered, shown}
 use Rattle.model.specs.Sequences.{Ledger, erase_count, erases_of}
 use Rattle.model.specs.Begun.{Turn, cut_seen}
 use Rattle.model.specs.Laws.Lists.{count_append}
-use Rattle.model.specs.Laws.Chip.{run_size}
+use Rattle.model.proofs.Laws.Chip.{run_size}
 use Rattle.bridge.specs.Views.Shape.{clean_distinct}
 use Rattle.bridge.specs.Held.{clean_view}
 use Rattle.crash.specs.Machine.{Board, Promise, settled, interrupted, unknown, OnTable, Moves}
 use Rattle.crash.specs.Sound.{Sound}
-use Rattle.crash.specs.States.{recovered_view}
-use Rattle.crash.specs.Recover.{recover_done}
+use Rattle.crash.proofs.States.{recovered_view}
+use Rattle.crash.proofs.Recover.{recover_done}
 use Rattle.wear.specs.Erases.{erases_at}
 use Rattle.wear.specs.Room.{paid_after, PaidView}
 use Rattle.wear.specs.Stored.{Stored, stored_blocks, stored_length}
-use Rattle.tallied.specs.Theorem.{IsInterrupted, Below, below_same, below_more}
+use Rattle.tallied.proofs.Theorem.{IsInterrupted, Below, below_same, below_more}
 use Rattle.wear_counts.specs.Counts.{noted_cut}
 use Rattle.wear_cuts.specs.Passes.{erases_if, due, Passes}
 

@@ -12,9 +12,9 @@ use Rattle.model.specs.Answers.{Request, format, put, delete, read, read_or, rec
 use Rattle.model.specs.Histories.{Reply, reply_of, Seen, answered, lost, Proper, recovered, shown}
 use Rattle.model.specs.Sequences.{erases_in, among, stored_after, replaces, Ledger, noted}
 use Rattle.model.specs.Begun.{marks_in, CutBegun, DoesBegun, Turn, cut_seen}
-use Rattle.model.specs.Laws.Chip.{size_facts}
-use Rattle.model.specs.Laws.Tables.{agree_holds}
-use Rattle.model.specs.Laws.Begun.{whole_begun}
+use Rattle.model.proofs.Laws.Chip.{size_facts}
+use Rattle.model.proofs.Laws.Tables.{agree_holds}
+use Rattle.model.proofs.Laws.Begun.{whole_begun}
 use Rattle.bridge.specs.Predicted.{after_put}
 use Rattle.bridge.specs.Views.Room.{room_made}
 use Rattle.bridge.specs.Allowance.{Ends, ends_or_stops}
@@ -22,16 +22,16 @@ use Rattle.bridge.specs.Held.{clean_view}
 use Rattle.bridge.specs.Requests.{put_done, after_table}
 use Rattle.crash.specs.Machine.{malformed, OnTable, WantsRecovery, Promise}
 use Rattle.crash.specs.Sound.{SoundAs, Sound, Clean, Accepted, finished}
-use Rattle.crash.specs.Requests.{refused_idle, read_idle, read_or_idle, recovered_clean, shown_clean, idle_finished, Unfinished, code_unfinished}
-use Rattle.crash.specs.Works
-use Rattle.crash.specs.Works.{Works, puts, deletes}
-use Rattle.crash.specs.States.{recovered_view, rows_table, clean_with}
-use Rattle.crash.specs.Recover.{recover_done}
-use Rattle.crash.specs.Delete.{finished_delete}
+use Rattle.crash.proofs.Requests.{refused_idle, read_idle, read_or_idle, recovered_clean, shown_clean, idle_finished, Unfinished, code_unfinished}
+use Rattle.crash.proofs.Works
+use Rattle.crash.proofs.Works.{Works, puts, deletes}
+use Rattle.crash.proofs.States.{recovered_view, rows_table, clean_with}
+use Rattle.crash.proofs.Recover.{recover_done}
+use Rattle.crash.proofs.Delete.{finished_delete}
 use Rattle.wear.specs.Room.{PaidView, room_moved}
-use Rattle.wear.specs.Requests.{put_paid}
+use Rattle.wear.proofs.Requests.{put_paid}
 use Rattle.wear.specs.Stored.{stored_put, stored_delete}
-use Rattle.tallied.specs.Theorem.{IsInterrupted}
+use Rattle.tallied.proofs.Theorem.{IsInterrupted}
 use Rattle.wear_counts.specs.Counts.{noted_cut, noted_as}
 use Rattle.wear_cuts.specs.Passes.{paid_more, Passes, passes_same}
 use Rattle.wear_cuts.specs.Recovers.{recover_passes}

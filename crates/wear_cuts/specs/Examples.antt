@@ -9,11 +9,11 @@ use Rattle.model.specs.Histories.{lost, shown}
 use Rattle.model.specs.Sequences.{Call, play, erases_in, start}
 use Rattle.model.specs.Begun.{is_mark, marks_in, CutBegun, Turn, Turns, cuts_in}
 use Rattle.model.specs.Bench.{whole}
-use Rattle.model.specs.Laws.Begun.{turns_of, AllProper, played, whole_begun}
+use Rattle.model.proofs.Laws.Begun.{turns_of, AllProper, played, whole_begun}
 use Rattle.bridge.specs.Format.{format_bytes}
-use Rattle.wear.specs.Sequence.{format_answered}
+use Rattle.wear.proofs.Sequence.{format_answered}
 use Rattle.tallied.specs.Law.{Unformatted}
-use Rattle.tallied.specs.Examples.{AllOnTable, unformatted, played_bytes, fallen, in_erase, turns_append, unformatted_append}
+use Rattle.tallied.proofs.Examples.{AllOnTable, unformatted, played_bytes, fallen, in_erase, turns_append, unformatted_append}
 use Rattle.wear_counts.specs.Counts.{marks_of, ledger_of}
 use Rattle.wear_counts.specs.Law.{TidyingsPaid, FewBegun, WithinCuts, WithinRequest, OneErase, FewEach}
 use Rattle.wear_counts.specs.Instances.{formatted, seven, cut_off, worn, unpaid, turns_for, evaluate_turns, evaluate_counts}

@@ -8,9 +8,9 @@ use Rattle.model.specs.Answers.{recover, work_of}
 use Rattle.model.specs.Histories.{shown}
 use Rattle.model.specs.Sequences.{erases_in}
 use Rattle.model.specs.Laws.Lists.{count_append}
-use Rattle.model.specs.Laws.Counted.{SameRows}
+use Rattle.model.proofs.Laws.Counted.{SameRows}
 use Rattle.bridge.specs.Accepted.{recover_none}
-use Rattle.crash.specs.States.{recovered_view, rows_table}
+use Rattle.crash.proofs.States.{recovered_view, rows_table}
 use Rattle.wear.specs.Erases.{turns, erases_at}
 use Rattle.wear.specs.Room.{paid_after, PaidView}
 

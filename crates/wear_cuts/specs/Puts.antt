@@ -16,11 +16,11 @@ use Rattle.model.specs.Histories.{shown}
 use Rattle.model.specs.Sequences.{erases_in}
 use Rattle.model.specs.Begun.{is_mark, marks_in, CutBegun}
 use Rattle.model.specs.Laws.Lists.{one}
-use Rattle.model.specs.Laws.Chip.{run_size, cut_size}
-use Rattle.model.specs.Laws.Counted.{SameRows}
-use Rattle.model.specs.Laws.Begun.{begun_cut, Behind, begun_append, begun_none, begun_unmarked, whole_begun, marks_append}
-use Rattle.model.specs.Laws.SlotPage.{Valid}
-use Rattle.model.specs.Laws.Marks.{open_unmarked, settle_unmarked, dead_unmarked, write_unmarked, copy_out_one}
+use Rattle.model.proofs.Laws.Chip.{run_size, cut_size}
+use Rattle.model.proofs.Laws.Counted.{SameRows}
+use Rattle.model.proofs.Laws.Begun.{begun_cut, Behind, begun_append, begun_none, begun_unmarked, whole_begun, marks_append}
+use Rattle.model.proofs.Laws.SlotPage.{Valid}
+use Rattle.model.proofs.Laws.Marks.{open_unmarked, settle_unmarked, dead_unmarked, write_unmarked, copy_out_one}
 use Rattle.bridge.specs.Predicted.{slot_changed, marked, put_into, after_put, after_delete, CleanView, Carries}
 use Rattle.bridge.specs.Views.Places.{fill_changed, TopGap, in_view}
 use Rattle.bridge.specs.Views.Room.{tidied, opened_clean}
@@ -29,18 +29,18 @@ use Rattle.bridge.specs.Held.{Held, held_of_clean, clean_view, clean_of_held}
 use Rattle.bridge.specs.Done.{open_held}
 use Rattle.bridge.specs.Requests.{one_compaction, delete_done, put_valid, room_carries, roomed_below, roomed_held, roomed_clean, roomed_gap, roomed_size, after_clean, put_steps_lem}
 use Rattle.crash.specs.Sound.{Accepted}
-use Rattle.crash.specs.States.{recovered_view, SoundWith, rows_table, kept_with, clean_with}
-use Rattle.crash.specs.RecoverMarks.{slot_inside, live_place, live_marks}
-use Rattle.crash.specs.Delete.{delete_whole}
-use Rattle.crash.specs.RoomTorn.{held_shows, next_torn}
-use Rattle.crash.specs.OwingCuts.{rest_cut}
-use Rattle.crash.specs.RoomOwing.{Full, old_valid, old_fits, Owing}
-use Rattle.crash.specs.RoomCuts.{open_left, copy_out_marked, owes, owed, rest_after, rest_last}
-use Rattle.crash.specs.RoomSteps.{RoomLaws, making_room}
-use Rattle.crash.specs.WriteTop.{cut_view, put_into_left}
+use Rattle.crash.proofs.States.{recovered_view, SoundWith, rows_table, kept_with, clean_with}
+use Rattle.crash.proofs.RecoverMarks.{slot_inside, live_place, live_marks}
+use Rattle.crash.proofs.Delete.{delete_whole}
+use Rattle.crash.proofs.RoomTorn.{held_shows, next_torn}
+use Rattle.crash.proofs.OwingCuts.{rest_cut}
+use Rattle.crash.proofs.RoomOwing.{Full, old_valid, old_fits, Owing}
+use Rattle.crash.proofs.RoomCuts.{open_left, copy_out_marked, owes, owed, rest_after, rest_last}
+use Rattle.crash.proofs.RoomSteps.{RoomLaws, making_room}
+use Rattle.crash.proofs.WriteTop.{cut_view, put_into_left}
 use Rattle.wear.specs.Erases.{erases_at, open_none, copied_none, settle_none, mark_none, written_none}
 use Rattle.wear.specs.Room.{paid_open, PaidView, ready_after}
-use Rattle.wear.specs.Requests.{paid_changed, paid_marked, put_first, put_paid}
+use Rattle.wear.proofs.Requests.{paid_changed, paid_marked, put_first, put_paid}
 use Rattle.wear_cuts.specs.Passes.{erases_if, due, due_clean, turned_one, paid_more, Passes, passes_views, passes_same, passes_trans}
 use Rattle.wear_cuts.specs.Recovers.{due_b}
 

@@ -16,25 +16,25 @@ use Rattle.model.specs.Answers.{recover, steps_for, work_of}
 use Rattle.model.specs.Sequences.{erases_in}
 use Rattle.model.specs.Begun.{is_mark, marks_in, CutBegun}
 use Rattle.model.specs.Laws.Lists.{count_append}
-use Rattle.model.specs.Laws.Chip.{size_facts, whole_cut, cut_size}
-use Rattle.model.specs.Laws.Segments.{segments_length}
-use Rattle.model.specs.Laws.Begun.{begun_cut, erases_append, marks_append, Behind, begun_append, begun_few, begun_unmarked}
-use Rattle.model.specs.Laws.Counted.{bits_length}
-use Rattle.model.specs.Laws.Marks.{settle_unmarked, count_unmarked, dead_unmarked}
+use Rattle.model.proofs.Laws.Chip.{size_facts, whole_cut, cut_size}
+use Rattle.model.proofs.Laws.Segments.{segments_length}
+use Rattle.model.proofs.Laws.Begun.{begun_cut, erases_append, marks_append, Behind, begun_append, begun_few, begun_unmarked}
+use Rattle.model.proofs.Laws.Counted.{bits_length}
+use Rattle.model.proofs.Laws.Marks.{settle_unmarked, count_unmarked, dead_unmarked}
 use Rattle.bridge.specs.Accepted.{accepted, refused_none, recover_none}
 use Rattle.crash.specs.Sound.{SoundAs, Sound}
 use Rattle.crash.specs.Alike.{like_after}
-use Rattle.crash.specs.States.{case_of, recovered_view, recover_steps_lem}
-use Rattle.crash.specs.RecoverMarks.{slot_inside, last_marks, older_marks}
+use Rattle.crash.proofs.States.{case_of, recovered_view, recover_steps_lem}
+use Rattle.crash.proofs.RecoverMarks.{slot_inside, last_marks, older_marks}
 use Rattle.crash.specs.RecoverCount.{counts, top, top_below}
-use Rattle.crash.specs.RecoverErase
-use Rattle.crash.specs.RecoverErase.{steps_a}
-use Rattle.crash.specs.RecoverOwing
-use Rattle.crash.specs.RecoverOwing.{is_unblank, by_old}
-use Rattle.crash.specs.Recover.{recover_cut}
+use Rattle.crash.proofs.RecoverErase
+use Rattle.crash.proofs.RecoverErase.{steps_a}
+use Rattle.crash.proofs.RecoverOwing
+use Rattle.crash.proofs.RecoverOwing.{is_unblank, by_old}
+use Rattle.crash.proofs.Recover.{recover_cut}
 use Rattle.wear.specs.Erases.{mark_none, settle_none}
-use Rattle.tallied.specs.Recovers.{counts_none}
-use Rattle.tallied.specs.Theorem.{count_least}
+use Rattle.tallied.proofs.Recovers.{counts_none}
+use Rattle.tallied.proofs.Theorem.{count_least}
 use Rattle.wear_cuts.specs.Passes.{erases_if, due, due_clean, paid_more, Passes, passes_views}
 
 -- ---- one erase at most, of any image

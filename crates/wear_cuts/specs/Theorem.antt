@@ -14,26 +14,26 @@ use Rattle.model.specs.Answers.{Request, format, put, delete, read, read_or, rec
 use Rattle.model.specs.Histories.{Proper, shown}
 use Rattle.model.specs.Sequences.{erases_in, Ledger, start, erase_count, erases_of}
 use Rattle.model.specs.Begun.{DoesBegun, Turn, Turns, cut_seen, cuts_in, by_recovery}
-use Rattle.model.specs.Laws.Chip.{size_facts, run_size}
-use Rattle.model.specs.Laws.Begun.{begun_does, begun_few}
+use Rattle.model.proofs.Laws.Chip.{size_facts, run_size}
+use Rattle.model.proofs.Laws.Begun.{begun_does, begun_few}
 use Rattle.bridge.specs.Predicted.{fresh}
 use Rattle.bridge.specs.Accepted.{accepted, refused_none}
 use Rattle.bridge.specs.Format.{format_done}
 use Rattle.crash.specs.Machine.{Board, Promise, settled, interrupted, unknown, OnTable, Moves}
-use Rattle.crash.specs.Requests.{read_idle, read_or_idle}
-use Rattle.crash.specs.ReadingRuns.{Known, move_known}
+use Rattle.crash.proofs.Requests.{read_idle, read_or_idle}
+use Rattle.crash.proofs.ReadingRuns.{Known, move_known}
 use Rattle.crash.specs.Invariant.{Invariant}
-use Rattle.crash.specs.Skeleton.{one_event}
-use Rattle.crash.specs.Works.{works, may}
-use Rattle.crash.specs.States.{recovered_view, rows_table, clean_with}
-use Rattle.crash.specs.Starts.{formatted_stores}
-use Rattle.crash.specs.Theorem.{request_laws}
+use Rattle.crash.proofs.Skeleton.{one_event}
+use Rattle.crash.proofs.Works.{works, may}
+use Rattle.crash.proofs.States.{recovered_view, rows_table, clean_with}
+use Rattle.crash.proofs.Starts.{formatted_stores}
+use Rattle.crash.proofs.Theorem.{request_laws}
 use Rattle.wear.specs.Erases.{delete_none, turns, erases_at, balanced}
 use Rattle.wear.specs.Room.{paid_bound}
-use Rattle.wear.specs.Requests.{tracks_start, put_few}
-use Rattle.wear.specs.Sequence.{format_answered}
+use Rattle.wear.proofs.Requests.{tracks_start, put_few}
+use Rattle.wear.proofs.Sequence.{format_answered}
 use Rattle.tallied.specs.Law.{Unformatted}
-use Rattle.tallied.specs.Theorem.{IsInterrupted, Facts, facts, Below, known, count_least, begun_of}
+use Rattle.tallied.proofs.Theorem.{IsInterrupted, Facts, facts, Below, known, count_least, begun_of}
 use Rattle.wear_counts.specs.Counts.{marks_of, noted_as, ledger_of}
 use Rattle.wear_counts.specs.Law.{WithinRequest, OneErase, FewEach, FromFormat, WearWithCuts, CountsTell}
 use Rattle.wear_cuts.specs.Passes.{erases_if, due, due_clean, Passes}

@@ -9,12 +9,12 @@ use Rattle.model.specs.Answers.{Request, format, put, delete, read, read_or, rec
 use Rattle.model.specs.Histories.{Proper, reply_of}
 use Rattle.model.specs.Sequences.{Call, play, Observed, observe, observed, InSequence, Uncut, Ledger, start, noted, ledger, erase_count, erases_of}
 use Rattle.model.specs.Begun.{cut_seen, cuts_in}
-use Rattle.model.specs.Laws.Chip.{size_facts}
-use Rattle.model.specs.Laws.Begun.{turn_of, turns_of, AllProper, played}
+use Rattle.model.proofs.Laws.Chip.{size_facts}
+use Rattle.model.proofs.Laws.Begun.{turn_of, turns_of, AllProper, played}
 use Rattle.bridge.specs.Allowance.{ends}
 use Rattle.crash.specs.Machine.{OnTable}
 use Rattle.wear.specs.Demand3.{ErasesPaid, FewErases, Balanced, Demand3}
-use Rattle.wear.specs.Sequence.{format_answered}
+use Rattle.wear.proofs.Sequence.{format_answered}
 use Rattle.tallied.specs.Law.{Unformatted}
 use Rattle.wear_counts.specs.Counts.{marks_of, noted_as, ledger_of}
 use Rattle.wear_counts.specs.Law.{FewEach, FromFormat, WearWithCuts}

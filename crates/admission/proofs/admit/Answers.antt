@@ -1,7 +1,7 @@
 -- `admission::admit` refuses in the order of the definition, or gives the tenant's share. Assumes nothing.
 use mathlib.Core.Path.{sym, ◌∙◌}
 use native.Mathlib.Omega.{arith}
-use Rattle.model.specs.Laws.Chip.{size_facts}
+use Rattle.model.proofs.Laws.Chip.{size_facts}
 use Rattle.request.proofs.Laws.{wrong_size, right_size_lem}
 use Rattle.share_list.proofs.Laws.{within_ranges, owner_tenant}
 use Rattle.admission.proofs.Laws.{size_refused, shares_refused, number_refused, foreign_refused, allowed}

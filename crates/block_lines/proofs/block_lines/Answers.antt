@@ -3,7 +3,7 @@ use native.Mathlib.Omega.{arith}
 use lib.ListN.{get_or}
 use Rattle.account_text.specs.Account.{block_lines}
 use Rattle.index.specs.Tables.{list_of}
-use Rattle.index.specs.Sorted.{of_few, stand_of, stand_below}
+use Rattle.index.proofs.Sorted.{of_few, stand_of, stand_below}
 use Rattle.block_lines.proofs.Laws.{chain_none, blocks_start, blocks_more, blocks_none, blocks_as, blocks_room, blocks_end}
 use Rattle.block_lines.proofs.block_lines.Goals as goal
 use Rattle.block_lines.proofs.block_lines.Goals.{then-first-ne0, else-first-ne0}

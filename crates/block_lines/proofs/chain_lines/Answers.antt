@@ -1,7 +1,7 @@
 -- `block_lines::chain_lines`. The invariant (`Walk`): the lines of the pages from this one on are left. Assumes nothing.
 use native.Mathlib.Omega.{arith}
 use Rattle.index.specs.Tables.{list_of}
-use Rattle.index.specs.Sorted.{of_block_lem}
+use Rattle.index.proofs.Sorted.{of_block_lem}
 use Rattle.block_lines.proofs.Laws.{walk_start, walk_inside, walk_low, walk_short, walk_less, walk_step, walk_end}
 use Rattle.block_lines.proofs.chain_lines.Goals as goal
 

@@ -13,7 +13,7 @@ use Rattle.model.specs.State.{View, entries, entries_in, holds, distinct, Place,
 use Rattle.model.specs.Steps.{slot_at, top_number, has_room, copied, open_next, compact_oldest, room_for, compactions, new_numbers}
 use Rattle.model.specs.Mounted.{place_entry}
 use Rattle.model.specs.Laws.Lists.{flatten_append, flatten_one}
-use Rattle.model.specs.Laws.Tables.{holds_append, copies_append, distinct_copies, held_copies}
+use Rattle.model.proofs.Laws.Tables.{holds_append, copies_append, distinct_copies, held_copies}
 use Rattle.bridge.specs.Predicted.{CleanView}
 use Rattle.bridge.specs.Views.Slots.{entries_append, copied_entries, copied_none}
 use Rattle.bridge.specs.Views.Shape.{clean_distinct}

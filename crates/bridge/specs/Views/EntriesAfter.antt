@@ -10,7 +10,7 @@ use Rattle.model.specs.Slot.{Slot, empty, dead, live, entry_of}
 use Rattle.model.specs.State.{View, entries, entries_in, holds, copies, distinct, Place, slot_from, place_from, place_of}
 use Rattle.model.specs.Steps.{slot_at, top_row, top_number, has_room, first_empty}
 use Rattle.model.specs.Mounted.{place_entry}
-use Rattle.model.specs.Laws.Tables.{holds_append, copies_append, distinct_copies, held_copies, copies_absent, copies_without_same, stored_last_distinct}
+use Rattle.model.proofs.Laws.Tables.{holds_append, copies_append, distinct_copies, held_copies, copies_absent, copies_without_same, stored_last_distinct}
 use Rattle.bridge.specs.Predicted.{slot_changed, written, marked, put_into, after_delete, CleanView}
 use Rattle.bridge.specs.Views.Slots.{entries_append, entries_cons}
 use Rattle.bridge.specs.Views.Places.{Gap, fill, TopGap, in_view, gap_slot, fill_length, marked_at, written_at, written_place, written_holds}

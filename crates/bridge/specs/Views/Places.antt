@@ -11,7 +11,7 @@ use Rattle.model.specs.Slot.{Slot, empty, torn, dead, cut, wrong, live, is_empty
 use Rattle.model.specs.State.{View, entries, entries_in, holds, empty_last, only_top_empty, slot_from, place_from, place_of}
 use Rattle.model.specs.Steps.{top_row, top_number, has_room, first_empty}
 use Rattle.model.specs.Laws.Lists.{all_append, flatten_append}
-use Rattle.model.specs.Laws.Tables.{holds_append, without_first, without_first_at}
+use Rattle.model.proofs.Laws.Tables.{holds_append, without_first, without_first_at}
 use Rattle.bridge.specs.Predicted.{slot_changed, written, marked, Rows}
 use Rattle.bridge.specs.Views.Slots.{full, entries_append, entries_cons, all_empty_entries, first_empty_lem, top_row_lem, find_top, only_top_empty_lem}
 

@@ -11,7 +11,7 @@ use Rattle.model.specs.Header.{is_former, tally_of, no_bit_left}
 use Rattle.model.specs.State.{View, entries_in, holds, distinct, capacity, place_of}
 use Rattle.model.specs.Steps.{top_number, has_room, room_for, new_numbers, is_worn}
 use Rattle.model.specs.Table.{lookup, without, store, Agree}
-use Rattle.model.specs.Laws.Tables.{agree_holds, agree_store, without_absent, distinct_without, without_length, without_first_lem, without_first_append, stored_last, stored_last_agree, stored_last_distinct, stored_last_length}
+use Rattle.model.proofs.Laws.Tables.{agree_holds, agree_store, without_absent, distinct_without, without_length, without_first_lem, without_first_append, stored_last, stored_last_agree, stored_last_distinct, stored_last_length}
 use Rattle.bridge.specs.Predicted.{written, marked, put_into, after_put, after_delete, CleanView, Carries, Fits}
 use Rattle.bridge.specs.Views.Places.{FirstLive, TopGap, marked_entries, written_entries, written_place, written_holds}
 use Rattle.bridge.specs.Views.Shape.{Shape, clean_shape, shape_clean, clean_distinct, clean_within, written_shape, marked_shape, shape_gap, first_live_in}

@@ -14,7 +14,7 @@ use Rattle.model.specs.State.{View, entries, entries_in, distinct, none_wrong_or
 use Rattle.model.specs.Steps.{top_number, has_room, copied, open_next, compact_oldest, compact_until_room, room_for, compactions, new_numbers}
 use Rattle.model.specs.Table.{lookup, Agree}
 use Rattle.model.specs.Laws.Lists.{all_append, all_parts, all_flatten, none_count, some_count, flatten_last}
-use Rattle.model.specs.Laws.Tables.{distinct_swap, agree_swap}
+use Rattle.model.proofs.Laws.Tables.{distinct_swap, agree_swap}
 use Rattle.bridge.specs.Predicted.{CleanView}
 use Rattle.bridge.specs.Views.Slots.{full, none_dead, sound, entries_append, rows_length, full_counted}
 use Rattle.bridge.specs.Views.Shape.{clean_shape, shape_clean, clean_distinct, clean_within, row_added, added_entries, added_room, added_top, all_full, opened_shape, opened_entries, opened_room, opened_top, tidied_view, tidied_shape}

@@ -12,8 +12,8 @@ use Rattle.model.specs.Chip.{Image, Page, most_segments}
 use Rattle.model.specs.Slot.{written, page_block, Slot, empty, torn, dead, cut, wrong, live, slot_of, is_empty, is_torn, is_wrong, entry_of}
 use Rattle.model.specs.State.{entries, entries_in, empty_last, holds, view}
 use Rattle.model.specs.Table.{Table, blocks, live_between, table_of}
-use Rattle.model.specs.Laws.Segments.{part_of}
-use Rattle.model.specs.Laws.SlotPage.{kind_facts, live_status}
+use Rattle.model.proofs.Laws.Segments.{part_of}
+use Rattle.model.proofs.Laws.SlotPage.{kind_facts, live_status}
 use Rattle.bridge.specs.Held.{held_of_clean, clean_view}
 use Rattle.bridge.specs.Views.Slots.{sound, all_empty_entries}
 use Rattle.flash.specs.Pages.{Sized}

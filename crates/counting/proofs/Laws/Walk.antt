@@ -13,7 +13,7 @@ use Rattle.model.specs.Lists.{chunk}
 use Rattle.model.specs.Chip.{Image, Page}
 use Rattle.model.specs.Slot.{written, page_block}
 use Rattle.model.specs.Steps.{slot_at}
-use Rattle.model.specs.Laws.Segments.{part_of}
+use Rattle.model.proofs.Laws.Segments.{part_of}
 use Rattle.places.proofs.Laws.Walk.{slot_pages}
 use Rattle.counting.specs.declared.Sought.{Sought}
 use Rattle.counting.specs.declared.Met.{Met}

@@ -13,12 +13,12 @@ use Rattle.model.specs.Chip.{Image}
 use Rattle.model.specs.Slot.{Slot, empty, torn, dead, cut, wrong, live, is_empty, is_torn, is_wrong, kind_of, Entry, entry_of}
 use Rattle.model.specs.State.{Segment, segments_of, used_count, first_number, View, view_of, entries, entries_in, holds, distinct, empty_last, only_top_empty, some_in_use, consecutive, one_version, none_owing, others_blank, none_wrong_or_torn, blocks_distinct, empty_slots_last, capacity, within_capacity, conditions}
 use Rattle.model.specs.Laws.Lists.{all_append, and_left}
-use Rattle.model.specs.Laws.Tables.{holds_append}
+use Rattle.model.proofs.Laws.Tables.{holds_append}
 use Rattle.bridge.specs.Views.Slots.{full, sound, full_then, entries_append}
 use Rattle.judge.specs.Bitmap.{put_bit}
 use Rattle.judge.specs.Parts.{rows_on, used_rows}
 use Rattle.judge.specs.Tally.{none_met}
-use Rattle.judge.specs.TallyLaws.{Narrow, NarrowRows, Agree, agree_none, agree_put, agree_same}
+use Rattle.judge.proofs.TallyLaws.{Narrow, NarrowRows, Agree, agree_none, agree_put, agree_same}
 use Rattle.scan.specs.SurveyLaws.{narrow_rows}
 use Rattle.faults.specs.declared.HeadsTold.{HeadsTold}
 use Rattle.faults.specs.declared.SlotTests.{SlotTests}

@@ -1,7 +1,7 @@
 -- `faults::test_heads`. The invariant: what is left of the segments, behind what was tested, gives the whole. Assumes nothing.
 use native.Mathlib.Omega.{arith}
 use Rattle.model.specs.State.{segments_of}
-use Rattle.model.specs.Laws.Segments.{segments_length}
+use Rattle.model.proofs.Laws.Segments.{segments_length}
 use Rattle.judge.specs.Heads.{no_counts}
 use Rattle.faults.proofs.Laws.Heads.{tests_start, tests_turn, tests_end}
 use Rattle.faults.proofs.test_heads.Goals as goal

@@ -10,7 +10,7 @@ use Rattle.rows.proofs.Laws.Rows.{page_part}
 use Rattle.index.specs.Shows.{no_counts}
 use Rattle.linking.specs.Counts.{count_kind}
 use Rattle.index.specs.Tables.{tables, link_kind, Brief}
-use Rattle.index.specs.Lives.{brief}
+use Rattle.index.proofs.Lives.{brief}
 use Rattle.linking.proofs.Laws.{row_none, row_more, count_few}
 use Rattle.linking.proofs.list_row.Goals as goal
 

@@ -11,7 +11,7 @@ use lib.Dec.{eqb}
 use Rattle.model.specs.Header.{erase_pending, compacted}
 use Rattle.model.specs.State.{Segment, blank, invalid, in_use, is_in_use, is_invalid, is_owing, number_after, next_number, next_index, top_index, used_count, is_clean, top_settled, is_a, is_b, is_c, is_d, state_of, State, clean, unfinished, damaged, case_a, case_b, case_c, case_d}
 use Rattle.model.specs.Laws.Lists.{and_left, map_set}
-use Rattle.model.specs.Laws.Ring.{next_ge}
+use Rattle.model.proofs.Laws.Ring.{next_ge}
 use Rattle.judge.specs.Heads.{outline, state_seen}
 use Rattle.judge.specs.declared.SegmentState.TheVariants.{Invalid, InUse, Owing}
 use Rattle.scan.specs.Surveys.{mend_in, survey_in, survey_of}

@@ -22,7 +22,7 @@ use Rattle.index.specs.declared.Counts.{Counts}
 use Rattle.index.specs.declared.Shown.{Shown}
 use Rattle.index.specs.Shows.{no_counts, counts_of, shown_as, shown_of, uncounted, counted, after_shown}
 use Rattle.index.specs.Tables.{Tables, link_row, linked, list_of}
-use Rattle.index.specs.Walks.{held_shown}
+use Rattle.index.proofs.Walks.{held_shown}
 use Rattle.descent.specs.Descent.{largest, Descent}
 use Rattle.descent.specs.Turns.{descent_start, turn_below, turn_used, turn_row, turn_gone, turn_live, turn, end_unused, end_live}
 use Rattle.linking.specs.Counts.{count_row}

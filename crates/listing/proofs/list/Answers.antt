@@ -5,8 +5,8 @@ use mathlib.Core.List.{List}
 use lib.ListN.{length, length-replicate}
 use Rattle.scan.proofs.Laws.Surveys.{right_size_lem}
 use Rattle.index.specs.Tables.{Tables, tables, Indexed}
-use Rattle.index.specs.Chains.{Whole, Bare, zeros_bare}
-use Rattle.index.specs.Walks.{indexed}
+use Rattle.index.proofs.Chains.{Whole, Bare, zeros_bare}
+use Rattle.index.proofs.Walks.{indexed}
 use Rattle.listing.proofs.list.Goals as goal
 
 pub list_segments-requires : goal.list_segments-requires

@@ -2,7 +2,7 @@
 use mathlib.Core.Path.{◌≡◌, ap, ◌∙◌}
 use lib.ListN.{take}
 use Rattle.model.specs.State.{segments_of}
-use Rattle.model.specs.Laws.Segments.{segments_length}
+use Rattle.model.proofs.Laws.Segments.{segments_length}
 use Rattle.scan.proofs.Laws.Surveys.{right_size_lem}
 use Rattle.scan.specs.declared.Surveyed.{Surveyed}
 use Rattle.listing.specs.Walk.{hidden}

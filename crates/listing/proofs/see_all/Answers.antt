@@ -5,7 +5,7 @@ use native.Mathlib.Omega.{arith}
 use lib.ListN.{get_or, length-set}
 use lib.Seq.{take_all}
 use Rattle.model.specs.State.{blank, segments_of}
-use Rattle.model.specs.Laws.Segments.{segments_length}
+use Rattle.model.proofs.Laws.Segments.{segments_length}
 use Rattle.index.specs.Shows.{uncounted}
 use Rattle.descent.specs.Filled.{fill_more}
 use Rattle.listing.proofs.Laws.Shows.{outline_uncounted}

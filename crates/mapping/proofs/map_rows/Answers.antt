@@ -5,7 +5,7 @@ use lib.ListN.{length}
 use Rattle.model.specs.State.{segments_of}
 use Rattle.account_text.specs.Account.{shown}
 use Rattle.account_text.specs.Map.{map_rows, all_rows}
-use Rattle.index.specs.Walks.{held_shown}
+use Rattle.index.proofs.Walks.{held_shown}
 use Rattle.marking.proofs.Laws.{finish_begin, finish_more, finish_end}
 use Rattle.mapping.proofs.Laws.{rows_next, rows_end}
 use Rattle.mapping.proofs.map_rows.Goals as goal

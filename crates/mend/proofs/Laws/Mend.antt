@@ -16,11 +16,11 @@ use Rattle.model.specs.Answers.{code_of, recover, steps_for, performed, outcome_
 use Rattle.model.specs.declared.Answer.TheVariants.{Done, Damaged}
 use Rattle.model.specs.declared.Performed.{Performed}
 use Rattle.model.specs.Laws.Lists.{and_left, and_right}
-use Rattle.model.specs.Laws.Chip.{size_facts}
-use Rattle.model.specs.Laws.Exclusive.{inside}
-use Rattle.model.specs.Laws.Segments.{segments_length}
-use Rattle.model.specs.Laws.Ring.{next_ge, next_kept, owing_number}
-use Rattle.model.specs.Laws.Clean.{clean_ring, used_next}
+use Rattle.model.proofs.Laws.Chip.{size_facts}
+use Rattle.model.proofs.Laws.Exclusive.{inside}
+use Rattle.model.proofs.Laws.Segments.{segments_length}
+use Rattle.model.proofs.Laws.Ring.{next_ge, next_kept, owing_number}
+use Rattle.model.proofs.Laws.Clean.{clean_ring, used_next}
 use Rattle.tally.proofs.Laws.{top_version_lem}
 use Rattle.request.specs.Request.{Refused, Carried}
 use Rattle.mend.specs.Marks.{PageAt, MarkedAt}
@@ -28,7 +28,7 @@ use Rattle.mend.specs.Erasing.{counting, erasing}
 use Rattle.bridge.specs.Lengths.{mark_length, settle_length, image_row, image_rows, slot_short}
 use Rattle.request.proofs.Answered.{refused_outcome, idle_outcome, carried_outcome}
 use Rattle.bridge.specs.Refusals.{recover_clean, recover_damaged, recover_unfinished}
-use Rattle.model.specs.Laws.Tables.{holds_copies}
+use Rattle.model.proofs.Laws.Tables.{holds_copies}
 
 -- ---- the test of an exception
 

@@ -21,7 +21,7 @@ use Rattle.model.specs.declared.Answer.TheVariants.{Damaged, Absent as NotStored
 use Rattle.model.specs.declared.Performed.{Performed}
 use Rattle.model.specs.declared.SlotPlace.{SlotPlace}
 use Rattle.model.specs.Mounted.{Places, least_places, place_entry, mounted_refusal, Writes, MountedDelete}
-use Rattle.model.specs.Laws.Chip.{run_size}
+use Rattle.model.proofs.Laws.Chip.{run_size}
 use Rattle.bridge.specs.Accepted.{refusal, read_passed}
 use Rattle.bridge.specs.Refusals.{delete_code}
 use Rattle.bridge.specs.Allowance.{ends}

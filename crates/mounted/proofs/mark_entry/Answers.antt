@@ -1,6 +1,6 @@
 -- `mounted::mark_entry` marks the slot of an entry, or refuses. Assumes nothing.
 use mathlib.Core.Path.{refl}
-use Rattle.mounted.proofs.Laws.Writes.{inside_at, marked_at, marked_absent, marked_stale}
+use Rattle.mounted.proofs.Laws.Writes.{marked_at, marked_absent, marked_stale}
 use Rattle.mounted.proofs.mark_entry.Goals as goal
 
 pub returns-in-At : goal.returns-in-At

@@ -14,7 +14,7 @@ use Rattle.model.specs.State.{View, entries_in, holds, capacity, clean, state, v
 use Rattle.model.specs.Steps.{top_row, top_number, first_empty, compactions, is_worn}
 use Rattle.model.specs.Answers.{code_of, is_full}
 use Rattle.model.specs.Sequences.{among}
-use Rattle.model.specs.Laws.Chip.{size_facts}
+use Rattle.model.proofs.Laws.Chip.{size_facts}
 use Rattle.model.specs.declared.SegmentNumber.{SegmentNumber}
 use Rattle.model.specs.declared.Answer.TheVariants.{Damaged, Full as FullAnswer, Worn, FormerVersion}
 use Rattle.bridge.specs.Predicted.{CleanView}

@@ -1,6 +1,6 @@
 -- `mounted_plan::decide` decides a put as the definitions do on a clean image, and within bounds on any. Assumes nothing.
 use native.Mathlib.Omega.{arith}
-use Rattle.model.specs.Laws.Chip.{size_facts}
+use Rattle.model.proofs.Laws.Chip.{size_facts}
 use Rattle.flash.proofs.Pages.{sized}
 use Rattle.mounted_plan.proofs.Laws.Decided.{ringed, number_fits, plan_fits, decided_damaged, decided_former, decided_full, decided_there, decided_header}
 use Rattle.mounted_plan.proofs.decide.Goals as goal

@@ -13,7 +13,7 @@ use Rattle.model.specs.Steps.{slot_at}
 use Rattle.model.specs.Answers.{code_of}
 use Rattle.model.specs.Mounted.{Places, least_places, unusable}
 use Rattle.model.specs.declared.Performed.{Performed}
-use Rattle.model.specs.Laws.Bytes.{run_bytes}
+use Rattle.model.proofs.Laws.Bytes.{run_bytes}
 use Rattle.find.specs.declared.Found.{Found}
 use Rattle.request.specs.Request.{Finished}
 use Rattle.places.specs.Places.{entry_seen, entered_from, noted}

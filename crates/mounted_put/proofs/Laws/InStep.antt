@@ -17,8 +17,8 @@ use Rattle.model.specs.Answers.{code_of, put, work_of, Outcome, performed, outco
 use Rattle.model.specs.Mounted.{Places, least_places, place_entry}
 use Rattle.model.specs.declared.Performed.{Performed}
 use Rattle.model.specs.declared.SlotPlace.{SlotPlace}
-use Rattle.model.specs.Laws.Chip.{size_facts, run_size}
-use Rattle.model.specs.Laws.SlotPage.{number_below}
+use Rattle.model.proofs.Laws.Chip.{size_facts, run_size}
+use Rattle.model.proofs.Laws.SlotPage.{number_below}
 use Rattle.bridge.specs.Allowance.{Ends, ends}
 use Rattle.bridge.specs.Held.{Held, clean_view, clean_of_held}
 use Rattle.bridge.specs.Predicted.{CleanView, after_put}

@@ -2,7 +2,7 @@
 use mathlib.Core.Path.{refl}
 use native.Mathlib.Omega.{arith}
 use borrow.Author.Rules.{rules}
-use Rattle.model.specs.Laws.Bytes.{bytes_known}
+use Rattle.model.proofs.Laws.Bytes.{bytes_known}
 use Rattle.mounted_put.proofs.Laws.AnyTable.{there_placed, there_performs}
 use Rattle.mounted_put.proofs.perform.Goals as goal
 

@@ -1,7 +1,7 @@
 -- `mounted_put::perform_moving` is the put of the definition in step, and harmless out of step. Assumes nothing.
 use native.Mathlib.Omega.{arith}
 use borrow.Author.Rules.{rules}
-use Rattle.model.specs.Laws.Bytes.{bytes_known}
+use Rattle.model.proofs.Laws.Bytes.{bytes_known}
 use Rattle.mounted_put.proofs.Laws.AnyTable.{spent_performs, continued_performs}
 use Rattle.mounted_put.proofs.perform_moving.Goals as goal
 

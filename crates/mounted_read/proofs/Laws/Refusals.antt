@@ -8,7 +8,7 @@ use lib.Dec.{ltb, eqb}
 use native.Mathlib.Omega.{arith}
 use borrow.Author.Tests.{ltb-true, ltb-false, eqb-true}
 use Rattle.model.specs.Chip.{Image, most_slots, right_size}
-use Rattle.model.specs.Laws.Chip.{size_facts}
+use Rattle.model.proofs.Laws.Chip.{size_facts}
 use Rattle.model.specs.Laws.Lists.{and_left, and_right}
 use Rattle.model.specs.Slot.{number_ok}
 use Rattle.model.specs.Answers.{code_of, ◌when◌, first_of}

@@ -3,7 +3,7 @@ use mathlib.Core.Path.{sym, ◌∙◌}
 use native.Mathlib.Omega.{arith}
 use Rattle.request.proofs.Laws.{wrong_size, right_size_lem}
 use Rattle.model.specs.Answers.{code_of}
-use Rattle.model.specs.Laws.Mounted.{refuses_size, refuses_short, refuses_number, refuses_length, refuses_unusable, refuses_none}
+use Rattle.model.proofs.Laws.Mounted.{refuses_size, refuses_short, refuses_number, refuses_length, refuses_unusable, refuses_none}
 use Rattle.mounted_read.proofs.refusal.Goals as goal
 
 pub returns-then-not-right_size : goal.returns-then-not-right_size

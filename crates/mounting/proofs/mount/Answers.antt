@@ -8,7 +8,7 @@ use Rattle.request.proofs.Laws.{wrong_size, right_size_lem}
 use Rattle.scan.proofs.Laws.Told.{survey_says}
 use Rattle.looking.proofs.Laws.Survey.{survey_other, survey_plan}
 use Rattle.model.specs.Answers.{code_of}
-use Rattle.model.specs.Laws.Mounted.{mount_size, mount_short, mount_clean}
+use Rattle.model.proofs.Laws.Mounted.{mount_size, mount_short, mount_clean}
 use Rattle.mounting.proofs.Laws.{mount_unclean}
 use Rattle.mounting.proofs.mount.Goals as goal
 

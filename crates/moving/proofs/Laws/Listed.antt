@@ -15,16 +15,16 @@ use Rattle.model.specs.State.{View, entries, entries_in, holds, place_of, clean,
 use Rattle.model.specs.Steps.{slot_at}
 use Rattle.model.specs.Table.{present, lookup, table_of}
 use Rattle.model.specs.Mounted.{Places, least_places, place_entry, filled_places}
-use Rattle.model.specs.Laws.Chip.{size_facts}
+use Rattle.model.proofs.Laws.Chip.{size_facts}
 use Rattle.model.specs.Laws.Chunk.{chunk_part}
-use Rattle.model.specs.Laws.Segments.{part_page, page_in}
-use Rattle.model.specs.Laws.Tables.{lookup_append, lookup_absent}
+use Rattle.model.proofs.Laws.Segments.{part_page, page_in}
+use Rattle.model.proofs.Laws.Tables.{lookup_append, lookup_absent}
 use Rattle.bridge.specs.Views.Places.{FirstLive, first_live, fill_entries, earlier, later, in_view}
 use Rattle.bridge.specs.Held.{Held, held_of_clean, held_lengths}
 use Rattle.bridge.specs.Mounting.{filled_entry, filled_length, live_page}
-use Rattle.moves.specs.Sorted.{found_at, rising, sorted_rising}
+use Rattle.moves.proofs.Sorted.{found_at, rising, sorted_rising}
 use Rattle.moves.specs.Moves.{by_number}
-use Rattle.moves.specs.Facts.{table_distinct, table_valid}
+use Rattle.moves.proofs.Facts.{table_distinct, table_valid}
 use Rattle.adding.specs.Adding.{LivePage}
 use Rattle.fresh.specs.Fresh.{page_at, listed, Pointing}
 

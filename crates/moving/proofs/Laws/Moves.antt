@@ -20,8 +20,8 @@ use Rattle.request.specs.Request.{Refused}
 use Rattle.request.proofs.Answered.{refused_worked}
 use Rattle.moves.specs.Moves.{by_number, fresh_work, move_refusals, move_work, move_outcome}
 use Rattle.moves.specs.Placed.{placed}
-use Rattle.moves.specs.Fresh.{fresh_list}
-use Rattle.moves.specs.Facts.{Movable, movable_fits}
+use Rattle.moves.proofs.Fresh.{fresh_list}
+use Rattle.moves.proofs.Facts.{Movable, movable_fits}
 use Rattle.fresh.specs.Fresh.{listed}
 use Rattle.moving.proofs.Laws.Listed.{listed_table}
 

@@ -1,7 +1,7 @@
 -- `moving::carry` gives the outcome of the definition. Assumes nothing.
 use native.Mathlib.Omega.{arith}
 use lib.ListN.{replicate}
-use Rattle.model.specs.Laws.Bytes.{bytes_known}
+use Rattle.model.proofs.Laws.Bytes.{bytes_known}
 use Rattle.moving.proofs.Laws.Listed.{as_many, points}
 use Rattle.moving.proofs.Laws.Moves.{carried_move}
 use Rattle.moving.proofs.carry.Goals as goal

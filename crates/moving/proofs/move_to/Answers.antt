@@ -2,7 +2,7 @@
 use mathlib.Core.Path.{◌∙◌, ap}
 use native.Mathlib.Omega.{arith}
 use Rattle.model.specs.Table.{table_of}
-use Rattle.model.specs.Laws.Chip.{size_facts}
+use Rattle.model.proofs.Laws.Chip.{size_facts}
 use Rattle.bridge.specs.Refusals.{answer_in}
 use Rattle.request.proofs.Laws.{wrong_size, right_size_lem}
 use Rattle.scan.proofs.Laws.Told.{survey_says}

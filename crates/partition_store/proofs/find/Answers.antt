@@ -6,7 +6,7 @@ use native.Mathlib.Omega.{arith}
 use Rattle.partition_store.proofs.Asking.{partitions_some, wrong_partitions, wrong_length, right_image, wrong_table, wrong_item, right_item}
 use native.Mathlib.Nat.{div-le_self}
 use lib.ListN.{length}
-use Rattle.partitions.specs.Laws.{right_layout}
+use Rattle.partitions.proofs.Laws.{right_layout}
 use Rattle.partition_layout.specs.declared.Place.{Place}
 use Rattle.partition_store.proofs.find.Goals as goal
 

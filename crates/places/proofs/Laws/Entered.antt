@@ -15,9 +15,9 @@ use Rattle.model.specs.Slot.{written, page_block, number_ok, Slot, empty, torn, 
 use Rattle.model.specs.State.{View, entries, entries_in, holds, none_wrong_or_torn, blocks_distinct, empty_slots_last}
 use Rattle.model.specs.Steps.{slot_at}
 use Rattle.model.specs.Mounted.{Places, least_places}
-use Rattle.model.specs.Laws.Bytes.{bytes_get, chunk_bytes}
-use Rattle.model.specs.Laws.Segments.{parts, part_of, parts_length, part_page, part_size}
-use Rattle.model.specs.Laws.SlotPage.{live_facts}
+use Rattle.model.proofs.Laws.Bytes.{bytes_get, chunk_bytes}
+use Rattle.model.proofs.Laws.Segments.{parts, part_of, parts_length, part_page, part_size}
+use Rattle.model.proofs.Laws.SlotPage.{live_facts}
 use Rattle.bridge.specs.Held.{Held}
 use Rattle.bridge.specs.Predicted.{CleanView}
 use Rattle.bridge.specs.Views.Entries.{rows_entry}

@@ -10,7 +10,7 @@ use Rattle.model.specs.Chip.{Image, Bytes, number_limit}
 use Rattle.model.specs.State.{View, entries, holds, view}
 use Rattle.model.specs.Steps.{top_number}
 use Rattle.model.specs.Mounted.{Places, least_places, place_entry, filled_places}
-use Rattle.model.specs.Laws.Chip.{size_facts}
+use Rattle.model.proofs.Laws.Chip.{size_facts}
 use Rattle.bridge.specs.Held.{Held, held_of_clean, clean_view}
 use Rattle.bridge.specs.Requests.{held_below}
 use Rattle.bridge.specs.Mounting.{filled_is}

@@ -15,10 +15,10 @@ use Rattle.model.specs.Steps.{slot_at}
 use Rattle.model.specs.Table.{lookup, contents_found}
 use Rattle.model.specs.Mounted.{Places, place_entry}
 use Rattle.model.specs.Laws.Lists.{and_left}
-use Rattle.model.specs.Laws.Chip.{size_facts}
-use Rattle.model.specs.Laws.Segments.{part_of, page_byte}
-use Rattle.model.specs.Laws.SlotPage.{live_facts, number_below}
-use Rattle.model.specs.Laws.Tables.{lookup_append}
+use Rattle.model.proofs.Laws.Chip.{size_facts}
+use Rattle.model.proofs.Laws.Segments.{part_of, page_byte}
+use Rattle.model.proofs.Laws.SlotPage.{live_facts, number_below}
+use Rattle.model.proofs.Laws.Tables.{lookup_append}
 use Rattle.bridge.specs.Held.{Held, held_lengths, held_of_clean}
 use Rattle.bridge.specs.Views.Places.{FirstLive, first_live, earlier, later, fill_entries, InView, in_view}
 use Rattle.places.specs.declared.Entry.{Entry}

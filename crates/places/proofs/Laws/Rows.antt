@@ -15,9 +15,9 @@ use Rattle.model.specs.State.{entries, holds, distinct, copies, slot_from, place
 use Rattle.model.specs.Steps.{slot_at}
 use Rattle.model.specs.Mounted.{Places}
 use Rattle.model.specs.Laws.Lists.{and_left, and_right, all_parts}
-use Rattle.model.specs.Laws.Segments.{part_of}
-use Rattle.model.specs.Laws.SlotPage.{kind_facts, live_facts, live_status}
-use Rattle.model.specs.Laws.Tables.{holds_append, copies_append, held_copies, copies_absent, distinct_copies, copies_distinct}
+use Rattle.model.proofs.Laws.Segments.{part_of}
+use Rattle.model.proofs.Laws.SlotPage.{kind_facts, live_facts, live_status}
+use Rattle.model.proofs.Laws.Tables.{holds_append, copies_append, held_copies, copies_absent, distinct_copies, copies_distinct}
 use Rattle.bridge.specs.Views.Slots.{full, sound, entries_append, all_empty_entries}
 use Rattle.bridge.specs.Views.Entries.{rows_entry}
 use Rattle.find.specs.Search.{rows_at}

@@ -15,7 +15,7 @@ use Rattle.model.specs.Slot.{written, page_block}
 use Rattle.model.specs.Steps.{slot_at}
 use Rattle.model.specs.Mounted.{Places}
 use Rattle.model.specs.Laws.Chunk.{chunk_length, chunk_part}
-use Rattle.model.specs.Laws.Segments.{part_of, part_page, part_size, page_in}
+use Rattle.model.proofs.Laws.Segments.{part_of, part_page, part_size, page_in}
 use Rattle.flash.specs.Pages.{Sized}
 use Rattle.find.proofs.Laws.{slots_inside}
 use Rattle.places.specs.Places.{entered, entered_from}

@@ -1,6 +1,6 @@
 -- `places::fill` makes the filled table of the definition. Assumes nothing.
 use native.Mathlib.Omega.{arith}
-use Rattle.model.specs.Laws.Bytes.{bytes_known}
+use Rattle.model.proofs.Laws.Bytes.{bytes_known}
 use Rattle.flash.proofs.Pages.{sized}
 use Rattle.places.proofs.Laws.Filled.{fill_number, begun_length, fill_length, fill_made}
 use Rattle.places.proofs.fill.Goals as goal

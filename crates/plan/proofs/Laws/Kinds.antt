@@ -12,8 +12,8 @@ use Rattle.model.specs.Slot.{Slot, empty, torn, dead, cut, wrong, live, slot_of,
 use Rattle.model.specs.State.{entries, empty_last}
 use Rattle.model.specs.Steps.{first_empty, compactions}
 use Rattle.model.specs.Laws.Lists.{all_get, count_append}
-use Rattle.model.specs.Laws.Bytes.{erased_get}
-use Rattle.model.specs.Laws.SlotPage.{KindFacts, kind_facts, slot_status_lem}
+use Rattle.model.proofs.Laws.Bytes.{erased_get}
+use Rattle.model.proofs.Laws.SlotPage.{KindFacts, kind_facts, slot_status_lem}
 use Rattle.bridge.specs.Views.Slots.{none_dead, entries_append}
 use Rattle.plan.specs.Statuses.{spaced, is_marked, none_marked, first_marked, not_live}
 

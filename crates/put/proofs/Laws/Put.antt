@@ -14,7 +14,7 @@ use Rattle.model.specs.Steps.{on_page, slot_at, write_slot, write_at_top, mark_o
 use Rattle.model.specs.Table.{lookup, contents_found}
 use Rattle.model.specs.Answers.{put, steps_for, performed, outcome_of}
 use Rattle.model.specs.declared.Performed.{Performed}
-use Rattle.model.specs.Laws.Chip.{size_facts}
+use Rattle.model.proofs.Laws.Chip.{size_facts}
 use Rattle.bridge.specs.Accepted.{refusal, taken_short}
 use Rattle.bridge.specs.Held.{Held, clean_of_held}
 use Rattle.bridge.specs.Requests.{held_below, room_held}

@@ -4,7 +4,7 @@ use mathlib.Core.Path.{◌≡◌, sym, ap, ◌∙◌}
 use native.Mathlib.Omega.{arith}
 use lib.ListN.{length, get_or, drop}
 use Rattle.model.specs.State.{blank, segments_of}
-use Rattle.model.specs.Laws.Segments.{segments_length}
+use Rattle.model.proofs.Laws.Segments.{segments_length}
 use Rattle.qbx_census.specs.declared.Census.{Census}
 use Rattle.qbx_census.specs.Census.{total, set_aside, count_segment, count_segments, census_of}
 use Rattle.qbx_census.proofs.Laws.{aside_length, aside_there, aside_other, segments_next, segments_end}

@@ -1,6 +1,6 @@
 -- `qbx_report::report_on`: the state, the census and the top. Assumes nothing.
 use Rattle.model.specs.State.{segments_of}
-use Rattle.model.specs.Laws.Segments.{segments_length}
+use Rattle.model.proofs.Laws.Segments.{segments_length}
 use Rattle.flash.proofs.Pages.{sized}
 use Rattle.qbx_report.specs.Report.{report_of}
 use Rattle.qbx_report.proofs.Laws.{census_shown}

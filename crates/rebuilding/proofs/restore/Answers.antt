@@ -1,7 +1,7 @@
 -- `rebuilding::restore` gives the outcome of the definition. Assumes nothing.
 use native.Mathlib.Omega.{arith}
-use Rattle.model.specs.Laws.Chip.{size_facts}
-use Rattle.model.specs.Laws.Bytes.{bytes_known}
+use Rattle.model.proofs.Laws.Chip.{size_facts}
+use Rattle.model.proofs.Laws.Bytes.{bytes_known}
 use Rattle.rebuilding.proofs.Laws.{counted, points, rebuilt, too_many}
 use Rattle.rebuilding.proofs.restore.Goals as goal
 

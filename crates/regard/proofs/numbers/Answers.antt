@@ -5,7 +5,7 @@ use native.Mathlib.Omega.{arith}
 use lib.ListN.{length-set}
 use lib.Seq.{take_all}
 use Rattle.model.specs.State.{blank, number_after, segments_of}
-use Rattle.model.specs.Laws.Segments.{segments_length}
+use Rattle.model.proofs.Laws.Segments.{segments_length}
 use Rattle.descent.specs.Filled.{fill_more}
 use Rattle.regard.proofs.numbers.Goals as goal
 

@@ -13,14 +13,14 @@ use Rattle.model.specs.Chip.{Image, erased, erase_limit, number_limit, pages_of}
 use Rattle.model.specs.Header.{value, status_in_use, header_status, header_number}
 use Rattle.model.specs.State.{Segment, blank, invalid, in_use, is_in_use, is_invalid, number_after, slots_in, version_in, next_number, used_count, first_number, others_blank, segments_of, View, view}
 use Rattle.model.specs.Laws.Lists.{all_get, mod_inj}
-use Rattle.model.specs.Laws.Bytes.{erased_get}
-use Rattle.model.specs.Laws.Chip.{size_facts}
+use Rattle.model.proofs.Laws.Bytes.{erased_get}
+use Rattle.model.proofs.Laws.Chip.{size_facts}
 use Rattle.model.specs.Laws.Chunk.{chunk_part}
-use Rattle.model.specs.Laws.HeaderPage.{in_use_facts}
-use Rattle.model.specs.Laws.Segments.{part_of, part_page, page_in, page_byte, segment_at}
-use Rattle.model.specs.Laws.Effects.{in_use_parts, numbered_at, blank_page}
-use Rattle.model.specs.Laws.Ring.{Apart, only_numbered}
-use Rattle.model.specs.Laws.Clean.{RingFacts, used_next, numbered, in_use_numbered}
+use Rattle.model.proofs.Laws.HeaderPage.{in_use_facts}
+use Rattle.model.proofs.Laws.Segments.{part_of, part_page, page_in, page_byte, segment_at}
+use Rattle.model.proofs.Laws.Effects.{in_use_parts, numbered_at, blank_page}
+use Rattle.model.proofs.Laws.Ring.{Apart, only_numbered}
+use Rattle.model.proofs.Laws.Clean.{RingFacts, used_next, numbered, in_use_numbered}
 use Rattle.bridge.specs.Held.{Held, held_of_clean, held_count, held_next}
 use Rattle.ring.specs.Seen.{status_at, number_at, LastFollowing, LastUsed, RunFrom, TopSeen, UsedSeen, SeenRing}
 use Rattle.ring.specs.declared.Ring.TheVariants.{InUse, Broken}

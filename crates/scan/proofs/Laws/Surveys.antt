@@ -10,7 +10,7 @@ use borrow.Author.Tests.{eq-eqb, ne_eqb, eqb-true, eqb-false}
 use Rattle.model.specs.Chip.{Image, right_size}
 use Rattle.model.specs.State.{Segment, blank, segments_of, is_in_use, is_invalid, is_owing, next_number, top_index, next_index, used_count, slots_from, numbers_from, View, view_of, entries_in, holds, capacity, place_of, next_blanked, top_settled}
 use Rattle.model.specs.Steps.{slot_at}
-use Rattle.model.specs.Laws.Chip.{size_facts}
+use Rattle.model.proofs.Laws.Chip.{size_facts}
 use Rattle.flash.specs.Pages.{Sized}
 use Rattle.flash.proofs.Pages.{sized}
 use Rattle.model.specs.declared.SlotPlace.{SlotPlace}
@@ -25,7 +25,7 @@ use Rattle.judge.specs.Heads.{frame_of, heads_mended, headers_by, headers_of}
 use Rattle.judge.specs.Verdict.{orderly, torn_within, twin_within}
 use Rattle.scan.specs.Surveys.{survey_of, owing_in, torn_in, clean_in, old_in, Looked}
 use Rattle.find.specs.Search.{found_in}
-use Rattle.scan.specs.SurveyCases.{owing_few, owing_bad, owing_good, torn_bad, torn_good, framed_some, framed_orderly, framed_twin, framed_chain, exam_found, twin_held, slots_clean, slots_torn, slots_twin, slots_damaged}
+use Rattle.scan.proofs.SurveyCases.{owing_few, owing_bad, owing_good, torn_bad, torn_good, framed_some, framed_orderly, framed_twin, framed_chain, exam_found, twin_held, slots_clean, slots_torn, slots_twin, slots_damaged}
 
 -- a test of sums against a number that was reckoned
 pub tested : (t : ℕ → Sum → Bool) (x : Sum) {m n : ℕ} {r : Bool} → m ≡ n → r ≡ t m x → t n x ≡ r

@@ -12,7 +12,7 @@ use lib.Dec.{ltb}
 use borrow.Author.Tests.{le-leb, lt-leb, ltb-true, ltb-false}
 use Rattle.model.specs.State.{Segment, blank, invalid, in_use, is_invalid, is_owing, number_after, next_number, used_count, first_number, some_in_use, numbers_from, consecutive, one_version, next_index, top_index, next_blanked, settled, top_settled}
 use Rattle.model.specs.Laws.Lists.{and_left, and_right, map_set, mod_inj}
-use Rattle.model.specs.Laws.Ring.{next_ge}
+use Rattle.model.proofs.Laws.Ring.{next_ge}
 use Rattle.judge.specs.declared.SegmentState.{SegmentState}
 use Rattle.judge.specs.declared.SegmentState.TheVariants.{Blank, Invalid, InUse, Owing}
 use Rattle.judge.specs.declared.Summary.{Summary}

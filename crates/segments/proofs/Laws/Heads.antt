@@ -8,7 +8,7 @@ use lib.ListN.{length, get_or, take, set}
 use lib.Seq.{take-suc, take-suc-set, take_all}
 use Rattle.model.specs.Chip.{Image}
 use Rattle.model.specs.State.{Segment, blank, segments_of}
-use Rattle.model.specs.Laws.Segments.{segments_length}
+use Rattle.model.proofs.Laws.Segments.{segments_length}
 use Rattle.judge.specs.declared.Summary.{Summary}
 use Rattle.judge.specs.Heads.{bare, outline, heads}
 

@@ -6,7 +6,7 @@ use native.Mathlib.Omega.{arith}
 use native.Mathlib.Nat.{mod-lt}
 use lib.ListN.{length, length-set}
 use Rattle.model.specs.State.{segments_of, next_number}
-use Rattle.model.specs.Laws.Segments.{segments_length}
+use Rattle.model.proofs.Laws.Segments.{segments_length}
 use Rattle.judge.specs.Heads.{outline, heads, no_counts}
 use Rattle.segments.proofs.Laws.Heads.{filled_turn, filled_end}
 use Rattle.segments.proofs.Laws.Tables.{counted_start, seen_turn, seen_end}

@@ -1,8 +1,8 @@
 -- `settings_list::list`: the tests of a request, in its order. Assumes nothing.
 use mathlib.Core.Path.{sym, ◌∙◌}
 use native.Mathlib.Omega.{arith}
-use Rattle.model.specs.Laws.Bytes.{bytes_known}
-use Rattle.partitions.specs.Few.{short_table}
+use Rattle.model.proofs.Laws.Bytes.{bytes_known}
+use Rattle.partitions.proofs.Few.{short_table}
 use Rattle.partition_store.proofs.Asking.{partitions_some}
 use Rattle.settings_list.proofs.Laws.{refused_lists, wrong_partitions, wrong_length, wrong_table, right, right_lists}
 use Rattle.settings_list.proofs.list.Goals as goal

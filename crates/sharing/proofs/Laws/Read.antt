@@ -14,18 +14,18 @@ use Rattle.model.specs.Steps.{slot_at}
 use Rattle.model.specs.Table.{lookup, contents_found, table_of}
 use Rattle.model.specs.Answers.{code_of, read, first_of, work_of, ReadOutcome, located, contents_at, read_outcome, piece_read}
 use Rattle.model.specs.declared.Located.{Located}
-use Rattle.model.specs.Laws.Chip.{size_facts}
-use Rattle.model.specs.Laws.Segments.{page_in}
+use Rattle.model.proofs.Laws.Chip.{size_facts}
+use Rattle.model.proofs.Laws.Segments.{page_in}
 use Rattle.bridge.specs.Accepted.{accepted, read_passed, size_passed}
 use Rattle.bridge.specs.Lengths.{image_rows, slot_short, read_small}
 use Rattle.crash.specs.Sound.{Clean}
-use Rattle.crash.specs.Requests.{read_code}
-use Rattle.crash.specs.Read.{read_done}
+use Rattle.crash.proofs.Requests.{read_code}
+use Rattle.crash.proofs.Read.{read_done}
 use Rattle.text.specs.Buffer.{printed, print_in}
 use Rattle.text.specs.declared.Printed.{Printed}
 use Rattle.shares.specs.Shares.{Share}
 use Rattle.shares.specs.Layer.{reads, store_request, rows, contents_asked, gave_in}
-use Rattle.isolation.specs.Meeting.{accepted_clean}
+use Rattle.isolation.proofs.Meeting.{accepted_clean}
 use Rattle.sharing.specs.Within.{code_within, outcome_within}
 
 -- contents in a lent buffer, by its length

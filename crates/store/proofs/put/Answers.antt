@@ -5,7 +5,7 @@ use Rattle.model.specs.Answers.{code_of, put}
 use Rattle.model.specs.declared.Answer.TheVariants.{Number, Length}
 use Rattle.bridge.specs.Refusals.{answer_in, put_number, put_length}
 use Rattle.request.proofs.Laws.{wrong_size, right_size_lem}
-use Rattle.model.specs.Laws.Bytes.{bytes_known}
+use Rattle.model.proofs.Laws.Bytes.{bytes_known}
 use Rattle.request.proofs.Answered.{refused_outcome}
 use Rattle.scan.proofs.Laws.Told.{survey_says}
 use Rattle.looking.proofs.Laws.Survey.{survey_other, survey_plan, survey_live, survey_few}

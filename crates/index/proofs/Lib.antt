@@ -1,0 +1,5 @@
+-- What is proved of the definitions and of the statements in specs/.
+pub mod Chains
+pub mod Lives
+pub mod Walks
+pub mod Sorted

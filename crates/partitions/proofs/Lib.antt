@@ -1,0 +1,4 @@
+-- What is proved of the definitions and of the statements in specs/.
+pub mod Instances
+pub mod Laws
+pub mod Few

@@ -1,0 +1,6 @@
+-- `qanbillox::qbx_share_delete` gives the outcome of the definition. Assumes nothing.
+use Rattle.qanbillox.proofs.Laws.{serves}
+use Rattle.qanbillox.proofs.qbx_share_delete.Goals as goal
+
+pub returns : goal.returns
+returns c = serves _ _ _ _ c.delete.ensures c.number_of.ensures.0

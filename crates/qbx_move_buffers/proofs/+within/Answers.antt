@@ -1,0 +1,34 @@
+use Prim.Native.Nat.{ℕ, suc, ◌-◌}
+use mathlib.Core.Path.{◌≡◌, refl, sym, ap, ◌∙◌, subst}
+use mathlib.Core.Bool.{true, false}
+use native.Mathlib.Omega.{arith}
+use lib.Dec.{leb}
+use Rattle.qbx_move_words.specs.Move.{larger_size}
+use Rattle.qbx_rooms.specs.Rooms.{for_buffer, room_of, move_need_of}
+use Rattle.qbx_rooms.proofs.Laws.{grows, last_one, lacks, taken_both}
+use Rattle.qbx_move_buffers.proofs.+within.Goals as goal
+
+-- what is asked of the buffers and of what is told stands first: an edit is refused for that
+pub large-requires : goal.large-requires
+unfolding larger_size room_of move_need_of for_buffer
+large-requires t c =
+    taken_both c.args.last _ _ c.larger_size-size.ensures c.room_of.ensures 2 (omega (arith, c.if-size-room_of.false)) c.lacking_for_move-needed.ensures (omega (arith, c.if-needed-gt0.false)) (last_one _ _ _ c.args.last c.if-last-eq0.false c.if-last-eq1.false) (last_one _ _ _ c.args.last c.if-last-eq0.false c.if-last-eq1.false)
+
+pub middle-requires : goal.middle-requires
+unfolding larger_size
+middle-requires t c =
+    taken_both c.args.last _ _ c.larger_size-size.ensures c.room_of.ensures 1 (omega (arith, c.if-size-room_of.false)) c.lacking_for_move-needed.ensures (omega (arith, c.if-needed-gt0.false)) (ap room_of c.if-last-eq1.true) (ap move_need_of c.if-last-eq1.true)
+
+pub small-requires : goal.small-requires
+unfolding larger_size
+small-requires t c =
+    taken_both c.args.last _ _ c.larger_size-size.ensures c.room_of.ensures 0 (omega (arith, c.if-size-room_of.false)) c.lacking_for_move-needed.ensures (omega (arith, c.if-needed-gt0.false)) (ap room_of c.if-last-eq0.true) (ap move_need_of c.if-last-eq0.true)
+
+pub lack_stack-requires : goal.lack_stack-requires
+lack_stack-requires t c = lacks _ _ c.lacking_for_move-needed.ensures (omega (arith, c.if-needed-gt0.true))
+
+pub returns-then-within : goal.returns-then-within
+returns-then-within t c =
+    let a = c.args in
+    let n : suc (a.last - 1) ≡ a.last = omega (arith, c.if-last-gt0.true) in
+    subst (λ (y : ℕ). true ≡ leb (larger_size a.command) (room_of y)) n (grows (a.last - 1) _ (sym c.within.ensures ∙ c.if-within.true))

@@ -1,0 +1,6 @@
+-- What is proved of the definitions and of the statements in specs/.
+pub mod Boards
+pub mod Buffers
+pub mod Given
+pub mod Ring
+pub mod Facts

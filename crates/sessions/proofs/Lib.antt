@@ -1,0 +1,2 @@
+-- What is proved of the definitions and of the statements in specs/.
+pub mod Theorem
