@@ -1,5 +1,7 @@
 // A board of version 1 moved to chips of other sizes: what stays, moves that are cut and begun again, and moves that are refused.
 // The commands are in stdin.
-fn main() {
-    qbx_script::play();
+#![tactic(auto)]
+
+fn main(rt: HostRuntime) {
+    qbx_script::play(rt);
 }

@@ -1,4 +1,4 @@
--- `account::print`: the text is within its buffer. Assumes nothing.
+-- The text is within its buffer.
 use mathlib.Core.Path.{sym}
 use native.Mathlib.Omega.{arith}
 use lib.Seq.{length-take-le}
