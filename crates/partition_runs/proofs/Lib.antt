@@ -11,3 +11,4 @@ pub mod Statuses
 pub mod Maps
 pub mod Theorem
 pub mod Applied
+pub mod Segments
