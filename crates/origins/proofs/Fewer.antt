@@ -11,7 +11,7 @@ use Rattle.model.proofs.Laws.Ring.{get_kept, next_kept}
 use Rattle.model.proofs.Laws.Clean.{RingFacts, clean_ring}
 use Rattle.model.proofs.Laws.View.{with_slot_number, with_slot_owing}
 use Rattle.origins.specs.Law.{read_at, in_force, slot_on}
-use Rattle.origins.proofs.Reads.{slot_reads, Telling, blank_reads, invalid_reads, slot_elsewhere}
+use Rattle.origins.proofs.Readings.{slot_reads, Telling, blank_reads, invalid_reads, slot_elsewhere}
 
 -- ---- two lists
 

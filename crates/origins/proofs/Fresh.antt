@@ -8,7 +8,7 @@ use Rattle.model.specs.Steps.{format_steps}
 use Rattle.bridge.specs.Predicted.{fresh}
 use Rattle.bridge.specs.Format.{format_held}
 use Rattle.origins.specs.Law.{read_at, slot_on}
-use Rattle.origins.proofs.Reads.{slot_reads, Telling, empty_plain, read_taken}
+use Rattle.origins.proofs.Readings.{slot_reads, Telling, empty_plain, read_taken}
 use Rattle.origins.proofs.Fewer.{ring_force}
 use Rattle.origins.proofs.Untorn.{numbered_row}
 

@@ -22,7 +22,7 @@ use Rattle.crash.specs.Sound.{CutOf}
 use Rattle.crash.proofs.States.{mended, mended_clean, case_of, recover_steps_lem, recovered_run}
 use Rattle.crash.proofs.RecoverMarks.{Marks, last_marks, mark_segments, mark_whole}
 use Rattle.origins.specs.Law.{read_at, in_force, slot_on, last_place, OneMade}
-use Rattle.origins.proofs.Reads.{slot_reads, not_telling, read_there, with_slots, place_elsewhere}
+use Rattle.origins.proofs.Readings.{slot_reads, not_telling, read_there, with_slots, place_elsewhere}
 use Rattle.origins.proofs.Fewer.{paid_force, clean_paid, clean_force}
 
 -- ---- the top

@@ -1,5 +1,5 @@
 -- What is proved of the definitions and of the statements in specs/.
-pub mod Reads
+pub mod Readings
 pub mod Fewer
 pub mod Untorn
 pub mod Last

@@ -17,7 +17,7 @@ use Rattle.bridge.specs.Requests.{write_top_held, put_valid, room_carries, roome
 use Rattle.crash.specs.Sound.{Clean, Accepted, CutOf}
 use Rattle.crash.proofs.WriteTop.{write_left, mark_left}
 use Rattle.crash.proofs.Delete.{delete_left}
-use Rattle.origins.proofs.Reads.{Telling, not_telling}
+use Rattle.origins.proofs.Readings.{Telling, not_telling}
 use Rattle.origins.proofs.Fewer.{ring_paid, NoNew, no_new_image, no_new_trans, no_new_slot}
 use Rattle.origins.proofs.Torn.{clean_top}
 use Rattle.origins.proofs.Room.{making_room}

@@ -21,7 +21,7 @@ use Rattle.crash.proofs.RecoverErase
 use Rattle.crash.proofs.RecoverOwing
 use Rattle.crash.proofs.OwingCuts
 use Rattle.origins.specs.Law.{read_at}
-use Rattle.origins.proofs.Reads.{Telling, reads_same}
+use Rattle.origins.proofs.Readings.{Telling, reads_same}
 use Rattle.origins.proofs.Fewer.{Fewer, fewer_set, owing_force, replaced_force, NoNew, no_new_image, no_new_trans, no_new_replaced, no_new_slot, no_new_unused}
 use Rattle.origins.proofs.Last.{last_paid, recovered_segments, recovery_left}
 use Rattle.origins.proofs.Torn.{paid_a, owing_b, marks_d, paid_d}

@@ -24,7 +24,7 @@ use Rattle.crash.proofs.RoomSteps
 use Rattle.crash.proofs.RoomSteps.{RoomLaws}
 use Rattle.crash.proofs.RoomCuts.{TornNext, open_left, copy_out_left, owed, rest_after, rest_last}
 use Rattle.origins.specs.Law.{read_at, in_force}
-use Rattle.origins.proofs.Reads.{Telling, not_telling, blank_reads, empty_plain, plain_reads}
+use Rattle.origins.proofs.Readings.{Telling, not_telling, blank_reads, empty_plain, plain_reads}
 use Rattle.origins.proofs.Fewer.{fewer_trans, fewer_set, ring_paid, ring_force, owing_force, NoNew, no_new_same, no_new_image, no_new_trans, no_new_replaced, no_new_unused}
 use Rattle.origins.proofs.Torn.{owing_b}
 use Rattle.origins.proofs.Owing.{ending}

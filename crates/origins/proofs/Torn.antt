@@ -18,7 +18,7 @@ use Rattle.crash.proofs.RecoverErase.{torn_segment}
 use Rattle.crash.proofs.RecoverOwing.{owing}
 use Rattle.crash.proofs.Recover.{recover_done}
 use Rattle.origins.specs.Law.{read_at, in_force, slot_on, last_place}
-use Rattle.origins.proofs.Reads.{slot_reads, Telling, not_telling, reads_same, blank_reads, read_taken, slot_elsewhere}
+use Rattle.origins.proofs.Readings.{slot_reads, Telling, not_telling, reads_same, blank_reads, read_taken, slot_elsewhere}
 use Rattle.origins.proofs.Fewer.{Fewer, fewer_same, fewer_set, fewer_back, paid_force, owing_force, clean_paid, unused_reads}
 use Rattle.origins.proofs.Untorn.{clean_untorn}
 use Rattle.origins.proofs.Last.{others_stay}

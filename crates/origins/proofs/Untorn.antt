@@ -13,7 +13,7 @@ use Rattle.model.specs.Laws.Lists.{all_get, all_row}
 use Rattle.model.proofs.Laws.Ring.{next_ge, number_in_use, only_numbered, slots_get}
 use Rattle.model.proofs.Laws.Clean.{RingFacts, clean_ring, clean_slots, used_next, index_inside, numbered}
 use Rattle.origins.specs.Law.{read_at}
-use Rattle.origins.proofs.Reads.{not_telling, read_taken}
+use Rattle.origins.proofs.Readings.{not_telling, read_taken}
 
 module _ (N : ℕ) (l : List Segment) (r : RingFacts N l) where
   -- its number is not below the first
