@@ -1,4 +1,4 @@
--- The text is within its buffer.
+-- `account::print`: the text is within its buffer. Assumes nothing.
 use mathlib.Core.Path.{sym}
 use native.Mathlib.Omega.{arith}
 use lib.Seq.{length-take-le}
