@@ -8,7 +8,6 @@ use qbx_share_words::{ShareCommand, ShareVerb};
 use text::Printed;
 
 // Puts, reads or deletes a tenant's block. What is read is in the lent buffer.
-#[tactic(auto, unfolding(crate::specs::ShareRequest::carried_by, crate::specs::ShareRequest::asked_by))]
 pub fn perform(
     image: &mut [u8],
     shares: &[u32],

@@ -72,7 +72,6 @@ fn may_be_fine(counts: HeaderCounts, segments: usize) -> bool
 }
 
 // The frame of the segments that a table shows.
-#[tactic(auto, unfolding(judge::specs::Heads::no_counts))]
 fn see_frame(table: [Summary; MOST_SEGMENTS], segments: usize) -> Frame
     requires { (0 < segments) × (segments ≤ most_segments) }
     ensures { (result ≡ frame_of segments (heads segments table)) × Ranged result }

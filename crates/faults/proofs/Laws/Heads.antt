@@ -99,9 +99,6 @@ number_outline x y r e q = e ∙ (ap number_after q ∙ go x)
 
 -- ---- told
 
-pub some_not_all : (N u : ℕ) → (u ≡ 0 → ⊥) → u < N → (leb 1 u && leb u (N - 1)) ≡ true
-some_not_all N u a b = rw (le-leb 1 u (omega arith), le-leb u (N - 1) (omega arith))
-
 module _ (N : ℕ) (l : List Segment) (t : HeadTests) (e : t ≡ head_tests l) where
   first_is : t.counts.next - t.counts.used ≡ first_number l
   unfolding head_tests counts_of first_number
