@@ -12,10 +12,11 @@ pub returns-then-segments-gt-MOST_SEGMENTS : goal.returns-then-segments-gt-MOST_
 unfolding in_range
 returns-then-segments-gt-MOST_SEGMENTS c = rw (le-leb 2 _ c.if-segments-lt2.false, lt-leb c.args.segments most_segments (omega (arith, c.if-segments-gt-MOST_SEGMENTS.true)))
 
-pub returns-then-slots-lt2 : goal.returns-then-slots-lt2
-unfolding in_range
-returns-then-slots-lt2 c = rw (le-leb 2 _ c.if-segments-lt2.false, le-leb _ most_segments c.if-segments-gt-MOST_SEGMENTS.false, lt-leb 2 _ c.if-slots-lt2.true)
-
+-- what is in range stands before what is not: an edit is refused for that
 pub returns : goal.returns
 unfolding in_range
-returns c = rw (le-leb 2 _ c.if-segments-lt2.false, le-leb _ most_segments c.if-segments-gt-MOST_SEGMENTS.false, le-leb 2 _ c.if-slots-lt2.false)
+returns c = rw (le-leb 2 _ c.if-segments-lt2.false, le-leb c.args.segments most_segments (omega (arith, c.if-segments-gt-MOST_SEGMENTS.false)), le-leb 2 _ c.if-slots-lt2.false)
+
+pub returns-then-slots-lt2 : goal.returns-then-slots-lt2
+unfolding in_range
+returns-then-slots-lt2 c = rw (le-leb 2 _ c.if-segments-lt2.false, le-leb c.args.segments most_segments (omega (arith, c.if-segments-gt-MOST_SEGMENTS.false)), lt-leb 2 _ c.if-slots-lt2.true)
