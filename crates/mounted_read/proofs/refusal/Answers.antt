@@ -32,16 +32,17 @@ returns-then-not-taken c =
     sym (refuses_length a.segments a.slots a.image.now a.places.now a.block.0 a.taken (right_size_lem a.segments a.slots a.image.now _ c.right_size.ensures c.if-not-right_size.false) (omega (arith, c.if-places-lt-LEAST_PLACES.false))
     (sym c.number_ok.ensures ∙ c.if-not-number_ok.false) c.if-not-taken.true)
 
+-- that the table is usable stands before that it is not: an edit is refused for that
+pub returns : goal.returns
+unfolding code_of
+returns c =
+    let a = c.args in
+    sym (refuses_none a.segments a.slots a.image.now a.places.now a.block.0 a.taken (right_size_lem a.segments a.slots a.image.now _ c.right_size.ensures c.if-not-right_size.false) (omega (arith, c.if-places-lt-LEAST_PLACES.false))
+    (sym c.number_ok.ensures ∙ c.if-not-number_ok.false) c.if-not-taken.false (omega (arith, c.if-places-ne1.false)))
+
 pub returns-then-places-ne1 : goal.returns-then-places-ne1
 unfolding code_of
 returns-then-places-ne1 c =
     let a = c.args in
     sym (refuses_unusable a.segments a.slots a.image.now a.places.now a.block.0 a.taken (right_size_lem a.segments a.slots a.image.now _ c.right_size.ensures c.if-not-right_size.false) (omega (arith, c.if-places-lt-LEAST_PLACES.false))
     (sym c.number_ok.ensures ∙ c.if-not-number_ok.false) c.if-not-taken.false c.if-places-ne1.true)
-
-pub returns : goal.returns
-unfolding code_of
-returns c =
-    let a = c.args in
-    sym (refuses_none a.segments a.slots a.image.now a.places.now a.block.0 a.taken (right_size_lem a.segments a.slots a.image.now _ c.right_size.ensures c.if-not-right_size.false) (omega (arith, c.if-places-lt-LEAST_PLACES.false))
-    (sym c.number_ok.ensures ∙ c.if-not-number_ok.false) c.if-not-taken.false c.if-places-ne1.false)

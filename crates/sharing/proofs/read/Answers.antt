@@ -12,6 +12,20 @@ use Rattle.sharing.proofs.Laws.Bounds.{refused_outcome, allowed_outcome}
 use Rattle.sharing.proofs.Laws.Read.{told_small, not_read, told_inside, was_read}
 use Rattle.sharing.proofs.read.Goals as goal
 
+-- what is copied stands before the ranges, so that an edit of the test is refused for that
+pub returns : goal.returns
+unfolding block_asked most_contents
+returns c =
+    let a = c.args in
+    let lent = a.contents.now in
+    let part = c.in_default.field-0 in
+    let p = c.read-located.result in (
+      was_read a.segments a.slots a.image.now a.block.0 c.read-located.result c.read-located.ensures (omega (arith, c.if-code_of-gt0.false, c.code_of.ensures)) (share_in part) lent c.print.result _ c.print.ensures.0
+          ∙ ap (λ o. gave_in o lent) (sym (allowed_outcome a.segments a.slots a.shares.now a.image.now a.tenant (reads a.block.0 (length lent)) part
+          (subst (Admits a.segments a.slots a.shares.now a.image.now a.tenant a.block.0) c.in_default.is c.admit-admitted.ensures))),
+      omega (arith, c.print.ensures.1, length-take (p.offset + p.length - p.offset) (drop p.offset a.image.now), told_small a.segments a.slots a.image.now a.block.0 p c.read-located.ensures),
+    )
+
 pub overflow_add-end : goal.overflow_add-end
 overflow_add-end c =
     let a = c.args in
@@ -48,18 +62,4 @@ returns-then-code_of-gt0 c =
           ∙ ap (λ o. gave_in o lent) (sym (allowed_outcome a.segments a.slots a.shares.now a.image.now a.tenant (reads a.block.0 (length lent)) part
           (subst (Admits a.segments a.slots a.shares.now a.image.now a.tenant a.block.0) c.in_default.is c.admit-admitted.ensures))),
       omega arith,
-    )
-
--- what is copied stands before the ranges, so that an edit of the test is refused for that
-pub returns : goal.returns
-unfolding block_asked most_contents
-returns c =
-    let a = c.args in
-    let lent = a.contents.now in
-    let part = c.in_default.field-0 in
-    let p = c.read-located.result in (
-      was_read a.segments a.slots a.image.now a.block.0 c.read-located.result c.read-located.ensures (omega (arith, c.if-code_of-gt0.false, c.code_of.ensures)) (share_in part) lent c.print.result _ c.print.ensures.0
-          ∙ ap (λ o. gave_in o lent) (sym (allowed_outcome a.segments a.slots a.shares.now a.image.now a.tenant (reads a.block.0 (length lent)) part
-          (subst (Admits a.segments a.slots a.shares.now a.image.now a.tenant a.block.0) c.in_default.is c.admit-admitted.ensures))),
-      omega (arith, c.print.ensures.1, length-take (p.offset + p.length - p.offset) (drop p.offset a.image.now), told_small a.segments a.slots a.image.now a.block.0 p c.read-located.ensures),
     )
