@@ -34,17 +34,17 @@ fn compose(
     image: &[u8],
     segments: usize,
     slots: usize,
-    table: &[Shown; MOST_SEGMENTS],
+    table: [Shown; MOST_SEGMENTS],
     firsts: &[u16; 65536],
     nexts: &[u16; 65536],
     lengths: &[u8; 65536],
     prognosis: Prognosis,
     text: &mut [u8],
 ) -> usize
-    requires { Sized segments slots (length image.now) × (take segments table.now ≡ map shown_of (shown segments slots (segments_of segments slots image.now))) × Indexed segments slots image.now (tables firsts.now nexts.now lengths.now) × (prognosis ≡ prognosis_of segments slots (segments_of segments slots image.now)) }
+    requires { Sized segments slots (length image.now) × (take segments table ≡ map shown_of (shown segments slots (segments_of segments slots image.now))) × Indexed segments slots image.now (tables firsts.now nexts.now lengths.now) × (prognosis ≡ prognosis_of segments slots (segments_of segments slots image.now)) }
     ensures { Wrote (account_on segments slots (segments_of segments slots image.now)) text.old 0 text.new result × (result ≤ most_text) }
 {
-    let listed = printing::segment_lines(text, 0, *table, segments);
+    let listed = printing::segment_lines(text, 0, table, segments);
     let blocks = block_lines::block_lines(
         image, segments, slots, firsts, nexts, lengths, text, listed,
     );
@@ -76,12 +76,12 @@ pub fn account(image: &[u8], segments: usize, slots: usize, text: &mut [u8]) -> 
     // shorter than any text, so that nothing of it matters
     let mut none = [0u8; 1];
     let length = compose(
-        image, segments, slots, &table, &firsts, &nexts, &lengths, prognosis, &mut none,
+        image, segments, slots, table, &firsts, &nexts, &lengths, prognosis, &mut none,
     );
     if length > text.len() {
         return text::short();
     }
     text::done(compose(
-        image, segments, slots, &table, &firsts, &nexts, &lengths, prognosis, text,
+        image, segments, slots, table, &firsts, &nexts, &lengths, prognosis, text,
     ))
 }

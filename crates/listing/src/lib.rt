@@ -183,7 +183,9 @@ pub fn next_number(table: [Shown; MOST_SEGMENTS], segments: usize) -> usize
     descent::largest(&left, segments)
 }
 
-// The segments as they are shown, and the live slots put into tables that hold none yet.
+// The segments as they are shown, and the live slots put into tables that hold none yet. A frame of its own: its copies of the
+// table are gone before the caller, whose three large tables are on the stack already, goes on.
+#[inline(never)]
 pub fn list(
     image: &[u8],
     segments: usize,
