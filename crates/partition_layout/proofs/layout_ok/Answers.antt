@@ -4,6 +4,12 @@ use native.Mathlib.Omega.{arith}
 use Rattle.partition_layout.proofs.Walk.{left_over, no_room, walk_start, no_identifier, twice, empty, too_long, walk_next, walk_end}
 use Rattle.partition_layout.proofs.layout_ok.Goals as goal
 
+-- what goes on stands before what is refused: an edit is refused for that
+pub loop-at-preserved : goal.loop-at-preserved
+loop-at-preserved c =
+    let byte = c.shared_slice_known-1.given c.loop-at.at in
+    walk_next c.loop-at.invariant c.loop-at-test.true (omega (arith, c.if-identifier-eq-NO_IDENTIFIER.false)) c.if-met-identifier.false (omega (arith, c.if-length-eq0.false)) c.if-left-bytes.false (omega arith)
+
 pub returns-then-layout-ne0 : goal.returns-then-layout-ne0
 returns-then-layout-ne0 c = left_over _ _ (omega (arith, c.if-layout-ne0.true))
 
@@ -43,11 +49,6 @@ returns-then-left-bytes c = too_long c.loop-at.invariant c.loop-at-test.true c.i
 
 pub bounds-met-identifier-in-loop-at : goal.bounds-met-identifier-in-loop-at
 bounds-met-identifier-in-loop-at c = omega (arith, c.shared_slice_known-1.given c.loop-at.at)
-
-pub loop-at-preserved : goal.loop-at-preserved
-loop-at-preserved c =
-    let byte = c.shared_slice_known-1.given c.loop-at.at in
-    walk_next c.loop-at.invariant c.loop-at-test.true (omega (arith, c.if-identifier-eq-NO_IDENTIFIER.false)) c.if-met-identifier.false (omega (arith, c.if-length-eq0.false)) c.if-left-bytes.false (omega arith)
 
 pub returns : goal.returns
 returns c = walk_end c.loop-at.invariant c.loop-at-test.false

@@ -3,6 +3,11 @@ use native.Mathlib.Omega.{arith}
 use Rattle.places.proofs.Laws.Seen.{seen_absent, seen_uneven, seen_header, seen_outside, seen_long, seen_at}
 use Rattle.places.proofs.look_up.Goals as goal
 
+-- what is believed stands before what is not: an edit is refused for that
+pub returns : goal.returns
+returns c =
+    seen_at _ _ _ c.if-at-eq0.false c.if-at-ne0.false c.if-at-slots-eq0.false c.if-image-place.false (omega (arith, c.wide-length.ensures, c.if-length-gt-MOST_CONTENTS.false)) _ c.wide-length.ensures
+
 pub returns-then-at-eq0 : goal.returns-then-at-eq0
 returns-then-at-eq0 c = seen_absent _ _ _ c.if-at-eq0.true
 
@@ -24,7 +29,3 @@ returns-then-image-place c = seen_outside _ _ _ c.if-at-eq0.false c.if-at-ne0.fa
 pub returns-then-length-gt-MOST_CONTENTS : goal.returns-then-length-gt-MOST_CONTENTS
 returns-then-length-gt-MOST_CONTENTS c =
     seen_long _ _ _ c.if-at-eq0.false c.if-at-ne0.false c.if-at-slots-eq0.false c.if-image-place.false (omega (arith, c.wide-length.ensures, c.if-length-gt-MOST_CONTENTS.true))
-
-pub returns : goal.returns
-returns c =
-    seen_at _ _ _ c.if-at-eq0.false c.if-at-ne0.false c.if-at-slots-eq0.false c.if-image-place.false (omega (arith, c.wide-length.ensures, c.if-length-gt-MOST_CONTENTS.false)) _ c.wide-length.ensures
