@@ -62,10 +62,6 @@ module _ (N B : ℕ) (s : Image) (z : right_size N B s ≡ true) (t : Sheet) (g 
       single : (e : LiveSlot) → flat_map (given_line found) (e ∷ []) ≡ given_line found e
       single e = unfold flat_map in (append-nil (given_line found e))
 
-  -- contents that a byte tells the length of
-  pub lines_short : (block : ℕ) → block < most_pages → get_or t.places block 0 ≢ 0 → get_or t.lengths block 0 < 256
-  lines_short block h some = ⊎_elim (λ k. absurd (some k.place)) (λ o. omega (arith, o.length, o.lies.stands.length)) (g.tells block h)
-
   -- those without one have none
   lines_none : {text : List ℕ} {block end : ℕ} → Lines text block end → block < most_pages → get_or t.places block 0 ≡ 0 → Lines text (block + 1) end
   lines_none {text} {block} {end} b h none = blocks_none (nothing (g.tells block h)) b h

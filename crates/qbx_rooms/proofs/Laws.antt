@@ -5,7 +5,7 @@ use mathlib.Core.Bool.{Bool, true, false, cond}
 use native.Mathlib.Omega.{arith}
 use lib.ListN.{length, replicate, length-replicate}
 use lib.Dec.{leb, ltb}
-use borrow.Author.Tests.{leb-true, le-leb, lt-leb, ltb-true, ltb-false}
+use borrow.Author.Tests.{leb-true, le-leb, ltb-true, ltb-false}
 use Rattle.model.specs.Chip.{largest_image, in_range, image_length}
 use Rattle.request.specs.Request.{size_of}
 use Rattle.request.proofs.Laws.{in_bounds, most_pages_lem}
@@ -52,9 +52,6 @@ lacks_none needed allowed {r} is h = go (ltb allowed needed) refl is
 module _ (k s : ℕ) {size room : ℕ} (is : size ≡ s) (holds : room ≡ room_of k) where
   pub held : size ≤ room → true ≡ leb s (room_of k)
   held h = sym (le-leb s (room_of k) (omega arith))
-
-  pub not_held : room < size → false ≡ leb s (room_of k)
-  not_held h = sym (lt-leb s (room_of k) (omega arith))
 
   pub taken : (m : ℕ) (prints told : Bool) {lacking allowed : ℕ} → size ≤ room → lacking ≡ lack_of (need_of prints k) allowed → lacking ≤ 0 → prints ≡ told → room_of k ≡ room_of m → need_of told k ≡ need_of told m → (s ≤ room_of m) × (need_of told m ≤ allowed)
   taken m prints told {allowed = allowed} h n a e f g =

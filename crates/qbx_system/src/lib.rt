@@ -1,9 +1,11 @@
 // What the programs ask of the system: the words of the command line, files by name, and standard output and error. Each call that
-// fails leaves the system's reason, and that stays to be told until another one fails. Nothing is promised of what the system does.
+// fails leaves the system's reason, and that stays to be told until another one fails (`kept`). Nothing is promised of what the
+// system does.
 #![tactic(auto)]
 
-ghost use Rattle.std.specs.Prelude.{◌≤◌, length};
+ghost use Rattle.std.specs.Prelude.{◌≡◌, ◌≤◌, length, true, pos, IsSome};
 ghost use Rattle.io.specs.Counts.{IsPrefixLen};
+ghost use Rattle.qbx_system.specs.Reasons.{number_of};
 
 use std::env::FillError;
 use std::fs::{File, Metadata, OpenOptions};
@@ -36,7 +38,10 @@ pub struct System {
 }
 
 // The system's number of an error; a name with a NUL in it is one that no file can have.
-fn number_of(error: Error) -> i32 {
+#[tactic(auto, unfolding(crate::specs::Reasons::number_of, crate::specs::Reasons::number_by, crate::specs::Reasons::kind_number))]
+fn number_of(error: Error) -> i32
+    ensures { result ≡ number_of error }
+{
     match error.raw_os_error() {
         Some(number) => number,
         None => match error.kind() {
@@ -81,17 +86,23 @@ fn before_number(count: usize, number: i32) -> usize
 }
 
 impl System {
-    pub fn new(rt: HostRuntime) -> System {
+    pub fn new(rt: HostRuntime) -> System
+        ensures { result.reason ≡ pos 0 }
+    {
         System { rt, reason: 0 }
     }
 
     // The number of the last reason; 0 if nothing failed.
-    pub fn reason(&self) -> i32 {
+    pub fn reason(&self) -> i32
+        ensures { result ≡ self.now.reason }
+    {
         self.reason
     }
 
     // Takes the reason of a call that failed.
-    pub fn take(&mut self, error: Error) {
+    pub fn take(&mut self, error: Error)
+        ensures { self.new.reason ≡ number_of error }
+    {
         self.reason = number_of(error);
     }
 
@@ -147,7 +158,9 @@ impl System {
     }
 
     // Writes all bytes to standard output or standard error; whether that went well.
-    pub fn write_all(&mut self, fd: i32, bytes: &[u8]) -> bool {
+    pub fn write_all(&mut self, fd: i32, bytes: &[u8]) -> bool
+        ensures kept { result ≡ true → self.new.reason ≡ self.old.reason }
+    {
         let written = if fd == STDERR_FILENO {
             Print::write_all(&self.rt.stderr(), bytes)
         } else {
@@ -156,7 +169,9 @@ impl System {
         self.done(written)
     }
 
-    fn done(&mut self, outcome: Result<(), Error>) -> bool {
+    fn done(&mut self, outcome: Result<(), Error>) -> bool
+        ensures kept { result ≡ true → self.new.reason ≡ self.old.reason }
+    {
         match outcome {
             Ok(()) => true,
             Err(error) => {
@@ -167,7 +182,9 @@ impl System {
     }
 
     // A file's name, if it is text.
-    fn name<'a>(&mut self, path: &'a [u8]) -> Option<&'a str> {
+    fn name<'a>(&mut self, path: &'a [u8]) -> Option<&'a str>
+        ensures kept { IsSome result → self.new.reason ≡ self.old.reason }
+    {
         match str::from_utf8(path) {
             Ok(name) => Some(name),
             Err(_) => {
@@ -177,7 +194,9 @@ impl System {
         }
     }
 
-    fn opened(&mut self, outcome: Result<File, Error>) -> Option<File> {
+    fn opened(&mut self, outcome: Result<File, Error>) -> Option<File>
+        ensures kept { IsSome result → self.new.reason ≡ self.old.reason }
+    {
         match outcome {
             Ok(file) => Some(file),
             Err(error) => {
@@ -187,14 +206,18 @@ impl System {
         }
     }
 
-    pub fn open_read(&mut self, path: &[u8]) -> Option<File> {
+    pub fn open_read(&mut self, path: &[u8]) -> Option<File>
+        ensures kept { IsSome result → self.new.reason ≡ self.old.reason }
+    {
         let name = self.name(path)?;
         let outcome = File::open(&self.rt, name);
         self.opened(outcome)
     }
 
     // Creates a file for writing, unless the name is taken.
-    pub fn create(&mut self, path: &[u8]) -> Option<File> {
+    pub fn create(&mut self, path: &[u8]) -> Option<File>
+        ensures kept { IsSome result → self.new.reason ≡ self.old.reason }
+    {
         let name = self.name(path)?;
         let outcome = OpenOptions::new()
             .write(true)
@@ -203,7 +226,9 @@ impl System {
         self.opened(outcome)
     }
 
-    pub fn remove(&mut self, path: &[u8]) -> bool {
+    pub fn remove(&mut self, path: &[u8]) -> bool
+        ensures kept { result ≡ true → self.new.reason ≡ self.old.reason }
+    {
         let Some(name) = self.name(path) else {
             return false;
         };
@@ -211,7 +236,9 @@ impl System {
         self.done(outcome)
     }
 
-    pub fn rename(&mut self, from: &[u8], to: &[u8]) -> bool {
+    pub fn rename(&mut self, from: &[u8], to: &[u8]) -> bool
+        ensures kept { result ≡ true → self.new.reason ≡ self.old.reason }
+    {
         let Some(old) = self.name(from) else {
             return false;
         };
@@ -223,7 +250,9 @@ impl System {
     }
 
     // Writes all bytes to a file, and has them on the disk; whether both went well.
-    pub fn write_file(&mut self, file: &mut File, bytes: &[u8]) -> bool {
+    pub fn write_file(&mut self, file: &mut File, bytes: &[u8]) -> bool
+        ensures kept { result ≡ true → self.new.reason ≡ self.old.reason }
+    {
         let written = std::io::Write::write_all(file, bytes);
         let is_written = self.done(written);
         let synced = file.sync_all();
@@ -232,7 +261,9 @@ impl System {
     }
 
     // All that is known of an open file.
-    pub fn status(&mut self, file: &File) -> Option<Metadata> {
+    pub fn status(&mut self, file: &File) -> Option<Metadata>
+        ensures kept { IsSome result → self.new.reason ≡ self.old.reason }
+    {
         match file.metadata() {
             Ok(metadata) => Some(metadata),
             Err(error) => {

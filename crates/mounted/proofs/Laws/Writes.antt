@@ -150,9 +150,6 @@ module _ (N B : ℕ) (s : Image) (t : Places) (b budget : ℕ) (p : mounted_refu
 -- ---- by the entry
 
 module _ {e : Entry} where
-  pub inside_at : {q : SlotPlace} {l bytes : ℕ} → e ≡ At q l → EntryInside e bytes → PageAt q.0 bytes
-  inside_at {q} {l} {bytes} i h = subst (λ (y : Entry). EntryInside y bytes) i h
-
   module _ (budget : ℕ) (d : Performed) (s u : Image) where
     pub marked_at : {q : SlotPlace} {l : ℕ} → e ≡ At q l → MarkedAt q.0 budget d s u → MarkedEntry e budget d s u
     marked_at {q} {l} i m = subst (λ (y : Entry). MarkedEntry y budget d s u) (sym i) m
