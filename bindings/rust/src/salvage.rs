@@ -54,7 +54,7 @@ impl Geometry {
     /// [`ShortBuffer`](Answer::ShortBuffer) if the report is longer than the buffer.
     /// [`salvage_len`](Geometry::salvage_len) bytes are always enough.
     ///
-    /// It takes some 388 KiB of stack, for tables that put the blocks in order.
+    /// It takes some 390 KiB of stack, for tables that put the blocks in order.
     ///
     #[cfg_attr(qbx_lib, doc = "```")]
     #[cfg_attr(not(qbx_lib), doc = "```no_run")]
@@ -143,7 +143,7 @@ impl Geometry {
     /// [`Cut`](Answer::Cut). After a cut nothing is promised of the target, and a recovery does not
     /// help: the rebuild is begun again.
     ///
-    /// It takes some 388 KiB of stack, for tables that put the blocks in order.
+    /// It takes some 390 KiB of stack, for tables that put the blocks in order.
     ///
     #[cfg_attr(qbx_lib, doc = "```")]
     #[cfg_attr(not(qbx_lib), doc = "```no_run")]
